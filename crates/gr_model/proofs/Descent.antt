@@ -1,0 +1,77 @@
+-- Where each thing that an event waits for stands lower than the event, so does each that happens before it.
+use Rattle.std.proofs.Common.{◌≡◌, ℕ, zero, suc, ◌+◌, ◌-◌, ◌<◌, List, refl, ⊎_elim, arith, eq-or-lt_of_le, lt_trans}
+use Rattle.gr_model.specs.declared.event.Space.{Space}
+use Rattle.gr_model.specs.declared.event.EventId.{EventId}
+use Rattle.gr_model.specs.Barriers.{Together}
+use Rattle.gr_model.specs.HappensBefore.{BasePair, HappensBefore, behind_barrier, by_pair, sequenced, synchronized, through}
+use Rattle.gr_model.specs.Instances.{Mark}
+use Rattle.gr_model.specs.LawfulOrders.{IsAt, IsLawful}
+use Rattle.gr_model.specs.Streams.{Streams}
+use Rattle.gr_model.specs.Waits.{IsPrevious, Stage, Waits, for_meeting, for_previous, for_release}
+
+-- the same instance, with the two barriers the other way round
+pub together-swap : {s : Streams} {a : Mark} {e b : EventId} → Together s a e b → Together s a b e
+together-swap t = record { group = t.group; instance = t.instance; convergent = t.convergent; first = t.second; second = t.first }
+
+-- an event stands below a level
+abbrev pub IsBelow : (ℕ → EventId → Type 0) → ℕ → EventId → Type 0
+IsBelow At p e = (q : ℕ) × (q < p) × At q e
+
+-- what an event at a level waits for stands at a lower one
+abbrev pub Descends : Streams → (ℕ → EventId → Type 0) → Type 0
+Descends s At = (p : ℕ) (e d : EventId) → At p e → Waits s e d → IsBelow At p d
+
+module _ (s : Streams) (At : ℕ → EventId → Type 0) (down : Descends s At) where
+  -- an event of the same item, n + 1 places before
+  below_by : (n p : ℕ) (e f : EventId) → At p f → e.at ≡ f.at → suc (n + e.index) ≡ f.index → IsBelow At p e
+  below_by zero p e f at item next = down p f e at (for_previous (record { item = item; next = omega arith }))
+  below_by (suc n) p e f at item next =
+      let d : EventId = record { at = f.at; index = suc (n + e.index) } in
+      let previous : IsPrevious d f = record { item = refl; next = omega arith } in
+      let there = down p f d at (for_previous previous) in
+      let far = below_by n there.0 e d there.2 item refl in
+      (far.0, omega arith, far.2)
+
+  pub below_in_item : (p : ℕ) (e f : EventId) → At p f → e.at ≡ f.at → e.index < f.index → IsBelow At p e
+  below_in_item p e f at item below = below_by (f.index - suc e.index) p e f at item (omega arith)
+
+  -- behind a barrier, each barrier of its instance is lower
+  pub below_by_barrier : (p : ℕ) (a : Mark) (e b f : EventId) → At p f → Together s a e b → b.at ≡ f.at → b.index < f.index → IsBelow At p e
+  below_by_barrier p a e b f at met item below =
+      let next : EventId = record { at = f.at; index = suc b.index } in
+      let previous : IsPrevious b next = record { item = item; next = refl } in
+      ⊎_elim
+      (λ (same : suc b.index ≡ f.index). down p f e at (for_meeting a b (record { item = item; next = same }) (together-swap met)))
+      (λ (lt : suc b.index < f.index). let there = below_in_item p next f at refl lt in let far = down there.0 next e there.2 (for_meeting a b previous (together-swap met)) in (far.0, lt_trans far.1 there.1, far.2))
+      (eq-or-lt_of_le below)
+
+  pub below_by_pair : (m : Space) (p : ℕ) (e f : EventId) → At p f → BasePair s m e f → IsBelow At p e
+  below_by_pair m p e f at (sequenced item below there) = below_in_item p e f at item below
+  below_by_pair m p e f at (synchronized match inclusive) = down p f e at (for_release match)
+  below_by_pair m p e f at (behind_barrier a b flagged met item below there) = below_by_barrier p a e b f at met item below
+
+  pub below_before : (m : Space) (e f : EventId) → HappensBefore s m e f → (p : ℕ) → At p f → IsBelow At p e
+  below_before m e f (by_pair pair) p at = below_by_pair m p e f at pair
+  below_before m e f (through {f = d} before pair) p at =
+      let there = below_by_pair m p d f at pair in
+      let far = below_before m e d before there.0 there.2 in
+      (far.0, lt_trans far.1 there.1, far.2)
+
+-- the places of a lawful order, and the stages, descend
+pub lawful_descends : (s : Streams) (order : List EventId) → IsLawful s order → Descends s (IsAt order)
+lawful_descends s order l = l.after
+
+pub stage_descends : (s : Streams) → Descends s (Stage s)
+stage_descends s zero e d h w = absurd h
+stage_descends s (suc n) e d h w = (n, omega arith, h.2 d w)
+
+-- what stands in a lawful order is reached, and so is each base pair's beginning
+pub lawful_stage : (s : Streams) (order : List EventId) → IsLawful s order → (n p : ℕ) (e : EventId) → p < n → IsAt order p e → Stage s n e
+lawful_stage s order l zero p e lt at = absurd (omega arith)
+lawful_stage s order l (suc n) p e lt at =
+    ((l.event p e at).0, (l.event p e at).1, λ d w. let there = l.after p e d at w in lawful_stage s order l n there.0 d (omega (arith, there.1)) there.2)
+
+-- a stage has all of the one before it
+pub stage_up : (s : Streams) (n : ℕ) (e : EventId) → Stage s n e → Stage s (suc n) e
+stage_up s zero e h = absurd h
+stage_up s (suc n) e h = (h.0, h.1, λ d w. stage_up s n d (h.2 d w))

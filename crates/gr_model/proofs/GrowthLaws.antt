@@ -1,0 +1,259 @@
+-- What holds of the events that are reached holds on where incomplete lists grow.
+use Rattle.std.proofs.Common.{◌≡◌, ◌⊎◌, ℕ, zero, suc, ◌+◌, ◌<◌, Bool, List, ◌++◌, length, Some, None, slice_get, filter, filter_map, option_and_then, slice_index, sym, ap, ◌∙◌, subst, inl, inr, ⊎_elim, arith, IsTrue}
+use Rattle.std.proofs.lemmas.List.Elements.{filter-append, filter_map-append}
+use Rattle.std.proofs.lemmas.Option.{slice_get_within}
+use Rattle.gr_model.specs.declared.event.ItemId.{ItemId}
+use Rattle.gr_model.specs.declared.event.Name.{Name}
+use Rattle.gr_model.specs.declared.event.EventId.{EventId}
+use Rattle.gr_model.specs.declared.event.Event.{Event}
+use Rattle.gr_model.specs.Access.{event_word, is_release}
+use Rattle.gr_model.specs.Barriers.{IsConvergent, IsDivergent, StandsIn, Together, arrivals, is_barrier, mark_of}
+use Rattle.gr_model.specs.HappensBefore.{BasePair, HappensBefore, IsInclusive, behind_barrier, by_pair, sequenced, synchronized, through}
+use Rattle.gr_model.specs.Instances.{AreMixed, HasArrived, Mark}
+use Rattle.gr_model.specs.Names.{Matches, MatchesBy, name_at}
+use Rattle.gr_model.specs.Streams.{Grows, IsEvent, Streams, event_at, is_complete, is_of, list_of, place_of, places_from, size_of, trace_of, word_at}
+use Rattle.gr_model.specs.Waits.{CanGo, Stage, Waits, for_arrival, for_meeting, for_previous, for_release}
+use Rattle.gr_model.specs.declared.event.Space.{Space}
+use Rattle.gr_model.proofs.Descent.{together-swap, below_in_item, below_by_pair, stage_descends}
+use Rattle.gr_model.proofs.Places.{slice_get-append, places_from-append, places_from-there, places_from-within, filter_map-place}
+
+module _ (s t : Streams) (grows : Grows s t) where
+  pub trace_grows : (i : ItemId) → (more : List Event) × (trace_of t i ≡ trace_of s i ++ more)
+  trace_grows i =
+      let more = grows.lists i.group in
+      (filter (is_of i.item) more.0, ap (filter (is_of i.item)) more.1 ∙ filter-append (is_of i.item) (list_of s i.group) more.0)
+
+  -- an event stays
+  event_grows : (e : EventId) (x : Event) → event_at s e ≡ Some x → event_at t e ≡ Some x
+  event_grows e x at =
+      let more = trace_grows e.at in
+      ap (λ l. slice_get l e.index) more.1 ∙ slice_get-append (trace_of s e.at) more.0 e.index x at
+
+  -- the k-th that passes a test stays where it is, and is the k-th that was there
+  place_grows : (test : Event → Bool) (i : ItemId) (k n : ℕ) → place_of s test i k ≡ Some n → place_of t test i k ≡ Some n
+  place_grows test i k n at =
+      let more = trace_grows i in
+      ap (λ l. slice_get (places_from test 0 l) k) more.1 ∙ (ap (λ l. slice_get l k) (places_from-append test 0 (trace_of s i) more.0) ∙ slice_get-append (places_from test 0 (trace_of s i)) (places_from test (0 + length (trace_of s i)) more.0) k n at)
+
+  place_shrinks : (test : Event → Bool) (e : EventId) (k : ℕ) → IsEvent s e → place_of t test e.at k ≡ Some e.index → place_of s test e.at k ≡ Some e.index
+  place_shrinks test e k there at =
+      let more = trace_grows e.at in
+      places_from-within test (trace_of s e.at) more.0 k e.index (ap (λ l. slice_get (places_from test 0 l) k) (sym more.1) ∙ at) (slice_get_within (trace_of s e.at) e.index there.0 there.1)
+
+  place_there : (test : Event → Bool) (e : EventId) (k : ℕ) → place_of s test e.at k ≡ Some e.index → IsEvent s e
+  place_there test e k at =
+      let h = places_from-there test 0 (trace_of s e.at) k e.index at in
+      (h.1, let same : e.index ≡ h.0 = omega (arith, h.2) in ap (slice_get (trace_of s e.at)) same ∙ h.3)
+
+  word_grows : (e : EventId) → IsEvent s e → word_at t e ≡ word_at s e
+  word_grows e there = ap (option_and_then (event_word e.at.group)) (event_grows e there.0 there.1 ∙ sym there.1)
+
+  name_grows : (e : EventId) → IsEvent s e → name_at t e ≡ name_at s e
+  name_grows e there = ap (option_and_then (λ x. x.name)) (event_grows e there.0 there.1 ∙ sym there.1)
+
+  -- an event has the release that it had
+  release_event : (n : Name) (f e : EventId) → MatchesBy s n f e → IsEvent s e
+  release_event n f e m = place_there is_release e n.release (ap (λ i. place_of s is_release i n.release) m.item ∙ m.place)
+
+  matches_by_grows : (n : Name) (f e : EventId) → IsEvent s f → MatchesBy s n f e → MatchesBy t n f e
+  matches_by_grows n f e there m =
+      record {
+        named = name_grows f there ∙ m.named;
+        item = m.item;
+        place = place_grows is_release n.at n.release e.index m.place;
+        word = word_grows f there ∙ (m.word ∙ sym (word_grows e (release_event n f e m)));
+      }
+
+  matches_grows : (f e : EventId) → IsEvent s f → Matches s f e → Matches t f e
+  matches_grows f e there m = record { name = m.name; by = matches_by_grows m.name f e there m.by }
+
+  -- in longer lists a release is the one that it was, where it was there
+  matches_shrinks : (f e : EventId) → IsEvent s f → CanGo s f → Matches t f e → Matches s f e
+  matches_shrinks f e there go m =
+      let had = go.release m.name (sym (name_grows f there) ∙ m.by.named) in
+      let place : had.0.index ≡ e.index =
+      let p : Some had.0.index ≡ Some e.index = sym (place_grows is_release m.name.at m.name.release had.0.index had.1.place) ∙ m.by.place in cc in
+      let same : had.0 ≡ e = same_event had.0 e (had.1.item ∙ sym m.by.item) place in
+      record { name = m.name; by = subst (λ d. MatchesBy s m.name f d) same had.1 }
+    where
+      same_event : (d e : EventId) → d.at ≡ e.at → d.index ≡ e.index → d ≡ e
+      same_event d e item index = λ i. record { at = item i; index = index i }
+
+  -- ---- barriers
+
+  size_grows : (g : ℕ) → size_of s g ≡ size_of t g
+  size_grows g = ap (λ l. slice_index l g) grows.sizes
+
+  arrival_grows : (g k i : ℕ) (a : Mark) → arrivals s g k i ≡ Some a → arrivals t g k i ≡ Some a
+  arrival_grows g k i a at =
+      let more = trace_grows (record { group = g; item = i }) in
+      ap (λ l. slice_get (filter_map mark_of l) k) more.1 ∙ (ap (λ l. slice_get l k) (filter_map-append mark_of (trace_of s (record { group = g; item = i })) more.0) ∙ slice_get-append (filter_map mark_of (trace_of s (record { group = g; item = i }))) (filter_map mark_of more.0) k a at)
+
+  arrived_grows : (g k i : ℕ) (a : Mark) → HasArrived (size_of s g) (arrivals s g k) i a → HasArrived (size_of t g) (arrivals t g k) i a
+  arrived_grows g k i a h = (subst (λ n. i < n) (size_grows g) h.0, arrival_grows g k i a h.1)
+
+  convergent_grows : (g k : ℕ) (a : Mark) → IsConvergent s g k a → IsConvergent t g k a
+  convergent_grows g k a c i below = arrival_grows g k i a (c i (subst (λ n. i < n) (sym (size_grows g)) below))
+
+  mixed_grows : (g k : ℕ) → AreMixed (size_of s g) (arrivals s g k) → AreMixed (size_of t g) (arrivals t g k)
+  mixed_grows g k h = (h.0, h.1, h.2, h.3, arrived_grows g k h.0 h.2 h.4, arrived_grows g k h.1 h.3 h.5, h.6)
+
+  -- a whole list's traces stay
+  whole_trace : (g i : ℕ) → IsTrue (is_complete (list_of s g)) → trace_of t (record { group = g; item = i }) ≡ trace_of s (record { group = g; item = i })
+  whole_trace g i whole = ap (filter (is_of i)) (grows.whole g whole)
+
+  divergent_grows : (g k : ℕ) → IsDivergent s g k → IsDivergent t g k
+  divergent_grows g k (inl mixed) = inl (mixed_grows g k mixed)
+  divergent_grows g k (inr part) =
+      let whole = part.0 in
+      let h = part.1 in
+      inr (
+        ap is_complete (grows.whole g whole) ∙ whole,
+        (h.0, h.1, h.2, arrived_grows g k h.0 h.2 h.3, subst (λ n. h.1 < n) (size_grows g) h.4, ap (λ l. slice_get (filter_map mark_of l) k) (whole_trace g h.1 whole) ∙ h.5),
+      )
+
+  -- an instance is not both
+  not_both : (u : Streams) (g k : ℕ) (a : Mark) → IsConvergent u g k a → IsDivergent u g k → ⊥
+  not_both u g k a c (inl mixed) =
+      let same : mixed.2 ≡ mixed.3 = let e : Some mixed.2 ≡ Some mixed.3 = sym mixed.4.1 ∙ (c mixed.0 mixed.4.0 ∙ (sym (c mixed.1 mixed.5.0) ∙ mixed.5.1)) in cc in
+      mixed.6 same
+  not_both u g k a c (inr part) = let e : Some a ≡ None = sym (c part.1.1 part.1.4) ∙ part.1.5 in cc
+
+  -- a settled instance is convergent in the longer lists with the mark that it has
+  convergent_shrinks : (g k : ℕ) (a : Mark) → 0 < size_of s g → ((b : Mark) × IsConvergent s g k b) ⊎ IsDivergent s g k → IsConvergent t g k a → IsConvergent s g k a
+  convergent_shrinks g k a some (inl h) c =
+      let same : h.0 ≡ a = let e : Some h.0 ≡ Some a = sym (arrival_grows g k 0 h.0 (h.1 0 some)) ∙ c 0 (subst (λ n. 0 < n) (size_grows g) some) in cc in
+      subst (λ b. IsConvergent s g k b) same h.1
+  convergent_shrinks g k a some (inr d) c = absurd (not_both t g k a c (divergent_grows g k d))
+
+  -- a barrier's number stays
+  stands_grows : (e : EventId) (g k : ℕ) → StandsIn s e g k → StandsIn t e g k
+  stands_grows e g k h = record { group = h.group; item = subst (λ n. e.at.item < n) (size_grows g) h.item; place = place_grows is_barrier e.at k e.index h.place }
+
+  stands_shrinks : (e : EventId) (g k : ℕ) → IsEvent s e → StandsIn t e g k → StandsIn s e g k
+  stands_shrinks e g k there h = record { group = h.group; item = subst (λ n. e.at.item < n) (sym (size_grows g)) h.item; place = place_shrinks is_barrier e k there h.place }
+
+  together_grows : (a : Mark) (e b : EventId) → Together s a e b → Together t a e b
+  together_grows a e b h = record {
+    group = h.group;
+    instance = h.instance;
+    convergent = convergent_grows h.group h.instance a h.convergent;
+    first = stands_grows e h.group h.instance h.first;
+    second = stands_grows b h.group h.instance h.second;
+  }
+
+  -- in longer lists a reached barrier has met those whom it had met
+  together_shrinks : (a : Mark) (e b : EventId) → IsEvent s e → CanGo s e → Together t a e b → Together s a e b
+  together_shrinks a e b there go h =
+      let first = stands_shrinks e h.group h.instance there h.first in
+      let settled = go.instance h.group h.instance first in
+      let some : 0 < size_of s h.group = omega (arith, first.item) in
+      let convergent = convergent_shrinks h.group h.instance a some settled h.convergent in
+      let here : ItemId = record { group = h.group; item = b.at.item } in
+      let item : b.at ≡ here = λ i. record { group = h.second.group i; item = b.at.item } in
+      let within : b.at.item < size_of s h.group = subst (λ n. b.at.item < n) (sym (size_grows h.group)) h.second.item in
+      let found = filter_map-place mark_of 0 (trace_of s here) h.instance a (convergent b.at.item within) in
+      let was : place_of s is_barrier b.at h.instance ≡ Some found.0 = ap (λ i. place_of s is_barrier i h.instance) item ∙ found.1 in
+      let same : Some found.0 ≡ Some b.index = sym (place_grows is_barrier b.at h.instance found.0 was) ∙ h.second.place in
+      record {
+        group = h.group;
+        instance = h.instance;
+        convergent = convergent;
+        first = first;
+        second = record { group = h.second.group; item = within; place = was ∙ same };
+      }
+
+  -- ---- what an event waits for, and the stages
+
+  pub stage_event : (n : ℕ) (e : EventId) → Stage s n e → IsEvent s e × CanGo s e
+  stage_event zero e h = absurd h
+  stage_event (suc n) e h = (h.0, h.1)
+
+  pub waits_grows : (e d : EventId) → IsEvent s e → Waits s e d → Waits t e d
+  waits_grows e d there (for_previous p) = for_previous p
+  waits_grows e d there (for_release m) = for_release (matches_grows e d there m)
+  waits_grows e d there (for_arrival a b met p) = for_arrival a b (together_grows a e b met) p
+  waits_grows e d there (for_meeting a c p met) = for_meeting a c p (together_grows a c d met)
+
+  pub waits_shrink : (n : ℕ) (e : EventId) → Stage s (suc n) e → (d : EventId) → Waits t e d → Waits s e d
+  waits_shrink n e h d (for_previous p) = for_previous p
+  waits_shrink n e h d (for_release m) = for_release (matches_shrinks e d h.0 h.1 m)
+  waits_shrink n e h d (for_arrival a b met p) = for_arrival a b (together_shrinks a e b h.0 h.1 met) p
+  waits_shrink n e h d (for_meeting a c p met) =
+      let before = stage_event n c (h.2 c (for_previous p)) in
+      for_meeting a c p (together_shrinks a c d before.0 before.1 met)
+
+  can_go_grows : (e : EventId) → IsEvent s e → CanGo s e → CanGo t e
+  can_go_grows e there go = record {
+    release = λ n named. let d = go.release n (sym (name_grows e there) ∙ named) in (d.0, matches_by_grows n e d.0 there d.1);
+    instance = λ g k stands. ⊎_elim (λ c. inl (c.0, convergent_grows g k c.0 c.1)) (λ d. inr (divergent_grows g k d)) (go.instance g k (stands_shrinks e g k there stands));
+  }
+
+  -- an event that is reached is reached at the same stage
+  pub stage_grows : (n : ℕ) (e : EventId) → Stage s n e → Stage t n e
+  stage_grows zero e h = h
+  stage_grows (suc n) e h =
+      ((h.0.0, event_grows e h.0.0 h.0.1), can_go_grows e h.0 h.1, λ d w. stage_grows n d (h.2 d (waits_shrink n e h d w)))
+
+  pub stage_shrinks : (k : ℕ) (e : EventId) → Stage s k e → (n : ℕ) → Stage t n e → Stage s n e
+  stage_shrinks zero e h n l = absurd h
+  stage_shrinks (suc k) e h zero l = l
+  stage_shrinks (suc k) e h (suc n) l = (h.0, h.1, λ d w. stage_shrinks k d (h.2 d w) n (l.2 d (waits_grows e d h.0 w)))
+
+  -- ---- what happens before an event that is reached
+
+  inclusive_grows : (m : Space) (e f : EventId) → IsInclusive s m e f → IsInclusive t m e f
+  inclusive_grows m e f h = record {
+    first = h.first;
+    second = h.second;
+    at_first = event_grows e h.first h.at_first;
+    at_second = event_grows f h.second h.at_second;
+    word = h.word;
+    has_word = word_grows e (h.first, h.at_first) ∙ h.has_word;
+    memory = h.memory;
+    scopes = h.scopes;
+  }
+
+  same_event_at : (e : EventId) (x : Event) → IsEvent s e → event_at t e ≡ Some x → event_at s e ≡ Some x
+  same_event_at e x there at = there.1 ∙ (sym (event_grows e there.0 there.1) ∙ at)
+
+  inclusive_shrinks : (m : Space) (e f : EventId) → IsEvent s e → IsEvent s f → IsInclusive t m e f → IsInclusive s m e f
+  inclusive_shrinks m e f has_e has_f h = record {
+    first = h.first;
+    second = h.second;
+    at_first = same_event_at e h.first has_e h.at_first;
+    at_second = same_event_at f h.second has_f h.at_second;
+    word = h.word;
+    has_word = sym (word_grows e has_e) ∙ h.has_word;
+    memory = h.memory;
+    scopes = h.scopes;
+  }
+
+  pair_grows : (m : Space) (e f : EventId) → IsEvent s f → BasePair s m e f → BasePair t m e f
+  pair_grows m e f has (sequenced item below there) = sequenced item below (there.0, event_grows f there.0 there.1)
+  pair_grows m e f has (synchronized match inclusive) = synchronized (matches_grows f e has match) (inclusive_grows m e f inclusive)
+  pair_grows m e f has (behind_barrier a b flagged met item below there) = behind_barrier a b flagged (together_grows a e b met) item below (there.0, event_grows f there.0 there.1)
+
+  pair_shrinks : (m : Space) (n : ℕ) (e f : EventId) → Stage s n f → BasePair t m e f → BasePair s m e f
+  pair_shrinks m n e f h (sequenced item below there) = sequenced item below (stage_event n f h).0
+  pair_shrinks m n e f h (synchronized match inclusive) =
+      let here = stage_event n f h in
+      let was = matches_shrinks f e here.0 here.1 match in
+      synchronized was (inclusive_shrinks m e f (release_event was.name f e was.by) here.0 inclusive)
+  pair_shrinks m n e f h (behind_barrier a b flagged met item below there) =
+      let lower = below_in_item s (Stage s) (stage_descends s) n b f h item below in
+      let barrier = stage_event lower.0 b lower.2 in
+      behind_barrier a b flagged (together-swap (together_shrinks a b e barrier.0 barrier.1 (together-swap met))) item below (stage_event n f h).0
+
+  pub before_shrinks : (m : Space) (e f : EventId) → HappensBefore t m e f → (n : ℕ) → Stage s n f → HappensBefore s m e f
+  before_shrinks m e f (by_pair pair) n h = by_pair (pair_shrinks m n e f h pair)
+  before_shrinks m e f (through {f = d} before pair) n h =
+      let was = pair_shrinks m n d f h pair in
+      let lower = below_by_pair s (Stage s) (stage_descends s) m n d f h was in
+      through (before_shrinks m e d before lower.0 lower.2) was
+
+  pub before_grows : (m : Space) (e f : EventId) → HappensBefore s m e f → (n : ℕ) → Stage s n f → HappensBefore t m e f
+  before_grows m e f (by_pair pair) n h = by_pair (pair_grows m e f (stage_event n f h).0 pair)
+  before_grows m e f (through {f = d} before pair) n h =
+      let lower = below_by_pair s (Stage s) (stage_descends s) m n d f h pair in
+      through (before_grows m e d before lower.0 lower.2) (pair_grows m d f (stage_event n f h).0 pair)

@@ -1,0 +1,11 @@
+pub mod ListsOfRecords
+pub mod Pairs
+pub mod HitLaws
+pub mod Descent
+pub mod Numbers
+pub mod Places
+pub mod GrowthLaws
+pub mod CountLaws
+pub mod Cuts
+pub mod HitsAreRaces
+pub mod Fronts

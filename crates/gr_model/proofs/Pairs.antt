@@ -1,0 +1,70 @@
+-- An element of which something holds, and a pair of elements, an earlier and a later one, that are related.
+use Rattle.std.proofs.Common.{◌≡◌, ◌⊎◌, ◌↔◌, ℕ, zero, suc, ◌<◌, Bool, true, false, cond, List, [], ◌∷◌, Some, slice_get, filter, refl, sym, ◌∙◌, subst, inl, inr, ⊎_elim, arith, true≢false}
+use Rattle.gr_model.specs.Hits.{SomePair}
+
+-- P holds of an element
+abbrev pub SomeOf : {X : Type 0} → (X → Type 0) → List X → Type 0
+SomeOf P [] = ⊥
+SomeOf P (x ∷ xs) = P x ⊎ SomeOf P xs
+
+pub SomeOf-at : {X : Type 0} (P : X → Type 0) (xs : List X) (p : ℕ) (x : X) → slice_get xs p ≡ Some x → P x → SomeOf P xs
+SomeOf-at P [] p x at h = cc
+SomeOf-at P (y ∷ xs) zero x at h = inl (let same : x ≡ y = cc in subst P same h)
+SomeOf-at P (y ∷ xs) (suc p) x at h = inr (SomeOf-at P xs p x at h)
+
+pub SomeOf-place : {X : Type 0} (P : X → Type 0) (xs : List X) → SomeOf P xs → (p : ℕ) × (x : X) × (slice_get xs p ≡ Some x) × P x
+SomeOf-place P [] h = absurd h
+SomeOf-place P (y ∷ xs) (inl h) = (0, y, refl, h)
+SomeOf-place P (y ∷ xs) (inr h) = let there = SomeOf-place P xs h in (suc there.0, there.1, there.2, there.3)
+
+-- R relates an element and one behind it, by recursion on the list
+abbrev pub PairIn : {X : Type 0} → (X → X → Type 0) → List X → Type 0
+PairIn R [] = ⊥
+PairIn R (x ∷ xs) = SomeOf (R x) xs ⊎ PairIn R xs
+
+PairIn-at : {X : Type 0} (R : X → X → Type 0) (xs : List X) (p q : ℕ) (x y : X) → p < q → slice_get xs p ≡ Some x → slice_get xs q ≡ Some y → R x y → PairIn R xs
+PairIn-at R [] p q x y lt at_x at_y r = cc
+PairIn-at R (z ∷ xs) zero zero x y lt at_x at_y r = absurd (omega arith)
+PairIn-at R (z ∷ xs) zero (suc q) x y lt at_x at_y r = inl (let same : x ≡ z = cc in SomeOf-at (R z) xs q y at_y (subst (λ w. R w y) same r))
+PairIn-at R (z ∷ xs) (suc p) zero x y lt at_x at_y r = absurd (omega arith)
+PairIn-at R (z ∷ xs) (suc p) (suc q) x y lt at_x at_y r = inr (PairIn-at R xs p q x y (omega arith) at_x at_y r)
+
+pub SomePair-from_in : {X : Type 0} (R : X → X → Type 0) (xs : List X) → PairIn R xs → SomePair R xs
+SomePair-from_in R [] h = absurd h
+SomePair-from_in R (z ∷ xs) (inl h) = let there = SomeOf-place (R z) xs h in (0, suc there.0, z, there.1, omega arith, refl, there.2, there.3)
+SomePair-from_in R (z ∷ xs) (inr h) = let there = SomePair-from_in R xs h in (suc there.0, suc there.1, there.2, there.3, omega (arith, there.4), there.5, there.6, there.7)
+
+pub PairIn-from_some : {X : Type 0} (R : X → X → Type 0) (xs : List X) → SomePair R xs → PairIn R xs
+PairIn-from_some R xs h = PairIn-at R xs h.0 h.1 h.2 h.3 h.4 h.5 h.6 h.7
+
+-- a filter keeps an element of which P holds, where it keeps all such elements
+pub SomeOf-filter : {X : Type 0} (keep : X → Bool) (P : X → Type 0) → ((x : X) → P x → keep x ≡ true) → (xs : List X) → SomeOf P xs ↔ SomeOf P (filter keep xs)
+SomeOf-filter keep P kept [] = (λ h. h, λ h. h)
+SomeOf-filter {X} keep P kept (x ∷ xs) =
+    let rest = SomeOf-filter keep P kept xs in
+    elim (keep x) as (λ b. (keep x ≡ b) → (P x ⊎ SomeOf P xs) ↔ SomeOf P (cond b (x ∷ filter keep xs) (filter keep xs))) [
+      | true ↦ λ _. (⊎_elim (λ p. inl p) (λ t. inr (rest.0 t)), ⊎_elim (λ p. inl p) (λ t. inr (rest.1 t)))
+      | false ↦ λ e. (⊎_elim (λ p. absurd (true≢false (sym (kept x p) ∙ e))) (λ t. rest.0 t), λ t. inr (rest.1 t))
+    ] refl
+
+pub PairIn-filter : {X : Type 0} (keep : X → Bool) (R : X → X → Type 0) → ((x y : X) → R x y → (keep x ≡ true) × (keep y ≡ true)) → (xs : List X) → PairIn R xs ↔ PairIn R (filter keep xs)
+PairIn-filter keep R kept [] = (λ h. h, λ h. h)
+PairIn-filter {X} keep R kept (x ∷ xs) =
+    let rest = PairIn-filter keep R kept xs in
+    let later = SomeOf-filter keep (R x) (λ y r. (kept x y r).1) xs in
+    elim (keep x) as (λ b. (keep x ≡ b) → (SomeOf (R x) xs ⊎ PairIn R xs) ↔ PairIn R (cond b (x ∷ filter keep xs) (filter keep xs))) [
+      | true ↦ λ _. (⊎_elim (λ p. inl (later.0 p)) (λ t. inr (rest.0 t)), ⊎_elim (λ p. inl (later.1 p)) (λ t. inr (rest.1 t)))
+      | false ↦ λ e. (⊎_elim (λ p. absurd (none x xs p e)) (λ t. rest.0 t), λ t. inr (rest.1 t))
+    ] refl
+  where
+    none : (x : X) (xs : List X) → SomeOf (R x) xs → keep x ≡ false → ⊥
+    none x [] r e = elim r [ ]
+    none x (y ∷ ys) (inl r) e = true≢false (sym (kept x y r).0 ∙ e)
+    none x (y ∷ ys) (inr r) e = none x ys r e
+
+pub SomePair-filter : {X : Type 0} (keep : X → Bool) (R : X → X → Type 0) → ((x y : X) → R x y → (keep x ≡ true) × (keep y ≡ true)) → (xs : List X) → SomePair R xs ↔ SomePair R (filter keep xs)
+SomePair-filter keep R kept xs =
+    let same = PairIn-filter keep R kept xs in (
+      λ h. SomePair-from_in R (filter keep xs) (same.0 (PairIn-from_some R xs h)),
+      λ h. SomePair-from_in R xs (same.1 (PairIn-from_some R (filter keep xs) h)),
+    )

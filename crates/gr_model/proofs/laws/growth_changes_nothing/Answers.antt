@@ -1,0 +1,23 @@
+use Rattle.std.proofs.Common.{ℕ, suc, zero, ◌↔◌}
+use Rattle.gr_model.specs.declared.event.EventId.{EventId}
+use Rattle.gr_model.specs.Streams.{Grows, Streams}
+use Rattle.gr_model.specs.Waits.{Stage, Waits}
+use Rattle.gr_model.proofs.GrowthLaws.{waits_grows, waits_shrink, stage_grows, stage_shrinks, before_grows, before_shrinks}
+use Rattle.gr_model.proofs.CountLaws.{count_grows, count_shrinks}
+use Rattle.gr_model.proofs.laws.growth_changes_nothing.Goals as goal
+
+waits_stay : (s t : Streams) (e d : EventId) → Grows s t → (n : ℕ) → Stage s n e → Waits s e d ↔ Waits t e d
+waits_stay s t e d grows zero h = absurd h
+waits_stay s t e d grows (suc n) h = (waits_grows s t grows e d h.0, waits_shrink s t grows n e h d)
+
+pub returns-clause-waits : goal.returns-clause-waits
+returns-clause-waits c s t e d grows g = waits_stay s t e d grows g.0 g.1
+
+pub returns-clause-stages : goal.returns-clause-stages
+returns-clause-stages c s t e n grows g = (stage_grows s t grows n e, stage_shrinks s t grows g.0 e g.1 n)
+
+pub returns-clause-order : goal.returns-clause-order
+returns-clause-order c s t m e f grows g = (λ b. before_grows s t grows m e f b g.0 g.1, λ b. before_shrinks s t grows m e f b g.0 g.1)
+
+pub returns-clause-counts : goal.returns-clause-counts
+returns-clause-counts c s t m f j n grows g = (count_grows s t grows m f g.0 g.1 j n, count_shrinks s t grows m f g.0 g.1 j n)

@@ -1,0 +1,15 @@
+pub mod Access
+pub mod Events
+pub mod Shapes
+pub mod Streams
+pub mod Names
+pub mod Instances
+pub mod Barriers
+pub mod HappensBefore
+pub mod Waits
+pub mod LawfulOrders
+pub mod Races
+pub mod Counts
+pub mod Hits
+pub mod Reports
+pub mod Laws

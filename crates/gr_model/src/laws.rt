@@ -1,0 +1,26 @@
+//! Laws of the definitions. Each is the contract of a function that does nothing, told in words in docs/MODEL.md, "Laws".
+
+ghost use Rattle.gr_model.specs.Laws.{PairsGoForwards, OrderGoesForwards, OrderStaysWithin, WaitsStay, StagesStay, OrderStays, CountsStay, HitsAreRaces};
+
+/// In a lawful order base pairs go forwards, and so does the happens-before of each memory, which never leads in from
+/// outside the order.
+pub fn order_goes_forwards()
+    ensures pairs { PairsGoForwards }
+    ensures order { OrderGoesForwards }
+    ensures within { OrderStaysWithin }
+{}
+
+/// What is known of a grounded event stays where lists that are not complete grow: what it waits for, its stage, what
+/// happens before it, and its counts.
+pub fn growth_changes_nothing()
+    ensures waits { WaitsStay }
+    ensures stages { StagesStay }
+    ensures order { OrderStays }
+    ensures counts { CountsStay }
+{}
+
+/// Along a lawful order, the words with an access that conflicts with an earlier one and is not ordered behind it are
+/// the racy words.
+pub fn hits_are_races()
+    ensures { HitsAreRaces }
+{}

@@ -1,0 +1,13 @@
+//! The limits of a launch. Each is cited by the clauses that rest on it.
+
+/// The greatest number of work-groups in a launch.
+pub const MOST_GROUPS: usize = 64;
+
+/// The greatest number of work-items in a work-group.
+pub const MOST_ITEMS_OF_A_GROUP: u16 = 256;
+
+/// The greatest number of work-items in a launch.
+pub const MOST_ITEMS: u32 = 2048;
+
+/// The greatest number of records in a work-group's stream, its end included.
+pub const MOST_RECORDS: usize = 16_777_216;

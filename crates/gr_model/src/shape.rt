@@ -1,0 +1,153 @@
+//! How many work-items each work-group of a launch has.
+//!
+//! Invariant: there are 1 to 64 groups, each has 1 to 256 items, and there are at most 2,048 items (`limits`).
+
+ghost use Rattle.std.specs.Prelude.{◌≡◌, ◌↔◌, ◌+◌, ◌<◌, ◌≤◌, IsTrue, IsOk, IfOk, IfErr, MatchOption, length, slice_index, sum, All, take};
+ghost use Rattle.gr_model.specs.Shapes.{IsShape, IsGroupSize, HasItem, IsFirstBadSize, IsShapeFault};
+
+use crate::event::ItemId;
+use crate::limits::{MOST_GROUPS, MOST_ITEMS, MOST_ITEMS_OF_A_GROUP};
+use crate::memory::Memory;
+use std::alloc::{Allocator, Global};
+use std::marker::Model;
+use thiserror::Error;
+
+/// Why sizes are no shape: the first cause that is there.
+#[derive(Clone, Copy, Debug, PartialEq, Eq, Error)]
+pub enum ShapeError {
+    #[error("no groups")]
+    NoGroups,
+    /// There are more than `MOST_GROUPS`.
+    #[error("too many groups")]
+    TooManyGroups,
+    /// The least group that has no items, or more than `MOST_ITEMS_OF_A_GROUP`.
+    #[error("bad items in group {0}")]
+    BadItems(u16),
+    /// There are more than `MOST_ITEMS` in all.
+    #[error("too many items")]
+    TooManyItems,
+}
+
+/// How many work-items each work-group has. Contracts see the list of those numbers.
+#[derive(Drop)]
+#[derive_where(Debug)]
+pub struct Shape<A: Allocator = Global> {
+    sizes: Vec<u16, A>,
+}
+
+impl<A: Allocator> Model for Shape<A> {
+    ghost use Rattle.std.specs.Prelude.{List, ℕ};
+    ghost use Rattle.gr_model.specs.Shapes.{IsShape};
+
+    ghost Value = { List ℕ };
+
+    ghost view = { λ s. s.sizes.items };
+
+    ghost invariant = { λ s. IsShape s.sizes.items };
+}
+
+/// The first group that has no items or too many.
+fn bad_group(sizes: &[u16]) -> Option<usize>
+    ensures { MatchOption result (All IsGroupSize sizes.now) (λ g. IsFirstBadSize sizes.now g) }
+{
+    sizes
+        .iter()
+        .position(|size| *size == 0 || *size > MOST_ITEMS_OF_A_GROUP)
+}
+
+/// The sum of the sizes.
+fn total_of(sizes: &[u16]) -> u32
+    requires few { length sizes.now ≤ MOST_GROUPS }
+    requires small { All IsGroupSize sizes.now }
+    ensures { result ≡ sum sizes.now }
+{
+    let mut total: u32 = 0;
+    for size in sizes {
+        total += u32::from(*size);
+    }
+    total
+}
+
+/// Why the sizes are no shape, or `None` where they are one.
+fn fault_of(sizes: &[u16]) -> Option<ShapeError>
+    ensures { MatchOption result (IsShape sizes.now) (λ e. IsShapeFault sizes.now e) }
+{
+    if sizes.is_empty() {
+        return Some(ShapeError::NoGroups);
+    }
+    if sizes.len() > MOST_GROUPS {
+        return Some(ShapeError::TooManyGroups);
+    }
+    if let Some(g) = bad_group(sizes) {
+        return Some(ShapeError::BadItems(g as u16));
+    }
+    if total_of(sizes) > MOST_ITEMS {
+        return Some(ShapeError::TooManyItems);
+    }
+    None
+}
+
+impl<A: Allocator> Shape<A> {
+    /// The shape of these sizes, by group.
+    ///
+    /// # Errors
+    /// The first of `NoGroups`, `TooManyGroups`, `BadItems` with the least such group, and `TooManyItems` that is there.
+    pub fn new(sizes: Vec<u16, A>) -> Result<Shape<A>, ShapeError>
+        ensures accepted { IsOk result ↔ IsShape sizes.items }
+        ensures sizes { IfOk result (λ s. s ≡ sizes.items) }
+        ensures refused { IfErr result (λ e. IsShapeFault sizes.items e) }
+    {
+        match fault_of(&sizes) {
+            Some(fault) => Err(fault),
+            None => Ok(Shape { sizes }),
+        }
+    }
+
+    /// How many work-groups there are.
+    pub fn groups(&self) -> u16
+        ensures count { result ≡ length self.now }
+        ensures shape { IsShape self.now }
+    {
+        self.sizes.len() as u16
+    }
+
+    /// How many work-items a group has.
+    pub fn items(&self, group: u16) -> u16
+        requires { group < length self.now }
+        ensures size { result ≡ slice_index self.now group }
+        ensures shape { IsShape self.now }
+    {
+        self.sizes[group as usize]
+    }
+
+    /// How many work-items there are.
+    pub fn total(&self) -> u32
+        ensures total { result ≡ sum self.now }
+        ensures shape { IsShape self.now }
+    {
+        total_of(&self.sizes)
+    }
+
+    /// Whether there is such a work-item.
+    pub fn has(&self, item: ItemId) -> bool
+        ensures { IsTrue result ↔ HasItem self.now item }
+    {
+        match self.sizes.get(item.group as usize) {
+            None => false,
+            Some(size) => item.item < *size,
+        }
+    }
+
+    /// The same shape once more.
+    ///
+    /// # Errors
+    /// `Memory` where its list can't be made.
+    pub fn copy(&self) -> Result<Shape<A>, Memory>
+    where
+        A: Clone,
+        ensures { IfOk result (λ s. s ≡ self.now) }
+    {
+        let sizes = self.sizes.clone()?;
+        Ok(Shape { sizes })
+    }
+}

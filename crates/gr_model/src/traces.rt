@@ -1,0 +1,146 @@
+//! The complete lists of a launch, one for each work-group.
+//!
+//! Invariant: there are as many lists as groups; each has records that its group may have, at most `MOST_RECORDS`, of
+//! which the last and no other is an end.
+
+ghost use Rattle.std.specs.Prelude.{◌≡◌, ◌↔◌, ◌+◌, ◌<◌, IsTrue, IsOk, IfOk, IfErr, MatchOption, length, slice_index, slice_index_or, map, take};
+ghost use Rattle.gr_model.specs.Shapes.{IsShape};
+ghost use Rattle.gr_model.specs.Events.{is_end, IsEventOk};
+ghost use Rattle.gr_model.specs.Streams.{IsAccepted, AreAccepted, IsFirstBadPlace, IsListFault, IsTracesFault, AreGood, is_complete, list_of, streams};
+
+use crate::event::{Event, event_ok};
+use crate::limits::MOST_RECORDS;
+use crate::shape::Shape;
+use std::alloc::{Allocator, Global};
+use std::marker::Model;
+use thiserror::Error;
+
+/// Why lists are no traces: the first cause that is there, of the first group that has one.
+#[derive(Clone, Copy, Debug, PartialEq, Eq, Error)]
+pub enum TracesError {
+    #[error("there are not as many lists as groups")]
+    WrongCount,
+    /// The group's list has more than `MOST_RECORDS`.
+    #[error("group {0} has too many records")]
+    TooManyRecords(u16),
+    /// The group's first record, by its place, that the group can't have there.
+    #[error("group {0} has a bad event at {1}")]
+    BadEvent(u16, u32),
+    #[error("the list of group {0} has no end")]
+    NoEnd(u16),
+}
+
+/// The complete lists of a launch. Contracts see the groups' sizes and one list of events for each group.
+#[derive(Drop)]
+#[derive_where(Debug)]
+pub struct Traces<A: Allocator = Global> {
+    shape: Shape<A>,
+    lists: Vec<Vec<Event, A>, A>,
+}
+
+impl<A: Allocator> Model for Traces<A> {
+    ghost use Rattle.gr_model.specs.Streams.{Streams, AreAccepted, streams};
+
+    ghost Value = { Streams };
+
+    ghost view = { λ t. streams t.shape t.lists.items };
+
+    ghost invariant = { λ t. AreAccepted (streams t.shape t.lists.items) };
+}
+
+/// Whether a record may stand where it does, in a group of so many items.
+fn good_at(event: &Event, items: u16, last: bool) -> bool
+    ensures { IsTrue result ↔ (IsEventOk event.now items × (IsTrue (is_end event.now) → IsTrue last)) }
+{
+    event_ok(event, items) && (last || !event.kind.is_end())
+}
+
+/// The first place of a record that its group may not have there.
+fn bad_place(list: &[Event], items: u16) -> Option<usize>
+    ensures { MatchOption result (AreGood items list.now) (λ p. IsFirstBadPlace items list.now p) }
+{
+    for (p, event) in list.iter().enumerate() {
+        if !good_at(event, items, p + 1 == list.len()) {
+            return Some(p);
+        }
+    }
+    None
+}
+
+/// Whether a list's last record is an end.
+fn has_end(list: &[Event]) -> bool
+    ensures { result ≡ is_complete list.now }
+{
+    match list.last() {
+        None => false,
+        Some(event) => event.kind.is_end(),
+    }
+}
+
+/// What is wrong with a group's list.
+fn list_fault(group: u16, items: u16, list: &[Event]) -> Option<TracesError>
+    ensures { MatchOption result (IsAccepted items list.now) (λ e. IsListFault group items list.now e) }
+{
+    if list.len() > MOST_RECORDS {
+        return Some(TracesError::TooManyRecords(group));
+    }
+    if let Some(p) = bad_place(list, items) {
+        return Some(TracesError::BadEvent(group, p as u32));
+    }
+    if !has_end(list) {
+        return Some(TracesError::NoEnd(group));
+    }
+    None
+}
+
+/// What is wrong with the lists of a shape's groups, of which there are as many.
+fn first_fault<A: Allocator>(shape: &Shape<A>, lists: &[Vec<Event, A>]) -> Option<TracesError>
+    requires { length lists.now ≡ length shape.now }
+    ensures { MatchOption result (AreAccepted (streams shape.now lists.now)) (λ e. IsTracesFault (streams shape.now lists.now) e) }
+{
+    for g in 0..shape.groups() {
+        let list = &lists[g as usize];
+        if let Some(fault) = list_fault(g, shape.items(g), list) {
+            return Some(fault);
+        }
+    }
+    None
+}
+
+impl<A: Allocator> Traces<A> {
+    /// The traces of a shape's groups, one list for each.
+    ///
+    /// # Errors
+    /// `WrongCount`; else, for the groups in order, the first of `TooManyRecords`, `BadEvent` with the first such place,
+    /// and `NoEnd` that is there.
+    pub fn new(shape: Shape<A>, lists: Vec<Vec<Event, A>, A>) -> Result<Traces<A>, TracesError>
+        ensures accepted { IsOk result ↔ AreAccepted (streams shape lists.items) }
+        ensures lists { IfOk result (λ t. t ≡ streams shape lists.items) }
+        ensures refused { IfErr result (λ e. IsTracesFault (streams shape lists.items) e) }
+    {
+        if lists.len() != shape.groups() as usize {
+            return Err(TracesError::WrongCount);
+        }
+        match first_fault(&shape, &lists) {
+            Some(fault) => Err(fault),
+            None => Ok(Traces { shape, lists }),
+        }
+    }
+
+    /// The sizes of the groups.
+    pub fn shape(&self) -> &Shape<A>
+        ensures sizes { result.now ≡ self.now.sizes }
+        ensures accepted { AreAccepted self.now }
+    {
+        &self.shape
+    }
+
+    /// The list of a group, in the order of its stream.
+    pub fn list(&self, group: u16) -> &[Event]
+        requires { group < length self.now.sizes }
+        ensures list { result.now ≡ list_of self.now group }
+        ensures accepted { AreAccepted self.now }
+    {
+        &self.lists[group as usize]
+    }
+}
