@@ -4,3 +4,5 @@
 pub mod error;
 pub mod fault;
 pub mod header;
+pub mod layout;
+mod reading;
