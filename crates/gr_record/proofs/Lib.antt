@@ -1,1 +1,4 @@
 pub mod Fields
+pub mod Found
+pub mod Numbers
+pub mod Spelled

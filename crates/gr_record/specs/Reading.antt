@@ -1,6 +1,6 @@
 -- What the bytes of a header and of a record say, or their first fault.
 -- Source: docs/FORMATS.md, "Stream" and "Faults of a whole record".
-use Rattle.std.specs.Prelude.{◌≡◌, ℕ, ◌-◌, ◌^◌, Bool, true, not, ◌&&◌, ◌||◌, List, drop, slice_index, Option, Some, None, Result, Ok, Err, nat_lt, nat_le, ◌==◌, if◌then◌else◌}
+use Rattle.std.specs.Prelude.{ℕ, ◌-◌, ◌^◌, Bool, true, not, ◌&&◌, ◌||◌, List, drop, slice_index, Option, Some, None, Result, Ok, Err, nat_lt, nat_le, ◌==◌, if◌then◌else◌}
 use Rattle.std.specs.List.{range_with_len, find}
 use Rattle.byteorder.specs.Endian.{little_number}
 use Rattle.gr_model.specs.declared.event.Space.{Space}

@@ -1,6 +1,6 @@
 -- The one spelling of a header and of each event, as bytes. Numbers are little endian.
 -- Source: docs/FORMATS.md, "Stream".
-use Rattle.std.specs.Prelude.{◌≡◌, ℕ, ◌+◌, ◌*◌, ◌^◌, ◌<◌, ◌≤◌, Bool, List, [], ◌∷◌, ◌++◌, replicate, Option, Some, None, if◌then◌else◌}
+use Rattle.std.specs.Prelude.{ℕ, ◌+◌, ◌*◌, ◌^◌, ◌<◌, ◌≤◌, Bool, List, [], ◌∷◌, ◌++◌, replicate, Option, Some, None, if◌then◌else◌}
 use Rattle.std.specs.List.{flat_map}
 use Rattle.byteorder.specs.Endian.{little_bytes}
 use Rattle.gr_model.specs.declared.event.Space.{Space}

@@ -4,5 +4,6 @@
 pub mod error;
 pub mod fault;
 pub mod header;
+pub mod laws;
 pub mod layout;
 mod reading;
