@@ -7,3 +7,4 @@ pub mod header;
 pub mod laws;
 pub mod layout;
 mod reading;
+pub mod stream;
