@@ -1,0 +1,207 @@
+-- What is read is in range, and is spelled so.
+use Rattle.std.proofs.Common.{◌≡◌, ℕ, zero, suc, ◌+◌, ◌*◌, ◌<◌, ◌≤◌, Bool, true, false, cond, List, [], ◌∷◌, Option, Some, None, Result, Ok, Err, refl, arith, inl, inr}
+use Rattle.std.specs.Prelude.{nat_lt, nat_le, ◌==◌, ◌||◌, ◌&&◌, not, slice_index}
+use Rattle.std.proofs.lemmas.Bool.{eqb-true, ltb-true, leb-true, ltb-false, leb-false, and_parts, cases_Bool, not-true, not-false}
+use Rattle.gr_model.specs.declared.event.Event.{Event}
+use Rattle.gr_model.specs.declared.event.Kind.{Kind}
+use Rattle.gr_model.specs.declared.event.Name.{Name}
+use Rattle.gr_model.specs.Events.{IsKindOk, IsNamingOk, IsEventOk}
+use Rattle.gr_record.specs.declared.header.Header.{Header}
+use Rattle.gr_record.specs.declared.error.RecordError.{RecordError}
+use Rattle.gr_record.specs.Spelling.{kind_bytes, name_bytes}
+use Rattle.gr_record.specs.Reading.{field, is_field_ok, unless_bad, bad_field, bad_field_from, kind_of, space_at, name_at, is_order_ok, is_name_ok, event_at, header_at}
+use Rattle.gr_record.specs.Laws.{ReadIsSpelled, ReadHeaderIsSpelled}
+use Rattle.gr_record.proofs.Numbers.{two_low, two_high, four, eight, space_again, scope_again, order_again, bit_again, flags_again}
+
+abbrev done : {A : Type 0} → A → Result A RecordError
+done x = Ok x
+
+-- a test that let the rest through
+guard_ok : {A : Type 0} (b : Bool) (d : RecordError) (x : Result A RecordError) (y : A) → cond b (Err d) x ≡ Ok y → (b ≡ false) × (x ≡ Ok y)
+guard_ok true d x y e = absurd cc
+guard_ok false d x y e = (refl, e)
+
+unless_bad_ok : {A : Type 0} (o : Option ℕ) (x : Result A RecordError) (y : A) → unless_bad o x ≡ Ok y → (o ≡ None) × (x ≡ Ok y)
+unless_bad_ok None x y e = (refl, e)
+unless_bad_ok (Some p) x y e = absurd cc
+
+-- a place that is not at fault, before others
+none_next : (t : Bool) (p : ℕ) (o : Option ℕ) → cond (not t) (Some p) o ≡ None → (t ≡ true) × (o ≡ None)
+none_next true p o e = (refl, e)
+none_next false p o e = absurd cc
+
+done_is : (x y : Event) → done x ≡ done y → x ≡ y
+done_is x y e = cc
+
+-- what is known of a record that is read
+record Accepted (items : ℕ) (bytes : List ℕ) (e : Event) : Type 0 where
+  kind : nat_lt 6 (slice_index bytes 0) ≡ false
+  fields : bad_field bytes ≡ None
+  order : not (is_order_ok (kind_of bytes)) ≡ false
+  name : not (is_name_ok (kind_of bytes) (name_at bytes)) ≡ false
+  item : nat_le items (field 4 2 bytes) ≡ false
+  same : record { item = field 4 2 bytes; kind = kind_of bytes; space = space_at bytes; word = field 8 4 bytes; name = name_at bytes } ≡ e
+
+accepted : (items : ℕ) (bytes : List ℕ) (e : Event) → event_at items bytes ≡ Ok e → Accepted items bytes e
+unfolding event_at
+accepted items bytes e h =
+    let k = guard_ok _ _ _ e h in
+    let f = unless_bad_ok _ _ e k.1 in
+    let o = guard_ok _ _ _ e f.1 in
+    let n = guard_ok _ _ _ e o.1 in
+    let i = guard_ok _ _ _ e n.1 in
+    record { kind = k.0; fields = f.0; order = o.0; name = n.0; item = i.0; same = done_is _ e i.1 }
+
+-- the fields of a record that is read
+record AreFieldsOk (bytes : List ℕ) : Type 0 where
+  one : is_field_ok (slice_index bytes 0) 1 (slice_index bytes 1) ≡ true
+  two : is_field_ok (slice_index bytes 0) 2 (slice_index bytes 2) ≡ true
+  three : is_field_ok (slice_index bytes 0) 3 (slice_index bytes 3) ≡ true
+  four : is_field_ok (slice_index bytes 0) 4 (slice_index bytes 4) ≡ true
+  five : is_field_ok (slice_index bytes 0) 5 (slice_index bytes 5) ≡ true
+  six : is_field_ok (slice_index bytes 0) 6 (slice_index bytes 6) ≡ true
+  seven : is_field_ok (slice_index bytes 0) 7 (slice_index bytes 7) ≡ true
+  eight : is_field_ok (slice_index bytes 0) 8 (slice_index bytes 8) ≡ true
+  nine : is_field_ok (slice_index bytes 0) 9 (slice_index bytes 9) ≡ true
+  ten : is_field_ok (slice_index bytes 0) 10 (slice_index bytes 10) ≡ true
+  eleven : is_field_ok (slice_index bytes 0) 11 (slice_index bytes 11) ≡ true
+
+fields_ok : (bytes : List ℕ) → bad_field bytes ≡ None → AreFieldsOk bytes
+unfolding bad_field_from
+fields_ok bytes h =
+    let p1 = none_next _ _ _ h in
+    let p2 = none_next _ _ _ p1.1 in
+    let p3 = none_next _ _ _ p2.1 in
+    let p4 = none_next _ _ _ p3.1 in
+    let p5 = none_next _ _ _ p4.1 in
+    let p6 = none_next _ _ _ p5.1 in
+    let p7 = none_next _ _ _ p6.1 in
+    let p8 = none_next _ _ _ p7.1 in
+    let p9 = none_next _ _ _ p8.1 in
+    let p10 = none_next _ _ _ p9.1 in
+    let p11 = none_next _ _ _ p10.1 in
+    record { one = p1.0; two = p2.0; three = p3.0; four = p4.0; five = p5.0; six = p6.0; seven = p7.0; eight = p8.0; nine = p9.0; ten = p10.0; eleven = p11.0 }
+
+order_test : (b : ℕ) → (nat_le 1 b && nat_le b 4) ≡ true → (1 ≤ b) × (b ≤ 4)
+order_test b h = let p = and_parts _ _ h in (leb-true 1 b p.0, leb-true b 4 p.1)
+
+module _ (b1 b2 b3 : ℕ) (rest : List ℕ) where
+  abbrev from : ℕ → List ℕ
+  from b0 = b0 ∷ b1 ∷ b2 ∷ b3 ∷ rest
+
+  abbrev Again : ℕ → Type 0
+  Again b0 = kind_bytes (kind_of (from b0)) (space_at (from b0)) ≡ b0 ∷ b1 ∷ b2 ∷ b3 ∷ []
+
+  -- the first four bytes
+  kind_found : (b0 : ℕ) → nat_lt 6 b0 ≡ false → is_field_ok b0 1 b1 ≡ true → is_field_ok b0 2 b2 ≡ true → is_field_ok b0 3 b3 ≡ true → Again b0
+  unfolding kind_of space_at
+  kind_found zero k p q r = rw (space_again b1 (ltb-true b1 2 p), eqb-true b2 0 q, eqb-true b3 0 r) refl
+  kind_found (suc zero) k p q r = rw (space_again b1 (ltb-true b1 2 p), eqb-true b2 0 q, eqb-true b3 0 r) refl
+  kind_found (suc (suc zero)) k p q r = let o = order_test b3 r in rw (space_again b1 (ltb-true b1 2 p), scope_again b2 q, order_again b3 o.0 o.1) refl
+  kind_found (suc (suc (suc zero))) k p q r = let o = order_test b3 r in rw (space_again b1 (ltb-true b1 2 p), scope_again b2 q, order_again b3 o.0 o.1) refl
+  kind_found (suc (suc (suc (suc zero)))) k p q r = let o = order_test b3 r in rw (space_again b1 (ltb-true b1 2 p), scope_again b2 q, order_again b3 o.0 o.1) refl
+  kind_found (suc (suc (suc (suc (suc zero))))) k p q r = rw (flags_again b1 (ltb-true b1 4 p), eqb-true b2 0 q, eqb-true b3 0 r) refl
+  kind_found (suc (suc (suc (suc (suc (suc zero)))))) k p q r = rw (bit_again b1 (ltb-true b1 2 p), eqb-true b2 0 q, eqb-true b3 0 r) refl
+  kind_found (suc (suc (suc (suc (suc (suc (suc b))))))) k p q r = let le : suc (suc (suc (suc (suc (suc (suc b)))))) ≤ 6 = ltb-false 6 _ k in absurd (omega arith)
+
+module _ (b0 b1 b2 b3 b4 b5 b6 b7 b8 b9 b10 b11 b12 b13 b14 b15 b16 b17 b18 b19 : ℕ) (rest : List ℕ) where
+  abbrev cells : List ℕ
+  cells = b0 ∷ b1 ∷ b2 ∷ b3 ∷ b4 ∷ b5 ∷ b6 ∷ b7 ∷ b8 ∷ b9 ∷ b10 ∷ b11 ∷ b12 ∷ b13 ∷ b14 ∷ b15 ∷ b16 ∷ b17 ∷ b18 ∷ b19 ∷ rest
+
+  -- the last eight bytes
+  name_found : b12 < 256 → b13 < 256 → b14 < 256 → b15 < 256 → b16 < 256 → b17 < 256 → b18 < 256 → b19 < 256
+      → name_bytes (name_at cells) ≡ b12 ∷ b13 ∷ b14 ∷ b15 ∷ b16 ∷ b17 ∷ b18 ∷ b19 ∷ []
+  unfolding name_at
+  name_found f12 f13 f14 f15 f16 f17 f18 f19 =
+      elim (cases_Bool (field 12 8 cells == 18446744073709551615)) [
+        | inl all ↦
+            let k = eight b12 b13 b14 b15 b16 b17 b18 b19 f12 f13 f14 f15 f16 f17 f18 f19 (eqb-true _ _ all) in
+            rw (all, k.0, k.1, k.2, k.3, k.4, k.5, k.6, k.7) refl
+        | inr some ↦
+            let w = four b16 b17 b18 b19 f16 f17 f18 f19 _ refl in
+            rw (some, two_low b12 b13 f12 f13, two_high b12 b13 f12 f13, two_low b14 b15 f14 f15, two_high b14 b15 f14 f15, w.0, w.1, w.2, w.3) refl
+      ]
+
+naming_ok : (kind : Kind) (name : Option Name) → is_name_ok kind name ≡ true → IsNamingOk kind name
+naming_ok kind None h = tt
+naming_ok kind (Some n) h =
+    let a = and_parts _ _ h in
+    let b = and_parts _ _ a.0 in
+    let c = and_parts _ _ b.0 in
+    (c.0, (ltb-true _ _ c.1, ltb-true _ _ b.1, ltb-true _ _ a.1))
+
+-- an end has no item and no word
+no_end : (b : ℕ) → (not (6 == 6) || (b == 0)) ≡ true → b ≡ 0
+no_end b h = eqb-true b 0 h
+
+module _ (b1 b2 b3 b4 b5 b6 b7 b8 b9 b10 b11 : ℕ) (rest : List ℕ) where
+  abbrev long : ℕ → List ℕ
+  long b0 = b0 ∷ b1 ∷ b2 ∷ b3 ∷ b4 ∷ b5 ∷ b6 ∷ b7 ∷ b8 ∷ b9 ∷ b10 ∷ b11 ∷ rest
+
+  -- the kind may have what it has
+  kind_ok : (b0 : ℕ) → nat_lt 6 b0 ≡ false → AreFieldsOk (long b0) → is_order_ok (kind_of (long b0)) ≡ true → IsKindOk (kind_of (long b0)) (field 4 2 (long b0)) (space_at (long b0)) (field 8 4 (long b0))
+  unfolding kind_of space_at
+  kind_ok zero k f o = tt
+  kind_ok (suc zero) k f o = tt
+  kind_ok (suc (suc zero)) k f o = not-true _ o
+  kind_ok (suc (suc (suc zero))) k f o = not-true _ o
+  kind_ok (suc (suc (suc (suc zero)))) k f o = tt
+  kind_ok (suc (suc (suc (suc (suc zero))))) k f o = refl
+  kind_ok (suc (suc (suc (suc (suc (suc zero)))))) k f o =
+      let z4 : b4 ≡ 0 = no_end b4 f.four in
+      let z5 : b5 ≡ 0 = no_end b5 f.five in
+      let z8 : b8 ≡ 0 = no_end b8 f.eight in
+      let z9 : b9 ≡ 0 = no_end b9 f.nine in
+      let z10 : b10 ≡ 0 = no_end b10 f.ten in
+      let z11 : b11 ≡ 0 = no_end b11 f.eleven in
+      (omega arith, refl, omega arith)
+  kind_ok (suc (suc (suc (suc (suc (suc (suc b))))))) k f o = let le : suc (suc (suc (suc (suc (suc (suc b)))))) ≤ 6 = ltb-false 6 _ k in absurd (omega arith)
+
+pub read_is_spelled : ReadIsSpelled
+read_is_spelled items e (b0 ∷ b1 ∷ b2 ∷ b3 ∷ b4 ∷ b5 ∷ b6 ∷ b7 ∷ b8 ∷ b9 ∷ b10 ∷ b11 ∷ b12 ∷ b13 ∷ b14 ∷ b15 ∷ b16 ∷ b17 ∷ b18 ∷ b19 ∷ rest) fits len h =
+    let bytes : List ℕ = b0 ∷ b1 ∷ b2 ∷ b3 ∷ b4 ∷ b5 ∷ b6 ∷ b7 ∷ b8 ∷ b9 ∷ b10 ∷ b11 ∷ b12 ∷ b13 ∷ b14 ∷ b15 ∷ b16 ∷ b17 ∷ b18 ∷ b19 ∷ rest in
+    let a = accepted items bytes e h in
+    let f = fields_ok bytes a.fields in
+    let k = kind_found b1 b2 b3 (b4 ∷ b5 ∷ b6 ∷ b7 ∷ b8 ∷ b9 ∷ b10 ∷ b11 ∷ b12 ∷ b13 ∷ b14 ∷ b15 ∷ b16 ∷ b17 ∷ b18 ∷ b19 ∷ rest) b0 a.kind f.one f.two f.three in
+    let n = name_found b0 b1 b2 b3 b4 b5 b6 b7 b8 b9 b10 b11 b12 b13 b14 b15 b16 b17 b18 b19 rest (fits 12) (fits 13) (fits 14) (fits 15) (fits 16) (fits 17) (fits 18) (fits 19) in
+    let w = four b8 b9 b10 b11 (fits 8) (fits 9) (fits 10) (fits 11) _ refl in
+    let z6 : b6 ≡ 0 = eqb-true b6 0 f.six in
+    let z7 : b7 ≡ 0 = eqb-true b7 0 f.seven in
+    let ok : IsEventOk _ items = (leb-false _ _ a.item, naming_ok _ _ (not-false _ a.name), kind_ok b1 b2 b3 b4 b5 b6 b7 b8 b9 b10 b11 (b12 ∷ b13 ∷ b14 ∷ b15 ∷ b16 ∷ b17 ∷ b18 ∷ b19 ∷ rest) b0 a.kind f (not-false _ a.order)) in
+    rw (← a.same) (rw (k, n, z6, z7, two_low b4 b5 (fits 4) (fits 5), two_high b4 b5 (fits 4) (fits 5), w.0, w.1, w.2, w.3) refl, record { ok = ok; word = omega (arith, fits 8, fits 9, fits 10, fits 11) })
+read_is_spelled items e _ fits len h = absurd (omega arith)
+
+-- ---- headers
+
+or_parts : (x y : Bool) → (x || y) ≡ false → (x ≡ false) × (y ≡ false)
+or_parts true y e = absurd cc
+or_parts false y e = (refl, e)
+
+not_zero : (n : ℕ) → (n == 0) ≡ false → 1 ≤ n
+not_zero zero e = absurd cc
+not_zero (suc n) e = omega arith
+
+magic : (a b c d : ℕ) → a < 256 → b < 256 → c < 256 → d < 256 → a + 256 * (b + 256 * (c + 256 * (d + 0))) ≡ 827609671 → (a ≡ 71) × (b ≡ 82) × (c ≡ 84) × (d ≡ 49)
+magic a b c d p q r s k = (omega arith, omega arith, omega arith, omega arith)
+
+header_done : (x y : Header) → done x ≡ done y → x ≡ y
+header_done x y e = cc
+
+pub read_header_is_spelled : ReadHeaderIsSpelled
+unfolding header_at
+read_header_is_spelled h (b0 ∷ b1 ∷ b2 ∷ b3 ∷ b4 ∷ b5 ∷ b6 ∷ b7 ∷ b8 ∷ b9 ∷ b10 ∷ b11 ∷ rest) fits len e =
+    let m = guard_ok _ _ _ h e in
+    let r = guard_ok _ _ _ h m.1 in
+    let same = header_done _ h r.1 in
+    let g = magic b0 b1 b2 b3 (fits 0) (fits 1) (fits 2) (fits 3) (eqb-true _ _ (not-false _ m.0)) in
+    let w = four b8 b9 b10 b11 (fits 8) (fits 9) (fits 10) (fits 11) _ refl in
+    let o = or_parts _ _ r.0 in
+    let p = or_parts _ _ o.0 in
+    let group : _ < 64 = leb-false 64 _ p.0 in
+    let some : 1 ≤ field 6 2 (b0 ∷ b1 ∷ b2 ∷ b3 ∷ b4 ∷ b5 ∷ b6 ∷ b7 ∷ []) = not_zero _ p.1 in
+    let items : _ ≤ 256 = ltb-false 256 _ o.1 in
+    rw (← same) (
+      rw (g.0, g.1, g.2, g.3, two_low b4 b5 (fits 4) (fits 5), two_high b4 b5 (fits 4) (fits 5), two_low b6 b7 (fits 6) (fits 7), two_high b6 b7 (fits 6) (fits 7), w.0, w.1, w.2, w.3) refl,
+      record { group = group; some = some; items = items; launch = omega (arith, fits 8, fits 9, fits 10, fits 11) },
+    )
+read_header_is_spelled h _ fits len e = absurd (omega arith)

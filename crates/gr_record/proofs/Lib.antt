@@ -1,0 +1,5 @@
+pub mod Fields
+pub mod Found
+pub mod Loop
+pub mod Numbers
+pub mod Spelled

@@ -1,0 +1,36 @@
+-- What is read of the front of a list of bytes: records up to an end, up to bytes that are no whole record, or up to a fault.
+-- Source: docs/FORMATS.md, "Stream" and "Faults of a whole record".
+use Rattle.std.specs.Prelude.{ℕ, zero, suc, List, [], ◌∷◌, length, take, drop, nat_lt, Result, Ok, Err, if◌then◌else◌}
+use Rattle.gr_model.specs.declared.event.Event.{Event}
+use Rattle.gr_model.specs.Events.{is_end}
+use Rattle.gr_record.specs.declared.error.RecordError.{RecordError}
+use Rattle.gr_record.specs.declared.error.RecordError.TheVariants as errors
+use Rattle.gr_record.specs.declared.layout.TheConstants.{RECORD_LENGTH}
+
+-- why reading stops: behind an end, before bytes that are no whole record, or at a fault
+pub data Stop : Type 0 where
+  AtEnd : Stop
+  Inside : Stop
+  AtFault : RecordError → Stop
+
+-- the records that are read, the bytes after them, and why reading stops there
+pub record Records : Type 0 where
+  pub events : List Event
+  pub rest : List ℕ
+  pub stop : Stop
+
+-- an event before others
+abbrev pub behind : Event → Records → Records
+behind e r = record { events = e ∷ r.events; rest = r.rest; stop = r.stop }
+
+-- what a whole record says, and then what follows it
+abbrev pub step : Result Event RecordError → List ℕ → Records → Records
+step (Err e) bytes next = record { events = []; rest = bytes; stop = AtFault e }
+step (Ok e) bytes next = if is_end e then record { events = e ∷ []; rest = drop RECORD_LENGTH bytes; stop = AtEnd } else behind e next
+
+-- at most so many records, each read from its bytes by read
+unfoldable pub records_at : (List ℕ → Result Event RecordError) → ℕ → List ℕ → Records
+records_at read zero bytes = record { events = []; rest = bytes; stop = if nat_lt (length bytes) RECORD_LENGTH then Inside else AtFault errors.TooManyRecords }
+records_at read (suc most) bytes =
+    if nat_lt (length bytes) RECORD_LENGTH then record { events = []; rest = bytes; stop = Inside }
+    else step (read (take RECORD_LENGTH bytes)) bytes (records_at read most (drop RECORD_LENGTH bytes))

@@ -1,0 +1,6 @@
+pub mod Faults
+pub mod Fronts
+pub mod Laws
+pub mod Reading
+pub mod Spelling
+pub mod WholeStreams

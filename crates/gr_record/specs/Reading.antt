@@ -1,0 +1,119 @@
+-- What the bytes of a header and of a record say, or their first fault.
+-- Source: docs/FORMATS.md, "Stream" and "Faults of a whole record".
+use Rattle.std.specs.Prelude.{ℕ, ◌-◌, ◌^◌, Bool, true, not, ◌&&◌, ◌||◌, List, drop, slice_index, Option, Some, None, Result, Ok, Err, nat_lt, nat_le, ◌==◌, if◌then◌else◌}
+use Rattle.std.specs.List.{range_with_len, find}
+use Rattle.byteorder.specs.Endian.{little_number}
+use Rattle.gr_model.specs.declared.event.Space.{Space}
+use Rattle.gr_model.specs.declared.event.Space.TheVariants.{Global, Local}
+use Rattle.gr_model.specs.declared.event.Scope.{Scope}
+use Rattle.gr_model.specs.declared.event.Scope.TheVariants.{Group, Device}
+use Rattle.gr_model.specs.declared.event.Order.{Order}
+use Rattle.gr_model.specs.declared.event.Order.TheVariants.{Relaxed, Acquire, Release, Both}
+use Rattle.gr_model.specs.declared.event.Kind.{Kind}
+use Rattle.gr_model.specs.declared.event.Kind.TheVariants.{Read, Write, Load, Store, Rmw, Barrier, End}
+use Rattle.gr_model.specs.declared.event.Name.{Name}
+use Rattle.gr_model.specs.declared.event.Event.{Event}
+use Rattle.gr_model.specs.declared.limits.TheConstants.{MOST_GROUPS, MOST_ITEMS_OF_A_GROUP, MOST_RECORDS}
+use Rattle.gr_model.specs.Access.{acquires, releases, is_acquire_kind}
+use Rattle.gr_record.specs.declared.header.Header.{Header}
+use Rattle.gr_record.specs.declared.error.RecordError.{RecordError}
+use Rattle.gr_record.specs.declared.error.RecordError.TheVariants as errors
+
+-- the number in the n bytes from place i, the lowest byte first
+abbrev pub field : ℕ → ℕ → List ℕ → ℕ
+field i n bytes = little_number n (drop i bytes)
+
+-- ---- headers
+
+-- what a whole header says: `GRT1`, then group, items and launch
+unfoldable pub header_at : List ℕ → Result Header RecordError
+header_at bytes =
+    if not (field 0 4 bytes == 0x31545247) then Err errors.BadMagic
+    else if nat_le MOST_GROUPS (field 4 2 bytes) || (field 6 2 bytes == 0) || nat_lt MOST_ITEMS_OF_A_GROUP (field 6 2 bytes) then Err errors.BadHeader
+    else Ok (record { group = field 4 2 bytes; items = field 6 2 bytes; launch = field 8 4 bytes })
+
+-- ---- the fields of a record
+
+-- load, store and read-modify-write
+abbrev pub is_atomic : ℕ → Bool
+is_atomic kind = (kind == 2) || (kind == 3) || (kind == 4)
+
+-- whether a byte may stand at a place from 1 to 11 of a record whose byte 0 is kind: the space, the flags of a barrier or the cut mark of an end; the scope; the order; two bytes that are 0; and an end has no item and no word
+abbrev pub is_field_ok : ℕ → ℕ → ℕ → Bool
+is_field_ok kind place byte =
+    if place == 1 then (if kind == 5 then nat_lt byte 4 else nat_lt byte 2)
+    else if place == 2 then (if is_atomic kind then (byte == 1) || (byte == 2) else byte == 0)
+    else if place == 3 then (if is_atomic kind then nat_le 1 byte && nat_le byte 4 else byte == 0)
+    else if (place == 6) || (place == 7) then byte == 0
+    else not (kind == 6) || (byte == 0)
+
+-- the least of n places from this one on whose byte may not stand there
+unfoldable pub bad_field_from : List ℕ → ℕ → ℕ → Option ℕ
+bad_field_from bytes place n = find (λ p. not (is_field_ok (slice_index bytes 0) p (slice_index bytes p))) (range_with_len place n)
+
+abbrev pub bad_field : List ℕ → Option ℕ
+bad_field bytes = bad_field_from bytes 1 11
+
+abbrev pub space_of : ℕ → Space
+space_of byte = if byte == 1 then Local else Global
+
+abbrev pub scope_of : ℕ → Scope
+scope_of byte = if byte == 1 then Group else Device
+
+abbrev pub order_of : ℕ → Order
+order_of byte = if byte == 1 then Relaxed else if byte == 2 then Acquire else if byte == 3 then Release else Both
+
+unfoldable pub kind_of : List ℕ → Kind
+kind_of bytes =
+    let kind = slice_index bytes 0 in
+    let flag = slice_index bytes 1 in
+    let scope = scope_of (slice_index bytes 2) in
+    let order = order_of (slice_index bytes 3) in
+    if kind == 0 then Read
+    else if kind == 1 then Write
+    else if kind == 2 then Load scope order
+    else if kind == 3 then Store scope order
+    else if kind == 4 then Rmw scope order
+    else if kind == 5 then Barrier ((flag == 1) || (flag == 3)) ((flag == 2) || (flag == 3))
+    else End (flag == 1)
+
+-- the memory of an access; a barrier and an end have the first
+unfoldable pub space_at : List ℕ → Space
+space_at bytes = if nat_lt (slice_index bytes 0) 5 then space_of (slice_index bytes 1) else Global
+
+-- no name where the bytes 12 to 19 are all 255
+unfoldable pub name_at : List ℕ → Option Name
+name_at bytes =
+    if field 12 8 bytes == 2 ^ 64 - 1 then None
+    else Some (record { at = record { group = field 12 2 bytes; item = field 14 2 bytes }; release = field 16 4 bytes })
+
+-- ---- records
+
+-- a load does not release, and a store does not acquire
+abbrev pub is_order_ok : Kind → Bool
+is_order_ok Read = true
+is_order_ok Write = true
+is_order_ok (Load scope order) = not (releases order)
+is_order_ok (Store scope order) = not (acquires order)
+is_order_ok (Rmw scope order) = true
+is_order_ok (Barrier global local) = true
+is_order_ok (End cut) = true
+
+-- a name stands only at an acquire, and is one that some launch could have
+abbrev pub is_name_ok : Kind → Option Name → Bool
+is_name_ok kind None = true
+is_name_ok kind (Some name) = is_acquire_kind kind && nat_lt name.at.group MOST_GROUPS && nat_lt name.at.item MOST_ITEMS_OF_A_GROUP && nat_lt name.release MOST_RECORDS
+
+abbrev pub unless_bad : {X : Type 0} → Option ℕ → Result X RecordError → Result X RecordError
+unless_bad (Some place) next = Err (errors.BadField place)
+unless_bad None next = next
+
+-- what a whole record says in a stream of so many items
+unfoldable pub event_at : ℕ → List ℕ → Result Event RecordError
+event_at items bytes =
+    if nat_lt 6 (slice_index bytes 0) then Err errors.BadKind
+    else unless_bad (bad_field bytes)
+    (if not (is_order_ok (kind_of bytes)) then Err errors.BadOrder
+    else if not (is_name_ok (kind_of bytes) (name_at bytes)) then Err errors.BadName
+    else if nat_le items (field 4 2 bytes) then Err errors.UnknownItem
+    else Ok (record { item = field 4 2 bytes; kind = kind_of bytes; space = space_at bytes; word = field 8 4 bytes; name = name_at bytes }))

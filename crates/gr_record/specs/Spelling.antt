@@ -1,0 +1,73 @@
+-- The one spelling of a header and of each event, as bytes. Numbers are little endian.
+-- Source: docs/FORMATS.md, "Stream".
+use Rattle.std.specs.Prelude.{ℕ, ◌+◌, ◌*◌, ◌^◌, ◌<◌, ◌≤◌, Bool, List, [], ◌∷◌, ◌++◌, replicate, Option, Some, None, if◌then◌else◌}
+use Rattle.std.specs.List.{flat_map}
+use Rattle.byteorder.specs.Endian.{little_bytes}
+use Rattle.gr_model.specs.declared.event.Space.{Space}
+use Rattle.gr_model.specs.declared.event.Space.TheVariants.{Global, Local}
+use Rattle.gr_model.specs.declared.event.Scope.{Scope}
+use Rattle.gr_model.specs.declared.event.Scope.TheVariants.{Group, Device}
+use Rattle.gr_model.specs.declared.event.Order.{Order}
+use Rattle.gr_model.specs.declared.event.Order.TheVariants.{Relaxed, Acquire, Release, Both}
+use Rattle.gr_model.specs.declared.event.Kind.{Kind}
+use Rattle.gr_model.specs.declared.event.Kind.TheVariants.{Read, Write, Load, Store, Rmw, Barrier, End}
+use Rattle.gr_model.specs.declared.event.Name.{Name}
+use Rattle.gr_model.specs.declared.event.Event.{Event}
+use Rattle.gr_model.specs.declared.limits.TheConstants.{MOST_GROUPS, MOST_ITEMS_OF_A_GROUP}
+use Rattle.gr_model.specs.Events.{IsEventOk}
+use Rattle.gr_record.specs.declared.header.Header.{Header}
+
+-- a byte for a space, a scope, an order, a truth
+abbrev pub space_byte : Space → ℕ
+space_byte Global = 0
+space_byte Local = 1
+
+abbrev pub scope_byte : Scope → ℕ
+scope_byte Group = 1
+scope_byte Device = 2
+
+abbrev pub order_byte : Order → ℕ
+order_byte Relaxed = 1
+order_byte Acquire = 2
+order_byte Release = 3
+order_byte Both = 4
+
+abbrev pub bit : Bool → ℕ
+bit b = if b then 1 else 0
+
+-- the bytes 0 to 3 of a record: its kind; the space, the flags or the cut mark; the scope; the order
+abbrev pub kind_bytes : Kind → Space → List ℕ
+kind_bytes Read space = 0 ∷ space_byte space ∷ 0 ∷ 0 ∷ []
+kind_bytes Write space = 1 ∷ space_byte space ∷ 0 ∷ 0 ∷ []
+kind_bytes (Load scope order) space = 2 ∷ space_byte space ∷ scope_byte scope ∷ order_byte order ∷ []
+kind_bytes (Store scope order) space = 3 ∷ space_byte space ∷ scope_byte scope ∷ order_byte order ∷ []
+kind_bytes (Rmw scope order) space = 4 ∷ space_byte space ∷ scope_byte scope ∷ order_byte order ∷ []
+kind_bytes (Barrier global local) space = 5 ∷ (bit global + 2 * bit local) ∷ 0 ∷ 0 ∷ []
+kind_bytes (End cut) space = 6 ∷ bit cut ∷ 0 ∷ 0 ∷ []
+
+-- the bytes 12 to 19 of a record
+abbrev pub name_bytes : Option Name → List ℕ
+name_bytes None = replicate 8 255
+name_bytes (Some name) = little_bytes 2 name.at.group ++ little_bytes 2 name.at.item ++ little_bytes 4 name.release
+
+abbrev pub event_spelling : Event → List ℕ
+event_spelling e = kind_bytes e.kind e.space ++ little_bytes 2 e.item ++ 0 ∷ 0 ∷ little_bytes 4 e.word ++ name_bytes e.name
+
+-- `GRT1`, then group, items and launch
+abbrev pub header_spelling : Header → List ℕ
+header_spelling h = 0x47 ∷ 0x52 ∷ 0x54 ∷ 0x31 ∷ little_bytes 2 h.group ++ little_bytes 2 h.items ++ little_bytes 4 h.launch
+
+abbrev pub events_spelling : List Event → List ℕ
+events_spelling es = flat_map event_spelling es
+
+-- a header that a stream may begin with
+pub record IsHeader (h : Header) : Type 0 where
+  pub group : h.group < MOST_GROUPS
+  pub some : 1 ≤ h.items
+  pub items : h.items ≤ MOST_ITEMS_OF_A_GROUP
+  pub launch : h.launch < 2 ^ 32
+
+-- an event that a stream of so many items may have: a group may have it, and its word is a number of 4 bytes
+pub record IsEvent (items : ℕ) (e : Event) : Type 0 where
+  pub ok : IsEventOk e items
+  pub word : e.word < 2 ^ 32

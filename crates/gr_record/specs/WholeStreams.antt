@@ -1,0 +1,68 @@
+-- A whole stream at the front of a list of bytes: its header, its records up to the end, and the bytes after it.
+-- Source: docs/FORMATS.md, "Stream".
+use Rattle.std.specs.Prelude.{◌≡◌, ℕ, ◌^◌, ◌<◌, Bool, ◌||◌, ◌==◌, List, ◌++◌, length, drop, slice_index, All, nat_lt, IsTrue, Result, Ok, Err, if◌then◌else◌}
+use Rattle.gr_model.specs.declared.event.Event.{Event}
+use Rattle.gr_model.specs.declared.limits.TheConstants.{MOST_RECORDS}
+use Rattle.gr_model.specs.Streams.{IsAccepted}
+use Rattle.gr_record.specs.declared.error.RecordError.{RecordError}
+use Rattle.gr_record.specs.declared.error.RecordError.TheVariants as errors
+use Rattle.gr_record.specs.declared.header.Header.{Header}
+use Rattle.gr_record.specs.declared.layout.TheConstants.{HEADER_LENGTH}
+use Rattle.gr_record.specs.Spelling.{header_spelling, events_spelling, kind_bytes, IsHeader}
+use Rattle.gr_record.specs.Reading.{header_at, event_at}
+use Rattle.gr_record.specs.Fronts.{Stop, AtEnd, Inside, AtFault, Records, records_at}
+
+infixl 10 ◌>>=◌
+abbrev pub ◌>>=◌ : {X Y : Type 0} → Result X RecordError → (X → Result Y RecordError) → Result Y RecordError
+(Ok x) >>= f = f x
+(Err e) >>= f = Err e
+
+-- what a function returned, seen by view, is what the bytes mean, unless memory ran out
+abbrev pub Fails : {Y : Type 0} → RecordError → Result Y RecordError → Type 0
+Fails errors.Memory meaning = Unit {0}
+Fails e meaning = meaning ≡ Err e
+
+abbrev pub Gives : {X Y : Type 0} → (X → Y) → Result X RecordError → Result Y RecordError → Type 0
+Gives view (Ok x) meaning = meaning ≡ Ok (view x)
+Gives view (Err e) meaning = Fails e meaning
+
+-- ---- the kinds that are treated so far
+
+-- plain reads, plain writes and ends
+abbrev pub treats : ℕ → Bool
+treats kind = (kind == 0) || (kind == 1) || (kind == 6)
+
+abbrev pub treated_event_at : ℕ → List ℕ → Result Event RecordError
+treated_event_at items bytes = if treats (slice_index bytes 0) then event_at items bytes else Err errors.BadKind
+
+abbrev pub IsTreated : Event → Type 0
+IsTreated e = IsTrue (treats (slice_index (kind_bytes e.kind e.space) 0))
+
+-- ---- whole streams
+
+-- records up to an end are all that a stream has; records that no end follows are too few
+abbrev pub up_to : Stop → List Event → List ℕ → Result (List Event × List ℕ) RecordError
+up_to AtEnd events rest = Ok (events, rest)
+up_to Inside events rest = Err errors.Truncated
+up_to (AtFault e) events rest = Err e
+
+abbrev pub whole : Records → Result (List Event × List ℕ) RecordError
+whole r = up_to r.stop r.events r.rest
+
+-- the header, the records and the bytes after the stream, or the first fault
+unfoldable pub stream_at : List ℕ → Result (Header × List Event × List ℕ) RecordError
+stream_at bytes =
+    if nat_lt (length bytes) HEADER_LENGTH then Err errors.Truncated
+    else header_at bytes >>= λ h. whole (records_at (treated_event_at h.items) MOST_RECORDS (drop HEADER_LENGTH bytes)) >>= λ r. Ok (h, r.0, r.1)
+
+-- ---- what a stream is, by its spelling
+
+abbrev pub stream_spelling : Header → List Event → List ℕ
+stream_spelling h events = header_spelling h ++ events_spelling events
+
+-- a header in range, and a complete list that its group may have
+pub record IsStream (h : Header) (events : List Event) : Type 0 where
+  pub header : IsHeader h
+  pub list : IsAccepted h.items events
+  pub words : All (λ e. e.word < 2 ^ 32) events
+  pub treated : All IsTreated events

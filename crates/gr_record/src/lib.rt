@@ -1,0 +1,10 @@
+//! The streams of a launch as bytes and as text: what a header and a record say, and why an input is refused.
+#![tactic(auto)]
+
+pub mod error;
+pub mod fault;
+pub mod header;
+pub mod laws;
+pub mod layout;
+mod reading;
+pub mod stream;
