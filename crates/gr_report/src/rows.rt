@@ -1,0 +1,37 @@
+//! A list that a report has.
+
+ghost use Rattle.std.specs.Prelude.{◌≡◌};
+
+use std::alloc::{Allocator, Global};
+use std::marker::Model;
+
+/// The rows of one kind in a report. Contracts see their list.
+#[derive(Drop)]
+#[derive_where(Debug; T)]
+pub struct Rows<T, A: Allocator = Global> {
+    items: Vec<T, A>,
+}
+
+impl<T, A: Allocator> Model for Rows<T, A> {
+    ghost use Rattle.std.specs.Prelude.{List};
+
+    ghost Value = { List T };
+
+    ghost view = { λ r. r.items.items };
+}
+
+impl<T, A: Allocator> Rows<T, A> {
+    /// The rows of this list.
+    pub fn of(items: Vec<T, A>) -> Rows<T, A>
+        ensures { result ≡ items.items }
+    {
+        Rows { items }
+    }
+
+    /// The list.
+    pub fn as_slice(&self) -> &[T]
+        ensures { result.now ≡ self.now }
+    {
+        &self.items
+    }
+}
