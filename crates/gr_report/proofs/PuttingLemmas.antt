@@ -1,27 +1,22 @@
 -- Texts that are written one after the other.
-use Rattle.std.proofs.Common.{◌≡◌, ℕ, List, [], ◌∷◌, ◌++◌, Option, None, Some, Result, Ok, Err, refl, sym, ap, ◌∙◌, append_assoc, length, take, drop, arith, ◌+◌, ◌-◌, ◌≤◌, ◌<◌, get_or}
+use Rattle.std.proofs.Common.{◌≡◌, ℕ, List, [], ◌∷◌, ◌++◌, Option, Result, Ok, Err, refl, sym, ap, ◌∙◌, append_assoc, length, take, drop, arith, ◌+◌, ◌-◌, ◌≤◌, ◌<◌, get_or}
 use Rattle.std.specs.Prelude.{IsErr}
 use Rattle.std.specs.Io.KnownBytes.{Appends, Keeps}
+use Rattle.std.proofs.KnownBytes.{Appends-trans, Appends-kept, Appends-nil}
 use Rattle.std.specs.List.{flat_map}
 use Rattle.std.proofs.lemmas.List.Concat.{flat_map-cons}
 use Rattle.std.proofs.lemmas.List.{at_drop_more, at_drop_all, append-nil, length-drop, take-append-drop, take_all}
 use Rattle.gr_report.specs.declared.putting.WriteFault.{WriteFault}
 use Rattle.gr_report.specs.Putting.{AppendsFront, Puts}
 
-pub Appends-then : (old mid new : Option (List ℕ)) (a b : List ℕ) → Appends old mid a → Appends mid new b → Appends old new (a ++ b)
-Appends-then None mid new a b h k = tt
-Appends-then (Some xs) None new a b h k = absurd h
-Appends-then (Some xs) (Some ys) None a b h k = absurd k
-Appends-then (Some xs) (Some ys) (Some zs) a b h k = k ∙ ap (λ (v : List ℕ). v ++ b) h ∙ append_assoc xs a b
-
 pub AppendsFront-then : (old mid new : Option (List ℕ)) (a b : List ℕ) → Appends old mid a → AppendsFront mid new b → AppendsFront old new (a ++ b)
-AppendsFront-then old mid new a b h k = (a ++ k.0, k.1, ap (λ (v : List ℕ). a ++ v) k.2 ∙ sym (append_assoc a k.0 k.1), Appends-then old mid new a k.0 h k.3)
+AppendsFront-then old mid new a b h k = (a ++ k.0, k.1, ap (λ (v : List ℕ). a ++ v) k.2 ∙ sym (append_assoc a k.0 k.1), Appends-trans old mid new a k.0 h k.3)
 
 pub AppendsFront-more : (old new : Option (List ℕ)) (a b : List ℕ) → AppendsFront old new a → AppendsFront old new (a ++ b)
 AppendsFront-more old new a b k = (k.0, k.1 ++ b, ap (λ (v : List ℕ). v ++ b) k.2 ∙ append_assoc k.0 k.1 b, k.3)
 
 then_by_cases : (old mid new : Option (List ℕ)) (r : Result (Unit {0}) WriteFault) (a b : List ℕ) → Appends old mid a → Puts mid new r b → Puts old new r (a ++ b)
-then_by_cases old mid new (Ok y) a b h k = record { whole = Appends-then old mid new a b h k.whole; front = tt }
+then_by_cases old mid new (Ok y) a b h k = record { whole = Appends-trans old mid new a b h k.whole; front = tt }
 then_by_cases old mid new (Err e) a b h k = record { whole = tt; front = AppendsFront-then old mid new a b h k.front }
 
 -- a text that was written whole, and then the next
@@ -41,12 +36,6 @@ puts_err (Err d) i h = record { whole = tt; front = h.front }
 abbrev pub Front : Option (List ℕ) → Option (List ℕ) → List ℕ → List ℕ → Type 0
 Front old new text rest = (front : List ℕ) × (text ≡ front ++ rest) × Appends old new front
 
-Appends-kept : (old mid new : Option (List ℕ)) (a : List ℕ) → Appends old mid a → Keeps mid new → Appends old new a
-Appends-kept None mid new a h k = tt
-Appends-kept (Some xs) None new a h k = absurd h
-Appends-kept (Some xs) (Some ys) None a h k = absurd k
-Appends-kept (Some xs) (Some ys) (Some zs) a h k = k ∙ h
-
 -- a call that keeps what was written
 pub puts_kept : {old mid new : Option (List ℕ)} {x : Unit {0}} {text : List ℕ} (r : Result (Unit {0}) WriteFault) → Puts old mid (Ok x) text → Keeps mid new → Puts old new r text
 puts_kept (Ok y) h k = record { whole = Appends-kept _ _ _ _ h.whole k; front = tt }
@@ -55,7 +44,7 @@ puts_kept {text = text} (Err e) h k = record { whole = tt; front = (text, [], sy
 pub Front-more : (old mid new : Option (List ℕ)) (text rest : List ℕ) (n : ℕ) → Front old mid text rest → Appends mid new (take n rest) → Front old new text (take (length rest - n) (drop n rest))
 Front-more old mid new text rest n f h =
     let whole : take (length rest - n) (drop n rest) ≡ drop n rest = take_all (length rest - n) (drop n rest) (omega (arith, length-drop n rest)) in
-    rw whole (f.0 ++ take n rest, f.1 ∙ ap (λ (v : List ℕ). f.0 ++ v) (sym (take-append-drop n rest)) ∙ sym (append_assoc f.0 (take n rest) (drop n rest)), Appends-then old mid new f.0 (take n rest) f.2 h)
+    rw whole (f.0 ++ take n rest, f.1 ∙ ap (λ (v : List ℕ). f.0 ++ v) (sym (take-append-drop n rest)) ∙ sym (append_assoc f.0 (take n rest) (drop n rest)), Appends-trans old mid new f.0 (take n rest) f.2 h)
 
 pub puts_whole : (old new : Option (List ℕ)) (text rest : List ℕ) → length rest ≡ 0 → Front old new text rest → Puts old new (Ok tt) text
 puts_whole old new text [] e f = record { whole = rw (f.1 ∙ append-nil f.0) f.2; front = tt }
@@ -75,15 +64,14 @@ flat_map-drop : {X : Type 0} (f : X → List ℕ) (xs : List X) (i : ℕ) (d : X
 flat_map-drop f xs i d lt = at_drop_more (flat_map f) xs i d lt ∙ flat_map-cons f (get_or xs i d) (drop (i + 1) xs)
 
 pub lines_start : {X : Type 0} (f : X → List ℕ) (xs : List X) (old : Option (List ℕ)) → Front old old (flat_map f xs) (flat_map f (drop 0 xs))
-lines_start f xs None = ([], refl, tt)
-lines_start f xs (Some bytes) = ([], refl, sym (append-nil bytes))
+lines_start f xs old = ([], refl, Appends-nil old)
 
 module _ {X : Type 0} (f : X → List ℕ) (xs : List X) (i : ℕ) (d : X) (old mid new : Option (List ℕ)) (text : List ℕ) (so_far : Front old mid text (flat_map f (drop i xs))) where
   pub lines_next : (x : Unit {0}) → i < length xs → Puts mid new (Ok x) (f (get_or xs i d)) → Front old new text (flat_map f (drop (i + 1) xs))
   lines_next x lt h =
       let a = f (get_or xs i d) in
       let rest = flat_map f (drop (i + 1) xs) in
-      (so_far.0 ++ a, so_far.1 ∙ ap (λ (v : List ℕ). so_far.0 ++ v) (flat_map-drop f xs i d lt) ∙ sym (append_assoc so_far.0 a rest), Appends-then old mid new so_far.0 a so_far.2 h.whole)
+      (so_far.0 ++ a, so_far.1 ∙ ap (λ (v : List ℕ). so_far.0 ++ v) (flat_map-drop f xs i d lt) ∙ sym (append_assoc so_far.0 a rest), Appends-trans old mid new so_far.0 a so_far.2 h.whole)
 
   pub lines_fail : (e : WriteFault) → i < length xs → Puts mid new (Err e) (f (get_or xs i d)) → Puts old new (Err e) text
   lines_fail e lt h =
@@ -96,7 +84,7 @@ module _ {X : Type 0} (f : X → List ℕ) (xs : List X) (i : ℕ) (d : X) (old 
           so_far.0 ++ k.0,
           k.1 ++ rest,
           so_far.1 ∙ ap (λ (v : List ℕ). so_far.0 ++ v) (flat_map-drop f xs i d lt ∙ ap (λ (v : List ℕ). v ++ rest) k.2 ∙ append_assoc k.0 k.1 rest) ∙ sym (append_assoc so_far.0 k.0 (k.1 ++ rest)),
-          Appends-then old mid new so_far.0 k.0 so_far.2 k.3,
+          Appends-trans old mid new so_far.0 k.0 so_far.2 k.3,
         );
       }
 
