@@ -15,7 +15,10 @@ use Rattle.gr_report.specs.declared.report.Report.{Report}
 
 -- the version, and how large the launch is
 abbrev pub head_text : {Z : Type 0} → Report Z → List ℕ
-head_text r = field (codes "gpurace 1\ngroups ") (decimal r.groups) ++ field (codes " items ") (decimal r.items) ++ line (codes " records ") (decimal r.records)
+head_text r =
+    field (codes "gpurace 1\ngroups ") (decimal r.groups)
+    ++ field (codes " items ") (decimal r.items)
+    ++ line (codes " records ") (decimal r.records)
 
 -- a group whose stream was cut
 abbrev pub cut_line : ℕ → List ℕ
@@ -35,7 +38,7 @@ divergence_end Flags = codes " flags\n"
 abbrev pub divergence_line : Divergence → List ℕ
 divergence_line d = field (codes "diverge ") (decimal d.group) ++ field (codes " ") (decimal d.instance) ++ divergence_end d.cause
 
--- an acquire that is unmatched, by its group, item and index, and its cause
+-- an unmatched acquire, by its group, item and index, and its cause
 abbrev pub unmatched_end : AcquireCause → List ℕ
 unmatched_end Absent = codes " absent\n"
 unmatched_end OtherWord = codes " otherword\n"
@@ -43,12 +46,18 @@ unmatched_end Behind = codes " behind\n"
 
 abbrev pub unmatched_line : Unmatched → List ℕ
 unmatched_line u =
-    field (codes "unmatched ") (decimal u.event.at.group) ++ field (codes " ") (decimal u.event.at.item) ++ field (codes " ") (decimal u.event.index) ++ unmatched_end u.cause
+    field (codes "unmatched ") (decimal u.event.at.group)
+    ++ field (codes " ") (decimal u.event.at.item)
+    ++ field (codes " ") (decimal u.event.index)
+    ++ unmatched_end u.cause
 
 -- how many lines of each kind there are, and how many events are held
 abbrev pub end_line : {Z : Type 0} → Report Z → List ℕ
 end_line r =
-    field (codes "end races ") (decimal (length r.races)) ++ field (codes " diverge ") (decimal (length r.divergences)) ++ field (codes " unmatched ") (decimal (length r.unmatched)) ++ line (codes " held ") (decimal r.held)
+    field (codes "end races ") (decimal (length r.races))
+    ++ field (codes " diverge ") (decimal (length r.divergences))
+    ++ field (codes " unmatched ") (decimal (length r.unmatched))
+    ++ line (codes " held ") (decimal r.held)
 
 -- the whole text: the kinds of lines in this order, and of one kind as the report lists them
 abbrev pub report_text : {Z : Type 0} → Report Z → List ℕ

@@ -43,11 +43,7 @@ fn put_error<W: Write>(writer: &mut W, error: RecordError) -> Result<(), WriteFa
     }
 }
 
-fn put_stream<W: Write>(
-    writer: &mut W,
-    place: u64,
-    error: RecordError,
-) -> Result<(), WriteFault>
+fn put_stream<W: Write>(writer: &mut W, place: u64, error: RecordError) -> Result<(), WriteFault>
     ensures { Puts (W.contents writer.old) (W.contents writer.new) result (between (codes "stream ") place (codes ": ") ++ error_text error) }
 {
     put_between(writer, b"stream ", place, b": ")?;

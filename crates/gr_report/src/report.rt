@@ -10,7 +10,7 @@ use std::alloc::{Allocator, Global};
 
 /// The report of a launch. The lists of a report that a detection gives are ascending and without repeats.
 #[derive(Drop)]
-#[derive_where(Debug)]
+#[derive_where(Debug, PartialEq)]
 pub struct Report<A: Allocator = Global> {
     /// The words that have a data race, global ones first.
     pub races: Rows<Word, A>,

@@ -13,10 +13,7 @@ use gr_model::report::{AcquireCause, Divergence, DivergenceCause, Unmatched};
 use std::alloc::Allocator;
 use std::io::Write;
 
-fn put_head<A: Allocator, W: Write>(
-    writer: &mut W,
-    report: &Report<A>,
-) -> Result<(), WriteFault>
+fn put_head<A: Allocator, W: Write>(writer: &mut W, report: &Report<A>) -> Result<(), WriteFault>
     ensures { Puts (W.contents writer.old) (W.contents writer.new) result (head_text report.now) }
 {
     put_field(writer, b"gpurace 1\ngroups ", report.groups)?;
@@ -73,10 +70,7 @@ fn put_divergence<W: Write>(writer: &mut W, divergence: Divergence) -> Result<()
     put(writer, end_of_divergence(divergence.cause))
 }
 
-fn put_divergences<W: Write>(
-    writer: &mut W,
-    divergences: &[Divergence],
-) -> Result<(), WriteFault>
+fn put_divergences<W: Write>(writer: &mut W, divergences: &[Divergence]) -> Result<(), WriteFault>
     ensures { Puts (W.contents writer.old) (W.contents writer.new) result (flat_map divergence_line divergences.now) }
 {
     for divergence in divergences {
@@ -115,10 +109,7 @@ fn put_unmatched<W: Write>(writer: &mut W, acquires: &[Unmatched]) -> Result<(),
 }
 
 /// The last line: how many lines of each kind there are, and how many events are held.
-fn put_end<A: Allocator, W: Write>(
-    writer: &mut W,
-    report: &Report<A>,
-) -> Result<(), WriteFault>
+fn put_end<A: Allocator, W: Write>(writer: &mut W, report: &Report<A>) -> Result<(), WriteFault>
     ensures { Puts (W.contents writer.old) (W.contents writer.new) result (end_line report.now) }
 {
     put_field(writer, b"end races ", report.races.as_slice().len())?;
@@ -127,10 +118,7 @@ fn put_end<A: Allocator, W: Write>(
     put_line(writer, b" held ", report.held)
 }
 
-fn put_all<A: Allocator, W: Write>(
-    writer: &mut W,
-    report: &Report<A>,
-) -> Result<(), WriteFault>
+fn put_all<A: Allocator, W: Write>(writer: &mut W, report: &Report<A>) -> Result<(), WriteFault>
     ensures { Puts (W.contents writer.old) (W.contents writer.new) result (report_text report.now) }
 {
     put_head(writer, report)?;
@@ -145,10 +133,7 @@ fn put_all<A: Allocator, W: Write>(
 ///
 /// # Errors
 /// `WriteFault` where the writer fails; what it took is then a front of the text.
-pub fn write<A: Allocator, W: Write>(
-    report: &Report<A>,
-    writer: &mut W,
-) -> Result<(), WriteFault>
+pub fn write<A: Allocator, W: Write>(report: &Report<A>, writer: &mut W) -> Result<(), WriteFault>
     ensures whole { OnOk result (Appends (W.contents writer.old) (W.contents writer.new) (report_text report.now)) }
     ensures front { OnErr result (AppendsFront (W.contents writer.old) (W.contents writer.new) (report_text report.now)) }
 {

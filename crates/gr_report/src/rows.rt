@@ -1,6 +1,7 @@
 //! A list that a report has.
 
 ghost use Rattle.std.specs.Prelude.{◌≡◌};
+ghost use Rattle.std.specs.Cmp.Lexicographic.{pointwise, lists_per};
 
 use std::alloc::{Allocator, Global};
 use std::marker::Model;
@@ -33,5 +34,15 @@ impl<T, A: Allocator> Rows<T, A> {
         ensures { result.now ≡ self.now }
     {
         &self.items
+    }
+}
+
+impl<T: PartialEq, A: Allocator> PartialEq for Rows<T, A> {
+    ghost eq = { λ x y. pointwise T.eq x y };
+
+    ghost laws = { lists_per T.laws };
+
+    fn eq(&self, other: &Self) -> bool {
+        self.items == other.items
     }
 }
