@@ -1,0 +1,5 @@
+//! From the bytes of streams to the text of a report.
+#![tactic(auto)]
+
+mod input;
+pub mod joined;
