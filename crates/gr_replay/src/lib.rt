@@ -3,3 +3,4 @@
 
 mod input;
 pub mod joined;
+pub mod laws;
