@@ -1,5 +1,5 @@
 -- What is read of a stream is a list that its group may have.
-use Rattle.std.proofs.Common.{◌≡◌, ℕ, zero, suc, ◌+◌, ◌<◌, ◌≤◌, Bool, true, false, cond, List, [], ◌∷◌, length, take, drop, Some, Result, Ok, Err, slice_get, slice_index, get_or, refl, sym, ap, ◌∙◌, subst, arith, IsTrue, ltb, true≢false}
+use Rattle.std.proofs.Common.{◌≡◌, ℕ, zero, suc, ◌+◌, ◌<◌, ◌≤◌, Bool, true, false, cond, List, [], ◌∷◌, length, take, drop, Some, Result, Ok, Err, get_or, refl, sym, ap, ◌∙◌, subst, arith, IsTrue, ltb, true≢false}
 use Rattle.std.specs.List.{list_any}
 use Rattle.std.specs.Prelude.{◌==◌, not}
 use Rattle.std.proofs.Common.{◌≢◌, ◌++◌, eqb-true}
@@ -13,7 +13,7 @@ use Rattle.std.proofs.Common.{⊎_elim}
 use Rattle.gr_model.specs.declared.event.Event.{Event}
 use Rattle.gr_model.specs.declared.limits.TheConstants.{MOST_RECORDS}
 use Rattle.gr_model.specs.Events.{is_end, IsEventOk}
-use Rattle.gr_model.specs.Streams.{AreGood, IsGoodAt, IsAccepted, is_complete}
+use Rattle.gr_model.specs.Streams.{AreGood, IsAccepted, is_complete}
 use Rattle.gr_record.specs.declared.error.RecordError.{RecordError}
 use Rattle.gr_record.specs.declared.error.RecordError.TheVariants as errors
 use Rattle.gr_record.specs.declared.layout.TheConstants.{HEADER_LENGTH, RECORD_LENGTH}

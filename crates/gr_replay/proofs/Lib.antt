@@ -1,3 +1,4 @@
 pub mod Consuming
 pub mod Joining
 pub mod Accepted
+pub mod Launching

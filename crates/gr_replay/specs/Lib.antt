@@ -1,3 +1,4 @@
 pub mod Faults
 pub mod Joined
+pub mod Launch
 pub mod Laws

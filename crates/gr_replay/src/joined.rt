@@ -1,8 +1,9 @@
 //! Streams that stand one after another in a list of bytes.
 
-ghost use Rattle.std.specs.Prelude.{◌≡◌, ◌==◌, ◌++◌, ◌∷◌, [], not, length, IfErr, OnOk, Ok};
+ghost use Rattle.std.specs.Prelude.{◌≡◌, ◌==◌, ◌++◌, ◌∷◌, [], not, length, IfErr, IfOk, OnOk, Ok};
 ghost use Rattle.std.specs.List.{list_any};
 ghost use Rattle.gr_replay.specs.Faults.{Gives};
+ghost use Rattle.gr_replay.specs.Laws.{AreStreams};
 ghost use Rattle.gr_replay.specs.Joined.{flat, flats, stream_at, joined_of};
 
 use gr_model::event::Event;
@@ -75,7 +76,8 @@ fn keep<A: Allocator>(streams: &mut Vec<Stream<A>, A>, stream: Stream<A>) -> Res
 /// The first fault from the left: of a stream its header's, `SameGroup`, `OtherLaunch`, then that of its records;
 /// `Memory` where the streams can't be kept.
 pub fn read_streams<A: Allocator + Copy>(alloc: A, bytes: &[u8]) -> Result<Vec<Stream<A>, A>, Fault>
-    ensures { Gives (λ v. flats v.items) result (joined_of bytes.now) }
+    ensures exact { Gives (λ v. flats v.items) result (joined_of bytes.now) }
+    ensures good { IfOk result (λ v. AreStreams (flats v.items)) }
 {
     let mut streams = Vec::new(alloc);
     let mut rest = bytes;

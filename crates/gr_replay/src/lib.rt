@@ -3,4 +3,5 @@
 
 mod input;
 pub mod joined;
+pub mod launch;
 pub mod laws;
