@@ -10,11 +10,11 @@ use Rattle.gr_model.specs.declared.report.DivergenceCause.TheVariants.{Missing, 
 use Rattle.gr_model.specs.declared.report.Unmatched.{Unmatched}
 use Rattle.gr_model.specs.declared.report.AcquireCause.{AcquireCause}
 use Rattle.gr_model.specs.declared.report.AcquireCause.TheVariants.{Absent, OtherWord, Behind}
+use Rattle.gr_model.specs.Reports.{WholeReport}
 use Rattle.gr_report.specs.Putting.{field, line}
-use Rattle.gr_report.specs.declared.report.Report.{Report}
 
 -- the version, and how large the launch is
-abbrev pub head_text : {Z : Type 0} → Report Z → List ℕ
+abbrev pub head_text : WholeReport → List ℕ
 head_text r =
     field (codes "gpurace 1\ngroups ") (decimal r.groups)
     ++ field (codes " items ") (decimal r.items)
@@ -52,7 +52,7 @@ unmatched_line u =
     ++ unmatched_end u.cause
 
 -- how many lines of each kind there are, and how many events are held
-abbrev pub end_line : {Z : Type 0} → Report Z → List ℕ
+abbrev pub end_line : WholeReport → List ℕ
 end_line r =
     field (codes "end races ") (decimal (length r.races))
     ++ field (codes " diverge ") (decimal (length r.divergences))
@@ -60,7 +60,7 @@ end_line r =
     ++ line (codes " held ") (decimal r.held)
 
 -- the whole text: the kinds of lines in this order, and of one kind as the report lists them
-abbrev pub report_text : {Z : Type 0} → Report Z → List ℕ
+abbrev pub report_text : WholeReport → List ℕ
 report_text r =
     head_text r
     ++ flat_map cut_line r.cut

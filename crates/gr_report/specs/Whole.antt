@@ -1,8 +1,9 @@
--- A report as the definitions see it, and whether it names anything.
+-- A report as the definitions see it, and whether it finds anything.
 use Rattle.std.specs.Prelude.{◌≢◌, ◌⊎◌, []}
 use Rattle.gr_model.specs.Reports.{WholeReport}
 use Rattle.gr_report.specs.declared.report.Report.{Report}
 
+-- the same report, in the words of the definitions
 abbrev pub whole_of : {Z : Type 0} → Report Z → WholeReport
 whole_of r =
     record {
@@ -17,5 +18,5 @@ whole_of r =
     }
 
 -- there is a race, a divergent barrier or an unmatched acquire
-abbrev pub HasFinding : {Z : Type 0} → Report Z → Type 0
+abbrev pub HasFinding : WholeReport → Type 0
 HasFinding r = (r.races ≢ []) ⊎ (r.divergences ≢ []) ⊎ (r.unmatched ≢ [])

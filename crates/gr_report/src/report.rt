@@ -1,7 +1,7 @@
 //! What is reported of a launch: plain data, made by every way of detection alike.
 
 ghost use Rattle.std.specs.Prelude.{◌↔◌, IsTrue};
-ghost use Rattle.gr_report.specs.Whole.{HasFinding};
+ghost use Rattle.gr_report.specs.Whole.{whole_of, HasFinding};
 
 use crate::rows::Rows;
 use gr_model::event::Word;
@@ -32,7 +32,7 @@ pub struct Report<A: Allocator = Global> {
 
 /// Whether there is a race, a divergent barrier or an unmatched acquire. A cut alone is no finding.
 pub fn found<A: Allocator>(report: &Report<A>) -> bool
-    ensures { IsTrue result ↔ HasFinding report.now }
+    ensures { IsTrue result ↔ HasFinding (whole_of report.now) }
 {
     !report.races.as_slice().is_empty()
         || !report.divergences.as_slice().is_empty()

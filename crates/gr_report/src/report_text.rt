@@ -4,6 +4,7 @@ ghost use Rattle.std.specs.Prelude.{◌≡◌, OnOk, OnErr};
 ghost use Rattle.std.specs.List.{flat_map};
 ghost use Rattle.std.specs.Io.KnownBytes.{Appends};
 ghost use Rattle.gr_report.specs.Putting.{Puts, AppendsFront};
+ghost use Rattle.gr_report.specs.Whole.{whole_of};
 ghost use Rattle.gr_report.specs.ReportText.{head_text, cut_line, race_line, divergence_line, unmatched_line, end_line, report_text, divergence_end, unmatched_end};
 
 use crate::putting::{WriteFault, finish, put, put_field, put_line};
@@ -14,7 +15,7 @@ use std::alloc::Allocator;
 use std::io::Write;
 
 fn put_head<A: Allocator, W: Write>(writer: &mut W, report: &Report<A>) -> Result<(), WriteFault>
-    ensures { Puts (W.contents writer.old) (W.contents writer.new) result (head_text report.now) }
+    ensures { Puts (W.contents writer.old) (W.contents writer.new) result (head_text (whole_of report.now)) }
 {
     put_field(writer, b"gpurace 1\ngroups ", report.groups)?;
     put_field(writer, b" items ", report.items)?;
@@ -110,7 +111,7 @@ fn put_unmatched<W: Write>(writer: &mut W, acquires: &[Unmatched]) -> Result<(),
 
 /// The last line: how many lines of each kind there are, and how many events are held.
 fn put_end<A: Allocator, W: Write>(writer: &mut W, report: &Report<A>) -> Result<(), WriteFault>
-    ensures { Puts (W.contents writer.old) (W.contents writer.new) result (end_line report.now) }
+    ensures { Puts (W.contents writer.old) (W.contents writer.new) result (end_line (whole_of report.now)) }
 {
     put_field(writer, b"end races ", report.races.as_slice().len())?;
     put_field(writer, b" diverge ", report.divergences.as_slice().len())?;
@@ -119,7 +120,7 @@ fn put_end<A: Allocator, W: Write>(writer: &mut W, report: &Report<A>) -> Result
 }
 
 fn put_all<A: Allocator, W: Write>(writer: &mut W, report: &Report<A>) -> Result<(), WriteFault>
-    ensures { Puts (W.contents writer.old) (W.contents writer.new) result (report_text report.now) }
+    ensures { Puts (W.contents writer.old) (W.contents writer.new) result (report_text (whole_of report.now)) }
 {
     put_head(writer, report)?;
     put_cuts(writer, report.cut.as_slice())?;
@@ -134,8 +135,8 @@ fn put_all<A: Allocator, W: Write>(writer: &mut W, report: &Report<A>) -> Result
 /// # Errors
 /// `WriteFault` where the writer fails; what it took is then a front of the text.
 pub fn write<A: Allocator, W: Write>(report: &Report<A>, writer: &mut W) -> Result<(), WriteFault>
-    ensures whole { OnOk result (Appends (W.contents writer.old) (W.contents writer.new) (report_text report.now)) }
-    ensures front { OnErr result (AppendsFront (W.contents writer.old) (W.contents writer.new) (report_text report.now)) }
+    ensures whole { OnOk result (Appends (W.contents writer.old) (W.contents writer.new) (report_text (whole_of report.now))) }
+    ensures front { OnErr result (AppendsFront (W.contents writer.old) (W.contents writer.new) (report_text (whole_of report.now))) }
 {
     put_all(writer, report)?;
     finish(writer)
