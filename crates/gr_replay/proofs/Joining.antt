@@ -62,7 +62,6 @@ nothing_left (suc n) seen bytes e = rw e refl
 fails_through : {X Y : Type 0} (f : Fault) (part : Result X Fault) (total : Result Y Fault) → Fails f part → (part ≡ Err f → total ≡ Err f) → Fails f total
 fails_through faults.Memory part total h go = tt
 fails_through faults.Read part total h go = tt
-fails_through faults.Write part total h go = tt
 fails_through f part total h go = go h
 
 module _ (seen : List Flat) (stop i : ℕ) (bytes : List ℕ) (total : Result (List Flat) Fault) (so_far : joined_at (stop - i) seen bytes ≡ total) where
@@ -104,5 +103,9 @@ at_any (Some xs) P p = p xs
 pub outside_fails : {Y : Type 0} (f : Fault) (meaning : Result Y Fault) → IsOutside f → Fails f meaning
 outside_fails faults.Memory meaning h = tt
 outside_fails faults.Read meaning h = tt
-outside_fails faults.Write meaning h = tt
 outside_fails _ meaning h = absurd h
+
+-- a fault of a stream is none of the writer
+pub stream_fault_reads : (place : ℕ) (e : RecordError) → stream_fault place e ≡ faults.Write → ⊥
+stream_fault_reads place errors.Memory h = cc
+stream_fault_reads place e h = cc

@@ -13,13 +13,13 @@ returns-then-is_empty-clause-exact g c =
 pub returns-in_err-stream : goal.returns-in_err-stream
 returns-in_err-stream g c =
     let p = err_from_is_err_and c.from_residual.result c.from_residual.ensures.1 in
-    let h = rw c.as_slice.ensures.value at c.in_err-stream.ensures in
-    rw (p.1, p.2) (record { exact = stream_fails (flats c.loop.streams.items) (length c.args.bytes.now) c.loop.counter c.loop.rest.now _ c.loop.invariant c.loop-test.true (sym c.is_empty.ensures ∙ c.if-is_empty.false) _ h; good = tt })
+    let h = rw c.as_slice.ensures.value at c.in_err-stream.ensures.exact in
+    rw (p.1, p.2) (record { exact = stream_fails (flats c.loop.streams.items) (length c.args.bytes.now) c.loop.counter c.loop.rest.now _ c.loop.invariant c.loop-test.true (sym c.is_empty.ensures ∙ c.if-is_empty.false) _ h; good = tt; reading = c.in_err-stream.ensures.reading })
 
 pub loop-preserved : goal.loop-preserved
 loop-preserved g c =
     let s = c.in_ok-stream.stream in
-    let h = rw c.as_slice.ensures.value at c.in_ok-stream.ensures in
+    let h = rw c.as_slice.ensures.value at c.in_ok-stream.ensures.exact in
     let e : flats c.keep.new.streams.items ≡ flats c.loop.streams.items ++ flat s ∷ [] = rw c.in_ok-keep.ensures.kept (map_push _ c.loop.streams.items s) in
     rw e (goes_on (flats c.loop.streams.items) (length c.args.bytes.now) c.loop.counter c.loop.rest.now _ c.loop.invariant c.loop-test.true (sym c.is_empty.ensures ∙ c.if-is_empty.false) _ _ h)
 
