@@ -239,3 +239,37 @@ starts_more sizes g there =
 
 pub sum_more : (sizes : List ℕ) (g : ℕ) → g < length sizes → sum (take g sizes) + get_or sizes g 0 ≡ sum (take (g + 1) sizes)
 sum_more sizes g there = sym (sum_by_more (λ (x : ℕ). x) sizes g 0 there)
+
+-- ---- the size of a group
+
+gap_at : (s : ℕ) (ends : List ℕ) (g : ℕ) → g < length ends → get_or (gaps s ends) g 0 ≡ get_or ends g 0 - get_or (s ∷ ends) g 0
+gap_at s [] g there = absurd (omega arith)
+gap_at s (e ∷ ends) zero there = refl
+gap_at s (e ∷ ends) (suc g) there = gap_at e ends g (omega arith)
+
+rises_at : (s : ℕ) (ends : List ℕ) (n g : ℕ) → RisesTo s ends n → g < length ends → get_or (s ∷ ends) g 0 ≤ get_or ends g 0
+rises_at s [] n g r there = absurd (omega arith)
+rises_at s (e ∷ ends) n zero r there = r.0
+rises_at s (e ∷ ends) n (suc g) r there = rises_at e ends n g r.1 (omega arith)
+
+length_rows : {X : Type 0} (s : ℕ) (ends : List ℕ) (xs : List X) → length (rows_after s ends xs) ≡ length ends
+length_rows s [] xs = refl
+length_rows s (e ∷ ends) xs = ap suc (length_rows e ends xs)
+
+-- a group of a table: its start and end, and its size
+pub record IsGroup (starts sizes : List ℕ) (g : ℕ) : Type 0 where
+  pub there : g + 1 < length starts
+  pub rise : get_or starts g 0 ≤ get_or starts (g + 1) 0
+  pub size : get_or starts (g + 1) 0 - get_or starts g 0 ≡ get_or sizes g 0
+
+pub group_of : {X : Type 0} (starts : List ℕ) (xs : List X) (t : List (List X)) (g : ℕ) → AreStarts starts (length xs) → rows_of starts xs ≡ t → g < length t → IsGroup starts (map length t) g
+group_of [] xs t g r is within = absurd r
+group_of {X} (s ∷ ends) xs t g r is within =
+    let there : g < length ends = subst (λ (n : ℕ). g < n) (ap length (sym is) ∙ length_rows s ends xs) within in
+    let next : get_or (s ∷ ends) (g + 1) 0 ≡ get_or ends g 0 = ap (λ (n : ℕ). get_or (s ∷ ends) n 0) (add-one g) in
+    let sizes : map length t ≡ gaps s ends = ap (λ (y : List (List X)). map length y) (sym is) ∙ length_rows_after s ends xs r.1 in
+    record {
+      there = omega arith;
+      rise = let up = rises_at s ends (length xs) g r.1 there in omega (arith, next);
+      size = ap (λ (n : ℕ). n - get_or (s ∷ ends) g 0) next ∙ sym (gap_at s ends g there) ∙ ap (λ (y : List ℕ). get_or y g 0) (sym sizes);
+    }

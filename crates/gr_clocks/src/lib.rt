@@ -4,5 +4,7 @@
 
 pub mod access;
 pub mod clock;
+pub mod clocks;
 mod rows;
 pub mod snapshot;
+mod table;
