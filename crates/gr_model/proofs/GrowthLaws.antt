@@ -24,7 +24,7 @@ module _ (s t : Streams) (grows : Grows s t) where
       (filter (is_of i.item) more.0, ap (filter (is_of i.item)) more.1 ∙ filter-append (is_of i.item) (list_of s i.group) more.0)
 
   -- an event stays
-  event_grows : (e : EventId) (x : Event) → event_at s e ≡ Some x → event_at t e ≡ Some x
+  pub event_grows : (e : EventId) (x : Event) → event_at s e ≡ Some x → event_at t e ≡ Some x
   event_grows e x at =
       let more = trace_grows e.at in
       ap (λ l. slice_get l e.index) more.1 ∙ slice_get-append (trace_of s e.at) more.0 e.index x at
@@ -45,7 +45,7 @@ module _ (s t : Streams) (grows : Grows s t) where
       let h = places_from-there test 0 (trace_of s e.at) k e.index at in
       (h.1, let same : e.index ≡ h.0 = omega (arith, h.2) in ap (slice_get (trace_of s e.at)) same ∙ h.3)
 
-  word_grows : (e : EventId) → IsEvent s e → word_at t e ≡ word_at s e
+  pub word_grows : (e : EventId) → IsEvent s e → word_at t e ≡ word_at s e
   word_grows e there = ap (option_and_then (event_word e.at.group)) (event_grows e there.0 there.1 ∙ sym there.1)
 
   name_grows : (e : EventId) → IsEvent s e → name_at t e ≡ name_at s e
