@@ -1,6 +1,6 @@
 -- What a run leaves behind, from what its outcome says.
 use Rattle.std.proofs.Common.{◌≡◌, ◌≢◌, ℕ, List, Option, Result, Ok, Err, inl, inr}
-use Rattle.std.specs.Prelude.{IfOk, IfErr, OnOk}
+use Rattle.std.specs.Prelude.{IfOk, IfErr, OnOk, IsErrAnd}
 use Rattle.std.specs.Io.KnownBytes.{Appends, Keeps}
 use Rattle.gr_record.specs.declared.fault.Fault.{Fault}
 use Rattle.gr_record.specs.declared.fault.Fault.TheVariants.{Write}
@@ -24,3 +24,8 @@ answer_of (Ok report) old new old_errors new_errors status text untouched ends s
     inl (whole_of report, record { text = text; silent = silent; ends = ends })
 answer_of (Err f) old new old_errors new_errors status text untouched ends silent fault told =
     inr (f, record { told = told; ends = fault; untouched = untouched })
+
+-- what holds of the error that there is
+pub if_err : {X Y : Type 0} {P Q : Y → Type 0} (r : Result X Y) → ((y : Y) → P y → Q y) → IsErrAnd r P → IfErr r Q
+if_err (Ok x) step h = tt
+if_err (Err y) step h = step y h

@@ -1,5 +1,10 @@
 //! What the words of the command line ask for.
 
+ghost use Rattle.std.specs.Prelude.{◌≡◌, IfOk, IfErr, map};
+ghost use Rattle.clap.specs.Words.{app_of, kind_of};
+ghost use Rattle.gr_cli.specs.Words.{gpurace, AsksForReplay};
+
+use clap::error::ErrorKind;
 use clap::{Command, Error};
 use std::alloc::{AllocError, Global};
 use std::convert::AsStr;
@@ -35,7 +40,10 @@ Exit status:
 const REPLAY: &str = "Reports on the trace on standard input; this is done without a command too";
 
 /// The program's commands and options, as help shows them.
-fn command<'a>(alloc: Global) -> Result<Command<'a>, AllocError> {
+fn command<'a>(alloc: Global) -> Result<Command<'a>, AllocError>
+    ensures { IfOk result (λ c. app_of c ≡ gpurace) }
+{
+    let replay = Command::new(alloc, "replay").about(REPLAY);
     Command::new(alloc, "gpurace")
         .bin_name("gpurace")?
         .no_binary_name(true)
@@ -43,14 +51,16 @@ fn command<'a>(alloc: Global) -> Result<Command<'a>, AllocError> {
         .about(ABOUT)
         .long_about(LONG_ABOUT)
         .after_help(AFTER_HELP)
-        .subcommand(Command::new(alloc, "replay").about(REPLAY))
+        .subcommand(replay)
 }
 
 /// What the words ask for, the program's name not among them.
 ///
 /// # Errors
-/// The text of help or of wrong usage, or want of memory.
-pub fn task_of<S: AsStr>(alloc: Global, words: &[S]) -> Result<Task, Error> {
+/// The text of help or of wrong usage, or want of memory; of words that ask for a replay this alone.
+pub fn task_of<S: AsStr>(alloc: Global, words: &[S]) -> Result<Task, Error>
+    ensures known { IfErr result (λ e. AsksForReplay (map S.text words.now) → kind_of e ≡ ErrorKind.OutOfMemory) }
+{
     let matches = command(alloc)?.try_get_matches_from(words)?;
     match matches.subcommand_name() {
         Some("replay") | Some(_) | None => Ok(Task::Replay),

@@ -1,12 +1,14 @@
 //! A run of the program, over values.
 
-ghost use Rattle.std.specs.Prelude.{◌≡◌, ◌≤◌, IfOk, IfErr, OnOk};
+ghost use Rattle.std.specs.Prelude.{◌≡◌, ◌⊎◌, ◌≤◌, IfOk, IfErr, OnOk, map};
 ghost use Rattle.std.specs.Io.KnownBytes.{Keeps};
+ghost use Rattle.clap.specs.Words.{kind_of};
 ghost use Rattle.gr_report.specs.FaultText.{fault_line};
 ghost use Rattle.gr_report.specs.Putting.{AppendsFront};
 ghost use Rattle.gr_report.specs.Whole.{whole_of};
-ghost use Rattle.gr_cli.specs.Answers.{IsAnswer};
+ghost use Rattle.gr_cli.specs.Answers.{IsAnswer, IsFailed};
 ghost use Rattle.gr_cli.specs.Statuses.{fault_status, IsReportStatus};
+ghost use Rattle.gr_cli.specs.Words.{AsksForReplay, IsHelp, IsWrongUsage};
 
 use crate::arguments::{Task, task_of};
 use crate::status::{FAILED, NOTHING, USAGE, status_of, status_of_report};
@@ -33,6 +35,9 @@ pub fn fail<E: Write>(fault: &Fault, errors: &mut E) -> u8
 /// Writes help to standard output, or what is wrong with the words to standard error, and gives the status.
 fn explain_usage<W: Write, E: Write>(error: &Error, writer: &mut W, errors: &mut E) -> u8
     ensures known { result ≤ FAILED }
+    ensures memory { kind_of error.now ≡ ErrorKind.OutOfMemory → IsFailed (W.contents writer.old) (W.contents writer.new) (E.contents errors.old) (E.contents errors.new) result Fault.Memory }
+    ensures wrong { IsWrongUsage (kind_of error.now) → (result ≡ USAGE) × Keeps (W.contents writer.old) (W.contents writer.new) }
+    ensures help { IsHelp (kind_of error.now) → (result ≡ NOTHING) ⊎ (result ≡ FAILED) }
 {
     if error.kind() == ErrorKind::OutOfMemory {
         return fail(&Fault::Memory, errors);
@@ -85,6 +90,7 @@ pub fn execute<S: AsStr, R: Read, W: Write, E: Write>(
     errors: &mut E,
 ) -> u8
     ensures known { result ≤ FAILED }
+    ensures replays { AsksForReplay (map S.text words.now) → IsAnswer (W.contents writer.old) (W.contents writer.new) (E.contents errors.old) (E.contents errors.new) result }
 {
     match task_of(alloc, words) {
         Ok(task) => perform(alloc, task, reader, writer, errors),
