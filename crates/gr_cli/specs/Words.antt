@@ -1,0 +1,25 @@
+-- The words that ask for a report, and the commands that they are read by.
+use Rattle.std.specs.Prelude.{◌≡◌, ◌≢◌, ◌⊎◌, ℕ, true, List, [], ◌∷◌, codes}
+use Rattle.clap.specs.declared.error.kind.ErrorKind.{ErrorKind}
+use Rattle.clap.specs.declared.error.kind.ErrorKind.TheVariants.{DisplayHelp, DisplayVersion, OutOfMemory}
+use Rattle.clap.specs.Words.{App, Shape, new_app, with_subcommand}
+
+-- no word, or the command's
+abbrev pub AsksForReplay : List (List ℕ) → Type 0
+AsksForReplay words = (words ≡ []) ⊎ (words ≡ codes "replay" ∷ [])
+
+-- the program, whose words come without its own name
+abbrev pub alone : Shape
+alone = record (new_app (codes "gpurace")).top { no_binary_name = true; has_version = true }
+
+-- the program with its command
+abbrev pub gpurace : App
+gpurace = with_subcommand (record { top = alone; subs = [] }) (new_app (codes "replay")).top
+
+-- help was asked for, or the version
+abbrev pub IsHelp : ErrorKind → Type 0
+IsHelp kind = (kind ≡ DisplayHelp) ⊎ (kind ≡ DisplayVersion)
+
+-- the words are wrong
+abbrev pub IsWrongUsage : ErrorKind → Type 0
+IsWrongUsage kind = ¬ IsHelp kind × (kind ≢ OutOfMemory)

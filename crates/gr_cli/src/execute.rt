@@ -1,0 +1,99 @@
+//! A run of the program, over values.
+
+ghost use Rattle.std.specs.Prelude.{◌≡◌, ◌⊎◌, ◌≤◌, IfOk, IfErr, OnOk, map};
+ghost use Rattle.std.specs.Io.KnownBytes.{Keeps};
+ghost use Rattle.clap.specs.Words.{kind_of};
+ghost use Rattle.gr_report.specs.FaultText.{fault_line};
+ghost use Rattle.gr_report.specs.Putting.{AppendsFront};
+ghost use Rattle.gr_report.specs.Whole.{whole_of};
+ghost use Rattle.gr_cli.specs.Answers.{IsAnswer, IsFailed};
+ghost use Rattle.gr_cli.specs.Statuses.{fault_status, IsReportStatus};
+ghost use Rattle.gr_cli.specs.Words.{AsksForReplay, IsHelp, IsWrongUsage};
+
+use crate::arguments::{Task, task_of};
+use crate::status::{FAILED, NOTHING, USAGE, status_of, status_of_report};
+use clap::Error;
+use clap::error::ErrorKind;
+use gr_record::fault::Fault;
+use gr_replay::replay;
+use gr_report::report::Report;
+use gr_report::write_fault;
+use std::alloc::Global;
+use std::convert::AsStr;
+use std::io::{Read, Write};
+
+/// Tells of a fault on standard error, and gives its status. That standard error fails is passed over: there is nowhere
+/// left to tell it.
+pub fn fail<E: Write>(fault: &Fault, errors: &mut E) -> u8
+    ensures status { result ≡ fault_status fault.now }
+    ensures told { AppendsFront (E.contents errors.old) (E.contents errors.new) (fault_line fault.now) }
+{
+    let _ = write_fault(fault, errors);
+    status_of(fault)
+}
+
+/// Writes help to standard output, or what is wrong with the words to standard error, and gives the status.
+fn explain_usage<W: Write, E: Write>(error: &Error, writer: &mut W, errors: &mut E) -> u8
+    ensures known { result ≤ FAILED }
+    ensures memory { kind_of error.now ≡ ErrorKind.OutOfMemory → IsFailed (W.contents writer.old) (W.contents writer.new) (E.contents errors.old) (E.contents errors.new) result Fault.Memory }
+    ensures wrong { IsWrongUsage (kind_of error.now) → (result ≡ USAGE) × Keeps (W.contents writer.old) (W.contents writer.new) }
+    ensures help { IsHelp (kind_of error.now) → (result ≡ NOTHING) ⊎ (result ≡ FAILED) }
+{
+    if error.kind() == ErrorKind::OutOfMemory {
+        return fail(&Fault::Memory, errors);
+    }
+    if error.use_stderr() {
+        let _ = write!(errors, "{error}");
+        return USAGE;
+    }
+    match write!(writer, "{error}").and_then(|()| writer.flush()) {
+        Ok(()) => NOTHING,
+        Err(_) => fail(&Fault::Write, errors),
+    }
+}
+
+/// Tells of a run that failed, and gives the status of what came of it.
+fn conclude<E: Write>(outcome: Result<Report, Fault>, errors: &mut E) -> u8
+    ensures report { IfOk outcome (λ report. IsReportStatus (whole_of report) result) }
+    ensures silent { OnOk outcome (Keeps (E.contents errors.old) (E.contents errors.new)) }
+    ensures fault { IfErr outcome (λ fault. result ≡ fault_status fault) }
+    ensures told { IfErr outcome (λ fault. AppendsFront (E.contents errors.old) (E.contents errors.new) (fault_line fault)) }
+{
+    match outcome {
+        Ok(report) => status_of_report(&report),
+        Err(fault) => fail(&fault, errors),
+    }
+}
+
+/// Does the task, and gives the exit status. Either the text of a report is written, and the status tells whether it is
+/// a finding; or standard error tells of a fault, whose status it is.
+fn perform<R: Read, W: Write, E: Write>(
+    alloc: Global,
+    task: Task,
+    reader: &mut R,
+    writer: &mut W,
+    errors: &mut E,
+) -> u8
+    ensures { IsAnswer (W.contents writer.old) (W.contents writer.new) (E.contents errors.old) (E.contents errors.new) result }
+{
+    match task {
+        Task::Replay => conclude(replay(alloc, reader, writer), errors),
+    }
+}
+
+/// Does what the words ask for, and gives the exit status. The words are those behind the program's name.
+pub fn execute<S: AsStr, R: Read, W: Write, E: Write>(
+    alloc: Global,
+    words: &[S],
+    reader: &mut R,
+    writer: &mut W,
+    errors: &mut E,
+) -> u8
+    ensures known { result ≤ FAILED }
+    ensures replays { AsksForReplay (map S.text words.now) → IsAnswer (W.contents writer.old) (W.contents writer.new) (E.contents errors.old) (E.contents errors.new) result }
+{
+    match task_of(alloc, words) {
+        Ok(task) => perform(alloc, task, reader, writer, errors),
+        Err(error) => explain_usage(&error, writer, errors),
+    }
+}

@@ -1,0 +1,48 @@
+//! `gpurace`: reports the data races and the divergent barriers of an OpenCL kernel launch, from its trace.
+//!
+//! All that the program decides stands in functions over values (`execute`), so that tests run them in memory; `main`
+//! hands in the words, standard input, output and error.
+#![tactic(auto)]
+
+mod arguments;
+mod execute;
+mod status;
+#[cfg(test)]
+mod tests;
+
+use execute::{execute, fail};
+use gr_record::fault::Fault;
+use status::USAGE;
+use std::io::{BufWriter, ErrorKind, Write};
+use std::process::ExitCode;
+use std::{env, io};
+
+fn main(rt: HostRuntime) -> ExitCode {
+    let alloc = rt.alloc();
+    let mut errors = rt.stderr();
+    let words = match env::args(&rt) {
+        Ok(words) => words,
+        Err(error) if error.kind() == ErrorKind::OutOfMemory => {
+            return ExitCode::from(fail(&Fault::Memory, &mut errors));
+        }
+        Err(_) => {
+            let _ = errors.write_all(b"error: an argument is not valid UTF-8\n");
+            return ExitCode::from(USAGE);
+        }
+    };
+    let Ok(words) = words.skip(1).collect::<Vec<String>>(alloc) else {
+        return ExitCode::from(fail(&Fault::Memory, &mut errors));
+    };
+    let Ok(mut writer) = BufWriter::new(alloc, io::writer(&rt)) else {
+        return ExitCode::from(fail(&Fault::Memory, &mut errors));
+    };
+    let mut reader = rt.stdin();
+    let status = execute(
+        alloc,
+        words.as_slice(),
+        &mut reader,
+        &mut writer,
+        &mut errors,
+    );
+    ExitCode::from(status)
+}

@@ -1,0 +1,218 @@
+use crate::execute::execute;
+use crate::status::status_of;
+use gr_model::shape::ShapeError;
+use gr_record::error::RecordError;
+use gr_record::fault::Fault;
+use std::alloc::Global;
+use std::io::{self, ErrorKind, Read, Write};
+use std::test::*;
+
+// Group 0 of 2 items in launch 7: item 0 writes global word 16, item 1 reads it, and the end.
+const RACE: [u8; 72] = [
+    0x47, 0x52, 0x54, 0x31, 0, 0, 2, 0, 7, 0, 0, 0, //
+    1, 0, 0, 0, 0, 0, 0, 0, 16, 0, 0, 0, 255, 255, 255, 255, 255, 255, 255, 255, //
+    0, 0, 0, 0, 1, 0, 0, 0, 16, 0, 0, 0, 255, 255, 255, 255, 255, 255, 255, 255, //
+    6, 0, 0, 0, 0, 0, 0, 0, 0, 0, 0, 0, 255, 255, 255, 255, 255, 255, 255, 255,
+];
+
+// The same, but that item 0 reads.
+const NO_RACE: [u8; 72] = [
+    0x47, 0x52, 0x54, 0x31, 0, 0, 2, 0, 7, 0, 0, 0, //
+    0, 0, 0, 0, 0, 0, 0, 0, 16, 0, 0, 0, 255, 255, 255, 255, 255, 255, 255, 255, //
+    0, 0, 0, 0, 1, 0, 0, 0, 16, 0, 0, 0, 255, 255, 255, 255, 255, 255, 255, 255, //
+    6, 0, 0, 0, 0, 0, 0, 0, 0, 0, 0, 0, 255, 255, 255, 255, 255, 255, 255, 255,
+];
+
+// The first 31 bytes of the race: its header, and a record that lacks a byte.
+const CUT_OFF: [u8; 31] = [
+    0x47, 0x52, 0x54, 0x31, 0, 0, 2, 0, 7, 0, 0, 0, //
+    1, 0, 0, 0, 0, 0, 0, 0, 16, 0, 0, 0, 255, 255, 255, 255, 255, 255, 255,
+];
+
+const REPORT: &str =
+    "gpurace 1\ngroups 1 items 2 records 3\nrace global 16\nend races 1 diverge 0 unmatched 0 held 0\n";
+
+const CLEAN: &str =
+    "gpurace 1\ngroups 1 items 2 records 3\nend races 0 diverge 0 unmatched 0 held 0\n";
+
+/// Words and input, and what each output begins with (or is, where it is empty), and the status.
+type Case = (
+    &'static str,
+    &'static [&'static str],
+    &'static [u8],
+    &'static str,
+    &'static str,
+    u8,
+);
+
+const CASES: [Case; 13] = [
+    ("a race", &["replay"], &RACE, REPORT, "", 1),
+    ("a race, without a command", &[], &RACE, REPORT, "", 1),
+    ("no race", &["replay"], &NO_RACE, CLEAN, "", 0),
+    (
+        "a stream that is cut off",
+        &["replay"],
+        &CUT_OFF,
+        "",
+        "gpurace: stream 0: truncated\n",
+        2,
+    ),
+    ("no input", &[], &[], "", "gpurace: shape: no groups\n", 2),
+    (
+        "help",
+        &["--help"],
+        &RACE,
+        "Reports the data races of an OpenCL kernel launch",
+        "",
+        0,
+    ),
+    (
+        "short help",
+        &["-h"],
+        &RACE,
+        "Reports the data races of an OpenCL kernel launch",
+        "",
+        0,
+    ),
+    (
+        "help as a command",
+        &["help"],
+        &RACE,
+        "Reports the data races of an OpenCL kernel launch",
+        "",
+        0,
+    ),
+    (
+        "help on a command",
+        &["replay", "--help"],
+        &RACE,
+        "Reports on the trace",
+        "",
+        0,
+    ),
+    ("the version", &["--version"], &RACE, "gpurace ", "", 0),
+    (
+        "an unknown command",
+        &["reply"],
+        &RACE,
+        "",
+        "error: unrecognized subcommand 'reply'",
+        3,
+    ),
+    (
+        "a word too many",
+        &["replay", "file"],
+        &RACE,
+        "",
+        "error: unexpected argument 'file' found",
+        3,
+    ),
+    (
+        "an unknown option",
+        &["--quiet"],
+        &RACE,
+        "",
+        "error: unexpected argument '--quiet' found",
+        3,
+    ),
+];
+
+/// Whether the text begins so, or is empty too.
+fn begins(text: &[u8], front: &str) -> bool {
+    text.starts_with(front.as_bytes()) && (text.is_empty() == front.is_empty())
+}
+
+#[test]
+fn words_and_input_give_output_and_status(rt: HostRuntime) -> Result<(), Fail> {
+    for (name, words, input, wanted, wanted_errors, wanted_status) in &CASES {
+        let mut reader = *input;
+        let mut output = Vec::new(rt.alloc());
+        let mut errors = Vec::new(rt.alloc());
+        let status = execute(rt.alloc(), words, &mut reader, &mut output, &mut errors);
+        assert_eq!(rt; status, *wanted_status, "{name}");
+        assert!(rt; begins(output.as_slice(), wanted), "output of {name}");
+        assert!(rt;
+            begins(errors.as_slice(), wanted_errors),
+            "errors of {name}"
+        );
+    }
+    Ok(())
+}
+
+/// A reader and writer of which each call fails.
+#[derive(Clone, Copy)]
+struct Broken;
+
+impl Read for Broken {
+    fn read(&mut self, _: &mut [u8]) -> io::Result<usize> {
+        Err(io::Error::from(ErrorKind::BrokenPipe))
+    }
+}
+
+impl Write for Broken {
+    fn write(&mut self, _: &[u8]) -> io::Result<usize> {
+        Err(io::Error::from(ErrorKind::BrokenPipe))
+    }
+
+    fn flush(&mut self) -> io::Result<()> {
+        Err(io::Error::from(ErrorKind::BrokenPipe))
+    }
+}
+
+/// The status of a run over an output that fails, with what is told on standard error.
+fn status_over_broken_output(alloc: Global, words: &[&str], errors: &mut Vec<u8>) -> u8 {
+    let mut reader = RACE.as_slice();
+    execute(alloc, words, &mut reader, &mut Broken, errors)
+}
+
+#[test]
+fn input_and_output_that_fail_are_told(rt: HostRuntime) -> Result<(), Fail> {
+    let alloc = rt.alloc();
+    let mut output = Vec::new(alloc);
+    let mut errors = Vec::new(alloc);
+    let status = execute(alloc, &["replay"], &mut Broken, &mut output, &mut errors);
+    assert_eq!(rt; status, 5, "reader");
+    assert!(rt; output.is_empty(), "nothing is written");
+    let status = status_over_broken_output(alloc, &["replay"], &mut errors);
+    assert_eq!(rt; status, 5, "report");
+    let status = status_over_broken_output(alloc, &["--help"], &mut errors);
+    assert_eq!(rt; status, 5, "help");
+    let told = b"gpurace: read fault\ngpurace: write fault\ngpurace: write fault\n";
+    assert_eq!(rt; errors.as_slice(), told.as_slice());
+    Ok(())
+}
+
+#[test]
+fn errors_that_can_not_be_told_keep_their_status(rt: HostRuntime) {
+    let alloc = rt.alloc();
+    let mut reader = CUT_OFF.as_slice();
+    let status = execute(alloc, &["--quiet"], &mut reader, &mut Broken, &mut Broken);
+    assert_eq!(rt; status, 3, "usage");
+    let status = execute(alloc, &["replay"], &mut reader, &mut Broken, &mut Broken);
+    assert_eq!(rt; status, 2, "a trace that is cut off");
+}
+
+const STATUSES: [(Fault, u8); 15] = [
+    (Fault::Stream(0, RecordError::Truncated), 2),
+    (Fault::Stream(0, RecordError::Memory), 4),
+    (Fault::SameGroup(1), 2),
+    (Fault::OtherLaunch(1), 2),
+    (Fault::MissingGroup(1), 2),
+    (Fault::Shape(ShapeError::NoGroups), 2),
+    (Fault::Shape(ShapeError::TooManyItems), 2),
+    (Fault::BadLine(2), 2),
+    (Fault::NoEnd, 2),
+    (Fault::LongStream(2), 2),
+    (Fault::Memory, 4),
+    (Fault::Threads, 4),
+    (Fault::Read, 5),
+    (Fault::Write, 5),
+    (Fault::Stream(63, RecordError::BadField(11)), 2),
+];
+
+#[test]
+fn a_fault_has_its_status(rt: HostRuntime) {
+    for (fault, status) in &STATUSES {
+        assert_eq!(rt; status_of(fault), *status, "{fault:?}");
+    }
+}
