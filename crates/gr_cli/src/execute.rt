@@ -8,10 +8,10 @@ ghost use Rattle.gr_report.specs.Putting.{AppendsFront};
 ghost use Rattle.gr_report.specs.Whole.{whole_of};
 ghost use Rattle.gr_cli.specs.Answers.{IsAnswer, IsFailed};
 ghost use Rattle.gr_cli.specs.Statuses.{fault_status, IsReportStatus};
-ghost use Rattle.gr_cli.specs.Words.{AsksForReplay, IsHelp, IsWrongUsage};
+ghost use Rattle.gr_cli.specs.Words.{AreHelp, AreWrong, AsksForReplay, IsHelp, IsWrongUsage, faults};
 
 use crate::arguments::{Task, task_of};
-use crate::status::{FAILED, NOTHING, USAGE, status_of, status_of_report};
+use crate::status::{FAILED, NOTHING, USAGE, WANTING, status_of, status_of_report};
 use clap::Error;
 use clap::error::ErrorKind;
 use gr_record::fault::Fault;
@@ -91,6 +91,8 @@ pub fn execute<S: AsStr, R: Read, W: Write, E: Write>(
 ) -> u8
     ensures known { result ≤ FAILED }
     ensures replays { AsksForReplay (map S.text words.now) → IsAnswer (W.contents writer.old) (W.contents writer.new) (E.contents errors.old) (E.contents errors.new) result }
+    ensures wrong { AreWrong (faults (map S.text words.now)) → ((result ≡ USAGE) ⊎ (result ≡ WANTING)) × Keeps (W.contents writer.old) (W.contents writer.new) }
+    ensures help { AreHelp (faults (map S.text words.now)) → (result ≡ NOTHING) ⊎ (result ≡ WANTING) ⊎ (result ≡ FAILED) }
 {
     match task_of(alloc, words) {
         Ok(task) => perform(alloc, task, reader, writer, errors),
