@@ -5,9 +5,9 @@ use Rattle.gr_model.specs.declared.event.EventId.{EventId}
 use Rattle.gr_model.specs.Barriers.{Together}
 use Rattle.gr_model.specs.HappensBefore.{BasePair, HappensBefore, behind_barrier, by_pair, sequenced, synchronized, through}
 use Rattle.gr_model.specs.Instances.{Mark}
-use Rattle.gr_model.specs.LawfulOrders.{IsAt, IsLawful}
+use Rattle.gr_model.specs.LawfulOrders.{IsAt, IsIn, IsLawful}
 use Rattle.gr_model.specs.Streams.{Streams}
-use Rattle.gr_model.specs.Waits.{IsPrevious, Stage, Waits, for_meeting, for_previous, for_release}
+use Rattle.gr_model.specs.Waits.{IsGrounded, IsPrevious, Stage, Waits, for_meeting, for_previous, for_release}
 
 -- the same instance, with the two barriers the other way round
 pub together-swap : {s : Streams} {a : Mark} {e b : EventId} → Together s a e b → Together s a b e
@@ -70,6 +70,9 @@ pub lawful_stage : (s : Streams) (order : List EventId) → IsLawful s order →
 lawful_stage s order l zero p e lt at = absurd (omega arith)
 lawful_stage s order l (suc n) p e lt at =
     ((l.event p e at).0, (l.event p e at).1, λ d w. let there = l.after p e d at w in lawful_stage s order l n there.0 d (omega (arith, there.1)) there.2)
+
+pub lawful_is_grounded : (s : Streams) (order : List EventId) (e : EventId) → IsLawful s order → IsIn order e → IsGrounded s e
+lawful_is_grounded s order e lawful there = (suc there.0, lawful_stage s order lawful (suc there.0) there.0 e (omega arith) there.1)
 
 -- a stage has all of the one before it
 pub stage_up : (s : Streams) (n : ℕ) (e : EventId) → Stage s n e → Stage s (suc n) e

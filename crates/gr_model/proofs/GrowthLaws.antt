@@ -24,7 +24,7 @@ module _ (s t : Streams) (grows : Grows s t) where
       (filter (is_of i.item) more.0, ap (filter (is_of i.item)) more.1 ∙ filter-append (is_of i.item) (list_of s i.group) more.0)
 
   -- an event stays
-  event_grows : (e : EventId) (x : Event) → event_at s e ≡ Some x → event_at t e ≡ Some x
+  pub event_grows : (e : EventId) (x : Event) → event_at s e ≡ Some x → event_at t e ≡ Some x
   event_grows e x at =
       let more = trace_grows e.at in
       ap (λ l. slice_get l e.index) more.1 ∙ slice_get-append (trace_of s e.at) more.0 e.index x at
@@ -45,7 +45,7 @@ module _ (s t : Streams) (grows : Grows s t) where
       let h = places_from-there test 0 (trace_of s e.at) k e.index at in
       (h.1, let same : e.index ≡ h.0 = omega (arith, h.2) in ap (slice_get (trace_of s e.at)) same ∙ h.3)
 
-  word_grows : (e : EventId) → IsEvent s e → word_at t e ≡ word_at s e
+  pub word_grows : (e : EventId) → IsEvent s e → word_at t e ≡ word_at s e
   word_grows e there = ap (option_and_then (event_word e.at.group)) (event_grows e there.0 there.1 ∙ sym there.1)
 
   name_grows : (e : EventId) → IsEvent s e → name_at t e ≡ name_at s e
@@ -93,7 +93,7 @@ module _ (s t : Streams) (grows : Grows s t) where
   arrived_grows g k i a h = (subst (λ n. i < n) (size_grows g) h.0, arrival_grows g k i a h.1)
 
   convergent_grows : (g k : ℕ) (a : Mark) → IsConvergent s g k a → IsConvergent t g k a
-  convergent_grows g k a c i below = arrival_grows g k i a (c i (subst (λ n. i < n) (sym (size_grows g)) below))
+  convergent_grows g k a c = (subst (λ n. 0 < n) (size_grows g) c.0, λ i below. arrival_grows g k i a (c.1 i (subst (λ n. i < n) (sym (size_grows g)) below)))
 
   mixed_grows : (g k : ℕ) → AreMixed (size_of s g) (arrivals s g k) → AreMixed (size_of t g) (arrivals t g k)
   mixed_grows g k h = (h.0, h.1, h.2, h.3, arrived_grows g k h.0 h.2 h.4, arrived_grows g k h.1 h.3 h.5, h.6)
@@ -115,16 +115,16 @@ module _ (s t : Streams) (grows : Grows s t) where
   -- an instance is not both
   not_both : (u : Streams) (g k : ℕ) (a : Mark) → IsConvergent u g k a → IsDivergent u g k → ⊥
   not_both u g k a c (inl mixed) =
-      let same : mixed.2 ≡ mixed.3 = let e : Some mixed.2 ≡ Some mixed.3 = sym mixed.4.1 ∙ (c mixed.0 mixed.4.0 ∙ (sym (c mixed.1 mixed.5.0) ∙ mixed.5.1)) in cc in
+      let same : mixed.2 ≡ mixed.3 = let e : Some mixed.2 ≡ Some mixed.3 = sym mixed.4.1 ∙ (c.1 mixed.0 mixed.4.0 ∙ (sym (c.1 mixed.1 mixed.5.0) ∙ mixed.5.1)) in cc in
       mixed.6 same
-  not_both u g k a c (inr part) = let e : Some a ≡ None = sym (c part.1.1 part.1.4) ∙ part.1.5 in cc
+  not_both u g k a c (inr part) = let e : Some a ≡ None = sym (c.1 part.1.1 part.1.4) ∙ part.1.5 in cc
 
   -- a settled instance is convergent in the longer lists with the mark that it has
-  convergent_shrinks : (g k : ℕ) (a : Mark) → 0 < size_of s g → ((b : Mark) × IsConvergent s g k b) ⊎ IsDivergent s g k → IsConvergent t g k a → IsConvergent s g k a
-  convergent_shrinks g k a some (inl h) c =
-      let same : h.0 ≡ a = let e : Some h.0 ≡ Some a = sym (arrival_grows g k 0 h.0 (h.1 0 some)) ∙ c 0 (subst (λ n. 0 < n) (size_grows g) some) in cc in
+  convergent_shrinks : (g k : ℕ) (a : Mark) → ((b : Mark) × IsConvergent s g k b) ⊎ IsDivergent s g k → IsConvergent t g k a → IsConvergent s g k a
+  convergent_shrinks g k a (inl h) c =
+      let same : h.0 ≡ a = let e : Some h.0 ≡ Some a = sym (arrival_grows g k 0 h.0 (h.1.1 0 h.1.0)) ∙ c.1 0 c.0 in cc in
       subst (λ b. IsConvergent s g k b) same h.1
-  convergent_shrinks g k a some (inr d) c = absurd (not_both t g k a c (divergent_grows g k d))
+  convergent_shrinks g k a (inr d) c = absurd (not_both t g k a c (divergent_grows g k d))
 
   -- a barrier's number stays
   stands_grows : (e : EventId) (g k : ℕ) → StandsIn s e g k → StandsIn t e g k
@@ -147,12 +147,11 @@ module _ (s t : Streams) (grows : Grows s t) where
   together_shrinks a e b there go h =
       let first = stands_shrinks e h.group h.instance there h.first in
       let settled = go.instance h.group h.instance first in
-      let some : 0 < size_of s h.group = omega (arith, first.item) in
-      let convergent = convergent_shrinks h.group h.instance a some settled h.convergent in
+      let convergent = convergent_shrinks h.group h.instance a settled h.convergent in
       let here : ItemId = record { group = h.group; item = b.at.item } in
       let item : b.at ≡ here = λ i. record { group = h.second.group i; item = b.at.item } in
       let within : b.at.item < size_of s h.group = subst (λ n. b.at.item < n) (sym (size_grows h.group)) h.second.item in
-      let found = filter_map-place mark_of 0 (trace_of s here) h.instance a (convergent b.at.item within) in
+      let found = filter_map-place mark_of 0 (trace_of s here) h.instance a (convergent.1 b.at.item within) in
       let was : place_of s is_barrier b.at h.instance ≡ Some found.0 = ap (λ i. place_of s is_barrier i h.instance) item ∙ found.1 in
       let same : Some found.0 ≡ Some b.index = sym (place_grows is_barrier b.at h.instance found.0 was) ∙ h.second.place in
       record {

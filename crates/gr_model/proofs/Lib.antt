@@ -6,6 +6,7 @@ pub mod Numbers
 pub mod Places
 pub mod GrowthLaws
 pub mod CountLaws
+pub mod RaceGrowth
 pub mod Cuts
 pub mod HitsAreRaces
 pub mod Fronts

@@ -25,9 +25,9 @@ Arrivals = ℕ → Option Mark
 abbrev pub HasArrived : ℕ → Arrivals → ℕ → Mark → Type 0
 HasArrived size arrived i a = (i < size) × (arrived i ≡ Some a)
 
--- every item of the group has come, all with one mark
+-- the group has items, and every one of them has come, all with one mark
 abbrev pub IsConvergentOf : ℕ → Arrivals → Mark → Type 0
-IsConvergentOf size arrived a = (i : ℕ) → i < size → arrived i ≡ Some a
+IsConvergentOf size arrived a = (0 < size) × ((i : ℕ) → i < size → arrived i ≡ Some a)
 
 -- two items have come with different marks
 abbrev pub AreMixed : ℕ → Arrivals → Type 0

@@ -5,7 +5,7 @@ use Rattle.gr_model.specs.declared.event.EventId.{EventId}
 use Rattle.gr_model.specs.Instances.{Mark}
 use Rattle.gr_model.specs.Streams.{Streams, IsEvent}
 use Rattle.gr_model.specs.Barriers.{Together}
-use Rattle.gr_model.specs.Waits.{Waits, CanGo}
+use Rattle.gr_model.specs.Waits.{Waits, CanGo, IsGrounded}
 
 -- an event stands in an order at a place, or somewhere
 abbrev pub IsAt : List EventId → ℕ → EventId → Type 0
@@ -24,3 +24,8 @@ pub record IsLawful (s : Streams) (order : List EventId) : Type 0 where
   pub after : (p : ℕ) (e d : EventId) → IsAt order p e → Waits s e d → (q : ℕ) × (q < p) × IsAt order q d
   -- the barriers of a convergent instance stand side by side, in the order of their items
   pub together : (p : ℕ) (e b : EventId) (a : Mark) → IsAt order p e → Together s a e b → (q : ℕ) × (q + e.at.item ≡ p + b.at.item) × IsAt order q b
+
+-- a lawful order of all grounded events
+pub record IsWholeOrder (s : Streams) (order : List EventId) : Type 0 where
+  pub lawful : IsLawful s order
+  pub whole : (e : EventId) → IsGrounded s e → IsIn order e

@@ -7,7 +7,7 @@ use Rattle.gr_model.specs.declared.event.Word.{Word}
 use Rattle.gr_model.specs.Streams.{Streams, Grows}
 use Rattle.gr_model.specs.HappensBefore.{BasePair, HappensBefore}
 use Rattle.gr_model.specs.Waits.{Waits, Stage, IsGrounded}
-use Rattle.gr_model.specs.LawfulOrders.{IsLawful, IsAt, IsIn}
+use Rattle.gr_model.specs.LawfulOrders.{IsLawful, IsWholeOrder, IsAt, IsIn}
 use Rattle.gr_model.specs.Races.{Clashes, IsRacy}
 use Rattle.gr_model.specs.Counts.{IsCount}
 use Rattle.gr_model.specs.Hits.{SomePair}
@@ -22,6 +22,10 @@ OrderGoesForwards = (s : Streams) (order : List EventId) (m : Space) (e f : Even
 
 abbrev pub OrderStaysWithin : Type 0
 OrderStaysWithin = (s : Streams) (order : List EventId) (m : Space) (e f : EventId) → IsLawful s order → IsIn order f → HappensBefore s m e f → IsIn order e
+
+-- what stands in a lawful order is grounded
+abbrev pub OrderIsGrounded : Type 0
+OrderIsGrounded = (s : Streams) (order : List EventId) (e : EventId) → IsLawful s order → IsIn order e → IsGrounded s e
 
 -- what a grounded event waits for, its stage, what happens before it and its counts stay where lists that are not complete grow
 abbrev pub WaitsStay : Type 0
@@ -39,3 +43,11 @@ CountsStay = (s t : Streams) (m : Space) (f : EventId) (j : ItemId) (n : ℕ) �
 -- along a lawful order a word has an access that clashes with an earlier one exactly where it is racy within the order
 abbrev pub HitsAreRaces : Type 0
 HitsAreRaces = (s : Streams) (order : List EventId) (w : Word) → IsLawful s order → SomePair (Clashes s w) order ↔ IsRacy s (IsIn order) w
+
+-- and where the order has all grounded events, exactly where it is racy among these
+abbrev pub WholeHitsAreRaces : Type 0
+WholeHitsAreRaces = (s : Streams) (order : List EventId) (w : Word) → IsWholeOrder s order → SomePair (Clashes s w) order ↔ IsRacy s (IsGrounded s) w
+
+-- a word that is racy within a lawful order is racy among the grounded events of all lists to which these grow
+abbrev pub RacesStay : Type 0
+RacesStay = (s t : Streams) (order : List EventId) (w : Word) → Grows s t → IsLawful s order → IsRacy s (IsIn order) w → IsRacy t (IsGrounded t) w

@@ -94,9 +94,8 @@ pub record WholeReport : Type 0 where
 abbrev pub AreRaces : Streams → List Word → Type 0
 AreRaces s words = Lists WordBelow (IsRacy s (IsGrounded s)) words
 
--- the report of complete lists
-pub record IsReportOf (s : Streams) (r : WholeReport) : Type 0 where
-  pub races : AreRaces s r.races
+-- the report of complete lists, but for its races
+pub record IsReportButRaces (s : Streams) (r : WholeReport) : Type 0 where
   pub divergences : Lists DivergenceBelow (IsDivergence s) r.divergences
   pub unmatched : Lists UnmatchedBelow (IsUnmatchedAcquire s) r.unmatched
   pub cut : Lists (λ g h. g < h) (IsCut s) r.cut
@@ -104,3 +103,8 @@ pub record IsReportOf (s : Streams) (r : WholeReport) : Type 0 where
   pub groups : r.groups ≡ length s.sizes
   pub items : r.items ≡ sum s.sizes
   pub records : r.records ≡ sum_by length s.lists
+
+-- the report of complete lists
+pub record IsReportOf (s : Streams) (r : WholeReport) : Type 0 where
+  pub rest : IsReportButRaces s r
+  pub races : AreRaces s r.races
