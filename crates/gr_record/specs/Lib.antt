@@ -1,3 +1,4 @@
+pub mod Decoding
 pub mod Faults
 pub mod Fronts
 pub mod Laws

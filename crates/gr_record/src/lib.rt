@@ -6,5 +6,7 @@ pub mod fault;
 pub mod header;
 pub mod laws;
 pub mod layout;
+pub mod part;
 mod reading;
+mod stop;
 pub mod stream;
