@@ -1,11 +1,10 @@
 -- What is read of more bytes, from what was read of fewer.
-use Rattle.std.proofs.Common.{◌≡◌, ℕ, zero, suc, ◌+◌, ◌-◌, ◌<◌, ◌≤◌, Bool, true, false, List, [], ◌∷◌, ◌++◌, length, take, drop, map, Option, Some, None, Result, Ok, Err, refl, sym, ap, ◌∙◌, append_assoc, arith, inl, inr}
-use Rattle.std.proofs.lemmas.Bool.{lt-ltb, le-ltb, cases_lt, cases_Bool}
-use Rattle.std.proofs.lemmas.List.{take-append-le, drop-append-le, length-append, map-append}
+use Rattle.std.proofs.Common.{◌≡◌, ℕ, zero, suc, ◌-◌, ◌<◌, ◌≤◌, List, ◌++◌, length, take, drop, Result, Ok, Err, refl, ap, ◌∙◌, arith, inl, inr}
+use Rattle.std.proofs.lemmas.Bool.{cases_lt, cases_Bool}
+use Rattle.std.proofs.lemmas.List.{take-append-le, drop-append-le, length-append}
 use Rattle.gr_model.specs.declared.event.Event.{Event}
 use Rattle.gr_model.specs.Events.{is_end}
 use Rattle.gr_record.specs.declared.error.RecordError.{RecordError}
-use Rattle.gr_record.specs.declared.error.RecordError.TheVariants as errors
 use Rattle.gr_record.specs.declared.stop.Stop.{Stop}
 use Rattle.gr_record.specs.declared.stop.Stop.TheVariants.{Inside, AtEnd, AtFault}
 use Rattle.gr_record.specs.declared.layout.TheConstants.{RECORD_LENGTH}
@@ -54,14 +53,14 @@ module _ (read : List ℕ → Result Event RecordError) (b : List ℕ) where
       elim (cases_lt (length a) RECORD_LENGTH) [
         | inl lt ↦ inside_grows zero a lt
         | inr long ↦
-          let longer : RECORD_LENGTH ≤ length (a ++ b) = simp length-append (omega arith) in
-          rw (too_many read a long, too_many read (a ++ b) longer) refl
+            let longer : RECORD_LENGTH ≤ length (a ++ b) = simp length-append (omega arith) in
+            rw (too_many read a long, too_many read (a ++ b) longer) refl
       ]
   records_grow (suc most) a =
       elim (cases_lt (length a) RECORD_LENGTH) [
         | inl lt ↦ inside_grows (suc most) a lt
         | inr long ↦
-          let longer : RECORD_LENGTH ≤ length (a ++ b) = simp length-append (omega arith) in
-          let ih = records_grow most (drop RECORD_LENGTH a) in
-          rw (next read most a long, next read most (a ++ b) longer, front_same a long) (step_grows most a long ih (read (take RECORD_LENGTH a)))
+            let longer : RECORD_LENGTH ≤ length (a ++ b) = simp length-append (omega arith) in
+            let ih = records_grow most (drop RECORD_LENGTH a) in
+            rw (next read most a long, next read most (a ++ b) longer, front_same a long) (step_grows most a long ih (read (take RECORD_LENGTH a)))
       ]

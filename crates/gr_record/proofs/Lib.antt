@@ -1,3 +1,4 @@
+pub mod Apart
 pub mod Fields
 pub mod Found
 pub mod Growing
@@ -5,3 +6,4 @@ pub mod Loop
 pub mod Numbers
 pub mod Resuming
 pub mod Spelled
+pub mod Steps

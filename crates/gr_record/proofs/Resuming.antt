@@ -1,5 +1,5 @@
 -- A decoder that goes on from what it kept reads what one reads that begins anew.
-use Rattle.std.proofs.Common.{◌≡◌, ℕ, zero, suc, ◌+◌, ◌-◌, ◌<◌, ◌≤◌, List, [], ◌∷◌, ◌++◌, length, take, drop, map, Option, Some, None, Result, Ok, Err, refl, sym, ap, ◌∙◌, append_assoc, arith, inl, inr}
+use Rattle.std.proofs.Common.{◌≡◌, ℕ, ◌+◌, ◌-◌, ◌≤◌, List, [], ◌∷◌, ◌++◌, length, take, drop, Some, None, Result, Ok, Err, refl, sym, arith, inl, inr}
 use Rattle.std.proofs.lemmas.Bool.{lt-ltb, le-ltb, cases_lt}
 use Rattle.std.proofs.lemmas.List.{take-append-le, drop-append-le, length-append, map-append, append-nil}
 use Rattle.gr_model.specs.declared.event.Event.{Event}
@@ -9,10 +9,10 @@ use Rattle.gr_record.specs.declared.part.Part.{Part}
 use Rattle.gr_record.specs.declared.part.Part.TheVariants as parts
 use Rattle.gr_record.specs.declared.stop.Stop.{Stop}
 use Rattle.gr_record.specs.declared.stop.Stop.TheVariants.{Inside, AtEnd, AtFault}
-use Rattle.gr_record.specs.declared.layout.TheConstants.{HEADER_LENGTH, RECORD_LENGTH}
+use Rattle.gr_record.specs.declared.layout.TheConstants.{HEADER_LENGTH}
 use Rattle.gr_record.specs.Reading.{header_at, event_at}
-use Rattle.gr_record.specs.Fronts.{Records, records_at}
-use Rattle.gr_record.specs.Decoding.{Reading, closed, under, read_from, reading, header_part, parts_of, Standing, standing, still, still_at, standing_after}
+use Rattle.gr_record.specs.Fronts.{records_at}
+use Rattle.gr_record.specs.Decoding.{Reading, closed, under, read_from, reading, parts_of, standing, still, standing_after}
 use Rattle.gr_record.proofs.Growing.{grown, records_grow}
 
 -- a reading of more bytes goes on from a reading of fewer
@@ -60,8 +60,8 @@ module _ (limit : ℕ) (piece : List ℕ) where
   reading_goes_on fed =
       elim (cases_lt (length fed) HEADER_LENGTH) [
         | inl lt ↦
-          rw (lt-ltb (length fed) HEADER_LENGTH lt) (first_bytes fed)
+            rw (lt-ltb (length fed) HEADER_LENGTH lt) (first_bytes fed)
         | inr long ↦
-          let longer : HEADER_LENGTH ≤ length (fed ++ piece) = simp length-append (omega arith) in
-          rw (le-ltb (length fed) HEADER_LENGTH long, le-ltb (length (fed ++ piece)) HEADER_LENGTH longer, take-append-le HEADER_LENGTH fed piece long) (under_goes_on fed long (header_at (take HEADER_LENGTH fed)))
+            let longer : HEADER_LENGTH ≤ length (fed ++ piece) = simp length-append (omega arith) in
+            rw (le-ltb (length fed) HEADER_LENGTH long, le-ltb (length (fed ++ piece)) HEADER_LENGTH longer, take-append-le HEADER_LENGTH fed piece long) (under_goes_on fed long (header_at (take HEADER_LENGTH fed)))
       ]

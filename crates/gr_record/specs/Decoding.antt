@@ -1,6 +1,6 @@
 -- What is read of one stream however far its bytes have come, and what a decoder keeps of the bytes fed to it.
 -- Source: docs/FORMATS.md, "Stream" and "Faults of a whole record".
-use Rattle.std.specs.Prelude.{◌≡◌, ℕ, ◌+◌, ◌-◌, ◌<◌, ◌≤◌, List, [], ◌∷◌, ◌++◌, length, take, drop, map, Option, Some, None, Result, Ok, Err, nat_lt, if◌then◌else◌}
+use Rattle.std.specs.Prelude.{◌≡◌, ◌≢◌, ℕ, Bool, true, false, ◌+◌, ◌-◌, ◌/◌, ◌<◌, ◌≤◌, List, [], ◌∷◌, ◌++◌, length, take, drop, map, Option, Some, None, Result, Ok, Err, nat_lt, if◌then◌else◌}
 use Rattle.gr_model.specs.declared.event.Event.{Event}
 use Rattle.gr_model.specs.declared.limits.TheConstants.{MOST_RECORDS}
 use Rattle.gr_record.specs.declared.error.RecordError.{RecordError}
@@ -99,3 +99,70 @@ still d more = still_at d.stop d more
 
 abbrev pub standing_after : Standing → Reading → Standing
 standing_after d r = record { limit = d.limit; items = header_items r.header d.items; count = d.count + length r.events; held = held_at r.stop r.rest; stop = r.stop }
+
+-- a decoder that has been fed nothing
+abbrev pub fresh : ℕ → Standing
+fresh limit = record { limit = limit; items = None; count = 0; held = []; stop = Inside }
+
+-- fewer bytes are kept than a header or a record has, and none behind an end or a fault
+abbrev pub IsHeldOk : Stop → Option ℕ → List ℕ → Type 0
+IsHeldOk Inside items held = length held < unit_length items
+IsHeldOk AtEnd items held = held ≡ []
+IsHeldOk (AtFault e) items held = (held ≡ []) × (e ≢ errors.Memory)
+
+abbrev pub IsCountOk : Option ℕ → ℕ → ℕ → Type 0
+IsCountOk None count limit = count ≡ 0
+IsCountOk (Some items) count limit = count ≤ limit
+
+-- how a decoder may stand
+pub record IsStanding (d : Standing) : Type 0 where
+  pub some : 1 ≤ d.limit
+  pub limit : d.limit ≤ MOST_RECORDS
+  pub count : IsCountOk d.items d.count d.limit
+  pub held : IsHeldOk d.stop d.items d.held
+
+-- the bytes that are missing to a whole header or record
+abbrev pub missing_at : Stop → Option ℕ → List ℕ → ℕ
+missing_at Inside items held = unit_length items - length held
+missing_at AtEnd items held = 0
+missing_at (AtFault e) items held = 0
+
+abbrev pub missing : Standing → ℕ
+missing d = missing_at d.stop d.items d.held
+
+-- ---- a piece, part by part
+
+-- two ways to stand, before bytes that are still to come and with parts that are listed, lead to the same
+pub record Continues (d : Standing) (more : List ℕ) (listed : List Part) (e : Standing) (rest : List ℕ) (longer : List Part) : Type 0 where
+  pub stands : standing_after d (still d more) ≡ standing_after e (still e rest)
+  pub parts : listed ++ parts_of (still d more) ≡ longer ++ parts_of (still e rest)
+
+-- how many headers and records so many bytes may complete
+abbrev pub units_in : Option ℕ → ℕ → ℕ
+units_in None bytes = if nat_lt bytes HEADER_LENGTH then 0 else 1 + (bytes - HEADER_LENGTH) / RECORD_LENGTH
+units_in (Some items) bytes = bytes / RECORD_LENGTH
+
+-- how a decoder stands directly behind a record
+abbrev pub stop_behind : Bool → Stop
+stop_behind true = AtEnd
+stop_behind false = Inside
+
+-- ---- what a decoder answers
+
+abbrev pub answer : Stop → Result (Unit {0}) RecordError
+answer Inside = Ok tt
+answer AtEnd = Ok tt
+answer (AtFault e) = Err e
+
+abbrev pub last_answer : Stop → Result (Unit {0}) RecordError
+last_answer Inside = Err errors.Truncated
+last_answer AtEnd = Ok tt
+last_answer (AtFault e) = Err e
+
+-- a list grew by what a longer list has more than a shorter one
+abbrev pub GrowsAs : List Part → List Part → List Part → List Part → Type 0
+GrowsAs shorter longer old new = (more : List Part) × (longer ≡ shorter ++ more) × (new ≡ old ++ more)
+
+-- a growth was not refused
+abbrev pub HasMemory : Result (Unit {0}) RecordError → Type 0
+HasMemory result = result ≢ Err errors.Memory

@@ -1,6 +1,7 @@
 //! The streams of a launch as bytes and as text: what a header and a record say, and why an input is refused.
 #![tactic(auto)]
 
+pub mod decoder;
 pub mod error;
 pub mod fault;
 pub mod header;
