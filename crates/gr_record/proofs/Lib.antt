@@ -7,3 +7,4 @@ pub mod Numbers
 pub mod Resuming
 pub mod Spelled
 pub mod Steps
+pub mod Written

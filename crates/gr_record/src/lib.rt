@@ -2,6 +2,7 @@
 #![tactic(auto)]
 
 pub mod decoder;
+pub mod encoding;
 pub mod error;
 pub mod fault;
 pub mod header;
