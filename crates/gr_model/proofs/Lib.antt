@@ -9,3 +9,4 @@ pub mod CountLaws
 pub mod Cuts
 pub mod HitsAreRaces
 pub mod Fronts
+pub mod WordLemmas

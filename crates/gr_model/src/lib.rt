@@ -9,3 +9,4 @@ pub mod memory;
 pub mod report;
 pub mod shape;
 pub mod traces;
+pub mod words;

@@ -1,6 +1,6 @@
--- A whole stream at the front of a list of bytes: its header, its records up to the end, and the bytes after it.
+-- What stands at the front of a list of bytes: a header, or the records of a stream up to its end; and the bytes after it.
 -- Source: docs/FORMATS.md, "Stream".
-use Rattle.std.specs.Prelude.{◌≡◌, ℕ, ◌^◌, ◌<◌, Bool, ◌||◌, ◌==◌, List, ◌++◌, length, drop, slice_index, All, nat_lt, IsTrue, Result, Ok, Err, if◌then◌else◌}
+use Rattle.std.specs.Prelude.{◌≡◌, ℕ, ◌^◌, ◌<◌, List, ◌++◌, length, drop, All, nat_lt, Result, Ok, Err, if◌then◌else◌}
 use Rattle.gr_model.specs.declared.event.Event.{Event}
 use Rattle.gr_model.specs.declared.limits.TheConstants.{MOST_RECORDS}
 use Rattle.gr_model.specs.Streams.{IsAccepted}
@@ -8,7 +8,7 @@ use Rattle.gr_record.specs.declared.error.RecordError.{RecordError}
 use Rattle.gr_record.specs.declared.error.RecordError.TheVariants as errors
 use Rattle.gr_record.specs.declared.header.Header.{Header}
 use Rattle.gr_record.specs.declared.layout.TheConstants.{HEADER_LENGTH}
-use Rattle.gr_record.specs.Spelling.{header_spelling, events_spelling, kind_bytes, IsHeader}
+use Rattle.gr_record.specs.Spelling.{header_spelling, events_spelling, IsHeader}
 use Rattle.gr_record.specs.Reading.{header_at, event_at}
 use Rattle.gr_record.specs.Fronts.{Records, records_at}
 use Rattle.gr_record.specs.declared.stop.Stop.{Stop}
@@ -28,18 +28,6 @@ abbrev pub Gives : {X Y : Type 0} → (X → Y) → Result X RecordError → Res
 Gives view (Ok x) meaning = meaning ≡ Ok (view x)
 Gives view (Err e) meaning = Fails e meaning
 
--- ---- the kinds that are treated so far
-
--- plain reads, plain writes and ends
-abbrev pub treats : ℕ → Bool
-treats kind = (kind == 0) || (kind == 1) || (kind == 6)
-
-abbrev pub treated_event_at : ℕ → List ℕ → Result Event RecordError
-treated_event_at items bytes = if treats (slice_index bytes 0) then event_at items bytes else Err errors.BadKind
-
-abbrev pub IsTreated : Event → Type 0
-IsTreated e = IsTrue (treats (slice_index (kind_bytes e.kind e.space) 0))
-
 -- ---- whole streams
 
 -- records up to an end are all that a stream has; records that no end follows are too few
@@ -51,11 +39,15 @@ up_to (AtFault e) events rest = Err e
 abbrev pub whole : Records → Result (List Event × List ℕ) RecordError
 whole r = up_to r.stop r.events r.rest
 
--- the header, the records and the bytes after the stream, or the first fault
-unfoldable pub stream_at : List ℕ → Result (Header × List Event × List ℕ) RecordError
-stream_at bytes =
+-- the header at the front of the bytes, and the bytes after it
+unfoldable pub front_header_at : List ℕ → Result (Header × List ℕ) RecordError
+front_header_at bytes =
     if nat_lt (length bytes) HEADER_LENGTH then Err errors.Truncated
-    else header_at bytes >>= λ h. whole (records_at (treated_event_at h.items) MOST_RECORDS (drop HEADER_LENGTH bytes)) >>= λ r. Ok (h, r.0, r.1)
+    else header_at bytes >>= λ h. Ok (h, drop HEADER_LENGTH bytes)
+
+-- the records at the front of the bytes up to the end, and the bytes after them
+unfoldable pub front_records_at : ℕ → List ℕ → Result (List Event × List ℕ) RecordError
+front_records_at items bytes = whole (records_at (event_at items) MOST_RECORDS bytes)
 
 -- ---- what a stream is, by its spelling
 
@@ -67,4 +59,3 @@ pub record IsStream (h : Header) (events : List Event) : Type 0 where
   pub header : IsHeader h
   pub list : IsAccepted h.items events
   pub words : All (λ e. e.word < 2 ^ 32) events
-  pub treated : All IsTreated events

@@ -1,0 +1,4 @@
+pub mod Members
+pub mod Unordered
+pub mod RaceLemmas
+pub mod AccessLemmas

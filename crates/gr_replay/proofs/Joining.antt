@@ -1,0 +1,108 @@
+-- Reading streams one after the other, as a loop does.
+use Rattle.std.proofs.Common.{◌≡◌, ℕ, zero, suc, ◌+◌, ◌-◌, ◌<◌, ◌≤◌, Bool, true, false, List, [], ◌∷◌, ◌++◌, length, Option, Some, None, Result, Ok, Err, refl, sym, ap, subst, ◌∙◌, arith}
+use Rattle.std.specs.Prelude.{not, ◌==◌, ◌||◌, IfSome}
+use Rattle.std.specs.List.{list_any}
+use Rattle.std.proofs.lemmas.List.{length-map}
+use Rattle.gr_model.specs.declared.event.Event.{Event}
+use Rattle.gr_record.specs.declared.error.RecordError.{RecordError}
+use Rattle.gr_record.specs.declared.error.RecordError.TheVariants as errors
+use Rattle.gr_record.specs.declared.header.Header.{Header}
+use Rattle.gr_record.specs.declared.fault.Fault.{Fault}
+use Rattle.gr_record.specs.declared.fault.Fault.TheVariants as faults
+use Rattle.gr_record.specs.Faults.{stream_fault}
+use Rattle.gr_record.specs.WholeStreams as record_spec
+use Rattle.gr_record.specs.WholeStreams.{front_header_at, front_records_at}
+use Rattle.gr_replay.specs.declared.joined.Stream.{Stream}
+use Rattle.gr_replay.specs.Faults.{IsOutside, Fails}
+use Rattle.gr_replay.specs.Joined.{Flat, flats, stream_at, joined_at}
+
+list_any-flats : {Z : Type 0} (test : Header → Bool) (seen : List (Stream Z)) → list_any (λ s. test s.header) (flats seen) ≡ list_any (λ s. test s.header) seen
+list_any-flats test [] = refl
+list_any-flats test (s ∷ seen) = ap (λ b. test s.header || b) (list_any-flats test seen)
+
+-- want of memory aside, the error in its place is that of the whole
+fault_at-fails : {X Y : Type 0} (place : ℕ) (e : RecordError) (read : Result X RecordError) (whole : Result Y Fault) → record_spec.Fails e read → (read ≡ Err e → whole ≡ Err (faults.Stream place e)) → Fails (stream_fault place e) whole
+fault_at-fails place errors.Memory read whole h go = tt
+fault_at-fails place e read whole h go = go h
+
+module _ {Z : Type 0} (seen : List (Stream Z)) (bytes : List ℕ) where
+  pub header_fails : (e : RecordError) → record_spec.Fails e (front_header_at bytes) → Fails (stream_fault (length seen) e) (stream_at (flats seen) bytes)
+  unfolding stream_at
+  header_fails e h = fault_at-fails (length seen) e (front_header_at bytes) (stream_at (flats seen) bytes) h (λ k. rw (k, length-map) refl)
+
+  module _ (header : Header) (rest : List ℕ) (found : front_header_at bytes ≡ Ok (header, rest)) where
+    pub same_group : list_any (λ s. s.header.group == header.group) seen ≡ true → stream_at (flats seen) bytes ≡ Err (faults.SameGroup (length seen))
+    unfolding stream_at
+    same_group t = rw (found, list_any-flats (λ h. h.group == header.group) seen, t, length-map) refl
+
+    module _ (fresh : list_any (λ s. s.header.group == header.group) seen ≡ false) where
+      pub other_launch : list_any (λ s. not (s.header.launch == header.launch)) seen ≡ true → stream_at (flats seen) bytes ≡ Err (faults.OtherLaunch (length seen))
+      unfolding stream_at
+      other_launch t = rw (found, list_any-flats (λ h. h.group == header.group) seen, fresh, list_any-flats (λ h. not (h.launch == header.launch)) seen, t, length-map) refl
+
+      module _ (same : list_any (λ s. not (s.header.launch == header.launch)) seen ≡ false) where
+        pub records_fail : (e : RecordError) → record_spec.Fails e (front_records_at header.items rest) → Fails (stream_fault (length seen) e) (stream_at (flats seen) bytes)
+        unfolding stream_at
+        records_fail e h =
+            fault_at-fails (length seen) e (front_records_at header.items rest) (stream_at (flats seen) bytes) h
+            (λ k. rw (found, list_any-flats (λ h. h.group == header.group) seen, fresh, list_any-flats (λ h. not (h.launch == header.launch)) seen, same, k, length-map) refl)
+
+        pub one_stream : (events : List Event) (after : List ℕ) → front_records_at header.items rest ≡ Ok (events, after) → stream_at (flats seen) bytes ≡ Ok (record { header = header; events = events }, after)
+        unfolding stream_at
+        one_stream events after k =
+            rw (found, list_any-flats (λ h. h.group == header.group) seen, fresh, list_any-flats (λ h. not (h.launch == header.launch)) seen, same, k) refl
+
+-- ---- the loop over streams
+
+nothing_left : (n : ℕ) (seen : List Flat) (bytes : List ℕ) → (length bytes == 0) ≡ true → joined_at n seen bytes ≡ Ok seen
+unfolding joined_at
+nothing_left zero seen bytes e = refl
+nothing_left (suc n) seen bytes e = rw e refl
+
+fails_through : {X Y : Type 0} (f : Fault) (part : Result X Fault) (total : Result Y Fault) → Fails f part → (part ≡ Err f → total ≡ Err f) → Fails f total
+fails_through faults.Memory part total h go = tt
+fails_through faults.Read part total h go = tt
+fails_through faults.Write part total h go = tt
+fails_through f part total h go = go h
+
+module _ (seen : List Flat) (stop i : ℕ) (bytes : List ℕ) (total : Result (List Flat) Fault) (so_far : joined_at (stop - i) seen bytes ≡ total) where
+  pub ends : (length bytes == 0) ≡ true → total ≡ Ok seen
+  ends e = sym so_far ∙ nothing_left (stop - i) seen bytes e
+
+  pub is_full : stop ≤ i → total ≡ Ok seen
+  unfolding joined_at
+  is_full le =
+      let k : stop - i ≡ 0 = omega arith in
+      let one : joined_at (stop - i) seen bytes ≡ Ok seen = rw k refl in
+      sym so_far ∙ one
+
+  module _ (lt : i < stop) (some : (length bytes == 0) ≡ false) where
+    pub stream_fails : (f : Fault) → Fails f (stream_at seen bytes) → Fails f total
+    unfolding joined_at
+    stream_fails f h =
+        let k : stop - i ≡ suc (stop - (i + 1)) = omega arith in
+        fails_through f (stream_at seen bytes) total h
+        (λ e. let one : joined_at (stop - i) seen bytes ≡ Err f = rw (k, some, e) refl in sym so_far ∙ one)
+
+    pub goes_on : (s : Flat) (after : List ℕ) → stream_at seen bytes ≡ Ok (s, after) → joined_at (stop - (i + 1)) (seen ++ s ∷ []) after ≡ total
+    unfolding joined_at
+    goes_on s after e =
+        let k : stop - i ≡ suc (stop - (i + 1)) = omega arith in
+        let one : joined_at (stop - i) seen bytes ≡ joined_at (stop - (i + 1)) (seen ++ s ∷ []) after = rw (k, some, e) refl in
+        sym one ∙ so_far
+
+-- ---- from a list of bytes to a reader
+
+pub at_known : (known : Option (List ℕ)) (bytes : List ℕ) (P : List ℕ → Type 0) → IfSome known (λ xs. bytes ≡ xs) → P bytes → IfSome known P
+at_known None bytes P e p = tt
+at_known (Some xs) bytes P e p = subst P e p
+
+pub at_any : (known : Option (List ℕ)) (P : List ℕ → Type 0) → ((xs : List ℕ) → P xs) → IfSome known P
+at_any None P p = tt
+at_any (Some xs) P p = p xs
+
+pub outside_fails : {Y : Type 0} (f : Fault) (meaning : Result Y Fault) → IsOutside f → Fails f meaning
+outside_fails faults.Memory meaning h = tt
+outside_fails faults.Read meaning h = tt
+outside_fails faults.Write meaning h = tt
+outside_fails _ meaning h = absurd h

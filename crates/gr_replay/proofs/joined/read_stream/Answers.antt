@@ -1,0 +1,22 @@
+use Rattle.std.proofs.Common.{sym, ◌∙◌}
+use Rattle.gr_replay.proofs.Joining.{header_fails, same_group, other_launch, records_fail, one_stream}
+use Rattle.gr_replay.proofs.joined.read_stream.Goals as goal
+
+pub returns-in-Err : goal.returns-in-Err
+returns-in-Err g c = rw c.of_stream.ensures (header_fails c.args.streams.now c.args.bytes.now _ c.in-Err.ensures)
+
+pub returns-then-has_group : goal.returns-then-has_group
+returns-then-has_group g c = same_group c.args.streams.now c.args.bytes.now _ _ c.in-Ok.ensures (sym c.has_group.ensures ∙ c.if-has_group.true)
+
+pub returns-then-has_other_launch : goal.returns-then-has_other_launch
+returns-then-has_other_launch g c =
+    other_launch c.args.streams.now c.args.bytes.now _ _ c.in-Ok.ensures (sym c.has_group.ensures ∙ c.if-has_group.false) (sym c.has_other_launch.ensures ∙ c.if-has_other_launch.true)
+
+pub returns-in-Ok-read_front_records : goal.returns-in-Ok-read_front_records
+returns-in-Ok-read_front_records g c =
+    one_stream c.args.streams.now c.args.bytes.now _ _ c.in-Ok.ensures (sym c.has_group.ensures ∙ c.if-has_group.false) (sym c.has_other_launch.ensures ∙ c.if-has_other_launch.false) _ _ c.in-Ok-read_front_records.ensures
+
+pub returns-in-Err-read_front_records : goal.returns-in-Err-read_front_records
+returns-in-Err-read_front_records g c =
+    rw c.of_stream-in-Err-read_front_records.ensures
+    (records_fail c.args.streams.now c.args.bytes.now _ _ c.in-Ok.ensures (sym c.has_group.ensures ∙ c.if-has_group.false) (sym c.has_other_launch.ensures ∙ c.if-has_other_launch.false) _ c.in-Err-read_front_records.ensures)

@@ -1,0 +1,6 @@
+use Rattle.std.proofs.Common.{◌≡◌, ◌-◌, length}
+use Rattle.gr_replay.specs.Joined.{flats, joined_at, joined_of}
+use Rattle.gr_replay.proofs.joined.read_streams.Given as goal
+
+abbrev pub invariant-loop : goal.invariant-loop
+invariant-loop g l = joined_at (length l.bytes - l.counter) (flats l.streams.items) l.rest ≡ joined_of l.bytes

@@ -1,0 +1,91 @@
+//! Streams that stand one after another in a list of bytes.
+
+ghost use Rattle.std.specs.Prelude.{◌≡◌, ◌==◌, ◌++◌, ◌∷◌, [], not, length, IfErr, OnOk, Ok};
+ghost use Rattle.std.specs.List.{list_any};
+ghost use Rattle.gr_replay.specs.Faults.{Gives};
+ghost use Rattle.gr_replay.specs.Joined.{flat, flats, stream_at, joined_of};
+
+use gr_model::event::Event;
+use gr_record::fault::Fault;
+use gr_record::header::Header;
+use gr_record::stream::{read_front_header, read_front_records};
+use std::alloc::{Allocator, Global};
+
+/// One stream: whose it is, and its records up to the end.
+#[derive(Drop)]
+#[derive_where(Debug)]
+pub struct Stream<A: Allocator = Global> {
+    pub header: Header,
+    pub events: Vec<Event, A>,
+}
+
+/// Whether one of the streams is of this group.
+fn has_group<A: Allocator>(streams: &[Stream<A>], group: u16) -> bool
+    ensures { result ≡ list_any (λ s. s.header.group == group) streams.now }
+{
+    streams.iter().any(|stream| stream.header.group == group)
+}
+
+/// Whether one of the streams is of another launch.
+fn has_other_launch<A: Allocator>(streams: &[Stream<A>], launch: u32) -> bool
+    ensures { result ≡ list_any (λ s. not (s.header.launch == launch)) streams.now }
+{
+    streams.iter().any(|stream| stream.header.launch != launch)
+}
+
+/// The stream at the front of the bytes, behind these streams, and the bytes after it.
+fn read_stream<'a, A: Allocator>(
+    alloc: A,
+    streams: &[Stream<A>],
+    bytes: &'a [u8],
+) -> Result<(Stream<A>, &'a [u8]), Fault>
+    ensures { Gives (λ x. (flat x.0, x.1.now)) result (stream_at (flats streams.now) bytes.now) }
+{
+    let place = streams.len() as u64;
+    let (header, rest) = match read_front_header(bytes) {
+        Ok(found) => found,
+        Err(error) => return Err(Fault::of_stream(place, error)),
+    };
+    if has_group(streams, header.group) {
+        return Err(Fault::SameGroup(place));
+    }
+    if has_other_launch(streams, header.launch) {
+        return Err(Fault::OtherLaunch(place));
+    }
+    match read_front_records(alloc, header.items, rest) {
+        Ok((events, rest)) => Ok((Stream { header, events }, rest)),
+        Err(error) => Err(Fault::of_stream(place, error)),
+    }
+}
+
+/// Keeps one more stream.
+fn keep<A: Allocator>(streams: &mut Vec<Stream<A>, A>, stream: Stream<A>) -> Result<(), Fault>
+    ensures kept { OnOk result (streams.new.items ≡ streams.old.items ++ stream ∷ []) }
+    ensures memory { IfErr result (λ f. f ≡ Fault.Memory) }
+{
+    match streams.push(stream) {
+        Ok(()) => Ok(()),
+        Err(_) => Err(Fault::Memory),
+    }
+}
+
+/// The streams in the bytes, in their order.
+///
+/// # Errors
+/// The first fault from the left: of a stream its header's, `SameGroup`, `OtherLaunch`, then that of its records;
+/// `Memory` where the streams can't be kept.
+pub fn read_streams<A: Allocator + Copy>(alloc: A, bytes: &[u8]) -> Result<Vec<Stream<A>, A>, Fault>
+    ensures { Gives (λ v. flats v.items) result (joined_of bytes.now) }
+{
+    let mut streams = Vec::new(alloc);
+    let mut rest = bytes;
+    for _ in 0..bytes.len() {
+        if rest.is_empty() {
+            return Ok(streams);
+        }
+        let (stream, after) = read_stream(alloc, streams.as_slice(), rest)?;
+        keep(&mut streams, stream)?;
+        rest = after;
+    }
+    Ok(streams)
+}

@@ -1,0 +1,4 @@
+pub mod FaultText
+pub mod Putting
+pub mod ReportText
+pub mod Whole

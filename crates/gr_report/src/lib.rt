@@ -1,0 +1,15 @@
+//! The report of a launch as data, its text, and the lines of faults. Nothing else writes a word of them.
+//!
+//! The texts are docs/FORMATS.md, "Report" and "Fault lines"; docs/REPORT.md says what each line of a report means.
+#![tactic(auto)]
+
+mod fault_text;
+mod putting;
+pub mod report;
+mod report_text;
+pub mod rows;
+
+pub use fault_text::write_fault;
+pub use putting::WriteFault;
+pub use report::found;
+pub use report_text::write;

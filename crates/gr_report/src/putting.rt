@@ -1,0 +1,65 @@
+//! Text to a writer, in pieces, with no memory taken.
+//!
+//! Whatever happens, what was written is a front of the text that was due, and all of it where no fault is answered.
+
+ghost use Rattle.std.specs.Io.KnownBytes.{Keeps};
+ghost use Rattle.gr_report.specs.Putting.{Puts, field, line};
+
+use itoa::{Buffer, Integer};
+use std::io::Write;
+use thiserror::Error;
+
+/// The writer failed: it answered an error, or took none of the bytes that it was given.
+#[derive(Clone, Copy, Debug, PartialEq, Eq, Error)]
+#[error("write fault")]
+pub struct WriteFault;
+
+/// Writes the bytes.
+pub(crate) fn put<W: Write>(writer: &mut W, bytes: &[u8]) -> Result<(), WriteFault>
+    ensures { Puts (W.contents writer.old) (W.contents writer.new) result bytes.now }
+{
+    let mut rest = bytes;
+    while !rest.is_empty() {
+        match writer.write(rest) {
+            Err(_) => return Err(WriteFault),
+            Ok(0) => return Err(WriteFault),
+            Ok(n) => rest = &rest[n..],
+        }
+    }
+    Ok(())
+}
+
+/// Writes a word, and a number after it.
+pub(crate) fn put_field<W: Write, N: Integer>(
+    writer: &mut W,
+    word: &[u8],
+    n: N,
+) -> Result<(), WriteFault>
+    ensures { Puts (W.contents writer.old) (W.contents writer.new) result (field word.now (N.text n)) }
+{
+    put(writer, word)?;
+    let mut buffer = Buffer::new();
+    put(writer, buffer.format(n).as_bytes())
+}
+
+/// Writes a word, a number and the end of the line.
+pub(crate) fn put_line<W: Write, N: Integer>(
+    writer: &mut W,
+    word: &[u8],
+    n: N,
+) -> Result<(), WriteFault>
+    ensures { Puts (W.contents writer.old) (W.contents writer.new) result (line word.now (N.text n)) }
+{
+    put_field(writer, word, n)?;
+    put(writer, b"\n")
+}
+
+/// Flushes behind a text that was written.
+pub(crate) fn finish<W: Write>(writer: &mut W) -> Result<(), WriteFault>
+    ensures { Keeps (W.contents writer.old) (W.contents writer.new) }
+{
+    match writer.flush() {
+        Ok(()) => Ok(()),
+        Err(_) => Err(WriteFault),
+    }
+}

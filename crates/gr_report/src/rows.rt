@@ -1,0 +1,48 @@
+//! A list that a report has.
+
+ghost use Rattle.std.specs.Prelude.{◌≡◌};
+ghost use Rattle.std.specs.Cmp.Lexicographic.{pointwise, lists_per};
+
+use std::alloc::{Allocator, Global};
+use std::marker::Model;
+
+/// The rows of one kind in a report. Contracts see their list.
+#[derive(Drop)]
+#[derive_where(Debug; T)]
+pub struct Rows<T, A: Allocator = Global> {
+    items: Vec<T, A>,
+}
+
+impl<T, A: Allocator> Model for Rows<T, A> {
+    ghost use Rattle.std.specs.Prelude.{List};
+
+    ghost Value = { List T };
+
+    ghost view = { λ r. r.items.items };
+}
+
+impl<T, A: Allocator> Rows<T, A> {
+    /// The rows of this list.
+    pub fn of(items: Vec<T, A>) -> Rows<T, A>
+        ensures { result ≡ items.items }
+    {
+        Rows { items }
+    }
+
+    /// The list.
+    pub fn as_slice(&self) -> &[T]
+        ensures { result.now ≡ self.now }
+    {
+        &self.items
+    }
+}
+
+impl<T: PartialEq, A: Allocator> PartialEq for Rows<T, A> {
+    ghost eq = { λ x y. pointwise T.eq x y };
+
+    ghost laws = { lists_per T.laws };
+
+    fn eq(&self, other: &Self) -> bool {
+        self.items == other.items
+    }
+}

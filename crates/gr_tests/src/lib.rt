@@ -1,0 +1,5 @@
+//! Tests that speak of no crate alone, and small worked examples of the definitions.
+#![tactic(auto)]
+
+#[cfg(test)]
+mod tests;

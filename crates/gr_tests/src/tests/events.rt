@@ -1,0 +1,188 @@
+//! Which records a group may have, and which words they access.
+
+use gr_model::event::{Event, ItemId, Kind, Name, Order, Scope, Space, Word, event_ok, word_of};
+
+fn name_of(group: u16, item: u16, release: u32) -> Option<Name> {
+    let at = ItemId { group, item };
+    Some(Name { at, release })
+}
+
+fn event(item: u16, kind: Kind, space: Space, word: u32, name: Option<Name>) -> Event {
+    Event {
+        item,
+        kind,
+        space,
+        word,
+        name,
+    }
+}
+
+/// A row: its name, its record in a group of two items, and whether that is one that the group may have.
+type Case = (&'static str, Event, bool);
+
+fn access_cases() -> [Case; 8] {
+    let (group, device) = (Scope::Group, Scope::Device);
+    let of = |item, kind| event(item, kind, Space::Global, 16, None);
+    [
+        ("a plain read", of(1, Kind::Read), true),
+        ("an item that the group lacks", of(2, Kind::Read), false),
+        (
+            "an acquiring load",
+            of(0, Kind::Load(device, Order::Acquire)),
+            true,
+        ),
+        (
+            "a releasing load",
+            of(0, Kind::Load(device, Order::Release)),
+            false,
+        ),
+        (
+            "a load with both halves",
+            of(0, Kind::Load(group, Order::Both)),
+            false,
+        ),
+        (
+            "a releasing store",
+            of(0, Kind::Store(group, Order::Release)),
+            true,
+        ),
+        (
+            "an acquiring store",
+            of(0, Kind::Store(device, Order::Acquire)),
+            false,
+        ),
+        (
+            "a read-modify-write with both halves",
+            of(0, Kind::Rmw(group, Order::Both)),
+            true,
+        ),
+    ]
+}
+
+fn name_cases() -> [Case; 6] {
+    let acquire = Kind::Load(Scope::Device, Order::Acquire);
+    let relaxed = Kind::Load(Scope::Device, Order::Relaxed);
+    let of = |kind, name| event(0, kind, Space::Global, 16, name);
+    [
+        (
+            "an acquire with the last name",
+            of(acquire, name_of(63, 255, 16_777_215)),
+            true,
+        ),
+        ("a name of group 64", of(acquire, name_of(64, 0, 0)), false),
+        ("a name of item 256", of(acquire, name_of(0, 256, 0)), false),
+        (
+            "a name of release 16,777,216",
+            of(acquire, name_of(0, 0, 16_777_216)),
+            false,
+        ),
+        (
+            "a relaxed load with a name",
+            of(relaxed, name_of(0, 0, 0)),
+            false,
+        ),
+        (
+            "a plain write with a name",
+            of(Kind::Write, name_of(0, 0, 0)),
+            false,
+        ),
+    ]
+}
+
+fn other_cases() -> [Case; 7] {
+    let barrier = Kind::Barrier {
+        global: true,
+        local: false,
+    };
+    let end = Kind::End { cut: true };
+    [
+        ("a barrier", event(1, barrier, Space::Global, 7, None), true),
+        (
+            "a barrier with the local space",
+            event(1, barrier, Space::Local, 7, None),
+            false,
+        ),
+        (
+            "a barrier with a name",
+            event(1, barrier, Space::Global, 7, name_of(0, 0, 0)),
+            false,
+        ),
+        ("an end", event(0, end, Space::Global, 0, None), true),
+        (
+            "an end of item 1",
+            event(1, end, Space::Global, 0, None),
+            false,
+        ),
+        (
+            "an end with the local space",
+            event(0, end, Space::Local, 0, None),
+            false,
+        ),
+        (
+            "an end with a word",
+            event(0, end, Space::Global, 1, None),
+            false,
+        ),
+    ]
+}
+
+#[test]
+fn a_group_may_have_just_these_records(rt: HostRuntime) {
+    for (name, event, ok) in access_cases() {
+        assert_eq!(rt; event_ok(&event, 2), ok, "{name}");
+    }
+    for (name, event, ok) in name_cases() {
+        assert_eq!(rt; event_ok(&event, 2), ok, "{name}");
+    }
+    for (name, event, ok) in other_cases() {
+        assert_eq!(rt; event_ok(&event, 2), ok, "{name}");
+    }
+}
+
+#[test]
+fn an_access_has_a_word_of_its_memory(rt: HostRuntime) {
+    let barrier = Kind::Barrier {
+        global: true,
+        local: true,
+    };
+    let end = Kind::End { cut: false };
+    let atomic = Kind::Rmw(Scope::Group, Order::Relaxed);
+    let cases = [
+        (
+            event(0, Kind::Write, Space::Global, 16, None),
+            Some(Word::Global(16)),
+        ),
+        (
+            event(0, Kind::Read, Space::Local, 16, None),
+            Some(Word::Local(5, 16)),
+        ),
+        (
+            event(0, atomic, Space::Local, 4, None),
+            Some(Word::Local(5, 4)),
+        ),
+        (event(0, barrier, Space::Global, 16, None), None),
+        (event(0, end, Space::Global, 0, None), None),
+    ];
+    for (event, word) in cases {
+        assert_eq!(rt; word_of(5, &event), word);
+    }
+}
+
+#[test]
+fn orders_kinds_and_names_tell_what_they_are(rt: HostRuntime) {
+    let orders = [
+        (Order::Relaxed, false, false),
+        (Order::Acquire, true, false),
+        (Order::Release, false, true),
+        (Order::Both, true, true),
+    ];
+    for (order, acquires, releases) in orders {
+        assert_eq!(rt; (order.acquires(), order.releases()), (acquires, releases));
+        assert_eq!(rt; Kind::Rmw(Scope::Device, order).is_acquire(), acquires);
+    }
+    assert!(rt; Kind::End { cut: false }.is_end());
+    assert!(rt; !Kind::Write.is_end());
+    assert!(rt; Word::Global(9) < Word::Local(0, 1));
+    let at = ItemId { group: 64, item: 0 };
+    assert!(rt; !Name { at, release: 0 }.is_in_range());
+}

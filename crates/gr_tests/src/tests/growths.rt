@@ -1,0 +1,56 @@
+//! Each growth refused in turn, as a launch's shape is copied and its lists are made.
+
+use gr_model::event::{Event, Kind, Space};
+use gr_model::memory::Memory;
+use gr_model::shape::Shape;
+use gr_model::traces::Traces;
+use refusing::Refusing;
+use std::alloc::Allocator;
+use std::test::Fail;
+
+const END: Event = Event {
+    item: 0,
+    kind: Kind::End { cut: false },
+    space: Space::Global,
+    word: 0,
+    name: None,
+};
+
+/// How many items the traces of one group of two have, where all growths are granted.
+fn items_of_made_traces<A: Allocator + Copy>(alloc: A) -> Result<u32, Memory> {
+    let mut sizes = Vec::new(alloc);
+    sizes.push(2)?;
+    let Ok(shape) = Shape::new(sizes) else {
+        return Ok(0);
+    };
+    let copy = shape.copy()?;
+    let mut list = Vec::new(alloc);
+    list.push(END)?;
+    let mut lists = Vec::new(alloc);
+    lists.push(list)?;
+    let Ok(traces) = Traces::new(copy, lists) else {
+        return Ok(0);
+    };
+    Ok(traces.shape().total())
+}
+
+#[test]
+fn each_refused_growth_is_want_of_memory(rt: HostRuntime) -> Result<(), Fail> {
+    let mut refusals = 0_u32;
+    for at in 0..1_000_u64 {
+        let heap = Refusing::new(rt.alloc(), at);
+        let answer = items_of_made_traces(&heap);
+        assert!(rt;
+            answer == Ok(2) || (answer == Err(Memory) && heap.refused()),
+            "the growth numbered {at}"
+        );
+        if answer == Err(Memory) {
+            refusals = refusals.saturating_add(1);
+        }
+        if !heap.refused() {
+            assert_eq!(rt; (at, refusals), (4, 4));
+            return Ok(());
+        }
+    }
+    Err("a growth was refused each time")?
+}
