@@ -1,5 +1,5 @@
 -- A decoder that goes on from what it kept reads what one reads that begins anew.
-use Rattle.std.proofs.Common.{◌≡◌, ℕ, ◌+◌, ◌-◌, ◌≤◌, List, [], ◌∷◌, ◌++◌, length, take, drop, Some, None, Result, Ok, Err, refl, sym, arith, inl, inr}
+use Rattle.std.proofs.Common.{◌∙◌, ap, ◌≡◌, ℕ, ◌+◌, ◌-◌, ◌≤◌, List, [], ◌∷◌, ◌++◌, length, take, drop, Some, None, Result, Ok, Err, refl, sym, arith, inl, inr}
 use Rattle.std.proofs.lemmas.Bool.{lt-ltb, le-ltb, cases_lt}
 use Rattle.std.proofs.lemmas.List.{take-append-le, drop-append-le, length-append, map-append, append-nil}
 use Rattle.gr_model.specs.declared.event.Event.{Event}
@@ -8,11 +8,13 @@ use Rattle.gr_record.specs.declared.header.Header.{Header}
 use Rattle.gr_record.specs.declared.part.Part.{Part}
 use Rattle.gr_record.specs.declared.part.Part.TheVariants as parts
 use Rattle.gr_record.specs.declared.stop.Stop.{Stop}
+use Rattle.gr_record.specs.declared.stop.Stop.{Stop}
 use Rattle.gr_record.specs.declared.stop.Stop.TheVariants.{Inside, AtEnd, AtFault}
 use Rattle.gr_record.specs.declared.layout.TheConstants.{HEADER_LENGTH}
 use Rattle.gr_record.specs.Reading.{header_at, event_at}
 use Rattle.gr_record.specs.Fronts.{records_at}
-use Rattle.gr_record.specs.Decoding.{Reading, closed, under, read_from, reading, parts_of, standing, still, standing_after}
+use Rattle.gr_record.specs.Decoding.{Reading, Standing, closed, under, read_from, reading, parts_of, standing, still, still_at, standing_after}
+use Rattle.gr_record.specs.FrontLaws.{FaultStays}
 use Rattle.gr_record.proofs.Growing.{grown, records_grow}
 
 -- a reading of more bytes goes on from a reading of fewer
@@ -65,3 +67,12 @@ module _ (limit : ℕ) (piece : List ℕ) where
             let longer : HEADER_LENGTH ≤ length (fed ++ piece) = simp length-append (omega arith) in
             rw (le-ltb (length fed) HEADER_LENGTH long, le-ltb (length (fed ++ piece)) HEADER_LENGTH longer, take-append-le HEADER_LENGTH fed piece long) (under_goes_on fed long (header_at (take HEADER_LENGTH fed)))
       ]
+
+-- behind a fault nothing is read
+pub fault_stays : FaultStays
+fault_stays limit bytes more e is =
+    let g = reading_goes_on limit more bytes in
+    let s = standing limit (reading limit bytes) in (
+      ap (λ (d : Standing). d.stop) g.stands ∙ ap (λ (stop : Stop). (still_at stop s more).stop) is,
+      g.listed ∙ ap (λ (stop : Stop). parts_of (reading limit bytes) ++ parts_of (still_at stop s more)) is ∙ append-nil (parts_of (reading limit bytes)),
+    )
