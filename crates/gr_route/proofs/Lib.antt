@@ -1,0 +1,4 @@
+pub mod FrontLemmas
+pub mod GroupLemmas
+pub mod IntakeSteps
+pub mod Views

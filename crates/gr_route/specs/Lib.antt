@@ -1,0 +1,4 @@
+pub mod Fronts
+pub mod IntakeRule
+pub mod IntakeSeats
+pub mod Rooms

@@ -1,0 +1,10 @@
+//! Laws of what the queues hand over. Each is the contract of a function that does nothing.
+
+ghost use Rattle.gr_route.specs.Fronts.{EndMakesWhole, EndMakesAccepted};
+
+/// What was popped of a work-group is all that was sent of it once it has the end, and it is then a list that the
+/// model accepts.
+pub fn end_makes_whole()
+    ensures whole { EndMakesWhole }
+    ensures accepted { EndMakesAccepted }
+{}
