@@ -231,11 +231,11 @@ joins pass p s js other g n l items views h at two at' =
 
 -- ---- the same at a seat's own view
 
-pub pushes_as : (n pass g : ℕ) (v : IntakeView) (e : Event) → v ≡ seat_of g v.items v.pushed → IsEventOk e v.items → IsFalse (is_complete v.pushed) → length v.pushed < MOST_RECORDS
+pub pushes_as : (n pass g items : ℕ) (v : IntakeView) (e : Event) → v ≡ seat_of g items v.pushed → IsEventOk e items → IsFalse (is_complete v.pushed) → length v.pushed < MOST_RECORDS
     → queue.Pushes SeatsAgree n pass v record { group = g; event = e } (Pushes v record { group = g; event = e }) × queue.Learns SeatsAgree pass v (SeatLearns v)
-pushes_as n pass g v e is ok unended room =
+pushes_as n pass g items v e is ok unended room =
     let x : Sent = record { group = g; event = e } in
-    subst (λ (u : IntakeView). queue.Pushes SeatsAgree n pass u x (Pushes u x) × queue.Learns SeatsAgree pass u (SeatLearns u)) (sym is) (pushes n pass g v.items v.pushed e ok unended room, seat_learns pass g v.items v.pushed)
+    subst (λ (u : IntakeView). queue.Pushes SeatsAgree n pass u x (Pushes u x) × queue.Learns SeatsAgree pass u (SeatLearns u)) (sym is) (pushes n pass g items v.pushed e ok unended room, seat_learns pass g items v.pushed)
 
 pub taker_learns_as : (pass : ℕ) (v : IntakeView) (s : List ℕ) → v ≡ taker_of v.popped s v.joined → queue.Learns SeatsAgree pass v (TakerLearns v)
 taker_learns_as pass v s is = subst (λ (u : IntakeView). queue.Learns SeatsAgree pass u (TakerLearns u)) (sym is) (taker_learns pass v.popped s v.joined)
@@ -247,9 +247,9 @@ pub splits_as : (pass g n : ℕ) (v : IntakeView) (s : List ℕ) → v ≡ taker
 splits_as pass g n v s is within vacant some_items =
     subst (λ (u : IntakeView). queue.Forks SeatsAgree pass u (after_split g n u) (seat_of g n [])) (sym is) (splits pass g n v.popped s v.joined within vacant (λ z. omega arith))
 
-pub joins_as : (pass : ℕ) (v : IntakeView) (s : List ℕ) (other g : ℕ) (u : IntakeView) → v ≡ taker_of v.popped s v.joined → u ≡ seat_of g u.items u.pushed → queue.Merges SeatsAgree pass v other u (after_join v u) spent_view
-joins_as pass v s other g u is from =
-    subst (λ (y : IntakeView × IntakeView). queue.Merges SeatsAgree pass y.0 other y.1 (after_join y.0 y.1) spent_view) (λ i. (sym is i, sym from i)) (joins pass v.popped s v.joined other g u.items u.pushed)
+pub joins_as : (pass : ℕ) (v : IntakeView) (s : List ℕ) (other g items : ℕ) (u : IntakeView) → v ≡ taker_of v.popped s v.joined → u ≡ seat_of g items u.pushed → queue.Merges SeatsAgree pass v other u (after_join v u) spent_view
+joins_as pass v s other g items u is from =
+    subst (λ (y : IntakeView × IntakeView). queue.Merges SeatsAgree pass y.0 other y.1 (after_join y.0 y.1) spent_view) (λ i. (sym is i, sym from i)) (joins pass v.popped s v.joined other g items u.pushed)
 
 pub taker_again : (v u w : IntakeView) (s : List ℕ) → v ≡ taker_of v.popped s v.joined → w ≡ after_join v u → w ≡ taker_of w.popped s w.joined
 taker_again v u w s is now = subst (λ (y : IntakeView). y ≡ taker_of y.popped s y.joined) (sym now) (ap (λ b. taker_of v.popped b (v.joined ++ joined_from u ∷ [])) (ap (λ (y : IntakeView). y.sizes) is))
@@ -271,8 +271,8 @@ All-last : {X : Type 0} (P : X → Type 0) (xs : List X) (x : X) → All P (xs +
 All-last P [] x h = All-head P x [] h
 All-last P (y ∷ ys) x h = All-last P ys x (All-tail P y (ys ++ x ∷ []) h)
 
-pub front_as : (v u w : IntakeView) (g : ℕ) (items : List Sent) → u ≡ seat_of g u.items u.pushed → w ≡ after_join v u → TakerLearns w items → StartsWith u.pushed (events_of g w.popped)
-front_as v u w g items is now t =
+pub front_as : (v u w : IntakeView) (g size : ℕ) (items : List Sent) → u ≡ seat_of g size u.pushed → w ≡ after_join v u → TakerLearns w items → StartsWith u.pushed (events_of g w.popped)
+front_as v u w g size items is now t =
     let P : Joined → Type 0 = λ b. b.pushed ≡ events_of b.group (w.popped ++ items) in
     let last : w.joined ≡ v.joined ++ joined_from u ∷ [] = ap (λ (y : IntakeView). y.joined) now in
     let e : u.pushed ≡ events_of u.group (w.popped ++ items) = All-last P v.joined (joined_from u) (subst (All P) last t.2) in

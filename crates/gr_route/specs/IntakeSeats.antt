@@ -3,14 +3,16 @@
 use Rattle.std.specs.Prelude.{◌≡◌, ◌<◌, ◌≢◌, ℕ, List, [], ◌++◌, length, slice_index, IsFalse}
 use Rattle.std.specs.List.{All}
 use Rattle.atomic_table.specs.Seated.{TableId}
+use Rattle.crossbeam_queue.specs.Passes.{Pass, view}
 use Rattle.gr_model.specs.declared.event.Event.{Event}
 use Rattle.gr_model.specs.declared.limits.TheConstants.{MOST_RECORDS}
 use Rattle.gr_model.specs.Events.{IsEventOk}
 use Rattle.gr_model.specs.Streams.{is_complete}
 use Rattle.gr_route.specs.declared.intake.Sent.{Sent}
+use Rattle.gr_route.specs.declared.intake_rule.IntakeView.{IntakeView}
 use Rattle.gr_route.specs.declared.intake_rule.Joined.{Joined}
 use Rattle.gr_route.specs.Fronts.{IsStreamFront, StartsWith}
-use Rattle.gr_route.specs.IntakeRule.{events_of}
+use Rattle.gr_route.specs.IntakeRule.{events_of, seat_of, taker_of}
 
 -- the queue that the seat is of, its group, the group's number of items, and the events that it pushed
 pub record Seat : Type 0 where
@@ -46,3 +48,14 @@ pub record IsNext (t : Taker) (s : Sent) : Type 0 where
 -- what the taker knows of the events that the queue holds: of a group whose seat was joined back they are all that was pushed and not popped
 abbrev pub IsQueued : Taker → List Sent → Type 0
 IsQueued t items = All (λ j. j.pushed ≡ events_of j.group (t.popped ++ items)) t.joined
+
+-- ---- what the seats keep: no place of the queue is taken and not given back, and the pass knows what the fields say
+
+pub record IsSeatPass (pass : Pass Sent IntakeView) (group items : ℕ) : Type 0 where
+  pub idle : pass.me.1 ≡ []
+  pub known : view pass ≡ seat_of group items (view pass).pushed
+  pub some : 0 < items
+
+pub record IsTakerPass (pass : Pass Sent IntakeView) (sizes : List ℕ) : Type 0 where
+  pub idle : pass.me.1 ≡ []
+  pub known : view pass ≡ taker_of (view pass).popped sizes (view pass).joined

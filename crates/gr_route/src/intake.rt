@@ -52,19 +52,35 @@ impl<A: Allocator> Model for Intake<A> {
 pub struct IntakeSeat {
     pass: Pass<Sent, IntakeView>,
     group: u16,
+    items: u16,
 }
 
 impl Model for IntakeSeat {
-    ghost use Rattle.std.specs.Prelude.{◌≡◌, []};
     ghost use Rattle.crossbeam_queue.specs.Passes.{view as known};
-    ghost use Rattle.gr_route.specs.IntakeRule.{seat_of};
-    ghost use Rattle.gr_route.specs.IntakeSeats.{Seat};
+    ghost use Rattle.gr_route.specs.IntakeSeats.{IsSeatPass, Seat};
 
     ghost Value = { Seat };
 
-    ghost view = { λ s. record { queue = s.pass.table_id; group = s.group; items = (known s.pass).items; pushed = (known s.pass).pushed } };
+    ghost view = { λ s. record { queue = s.pass.table_id; group = s.group; items = s.items; pushed = (known s.pass).pushed } };
 
-    ghost invariant = { λ s. (s.pass.me.1 ≡ []) × (known s.pass ≡ seat_of s.group (known s.pass).items (known s.pass).pushed) };
+    ghost invariant = { λ s. IsSeatPass s.pass s.group s.items };
+}
+
+impl IntakeSeat {
+    /// The work-group whose events it pushes.
+    pub fn group(&self) -> u16
+        ensures { result ≡ self.now.group }
+    {
+        self.group
+    }
+
+    /// The number of the group's work-items, which is not 0.
+    pub fn items(&self) -> u16
+        ensures items { result ≡ self.now.items }
+        ensures some { 0 < result }
+    {
+        self.items
+    }
 }
 
 /// The seat that pops. Contracts see its queue, what it popped, which work-groups have had a seat, and what the seats
@@ -77,16 +93,14 @@ pub struct TakerSeat {
 }
 
 impl Model for TakerSeat {
-    ghost use Rattle.std.specs.Prelude.{◌≡◌, []};
     ghost use Rattle.crossbeam_queue.specs.Passes.{view as known};
-    ghost use Rattle.gr_route.specs.IntakeRule.{taker_of};
-    ghost use Rattle.gr_route.specs.IntakeSeats.{Taker};
+    ghost use Rattle.gr_route.specs.IntakeSeats.{IsTakerPass, Taker};
 
     ghost Value = { Taker };
 
     ghost view = { λ s. record { queue = s.pass.table_id; popped = (known s.pass).popped; sizes = s.sizes; joined = (known s.pass).joined } };
 
-    ghost invariant = { λ s. (s.pass.me.1 ≡ []) × (known s.pass ≡ taker_of (known s.pass).popped s.sizes (known s.pass).joined) };
+    ghost invariant = { λ s. IsTakerPass s.pass s.sizes };
 }
 
 /// Splits off the seat of a group that has had none.
@@ -144,7 +158,7 @@ impl<A: Allocator> Intake<A> {
         }
         taker.sizes[usize::from(group)] = items;
         let pass = seat_for::<Brand, A>(&self.queue, &mut taker.pass, group, items);
-        Some(IntakeSeat { pass, group })
+        Some(IntakeSeat { pass, group, items })
     }
 
     /// Pushes an event of the seat's work-group.
@@ -200,7 +214,11 @@ impl<A: Allocator> Intake<A> {
         ensures front { StartsWith seat.pushed (popped_of taker.new seat.group) }
         ensures delivery { IsDelivery taker.new }
     {
-        let IntakeSeat { pass, group: _ } = seat;
+        let IntakeSeat {
+            pass,
+            group: _,
+            items: _,
+        } = seat;
         self.queue.absorb::<JoinStep>(&mut taker.pass, pass);
         self.queue.learn_as::<PopStep>(&mut taker.pass);
     }

@@ -5,4 +5,4 @@ use Rattle.gr_route.proofs.intake.Intake.split.Goals as goal
 pub seat_for-pass-requires-clause-rule : goal.seat_for-pass-requires-clause-rule
 seat_for-pass-requires-clause-rule g c =
     let within : c.args.group < length c.taker.inside.sizes = omega (arith, c.taker.told, c.requires.group) in
-    splits_as _ _ _ _ _ c.taker.invariant.1 within (ap (λ k. get_or c.taker.inside.sizes k 0) (sym c.from.ensures) ∙ c.if-taker-from-ne0.false) c.requires.items.0
+    splits_as _ _ _ _ _ c.taker.invariant.known within (ap (λ k. get_or c.taker.inside.sizes k 0) (sym c.from.ensures) ∙ c.if-taker-from-ne0.false) c.requires.items.0
