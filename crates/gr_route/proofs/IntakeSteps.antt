@@ -16,9 +16,9 @@ use Rattle.gr_model.specs.Streams.{is_complete}
 use Rattle.gr_route.specs.declared.intake.Sent.{Sent}
 use Rattle.gr_route.specs.declared.intake_rule.Joined.{Joined}
 use Rattle.gr_route.specs.declared.intake_rule.IntakeView.{IntakeView}
-use Rattle.gr_route.specs.Fronts.{IsStreamFront, StartsWith}
+use Rattle.gr_route.specs.Fronts.{IsStreamFront}
 use Rattle.gr_route.specs.IntakeRule.{FitsJoined, FitsSeat, FitsTaker, Pops, Pushes, SeatLearns, SeatsAgree, TakerLearns, after_join, after_split, events_of, first_view, joined_from, no_sizes, seat_of, spent_view, taker_of}
-use Rattle.gr_route.specs.IntakeSeats.{IsDelivery, IsNext}
+use Rattle.gr_route.specs.IntakeSeats.{IsDelivered, IsDelivery, IsNext, Seat, Taker}
 use Rattle.gr_route.proofs.FrontLemmas.{front_front, front_nil, front_push, next_ok, next_unended, next_room, nil_front, not_nil}
 use Rattle.gr_route.proofs.GroupLemmas.{by_place, changed, changed_else, changed_here, events_append, events_else, events_here}
 use Rattle.gr_route.proofs.Views.{Each, each_one, each_set, each_snoc, held, none_holds, same_holder}
@@ -80,7 +80,7 @@ pushes n pass g size l e ok unended room items views _ h at =
                 o.0,
                 o.1,
                 o.2,
-                All-weaker (FitsJoined h.holder h.sent h.size) (FitsJoined h.holder sent h.size) (λ b t. (t.0, t.1 ∙ sym (else b.group (λ same. held mine.0 (ap h.holder (sym same) ∙ t.0))), t.2)) u.joined o.3,
+                All-weaker (FitsJoined h.holder h.sent h.size) (FitsJoined h.holder sent h.size) (λ b t. (t.0, t.1 ∙ sym (else b.group (λ same. held mine.0 (ap h.holder (sym same) ∙ t.0))), t.2, t.3)) u.joined o.3,
               )),
             ));
       },
@@ -99,7 +99,7 @@ learned holder sent size popped items p s js queued fronts unseated same sizes b
     let e : (g : ℕ) → events_of g (p ++ items) ≡ sent g = λ g. ap (λ k. events_of g (k ++ items)) same ∙ queued g in (
       (λ g. subst (λ (y : ℕ × List Event). IsStreamFront y.0 y.1) (λ i. (sym (sizes g) i, sym (e g) i)) (fronts g)),
       (λ g none. e g ∙ (unseated g (sym (sizes g) ∙ none)).1),
-      All-weaker (FitsJoined holder sent size) (λ j. j.pushed ≡ events_of j.group (p ++ items)) (λ j t. t.1 ∙ sym (e j.group)) js back,
+      All-weaker (FitsJoined holder sent size) (λ j. (j.pushed ≡ events_of j.group (p ++ items)) × (j.items ≡ slice_index s j.group)) (λ j t. (t.1 ∙ sym (e j.group), t.2 ∙ sym (sizes j.group))) js back,
     )
 
 pops : (pass : ℕ) (p : List Sent) (s : List ℕ) (js : List Joined) → queue.Pops SeatsAgree pass (taker_of p s js) (Pops (taker_of p s js))
@@ -143,7 +143,7 @@ splits pass g n p s js within vacant some_items items views h at =
     let holder : ℕ → seat.Option ℕ = changed h.holder g (seat.some (length vs)) in
     let size : ℕ → ℕ = changed h.size g n in
     let F : ℕ → IntakeView → Type 0 = Fits holder h.sent size h.taker h.popped in
-    let apart : (j : Joined) → FitsJoined h.holder h.sent h.size j → j.group ≢ g = λ j t same. t.2 (ap h.size same ∙ (sym (mine.2 g) ∙ vacant)) in
+    let apart : (j : Joined) → FitsJoined h.holder h.sent h.size j → j.group ≢ g = λ j t same. t.3 (ap h.size same ∙ (sym (mine.2 g) ∙ vacant)) in
     record {
       taker = h.taker;
       holder = holder;
@@ -168,7 +168,7 @@ splits pass g n p s js within vacant some_items items views h at =
                     (λ same. ap (λ m. get_or (set s g n) m 0) same ∙ get_or-set_same s g n 0 within ∙ sym (changed_here h.size g n k same))
                     (λ other. get_or-set_other s g k n 0 other ∙ mine.2 k ∙ sym (changed_else h.size g n k other))),
                 All-weaker (FitsJoined h.holder h.sent h.size) (FitsJoined holder h.sent size)
-                    (λ j t. let other = apart j t in (changed_else h.holder g (seat.some (length vs)) j.group other ∙ t.0, t.1, λ z. t.2 (sym (changed_else h.size g n j.group other) ∙ z))) js mine.3,
+                    (λ j t. let other = apart j t in (changed_else h.holder g (seat.some (length vs)) j.group other ∙ t.0, t.1, t.2 ∙ sym (changed_else h.size g n j.group other), λ z. t.3 (sym (changed_else h.size g n j.group other) ∙ z))) js mine.3,
               )),
             ),
             (λ same. absurd (true≢false (ap (λ (y : IntakeView). y.pushes) same))),
@@ -209,8 +209,8 @@ joins pass p s js other g n l items views h at two at' =
         mine.1,
         mine.2,
         All-push (FitsJoined holder h.sent h.size) js (joined_from u)
-            (All-weaker (FitsJoined h.holder h.sent h.size) (FitsJoined holder h.sent h.size) (λ j t. (freed j.group t.0, t.1, t.2)) js mine.3)
-            (changed_here h.holder g seat.none g refl, theirs.1, λ z. held theirs.0 (h.unseated g z).0),
+            (All-weaker (FitsJoined h.holder h.sent h.size) (FitsJoined holder h.sent h.size) (λ j t. (freed j.group t.0, t.1, t.2, t.3)) js mine.3)
+            (changed_here h.holder g seat.none g refl, theirs.1, theirs.2, λ z. held theirs.0 (h.unseated g z).0),
       )),
     ))
     (λ j y diff there apart. let old = h.fits j y there in (
@@ -260,8 +260,12 @@ delivery : (q : TableId) (p : List Sent) (s : List ℕ) (js : List Joined) (item
 delivery q p s js items t = record {
   streams = λ g. front_front (slice_index s g) (events_of g p) (events_of g items) (subst (IsStreamFront (slice_index s g)) (events_append g p items) (t.0 g));
   unseated = λ g none. nil_front (events_of g p) (events_of g items) (sym (events_append g p items) ∙ t.1 g none);
-  fronts = All-weaker (λ j. j.pushed ≡ events_of j.group (p ++ items)) (λ j. StartsWith j.pushed (events_of j.group p) × IsStreamFront (slice_index s j.group) j.pushed)
-      (λ j e. ((events_of j.group items, e ∙ events_append j.group p items), subst (IsStreamFront (slice_index s j.group)) (sym e) (t.0 j.group))) js t.2;
+  joined = All-weaker (λ j. (j.pushed ≡ events_of j.group (p ++ items)) × (j.items ≡ slice_index s j.group)) (IsDelivered record { queue = q; popped = p; sizes = s; joined = js })
+      (λ j e. record {
+        items = e.1;
+        stream = subst (λ (y : ℕ × List Event). IsStreamFront y.0 y.1) (λ i. (sym e.1 i, sym e.0 i)) (t.0 j.group);
+        front = (events_of j.group items, e.0 ∙ events_append j.group p items);
+      }) js t.2;
 }
 
 pub delivery_as : (q : TableId) (v : IntakeView) (s : List ℕ) (items : List Sent) → v ≡ taker_of v.popped s v.joined → TakerLearns v items → IsDelivery record { queue = q; popped = v.popped; sizes = s; joined = v.joined }
@@ -271,12 +275,13 @@ All-last : {X : Type 0} (P : X → Type 0) (xs : List X) (x : X) → All P (xs +
 All-last P [] x h = All-head P x [] h
 All-last P (y ∷ ys) x h = All-last P ys x (All-tail P y (ys ++ x ∷ []) h)
 
-pub front_as : (v u w : IntakeView) (g size : ℕ) (items : List Sent) → u ≡ seat_of g size u.pushed → w ≡ after_join v u → TakerLearns w items → StartsWith u.pushed (events_of g w.popped)
-front_as v u w g size items is now t =
-    let P : Joined → Type 0 = λ b. b.pushed ≡ events_of b.group (w.popped ++ items) in
-    let last : w.joined ≡ v.joined ++ joined_from u ∷ [] = ap (λ (y : IntakeView). y.joined) now in
-    let e : u.pushed ≡ events_of u.group (w.popped ++ items) = All-last P v.joined (joined_from u) (subst (All P) last t.2) in
-    (events_of g items, e ∙ ap (λ k. events_of k (w.popped ++ items)) (ap (λ (y : IntakeView). y.group) is) ∙ events_append g w.popped items)
+-- of the seat that was joined back last
+pub delivered_last : (t : Taker) (k : Seat) (q : TableId) (v u w : IntakeView) (g n : ℕ) → u ≡ seat_of g n u.pushed → w ≡ after_join v u → t.joined ≡ w.joined → record { queue = q; group = g; items = n; pushed = u.pushed } ≡ k → IsDelivery t
+    → IsDelivered t record { group = k.group; items = k.items; pushed = k.pushed }
+delivered_last t k q v u w g n is now same seen d =
+    subst (λ (y : Seat). IsDelivered t record { group = y.group; items = y.items; pushed = y.pushed }) seen
+    (subst (λ (y : Joined). IsDelivered t y) (ap joined_from is)
+    (All-last (IsDelivered t) v.joined (joined_from u) (subst (All (IsDelivered t)) (same ∙ ap (λ (y : IntakeView). y.joined) now) d.joined)))
 
 next : (q : TableId) (p : List Sent) (s : List ℕ) (js : List Joined) (x : Sent) (items : List Sent) → TakerLearns (taker_of (p ++ x ∷ []) s js) items → IsNext record { queue = q; popped = p; sizes = s; joined = js } x
 next q p s js x items t =

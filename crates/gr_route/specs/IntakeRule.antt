@@ -41,7 +41,7 @@ abbrev pub after_split : ℕ → ℕ → IntakeView → IntakeView
 after_split group items v = taker_of v.popped (slice_set v.sizes group items) v.joined
 
 abbrev pub joined_from : IntakeView → Joined
-joined_from w = record { group = w.group; pushed = w.pushed }
+joined_from w = record { group = w.group; items = w.items; pushed = w.pushed }
 
 -- the taker's view after it took back a group's seat
 abbrev pub after_join : IntakeView → IntakeView → IntakeView
@@ -56,7 +56,7 @@ module _ (holder : ℕ → seat.Option ℕ) (sent : ℕ → List Event) (size : 
 
   -- a seat that was joined back pushed all that was sent of its group
   abbrev pub FitsJoined : Joined → Type 0
-  FitsJoined j = (holder j.group ≡ seat.none) × (j.pushed ≡ sent j.group) × (size j.group ≢ 0)
+  FitsJoined j = (holder j.group ≡ seat.none) × (j.pushed ≡ sent j.group) × (j.items ≡ size j.group) × (size j.group ≢ 0)
 
   -- there is one taker, and it knows what was popped, which groups have had a seat, and what the seats that were joined back pushed
   abbrev pub FitsTaker : ℕ → List Sent → ℕ → IntakeView → Type 0
@@ -89,7 +89,7 @@ abbrev pub TakerLearns : IntakeView → List Sent → Type 0
 TakerLearns v items =
     ((g : ℕ) → IsStreamFront (slice_index v.sizes g) (events_of g (v.popped ++ items)))
     × ((g : ℕ) → slice_index v.sizes g ≡ 0 → events_of g (v.popped ++ items) ≡ [])
-    × All (λ j. j.pushed ≡ events_of j.group (v.popped ++ items)) v.joined
+    × All (λ j. (j.pushed ≡ events_of j.group (v.popped ++ items)) × (j.items ≡ slice_index v.sizes j.group)) v.joined
 
 -- a pop adds to what the taker popped
 abbrev pub Pops : IntakeView → Sent → IntakeView → Type 0

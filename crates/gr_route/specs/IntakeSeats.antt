@@ -32,11 +32,17 @@ pub record Taker : Type 0 where
 abbrev pub popped_of : Taker → ℕ → List Event
 popped_of t g = events_of g t.popped
 
--- of each group, what was popped is the front of a stream, and the front of what its seat pushed, where that was joined back
+-- a seat that was joined back had the items that its group has; what it pushed is the front of a stream, and begins with what was popped of the group
+pub record IsDelivered (t : Taker) (j : Joined) : Type 0 where
+  pub items : j.items ≡ slice_index t.sizes j.group
+  pub stream : IsStreamFront j.items j.pushed
+  pub front : StartsWith j.pushed (popped_of t j.group)
+
+-- what was popped of a group is the front of a stream, and of a group that has had no seat nothing was popped
 pub record IsDelivery (t : Taker) : Type 0 where
   pub streams : (g : ℕ) → IsStreamFront (slice_index t.sizes g) (popped_of t g)
   pub unseated : (g : ℕ) → slice_index t.sizes g ≡ 0 → popped_of t g ≡ []
-  pub fronts : All (λ j. StartsWith j.pushed (popped_of t j.group) × IsStreamFront (slice_index t.sizes j.group) j.pushed) t.joined
+  pub joined : All (IsDelivered t) t.joined
 
 -- the next event to be popped is one of a group that has had a seat, and may follow what was popped of the group
 pub record IsNext (t : Taker) (s : Sent) : Type 0 where

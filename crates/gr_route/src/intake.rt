@@ -4,14 +4,14 @@
 //! Invariant: of each group, what was popped, followed by what is queued, is what its seat pushed (docs/QUEUES.md, "The
 //! intake queue"). What a seat knows is in its pass, a value without bytes, which the queue's rule keeps true.
 
-ghost use Rattle.std.specs.Prelude.{◌≡◌, ◌≢◌, ◌<◌, ◌≤◌, [], ◌∷◌, ◌++◌, length, slice_index, slice_set, IfOk, IfErr, OnOk, IfSome, IfNone, IsFalse};
+ghost use Rattle.std.specs.Prelude.{◌≡◌, ◌≢◌, ◌<◌, ◌≤◌, [], ◌∷◌, ◌++◌, length, slice_index, slice_set, IfOk, IfErr, OnOk, IfSome, IfNone, IsTrue, IsFalse};
 ghost use Rattle.crossbeam_queue.specs.Fifo.{Forks, Held};
 ghost use Rattle.crossbeam_queue.specs.Passes.{view as known, IsSamePass, IsPassOf};
 ghost use Rattle.gr_model.specs.Events.{IsEventOk};
 ghost use Rattle.gr_model.specs.Streams.{is_complete};
-ghost use Rattle.gr_route.specs.Fronts.{EndsWith, StartsWith};
+ghost use Rattle.gr_route.specs.Fronts.{EndsWith};
 ghost use Rattle.gr_route.specs.IntakeRule.{SeatsAgree, after_split, events_of, no_sizes, seat_of};
-ghost use Rattle.gr_route.specs.IntakeSeats.{IsDelivery, IsNext, IsQueued, popped_of};
+ghost use Rattle.gr_route.specs.IntakeSeats.{IsDelivered, IsDelivery, IsNext, IsQueued, popped_of};
 
 use crate::intake_rule::{
     IntakeRule, IntakeView, JoinStep, NamesGroup, PopStep, PushStep, SplitStep,
@@ -141,6 +141,7 @@ impl<A: Allocator + Copy> Intake<A> {
 
 impl<A: Allocator> Intake<A> {
     /// The seat of a work-group with so many items, or `None` where the group has had a seat.
+    #[tactic(auto, using(crate::proofs::IntakeSteps::splits_as))]
     pub fn split(&self, taker: &mut TakerSeat, group: u16, items: u16) -> Option<IntakeSeat>
         requires queue { taker.old.queue ≡ self.now.queue }
         requires group { group < MOST_GROUPS }
@@ -206,12 +207,16 @@ impl<A: Allocator> Intake<A> {
         self.queue.pop_as::<PopStep, R>(rt, &mut taker.pass)
     }
 
-    /// Takes a work-group's seat back, and with it the list of what it pushed.
+    /// Takes a work-group's seat back, and with it the list of what it pushed. That begins with what was popped of the
+    /// group, and is no more than it where the end was popped.
     pub fn join_back(&self, taker: &mut TakerSeat, seat: IntakeSeat)
         requires taker { taker.old.queue ≡ self.now.queue }
         requires seat { seat.queue ≡ self.now.queue }
-        ensures joined { taker.new ≡ record taker.old { joined = taker.old.joined ++ record { group = seat.group; pushed = seat.pushed } ∷ [] } }
-        ensures front { StartsWith seat.pushed (popped_of taker.new seat.group) }
+        ensures joined { taker.new ≡ record taker.old { joined = taker.old.joined ++ record { group = seat.group; items = seat.items; pushed = seat.pushed } ∷ [] } }
+
+        ensures delivered { IsDelivered taker.new record { group = seat.group; items = seat.items; pushed = seat.pushed } }
+        ensures whole { IsTrue (is_complete (popped_of taker.new seat.group)) → popped_of taker.new seat.group ≡ seat.pushed }
+
         ensures delivery { IsDelivery taker.new }
     {
         let IntakeSeat {

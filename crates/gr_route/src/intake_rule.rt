@@ -9,9 +9,10 @@ use gr_model::event::Event;
 use std::collections::LinkedList;
 use std::marker::{Brand, PhantomData};
 
-/// What a work-group's seat had pushed when it was joined back. Contracts alone speak of it.
+/// A work-group's seat that was joined back, and what it had pushed. Contracts alone speak of it.
 pub struct Joined {
     pub group: u16,
+    pub items: u16,
     pub pushed: LinkedList<Event>,
 }
 

@@ -3,7 +3,7 @@
 //! Invariant: the seat is the group's, in the sender's queue; the count is the length of what it pushed, and the sender is
 //! closed exactly where that ends in an end; one of the records that the stream may have is kept for the end.
 
-ghost use Rattle.std.specs.Prelude.{◌≡◌, ◌+◌, ◌<◌, ◌≤◌, [], ◌∷◌, ◌++◌, length, IfOk, IfErr, OnOk, OnErr, IsTrue, IsFalse};
+ghost use Rattle.std.specs.Prelude.{◌≡◌, ◌+◌, ◌<◌, ◌≤◌, [], ◌∷◌, ◌++◌, length, IfOk, IfErr, OnOk, OnErr, MatchOption, IsTrue, IsFalse};
 ghost use Rattle.std.specs.Arc.{arc_value};
 ghost use Rattle.gr_model.specs.Events.{IsEventOk, is_end};
 ghost use Rattle.gr_model.specs.Streams.{is_complete};
@@ -128,6 +128,25 @@ impl<A: Allocator> Sender<A> {
         }
     }
 
+    /// Why an event is refused before the queue is asked: the first cause that is there.
+    fn refusal(&self, event: &Event) -> Option<SendError>
+        ensures { MatchOption result (MaySend self.now event.now) (IsRefusal self.now event.now) }
+    {
+        if self.closed {
+            return Some(SendError::Closed);
+        }
+        if event.item >= self.items {
+            return Some(SendError::UnknownItem);
+        }
+        if event.kind.is_end() || !event_ok(event, self.items) {
+            return Some(SendError::BadEvent);
+        }
+        if self.sent + 1 >= self.records {
+            return Some(SendError::StreamFull);
+        }
+        None
+    }
+
     /// Sends an event.
     ///
     /// # Errors
@@ -139,19 +158,10 @@ impl<A: Allocator> Sender<A> {
         ensures unchanged { OnErr result (self.new ≡ self.old) }
         ensures refused { IfErr result (λ error. IsRefusal self.old event error) }
     {
-        if self.closed {
-            return Err(SendError::Closed);
+        match self.refusal(&event) {
+            Some(error) => Err(error),
+            None => self.push(rt, event),
         }
-        if event.item >= self.items {
-            return Err(SendError::UnknownItem);
-        }
-        if event.kind.is_end() || !event_ok(&event, self.items) {
-            return Err(SendError::BadEvent);
-        }
-        if self.sent + 1 >= self.records {
-            return Err(SendError::StreamFull);
-        }
-        self.push(rt, event)
     }
 
     /// Sends the end of the stream, with the mark that says whether the stream was cut.
