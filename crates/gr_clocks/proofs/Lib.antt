@@ -1,0 +1,4 @@
+pub mod RowLemmas
+pub mod CountLemmas
+pub mod TableLemmas
+pub mod StepLemmas

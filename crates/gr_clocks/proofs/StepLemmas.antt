@@ -1,0 +1,56 @@
+-- A snapshot's clock is the clock that its item then has: two clocks of one shape with the same counts are the same.
+use Rattle.std.proofs.Common.{◌≡◌, ◌≢◌, ℕ, suc, List, [], ◌∷◌, length, refl, sym, ◌∙◌, ap, subst}
+use Rattle.std.proofs.lemmas.List.{ext_get_or}
+use Rattle.gr_model.specs.declared.event.Space.{Space}
+use Rattle.gr_model.specs.declared.event.Space.TheVariants.{Global, Local}
+use Rattle.gr_model.specs.declared.event.Scope.{Scope}
+use Rattle.gr_model.specs.declared.event.ItemId.{ItemId}
+use Rattle.gr_model.specs.declared.event.Word.{Word}
+use Rattle.gr_model.specs.Access.{memory_of}
+use Rattle.gr_clocks.specs.Counts.{Counts, count_of, sizes_of, IsTick, IsJoin}
+use Rattle.gr_clocks.specs.Tables.{ClockTable, item_of, AreZero, IsTickOfJoin}
+use Rattle.gr_clocks.specs.ItemClocks.{ItemClocks, clocks_in, clock_in, AreNew, Ticks, ReleaseClock, release_of, Acquires, clocks_of}
+use Rattle.gr_clocks.proofs.TableLemmas.{tick_of_join}
+
+same_counts : (c d : Counts) → sizes_of c ≡ sizes_of d → ((j : ItemId) → count_of c j ≡ count_of d j) → c ≡ d
+same_counts [] [] sizes counts = refl
+same_counts [] (y ∷ d) sizes counts = cc
+same_counts (x ∷ c) [] sizes counts = cc
+same_counts (x ∷ c) (y ∷ d) sizes counts =
+    let size : length x ≡ length y = cc in
+    let first : x ≡ y = ext_get_or 0 x y size (λ i within. counts (item_of 0 i)) in
+    let rest : sizes_of c ≡ sizes_of d = cc in
+    let others : c ≡ d = same_counts c d rest (λ j. counts (item_of (suc j.group) j.item)) in
+    cc
+
+same_ticks : (before : Counts) (i : ItemId) (first second : Counts) → IsTick before i first → IsTick before i second → first ≡ second
+same_ticks before i first second t u = same_counts first second (t.shape ∙ sym u.shape) (λ j. t.counts j ∙ sym (u.counts j))
+
+same_steps : (mine theirs : Counts) (i : ItemId) (first second : Counts) → IsTickOfJoin mine theirs i first → IsTickOfJoin mine theirs i second → first ≡ second
+same_steps mine theirs i first second t u = same_counts first second (t.shape ∙ sym u.shape) (λ j. t.counts j ∙ sym (u.counts j))
+
+-- what a release leaves has the clock that ticked as the item's did
+module _ (old new : ItemClocks) (i : ItemId) (word : Word) (scope : Scope) (m : Space) (copied : Counts) (is_memory : m ≡ memory_of word) (is_copy : copied ≡ clock_in old m i) where
+  left : (raised : Counts) → raised ≡ clock_in new m i → record { word = word; scope = scope; clock = raised } ≡ release_of new i word scope
+  left raised is =
+      let clock : raised ≡ clock_in new (memory_of word) i = is ∙ ap (λ (n : Space). clock_in new n i) is_memory in
+      ap (λ (c : Counts). let r : ReleaseClock = record { word = word; scope = scope; clock = c } in r) clock
+
+  pub release_left : (raised : Counts) → Ticks old i new → IsTick copied i raised → record { word = word; scope = scope; clock = raised } ≡ release_of new i word scope
+  release_left raised ticks tick = left raised (same_ticks (clock_in old m i) i raised (clock_in new m i) (subst (λ (x : Counts). IsTick x i raised) is_copy tick) (ticks.ticks m).item)
+
+  module _ (s : ReleaseClock) (acquires : Acquires old i s new) where
+    pub other_left : (raised : Counts) → m ≢ memory_of s.word → IsTick copied i raised → record { word = word; scope = scope; clock = raised } ≡ release_of new i word scope
+    other_left raised other tick = left raised (same_ticks (clock_in old m i) i raised (clock_in new m i) (subst (λ (x : Counts). IsTick x i raised) is_copy tick) (acquires.ticks m other).item)
+
+    pub joined_left : (joined raised : Counts) → m ≡ memory_of s.word → IsJoin copied s.clock joined → IsTick joined i raised → record { word = word; scope = scope; clock = raised } ≡ release_of new i word scope
+    joined_left joined raised here join tick =
+        let step : IsTickOfJoin (clock_in old m i) s.clock i raised = subst (λ (x : Counts). IsTickOfJoin x s.clock i raised) is_copy (tick_of_join copied s.clock joined i raised join tick) in
+        let learned : IsTickOfJoin (clock_in old m i) s.clock i (clock_in new m i) = subst (λ (n : Space). IsTickOfJoin (clock_in old n i) s.clock i (clock_in new n i)) (sym here) acquires.learns.item in
+        left raised (same_steps (clock_in old m i) s.clock i raised (clock_in new m i) step learned)
+
+pub are_new : (sizes : List ℕ) (global local : ClockTable) → AreZero sizes global → AreZero sizes local → AreNew sizes (clocks_of global local)
+are_new sizes global local g l = record {
+  shape = g.shape;
+  clocks = λ m. elim m as (λ n. AreZero sizes (clocks_in (clocks_of global local) n)) [ Global ↦ g | Local ↦ l ];
+}

@@ -1,0 +1,52 @@
+-- What a vector clock counts: of each work-item, a number of its events.
+-- Source: docs/MODEL.md, "Clocks". After Mattern, Virtual Time and Global States of Distributed Systems, 1988.
+use Rattle.std.specs.Prelude.{◌≡◌, ℕ, ◌+◌, ◌<◌, ◌≤◌, max, slice_index, All, List, map, length, if◌then◌else◌}
+use Rattle.gr_model.specs.declared.event.ItemId.{ItemId}
+use Rattle.gr_clocks.specs.declared.clock.TheConstants.{LARGEST_COUNT}
+use Rattle.gr_clocks.specs.Rows.{entry_of, same_item, AreStarts}
+
+-- a clock: for each group, the counts of its items
+abbrev pub Counts : Type 0
+Counts = List (List ℕ)
+
+-- the count of an item, or 0 where the clock lacks the item
+abbrev pub count_of : Counts → ItemId → ℕ
+count_of c i = entry_of 0 c i
+
+-- how many items of each group a clock counts
+abbrev pub sizes_of : Counts → List ℕ
+sizes_of c = map length c
+
+-- what a tick of item i adds to the count of item j
+abbrev pub tick_at : ItemId → ItemId → ℕ
+tick_at i j = if same_item i j then 1 else 0
+
+-- the clock of a shape that has counted nothing
+pub record IsZero (sizes : List ℕ) (c : Counts) : Type 0 where
+  pub shape : sizes_of c ≡ sizes
+  pub zero : (j : ItemId) → count_of c j ≡ 0
+
+-- after counts one more event of item i than before
+pub record IsTick (before : Counts) (i : ItemId) (after : Counts) : Type 0 where
+  pub shape : sizes_of after ≡ sizes_of before
+  pub counts : (j : ItemId) → count_of after j ≡ count_of before j + tick_at i j
+
+-- joined has the greater count of each item
+pub record IsJoin (mine theirs joined : Counts) : Type 0 where
+  pub shape : sizes_of joined ≡ sizes_of mine
+  pub counts : (j : ItemId) → count_of joined j ≡ max (count_of mine j) (count_of theirs j)
+
+-- ---- counts in a list
+
+-- a list of counts, and the starts of its groups
+pub record AreCounts (starts counts : List ℕ) : Type 0 where
+  pub whole : AreStarts starts (length counts)
+  pub limit : All (λ n. n ≤ LARGEST_COUNT) counts
+
+-- now has the greater count at each place below this one, and mine from it on
+pub record IsJoinBelow (below : ℕ) (mine theirs now : List ℕ) : Type 0 where
+  pub size : length now ≡ length mine
+  pub others : length theirs ≡ length mine
+  pub greater : (p : ℕ) → p < below → slice_index now p ≡ max (slice_index mine p) (slice_index theirs p)
+  pub same : (p : ℕ) → below ≤ p → slice_index now p ≡ slice_index mine p
+  pub limit : All (λ n. n ≤ LARGEST_COUNT) now

@@ -1,0 +1,84 @@
+-- The clocks of a launch's work-items, one in each memory, and what an event does to them.
+-- Source: docs/MODEL.md, "Clocks".
+use Rattle.std.specs.Prelude.{◌≡◌, ◌≢◌, ℕ, Bool, List, map, length}
+use Rattle.gr_model.specs.declared.event.Space.{Space}
+use Rattle.gr_model.specs.declared.event.Space.TheVariants.{Global, Local}
+use Rattle.gr_model.specs.declared.event.Scope.{Scope}
+use Rattle.gr_model.specs.declared.event.ItemId.{ItemId}
+use Rattle.gr_model.specs.declared.event.Word.{Word}
+use Rattle.gr_model.specs.Access.{memory_of}
+use Rattle.gr_model.specs.Shapes.{IsShape}
+use Rattle.gr_clocks.specs.Counts.{Counts}
+use Rattle.gr_clocks.specs.Tables.{ClockTable, clock_at, AreZero, IsFull, TicksItem, IsGroupFull, LearnsAndTicks, MeetsGroup}
+
+-- the sizes of the groups, and the clocks of their items in each memory
+pub record ItemClocks : Type 0 where
+  pub sizes : List ℕ
+  pub global : ClockTable
+  pub local : ClockTable
+
+abbrev pub clocks_in : ItemClocks → Space → ClockTable
+clocks_in v Global = v.global
+clocks_in v Local = v.local
+
+-- the clock of an item in a memory
+abbrev pub clock_in : ItemClocks → Space → ItemId → Counts
+clock_in v m i = clock_at (clocks_in v m) i
+
+-- new clocks of a shape, which have counted nothing
+pub record AreNew (sizes : List ℕ) (v : ItemClocks) : Type 0 where
+  pub shape : v.sizes ≡ sizes
+  pub clocks : (m : Space) → AreZero sizes (clocks_in v m)
+
+-- an item's count of its own events is as great as it may be, in one of the memories
+abbrev pub IsSpent : ItemClocks → ItemId → Type 0
+IsSpent v i = (m : Space) × IsFull (clocks_in v m) i
+
+-- some item of a group is
+abbrev pub IsGroupSpent : ItemClocks → ℕ → Type 0
+IsGroupSpent v group = (m : Space) × IsGroupFull (clocks_in v m) group
+
+-- ---- events of one item
+
+-- the item ticks in both memories
+pub record Ticks (old : ItemClocks) (i : ItemId) (new : ItemClocks) : Type 0 where
+  pub shape : new.sizes ≡ old.sizes
+  pub ticks : (m : Space) → TicksItem (clocks_in old m) i (clocks_in new m)
+
+-- what a release leaves: its word and scope, and its item's clock in that word's memory
+pub record ReleaseClock : Type 0 where
+  pub word : Word
+  pub scope : Scope
+  pub clock : Counts
+
+-- what a release of the item leaves, where these are the clocks after it
+abbrev pub release_of : ItemClocks → ItemId → Word → Scope → ReleaseClock
+release_of v i word scope = record { word = word; scope = scope; clock = clock_in v (memory_of word) i }
+
+-- the item learns what a release left, in the memory of the release's word alone, and ticks in both
+pub record Acquires (old : ItemClocks) (i : ItemId) (s : ReleaseClock) (new : ItemClocks) : Type 0 where
+  pub shape : new.sizes ≡ old.sizes
+  pub learns : LearnsAndTicks (clocks_in old (memory_of s.word)) i s.clock (clocks_in new (memory_of s.word))
+  pub ticks : (m : Space) → m ≢ memory_of s.word → TicksItem (clocks_in old m) i (clocks_in new m)
+
+-- ---- barriers
+
+-- whether a barrier with these flags orders a memory
+abbrev pub orders : Bool → Bool → Space → Bool
+orders global local Global = global
+orders global local Local = local
+
+-- each item of the group ticks in both memories, and learns in each flagged one what all of them count
+pub record Meets (old : ItemClocks) (group : ℕ) (global local : Bool) (new : ItemClocks) : Type 0 where
+  pub shape : new.sizes ≡ old.sizes
+  pub groups : (m : Space) → MeetsGroup (clocks_in old m) group (orders global local m) (clocks_in new m)
+
+-- ---- two tables
+
+-- the clocks of one shape's items in both memories
+pub record AreOfOneShape (global local : ClockTable) : Type 0 where
+  pub shape : IsShape (map length global)
+  pub same : map length local ≡ map length global
+
+abbrev pub clocks_of : ClockTable → ClockTable → ItemClocks
+clocks_of global local = record { sizes = map length global; global = global; local = local }

@@ -1,0 +1,253 @@
+//! The clocks of a launch's work-items, one for each memory, and what an event of an item does to them.
+//!
+//! Each event of an item ticks both of its clocks. An acquire first learns what the release that it takes its value from
+//! left, in the memory of the release's word alone. A barrier gives each item of its group what all of them count, in
+//! the memories that it flags (docs/MODEL.md, "Clocks"). A call that is refused changes no clock.
+
+ghost use Rattle.std.specs.Prelude.{◌≡◌, ◌↔◌, ◌<◌, ◌⊎◌, ◌≢◌, IsTrue, IfOk, OnOk, OnErr, IsOkUnless, length};
+ghost use Rattle.gr_clocks.specs.declared.clock.ClockError.TheVariants.{Memory as OutOfMemory};
+ghost use Rattle.gr_model.specs.Access as model;
+ghost use Rattle.gr_model.specs.Shapes.{HasItem, IsShape};
+ghost use Rattle.gr_clocks.specs.Counts.{count_of, sizes_of};
+ghost use Rattle.gr_clocks.specs.ItemClocks.{clock_in, AreNew, IsSpent, IsGroupSpent, Ticks, release_of, Acquires, Meets};
+
+use crate::clock::{Clock, ClockError, LARGEST_COUNT};
+use crate::snapshot::Snapshot;
+use crate::table::Table;
+use gr_model::event::{ItemId, Scope, Space, Word};
+use gr_model::shape::Shape;
+use std::alloc::{Allocator, Global};
+use std::marker::Model;
+
+/// The clocks of a launch's work-items. Contracts see the sizes of the work-groups, and in each memory for each group the
+/// clocks of its items.
+#[derive(Drop)]
+#[derive_where(Debug)]
+pub struct Clocks<A: Allocator = Global> {
+    global: Table<A>,
+    local: Table<A>,
+}
+
+impl<A: Allocator> Model for Clocks<A> {
+    ghost use Rattle.gr_clocks.specs.ItemClocks.{ItemClocks, AreOfOneShape, clocks_of};
+
+    ghost Value = { ItemClocks };
+
+    ghost view = { λ c. clocks_of c.global c.local };
+
+    ghost invariant = { λ c. AreOfOneShape c.global c.local };
+}
+
+/// The memory of a word.
+fn memory_of(word: Word) -> Space
+    ensures { result ≡ model.memory_of word }
+{
+    match word {
+        Word::Global(_) => Space::Global,
+        Word::Local(_, _) => Space::Local,
+    }
+}
+
+/// Whether a word is of a memory.
+fn is_in(word: Word, memory: Space) -> bool
+    ensures { IsTrue result ↔ (memory ≡ model.memory_of word) }
+{
+    memory_of(word) == memory
+}
+
+impl<A: Allocator + Copy> Clocks<A> {
+    /// The clocks of a shape's items, which have counted nothing.
+    ///
+    /// # Errors
+    /// `Memory`.
+    pub fn new(alloc: A, shape: &Shape<A>) -> Result<Clocks<A>, ClockError>
+        ensures zero { IfOk result (λ c. AreNew shape.now c) }
+        ensures memory { IsOkUnless result ClockError.Memory }
+    {
+        let _groups = shape.groups();
+        let global = Table::new(alloc, shape)?;
+        let local = Table::new(alloc, shape)?;
+        Ok(Clocks { global, local })
+    }
+}
+
+impl<A: Allocator> Clocks<A> {
+    /// The clock of an item in a memory.
+    pub fn clock_of(&self, item: ItemId, space: Space) -> &Clock<A>
+        requires { HasItem self.now.sizes item }
+        ensures clock { result.now ≡ clock_in self.now space item }
+        ensures shape { sizes_of result.now ≡ self.now.sizes }
+    {
+        match space {
+            Space::Global => self.global.clock_of(item),
+            Space::Local => self.local.clock_of(item),
+        }
+    }
+
+    /// Whether the item's own count can't grow in one of the memories.
+    fn is_spent(&self, item: ItemId) -> bool
+        requires { HasItem self.now.sizes item }
+        ensures { IsTrue result ↔ IsSpent self.now item }
+    {
+        self.global.is_spent(item) || self.local.is_spent(item)
+    }
+
+    /// Counts one more event of an item whose counts can grow.
+    fn tick(&mut self, item: ItemId)
+        requires item { HasItem self.old.sizes item }
+        requires room { ¬ IsSpent self.old item }
+        ensures { Ticks self.old item self.new }
+    {
+        self.global.tick(item);
+        self.local.tick(item);
+    }
+
+    /// Gives an item in the memory of a release's word what the release left, and counts one more event of it, where
+    /// there is room.
+    fn learn_and_tick(&mut self, item: ItemId, snapshot: &Snapshot<A>)
+        requires item { HasItem self.old.sizes item }
+        requires shape { sizes_of snapshot.now.clock ≡ self.old.sizes }
+        requires room { ¬ IsSpent self.old item }
+        requires their_room { count_of snapshot.now.clock item ≢ LARGEST_COUNT }
+        ensures { Acquires self.old item snapshot.now self.new }
+    {
+        match memory_of(snapshot.word()) {
+            Space::Global => {
+                self.global.learn_and_tick(item, snapshot.clock());
+                self.local.tick(item);
+            }
+            Space::Local => {
+                self.local.learn_and_tick(item, snapshot.clock());
+                self.global.tick(item);
+            }
+        }
+    }
+
+    /// Counts an event of the item that neither releases nor acquires.
+    ///
+    /// # Errors
+    /// `Spent` where the item has too many events, `Memory`.
+    pub fn access(&mut self, item: ItemId) -> Result<(), ClockError>
+        requires { HasItem self.old.sizes item }
+        ensures ok { OnOk result (Ticks self.old item self.new) }
+        ensures spent { (result ≡ Err ClockError.Spent) ↔ IsSpent self.old item }
+        ensures err { OnErr result (self.new ≡ self.old) }
+    {
+        if self.is_spent(item) {
+            return Err(ClockError::Spent);
+        }
+        self.tick(item);
+        Ok(())
+    }
+
+    /// Counts a release of the item on this word with this scope, and takes its snapshot, the release itself counted.
+    ///
+    /// # Errors
+    /// `Spent` where the item has too many events, `Memory`.
+    pub fn release(
+        &mut self,
+        item: ItemId,
+        word: Word,
+        scope: Scope,
+    ) -> Result<Snapshot<A>, ClockError>
+    where
+        A: Clone,
+        requires { HasItem self.old.sizes item }
+        ensures ok { OnOk result (Ticks self.old item self.new) }
+        ensures snapshot { IfOk result (λ s. s ≡ release_of self.new item word scope) }
+        ensures shape { IfOk result (λ s. sizes_of s.clock ≡ self.new.sizes) }
+        ensures spent { (result ≡ Err ClockError.Spent) ↔ IsSpent self.old item }
+        ensures err { OnErr result (self.new ≡ self.old) }
+    {
+        if self.is_spent(item) {
+            return Err(ClockError::Spent);
+        }
+        let mut clock = self.clock_of(item, memory_of(word)).copy()?;
+        clock.raise(item);
+        self.tick(item);
+        Ok(Snapshot::new(word, scope, clock))
+    }
+
+    /// Counts an acquire of the item, which takes its value from the release of this snapshot.
+    ///
+    /// # Errors
+    /// `Spent` where the item has too many events, or the snapshot counts too many of it; `Memory`.
+    pub fn acquire(&mut self, item: ItemId, snapshot: &Snapshot<A>) -> Result<(), ClockError>
+        requires item { HasItem self.old.sizes item }
+        requires shape { sizes_of snapshot.now.clock ≡ self.old.sizes }
+        ensures ok { OnOk result (Acquires self.old item snapshot.now self.new) }
+        ensures spent { (result ≡ Err ClockError.Spent) ↔ (IsSpent self.old item ⊎ (count_of snapshot.now.clock item ≡ LARGEST_COUNT)) }
+        ensures err { OnErr result (self.new ≡ self.old) }
+    {
+        if self.is_spent(item) || snapshot.clock().is_spent(item) {
+            return Err(ClockError::Spent);
+        }
+        self.learn_and_tick(item, snapshot);
+        Ok(())
+    }
+
+    /// Counts an acquire of the item that is a release too: it takes its value from the release of this snapshot, and
+    /// leaves a snapshot of its own on this word with this scope, the event itself counted.
+    ///
+    /// # Errors
+    /// `Spent` where the item has too many events, or the snapshot counts too many of it; `Memory`.
+    pub fn acquire_release(
+        &mut self,
+        item: ItemId,
+        snapshot: &Snapshot<A>,
+        word: Word,
+        scope: Scope,
+    ) -> Result<Snapshot<A>, ClockError>
+    where
+        A: Clone,
+        requires item { HasItem self.old.sizes item }
+        requires shape { sizes_of snapshot.now.clock ≡ self.old.sizes }
+        ensures ok { OnOk result (Acquires self.old item snapshot.now self.new) }
+        ensures snapshot { IfOk result (λ s. s ≡ release_of self.new item word scope) }
+        ensures shape { IfOk result (λ s. sizes_of s.clock ≡ self.new.sizes) }
+        ensures spent { (result ≡ Err ClockError.Spent) ↔ (IsSpent self.old item ⊎ (count_of snapshot.now.clock item ≡ LARGEST_COUNT)) }
+        ensures err { OnErr result (self.new ≡ self.old) }
+    {
+        if self.is_spent(item) || snapshot.clock().is_spent(item) {
+            return Err(ClockError::Spent);
+        }
+        let memory = memory_of(word);
+        let mut joined = self.clock_of(item, memory).copy()?;
+        if is_in(snapshot.word(), memory) {
+            joined.learn(snapshot.clock());
+        }
+        joined.raise(item);
+        self.learn_and_tick(item, snapshot);
+        Ok(Snapshot::new(word, scope, joined))
+    }
+
+    /// Whether the own count of some item of the group can't grow in one of the memories.
+    fn is_group_spent(&self, group: u16) -> bool
+        requires { group < length self.now.sizes }
+        ensures { IsTrue result ↔ IsGroupSpent self.now group }
+    {
+        self.global.is_group_spent(group) || self.local.is_group_spent(group)
+    }
+
+    /// Counts a barrier that all items of the group meet, with the memories that its flags name.
+    ///
+    /// # Errors
+    /// `Spent` where an item of the group has too many events, `Memory`.
+    pub fn meet(&mut self, group: u16, global: bool, local: bool) -> Result<(), ClockError>
+    where
+        A: Clone,
+        requires { group < length self.old.sizes }
+        ensures ok { OnOk result (Meets self.old group global local self.new) }
+        ensures spent { (result ≡ Err ClockError.Spent) ↔ IsGroupSpent self.old group }
+        ensures err { OnErr result (self.new ≡ self.old) }
+    {
+        if self.is_group_spent(group) {
+            return Err(ClockError::Spent);
+        }
+        let global_room = self.global.room(group, global)?;
+        let local_room = self.local.room(group, local)?;
+        self.global.meet(group, global_room);
+        self.local.meet(group, local_room);
+        Ok(())
+    }
+}

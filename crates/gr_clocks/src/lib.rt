@@ -1,0 +1,10 @@
+//! Vector clocks: for each work-item and each memory, how many events of each work-item happen before now. Nothing here
+//! knows of streams, names or barrier instances.
+#![tactic(auto)]
+
+pub mod access;
+pub mod clock;
+pub mod clocks;
+mod rows;
+pub mod snapshot;
+mod table;
