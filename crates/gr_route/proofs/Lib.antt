@@ -2,3 +2,4 @@ pub mod FrontLemmas
 pub mod GroupLemmas
 pub mod IntakeSteps
 pub mod Views
+pub mod WorkSteps

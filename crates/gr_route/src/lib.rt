@@ -7,3 +7,5 @@ pub mod intake;
 pub mod intake_rule;
 pub mod laws;
 pub mod room;
+pub mod work;
+pub mod work_rule;
