@@ -96,6 +96,7 @@ impl<A: Allocator + Copy> WorkQueue<A> {
 
 impl<A: Allocator> WorkQueue<A> {
     /// The seat that pushes, or `None` where it was split off before.
+    #[tactic(auto, using(crate::proofs::WorkSteps::splits_as))]
     pub fn split(&self, worker: &mut WorkerSeat<A>) -> Option<GiverSeat<A>>
         requires { worker.old.queue ≡ self.now.queue }
 
