@@ -6,3 +6,8 @@ pub mod Meeting
 pub mod Resting
 pub mod StepGrowth
 pub mod NextEvents
+pub mod Deciding
+pub mod DecidedWaits
+pub mod Reached
+pub mod AllGrounded
+pub mod Unmatched
