@@ -15,11 +15,10 @@ use Rattle.gr_model.specs.Streams.{AreComplete, IsEvent, Streams, trace_of}
 use Rattle.gr_model.specs.Waits.{CanGo, IsGrounded, IsPrevious, Stage, Waits, for_arrival, for_meeting, for_previous, for_release}
 use Rattle.gr_model.proofs.Descent.{below_in_item, stage_descends}
 use Rattle.gr_model.proofs.GrowthLaws.{not_both}
-use Rattle.gr_steps.proofs.BarrierPlaces.{barrier_there, moved, same_instance, stands_before, stands_same}
-use Rattle.gr_steps.proofs.DecidedWaits.{settled, standing}
-use Rattle.gr_steps.proofs.Deciding.{IsLeastWithout, all_below}
-use Rattle.gr_steps.proofs.Meeting.{IsBefore-number}
-use Rattle.gr_steps.proofs.Orders.{is_in, there_is}
+use Rattle.gr_steps.proofs.BarrierPlaces.{barrier_there, moved, same_instance, standing, stands_before, stands_same}
+use Rattle.gr_steps.proofs.DecidedWaits.{settled}
+use Rattle.gr_steps.proofs.Deciding.{IsLeastWithout, all_below, by_cases, in_dec}
+use Rattle.gr_steps.proofs.Orders.{number_before, there_is}
 use Rattle.gr_steps.proofs.Reached.{IsClosed, reached, stage_in}
 
 -- the places of an item
@@ -65,7 +64,7 @@ module _ (s : Streams) (complete : AreComplete s) (matched : (e : EventId) → �
 
   -- an event is grounded where all before it are, and, unless it names something, what its instance has it wait for
   comes : (e : EventId) → IsEvent s e → IsPassed e → ((a : Mark) (b d : EventId) → Together s a e b → IsPrevious d b → IsIn all d) → ((a : Mark) (c d : EventId) → IsPrevious c e → Together s a c d → IsIn all d) → IsIn all e
-  comes e there passed arrival meeting = ⊎_elim (λ h. h) (λ away. is.closed e there (go away) (waits away)) (is_in all e)
+  comes e there passed arrival meeting = by_cases (in_dec all e) (λ h. h) (λ away. is.closed e there (go away) (waits away))
     where
       go : (IsIn all e → ⊥) → CanGo s e
       go away = record { release = λ m named. absurd (no_name e there passed away m named); instance = settled s complete e }
@@ -98,7 +97,7 @@ module _ (s : Streams) (complete : AreComplete s) (matched : (e : EventId) → �
     where
       passed : IsPassed d
       passed i lt =
-          let m = IsBefore-number d.index (omega (arith, lt)) in
+          let m = number_before d.index (omega (arith, lt)) in
           let p : EventId = event_of d.at m.0 in
           let stage = h.2 p (for_arrival a d met (record { item = refl; next = m.1 })) in
           ⊎_elim
@@ -113,10 +112,12 @@ module _ (s : Streams) (complete : AreComplete s) (matched : (e : EventId) → �
   -- the first event of an item that is not grounded is a barrier of a convergent instance
   first_held : (e : EventId) → IsEvent s e → IsPassed e → (IsIn all e → ⊥) → StandsConvergent s e
   first_held e there passed away =
-      elim (standing s e) as (λ _. StandsConvergent s e) [
-        | no h ↦ absurd (away (comes_with e there passed (λ a b d met p. absurd (h (met.group, met.instance, met.first)))))
-        | yes h ↦ ⊎_elim (λ c. record { group = h.0; instance = h.1; mark = c.0; stands = h.2; convergent = c.1 }) (λ d. absurd (away (comes_with e there passed (λ a b x met p. absurd (apart h.0 h.1 h.2 d a b met))))) (settled s complete e h.0 h.1 h.2)
-      ]
+      by_cases (standing s e)
+      (λ h. ⊎_elim
+      (λ c. record { group = h.0; instance = h.1; mark = c.0; stands = h.2; convergent = c.1 })
+      (λ d. absurd (away (comes_with e there passed (λ a b x met p. absurd (apart h.0 h.1 h.2 d a b met)))))
+      (settled s complete e h.0 h.1 h.2))
+      (λ none. absurd (away (comes_with e there passed (λ a b d met p. absurd (none (met.group, met.instance, met.first))))))
     where
       apart : (g k : ℕ) → StandsIn s e g k → IsDivergent s g k → (a : Mark) (b : EventId) → Together s a e b → ⊥
       apart g k stands d a b met =
@@ -125,7 +126,7 @@ module _ (s : Streams) (complete : AreComplete s) (matched : (e : EventId) → �
 
   -- up to an event all of its item are grounded, or there is a first that is not
   search : (e : EventId) → IsPassed e ⊎ ((i : ℕ) × IsLeastWithout (λ j. IsIn all (event_of e.at j)) e.index i)
-  search e = all_below (λ j. IsIn all (event_of e.at j)) e.index (λ i lt. ⊎_elim (λ h. yes h) (λ h. no h) (is_in all (event_of e.at i)))
+  search e = all_below (λ j. IsIn all (event_of e.at j)) e.index (λ i lt. in_dec all (event_of e.at i))
 
   -- of two barriers of an item the earlier is of an earlier instance
   earlier_instance : (b f : EventId) (g k h l : ℕ) → b.at ≡ f.at → StandsIn s b g k → StandsIn s f h l → f.index < b.index → l < k
@@ -161,7 +162,7 @@ module _ (s : Streams) (complete : AreComplete s) (matched : (e : EventId) → �
   every_event : (e : EventId) → IsEvent s e → IsIn all e
   every_event e there =
       ⊎_elim
-      (λ (passed : IsPassed e). ⊎_elim (λ h. h) (λ away. absurd (no_first e there passed away)) (is_in all e))
+      (λ (passed : IsPassed e). by_cases (in_dec all e) (λ h. h) (λ away. absurd (no_first e there passed away)))
       (λ (h : (i : ℕ) × IsLeastWithout (λ j. IsIn all (event_of e.at j)) e.index i). absurd (no_first (event_of e.at h.0) (earlier_event s e there h.0 h.1.0) h.1.2 h.1.1))
       (search e)
     where

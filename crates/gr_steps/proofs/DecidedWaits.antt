@@ -1,38 +1,23 @@
 -- In complete lists every instance is settled, and it can be decided whether an event has its releases and whether all that it waits for is of a set.
-use Rattle.std.proofs.Common.{◌≡◌, ◌⊎◌, ℕ, zero, suc, ◌<◌, ◌≤◌, true, false, cond, List, [], ◌∷◌, length, Option, Some, None, slice_get, filter_map, refl, sym, ap, ◌∙◌, subst, inl, inr, ⊎_elim, arith, is_some, true≢false}
-use Rattle.std.specs.List.{cons_option}
+use Rattle.std.proofs.Common.{◌≡◌, ◌⊎◌, ℕ, suc, ◌<◌, ◌≤◌, length, Some, None, refl, sym, ap, ◌∙◌, subst, inl, inr, ⊎_elim, arith}
 use Rattle.std.proofs.lemmas.Bool.{cases_lt}
 use Rattle.std.proofs.lemmas.List.{get_or_past}
-use Rattle.gr_model.specs.declared.event.Event.{Event}
 use Rattle.gr_model.specs.declared.event.EventId.{EventId}
 use Rattle.gr_model.specs.declared.event.ItemId.{ItemId}
 use Rattle.gr_model.specs.declared.event.Name.{Name}
 use Rattle.gr_model.specs.Barriers.{IsConvergent, IsDivergent, StandsIn, Together, arrivals, is_barrier, mark_of}
 use Rattle.gr_model.specs.Instances.{Mark}
 use Rattle.gr_model.specs.Names.{HasItsReleases, HasName, Matches, MatchesBy, name_at, release_place}
-use Rattle.gr_model.specs.Streams.{AreComplete, Streams, event_at, place_of, places_from, size_of, trace_of, word_at}
+use Rattle.gr_model.specs.Streams.{AreComplete, Streams, place_of, size_of, trace_of, word_at}
 use Rattle.gr_model.specs.Waits.{IsPrevious, Waits, for_arrival, for_meeting, for_previous, for_release}
 use Rattle.gr_model.proofs.GrowthLaws.{not_both}
-use Rattle.gr_steps.proofs.BarrierPlaces.{barrier_of, barrier_stands, barrier_there, moved, same_instance, stands_same}
+use Rattle.gr_model.proofs.Places.{place-filter_map}
+use Rattle.gr_steps.proofs.BarrierPlaces.{barrier_of, moved, same_instance, standing, stands_same}
 use Rattle.gr_steps.proofs.Deciding.{IsLeastWithout, all_below, dec_map, mark_dec, option_dec, word_dec}
-use Rattle.gr_steps.proofs.Meeting.{IsBefore-number}
-use Rattle.gr_steps.proofs.NextEvents.{one_release}
-use Rattle.gr_steps.proofs.Orders.{same_event}
+use Rattle.gr_steps.proofs.EventRecords.{one_release}
+use Rattle.gr_steps.proofs.Orders.{number_before, same_event}
 
 -- ---- instances
-
--- at a place that has a value, a value is found
-place-filter_map : {X Y : Type 0} (h : X → Option Y) (i : ℕ) (xs : List X) (k n : ℕ) → slice_get (places_from (λ x. is_some (h x)) i xs) k ≡ Some n → (y : Y) × (slice_get (filter_map h xs) k ≡ Some y)
-place-filter_map h i [] k n e = cc
-place-filter_map {X} {Y} h i (x ∷ xs) k n e =
-    elim (h x) as (λ o. slice_get (cond (is_some o) (i ∷ places_from (λ x. is_some (h x)) (suc i) xs) (places_from (λ x. is_some (h x)) (suc i) xs)) k ≡ Some n → (y : Y) × (slice_get (cons_option o (filter_map h xs)) k ≡ Some y)) [
-      | None ↦ λ at. place-filter_map h (suc i) xs k n at
-      | Some z ↦ λ at. first z k at (λ k at. place-filter_map h (suc i) xs k n at)
-    ] e
-  where
-    first : (z : Y) (k : ℕ) → slice_get (i ∷ places_from (λ x. is_some (h x)) (suc i) xs) k ≡ Some n → ((k : ℕ) → slice_get (places_from (λ x. is_some (h x)) (suc i) xs) k ≡ Some n → (y : Y) × (slice_get (filter_map h xs) k ≡ Some y)) → (y : Y) × (slice_get (z ∷ filter_map h xs) k ≡ Some y)
-    first z zero at later = (z, refl)
-    first z (suc k) at later = later k at
 
 -- a group with items is one of the shape
 group_of_items : (s : Streams) (g i : ℕ) → i < size_of s g → g < length s.sizes
@@ -59,26 +44,6 @@ settled s complete e g k stands =
           | None ↦ λ none. inr (complete g (group_of_items s g i lt), (e.at.item, i, come.0, (stands.item, come.1), lt, none))
           | Some b ↦ λ at. inl (e.at.item, i, come.0, b, (stands.item, come.1), (lt, at), λ same. other (at ∙ ap Some (sym same)))
         ] refl
-
--- an event stands in an instance or in none
-pub standing : (s : Streams) (e : EventId) → Dec ((g k : ℕ) × StandsIn s e g k)
-standing s e =
-    elim (event_at s e) as (λ o. (event_at s e ≡ o) → Dec ((g k : ℕ) × StandsIn s e g k)) [
-      | None ↦ λ none. no (λ h. let there = barrier_there s e h.0 h.1 h.2 in let n : None ≡ Some there.0 = sym none ∙ there.1 in cc)
-      | Some x ↦ λ at. elim (is_barrier x) as (λ b. (is_barrier x ≡ b) → Dec ((g k : ℕ) × StandsIn s e g k)) [
-        | true ↦ λ t. ⊎_elim (λ item. let here = barrier_stands s e x at t item in yes (e.at.group, here.0, here.1)) (λ out. no (λ h. outside h.0 h.1 h.2 out)) (cases_lt e.at.item (size_of s e.at.group))
-        | false ↦ λ f. no (λ h. other x at f h.0 h.1 h.2)
-      ] refl
-    ] refl
-  where
-    outside : (g k : ℕ) → StandsIn s e g k → size_of s e.at.group ≤ e.at.item → ⊥
-    outside g k stands out = let within : e.at.item < size_of s e.at.group = subst (λ h. e.at.item < size_of s h) (sym stands.group) stands.item in omega (arith, within, out)
-
-    other : (x : Event) → event_at s e ≡ Some x → is_barrier x ≡ false → (g k : ℕ) → StandsIn s e g k → ⊥
-    other x at plain g k stands =
-        let there = barrier_there s e g k stands in
-        let same : there.0 ≡ x = let n : Some there.0 ≡ Some x = sym there.1 ∙ at in cc in
-        true≢false (sym there.2 ∙ (ap is_barrier same ∙ plain))
 
 -- ---- releases
 
@@ -107,7 +72,7 @@ releases_dec s e =
 
 -- the event before another, if there is one, has what can be decided of each event
 pub previous_dec : (Q : EventId → Type 0) → ((d : EventId) → Dec (Q d)) → (e : EventId) → Dec ((d : EventId) → IsPrevious d e → Q d)
-previous_dec Q decide e = ⊎_elim (λ (some : 0 < e.index). before (IsBefore-number e.index some)) (λ (none : e.index ≤ 0). yes (λ d p. absurd (omega (arith, p.next, none)))) (cases_lt 0 e.index)
+previous_dec Q decide e = ⊎_elim (λ (some : 0 < e.index). before (number_before e.index some)) (λ (none : e.index ≤ 0). yes (λ d p. absurd (omega (arith, p.next, none)))) (cases_lt 0 e.index)
   where
     before : (m : ℕ) × (suc m ≡ e.index) → Dec ((d : EventId) → IsPrevious d e → Q d)
     before n =

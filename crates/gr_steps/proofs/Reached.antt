@@ -6,14 +6,15 @@ use Rattle.std.proofs.lemmas.Bool.{and_parts}
 use Rattle.std.proofs.lemmas.Option.{slice_get-get_or, slice_get_within}
 use Rattle.gr_model.specs.declared.event.EventId.{EventId}
 use Rattle.gr_model.specs.Events.{is_end}
-use Rattle.gr_model.specs.LawfulOrders.{IsAt, IsIn}
+use Rattle.gr_model.specs.LawfulOrders.{IsIn}
 use Rattle.gr_model.specs.Streams.{AreComplete, IsEvent, Streams, event_at, is_of, list_of, trace_of}
 use Rattle.gr_model.specs.Waits.{CanGo, IsGrounded, Stage, Waits}
 use Rattle.gr_model.proofs.Descent.{stage_up}
 use Rattle.gr_model.proofs.Places.{slice_get-append}
 use Rattle.gr_steps.proofs.DecidedWaits.{releases_dec, settled, waits_dec}
-use Rattle.gr_steps.proofs.Known.{filter-there, group_there}
-use Rattle.gr_steps.proofs.Orders.{at_behind, is_in}
+use Rattle.gr_steps.proofs.Deciding.{by_cases, in_dec}
+use Rattle.gr_steps.proofs.EventRecords.{filter-there, group_there}
+use Rattle.gr_steps.proofs.Orders.{at_behind, in_cases}
 
 -- an event that can go and whose waits are all in a list
 record IsNext (s : Streams) (reached : List EventId) (e : EventId) : Type 0 where
@@ -25,10 +26,6 @@ record IsNext (s : Streams) (reached : List EventId) (e : EventId) : Type 0 wher
 pub record IsClosed (s : Streams) (n : ℕ) (reached : List EventId) : Type 0 where
   pub stage : (e : EventId) → IsIn reached e → Stage s n e
   pub closed : (e : EventId) → IsEvent s e → CanGo s e → ((d : EventId) → Waits s e d → IsIn reached d) → IsIn reached e
-
-in_cases : (x : EventId) (xs : List EventId) (e : EventId) (p : ℕ) → IsAt (x ∷ xs) p e → (e ≡ x) ⊎ IsIn xs e
-in_cases x xs e zero at = inl (let same : Some x ≡ Some e = at in cc)
-in_cases x xs e (suc p) at = inr (p, at)
 
 -- of candidates one that comes next, and the others; or none comes next
 abbrev IsTaken : Streams → List EventId → List EventId → Type 0
@@ -50,20 +47,17 @@ module _ (s : Streams) (complete : AreComplete s) where
           ]
         ]
       ] refl
-    where
-      in_dec : (xs : List EventId) (d : EventId) → Dec (IsIn xs d)
-      in_dec xs d = ⊎_elim (λ h. yes h) (λ h. no h) (is_in xs d)
 
   take_next : (reached xs : List EventId) → IsTaken s reached xs ⊎ AreStuck s reached xs
   take_next reached [] = inr (λ d h next. let c : None ≡ Some d = h.1 in cc)
   take_next reached (x ∷ xs) = first (next_dec reached x) (take_next reached xs)
     where
       first : Dec (IsNext s reached x) → IsTaken s reached xs ⊎ AreStuck s reached xs → IsTaken s reached (x ∷ xs) ⊎ AreStuck s reached (x ∷ xs)
-      first (yes next) rest = inl (x, xs, next, refl, λ d h. in_cases x xs d h.0 h.1)
+      first (yes next) rest = inl (x, xs, next, refl, λ d h. in_cases x xs d h)
       first (no h) (inl t) =
-          inl (t.0, x ∷ t.1, t.2, ap suc t.3, λ d there. ⊎_elim (λ (same : d ≡ x). inr (0, ap Some (sym same))) (λ later. ⊎_elim (λ same. inl same) (λ (k : IsIn t.1 d). inr (suc k.0, k.1)) (t.4 d later)) (in_cases x xs d there.0 there.1))
+          inl (t.0, x ∷ t.1, t.2, ap suc t.3, λ d there. ⊎_elim (λ (same : d ≡ x). inr (0, ap Some (sym same))) (λ later. ⊎_elim (λ same. inl same) (λ (k : IsIn t.1 d). inr (suc k.0, k.1)) (t.4 d later)) (in_cases x xs d there))
       first (no h) (inr stuck) =
-          inr (λ d there next. ⊎_elim (λ (same : d ≡ x). h (subst (λ y. IsNext s reached y) same next)) (λ later. stuck d later next) (in_cases x xs d there.0 there.1))
+          inr (λ d there next. ⊎_elim (λ (same : d ≡ x). h (subst (λ y. IsNext s reached y) same next)) (λ later. stuck d later next) (in_cases x xs d there))
 
   stuck_closed : (n : ℕ) (reached xs : List EventId) → ((e : EventId) → IsIn reached e → Stage s n e) → ((e : EventId) → IsEvent s e → IsIn reached e ⊎ IsIn xs e) → AreStuck s reached xs → IsClosed s n reached
   stuck_closed n reached xs stage cover stuck = record {
@@ -76,7 +70,7 @@ module _ (s : Streams) (complete : AreComplete s) where
       ⊎_elim
       (λ (same : e ≡ x). subst (λ y. Stage s (suc n) y) (sym same) (next.event, next.go, λ d w. stage d (next.waits d w)))
       (λ was. stage_up s n e (stage e was))
-      (in_cases x reached e there.0 there.1)
+      (in_cases x reached e there)
 
   cover_more : (reached xs : List EventId) (t : IsTaken s reached xs) → ((e : EventId) → IsEvent s e → IsIn reached e ⊎ IsIn xs e) → (e : EventId) → IsEvent s e → IsIn (t.0 ∷ reached) e ⊎ IsIn t.1 e
   cover_more reached xs t cover e there =
@@ -147,4 +141,4 @@ stage_in s n all c (suc m) e h = c.closed e h.0 h.1 (λ d w. stage_in s n all c 
 pub grounded_dec : (s : Streams) → AreComplete s → (e : EventId) → IsGrounded s e ⊎ ¬ IsGrounded s e
 grounded_dec s complete e =
     let all = reached s complete in
-    ⊎_elim (λ h. inl (all.0, all.2.stage e h)) (λ away. inr (λ (g : IsGrounded s e). away (stage_in s all.0 all.1 all.2 g.0 e g.1))) (is_in all.1 e)
+    by_cases (in_dec all.1 e) (λ h. inl (all.0, all.2.stage e h)) (λ away. inr (λ (g : IsGrounded s e). away (stage_in s all.0 all.1 all.2 g.0 e g.1)))

@@ -1,13 +1,17 @@
 -- What follows from the definitions of the steps, each the contract of a function that does nothing.
-use Rattle.std.specs.Prelude.{◌≡◌, ◌⊎◌, ◌↔◌, ℕ, List, []}
+use Rattle.std.specs.Prelude.{◌≡◌, ◌⊎◌, ◌↔◌, ℕ, ◌<◌, List, []}
 use Rattle.gr_model.specs.declared.event.EventId.{EventId}
 use Rattle.gr_model.specs.declared.event.Word.{Word}
 use Rattle.gr_model.specs.Streams.{Streams, AreFronts, AreComplete, Grows, IsEvent}
 use Rattle.gr_model.specs.Waits.{IsGrounded}
-use Rattle.gr_model.specs.LawfulOrders.{IsLawful}
+use Rattle.gr_model.specs.LawfulOrders.{IsLawful, IsIn}
 use Rattle.gr_model.specs.Races.{IsRacy}
 use Rattle.gr_model.specs.Reports.{IsUnmatched, WholeReport, IsReportButRaces}
-use Rattle.gr_steps.specs.Steps.{Handles, Meets, IsAtRest, AreGrounded}
+use Rattle.gr_steps.specs.Steps.{IsReady, Handles, Meets, IsAtRest, AreGrounded}
+
+-- an event that may be handled is the next of its item: the handled ones are those before it
+abbrev pub ReadyIsNext : Type 0
+ReadyIsNext = (s : Streams) (order : List EventId) (e d : EventId) → IsLawful s order → IsReady s order e → d.at ≡ e.at → IsIn order d ↔ (d.index < e.index)
 
 -- an event that is handled, and the barriers of an instance that meets, make a lawful order longer
 abbrev pub HandleStaysLawful : Type 0

@@ -1,6 +1,11 @@
 //! Laws of the steps. Each is the contract of a function that does nothing, told in words in docs/MODEL.md, "Steps".
 
-ghost use Rattle.gr_steps.specs.Laws.{HandleStaysLawful, MeetStaysLawful, GrowthStaysLawful, HandlesStay, MeetsStay, RestIsGrounded, GroundedIsDecided, UnmatchedAreReported, AllIsGrounded, AllRacesCount};
+ghost use Rattle.gr_steps.specs.Laws.{ReadyIsNext, HandleStaysLawful, MeetStaysLawful, GrowthStaysLawful, HandlesStay, MeetsStay, RestIsGrounded, GroundedIsDecided, UnmatchedAreReported, AllIsGrounded, AllRacesCount};
+
+/// What may be handled behind a lawful order is the next event of its item.
+pub fn ready_is_next()
+    ensures { ReadyIsNext }
+{}
 
 /// A lawful order stays lawful where an event is handled, where an instance meets, and where lists that are not complete
 /// grow.
