@@ -1,3 +1,4 @@
+pub mod CallerLemmas
 pub mod FrontLemmas
 pub mod GroupLemmas
 pub mod IntakeSteps

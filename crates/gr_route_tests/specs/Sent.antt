@@ -1,0 +1,35 @@
+-- What each of the three senders sends.
+use Rattle.std.specs.Prelude.{◌≡◌, ℕ, zero, suc, ◌<◌, false, List, [], ◌∷◌, ◌++◌, None, Vec, IsTrue}
+use Rattle.gr_model.specs.declared.event.Event.{Event}
+use Rattle.gr_model.specs.declared.event.Kind.TheVariants.{Write}
+use Rattle.gr_model.specs.declared.event.Space.TheVariants.{Global}
+use Rattle.gr_model.specs.Streams.{is_complete}
+use Rattle.gr_route.specs.declared.intake.Sent.{Sent}
+use Rattle.gr_route.specs.IntakeSeats.{Seat, Taker, popped_of}
+use Rattle.gr_sender.specs.Refusals.{end_of}
+use Rattle.gr_sender.specs.Senders.{Sending}
+
+-- a plain write of a global word by item 0
+abbrev pub write_of : ℕ → Event
+write_of word = record { item = 0; kind = Write; space = Global; word = word; name = None }
+
+-- the writes of the words below a count, in ascending order
+abbrev pub writes_below : ℕ → List Event
+writes_below zero = []
+writes_below (suc n) = writes_below n ++ write_of n ∷ []
+
+-- and then the end
+abbrev pub stream_of : ℕ → List Event
+stream_of count = writes_below count ++ end_of false ∷ []
+
+-- the receipt of a sender that sent the whole stream
+abbrev pub IsReceiptOf : Sending → ℕ → Seat → Type 0
+IsReceiptOf sender count receipt = receipt ≡ record { queue = sender.queue.queue; group = sender.group; items = sender.items; pushed = stream_of count }
+
+-- of the groups 0 to 2 the end was popped
+abbrev pub HasEnds : Taker → Type 0
+HasEnds t = (g : ℕ) → g < 3 → IsTrue (is_complete (popped_of t g))
+
+-- these are what was popped, the ends of the groups 0 to 2 among them
+abbrev pub HasAll : {A : Type 0} → Taker → Vec Sent A → Type 0
+HasAll t all = (all.items ≡ t.popped) × HasEnds t

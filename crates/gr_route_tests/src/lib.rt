@@ -1,0 +1,4 @@
+//! Tests of queues and senders, and a run of three senders whose contract says that all that was sent arrives in order.
+#![tactic(auto)]
+
+pub mod three_senders;

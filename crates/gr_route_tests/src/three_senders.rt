@@ -1,0 +1,164 @@
+//! Three senders and a taker, each on a thread of its own, over one queue: of each work-group, what was popped is what
+//! was sent.
+
+ghost use Rattle.std.specs.Prelude.{◌≡◌, ◌<◌, ◌≤◌, ◌==◌, ℕ, false, [], slice_index_or, if◌then◌else◌, IfOk, IfSome};
+ghost use Rattle.gr_model.specs.Events.{is_end};
+ghost use Rattle.gr_route.specs.IntakeRule.{events_of};
+ghost use Rattle.gr_route.specs.IntakeSeats.{popped_of};
+ghost use Rattle.gr_route_tests.specs.Sent.{HasEnds, HasAll, IsReceiptOf, stream_of, write_of};
+
+use gr_model::event::{Event, Kind, Space};
+use gr_model::limits::MOST_RECORDS;
+use gr_model::memory::Memory;
+use gr_route::intake::{Intake, IntakeSeat, Sent, TakerSeat};
+use gr_route::room::MOST_PLACES;
+use gr_sender::receipt::Receipt;
+use gr_sender::sender::Sender;
+use std::alloc::Global;
+use std::sync::{Arc, Wait};
+use std::thread::{Threads, join, yield_now};
+
+/// A plain write of a global word by item 0.
+pub fn write(word: u32) -> Event
+    ensures { result ≡ write_of word }
+{
+    Event {
+        item: 0,
+        kind: Kind::Write,
+        space: Space::Global,
+        word,
+        name: None,
+    }
+}
+
+/// Sends writes of the words below a count, and then the end. The sender comes back where it refused one of them.
+fn send_all<R: Wait>(rt: &R, sender: Sender, count: u32) -> Result<Receipt, Sender>
+    requires { sender.sent ≡ [] }
+    ensures { IfOk result (IsReceiptOf sender count) }
+{
+    let mut sender = sender;
+    for word in 0..count {
+        if sender.send_wait(rt, write(word)).is_err() {
+            return Err(sender);
+        }
+    }
+    if sender.close_wait(rt, false).is_err() {
+        return Err(sender);
+    }
+    sender.into_receipt()
+}
+
+/// Notes whether a popped event is the end of its group.
+fn note(ended: &mut [bool; 3], sent: &Sent)
+    ensures { (g : ℕ) → g < 3 → slice_index_or ended.new g false ≡ (if sent.now.group == g then is_end sent.now.event else slice_index_or ended.old g false) }
+{
+    if sent.group < 3 {
+        ended[usize::from(sent.group)] = sent.event.kind.is_end();
+    }
+}
+
+/// Pops until it has the ends of the groups 0 to 2, and lists what it popped.
+fn take_all<R: Wait>(
+    rt: &R,
+    alloc: Global,
+    queue: &Intake,
+    taker: TakerSeat,
+) -> (TakerSeat, Result<Vec<Sent>, Memory>)
+    requires queue { taker.queue ≡ queue.now.queue }
+    requires fresh { taker.popped ≡ [] }
+    ensures taker { result.0 ≡ record taker { popped = result.0.popped } }
+    ensures ends { IfOk result.1 (HasAll result.0) }
+{
+    let mut taker = taker;
+    let mut all = Vec::new(alloc);
+    let mut ended = [false; 3];
+    for _ in rt.forever() {
+        if ended[0] && ended[1] && ended[2] {
+            break;
+        }
+        match queue.pop(rt, &mut taker) {
+            None => yield_now(),
+            Some(sent) => {
+                note(&mut ended, &sent);
+                if all.push(sent).is_err() {
+                    return (taker, Err(Memory));
+                }
+            }
+        }
+    }
+    (taker, Ok(all))
+}
+
+/// Joins back the seats of the groups 0 to 2, all of whose events were popped.
+fn join_all(queue: &Intake, taker: &mut TakerSeat, a: IntakeSeat, b: IntakeSeat, c: IntakeSeat)
+    requires queue { (taker.old.queue ≡ queue.now.queue) × (a.queue ≡ queue.now.queue) × (b.queue ≡ queue.now.queue) × (c.queue ≡ queue.now.queue) }
+    requires groups { (a.group ≡ 0) × (b.group ≡ 1) × (c.group ≡ 2) }
+    requires ended { HasEnds taker.old }
+    ensures first { popped_of taker.old 0 ≡ a.pushed }
+    ensures second { popped_of taker.old 1 ≡ b.pushed }
+    ensures third { popped_of taker.old 2 ≡ c.pushed }
+{
+    queue.join_back(taker, a);
+    queue.join_back(taker, b);
+    queue.join_back(taker, c);
+}
+
+/// Three senders of groups 0 to 2, each of one item, send the writes of the words below a count and then the end, while a
+/// taker pops until it has the three ends. Of each group, what was popped is what was sent. `None` where a sender refused.
+pub fn three_senders<R: Threads + Wait + Sync>(
+    rt: &R,
+    alloc: Global,
+    capacity: u32,
+    count: u32,
+) -> Result<Option<Vec<Sent>>, Memory>
+    requires { (0 < capacity) × (capacity ≤ MOST_PLACES) }
+    ensures { IfOk result (λ done. IfSome done (λ all. (g : ℕ) → g < 3 → events_of g all.items ≡ stream_of count)) }
+{
+    let (queue, mut taker) = Intake::new(alloc, capacity)?;
+    let queue = Arc::new(alloc, queue)?;
+    let (Some(a), Some(b), Some(c)) = (
+        queue.split(&mut taker, 0, 1),
+        queue.split(&mut taker, 1, 1),
+        queue.split(&mut taker, 2, 1),
+    ) else {
+        return Ok(None);
+    };
+    let most = MOST_RECORDS as u32;
+    let a = Sender::new(0, 1, most, Arc::try_clone(&queue)?, a);
+    let b = Sender::new(1, 1, most, Arc::try_clone(&queue)?, b);
+    let c = Sender::new(2, 1, most, Arc::try_clone(&queue)?, c);
+    let shared: &Intake = &queue;
+    let ((a, b), (c, (taker, all))) = join(
+        rt,
+        || -> (Result<Receipt, Sender>, Result<Receipt, Sender>)
+            requires { (a.sent ≡ []) × (b.sent ≡ []) }
+            ensures { IfOk result.0 (IsReceiptOf a count) × IfOk result.1 (IsReceiptOf b count) }
+        { join(rt, || send_all(rt, a, count), || send_all(rt, b, count)) },
+        || -> (
+            Result<Receipt, Sender>,
+            (TakerSeat, Result<Vec<Sent>, Memory>),
+        )
+            requires { (c.sent ≡ []) × (taker.queue ≡ shared.now.queue) × (taker.popped ≡ []) }
+            ensures { IfOk result.0 (IsReceiptOf c count) × (result.1.0 ≡ record taker { popped = result.1.0.popped }) × IfOk result.1.1 (HasAll result.1.0) }
+        {
+            join(
+                rt,
+                || send_all(rt, c, count),
+                || take_all(rt, alloc, shared, taker),
+            )
+        },
+    );
+    let mut taker = taker;
+    let (Ok(a), Ok(b), Ok(c)) = (a, b, c) else {
+        return Ok(None);
+    };
+    let all = all?;
+    join_all(
+        shared,
+        &mut taker,
+        a.into_seat(),
+        b.into_seat(),
+        c.into_seat(),
+    );
+    Ok(Some(all))
+}
