@@ -8,6 +8,8 @@ pub mod fault;
 pub mod header;
 pub mod laws;
 pub mod layout;
+pub mod line;
+pub mod line_text;
 pub mod part;
 mod reading;
 mod stop;

@@ -1,8 +1,13 @@
 //! Each growth is refused in turn: a decoder then stands as before, and goes on once there is memory.
 
 use super::vectors::{LARGE_HEADER, vectors};
+use gr_model::event::event_ok;
+use gr_model::limits::MOST_ITEMS_OF_A_GROUP;
+use gr_model::memory::Memory;
 use gr_record::decoder::Decoder;
 use gr_record::error::RecordError;
+use gr_record::line::Line;
+use gr_record::line_text::line_text;
 use gr_record::part::Part;
 use refusing::Refusing;
 use std::alloc::Global;
@@ -39,6 +44,26 @@ fn each_growth_can_be_refused(rt: HostRuntime) -> Result<(), Fail> {
                 "{text}: growth {at}"
             );
             met = refusals.saturating_add(met);
+        }
+        assert!(rt; met > 0, "{text}");
+    }
+    Ok(())
+}
+
+#[test]
+fn a_line_meets_each_refused_growth(rt: HostRuntime) -> Result<(), Fail> {
+    for (text, event, _) in vectors() {
+        assert!(rt; event_ok(&event, MOST_ITEMS_OF_A_GROUP), "{text}");
+        let mut met = 0_u32;
+        for at in 0..20 {
+            let heap = Refusing::new(rt.alloc(), at);
+            match line_text(&heap, &Line::Event(event)) {
+                Ok(written) => assert_eq!(rt; written.as_str(), text),
+                Err(Memory) => {
+                    assert!(rt; heap.refused(), "{text}: growth {at}");
+                    met = met.saturating_add(1);
+                }
+            }
         }
         assert!(rt; met > 0, "{text}");
     }

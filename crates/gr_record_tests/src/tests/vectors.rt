@@ -5,6 +5,8 @@ use gr_model::limits::MOST_ITEMS_OF_A_GROUP;
 use gr_record::decoder::Decoder;
 use gr_record::encoding::{encode_event, encode_header};
 use gr_record::header::Header;
+use gr_record::line::Line;
+use gr_record::line_text::line_text;
 use gr_record::part::Part;
 use std::test::Fail;
 
@@ -134,6 +136,8 @@ fn a_header_is_written_and_read(rt: HostRuntime) -> Result<(), Fail> {
     let mut decoder = Decoder::new();
     decoder.feed(&bytes, &mut parts)?;
     assert!(rt; parts.as_slice() == [Part::Header(header)].as_slice());
+    let text = line_text(rt.alloc(), &Line::Header(header))?;
+    assert_eq!(rt; text.as_str(), "group 0 items 2 launch 7");
     Ok(())
 }
 
@@ -153,6 +157,16 @@ fn each_record_is_written_and_read(rt: HostRuntime) -> Result<(), Fail> {
             parts.as_slice() == [Part::Event(event)].as_slice(),
             "{text}"
         );
+    }
+    Ok(())
+}
+
+#[test]
+fn each_record_has_its_line(rt: HostRuntime) -> Result<(), Fail> {
+    for (text, event, _) in vectors() {
+        assert!(rt; event_ok(&event, MOST_ITEMS_OF_A_GROUP), "{text}");
+        let written = line_text(rt.alloc(), &Line::Event(event))?;
+        assert_eq!(rt; written.as_str(), text);
     }
     Ok(())
 }
