@@ -75,12 +75,12 @@ pub struct Name {
 /// A record of a work-group's stream: what one work-item of it did.
 #[derive(Clone, Copy, Debug, PartialEq, Eq)]
 pub struct Event {
-    /// The work-item's place in its group.
+    /// The work-item's place in its group; 0 for an end.
     pub item: u16,
     pub kind: Kind,
     /// The memory of an access; `Global` for a barrier and an end.
     pub space: Space,
-    /// The number of the 4-byte word of an access, or the site of a barrier.
+    /// The number of the 4-byte word of an access, or the site of a barrier; 0 for an end.
     pub word: u32,
     /// The release whose value an acquire took, if the producer found one.
     pub name: Option<Name>,

@@ -1,6 +1,9 @@
 //! Laws of the definitions. Each is the contract of a function that does nothing, told in words in docs/MODEL.md, "Laws".
 
+ghost use Rattle.std.specs.Prelude.{◌≡◌};
 ghost use Rattle.gr_model.specs.Laws.{PairsGoForwards, OrderGoesForwards, OrderStaysWithin, OrderIsGrounded, WaitsStay, StagesStay, OrderStays, CountsStay, HitsAreRaces, WholeHitsAreRaces, RacesStay, ReportIsOne};
+
+use crate::limits::{MOST_GROUPS, MOST_ITEMS, MOST_ITEMS_OF_A_GROUP, MOST_RECORDS};
 
 /// In a lawful order base pairs go forwards, and so does the happens-before of each memory, which never leads in from
 /// outside the order.
@@ -39,4 +42,12 @@ pub fn nothing_is_taken_back()
 /// What is reported is told by the lists alone: two reports of the same lists are equal.
 pub fn lists_have_one_report()
     ensures { ReportIsOne }
+{}
+
+/// The limits, as docs/FORMATS.md and the README tell them.
+pub fn limits_are_those_of_the_formats()
+    ensures groups { MOST_GROUPS ≡ 64 }
+    ensures items_of_a_group { MOST_ITEMS_OF_A_GROUP ≡ 256 }
+    ensures items { MOST_ITEMS ≡ 2048 }
+    ensures records { MOST_RECORDS ≡ 16777216 }
 {}

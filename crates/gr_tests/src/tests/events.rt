@@ -1,10 +1,17 @@
 //! Which records a group may have, and which words they access.
 
-use gr_model::event::{Event, ItemId, Kind, Name, Order, Scope, Space, Word, event_ok, word_of};
+use gr_model::event::{
+    Event, EventId, ItemId, Kind, Name, Order, Scope, Space, Word, event_ok, word_of,
+};
 
 fn name_of(group: u16, item: u16, release: u32) -> Option<Name> {
     let at = ItemId { group, item };
     Some(Name { at, release })
+}
+
+fn event_id(group: u16, item: u16, index: u32) -> EventId {
+    let at = ItemId { group, item };
+    EventId { at, index }
 }
 
 fn event(item: u16, kind: Kind, space: Space, word: u32, name: Option<Name>) -> Event {
@@ -183,6 +190,10 @@ fn orders_kinds_and_names_tell_what_they_are(rt: HostRuntime) {
     assert!(rt; Kind::End { cut: false }.is_end());
     assert!(rt; !Kind::Write.is_end());
     assert!(rt; Word::Global(9) < Word::Local(0, 1));
+    assert!(rt; Word::Local(0, 9) < Word::Local(1, 1));
+    assert!(rt; event_id(0, 0, 5) < event_id(0, 1, 0));
+    assert!(rt; event_id(0, 1, 5) < event_id(1, 0, 0));
+    assert!(rt; event_id(1, 0, 0) < event_id(1, 0, 1));
     let at = ItemId { group: 64, item: 0 };
     assert!(rt; !Name { at, release: 0 }.is_in_range());
 }

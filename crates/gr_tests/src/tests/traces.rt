@@ -1,7 +1,11 @@
 //! Which lists are traces, and what traces tell.
 
 use gr_model::event::{Event, Kind, Space};
-use gr_model::laws::{growth_changes_nothing, hits_are_races, order_goes_forwards};
+use gr_model::laws::{
+    growth_changes_nothing, hits_are_races, lawful_orders_are_grounded,
+    limits_are_those_of_the_formats, lists_have_one_report, nothing_is_taken_back,
+    order_goes_forwards,
+};
 use gr_model::shape::Shape;
 use gr_model::traces::{Traces, TracesError};
 use std::test::Fail;
@@ -103,4 +107,8 @@ fn laws_can_be_called() {
     order_goes_forwards();
     growth_changes_nothing();
     hits_are_races();
+    lawful_orders_are_grounded();
+    nothing_is_taken_back();
+    lists_have_one_report();
+    limits_are_those_of_the_formats();
 }
