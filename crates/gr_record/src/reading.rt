@@ -164,7 +164,7 @@ fn read_name(bytes: &[u8]) -> Option<Name>
 }
 
 /// Whether the kind may have its order.
-fn order_fits(kind: Kind) -> bool
+pub(crate) fn order_fits(kind: Kind) -> bool
     ensures { result ≡ is_order_ok kind }
 {
     match kind {
@@ -182,7 +182,7 @@ fn order_fits(kind: Kind) -> bool
 }
 
 /// Whether the kind may have this name, or none.
-fn name_fits(kind: Kind, name: Option<Name>) -> bool
+pub(crate) fn name_fits(kind: Kind, name: Option<Name>) -> bool
     ensures { result ≡ is_name_ok kind name }
 {
     match name {

@@ -1,0 +1,318 @@
+//! Reading the line of a header and of a record.
+
+ghost use Rattle.std.specs.Prelude.{◌≡◌, ◌≢◌, ◌^◌, ◌<◌, ◌++◌, ℕ, List, Some, None, IfSome, MatchOption, All, decimal};
+ghost use Rattle.std.specs.Option.{option_map};
+ghost use Rattle.gr_record.specs.LineReading.{same, number_of, IsWord, IsFirstSpace, behind_space, first_of, space_said, scope_said, order_said, flags_said, short_of, header_made, header_said, name_said, kind_said, atomic_said, barrier_said, event_said, checked, end_with, line_said};
+
+use crate::header::Header;
+use crate::line::Line;
+use crate::reading::{name_fits, order_fits};
+use gr_model::event::{Event, ItemId, Kind, Name, Order, Scope, Space};
+use gr_model::limits::{MOST_GROUPS, MOST_ITEMS_OF_A_GROUP};
+use itoa::Buffer;
+
+/// Whether a word is this one.
+#[tactic(auto, unfolding(crate::specs::LineReading::same))]
+fn is_word(word: &[u8], expected: &str) -> bool
+    ensures { result ≡ same word.now expected.now }
+{
+    word == expected.as_bytes()
+}
+
+/// The number below 2^32 of which the word is the text.
+fn parse_number(word: &[u8]) -> Option<u32>
+    ensures { result ≡ number_of word.now }
+{
+    let number = str::from_utf8(word).ok()?.parse::<u32>().ok()?;
+    let mut buffer = Buffer::new();
+    if buffer.format(number).as_bytes() == word {
+        Some(number)
+    } else {
+        None
+    }
+}
+
+/// The place of the first space.
+fn first_space(bytes: &[u8]) -> Option<usize>
+    ensures { MatchOption result (IsWord bytes.now) (λ at. IsFirstSpace bytes.now at) }
+{
+    bytes.iter().position(|byte| *byte == b' ')
+}
+
+/// The first word, and what stands behind its space, if there is one.
+fn split_word(bytes: &[u8]) -> (&[u8], Option<&[u8]>)
+    ensures { (result.0.now, option_map (λ rest. rest.now) result.1) ≡ first_of bytes.now }
+{
+    match first_space(bytes) {
+        None => (bytes, None),
+        Some(at) => (&bytes[..at], Some(&bytes[at + 1..])),
+    }
+}
+
+#[tactic(auto, unfolding(crate::specs::LineReading::space_said))]
+fn parse_space(word: &[u8]) -> Option<Space>
+    ensures { result ≡ space_said word.now }
+{
+    if is_word(word, "g") {
+        Some(Space::Global)
+    } else if is_word(word, "l") {
+        Some(Space::Local)
+    } else {
+        None
+    }
+}
+
+#[tactic(auto, unfolding(crate::specs::LineReading::scope_said))]
+fn parse_scope(word: &[u8]) -> Option<Scope>
+    ensures { result ≡ scope_said word.now }
+{
+    if is_word(word, "grp") {
+        Some(Scope::Group)
+    } else if is_word(word, "dev") {
+        Some(Scope::Device)
+    } else {
+        None
+    }
+}
+
+#[tactic(auto, unfolding(crate::specs::LineReading::order_said))]
+fn parse_order(word: &[u8]) -> Option<Order>
+    ensures { result ≡ order_said word.now }
+{
+    if is_word(word, "rlx") {
+        Some(Order::Relaxed)
+    } else if is_word(word, "acq") {
+        Some(Order::Acquire)
+    } else if is_word(word, "rel") {
+        Some(Order::Release)
+    } else if is_word(word, "both") {
+        Some(Order::Both)
+    } else {
+        None
+    }
+}
+
+/// The memories that a barrier's flags name, the global one first.
+#[tactic(auto, unfolding(crate::specs::LineReading::flags_said))]
+fn parse_flags(word: &[u8]) -> Option<(bool, bool)>
+    ensures { result ≡ flags_said word.now }
+{
+    if is_word(word, "-") {
+        Some((false, false))
+    } else if is_word(word, "g") {
+        Some((true, false))
+    } else if is_word(word, "l") {
+        Some((false, true))
+    } else if is_word(word, "gl") {
+        Some((true, true))
+    } else {
+        None
+    }
+}
+
+/// The number below 2^16 of which the word is the text.
+#[tactic(auto, unfolding(crate::specs::LineReading::short_of))]
+fn parse_short(word: &[u8]) -> Option<u16>
+    ensures { result ≡ short_of word.now }
+{
+    let number = parse_number(word)?;
+    if number < 65_536 {
+        Some(number as u16)
+    } else {
+        None
+    }
+}
+
+/// The header of these numbers, if they are in range.
+fn make_header(group: u16, items: u16, launch: u32) -> Option<Header>
+    ensures { result ≡ header_made group items launch }
+{
+    if usize::from(group) < MOST_GROUPS && 1 <= items && items <= MOST_ITEMS_OF_A_GROUP {
+        Some(Header {
+            group,
+            items,
+            launch,
+        })
+    } else {
+        None
+    }
+}
+
+/// What stands behind `group` in the line of a header.
+#[tactic(auto, unfolding(crate::specs::LineReading::header_said))]
+fn parse_header(bytes: &[u8]) -> Option<Header>
+    ensures { result ≡ header_said bytes.now }
+{
+    let (group, rest) = split_word(bytes);
+    let (key, rest) = split_word(rest?);
+    let (items, rest) = split_word(rest?);
+    let (other_key, rest) = split_word(rest?);
+    let (launch, rest) = split_word(rest?);
+    if rest.is_some() || !is_word(key, "items") || !is_word(other_key, "launch") {
+        return None;
+    }
+    make_header(parse_short(group)?, parse_short(items)?, parse_number(launch)?)
+}
+
+/// The name that stands behind an acquire's order.
+#[tactic(auto, unfolding(crate::specs::LineReading::name_said))]
+fn parse_name(bytes: &[u8]) -> Option<Name>
+    ensures { result ≡ name_said bytes.now }
+{
+    let (sign, rest) = split_word(bytes);
+    let (group, rest) = split_word(rest?);
+    let (item, rest) = split_word(rest?);
+    let (release, rest) = split_word(rest?);
+    if rest.is_some() || !is_word(sign, "<") {
+        return None;
+    }
+    let at = ItemId {
+        group: parse_short(group)?,
+        item: parse_short(item)?,
+    };
+    Some(Name {
+        at,
+        release: parse_number(release)?,
+    })
+}
+
+#[tactic(auto, unfolding(crate::specs::LineReading::kind_said))]
+fn parse_kind(word: &[u8], scope: Scope, order: Order) -> Option<Kind>
+    ensures { result ≡ kind_said word.now scope order }
+{
+    if is_word(word, "ld") {
+        Some(Kind::Load(scope, order))
+    } else if is_word(word, "st") {
+        Some(Kind::Store(scope, order))
+    } else if is_word(word, "rmw") {
+        Some(Kind::Rmw(scope, order))
+    } else {
+        None
+    }
+}
+
+/// An atomic access, of which these bytes stand behind the word.
+#[tactic(auto, unfolding(crate::specs::LineReading::atomic_said))]
+fn parse_atomic(kind: &[u8], item: u16, space: Space, word: u32, bytes: &[u8]) -> Option<Event>
+    ensures { result ≡ atomic_said kind.now item space word bytes.now }
+{
+    let (scope, rest) = split_word(bytes);
+    let (order, rest) = split_word(rest?);
+    let scope = parse_scope(scope)?;
+    let order = parse_order(order)?;
+    let kind = parse_kind(kind, scope, order)?;
+    let name = match rest {
+        None => None,
+        Some(bytes) => Some(parse_name(bytes)?),
+    };
+    Some(Event {
+        item,
+        kind,
+        space,
+        word,
+        name,
+    })
+}
+
+#[tactic(auto, unfolding(crate::specs::LineReading::barrier_said))]
+fn parse_barrier(item: u16, site: &[u8], flags: &[u8]) -> Option<Event>
+    ensures { result ≡ barrier_said item site.now flags.now }
+{
+    let word = parse_number(site)?;
+    let (global, local) = parse_flags(flags)?;
+    Some(Event {
+        item,
+        kind: Kind::Barrier { global, local },
+        space: Space::Global,
+        word,
+        name: None,
+    })
+}
+
+fn plain(item: u16, kind: Kind, space: Space, word: u32) -> Event
+    ensures { result ≡ record { item = item; kind = kind; space = space; word = word; name = None } }
+{
+    Event {
+        item,
+        kind,
+        space,
+        word,
+        name: None,
+    }
+}
+
+/// What stands behind the item in the line of a record.
+#[tactic(auto, unfolding(crate::specs::LineReading::event_said))]
+fn parse_event(item: u16, bytes: &[u8]) -> Option<Event>
+    ensures { result ≡ event_said item bytes.now }
+{
+    let (kind, rest) = split_word(bytes);
+    let (second, rest) = split_word(rest?);
+    let (third, rest) = split_word(rest?);
+    if is_word(kind, "bar") {
+        return if rest.is_some() {
+            None
+        } else {
+            parse_barrier(item, second, third)
+        };
+    }
+    let space = parse_space(second)?;
+    let word = parse_number(third)?;
+    if is_word(kind, "r") {
+        return if rest.is_some() {
+            None
+        } else {
+            Some(plain(item, Kind::Read, space, word))
+        };
+    }
+    if is_word(kind, "w") {
+        return if rest.is_some() {
+            None
+        } else {
+            Some(plain(item, Kind::Write, space, word))
+        };
+    }
+    parse_atomic(kind, item, space, word, rest?)
+}
+
+/// The event, if some stream may have it.
+fn check(event: Event) -> Option<Event>
+    ensures { result ≡ checked event }
+{
+    if event.item < MOST_ITEMS_OF_A_GROUP
+        && order_fits(event.kind)
+        && name_fits(event.kind, event.name)
+    {
+        Some(event)
+    } else {
+        None
+    }
+}
+
+/// The end of a stream.
+fn make_end(cut: bool) -> Event
+    ensures { result ≡ end_with cut }
+{
+    plain(0, Kind::End { cut }, Space::Global, 0)
+}
+
+/// What a line without its line feed says; `None` where the text form has no such line.
+#[tactic(auto, unfolding(crate::specs::LineReading::line_said))]
+fn read_line(line: &[u8]) -> Option<Line>
+    ensures { result ≡ line_said line.now }
+{
+    let (first, rest) = split_word(line);
+    if is_word(first, "group") {
+        return Some(Line::Header(parse_header(rest?)?));
+    }
+    if is_word(first, "end") {
+        return match rest {
+            None => Some(Line::Event(make_end(false))),
+            Some(bytes) if is_word(bytes, "cut") => Some(Line::Event(make_end(true))),
+            Some(_) => None,
+        };
+    }
+    let item = parse_short(first)?;
+    let event = parse_event(item, rest?)?;
+    Some(Line::Event(check(event)?))
+}
