@@ -1,10 +1,10 @@
 -- One group's barriers: what a mark more changes, and what the tests on an instance say.
-use Rattle.std.proofs.Common.{◌≡◌, ◌≢◌, ◌⊎◌, ℕ, ◌<◌, ◌≤◌, Bool, true, false, IsTrue, List, [], ◌∷◌, ◌++◌, map, length, get_or, set, Option, Some, None, Result, Ok, Err, OnErr, refl, sym, ◌∙◌, ap, subst, arith, inl, inr, ⊎_elim, Vec}
+use Rattle.std.proofs.Common.{◌+◌, ◌≡◌, ◌≢◌, ◌⊎◌, ℕ, ◌<◌, ◌≤◌, Bool, true, false, IsTrue, List, [], ◌∷◌, ◌++◌, map, length, get_or, set, Option, Some, None, Result, Ok, Err, OnErr, refl, sym, ◌∙◌, ap, subst, arith, inl, inr, ⊎_elim, Vec}
 use Rattle.std.proofs.lemmas.Bool.{cases_eq}
-use Rattle.std.proofs.lemmas.List.{get_or-map, get_or-set_same, get_or-set_other, map-set, length-map, set-get_or}
+use Rattle.std.proofs.lemmas.List.{length_push, get_or-map, get_or-set_same, get_or-set_other, map-set, length-map, set-get_or}
 use Rattle.gr_model.specs.declared.limits.TheConstants.{MOST_RECORDS}
 use Rattle.gr_model.specs.Instances.{Mark, AreMixed, SitesDiffer, IsMissing, IsDivergentOf}
-use Rattle.gr_barriers.specs.Arrived.{GroupMarks, brought, SomeCame, SomeMissing, IsState, AreFew}
+use Rattle.gr_barriers.specs.Arrived.{GroupMarks, marks_at, brought, SomeCame, SomeMissing, IsState, AreFew}
 use Rattle.gr_barriers.specs.declared.instances.State.TheVariants.{Waiting, Convergent}
 
 few_set : (marks : List (List Mark)) (i : ℕ) (xs : List Mark) → AreFew marks → i < length marks → length xs ≤ MOST_RECORDS → AreFew (set marks i xs)
@@ -28,8 +28,19 @@ module _ {Z : Type 0} (vs : List (Vec Mark Z)) (i : ℕ) (there : i < length vs)
   pub read_items : x.items ≡ get_or (map items vs) i []
   read_items = ap items reads ∙ sym (get_or-map items vs i x [] there)
 
-  pub set_few : (y : Vec Mark Z) → AreFew (map items vs) → length y.items ≤ MOST_RECORDS → AreFew (map items (set vs i y))
+  set_few : (y : Vec Mark Z) → AreFew (map items vs) → length y.items ≤ MOST_RECORDS → AreFew (map items (set vs i y))
   set_few y few small = subst AreFew (sym (map-set items vs i y)) (few_set (map items vs) i y.items few (let within : i < length (map items vs) = omega (arith, length-map vs items) in within) small)
+
+  pub same_few : (y : Vec Mark Z) → AreFew (map items vs) → y.items ≡ x.items → AreFew (map items (set vs i y))
+  same_few y few same =
+      let old : length y.items ≡ length (get_or (map items vs) i []) = ap length (same ∙ read_items) in
+      set_few y few (let small : length y.items ≤ MOST_RECORDS = omega (arith, few i) in small)
+
+  pub more_few : (y : Vec Mark Z) (a : Mark) (t : GroupMarks) (ended : Bool) → AreFew (map items vs) → record { marks = map items vs; ended = ended } ≡ t → length (marks_at t i) < MOST_RECORDS → y.items ≡ x.items ++ a ∷ [] → AreFew (map items (set vs i y))
+  more_few y a t ended few is room more =
+      let old : length (marks_at t i) ≡ length x.items = ap (λ (s : GroupMarks). length (marks_at s i)) (sym is) ∙ ap length (sym read_items) in
+      let new : length y.items ≡ length x.items + 1 = ap length more ∙ length_push x.items a in
+      set_few y few (let small : length y.items ≤ MOST_RECORDS = omega arith in small)
 
   pub set_more : (y : Vec Mark Z) (a : Mark) → y.items ≡ x.items ++ a ∷ [] → map items (set vs i y) ≡ set (map items vs) i (get_or (map items vs) i [] ++ a ∷ [])
   set_more y a more = map-set items vs i y ∙ ap (set (map items vs) i) (more ∙ ap (λ (ys : List Mark). ys ++ a ∷ []) read_items)

@@ -31,23 +31,26 @@ same_steps mine theirs i first second t u = same_counts first second (t.shape �
 
 -- what a release leaves has the clock that ticked as the item's did
 module _ (old new : ItemClocks) (i : ItemId) (word : Word) (scope : Scope) (m : Space) (copied : Counts) (is_memory : m ≡ memory_of word) (is_copy : copied ≡ clock_in old m i) where
-  left : (raised : Counts) → raised ≡ clock_in new m i → record { word = word; scope = scope; clock = raised } ≡ release_of new i word scope
-  left raised is =
-      let clock : raised ≡ clock_in new (memory_of word) i = is ∙ ap (λ (n : Space). clock_in new n i) is_memory in
-      ap (λ (c : Counts). let r : ReleaseClock = record { word = word; scope = scope; clock = c } in r) clock
+  left : (result : ReleaseClock) (raised : Counts) → result ≡ record { word = word; scope = scope; clock = raised } → raised ≡ clock_in new m i → result ≡ release_of new i word scope
+  left result raised is same =
+      let clock : raised ≡ clock_in new (memory_of word) i = same ∙ ap (λ (n : Space). clock_in new n i) is_memory in
+      is ∙ ap (λ (c : Counts). let r : ReleaseClock = record { word = word; scope = scope; clock = c } in r) clock
 
-  pub release_left : (raised : Counts) → Ticks old i new → IsTick copied i raised → record { word = word; scope = scope; clock = raised } ≡ release_of new i word scope
-  release_left raised ticks tick = left raised (same_ticks (clock_in old m i) i raised (clock_in new m i) (subst (λ (x : Counts). IsTick x i raised) is_copy tick) (ticks.ticks m).item)
+  pub release_left : (result : ReleaseClock) (raised : Counts) → result ≡ record { word = word; scope = scope; clock = raised } → Ticks old i new → IsTick copied i raised → result ≡ release_of new i word scope
+  release_left result raised is ticks tick =
+      left result raised is (same_ticks (clock_in old m i) i raised (clock_in new m i) (subst (λ (x : Counts). IsTick x i raised) is_copy tick) (ticks.ticks m).item)
 
   module _ (s : ReleaseClock) (acquires : Acquires old i s new) where
-    pub other_left : (raised : Counts) → m ≢ memory_of s.word → IsTick copied i raised → record { word = word; scope = scope; clock = raised } ≡ release_of new i word scope
-    other_left raised other tick = left raised (same_ticks (clock_in old m i) i raised (clock_in new m i) (subst (λ (x : Counts). IsTick x i raised) is_copy tick) (acquires.ticks m other).item)
+    pub other_left : (result : ReleaseClock) (raised : Counts) → result ≡ record { word = word; scope = scope; clock = raised } → m ≢ memory_of s.word → IsTick copied i raised → result ≡ release_of new i word scope
+    other_left result raised is other tick =
+        left result raised is (same_ticks (clock_in old m i) i raised (clock_in new m i) (subst (λ (x : Counts). IsTick x i raised) is_copy tick) (acquires.ticks m other).item)
 
-    pub joined_left : (joined raised : Counts) → m ≡ memory_of s.word → IsJoin copied s.clock joined → IsTick joined i raised → record { word = word; scope = scope; clock = raised } ≡ release_of new i word scope
-    joined_left joined raised here join tick =
-        let step : IsTickOfJoin (clock_in old m i) s.clock i raised = subst (λ (x : Counts). IsTickOfJoin x s.clock i raised) is_copy (tick_of_join copied s.clock joined i raised join tick) in
+    pub joined_left : (result : ReleaseClock) (theirs joined raised : Counts) → result ≡ record { word = word; scope = scope; clock = raised } → m ≡ memory_of s.word → theirs ≡ s.clock → IsJoin copied theirs joined → IsTick joined i raised → result ≡ release_of new i word scope
+    joined_left result theirs joined raised is here same join tick =
+        let learned_clock : IsJoin copied s.clock joined = subst (λ (x : Counts). IsJoin copied x joined) same join in
+        let step : IsTickOfJoin (clock_in old m i) s.clock i raised = subst (λ (x : Counts). IsTickOfJoin x s.clock i raised) is_copy (tick_of_join copied s.clock joined i raised learned_clock tick) in
         let learned : IsTickOfJoin (clock_in old m i) s.clock i (clock_in new m i) = subst (λ (n : Space). IsTickOfJoin (clock_in old n i) s.clock i (clock_in new n i)) (sym here) acquires.learns.item in
-        left raised (same_steps (clock_in old m i) s.clock i raised (clock_in new m i) step learned)
+        left result raised is (same_steps (clock_in old m i) s.clock i raised (clock_in new m i) step learned)
 
 pub are_new : (sizes : List ℕ) (global local : ClockTable) → AreZero sizes global → AreZero sizes local → AreNew sizes (clocks_of global local)
 are_new sizes global local g l = record {

@@ -4,32 +4,15 @@
 ghost use Rattle.std.specs.Prelude.{◌≡◌, ◌<◌, ◌∷◌, [], IfSome};
 ghost use Rattle.gr_clocks.specs.Counts.{sizes_of};
 
+use crate::launch::{item, two_items};
 use gr_clocks::clock::{Clock, ClockError, LARGEST_COUNT};
 use gr_clocks::clocks::Clocks;
 use gr_clocks::snapshot::Snapshot;
-use gr_model::event::{ItemId, Scope, Space, Word};
+use gr_model::event::{Scope, Space, Word};
 use gr_model::shape::Shape;
 use refusing::Refusing;
 use std::alloc::Allocator;
 use std::test::Fail;
-
-/// The item of group 0 at this place.
-fn item(item: u16) -> ItemId
-    ensures { result ≡ record { group = 0; item = item } }
-{
-    ItemId { group: 0, item }
-}
-
-/// The shape of one group of two items.
-fn two_items<A: Allocator + Copy>(alloc: A) -> Option<Shape<A>>
-    ensures { IfSome result (λ s. s ≡ 2 ∷ []) }
-{
-    if let Ok(sizes) = vec![in alloc; 2_u16] {
-        return Shape::new(sizes).ok();
-    }
-    let sizes = vec![in alloc; 2_u16].ok()?;
-    Shape::new(sizes).ok()
-}
 
 fn new_clock<A: Allocator + Copy>(alloc: A, shape: &Shape<A>) -> Option<Clock<A>>
     requires { shape.now ≡ 2 ∷ [] }
@@ -290,7 +273,11 @@ fn releases_acquires_and_barriers(rt: HostRuntime) -> Result<(), Fail> {
             [2, 2],
             [[3, 3], [3, 3], [3, 0], [0, 3]],
         ));
-        assert_eq!(rt; release_acquire_and_a_barrier(&heap), want, "growth {at} refused");
+        assert_eq!(rt;
+            release_acquire_and_a_barrier(&heap),
+            want,
+            "growth {at} refused"
+        );
         if !heap.refused() {
             assert!(rt; at > 0, "no growth was refused");
             return Ok(());

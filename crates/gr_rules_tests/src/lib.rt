@@ -2,6 +2,10 @@
 #![tactic(auto)]
 
 #[cfg(test)]
+mod barrier_rows;
+#[cfg(test)]
 mod clock_rows;
+#[cfg(test)]
+mod launch;
 #[cfg(test)]
 mod scope_rows;

@@ -41,14 +41,7 @@ const EXEMPTIONS: [Exemption; 6] = [
         1,
         true,
     ),
-    (
-        "two reads",
-        Class::PlainRead,
-        0,
-        Class::GroupRead,
-        1,
-        true,
-    ),
+    ("two reads", Class::PlainRead, 0, Class::GroupRead, 1, true),
     (
         "plain read against atomic write",
         Class::PlainRead,
@@ -62,7 +55,11 @@ const EXEMPTIONS: [Exemption; 6] = [
 #[test]
 fn exemptions(rt: HostRuntime) {
     for (name, first, first_group, second, second_group, want) in EXEMPTIONS {
-        assert_eq!(rt; exempt(first, first_group, second, second_group), want, "{name}");
+        assert_eq!(rt;
+            exempt(first, first_group, second, second_group),
+            want,
+            "{name}"
+        );
     }
 }
 
@@ -92,5 +89,8 @@ fn releases_and_acquires(rt: HostRuntime) {
     }
     let group_release = on_global(Kind::Store(Scope::Group, Order::Release), 20);
     let acquire = on_global(Kind::Load(Scope::Device, Order::Acquire), 20);
-    assert!(rt; !pairs_with(&group_release, 0, &acquire, 1), "group scope of the release");
+    assert!(rt;
+        !pairs_with(&group_release, 0, &acquire, 1),
+        "group scope of the release"
+    );
 }

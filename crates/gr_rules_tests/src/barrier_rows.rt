@@ -1,0 +1,158 @@
+//! A worked row of barrier instances. A call to which a growth was refused leaves what is known as it was, and then gives
+//! the row's answer.
+
+ghost use Rattle.std.specs.Prelude.{◌≡◌, ◌<◌, ◌≤◌, ◌+◌, ◌∷◌, [], length, IfSome, OnErr};
+ghost use Rattle.gr_model.specs.declared.event.ItemId.{ItemId};
+ghost use Rattle.gr_barriers.specs.Arrived.{sizes_of, marks_of};
+
+use crate::launch::{item, two_items};
+use gr_barriers::instances::{BarrierError, Instances, State};
+use gr_barriers::{Divergence, DivergenceCause};
+use gr_model::shape::Shape;
+use refusing::Refusing;
+use std::alloc::Allocator;
+use std::test::Fail;
+
+fn new_instances<A: Allocator + Copy>(alloc: A, shape: &Shape<A>) -> Option<Instances<A>>
+    requires { shape.now ≡ 2 ∷ [] }
+    ensures sizes { IfSome result (λ v. sizes_of v ≡ 2 ∷ []) }
+    ensures none { IfSome result (λ v. (i : ItemId) → length (marks_of v i) ≤ 0) }
+{
+    if let Ok(instances) = Instances::new(alloc, shape) {
+        return Some(instances);
+    }
+    Instances::new(alloc, shape).ok()
+}
+
+/// The states of the first three instances.
+fn states<A: Allocator>(instances: &Instances<A>) -> [Option<State>; 3] {
+    [
+        instances.state(0, 0),
+        instances.state(0, 1),
+        instances.state(0, 2),
+    ]
+}
+
+/// An item's barrier at a site with both flags, where no item has brought more than `so_far`.
+fn arrive_once<A: Allocator>(
+    instances: &mut Instances<A>,
+    place: u16,
+    site: u32,
+    so_far: u32,
+) -> Result<u32, BarrierError>
+    requires few { (i : ItemId) → length (marks_of instances.old i) ≤ so_far }
+    requires small { so_far < 100 }
+    ensures more { (i : ItemId) → length (marks_of instances.new i) ≤ so_far + 1 }
+    ensures sizes { sizes_of instances.new ≡ sizes_of instances.old }
+    ensures err { OnErr result (instances.new ≡ instances.old) }
+{
+    instances.arrive(item(place), site, true, true)
+}
+
+fn arrive<A: Allocator>(
+    instances: &mut Instances<A>,
+    place: u16,
+    site: u32,
+    so_far: u32,
+) -> Result<u32, BarrierError>
+    requires few { (i : ItemId) → length (marks_of instances.old i) ≤ so_far }
+    requires small { so_far < 100 }
+    ensures more { (i : ItemId) → length (marks_of instances.new i) ≤ so_far + 1 }
+    ensures sizes { sizes_of instances.new ≡ sizes_of instances.old }
+{
+    let before = states(instances);
+    let answer = arrive_once(instances, place, site, so_far);
+    match answer {
+        Err(BarrierError::Memory) => {
+            if states(instances) != before {
+                return answer;
+            }
+            arrive_once(instances, place, site, so_far)
+        }
+        _ => answer,
+    }
+}
+
+fn end_group<A: Allocator>(instances: &mut Instances<A>) -> Result<(), BarrierError>
+    requires sizes { sizes_of instances.old ≡ 2 ∷ [] }
+    ensures sizes { sizes_of instances.new ≡ 2 ∷ [] }
+    ensures marks { (i : ItemId) → length (marks_of instances.new i) ≡ length (marks_of instances.old i) }
+{
+    instances.end_group(0)
+}
+
+/// The first three divergences.
+fn divergences<A: Allocator + Copy>(instances: &Instances<A>) -> Option<[Option<Divergence>; 3]> {
+    let list = match instances.divergences() {
+        Ok(list) => list,
+        Err(_) => instances.divergences().ok()?,
+    };
+    Some([
+        list.get(0).copied(),
+        list.get(1).copied(),
+        list.get(2).copied(),
+    ])
+}
+
+/// What the row shows: the answers of three arrivals, the state of the first instance after one and after two of them,
+/// the divergences once the group has ended, and the answers of two arrivals after that.
+type Seen = (
+    [Result<u32, BarrierError>; 3],
+    [Option<State>; 2],
+    [Option<Divergence>; 3],
+    [Result<u32, BarrierError>; 2],
+);
+
+/// Item 0 at site 1, item 1 at site 2, item 0 at site 1 again, the end of the group, and arrivals of items 0 and 2.
+fn two_sites_and_an_end<A: Allocator + Copy>(alloc: A) -> Option<Seen> {
+    let shape = two_items(alloc)?;
+    let mut instances = new_instances(alloc, &shape)?;
+    let first = arrive(&mut instances, 0, 1, 0);
+    let after_one = instances.state(0, 0);
+    let second = arrive(&mut instances, 1, 2, 1);
+    let after_two = instances.state(0, 0);
+    let third = arrive(&mut instances, 0, 1, 2);
+    if end_group(&mut instances).is_err() {
+        return None;
+    }
+    let listed = divergences(&instances)?;
+    let late = arrive(&mut instances, 0, 1, 3);
+    let unknown = arrive(&mut instances, 2, 1, 4);
+    Some((
+        [first, second, third],
+        [after_one, after_two],
+        listed,
+        [late, unknown],
+    ))
+}
+
+const FIRST: Divergence = Divergence {
+    group: 0,
+    instance: 0,
+    cause: DivergenceCause::Site,
+};
+
+const SECOND: Divergence = Divergence {
+    group: 0,
+    instance: 1,
+    cause: DivergenceCause::Missing,
+};
+
+#[test]
+fn arrivals_and_divergences(rt: HostRuntime) -> Result<(), Fail> {
+    for at in 0..1_000_u64 {
+        let heap = Refusing::new(rt.alloc(), at);
+        let want = Some((
+            [Ok(0), Ok(0), Ok(1)],
+            [Some(State::Waiting), Some(State::Divergent)],
+            [Some(FIRST), Some(SECOND), None],
+            [Err(BarrierError::Ended(0)), Err(BarrierError::UnknownItem)],
+        ));
+        assert_eq!(rt; two_sites_and_an_end(&heap), want, "growth {at} refused");
+        if !heap.refused() {
+            assert!(rt; at > 0, "no growth was refused");
+            return Ok(());
+        }
+    }
+    Err("no end")?
+}
