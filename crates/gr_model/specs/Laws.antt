@@ -4,7 +4,7 @@ use Rattle.gr_model.specs.declared.event.Space.{Space}
 use Rattle.gr_model.specs.declared.event.ItemId.{ItemId}
 use Rattle.gr_model.specs.declared.event.EventId.{EventId}
 use Rattle.gr_model.specs.declared.event.Word.{Word}
-use Rattle.gr_model.specs.Streams.{Streams, Grows}
+use Rattle.gr_model.specs.Streams.{Streams, AreAccepted, AreFronts, AreComplete, Grows}
 use Rattle.gr_model.specs.HappensBefore.{BasePair, HappensBefore}
 use Rattle.gr_model.specs.Waits.{Waits, Stage, IsGrounded}
 use Rattle.gr_model.specs.LawfulOrders.{IsLawful, IsWholeOrder, IsAt, IsIn}
@@ -12,6 +12,10 @@ use Rattle.gr_model.specs.Races.{Clashes, IsRacy}
 use Rattle.gr_model.specs.Counts.{IsCount}
 use Rattle.gr_model.specs.Hits.{SomePair}
 use Rattle.gr_model.specs.Reports.{WholeReport, IsReportOf}
+
+-- lists are accepted exactly where they may have come and are complete
+abbrev pub AcceptedAreComplete : Type 0
+AcceptedAreComplete = (s : Streams) → AreAccepted s ↔ (AreFronts s × AreComplete s)
 
 -- in a lawful order a base pair goes forwards
 abbrev pub PairsGoForwards : Type 0

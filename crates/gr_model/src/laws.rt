@@ -1,9 +1,14 @@
 //! Laws of the definitions. Each is the contract of a function that does nothing, told in words in docs/MODEL.md, "Laws".
 
 ghost use Rattle.std.specs.Prelude.{◌≡◌};
-ghost use Rattle.gr_model.specs.Laws.{PairsGoForwards, OrderGoesForwards, OrderStaysWithin, OrderIsGrounded, WaitsStay, StagesStay, OrderStays, CountsStay, HitsAreRaces, WholeHitsAreRaces, RacesStay, ReportIsOne};
+ghost use Rattle.gr_model.specs.Laws.{AcceptedAreComplete, PairsGoForwards, OrderGoesForwards, OrderStaysWithin, OrderIsGrounded, WaitsStay, StagesStay, OrderStays, CountsStay, HitsAreRaces, WholeHitsAreRaces, RacesStay, ReportIsOne};
 
 use crate::limits::{MOST_GROUPS, MOST_ITEMS, MOST_ITEMS_OF_A_GROUP, MOST_RECORDS};
+
+/// Lists are accepted exactly where they may have come and are complete.
+pub fn accepted_lists_are_complete()
+    ensures { AcceptedAreComplete }
+{}
 
 /// In a lawful order base pairs go forwards, and so does the happens-before of each memory, which never leads in from
 /// outside the order.

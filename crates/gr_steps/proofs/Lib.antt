@@ -7,6 +7,7 @@ pub mod Meeting
 pub mod Resting
 pub mod StepGrowth
 pub mod NextEvents
+pub mod HeldEvents
 pub mod DecidedWaits
 pub mod Reached
 pub mod AllGrounded

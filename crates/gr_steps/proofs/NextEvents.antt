@@ -10,7 +10,7 @@ use Rattle.gr_model.specs.Names.{HasName, MatchesBy}
 use Rattle.gr_model.specs.Streams.{IsEvent, Streams}
 use Rattle.gr_model.specs.Waits.{IsPrevious, Waits, for_arrival, for_meeting, for_previous, for_release}
 use Rattle.gr_model.proofs.GrowthLaws.{not_both}
-use Rattle.gr_steps.specs.Steps.{IsReady}
+use Rattle.gr_steps.specs.Steps.{AreFirst, IsReady}
 use Rattle.gr_steps.proofs.EventRecords.{one_release}
 use Rattle.gr_steps.proofs.Orders.{handled_before, number_before, same_event}
 
@@ -37,10 +37,6 @@ module _ (s : Streams) (order : List EventId) (lawful : IsLawful s order) (e : E
 
   pub next_of_item : IsIn order d ↔ (d.index < e.index)
   next_of_item = (handled_is_before, before_is_handled)
-
--- the handled events of each item are its first ones, as many as c says
-abbrev pub AreFirst : List EventId → (ItemId → ℕ) → Type 0
-AreFirst order c = (e : EventId) → IsIn order e ↔ (e.index < c e.at)
 
 module _ (s : Streams) (order : List EventId) (lawful : IsLawful s order) (c : ItemId → ℕ) (first : AreFirst order c) (e : EventId) where
   -- the next event is ready if its release is handled and it is no barrier of a convergent or waiting instance

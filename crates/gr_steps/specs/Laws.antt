@@ -1,13 +1,16 @@
 -- What follows from the definitions of the steps, each the contract of a function that does nothing.
-use Rattle.std.specs.Prelude.{◌≡◌, ◌⊎◌, ◌↔◌, ℕ, ◌<◌, List, []}
+use Rattle.std.specs.Prelude.{◌≡◌, ◌⊎◌, ◌↔◌, ℕ, ◌-◌, ◌<◌, List, [], length}
+use Rattle.std.specs.List.{sum_by}
 use Rattle.gr_model.specs.declared.event.EventId.{EventId}
+use Rattle.gr_model.specs.declared.event.ItemId.{ItemId}
 use Rattle.gr_model.specs.declared.event.Word.{Word}
-use Rattle.gr_model.specs.Streams.{Streams, AreFronts, AreComplete, Grows, IsEvent}
+use Rattle.gr_model.specs.Shapes.{items_of}
+use Rattle.gr_model.specs.Streams.{Streams, AreFronts, AreComplete, Grows, IsEvent, trace_of}
 use Rattle.gr_model.specs.Waits.{IsGrounded}
 use Rattle.gr_model.specs.LawfulOrders.{IsLawful, IsIn}
 use Rattle.gr_model.specs.Races.{IsRacy}
-use Rattle.gr_model.specs.Reports.{IsUnmatched, WholeReport, IsReportButRaces}
-use Rattle.gr_steps.specs.Steps.{IsReady, Handles, Meets, IsAtRest, AreGrounded}
+use Rattle.gr_model.specs.Reports.{IsHeld, IsUnmatched, WholeReport, IsReportButRaces}
+use Rattle.gr_steps.specs.Steps.{IsReady, Handles, Meets, IsAtRest, AreGrounded, AreFirst}
 
 -- an event that may be handled is the next of its item: the handled ones are those before it
 abbrev pub ReadyIsNext : Type 0
@@ -34,6 +37,10 @@ MeetsStay = (s t : Streams) (old new : List EventId) (g k : ℕ) → Grows s t �
 -- where no step is left, the handled events are the grounded ones
 abbrev pub RestIsGrounded : Type 0
 RestIsGrounded = (s : Streams) (order : List EventId) → IsLawful s order → IsAtRest s order → AreGrounded s order
+
+-- and what was not handled of each item makes the number of the events that are held
+abbrev pub HeldAtRest : Type 0
+HeldAtRest = (s : Streams) (order : List EventId) (c : ItemId → ℕ) → IsLawful s order → IsAtRest s order → AreFirst order c → IsHeld s (sum_by (λ i. length (trace_of s i) - c i) (items_of s.sizes))
 
 -- ---- complete lists
 

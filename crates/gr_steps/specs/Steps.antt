@@ -68,3 +68,9 @@ pub record IsAtRest (s : Streams) (handled : List EventId) : Type 0 where
 -- the handled events are the grounded ones
 abbrev pub AreGrounded : Streams → List EventId → Type 0
 AreGrounded s handled = (e : EventId) → IsIn handled e ↔ IsGrounded s e
+
+-- ---- how many were handled
+
+-- the handled events of each item are its first ones, as many as c says
+abbrev pub AreFirst : List EventId → (ItemId → ℕ) → Type 0
+AreFirst handled c = (e : EventId) → IsIn handled e ↔ (e.index < c e.at)

@@ -1,6 +1,6 @@
 //! Laws of the steps. Each is the contract of a function that does nothing, told in words in docs/MODEL.md, "Steps".
 
-ghost use Rattle.gr_steps.specs.Laws.{ReadyIsNext, HandleStaysLawful, MeetStaysLawful, GrowthStaysLawful, HandlesStay, MeetsStay, RestIsGrounded, GroundedIsDecided, UnmatchedAreReported, AllIsGrounded, AllRacesCount};
+ghost use Rattle.gr_steps.specs.Laws.{ReadyIsNext, HandleStaysLawful, MeetStaysLawful, GrowthStaysLawful, HandlesStay, MeetsStay, RestIsGrounded, HeldAtRest, GroundedIsDecided, UnmatchedAreReported, AllIsGrounded, AllRacesCount};
 
 /// What may be handled behind a lawful order is the next event of its item.
 pub fn ready_is_next()
@@ -21,9 +21,11 @@ pub fn steps_stay_allowed()
     ensures meet { MeetsStay }
 {}
 
-/// Where no event may be handled and no instance may meet, the handled events are the grounded ones.
+/// Where no event may be handled and no instance may meet, the handled events are the grounded ones, and the others are
+/// as many as a report says are held.
 pub fn rest_is_grounded()
-    ensures { RestIsGrounded }
+    ensures grounded { RestIsGrounded }
+    ensures held { HeldAtRest }
 {}
 
 /// In complete lists each event is grounded or is not. Where no acquire is unmatched, as a report says that names none,
