@@ -122,7 +122,7 @@ module _ (b0 b1 b2 b3 b4 b5 b6 b7 b8 b9 b10 b11 b12 b13 b14 b15 b16 b17 b18 b19 
             rw (some, two_low b12 b13 f12 f13, two_high b12 b13 f12 f13, two_low b14 b15 f14 f15, two_high b14 b15 f14 f15, w.0, w.1, w.2, w.3) refl
       ]
 
-naming_ok : (kind : Kind) (name : Option Name) → is_name_ok kind name ≡ true → IsNamingOk kind name
+pub naming_ok : (kind : Kind) (name : Option Name) → is_name_ok kind name ≡ true → IsNamingOk kind name
 naming_ok kind None h = tt
 naming_ok kind (Some n) h =
     let a = and_parts _ _ h in

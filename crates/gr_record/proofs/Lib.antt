@@ -4,6 +4,9 @@ pub mod Found
 pub mod FoundFronts
 pub mod Growing
 pub mod LineNumbers
+pub mod LineWords
+pub mod LinesAgain
+pub mod LinesFound
 pub mod Loop
 pub mod Numbers
 pub mod Resuming

@@ -29,7 +29,7 @@ module _ (b0 b1 b2 b3 b4 b5 b6 b7 b8 b9 b10 b11 : ℕ) (rest : List ℕ) where
       let release : n.release < 16777216 = ok.1.2 in
       rw (ne_eqb _ 18446744073709551615 (not_all n.at.group n.at.item n.release group), two_again n.at.group (omega arith), two_again n.at.item (omega arith), four_again n.release (omega arith)) refl
 
-name_fits : (kind : Kind) (name : Option Name) → IsNamingOk kind name → is_name_ok kind name ≡ true
+pub name_fits : (kind : Kind) (name : Option Name) → IsNamingOk kind name → is_name_ok kind name ≡ true
 name_fits kind None ok = refl
 name_fits kind (Some n) ok = and_from _ _ (and_from _ _ (and_from _ _ ok.0 (lt-ltb _ _ ok.1.0)) (lt-ltb _ _ ok.1.1)) (lt-ltb _ _ ok.1.2)
 

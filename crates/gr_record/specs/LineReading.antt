@@ -1,6 +1,6 @@
 -- What a line says, word by word.
 -- Source: docs/FORMATS.md, "Text form".
-use Rattle.std.specs.Prelude.{◌≡◌, ◌≢◌, ℕ, ◌+◌, ◌^◌, ◌<◌, Bool, true, false, not, ◌&&◌, ◌||◌, List, [], ◌∷◌, ◌++◌, Option, Some, None, is_some, nat_eq, nat_lt, nat_le, ◌==◌, codes, decimal, All, length, slice_index, if◌then◌else◌}
+use Rattle.std.specs.Prelude.{◌≡◌, ◌≢◌, ℕ, ◌^◌, ◌<◌, Bool, true, false, ◌&&◌, List, [], ◌∷◌, Option, Some, None, nat_eq, nat_lt, nat_le, ◌==◌, codes, decimal, All, length, slice_index, if◌then◌else◌}
 use Rattle.std.specs.Cmp.Lexicographic.{pointwise}
 use Rattle.std.specs.Str.Parse.{digits_value}
 use Rattle.gr_model.specs.declared.limits.TheConstants.{MOST_GROUPS, MOST_ITEMS_OF_A_GROUP}
@@ -104,7 +104,7 @@ header_said bytes =
     let launch = first_of e in
     at_end launch.1
     (if same key.0 (codes "items") && same other_key.0 (codes "launch") then
-        (short_of group.0 >>= λ g. short_of items.0 >>= λ i. number_of launch.0 >>= λ l. header_made g i l)
+    (short_of group.0 >>= λ g. short_of items.0 >>= λ i. number_of launch.0 >>= λ l. header_made g i l)
     else None)
 
 -- what stands behind an acquire's order: a name, if anything
@@ -116,7 +116,7 @@ name_said bytes =
     let release = first_of d in
     at_end release.1
     (if same sign.0 (codes "<") then
-        (short_of group.0 >>= λ g. short_of item.0 >>= λ i. number_of release.0 >>= λ r. Some (record { at = record { group = g; item = i }; release = r }))
+    (short_of group.0 >>= λ g. short_of item.0 >>= λ i. number_of release.0 >>= λ r. Some (record { at = record { group = g; item = i }; release = r }))
     else None)
 
 abbrev pub naming_said : Option (List ℕ) → Option (Option Name)

@@ -10,7 +10,7 @@ pub mod laws;
 pub mod layout;
 pub mod line;
 pub mod line_text;
-mod parsing;
+pub mod parsing;
 pub mod part;
 mod reading;
 mod stop;

@@ -3,6 +3,9 @@
 ghost use Rattle.std.specs.Prelude.{◌≡◌, ◌≢◌, ◌^◌, ◌<◌, ◌++◌, ℕ, List, Some, None, IfSome, MatchOption, All, decimal};
 ghost use Rattle.std.specs.Option.{option_map};
 ghost use Rattle.gr_record.specs.LineReading.{same, number_of, IsWord, IsFirstSpace, behind_space, first_of, space_said, scope_said, order_said, flags_said, short_of, header_made, header_said, name_said, kind_said, atomic_said, barrier_said, event_said, checked, end_with, line_said};
+ghost use Rattle.gr_record.specs.declared.line.Line.{Line};
+ghost use Rattle.gr_record.specs.LineText.{line_text};
+ghost use Rattle.gr_record.specs.LineLaws.{IsSaid};
 
 use crate::header::Header;
 use crate::line::Line;
@@ -151,7 +154,11 @@ fn parse_header(bytes: &[u8]) -> Option<Header>
     if rest.is_some() || !is_word(key, "items") || !is_word(other_key, "launch") {
         return None;
     }
-    make_header(parse_short(group)?, parse_short(items)?, parse_number(launch)?)
+    make_header(
+        parse_short(group)?,
+        parse_short(items)?,
+        parse_number(launch)?,
+    )
 }
 
 /// The name that stands behind an acquire's order.
@@ -296,7 +303,7 @@ fn make_end(cut: bool) -> Event
     plain(0, Kind::End { cut }, Space::Global, 0)
 }
 
-/// What a line without its line feed says; `None` where the text form has no such line.
+/// What a line says, word by word.
 #[tactic(auto, unfolding(crate::specs::LineReading::line_said))]
 fn read_line(line: &[u8]) -> Option<Line>
     ensures { result ≡ line_said line.now }
@@ -315,4 +322,14 @@ fn read_line(line: &[u8]) -> Option<Line>
     let item = parse_short(first)?;
     let event = parse_event(item, rest?)?;
     Some(Line::Event(check(event)?))
+}
+
+/// What a line without its line feed says; `None` where the text form has no such line.
+pub fn parse_line(line: &[u8]) -> Option<Line>
+    // What is read has this line.
+    ensures found { IfSome result (λ l. IsSaid l × (line.now ≡ line_text l)) }
+    // What has this line is read.
+    ensures only { (l : Line) → IsSaid l → line.now ≡ line_text l → result ≡ Some l }
+{
+    read_line(line)
 }

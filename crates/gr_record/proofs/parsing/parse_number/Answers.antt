@@ -1,11 +1,10 @@
-use Rattle.std.proofs.Common.{◌≡◌, ◌≢◌, ◌^◌, ◌<◌, ℕ, List, Option, Some, None, Result, Ok, Err, refl, sym, ap, subst, ◌∙◌, arith}
+use Rattle.std.proofs.Common.{◌≡◌, ◌≢◌, ◌^◌, ◌<◌, ℕ, List, Option, Some, None, Result, Ok, Err, sym, ap, subst, ◌∙◌, arith}
 use Rattle.std.specs.Prelude.{decimal}
 use Rattle.std.specs.Result.{MatchResult, result_ok}
 use Rattle.std.specs.Cmp.Lexicographic.{same_text, other_text}
 use Rattle.std.specs.Str.Parse.{ParsesUnsigned}
 use Rattle.std.proofs.lemmas.Fmt.{IsAscii-decimal, parse-decimal}
 use Rattle.std.proofs.lemmas.Str.{IsUtf8-from_ascii}
-use Rattle.gr_record.specs.LineReading.{number_of}
 use Rattle.gr_record.proofs.LineNumbers.{number_back, number_none}
 use Rattle.gr_record.proofs.parsing.parse_number.Goals as goal
 
@@ -47,5 +46,5 @@ returns-else-eq c =
     let text = at_some _ _ _ _ (sym c.ok.ensures.value ∙ c.in_ok-ok.was) c.from_utf8.ensures.cases in
     let other : c.as_bytes.result.now ≢ c.args.word.now = other_text _ _ (sym c.if-eq.false ∙ c.eq.ensures) in
     sym (number_none c.args.word.now (λ n lt is.
-        let number : n ≡ c.in_ok-number.number = same_number _ n c.in_ok-number.number (parsed _ _ n lt (text.0 ∙ is) c.parse.ensures.value.0) (sym c.ok-2.ensures.value ∙ c.in_ok-number.was) in
-        other (c.as_bytes.ensures.value ∙ c.format.ensures.text ∙ ap decimal (sym number) ∙ sym is)))
+    let number : n ≡ c.in_ok-number.number = same_number _ n c.in_ok-number.number (parsed _ _ n lt (text.0 ∙ is) c.parse.ensures.value.0) (sym c.ok-2.ensures.value ∙ c.in_ok-number.was) in
+    other (c.as_bytes.ensures.value ∙ c.format.ensures.text ∙ ap decimal (sym number) ∙ sym is)))

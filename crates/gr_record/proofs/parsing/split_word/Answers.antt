@@ -1,4 +1,4 @@
-use Rattle.std.proofs.Common.{◌≡◌, sym, ◌+◌}
+use Rattle.std.proofs.Common.{sym, ◌+◌}
 use Rattle.std.proofs.lemmas.List.{take_rest}
 use Rattle.gr_record.proofs.Words.{first_whole, first_cut}
 use Rattle.gr_record.proofs.parsing.split_word.Goals as goal
