@@ -1,4 +1,4 @@
-//! Tests of the codec. Bytes are those of docs/FORMATS.md, "Vectors".
+//! Tests of the codec. Bytes are those of docs/FORMATS.md, "Stream".
 
 mod growths;
 mod pieces;
