@@ -1,17 +1,19 @@
--- What is ready is its item's next event; and when the next event is ready, by how many events of each item were handled.
+-- What is ready is its item's next event; and when the next events are ready or can meet, by how many events of each item were handled.
 use Rattle.std.proofs.Common.{◌≡◌, ◌↔◌, ℕ, ◌<◌, ◌≤◌, List, refl, sym, ap, subst, ⊎_elim, arith, eq-or-lt_of_le}
 use Rattle.std.proofs.lemmas.Bool.{cases_lt}
 use Rattle.gr_model.specs.declared.event.EventId.{EventId}
 use Rattle.gr_model.specs.declared.event.ItemId.{ItemId}
 use Rattle.gr_model.specs.declared.event.Name.{Name}
-use Rattle.gr_model.specs.Barriers.{IsDivergent, StandsIn}
+use Rattle.gr_model.specs.Barriers.{IsConvergent, IsDivergent, StandsIn}
+use Rattle.gr_model.specs.Instances.{Mark}
 use Rattle.gr_model.specs.LawfulOrders.{IsIn, IsLawful}
 use Rattle.gr_model.specs.Names.{HasName, MatchesBy}
 use Rattle.gr_model.specs.Streams.{IsEvent, Streams}
 use Rattle.gr_model.specs.Waits.{IsPrevious, Waits, for_arrival, for_meeting, for_previous, for_release}
 use Rattle.gr_model.proofs.GrowthLaws.{not_both}
-use Rattle.gr_steps.specs.Steps.{AreFirst, IsReady}
+use Rattle.gr_steps.specs.Steps.{AreFirst, IsMeeting, IsReady}
 use Rattle.gr_steps.proofs.EventRecords.{one_release}
+use Rattle.gr_steps.proofs.Meeting.{meeting_of}
 use Rattle.gr_steps.proofs.Orders.{handled_before, number_before, same_event}
 
 module _ (s : Streams) (order : List EventId) (lawful : IsLawful s order) (e : EventId) (ready : IsReady s order e) (d : EventId) (item : d.at ≡ e.at) where
@@ -83,3 +85,26 @@ module _ (s : Streams) (order : List EventId) (lawful : IsLawful s order) (c : I
   ready_release ready n named =
       let d = ready.release n named in
       (d.0, d.1, (first d.0).0 (ready.waits d.0 (for_release (record { name = n; by = d.1 }))))
+
+module _ (s : Streams) (order : List EventId) (lawful : IsLawful s order) (c : ItemId → ℕ) (first : AreFirst order c) (g k : ℕ) (a : Mark) where
+  -- a convergent instance can meet where its barriers are the next events of their items
+  pub next_can_meet : IsConvergent s g k a → ((b : EventId) → StandsIn s b g k → b.index ≡ c b.at) → IsMeeting s order g k a
+  next_can_meet convergent next =
+      meeting_of s order lawful g k a convergent
+      (λ met. let below : met.0.index < c met.0.at = (first met.0).0 met.2 in let same = next met.0 met.1 in omega (arith, below, same))
+      (λ b d stands p. (first d).1 (let item : c d.at ≡ c b.at = ap c p.item in let same = next b stands in omega (arith, p.next, same, item)))
+
+  -- and the barriers that can meet are the next events of their items
+  pub can_meet_is_next : IsMeeting s order g k a → (b : EventId) → StandsIn s b g k → b.index ≡ c b.at
+  can_meet_is_next meeting b stands =
+      ⊎_elim
+      (λ (lt : b.index < c b.at). absurd (meeting.fresh (b, stands, (first b).1 lt)))
+      (λ (ge : c b.at ≤ b.index). ⊎_elim (λ (same : c b.at ≡ b.index). sym same) (λ (lt : c b.at < b.index). absurd (over lt)) (eq-or-lt_of_le ge))
+      (cases_lt b.index (c b.at))
+    where
+      over : c b.at < b.index → ⊥
+      over lt =
+          let n = number_before b.index (omega (arith, lt)) in
+          let d : EventId = record { at = b.at; index = n.0 } in
+          let there = (first d).0 (meeting.before b d stands (record { item = refl; next = n.1 })) in
+          omega (arith, there, n.1)
