@@ -74,7 +74,7 @@ fn scope_of(kind: &Kind) -> Option<Scope>
 
 /// Whether two scopes, each of an access of this group, are the same, and for work-group scope of one group. A plain
 /// access has no scope, which is the same as none.
-pub fn same_scope(
+pub(crate) fn same_scope(
     first: Option<Scope>,
     first_group: u16,
     second: Option<Scope>,
