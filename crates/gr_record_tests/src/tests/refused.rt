@@ -3,6 +3,7 @@
 use super::vectors::HEADER;
 use gr_record::decoder::Decoder;
 use gr_record::error::RecordError;
+use gr_record::parsing::parse_line;
 use std::test::Fail;
 
 /// What is wrong, the bytes of a record, and the fault.
@@ -150,4 +151,41 @@ fn each_bad_header_is_refused_once_it_is_whole(rt: HostRuntime) -> Result<(), Fa
         assert!(rt; parts.is_empty(), "{wrong}");
     }
     Ok(())
+}
+
+#[test]
+fn lines_of_another_form_say_nothing(rt: HostRuntime) {
+    let lines = [
+        "00 w g 16",
+        "0 w g  16",
+        "0 ld g 16 dev rel",
+        "0 st g 16 dev rel < 0 0 0",
+        "0 bar 7 lg",
+        "End",
+        "",
+        " 0 w g 16",
+        "0 w g 16 ",
+        "0 w g 16\r",
+        "0 w g 016",
+        "+0 w g 16",
+        "256 w g 16",
+        "65536 w g 16",
+        "0 w g 4294967296",
+        "0 w g 99999999999999999999",
+        "0 ld g 16 dev rlx < 0 0 0",
+        "0 ld g 16 dev acq < 64 0 0",
+        "0 ld g 16 dev acq < 0 256 0",
+        "0 ld g 16 dev acq < 0 0 16777216",
+        "0 ld g 16 dev acq <",
+        "end  cut",
+        "end cut cut",
+        "0 end",
+        "group 64 items 2 launch 7",
+        "group 0 items 0 launch 7",
+        "group 0 items 257 launch 7",
+        "group 0 items 2 launch 4294967296",
+    ];
+    for line in lines {
+        assert!(rt; parse_line(line.as_bytes()).is_none(), "{line}");
+    }
 }

@@ -7,6 +7,7 @@ use gr_record::encoding::{encode_event, encode_header};
 use gr_record::header::Header;
 use gr_record::line::Line;
 use gr_record::line_text::line_text;
+use gr_record::parsing::parse_line;
 use gr_record::part::Part;
 use std::test::Fail;
 
@@ -138,6 +139,7 @@ fn a_header_is_written_and_read(rt: HostRuntime) -> Result<(), Fail> {
     assert!(rt; parts.as_slice() == [Part::Header(header)].as_slice());
     let text = line_text(rt.alloc(), &Line::Header(header))?;
     assert_eq!(rt; text.as_str(), "group 0 items 2 launch 7");
+    assert!(rt; parse_line(b"group 0 items 2 launch 7") == Some(Line::Header(header)));
     Ok(())
 }
 
@@ -167,6 +169,10 @@ fn each_record_has_its_line(rt: HostRuntime) -> Result<(), Fail> {
         assert!(rt; event_ok(&event, MOST_ITEMS_OF_A_GROUP), "{text}");
         let written = line_text(rt.alloc(), &Line::Event(event))?;
         assert_eq!(rt; written.as_str(), text);
+        assert!(rt;
+            parse_line(text.as_bytes()) == Some(Line::Event(event)),
+            "{text}"
+        );
     }
     Ok(())
 }
