@@ -1,6 +1,6 @@
 #!/bin/sh
-# Sixty-four senders over one intake queue, a million events, at one place and at 1,024. Builds and runs the program below
-# beside a copy of the crates, without a proof of its own; the gate doesn't know of it.
+# Sixty-four senders over one intake queue, a million events, at one place and at 1,024. Builds and runs the program below,
+# for at most so many seconds (600), beside a copy of the crates, without a proof of its own; the gate does not know of it.
 set -e
 root=$(cd "$(dirname "$0")/.." && pwd)
 work=$(mktemp -d)
@@ -107,10 +107,10 @@ where
 
 fn main(rt: HostRuntime) -> io::Result<()> {
     for capacity in [1, 1024] {
-        let start = Instant::now(&rt);
+        let start = Instant::now(&rt)?;
         match run(rt, rt.alloc(), capacity) {
             Ok(true) => {
-                let millis = start.elapsed(&rt).as_millis();
+                let millis = start.elapsed(&rt)?.as_millis();
                 println!(rt; "capacity {capacity}: all in order, {millis} ms")?;
             }
             Ok(false) => println!(rt; "capacity {capacity}: OUT OF ORDER")?,
@@ -121,4 +121,4 @@ fn main(rt: HostRuntime) -> io::Result<()> {
 }
 PROGRAM
 cd "$work/crates/queue_stress"
-rt try "$@"
+rt try --seconds "${1:-600}"
