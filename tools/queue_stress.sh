@@ -1,10 +1,11 @@
 #!/bin/sh
-# Sixty-four senders over one intake queue, a million events, at one place and at 1,024. Builds and runs the program below
-# beside a copy of the crates, without a proof of its own; the gate doesn't know of it.
+# Sixty-four senders over one intake queue, at 1,024 places and at one: queue_stress.sh [EVENTS OF EACH [SECONDS]], by
+# default a million events in all, for at most 600 seconds. Builds and runs the program below beside a copy of the crates,
+# without a proof of its own; the gate doesn't know of it.
 set -e
 root=$(cd "$(dirname "$0")/.." && pwd)
 work=$(mktemp -d)
-trap 'rm -rf "$work"' EXIT
+trap 'rm -rf "$work"' EXIT INT TERM
 mkdir -p "$work/crates/queue_stress/src"
 cp "$root/HANDLES" "$work"
 for crate in gr_model gr_scopes gr_clocks gr_route gr_sender; do
@@ -12,8 +13,8 @@ for crate in gr_model gr_scopes gr_clocks gr_route gr_sender; do
 done
 grep -E '^(gr_model|gr_scopes|gr_clocks|gr_route|gr_sender)[ :]' "$root/crates.txt" > "$work/crates.txt"
 echo 'queue_stress: gr_model gr_route gr_sender atomic_table crossbeam_queue' >> "$work/crates.txt"
-cat > "$work/crates/queue_stress/src/main.rt" <<'PROGRAM'
-//! Sixty-four senders, each on a thread of its own, over one intake queue, at one place and at 1,024: each event arrives
+sed "s/@EVENTS@/${1:-15625}/" > "$work/crates/queue_stress/src/main.rt" <<'PROGRAM'
+//! Sixty-four senders, each on a thread of its own, over one intake queue, at 1,024 places and at one: each event arrives
 //! once and in its group's order, and the end last.
 #![tactic(auto)]
 
@@ -28,8 +29,8 @@ use std::sync::{Arc, Wait};
 use std::thread::{self, Threads};
 use std::time::Instant;
 
-/// The events of each sender, its end aside: a million in all.
-const EVENTS: u32 = 15_625;
+/// The events of each sender, its end aside.
+const EVENTS: u32 = @EVENTS@;
 
 fn write(word: u32) -> Event {
     Event {
@@ -106,11 +107,11 @@ where
 }
 
 fn main(rt: HostRuntime) -> io::Result<()> {
-    for capacity in [1, 1024] {
-        let start = Instant::now(&rt);
+    for capacity in [1024, 1] {
+        let start = Instant::now(&rt)?;
         match run(rt, rt.alloc(), capacity) {
             Ok(true) => {
-                let millis = start.elapsed(&rt).as_millis();
+                let millis = start.elapsed(&rt)?.as_millis();
                 println!(rt; "capacity {capacity}: all in order, {millis} ms")?;
             }
             Ok(false) => println!(rt; "capacity {capacity}: OUT OF ORDER")?,
@@ -121,4 +122,4 @@ fn main(rt: HostRuntime) -> io::Result<()> {
 }
 PROGRAM
 cd "$work/crates/queue_stress"
-rt try "$@"
+rt try --seconds "${2:-600}"

@@ -3,8 +3,10 @@ use Rattle.std.specs.Prelude.{◌≡◌, ℕ, zero, suc, ◌<◌, false, List, [
 use Rattle.gr_model.specs.declared.event.Event.{Event}
 use Rattle.gr_model.specs.declared.event.Kind.TheVariants.{Write}
 use Rattle.gr_model.specs.declared.event.Space.TheVariants.{Global}
+use Rattle.gr_model.specs.declared.limits.TheConstants.{MOST_RECORDS}
 use Rattle.gr_model.specs.Streams.{is_complete}
 use Rattle.gr_route.specs.declared.intake.Sent.{Sent}
+use Rattle.gr_route.specs.Rooms.{Room}
 use Rattle.gr_route.specs.IntakeSeats.{Seat, Taker, popped_of}
 use Rattle.gr_sender.specs.Refusals.{end_of}
 use Rattle.gr_sender.specs.Senders.{Sending}
@@ -21,6 +23,10 @@ writes_below (suc n) = writes_below n ++ write_of n ∷ []
 -- and then the end
 abbrev pub stream_of : ℕ → List Event
 stream_of count = writes_below count ++ end_of false ∷ []
+
+-- a sender that has sent nothing, of a group of one item, for a stream of any length
+abbrev pub IsFreshSender : Room → ℕ → Sending → Type 0
+IsFreshSender queue group sender = sender ≡ record { queue = queue; group = group; items = 1; records = MOST_RECORDS; sent = [] }
 
 -- the receipt of a sender that sent the whole stream
 abbrev pub IsReceiptOf : Sending → ℕ → Seat → Type 0

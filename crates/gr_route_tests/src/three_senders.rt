@@ -2,13 +2,14 @@
 //! was sent.
 
 ghost use Rattle.std.specs.Prelude.{◌≡◌, ◌<◌, ◌≤◌, ◌==◌, ℕ, false, [], slice_index_or, if◌then◌else◌, IfOk, IfSome};
+ghost use Rattle.std.specs.Arc.{arc_value};
 ghost use Rattle.gr_model.specs.Events.{is_end};
 ghost use Rattle.gr_route.specs.IntakeRule.{events_of};
 ghost use Rattle.gr_route.specs.IntakeSeats.{popped_of};
-ghost use Rattle.gr_route_tests.specs.Sent.{HasEnds, HasAll, IsReceiptOf, stream_of, write_of};
+ghost use Rattle.gr_route_tests.specs.Sent.{HasAll, HasEnds, IsFreshSender, IsReceiptOf, stream_of, write_of};
 
 use gr_model::event::{Event, Kind, Space};
-use gr_model::limits::MOST_RECORDS;
+use gr_model::limits::{MOST_GROUPS, MOST_RECORDS};
 use gr_model::memory::Memory;
 use gr_route::intake::{Intake, IntakeSeat, Sent, TakerSeat};
 use gr_route::room::MOST_PLACES;
@@ -103,6 +104,74 @@ fn join_all(queue: &Intake, taker: &mut TakerSeat, a: IntakeSeat, b: IntakeSeat,
     queue.join_back(taker, c);
 }
 
+/// An open sender of a group of one item, or `None` where the group has had a seat.
+fn sender_of(
+    queue: &Arc<Intake, Global>,
+    taker: &mut TakerSeat,
+    group: u16,
+) -> Result<Option<Sender>, Memory>
+    requires queue { taker.old.queue ≡ (arc_value queue.now).queue }
+    requires group { group < MOST_GROUPS }
+    ensures sender { IfOk result (λ made. IfSome made (IsFreshSender (arc_value queue.now) group)) }
+    ensures taker { (taker.new.queue ≡ taker.old.queue) × (taker.new.popped ≡ taker.old.popped) }
+{
+    let Some(seat) = queue.split(taker, group, 1) else {
+        return Ok(None);
+    };
+    let queue = Arc::try_clone(queue)?;
+    let sender = Sender::new(group, 1, MOST_RECORDS as u32, queue, seat);
+    Ok(Some(sender))
+}
+
+/// What a run leaves: of each sender its receipt, and of the taker its seat and what it popped.
+type Left = (
+    (Result<Receipt, Sender>, Result<Receipt, Sender>),
+    (
+        Result<Receipt, Sender>,
+        (TakerSeat, Result<Vec<Sent>, Memory>),
+    ),
+);
+
+/// Runs three senders and a taker, each on a thread of its own.
+fn run<R: Threads + Wait + Sync>(
+    rt: &R,
+    alloc: Global,
+    queue: &Intake,
+    taker: TakerSeat,
+    senders: (Sender, Sender, Sender),
+    count: u32,
+) -> Left
+    requires senders { (senders.0.sent ≡ []) × (senders.1.sent ≡ []) × (senders.2.sent ≡ []) }
+    requires taker { (taker.queue ≡ queue.now.queue) × (taker.popped ≡ []) }
+    ensures first { IfOk result.0.0 (IsReceiptOf senders.0 count) }
+    ensures second { IfOk result.0.1 (IsReceiptOf senders.1 count) }
+    ensures third { IfOk result.1.0 (IsReceiptOf senders.2 count) }
+    ensures taker { result.1.1.0 ≡ record taker { popped = result.1.1.0.popped } }
+    ensures popped { IfOk result.1.1.1 (HasAll result.1.1.0) }
+{
+    let (a, b, c) = senders;
+    join(
+        rt,
+        || -> (Result<Receipt, Sender>, Result<Receipt, Sender>)
+            requires { (a.sent ≡ []) × (b.sent ≡ []) }
+            ensures { IfOk result.0 (IsReceiptOf a count) × IfOk result.1 (IsReceiptOf b count) }
+        { join(rt, || send_all(rt, a, count), || send_all(rt, b, count)) },
+        || -> (
+            Result<Receipt, Sender>,
+            (TakerSeat, Result<Vec<Sent>, Memory>),
+        )
+            requires { (c.sent ≡ []) × (taker.queue ≡ queue.now.queue) × (taker.popped ≡ []) }
+            ensures { IfOk result.0 (IsReceiptOf c count) × (result.1.0 ≡ record taker { popped = result.1.0.popped }) × IfOk result.1.1 (HasAll result.1.0) }
+        {
+            join(
+                rt,
+                || send_all(rt, c, count),
+                || take_all(rt, alloc, queue, taker),
+            )
+        },
+    )
+}
+
 /// Three senders of groups 0 to 2, each of one item, send the writes of the words below a count and then the end, while a
 /// taker pops until it has the three ends. Of each group, what was popped is what was sent. `None` where a sender refused.
 pub fn three_senders<R: Threads + Wait + Sync>(
@@ -117,48 +186,19 @@ pub fn three_senders<R: Threads + Wait + Sync>(
     let (queue, mut taker) = Intake::new(alloc, capacity)?;
     let queue = Arc::new(alloc, queue)?;
     let (Some(a), Some(b), Some(c)) = (
-        queue.split(&mut taker, 0, 1),
-        queue.split(&mut taker, 1, 1),
-        queue.split(&mut taker, 2, 1),
+        sender_of(&queue, &mut taker, 0)?,
+        sender_of(&queue, &mut taker, 1)?,
+        sender_of(&queue, &mut taker, 2)?,
     ) else {
         return Ok(None);
     };
-    let most = MOST_RECORDS as u32;
-    let a = Sender::new(0, 1, most, Arc::try_clone(&queue)?, a);
-    let b = Sender::new(1, 1, most, Arc::try_clone(&queue)?, b);
-    let c = Sender::new(2, 1, most, Arc::try_clone(&queue)?, c);
     let shared: &Intake = &queue;
-    let ((a, b), (c, (taker, all))) = join(
-        rt,
-        || -> (Result<Receipt, Sender>, Result<Receipt, Sender>)
-            requires { (a.sent ≡ []) × (b.sent ≡ []) }
-            ensures { IfOk result.0 (IsReceiptOf a count) × IfOk result.1 (IsReceiptOf b count) }
-        { join(rt, || send_all(rt, a, count), || send_all(rt, b, count)) },
-        || -> (
-            Result<Receipt, Sender>,
-            (TakerSeat, Result<Vec<Sent>, Memory>),
-        )
-            requires { (c.sent ≡ []) × (taker.queue ≡ shared.now.queue) × (taker.popped ≡ []) }
-            ensures { IfOk result.0 (IsReceiptOf c count) × (result.1.0 ≡ record taker { popped = result.1.0.popped }) × IfOk result.1.1 (HasAll result.1.0) }
-        {
-            join(
-                rt,
-                || send_all(rt, c, count),
-                || take_all(rt, alloc, shared, taker),
-            )
-        },
-    );
-    let mut taker = taker;
+    let ((a, b), (c, (taker, all))) = run(rt, alloc, shared, taker, (a, b, c), count);
     let (Ok(a), Ok(b), Ok(c)) = (a, b, c) else {
         return Ok(None);
     };
     let all = all?;
-    join_all(
-        shared,
-        &mut taker,
-        a.into_seat(),
-        b.into_seat(),
-        c.into_seat(),
-    );
+    let (mut taker, a, b, c) = (taker, a.into_seat(), b.into_seat(), c.into_seat());
+    join_all(shared, &mut taker, a, b, c);
     Ok(Some(all))
 }

@@ -5,7 +5,9 @@ ghost use Rattle.std.specs.Arc.{arc_value};
 
 use crate::three_senders::write;
 use gr_model::event::{Event, Kind, Space};
+use gr_model::limits::MOST_RECORDS;
 use gr_route::intake::{Intake, TakerSeat};
+use gr_route::room::MOST_PLACES;
 use gr_sender::sender::{SendError, Sender};
 use std::alloc::Global;
 use std::sync::Arc;
@@ -17,8 +19,8 @@ fn sender_over(
     capacity: u32,
     records: u32,
 ) -> Result<(Sender, Arc<Intake, Global>, TakerSeat), Fail>
-    requires capacity { (0 < capacity) × (capacity ≤ 65536) }
-    requires records { (0 < records) × (records ≤ 16777216) }
+    requires capacity { (0 < capacity) × (capacity ≤ MOST_PLACES) }
+    requires records { (0 < records) × (records ≤ MOST_RECORDS) }
     ensures { IfOk result (λ made. (made.0.sent ≡ []) × (made.2.queue ≡ (arc_value made.1).queue)) }
 {
     let (queue, mut taker) = Intake::new(alloc, capacity)?;
