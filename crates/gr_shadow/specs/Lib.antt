@@ -1,0 +1,4 @@
+pub mod Clashes
+pub mod WordShadows
+pub mod StandsFor
+pub mod Laws
