@@ -21,6 +21,17 @@ pub(crate) struct Touch {
 }
 
 impl Touch {
+    /// What is kept of this access.
+    fn of<A: Allocator>(access: &Access<A>) -> Touch
+        ensures { result ≡ spec.touch_of (clocked access.now) }
+    {
+        Touch {
+            item: access.item,
+            index: access.index,
+            class: access.class,
+        }
+    }
+
     /// Whether a later access to the same word clashes with this one.
     fn clashes<A: Allocator>(&self, access: &Access<A>) -> bool
         ensures { result ≡ clashes_with self.now.item self.now.index self.now.class (clocked access.now) }
@@ -82,11 +93,7 @@ impl<A: Allocator> Shadow<A> {
         ensures err { OnErr result (self.new ≡ self.old) }
     {
         let hit = !self.answered && self.clashes(access);
-        self.touches.push(Touch {
-            item: access.item,
-            index: access.index,
-            class: access.class,
-        })?;
+        self.touches.push(Touch::of(access))?;
         self.answered = self.answered || hit;
         Ok(hit)
     }
