@@ -19,8 +19,8 @@ use std::test::Fail;
 /// An access of group 0: its word, item, index and class, and the counts of its clock by items.
 type Step = (Word, u16, u32, Class, [u32; 6]);
 
-/// A row: its name, how many items there are, its accesses, and the answer to each.
-type Row = (&'static str, u16, [Option<Step>; 7], [Option<Word>; 7]);
+/// A row: its name, how many items there are, its accesses, the answer to each, and the hit words at its end.
+type Row = (&'static str, u16, [Option<Step>; 7], [Option<Word>; 7], &'static [Word]);
 
 const FOUR: Word = Word::Global(4);
 const EIGHT: Word = Word::Global(8);
@@ -36,12 +36,13 @@ const ANSWERED_ONCE: [Option<Step>; 7] = [
     None,
 ];
 
-const ROWS: [Row; 7] = [
+const ROWS: [Row; 9] = [
     (
         "a word is answered once",
         2,
         ANSWERED_ONCE,
         [None, Some(SIXTEEN), None, None, None, None, None],
+        &[SIXTEEN],
     ),
     (
         "an ordered read does not hide one that is not",
@@ -56,6 +57,7 @@ const ROWS: [Row; 7] = [
             None,
         ],
         [None, None, Some(SIXTEEN), None, None, None, None],
+        &[SIXTEEN],
     ),
     (
         "both reads are ordered",
@@ -70,6 +72,7 @@ const ROWS: [Row; 7] = [
             None,
         ],
         [None; 7],
+        &[],
     ),
     (
         "the greatest index decides, not the latest",
@@ -84,6 +87,7 @@ const ROWS: [Row; 7] = [
             None,
         ],
         [None, None, Some(EIGHT), None, None, None, None],
+        &[EIGHT],
     ),
     (
         "the greatest index is ordered",
@@ -98,6 +102,7 @@ const ROWS: [Row; 7] = [
             None,
         ],
         [None; 7],
+        &[],
     ),
     (
         "six items modify by device atomics, and one reads",
@@ -112,6 +117,7 @@ const ROWS: [Row; 7] = [
             Some((FOUR, 0, 1, Class::PlainRead, [2, 0, 0, 0, 0, 0])),
         ],
         [None, None, None, None, None, None, Some(FOUR)],
+        &[FOUR],
     ),
     (
         "six items modify by device atomics, and one reads behind all",
@@ -126,6 +132,37 @@ const ROWS: [Row; 7] = [
             Some((FOUR, 0, 1, Class::PlainRead, [2, 1, 1, 1, 1, 1])),
         ],
         [None; 7],
+        &[],
+    ),
+    (
+        "hit words are told in ascending order",
+        2,
+        [
+            Some((EIGHT, 0, 0, Class::PlainWrite, [1, 0, 0, 0, 0, 0])),
+            Some((FOUR, 0, 1, Class::PlainWrite, [2, 0, 0, 0, 0, 0])),
+            Some((EIGHT, 1, 0, Class::PlainWrite, [0, 1, 0, 0, 0, 0])),
+            Some((FOUR, 1, 1, Class::PlainWrite, [0, 2, 0, 0, 0, 0])),
+            None,
+            None,
+            None,
+        ],
+        [None, None, Some(EIGHT), Some(FOUR), None, None, None],
+        &[FOUR, EIGHT],
+    ),
+    (
+        "words of two memories are two words",
+        2,
+        [
+            Some((EIGHT, 0, 0, Class::PlainWrite, [1, 0, 0, 0, 0, 0])),
+            Some((Word::Local(0, 8), 1, 0, Class::PlainWrite, [0, 1, 0, 0, 0, 0])),
+            None,
+            None,
+            None,
+            None,
+            None,
+        ],
+        [None; 7],
+        &[],
     ),
 ];
 
@@ -237,11 +274,10 @@ fn answers<A: Allocator + Copy>(
 
 #[test]
 fn a_word_is_answered_where_it_becomes_hit(rt: HostRuntime) -> Result<(), Fail> {
-    for (name, items, steps, wanted) in &ROWS {
+    for (name, items, steps, wanted, hits) in &ROWS {
         let (all, words) = answers(rt.alloc(), *items, steps).ok_or("memory")?;
         assert_eq!(rt; all, *wanted, "{name}");
-        let hits = wanted.iter().filter(|word| word.is_some()).count();
-        assert_eq!(rt; words.len(), hits, "{name}");
+        assert_eq!(rt; words.as_slice(), *hits, "{name}");
     }
     Ok(())
 }
