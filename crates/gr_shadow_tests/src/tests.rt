@@ -20,10 +20,18 @@ use std::test::Fail;
 type Step = (Word, u16, u32, Class, [u32; 6]);
 
 /// A row: its name, how many items there are, its accesses, the answer to each, and the hit words at its end.
-type Row = (&'static str, u16, [Option<Step>; 7], [Option<Word>; 7], &'static [Word]);
+type Row = (
+    &'static str,
+    u16,
+    [Option<Step>; 7],
+    [Option<Word>; 7],
+    &'static [Word],
+);
 
 const FOUR: Word = Word::Global(4);
+
 const EIGHT: Word = Word::Global(8);
+
 const SIXTEEN: Word = Word::Global(16);
 
 const ANSWERED_ONCE: [Option<Step>; 7] = [
@@ -154,7 +162,13 @@ const ROWS: [Row; 9] = [
         2,
         [
             Some((EIGHT, 0, 0, Class::PlainWrite, [1, 0, 0, 0, 0, 0])),
-            Some((Word::Local(0, 8), 1, 0, Class::PlainWrite, [0, 1, 0, 0, 0, 0])),
+            Some((
+                Word::Local(0, 8),
+                1,
+                0,
+                Class::PlainWrite,
+                [0, 1, 0, 0, 0, 0],
+            )),
             None,
             None,
             None,
@@ -295,7 +309,11 @@ fn each_refused_growth_leaves_the_hit_words(rt: HostRuntime) -> Result<(), Fail>
     for at in 0..1_000_u64 {
         let heap = Refusing::new(rt.alloc(), at);
         let (all, words) = answers(&heap, 2, &ANSWERED_ONCE).ok_or("a refusal changed the words")?;
-        assert_eq!(rt; all, [None, Some(SIXTEEN), None, None, None, None, None], "growth {at}");
+        assert_eq!(rt;
+            all,
+            [None, Some(SIXTEEN), None, None, None, None, None],
+            "growth {at}"
+        );
         assert_eq!(rt; words.as_slice(), [SIXTEEN].as_slice(), "growth {at}");
         let merged = union(&heap, &words, &[Word::Global(3), Word::Local(0, 1)]).ok_or("memory")?;
         assert_eq!(rt;
