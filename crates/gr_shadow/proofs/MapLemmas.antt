@@ -10,8 +10,7 @@ use Rattle.gr_model.specs.contracts.event.WordEq.TheImpl.Laws as equal
 use Rattle.gr_model.proofs.Pairs.{SomeOf, SomeOf-at, SomeOf-place}
 use Rattle.gr_model.proofs.WordLemmas.{same_from_equal}
 use Rattle.gr_shadow.specs.Clashes.{ClockedAccess}
-use Rattle.gr_shadow.specs.WordShadows.{WordShadow, no_shadow, shadow_after}
-use Rattle.gr_shadow.specs.StandsFor.{Kept, same_word, shadow_at, answered_words, IsAfter}
+use Rattle.gr_shadow.specs.Kept.{WordShadow, no_shadow, shadow_after, Kept, same_word, shadow_at, answered_words, IsAfter}
 
 -- a map in which the word of an access has its next shadow, and each other word what it had
 pub after_from_update : (old : Kept) (y : ClockedAccess) (new : Kept) → ((w : Word) → lookup (same_word w) new ≡ cond (same_word y.word w) (Some (shadow_after (shadow_at old y.word) y)) (lookup (same_word w) old)) → IsAfter old y new

@@ -1,4 +1,4 @@
 pub mod Clashes
-pub mod WordShadows
+pub mod Kept
 pub mod StandsFor
 pub mod Laws

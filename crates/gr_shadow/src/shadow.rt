@@ -2,8 +2,8 @@
 
 ghost use Rattle.std.specs.Prelude.{◌≡◌, IfOk, OnOk, OnErr};
 ghost use Rattle.gr_shadow.specs.Clashes.{clocked, clashes_with};
-ghost use Rattle.gr_shadow.specs.WordShadows as spec;
-ghost use Rattle.gr_shadow.specs.WordShadows.{no_shadow, shadow_after};
+ghost use Rattle.gr_shadow.specs.Kept as spec;
+ghost use Rattle.gr_shadow.specs.Kept.{no_shadow, shadow_after};
 
 use gr_clocks::access::Access;
 use gr_model::event::ItemId;
@@ -51,7 +51,7 @@ pub(crate) struct Shadow<A: Allocator = Global> {
 }
 
 impl<A: Allocator> Model for Shadow<A> {
-    ghost use Rattle.gr_shadow.specs.WordShadows.{WordShadow};
+    ghost use Rattle.gr_shadow.specs.Kept.{WordShadow};
 
     ghost Value = { WordShadow };
 

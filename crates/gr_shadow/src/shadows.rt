@@ -10,8 +10,8 @@ ghost use Rattle.std.specs.Map.{keys_of};
 ghost use Rattle.gr_model.specs.declared.event.Word.{Word as AnyWord};
 ghost use Rattle.gr_model.specs.Reports.{Lists, WordBelow};
 ghost use Rattle.gr_shadow.specs.Clashes.{ClockedAccess, clocked, IsHitIn};
-ghost use Rattle.gr_shadow.specs.WordShadows.{is_first_hit};
-ghost use Rattle.gr_shadow.specs.StandsFor.{StandsFor, IsHitBy, IsAfter, shadow_at, same_word, answered_words};
+ghost use Rattle.gr_shadow.specs.Kept.{shadow_at, same_word, is_first_hit, IsAfter, answered_words};
+ghost use Rattle.gr_shadow.specs.StandsFor.{StandsFor, IsHitBy};
 
 use crate::shadow::Shadow;
 use gr_clocks::access::Access;
@@ -33,7 +33,7 @@ pub struct Shadows<A: Allocator = Global> {
 }
 
 impl<A: Allocator> Model for Shadows<A> {
-    ghost use Rattle.gr_shadow.specs.StandsFor.{Kept};
+    ghost use Rattle.gr_shadow.specs.Kept.{Kept};
 
     ghost Value = { Kept };
 
