@@ -1,0 +1,3 @@
+pub mod HitLemmas
+pub mod ShadowLemmas
+pub mod MapLemmas

@@ -1,0 +1,74 @@
+-- A map of shadows as what is kept of each word.
+use Rattle.std.proofs.Common.{◌≡◌, ◌↔◌, Bool, true, false, cond, List, [], ◌∷◌, Option, Some, None, IsTrue, Contains, map, filter, refl, sym, ap, ◌∙◌, subst, inl, inr, ⊎_elim, true≢false}
+use Rattle.std.specs.Prelude.{unwrap_or}
+use Rattle.std.specs.Map.{lookup, keys_of}
+use Rattle.std.specs.List.{IsDistinct}
+use Rattle.std.proofs.lemmas.Option.{slice_get-get_or, get_or_from_slice_get, slice_get_within}
+use Rattle.std.proofs.lemmas.Map.Views.{Contains-from_lookup, lookup-from_Contains}
+use Rattle.gr_model.specs.declared.event.Word.{Word}
+use Rattle.gr_model.specs.contracts.event.WordEq.TheImpl.Laws as equal
+use Rattle.gr_model.proofs.Pairs.{SomeOf, SomeOf-at, SomeOf-place}
+use Rattle.gr_model.proofs.WordLemmas.{same_from_equal}
+use Rattle.gr_shadow.specs.Clashes.{ClockedAccess}
+use Rattle.gr_shadow.specs.Kept.{WordShadow, no_shadow, shadow_after, Kept, same_word, shadow_at, answered_words, IsAfter}
+
+-- a map in which the word of an access has its next shadow, and each other word what it had
+pub after_from_update : (old : Kept) (y : ClockedAccess) (new : Kept) → ((w : Word) → lookup (same_word w) new ≡ cond (same_word y.word w) (Some (shadow_after (shadow_at old y.word) y)) (lookup (same_word w) old)) → IsAfter old y new
+after_from_update old y new update w = ap (λ o. unwrap_or o no_shadow) (update w) ∙ by (same_word y.word w) refl
+  where
+    by : (b : Bool) → same_word y.word w ≡ b → unwrap_or (cond b (Some (shadow_after (shadow_at old y.word) y)) (lookup (same_word w) old)) no_shadow ≡ cond b (shadow_after (shadow_at old w) y) (shadow_at old w)
+    by true t = ap (λ v. shadow_after (shadow_at old v) y) (same_from_equal y.word w t)
+    by false f = refl
+
+-- what an update leaves in a map
+abbrev pub HasUpdate : Kept → Word → WordShadow → Kept → Type 0
+HasUpdate old v s new = (w : Word) → lookup (same_word w) new ≡ cond (same_word v w) (Some s) (lookup (same_word w) old)
+
+pub after_write : (entries old : Kept) (y : ClockedAccess) (s t : WordShadow) (new : Kept) → entries ≡ old → lookup (same_word y.word) entries ≡ Some s → t ≡ shadow_after s y → HasUpdate entries y.word t new → IsAfter old y new
+after_write entries old y s t new same found after update =
+    let next : t ≡ shadow_after (shadow_at entries y.word) y = after ∙ ap (λ o. shadow_after (unwrap_or o no_shadow) y) (sym found) in
+    subst (λ (k : Kept). IsAfter k y new) same (after_from_update entries y new (λ w. update w ∙ ap (λ u. cond (same_word y.word w) (Some u) (lookup (same_word w) entries)) next))
+
+pub after_insert : (entries old : Kept) (y : ClockedAccess) (t : WordShadow) (new : Kept) → entries ≡ old → lookup (same_word y.word) entries ≡ None → t ≡ shadow_after no_shadow y → HasUpdate entries y.word t new → IsAfter old y new
+after_insert entries old y t new same absent after update =
+    let next : t ≡ shadow_after (shadow_at entries y.word) y = after ∙ ap (λ o. shadow_after (unwrap_or o no_shadow) y) (sym absent) in
+    subst (λ (k : Kept). IsAfter k y new) same (after_from_update entries y new (λ w. update w ∙ ap (λ u. cond (same_word y.word w) (Some u) (lookup (same_word w) entries)) next))
+
+-- ---- the words that were answered
+
+Contains-some : {X : Type 0} (xs : List X) (w : X) → Contains xs w ↔ SomeOf (λ x. x ≡ w) xs
+Contains-some xs w = (
+  λ h. SomeOf-at (λ x. x ≡ w) xs h.0 w (slice_get-get_or xs h.0 w h.1 ∙ ap Some h.2) refl,
+  λ h. let p = SomeOf-place (λ x. x ≡ w) xs h in (p.0, slice_get_within xs p.0 p.1 p.2, get_or_from_slice_get xs p.0 p.1 w p.2 ∙ p.3),
+)
+
+-- an entry is that of a word that was answered
+abbrev pub IsAnsweredAt : Word → Word × WordShadow → Type 0
+IsAnsweredAt w e = (e.0 ≡ w) × IsTrue e.1.answered
+
+some_answered : (kept : Kept) (w : Word) → SomeOf (λ v. v ≡ w) (answered_words kept) ↔ SomeOf (IsAnsweredAt w) kept
+some_answered [] w = (λ h. h, λ h. h)
+some_answered (e ∷ kept) w =
+    let rest = some_answered kept w in
+    elim e.1.answered as (λ b. (e.1.answered ≡ b) → SomeOf (λ v. v ≡ w) (map (λ e. e.0) (cond b (e ∷ filter (λ e. e.1.answered) kept) (filter (λ e. e.1.answered) kept))) ↔ SomeOf (IsAnsweredAt w) (e ∷ kept)) [
+      | true ↦ λ t. (⊎_elim (λ h. inl (h, t)) (λ h. inr (rest.0 h)), ⊎_elim (λ h. inl h.0) (λ h. inr (rest.1 h)))
+      | false ↦ λ f. (λ h. inr (rest.0 h), ⊎_elim (λ h. absurd (true≢false (sym h.1 ∙ f))) (λ h. rest.1 h))
+    ] refl
+
+-- where the words of a map differ, the words that were answered are those whose shadow says so
+pub answered_words_told : (kept : Kept) → IsDistinct same_word (keys_of kept) → (w : Word) → Contains (answered_words kept) w ↔ IsTrue (shadow_at kept w).answered
+answered_words_told kept distinct w = (to, from (lookup (same_word w) kept) refl)
+  where
+    to : Contains (answered_words kept) w → IsTrue (shadow_at kept w).answered
+    to h =
+        let e = SomeOf-place (IsAnsweredAt w) kept ((some_answered kept w).0 ((Contains-some (answered_words kept) w).0 h)) in
+        let there : Contains kept e.1 = (Contains-some kept e.1).1 (SomeOf-at (λ x. x ≡ e.1) kept e.0 e.1 e.2 refl) in
+        let found = lookup-from_Contains equal.laws-law e.1.0 e.1.1 kept distinct there in
+        subst (λ v. IsTrue (shadow_at kept v).answered) e.3.0 (ap (λ o. (unwrap_or o no_shadow).answered) found ∙ e.3.1)
+
+    from : (o : Option WordShadow) → lookup (same_word w) kept ≡ o → IsTrue (shadow_at kept w).answered → Contains (answered_words kept) w
+    from None found h = absurd (true≢false (sym h ∙ ap (λ o. (unwrap_or o no_shadow).answered) found))
+    from (Some s) found h =
+        let there = SomeOf-place (λ e. e ≡ (w, s)) kept ((Contains-some kept (w, s)).0 (Contains-from_lookup same_from_equal w s kept found)) in
+        let said : s.answered ≡ true = sym (ap (λ o. (unwrap_or o no_shadow).answered) found) ∙ h in
+        (Contains-some (answered_words kept) w).1 ((some_answered kept w).1 (SomeOf-at (IsAnsweredAt w) kept there.0 there.1 there.2 (ap (λ e. e.0) there.3, ap (λ e. e.1.answered) there.3 ∙ said)))

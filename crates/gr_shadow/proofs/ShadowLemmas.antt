@@ -1,0 +1,117 @@
+-- What shadows tell of the accesses that they stand for.
+use Rattle.std.proofs.Common.{◌≡◌, ◌⊎◌, ◌↔◌, Bool, true, false, cond, ◌&&◌, ◌||◌, List, [], ◌∷◌, ◌++◌, map, IsTrue, Some, refl, sym, ap, ◌∙◌, subst, inl, inr, ⊎_elim, true≢false}
+use Rattle.std.specs.Prelude.{not}
+use Rattle.std.specs.Bool.{then_some}
+use Rattle.std.specs.List.{list_any}
+use Rattle.std.proofs.lemmas.List.{append-nil, map-append}
+use Rattle.std.proofs.lemmas.List.Elements.{filter-append}
+use Rattle.gr_model.specs.declared.event.Word.{Word}
+use Rattle.gr_model.specs.contracts.event.WordEq.TheImpl.Laws as equal
+use Rattle.gr_model.specs.Hits.{ClashesAt}
+use Rattle.gr_model.proofs.Pairs.{SomeOf, SomeOf-place}
+use Rattle.gr_model.proofs.WordLemmas.{same_from_equal}
+use Rattle.gr_shadow.specs.Clashes.{ClockedAccess, clashes, IsHitIn}
+use Rattle.gr_shadow.specs.Kept.{WordShadow, touch_of, touch_clashes, clashes_before, is_first_hit, shadow_after, Kept, same_word, shadow_at, IsAfter}
+use Rattle.gr_shadow.specs.StandsFor.{accesses_to, StandsFor, IsHitBy}
+use Rattle.gr_shadow.proofs.HitLemmas.{SomePair-push}
+
+-- an access before y clashes with it, at the word w
+abbrev pub ClashesBefore : List ClockedAccess → ClockedAccess → Word → Type 0
+ClashesBefore xs y w = SomeOf (λ x. ClashesAt (λ x. x.word) clashes w x y) xs
+
+pub hit_by_push : (xs : List ClockedAccess) (y : ClockedAccess) (w : Word) → IsHitIn (xs ++ y ∷ []) w ↔ (IsHitIn xs w ⊎ ClashesBefore xs y w)
+hit_by_push xs y w = SomePair-push (ClashesAt (λ x. x.word) clashes w) xs y
+
+-- the word of a clash is that of its later access
+pub word_of_clash : (xs : List ClockedAccess) (y : ClockedAccess) (w : Word) → ClashesBefore xs y w → y.word ≡ w
+word_of_clash xs y w h = (SomeOf-place (λ x. ClashesAt (λ x. x.word) clashes w x y) xs h).3.second
+
+-- what is kept of the accesses to a word tells which of them clash with one more
+clash_told : (xs : List ClockedAccess) (y : ClockedAccess) (w : Word) → y.word ≡ w → IsTrue (list_any (touch_clashes y) (map touch_of (accesses_to w xs))) ↔ ClashesBefore xs y w
+clash_told [] y w at = (λ h. absurd (true≢false (sym h)), λ h. absurd h)
+clash_told (x ∷ xs) y w at =
+    let rest = clash_told xs y w at in
+    elim (same_word x.word w) as (λ b. (same_word x.word w ≡ b) → IsTrue (list_any (touch_clashes y) (map touch_of (cond b (x ∷ accesses_to w xs) (accesses_to w xs)))) ↔ ClashesBefore (x ∷ xs) y w) [
+      | true ↦ λ t. here rest (clashes x y) refl (same_from_equal x.word w t)
+      | false ↦ λ f. (λ h. inr (rest.0 h), ⊎_elim (λ k. absurd (true≢false (sym (subst (λ v. same_word v w ≡ true) (sym k.first) (equal.laws-law.refl w)) ∙ f))) (λ s. rest.1 s))
+    ] refl
+  where
+    here : IsTrue (list_any (touch_clashes y) (map touch_of (accesses_to w xs))) ↔ ClashesBefore xs y w → (b : Bool) → clashes x y ≡ b → x.word ≡ w → IsTrue (b || list_any (touch_clashes y) (map touch_of (accesses_to w xs))) ↔ ClashesBefore (x ∷ xs) y w
+    here rest true c first = (λ _. inl (record { first = first; second = at; clashes = c }), λ _. refl)
+    here rest false c first = (λ h. inr (rest.0 h), ⊎_elim (λ k. absurd (true≢false (sym k.clashes ∙ c))) (λ s. rest.1 s))
+
+pub clashes_before_told : (xs : List ClockedAccess) (kept : Kept) (y : ClockedAccess) (w : Word) → StandsFor xs kept → y.word ≡ w → IsTrue (clashes_before (shadow_at kept w) y) ↔ ClashesBefore xs y w
+clashes_before_told xs kept y w stands at =
+    let same : clashes_before (shadow_at kept w) y ≡ list_any (touch_clashes y) (map touch_of (accesses_to w xs)) = ap (λ ts. list_any (touch_clashes y) ts) (stands.touches w) in
+    let told = clash_told xs y w at in
+    (λ h. told.0 (sym same ∙ h), λ h. same ∙ told.1 h)
+
+first_from : (a c : Bool) → (a ≡ true → ⊥) → c ≡ true → (not a && c) ≡ true
+first_from true c never h = absurd (never refl)
+first_from false c never h = h
+
+first_parts : (a c : Bool) → (not a && c) ≡ true → (a ≡ true → ⊥) × (c ≡ true)
+first_parts true c h = absurd (true≢false (sym h))
+first_parts false c h = (λ e. true≢false (sym e), h)
+
+-- shadows tell which word becomes hit by one more access
+pub answer_told : (xs : List ClockedAccess) (kept : Kept) (y : ClockedAccess) → StandsFor xs kept → (w : Word) → IsHitBy xs y w ↔ ((y.word ≡ w) × IsTrue (is_first_hit (shadow_at kept y.word) y))
+answer_told xs kept y stands w = (to, from)
+  where
+    to : IsHitBy xs y w → (y.word ≡ w) × IsTrue (is_first_hit (shadow_at kept y.word) y)
+    to h = ⊎_elim (λ old. absurd (h.before old)) (λ clash.
+        let at = word_of_clash xs y w clash in
+        (at, subst (λ v. IsTrue (is_first_hit (shadow_at kept v) y)) (sym at) (first_from _ _ (λ a. h.before ((stands.answered w).0 a)) ((clashes_before_told xs kept y w stands at).1 clash)))) ((hit_by_push xs y w).0 h.now)
+
+    from : (y.word ≡ w) × IsTrue (is_first_hit (shadow_at kept y.word) y) → IsHitBy xs y w
+    from h =
+        let parts = first_parts _ _ (subst (λ v. IsTrue (is_first_hit (shadow_at kept v) y)) h.0 h.1) in
+        record {
+          now = (hit_by_push xs y w).1 (inr ((clashes_before_told xs kept y w stands h.0).0 parts.1));
+          before = λ old. parts.0 ((stands.answered w).1 old);
+        }
+
+-- a word is answered where its test holds
+pub then_some_is : (hit : Bool) (v w : Word) → then_some hit v ≡ Some w ↔ ((v ≡ w) × IsTrue hit)
+then_some_is true v w = (λ h. (cc, refl), λ h. ap Some h.0)
+then_some_is false v w = (λ h. cc, λ h. absurd (true≢false (sym h.1)))
+
+either : (a c : Bool) → (a || c) ≡ true → (a ≡ true) ⊎ (c ≡ true)
+either true c h = inl refl
+either false c h = inr h
+
+left : (a c : Bool) → a ≡ true → (a || c) ≡ true
+left true c h = refl
+left false c h = absurd (true≢false (sym h))
+
+right : (a c : Bool) → c ≡ true → (a || c) ≡ true
+right true c h = refl
+right false c h = h
+
+-- what is kept after one more access stands for the list with it
+pub stands_after : (xs : List ClockedAccess) (old : Kept) (y : ClockedAccess) (new : Kept) → StandsFor xs old → IsAfter old y new → StandsFor (xs ++ y ∷ []) new
+stands_after xs old y new stands after = record { touches = touches; answered = answered }
+  where
+    listed : (w : Word) → map touch_of (accesses_to w (xs ++ y ∷ [])) ≡ map touch_of (accesses_to w xs) ++ map touch_of (accesses_to w (y ∷ []))
+    listed w = ap (map touch_of) (filter-append (λ x. same_word x.word w) xs (y ∷ [])) ∙ map-append touch_of (accesses_to w xs) (accesses_to w (y ∷ []))
+
+    touched : (w : Word) (b : Bool) → (cond b (shadow_after (shadow_at old w) y) (shadow_at old w)).touches ≡ map touch_of (accesses_to w xs) ++ map touch_of (cond b (y ∷ []) [])
+    touched w true = ap (λ ts. ts ++ touch_of y ∷ []) (stands.touches w)
+    touched w false = stands.touches w ∙ sym (append-nil (map touch_of (accesses_to w xs)))
+
+    touches : (w : Word) → (shadow_at new w).touches ≡ map touch_of (accesses_to w (xs ++ y ∷ []))
+    touches w = ap (λ s. s.touches) (after w) ∙ touched w (same_word y.word w) ∙ sym (listed w)
+
+    told : (w : Word) (b : Bool) → same_word y.word w ≡ b → IsTrue (cond b (shadow_after (shadow_at old w) y) (shadow_at old w)).answered ↔ IsHitIn (xs ++ y ∷ []) w
+    told w true t =
+        let before = clashes_before_told xs old y w stands (same_from_equal y.word w t) in (
+          λ h. (hit_by_push xs y w).1 (⊎_elim (λ a. inl ((stands.answered w).0 a)) (λ c. inr (before.0 c)) (either _ _ h)),
+          λ h. ⊎_elim (λ a. left _ _ ((stands.answered w).1 a)) (λ c. right _ _ (before.1 c)) ((hit_by_push xs y w).0 h),
+        )
+    told w false f = (
+      λ h. (hit_by_push xs y w).1 (inl ((stands.answered w).0 h)),
+      λ h. ⊎_elim (λ a. (stands.answered w).1 a) (λ c. absurd (true≢false (sym (subst (λ v. same_word v w ≡ true) (sym (word_of_clash xs y w c)) (equal.laws-law.refl w)) ∙ f))) ((hit_by_push xs y w).0 h),
+    )
+
+    answered : (w : Word) → IsTrue (shadow_at new w).answered ↔ IsHitIn (xs ++ y ∷ []) w
+    answered w = subst (λ (s : WordShadow). IsTrue s.answered ↔ IsHitIn (xs ++ y ∷ []) w) (sym (after w)) (told w (same_word y.word w) refl)

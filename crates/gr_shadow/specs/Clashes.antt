@@ -1,0 +1,34 @@
+-- Accesses with their clocks, and when a later one to a word clashes with an earlier one.
+-- Source: docs/MODEL.md, "Hits".
+use Rattle.std.specs.Prelude.{ℕ, Bool, ◌&&◌, not, nat_lt, List}
+use Rattle.gr_model.specs.declared.event.ItemId.{ItemId}
+use Rattle.gr_model.specs.declared.event.Word.{Word}
+use Rattle.gr_model.specs.Hits.{IsHit}
+use Rattle.gr_scopes.specs.declared.class.Class.{Class}
+use Rattle.gr_scopes.specs.Classes.{exempt}
+use Rattle.gr_clocks.specs.declared.access.Access.{Access}
+use Rattle.gr_clocks.specs.Rows.{same_item}
+use Rattle.gr_clocks.specs.Counts.{Counts, count_of}
+
+-- an access, with what its item's clock counts in the word's memory
+pub record ClockedAccess : Type 0 where
+  pub word : Word
+  pub item : ItemId
+  pub index : ℕ
+  pub class : Class
+  pub clock : Counts
+
+abbrev pub clocked : {Z : Type 0} → Access Z → ClockedAccess
+clocked x = record { word = x.word; item = x.item; index = x.index; class = x.class; clock = x.clock }
+
+-- a later access clashes with an earlier one of this item, index and class: it is of another item, the two are not exempt,
+-- and its clock does not count the earlier one
+abbrev pub clashes_with : ItemId → ℕ → Class → ClockedAccess → Bool
+clashes_with item index class y = not (same_item item y.item) && (not (exempt class item.group y.class y.item.group) && not (nat_lt index (count_of y.clock item)))
+
+abbrev pub clashes : ClockedAccess → ClockedAccess → Bool
+clashes x y = clashes_with x.item x.index x.class y
+
+-- the word is hit in a list of accesses
+abbrev pub IsHitIn : List ClockedAccess → Word → Type 0
+IsHitIn accesses w = IsHit (λ x. x.word) clashes accesses w

@@ -1,0 +1,4 @@
+pub mod Clashes
+pub mod Kept
+pub mod StandsFor
+pub mod Laws

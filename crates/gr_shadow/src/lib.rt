@@ -1,0 +1,8 @@
+//! Which words are hit along a list of accesses: each access is compared, by its clock, with the earlier ones to its word.
+//! Nothing here knows of streams, names or barriers.
+#![tactic(auto)]
+
+pub mod laws;
+pub mod merge;
+mod shadow;
+pub mod shadows;

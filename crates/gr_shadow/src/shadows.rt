@@ -1,0 +1,110 @@
+//! The shadows of all words that were accessed.
+//!
+//! Semantics: shadows stand for the list of the accesses that they were given. A word is hit in it where a later access
+//! clashes with an earlier one, and each word that is hit is answered once (docs/MODEL.md, "Hits"). What is kept of the
+//! accesses is private, and tells the hits of every list that goes on from there.
+
+ghost use Rattle.std.specs.Prelude.{◌≡◌, ◌↔◌, IfOk, OnOk, OnErr, List, [], ◌∷◌, ◌++◌, Some};
+ghost use Rattle.std.specs.List.{IsDistinct};
+ghost use Rattle.std.specs.Map.{keys_of};
+ghost use Rattle.gr_model.specs.declared.event.Word.{Word as AnyWord};
+ghost use Rattle.gr_model.specs.Reports.{Lists, WordBelow};
+ghost use Rattle.gr_shadow.specs.Clashes.{ClockedAccess, clocked, IsHitIn};
+ghost use Rattle.gr_shadow.specs.Kept.{shadow_at, same_word, is_first_hit, IsAfter, answered_words};
+ghost use Rattle.gr_shadow.specs.StandsFor.{StandsFor, IsHitBy};
+
+use crate::shadow::Shadow;
+use gr_clocks::access::Access;
+use gr_model::event::Word;
+use gr_model::memory::Memory;
+use gr_model::words::order_words;
+use indexmap::IndexMap;
+use std::alloc::{Allocator, Global};
+use std::hash::{BuildHasherDefault, FoldHasher};
+use std::marker::Model;
+
+/// The shadows of all words that were accessed. Contracts see by `StandsFor` the list of accesses that they stand for.
+#[derive(Drop)]
+#[derive_where(Debug)]
+pub struct Shadows<A: Allocator = Global> {
+    #[derive_where(skip)]
+    alloc: A,
+    words: IndexMap<Word, Shadow<A>, BuildHasherDefault<FoldHasher>, A>,
+}
+
+impl<A: Allocator> Model for Shadows<A> {
+    ghost use Rattle.gr_shadow.specs.Kept.{Kept};
+
+    ghost Value = { Kept };
+
+    ghost view = { λ s. s.words.entries };
+}
+
+impl<A: Allocator + Copy> Shadows<A> {
+    /// Shadows of no accesses. They take no memory.
+    pub fn new(alloc: A) -> Shadows<A>
+        ensures { StandsFor [] result }
+    {
+        Shadows {
+            alloc,
+            words: IndexMap::new(alloc),
+        }
+    }
+
+    /// Adds an access to the shadow of its word, and tells whether the word becomes hit by it.
+    fn note(&mut self, access: &Access<A>) -> Result<bool, Memory>
+        ensures kept { OnOk result (IsAfter self.old (clocked access.now) self.new) }
+        ensures hit { IfOk result (λ hit. hit ≡ is_first_hit (shadow_at self.old access.now.word) (clocked access.now)) }
+        ensures err { OnErr result (self.new ≡ self.old) }
+    {
+        match self.words.get_mut(&access.word) {
+            Some(shadow) => shadow.add(access),
+            None => {
+                let mut shadow = Shadow::new(self.alloc);
+                let hit = shadow.add(access)?;
+                self.words.insert(access.word, shadow)?;
+                Ok(hit)
+            }
+        }
+    }
+
+    /// Takes one more access, and answers its word where it becomes hit by it: the access clashes with an earlier one, and
+    /// the word was not answered before.
+    ///
+    /// # Errors
+    /// `Memory`. The shadows then stand for the same accesses as before.
+    pub fn apply(&mut self, access: &Access<A>) -> Result<Option<Word>, Memory>
+        ensures stands { (accesses : List ClockedAccess) → StandsFor accesses self.old → OnOk result (StandsFor (accesses ++ clocked access.now ∷ []) self.new) }
+        ensures word { (accesses : List ClockedAccess) → StandsFor accesses self.old → IfOk result (λ answer. (w : AnyWord) → answer ≡ Some w ↔ IsHitBy accesses (clocked access.now) w) }
+        ensures err { OnErr result (self.new ≡ self.old) }
+    {
+        let hit = self.note(access)?;
+        Ok(hit.then_some(access.word))
+    }
+
+    /// The words that were answered, in any order.
+    fn answered(&self) -> Result<Vec<Word, A>, Memory>
+        ensures words { IfOk result (λ words. words.items ≡ answered_words self.now) }
+        ensures distinct { IsDistinct same_word (keys_of self.now) }
+    {
+        let words = self
+            .words
+            .iter()
+            .filter(|entry| entry.1.is_answered())
+            .map(|entry| *entry.0)
+            .collect(self.alloc)?;
+        Ok(words)
+    }
+
+    /// The words that are hit, in ascending order, each once.
+    ///
+    /// # Errors
+    /// `Memory`.
+    pub fn racy(&self) -> Result<Vec<Word, A>, Memory>
+        ensures { (accesses : List ClockedAccess) → StandsFor accesses self.now → IfOk result (λ words. Lists WordBelow (IsHitIn accesses) words.items) }
+    {
+        let mut words = self.answered()?;
+        order_words(&mut words);
+        Ok(words)
+    }
+}
