@@ -17,6 +17,13 @@ use Rattle.gr_model.specs.declared.event.Space.{Space}
 use Rattle.gr_model.proofs.Descent.{together-swap, below_in_item, below_by_pair, stage_descends}
 use Rattle.gr_model.proofs.Places.{slice_get-append, places_from-append, places_from-there, places_from-within, filter_map-place}
 
+-- an instance is not both convergent and divergent
+pub not_both : (u : Streams) (g k : ℕ) (a : Mark) → IsConvergent u g k a → IsDivergent u g k → ⊥
+not_both u g k a c (inl mixed) =
+    let same : mixed.2 ≡ mixed.3 = let e : Some mixed.2 ≡ Some mixed.3 = sym mixed.4.1 ∙ (c.1 mixed.0 mixed.4.0 ∙ (sym (c.1 mixed.1 mixed.5.0) ∙ mixed.5.1)) in cc in
+    mixed.6 same
+not_both u g k a c (inr part) = let e : Some a ≡ None = sym (c.1 part.1.1 part.1.4) ∙ part.1.5 in cc
+
 module _ (s t : Streams) (grows : Grows s t) where
   pub trace_grows : (i : ItemId) → (more : List Event) × (trace_of t i ≡ trace_of s i ++ more)
   trace_grows i =
@@ -81,7 +88,7 @@ module _ (s t : Streams) (grows : Grows s t) where
 
   -- ---- barriers
 
-  size_grows : (g : ℕ) → size_of s g ≡ size_of t g
+  pub size_grows : (g : ℕ) → size_of s g ≡ size_of t g
   size_grows g = ap (λ l. slice_index l g) grows.sizes
 
   arrival_grows : (g k i : ℕ) (a : Mark) → arrivals s g k i ≡ Some a → arrivals t g k i ≡ Some a
@@ -92,7 +99,7 @@ module _ (s t : Streams) (grows : Grows s t) where
   arrived_grows : (g k i : ℕ) (a : Mark) → HasArrived (size_of s g) (arrivals s g k) i a → HasArrived (size_of t g) (arrivals t g k) i a
   arrived_grows g k i a h = (subst (λ n. i < n) (size_grows g) h.0, arrival_grows g k i a h.1)
 
-  convergent_grows : (g k : ℕ) (a : Mark) → IsConvergent s g k a → IsConvergent t g k a
+  pub convergent_grows : (g k : ℕ) (a : Mark) → IsConvergent s g k a → IsConvergent t g k a
   convergent_grows g k a c = (subst (λ n. 0 < n) (size_grows g) c.0, λ i below. arrival_grows g k i a (c.1 i (subst (λ n. i < n) (sym (size_grows g)) below)))
 
   mixed_grows : (g k : ℕ) → AreMixed (size_of s g) (arrivals s g k) → AreMixed (size_of t g) (arrivals t g k)
@@ -102,7 +109,7 @@ module _ (s t : Streams) (grows : Grows s t) where
   whole_trace : (g i : ℕ) → IsTrue (is_complete (list_of s g)) → trace_of t (record { group = g; item = i }) ≡ trace_of s (record { group = g; item = i })
   whole_trace g i whole = ap (filter (is_of i)) (grows.whole g whole)
 
-  divergent_grows : (g k : ℕ) → IsDivergent s g k → IsDivergent t g k
+  pub divergent_grows : (g k : ℕ) → IsDivergent s g k → IsDivergent t g k
   divergent_grows g k (inl mixed) = inl (mixed_grows g k mixed)
   divergent_grows g k (inr part) =
       let whole = part.0 in
@@ -112,13 +119,6 @@ module _ (s t : Streams) (grows : Grows s t) where
         (h.0, h.1, h.2, arrived_grows g k h.0 h.2 h.3, subst (λ n. h.1 < n) (size_grows g) h.4, ap (λ l. slice_get (filter_map mark_of l) k) (whole_trace g h.1 whole) ∙ h.5),
       )
 
-  -- an instance is not both
-  not_both : (u : Streams) (g k : ℕ) (a : Mark) → IsConvergent u g k a → IsDivergent u g k → ⊥
-  not_both u g k a c (inl mixed) =
-      let same : mixed.2 ≡ mixed.3 = let e : Some mixed.2 ≡ Some mixed.3 = sym mixed.4.1 ∙ (c.1 mixed.0 mixed.4.0 ∙ (sym (c.1 mixed.1 mixed.5.0) ∙ mixed.5.1)) in cc in
-      mixed.6 same
-  not_both u g k a c (inr part) = let e : Some a ≡ None = sym (c.1 part.1.1 part.1.4) ∙ part.1.5 in cc
-
   -- a settled instance is convergent in the longer lists with the mark that it has
   convergent_shrinks : (g k : ℕ) (a : Mark) → ((b : Mark) × IsConvergent s g k b) ⊎ IsDivergent s g k → IsConvergent t g k a → IsConvergent s g k a
   convergent_shrinks g k a (inl h) c =
@@ -127,10 +127,10 @@ module _ (s t : Streams) (grows : Grows s t) where
   convergent_shrinks g k a (inr d) c = absurd (not_both t g k a c (divergent_grows g k d))
 
   -- a barrier's number stays
-  stands_grows : (e : EventId) (g k : ℕ) → StandsIn s e g k → StandsIn t e g k
+  pub stands_grows : (e : EventId) (g k : ℕ) → StandsIn s e g k → StandsIn t e g k
   stands_grows e g k h = record { group = h.group; item = subst (λ n. e.at.item < n) (size_grows g) h.item; place = place_grows is_barrier e.at k e.index h.place }
 
-  stands_shrinks : (e : EventId) (g k : ℕ) → IsEvent s e → StandsIn t e g k → StandsIn s e g k
+  pub stands_shrinks : (e : EventId) (g k : ℕ) → IsEvent s e → StandsIn t e g k → StandsIn s e g k
   stands_shrinks e g k there h = record { group = h.group; item = subst (λ n. e.at.item < n) (sym (size_grows g)) h.item; place = place_shrinks is_barrier e k there h.place }
 
   together_grows : (a : Mark) (e b : EventId) → Together s a e b → Together t a e b
@@ -143,7 +143,7 @@ module _ (s t : Streams) (grows : Grows s t) where
   }
 
   -- in longer lists a reached barrier has met those whom it had met
-  together_shrinks : (a : Mark) (e b : EventId) → IsEvent s e → CanGo s e → Together t a e b → Together s a e b
+  pub together_shrinks : (a : Mark) (e b : EventId) → IsEvent s e → CanGo s e → Together t a e b → Together s a e b
   together_shrinks a e b there go h =
       let first = stands_shrinks e h.group h.instance there h.first in
       let settled = go.instance h.group h.instance first in

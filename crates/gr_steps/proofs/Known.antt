@@ -1,0 +1,63 @@
+-- What is known of an event of lists that groups may have: a barrier names nothing.
+use Rattle.std.proofs.Common.{◌≡◌, ℕ, zero, suc, ◌<◌, ◌≤◌, Bool, true, false, cond, IsTrue, List, [], ◌∷◌, length, Option, Some, None, slice_get, filter, refl, sym, ap, ◌∙◌, subst, ⊎_elim, arith, is_some}
+use Rattle.std.proofs.lemmas.Bool.{cases_lt}
+use Rattle.std.proofs.lemmas.Option.{slice_get_past}
+use Rattle.std.proofs.lemmas.List.{get_or_past}
+use Rattle.gr_model.specs.declared.event.Event.{Event}
+use Rattle.gr_model.specs.declared.event.EventId.{EventId}
+use Rattle.gr_model.specs.declared.event.Kind.{Kind}
+use Rattle.gr_model.specs.declared.event.Kind.TheVariants.{Barrier, End, Load, Read, Rmw, Store, Write}
+use Rattle.gr_model.specs.declared.event.Name.{Name}
+use Rattle.gr_model.specs.Access.{is_acquire_kind}
+use Rattle.gr_model.specs.Barriers.{is_barrier, mark_of_kind}
+use Rattle.gr_model.specs.Events.{IsNamingOk}
+use Rattle.gr_model.specs.Streams.{AreFronts, IsEvent, Streams, event_at, is_of, list_of}
+
+-- what a filter keeps is there
+pub filter-there : {X : Type 0} (test : X → Bool) (xs : List X) (k : ℕ) (x : X) → slice_get (filter test xs) k ≡ Some x → (p : ℕ) × (slice_get xs p ≡ Some x) × (test x ≡ true)
+filter-there test [] k x at = cc
+filter-there {X} test (y ∷ xs) k x at =
+    elim (test y) as (λ b. (test y ≡ b) → slice_get (cond b (y ∷ filter test xs) (filter test xs)) k ≡ Some x → (p : ℕ) × (slice_get (y ∷ xs) p ≡ Some x) × (test x ≡ true)) [
+      | true ↦ λ t at. kept t k at (λ k at. filter-there test xs k x at)
+      | false ↦ λ t at. let there = filter-there test xs k x at in (suc there.0, there.1, there.2)
+    ] refl at
+  where
+    kept : test y ≡ true → (k : ℕ) → slice_get (y ∷ filter test xs) k ≡ Some x → ((k : ℕ) → slice_get (filter test xs) k ≡ Some x → (p : ℕ) × (slice_get xs p ≡ Some x) × (test x ≡ true)) → (p : ℕ) × (slice_get (y ∷ xs) p ≡ Some x) × (test x ≡ true)
+    kept t zero at later = let same : y ≡ x = let e : Some y ≡ Some x = at in cc in (0, at, subst (λ z. test z ≡ true) same t)
+    kept t (suc k) at later = let there = later k at in (suc there.0, there.1, there.2)
+
+-- the record of an event stands in its group's list
+pub record_there : (s : Streams) (e : EventId) (x : Event) → event_at s e ≡ Some x → (p : ℕ) × (slice_get (list_of s e.at.group) p ≡ Some x)
+record_there s e x at = let there = filter-there (is_of e.at.item) (list_of s e.at.group) e.index x at in (there.0, there.1)
+
+-- a group with an event has a list
+pub group_there : (s : Streams) (e : EventId) → IsEvent s e → e.at.group < length s.lists
+group_there s e there =
+    ⊎_elim
+    (λ lt. lt)
+    (λ (past : length s.lists ≤ e.at.group).
+    let listed = record_there s e there.0 there.1 in
+    let gone : slice_get [] listed.0 ≡ Some there.0 = ap (λ l. slice_get l listed.0) (sym (get_or_past s.lists e.at.group [] past)) ∙ listed.1 in
+    absurd (let no : None ≡ Some there.0 = sym (slice_get_past [] listed.0 (omega arith)) ∙ gone in cc))
+    (cases_lt e.at.group (length s.lists))
+
+-- what names a release is an acquire
+named_acquires : (kind : Kind) (a : Option Name) (n : Name) → a ≡ Some n → IsNamingOk kind a → IsTrue (is_acquire_kind kind)
+named_acquires kind None n same ok = cc
+named_acquires kind (Some m) n same ok = ok.0
+
+pub barriers_name_nothing : (s : Streams) → AreFronts s → (e : EventId) (x : Event) (n : Name) → event_at s e ≡ Some x → is_barrier x ≡ true → x.name ≡ Some n → ⊥
+barriers_name_nothing s fronts e x n at barrier named =
+    let there = record_there s e x at in
+    let group : e.at.group < length s.sizes = let g = group_there s e (x, at) in omega (arith, fronts.count) in
+    let good = (fronts.each e.at.group group).good there.0 x there.1 in
+    clash x.kind x.word barrier (named_acquires x.kind x.name n named good.0.1)
+  where
+    clash : (kind : Kind) (word : ℕ) → is_some (mark_of_kind kind word) ≡ true → IsTrue (is_acquire_kind kind) → ⊥
+    clash Read word b a = cc
+    clash Write word b a = cc
+    clash (Load scope order) word b a = cc
+    clash (Store scope order) word b a = cc
+    clash (Rmw scope order) word b a = cc
+    clash (Barrier global local) word b a = cc
+    clash (End cut) word b a = cc

@@ -1,0 +1,117 @@
+-- A lawful order stays lawful where the barriers of an instance that can meet come behind it; and when an instance can meet.
+use Rattle.std.proofs.Common.{◌≡◌, ◌⊎◌, ℕ, zero, suc, ◌+◌, ◌<◌, ◌≤◌, List, ◌++◌, length, Some, slice_get, option_and_then, refl, sym, ap, ◌∙◌, subst, inl, inr, ⊎_elim, arith, eq-or-lt_of_le}
+use Rattle.std.proofs.lemmas.Option.{slice_get_within}
+use Rattle.gr_model.specs.declared.event.EventId.{EventId}
+use Rattle.gr_model.specs.declared.event.Name.{Name}
+use Rattle.gr_model.specs.Barriers.{IsConvergent, StandsIn, Together}
+use Rattle.gr_model.specs.Instances.{Mark}
+use Rattle.gr_model.specs.LawfulOrders.{IsAt, IsIn, IsLawful}
+use Rattle.gr_model.specs.Names.{HasName}
+use Rattle.gr_model.specs.Streams.{AreFronts, IsEvent, Streams}
+use Rattle.gr_model.specs.Waits.{CanGo, IsPrevious, Waits, for_arrival, for_meeting, for_previous, for_release}
+use Rattle.gr_model.proofs.Places.{slice_get-append}
+use Rattle.gr_steps.specs.Steps.{AreBarriers, HasMet, IsMeeting}
+use Rattle.gr_steps.proofs.BarrierPlaces.{barrier_of, barrier_there, moved, same_instance, stands_before, stands_same}
+use Rattle.gr_steps.proofs.Known.{barriers_name_nothing}
+use Rattle.gr_steps.proofs.Orders.{at_behind, handled_before, same_event, split_last, there_is}
+
+module _ (s : Streams) (fronts : AreFronts s) (order : List EventId) (lawful : IsLawful s order) (g k : ℕ) (a : Mark) (meeting : IsMeeting s order g k a) (bs : List EventId) (are : AreBarriers s g k bs) where
+  -- what stands in the longer order: what stood there, or one of the barriers
+  abbrev IsOneOf : ℕ → EventId → Type 0
+  IsOneOf p x = IsAt order p x ⊎ ((i : ℕ) × (p ≡ length order + i) × (slice_get bs i ≡ Some x))
+
+  no_name : (x : EventId) (n : Name) → StandsIn s x g k → HasName s x n → ⊥
+  no_name x n stands named =
+      let there = barrier_there s x g k stands in
+      barriers_name_nothing s fronts x there.0 n there.1 there.2 (sym (ap (option_and_then (λ y. y.name)) there.1) ∙ named)
+
+  met_event : (p : ℕ) (x : EventId) → IsOneOf p x → IsEvent s x × CanGo s x
+  met_event p x (inl at) = lawful.event p x at
+  met_event p x (inr h) =
+      let stands = (are.each h.0 x h.2).1 in
+      let there = barrier_there s x g k stands in (
+        (there.0, there.1),
+        record {
+          release = λ n named. absurd (no_name x n stands named);
+          instance = λ h l other. let same = same_instance s x g k h l stands other in inl (a, subst (λ n. IsConvergent s h n a) same.1 (subst (λ n. IsConvergent s n k a) same.0 meeting.convergent));
+        },
+      )
+
+  met_once : (p q : ℕ) (x : EventId) → IsOneOf p x → IsOneOf q x → p ≡ q
+  met_once p q x (inl at) (inl bt) = lawful.once p q x at bt
+  met_once p q x (inl at) (inr h) = absurd (meeting.fresh (x, (are.each h.0 x h.2).1, (p, at)))
+  met_once p q x (inr h) (inl bt) = absurd (meeting.fresh (x, (are.each h.0 x h.2).1, (q, bt)))
+  met_once p q x (inr h) (inr l) =
+      let i : x.at.item ≡ h.0 = (are.each h.0 x h.2).0 in
+      let j : x.at.item ≡ l.0 = (are.each l.0 x l.2).0 in
+      omega (arith, h.1, l.1)
+
+  -- what a barrier of the instance waits for is handled
+  met_waits : (x d : EventId) → StandsIn s x g k → Waits s x d → IsIn order d
+  met_waits x d stands (for_previous previous) = meeting.before x d stands previous
+  met_waits x d stands (for_release match) = absurd (no_name x match.name stands match.by.named)
+  met_waits x d stands (for_arrival m b met previous) =
+      let same = same_instance s x met.group met.instance g k met.first stands in
+      meeting.before b d (moved s b met.group met.instance g k same.0 same.1 met.second) previous
+  met_waits x d stands (for_meeting m c previous met) =
+      let there = meeting.before x c stands previous in
+      let other = lawful.together there.0 c d m there.1 met in
+      (other.0, other.2)
+
+  met_after : (p : ℕ) (x d : EventId) → IsOneOf p x → Waits s x d → (q : ℕ) × (q < p) × IsAt (order ++ bs) q d
+  met_after p x d (inl at) w = let there = lawful.after p x d at w in (there.0, there.1, slice_get-append order bs there.0 d there.2)
+  met_after p x d (inr h) w =
+      let there = met_waits x d (are.each h.0 x h.2).1 w in
+      let within : there.0 < length order = slice_get_within order there.0 d there.1 in
+      (there.0, omega (arith, h.1, within), slice_get-append order bs there.0 d there.1)
+
+  -- each barrier stands at its item's place
+  barrier_at : (b : EventId) → StandsIn s b g k → slice_get bs b.at.item ≡ Some b
+  barrier_at b stands =
+      let there = there_is bs b.at.item (subst (λ n. b.at.item < n) (sym are.count) stands.item) in
+      let is = are.each b.at.item there.0 there.1 in
+      there.1 ∙ ap Some (stands_same s there.0 b g k is.1 stands is.0)
+
+  met_together : (p : ℕ) (x b : EventId) (m : Mark) → IsOneOf p x → Together s m x b → (q : ℕ) × (q + x.at.item ≡ p + b.at.item) × IsAt (order ++ bs) q b
+  met_together p x b m (inl at) met = let there = lawful.together p x b m at met in (there.0, there.1, slice_get-append order bs there.0 b there.2)
+  met_together p x b m (inr h) met =
+      let is = are.each h.0 x h.2 in
+      let item : x.at.item ≡ h.0 = is.0 in
+      let same = same_instance s x met.group met.instance g k met.first is.1 in
+      let other = barrier_at b (moved s b met.group met.instance g k same.0 same.1 met.second) in
+      (length order + b.at.item, omega (arith, h.1), at_behind order bs b.at.item b other)
+
+  pub lawful_meet : IsLawful s (order ++ bs)
+  lawful_meet = record {
+    event = λ p x at. met_event p x (split_last order bs p x at);
+    once = λ p q x at bt. met_once p q x (split_last order bs p x at) (split_last order bs q x bt);
+    after = λ p x d at w. met_after p x d (split_last order bs p x at) w;
+    together = λ p x b m at met. met_together p x b m (split_last order bs p x at) met;
+  }
+
+-- ---- when an instance can meet
+
+-- the number before another
+pub IsBefore-number : (n : ℕ) → 0 < n → (m : ℕ) × (suc m ≡ n)
+IsBefore-number zero lt = absurd (omega arith)
+IsBefore-number (suc m) lt = (m, refl)
+
+-- an instance can meet where it is convergent and not handled, and the event before each of its barriers is: it is then the least
+pub meeting_of : (s : Streams) (order : List EventId) → IsLawful s order → (g k : ℕ) (a : Mark) → IsConvergent s g k a → ¬ HasMet s order g k → ((b d : EventId) → StandsIn s b g k → IsPrevious d b → IsIn order d) → IsMeeting s order g k a
+meeting_of s order lawful g k a convergent fresh before = record { convergent = convergent; fresh = fresh; least = least; before = before }
+  where
+    least : (l : ℕ) (b : Mark) → l < k → IsConvergent s g l b → HasMet s order g l
+    least l m lt earlier =
+        let first = barrier_of s g l m earlier 0 earlier.0 in
+        let later = barrier_of s g k a convergent 0 convergent.0 in
+        let c : EventId = record { at = record { group = g; item = 0 }; index = first.0 } in
+        let b : EventId = record { at = record { group = g; item = 0 }; index = later.0 } in
+        let below : first.0 < later.0 = stands_before s c b g l k first.1 later.1 refl lt in
+        let n = IsBefore-number later.0 (omega (arith, below)) in
+        let d : EventId = record { at = record { group = g; item = 0 }; index = n.0 } in
+        let there : IsIn order d = before b d later.1 (record { item = refl; next = n.1 }) in
+        let handled : IsIn order c = ⊎_elim
+        (λ (same : first.0 ≡ n.0). subst (λ x. IsIn order x) (sym (same_event c d refl same)) there)
+        (λ (less : first.0 < n.0). handled_before s order lawful c d refl less there)
+        (eq-or-lt_of_le (let le : first.0 ≤ n.0 = omega (arith, n.1, below) in le)) in
+        (c, first.1, handled)

@@ -1,0 +1,69 @@
+-- A lawful order, and a step behind it, stay so where lists that are not complete grow.
+use Rattle.std.proofs.Common.{◌≡◌, ℕ, suc, ◌<◌, List, [], ◌∷◌, ◌++◌, length, sym, ◌∙◌, subst, arith, refl}
+use Rattle.gr_model.specs.declared.event.EventId.{EventId}
+use Rattle.gr_model.specs.Barriers.{StandsIn}
+use Rattle.gr_model.specs.LawfulOrders.{IsAt, IsLawful}
+use Rattle.gr_model.specs.Streams.{Grows, Streams}
+use Rattle.gr_model.specs.Waits.{Stage}
+use Rattle.gr_model.proofs.Descent.{lawful_stage}
+use Rattle.gr_model.proofs.GrowthLaws.{convergent_grows, divergent_grows, size_grows, stage_grows, stands_grows, stands_shrinks, together_shrinks, waits_shrink}
+use Rattle.gr_steps.specs.Steps.{AreBarriers, Handles, IsReady, Meets}
+use Rattle.gr_steps.proofs.BarrierPlaces.{stands_same}
+use Rattle.gr_steps.proofs.Handling.{lawful_handle}
+use Rattle.gr_steps.proofs.Meeting.{meeting_of}
+use Rattle.gr_steps.proofs.Orders.{there_is}
+
+at_last : (order : List EventId) (e : EventId) → IsAt (order ++ (e ∷ [])) (length order) e
+at_last [] e = refl
+at_last (d ∷ order) e = at_last order e
+
+module _ (s t : Streams) (grows : Grows s t) (old : List EventId) (lawful : IsLawful s old) where
+  stage_of : (p : ℕ) (e : EventId) → IsAt old p e → Stage s (suc p) e
+  stage_of p e at = lawful_stage s old lawful (suc p) p e (omega arith) at
+
+  pub lawful_grows : IsLawful t old
+  lawful_grows = record {
+    event = λ p e at. let there = stage_grows s t grows (suc p) e (stage_of p e at) in (there.0, there.1);
+    once = lawful.once;
+    after = λ p e d at w. lawful.after p e d at (waits_shrink s t grows p e (stage_of p e at) d w);
+    together = λ p e b a at met. lawful.together p e b a at (together_shrinks s t grows a e b (lawful.event p e at).0 (lawful.event p e at).1 met);
+  }
+
+  -- an event that is ready has a stage
+  ready_stage : (e : EventId) → IsReady s old e → Stage s (suc (length old)) e
+  ready_stage e ready = lawful_stage s (old ++ (e ∷ [])) (lawful_handle s old lawful e ready) (suc (length old)) (length old) e (omega arith) (at_last old e)
+
+  ready_grows : (e : EventId) → IsReady s old e → IsReady t old e
+  ready_grows e ready =
+      let stage = ready_stage e ready in
+      let there = stage_grows s t grows (suc (length old)) e stage in
+      record {
+        event = there.0;
+        fresh = ready.fresh;
+        release = there.1.release;
+        waits = λ d w. ready.waits d (waits_shrink s t grows (length old) e stage d w);
+        instance = λ g k stands. divergent_grows s t grows g k (ready.instance g k (stands_shrinks s t grows e g k ready.event stands));
+      }
+
+  pub handles_grows : (e : EventId) (new : List EventId) → Handles s old e new → Handles t old e new
+  handles_grows e new h = record { ready = ready_grows e h.ready; order = h.order }
+
+  -- the barriers of the instance are those that they were
+  stands_was : (g k : ℕ) (bs : List EventId) → AreBarriers s g k bs → (b : EventId) → StandsIn t b g k → StandsIn s b g k
+  stands_was g k bs are b stands =
+      let there = there_is bs b.at.item (subst (λ n. b.at.item < n) (sym (are.count ∙ size_grows s t grows g)) stands.item) in
+      let is = are.each b.at.item there.0 there.1 in
+      let same : there.0 ≡ b = stands_same t there.0 b g k (stands_grows s t grows there.0 g k is.1) stands is.0 in
+      subst (λ x. StandsIn s x g k) same is.1
+
+  pub meets_grows : (g k : ℕ) (new : List EventId) → Meets s old g k new → Meets t old g k new
+  meets_grows g k new h = record {
+    mark = h.mark;
+    meeting = meeting_of t old lawful_grows g k h.mark
+        (convergent_grows s t grows g k h.mark h.meeting.convergent)
+        (λ met. h.meeting.fresh (met.0, stands_was g k h.barriers h.are met.0 met.1, met.2))
+        (λ b d stands previous. h.meeting.before b d (stands_was g k h.barriers h.are b stands) previous);
+    barriers = h.barriers;
+    are = record { count = h.are.count ∙ size_grows s t grows g; each = λ i b at. let is = h.are.each i b at in (is.0, stands_grows s t grows b g k is.1) };
+    order = h.order;
+  }

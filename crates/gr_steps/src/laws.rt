@@ -1,0 +1,22 @@
+//! Laws of the steps. Each is the contract of a function that does nothing, told in words in docs/MODEL.md, "Steps".
+
+ghost use Rattle.gr_steps.specs.Laws.{HandleStaysLawful, MeetStaysLawful, GrowthStaysLawful, HandlesStay, MeetsStay, RestIsGrounded};
+
+/// A lawful order stays lawful where an event is handled, where an instance meets, and where lists that are not complete
+/// grow.
+pub fn steps_stay_lawful()
+    ensures handle { HandleStaysLawful }
+    ensures meet { MeetStaysLawful }
+    ensures growth { GrowthStaysLawful }
+{}
+
+/// What could be done before lists that are not complete grew can be done after, with the same outcome.
+pub fn steps_stay_allowed()
+    ensures handle { HandlesStay }
+    ensures meet { MeetsStay }
+{}
+
+/// Where no event may be handled and no instance may meet, the handled events are the grounded ones.
+pub fn rest_is_grounded()
+    ensures { RestIsGrounded }
+{}
