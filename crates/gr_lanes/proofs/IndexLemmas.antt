@@ -1,0 +1,157 @@
+-- What one record more makes of the index of each item.
+use Rattle.std.proofs.Common.{◌≡◌, ◌⊎◌, ℕ, zero, suc, ◌+◌, ◌-◌, ◌<◌, ◌≤◌, Bool, true, false, not, ◌&&◌, ◌==◌, cond, List, [], ◌∷◌, ◌++◌, length, filter, Some, slice_get, get_or, set, take, refl, sym, ap, ◌∙◌, subst, inl, inr, ⊎_elim, arith, append-nil, IsTrue, eqb-true, true≢false, eq-or-lt_of_le}
+use Rattle.std.proofs.lemmas.Bool.{cases_lt, cases_eq, eq-eqb, ne_eqb}
+use Rattle.std.proofs.lemmas.List.{length-set, get_or-set_same, get_or-set_other, get_or_read, get_or_push, get_or_append_left, length_push}
+use Rattle.std.proofs.lemmas.List.Elements.{filter-append}
+use Rattle.std.proofs.lemmas.Option.{slice_get_within}
+use Rattle.std.proofs.Math.Seq.{take-append_seam}
+use Rattle.gr_model.specs.declared.event.Event.{Event}
+use Rattle.gr_model.specs.declared.limits.TheConstants.{MOST_RECORDS}
+use Rattle.gr_model.specs.Access.{is_release}
+use Rattle.gr_model.specs.Barriers.{is_barrier}
+use Rattle.gr_model.specs.Events.{IsEventOk, is_end}
+use Rattle.gr_model.specs.Streams.{IsFront, IsGoodAt, AreGood, is_complete, is_of, places_from}
+use Rattle.gr_model.proofs.Places.{places_from-append, slice_get-append_cases}
+use Rattle.gr_model.proofs.ListsOfRecords.{is_complete-last}
+use Rattle.gr_lanes.specs.Indices.{Index, index_of, no_index, with_if, with_event, indexed, AreIndices}
+
+-- an element more at the end of a list
+pub places_more : {X : Type 0} (test : X → Bool) (xs : List X) (x : X) → places_from test 0 (xs ++ x ∷ []) ≡ with_if (test x) (places_from test 0 xs) (length xs)
+places_more test xs x =
+    places_from-append test 0 xs (x ∷ []) ∙ elim (test x) as (λ b. places_from test 0 xs ++ cond b ((0 + length xs) ∷ []) [] ≡ with_if b (places_from test 0 xs) (length xs)) [
+      | true ↦ ap (λ n. places_from test 0 xs ++ n ∷ []) (omega arith)
+      | false ↦ append-nil (places_from test 0 xs)
+    ]
+
+pub trace_more : (list : List Event) (x : Event) (i : ℕ) → filter (is_of i) (list ++ x ∷ []) ≡ filter (is_of i) list ++ cond (is_of i x) (x ∷ []) []
+trace_more list x i = filter-append (is_of i) list (x ∷ [])
+
+pub length-places : {X : Type 0} (test : X → Bool) (n : ℕ) (xs : List X) → length (places_from test n xs) ≡ length (filter test xs)
+length-places test n [] = refl
+length-places test n (x ∷ xs) =
+    elim (test x) as (λ b. length (cond b (n ∷ places_from test (suc n) xs) (places_from test (suc n) xs)) ≡ length (cond b (x ∷ filter test xs) (filter test xs))) [
+      | true ↦ ap suc (length-places test (suc n) xs)
+      | false ↦ length-places test (suc n) xs
+    ]
+
+pub few-places : {X : Type 0} (test : X → Bool) (n : ℕ) (xs : List X) → length (places_from test n xs) ≤ length xs
+few-places test n [] = omega arith
+few-places test n (x ∷ xs) =
+    let rest = few-places test (suc n) xs in
+    elim (test x) as (λ b. length (cond b (n ∷ places_from test (suc n) xs) (places_from test (suc n) xs)) ≤ suc (length xs)) [
+      | true ↦ omega arith
+      | false ↦ omega arith
+    ]
+
+-- the record is none of the item's
+pub index_other : (list : List Event) (x : Event) (i : ℕ) → is_of i x ≡ false → index_of (list ++ x ∷ []) i ≡ index_of list i
+index_other list x i other =
+    let places : places_from (is_of i) 0 (list ++ x ∷ []) ≡ places_from (is_of i) 0 list = places_more (is_of i) list x ∙ ap (λ b. with_if b (places_from (is_of i) 0 list) (length list)) other in
+    let trace : filter (is_of i) (list ++ x ∷ []) ≡ filter (is_of i) list = trace_more list x i ∙ (ap (λ b. filter (is_of i) list ++ cond b (x ∷ []) []) other ∙ append-nil (filter (is_of i) list)) in
+    λ d. record { places = places d; releases = places_from is_release 0 (trace d); barriers = places_from is_barrier 0 (trace d) }
+
+-- the record is one of the item's
+pub index_here : (list : List Event) (x : Event) (i : ℕ) → is_of i x ≡ true → index_of (list ++ x ∷ []) i ≡ with_event (index_of list i) (length list) (is_release x) (is_barrier x)
+index_here list x i mine =
+    let places : places_from (is_of i) 0 (list ++ x ∷ []) ≡ places_from (is_of i) 0 list ++ length list ∷ [] = places_more (is_of i) list x ∙ ap (λ b. with_if b (places_from (is_of i) 0 list) (length list)) mine in
+    let trace : filter (is_of i) (list ++ x ∷ []) ≡ filter (is_of i) list ++ x ∷ [] = trace_more list x i ∙ ap (λ b. filter (is_of i) list ++ cond b (x ∷ []) []) mine in
+    let releases = marked is_release trace in
+    let barriers = marked is_barrier trace in
+    λ d. record { places = places d; releases = releases d; barriers = barriers d }
+  where
+    marked : (test : Event → Bool) → filter (is_of i) (list ++ x ∷ []) ≡ filter (is_of i) list ++ x ∷ [] → places_from test 0 (filter (is_of i) (list ++ x ∷ [])) ≡ with_if (test x) (places_from test 0 (filter (is_of i) list)) (length (places_from (is_of i) 0 list))
+    marked test trace = ap (places_from test 0) trace ∙ (places_more test (filter (is_of i) list) x ∙ ap (with_if (test x) (places_from test 0 (filter (is_of i) list))) (sym (length-places (is_of i) 0 list)))
+
+-- ---- fronts
+
+-- no record of a front that is not complete is an end
+no_end : (items : ℕ) (list : List Event) → AreGood items list → ¬ IsTrue (is_complete list) → (p : ℕ) (x : Event) → slice_get list p ≡ Some x → ¬ IsTrue (is_end x)
+no_end items list good open_list p x at end =
+    let last : p + 1 ≡ length list = (good p x at).1 end in
+    let same : length list - 1 ≡ p = omega arith in
+    open_list (is_complete-last list x (ap (slice_get list) same ∙ at) ∙ end)
+
+at_end : {X : Type 0} (xs : List X) (x y : X) (p : ℕ) → length xs ≤ p → slice_get (xs ++ x ∷ []) p ≡ Some y → (x ≡ y) × (p ≡ length xs)
+at_end [] x y zero l e = (cc, refl)
+at_end [] x y (suc p) l e = cc
+at_end (z ∷ xs) x y zero l e = absurd (omega arith)
+at_end (z ∷ xs) x y (suc p) l e = let h = at_end xs x y p (omega arith) e in (h.0, omega (arith, h.1))
+
+before : {X : Type 0} (xs : List X) (x y : X) (p : ℕ) → p < length xs → slice_get (xs ++ x ∷ []) p ≡ Some y → slice_get xs p ≡ Some y
+before [] x y p l e = absurd (omega arith)
+before (z ∷ xs) x y zero l e = e
+before (z ∷ xs) x y (suc p) l e = before xs x y p (omega arith) e
+
+pub front_more : (items : ℕ) (list : List Event) (x : Event) → IsFront items list → IsEventOk x items → ¬ IsTrue (is_complete list) → length list < MOST_RECORDS → IsFront items (list ++ x ∷ [])
+front_more items list x front ok open_list room = record { few = omega (arith, length_push list x); good = good }
+  where
+    good : AreGood items (list ++ x ∷ [])
+    good p y at =
+        ⊎_elim
+        (λ (lt : p < length list). let was = before list x y p lt at in ((front.good p y was).0, λ end. absurd (no_end items list front.good open_list p y was end)))
+        (λ (ge : length list ≤ p). let last = at_end list x y p ge at in (subst (λ z. IsEventOk z items) last.0 ok, λ end. omega (arith, last.1, length_push list x)))
+        (cases_lt p (length list))
+
+-- ---- the lanes of a group
+
+-- a record that is an end is none of any item's
+end_is_of : (x : Event) (i : ℕ) → is_end x ≡ true → is_of i x ≡ false
+end_is_of x i end = elim (x.item == i) as (λ b. (b && not (is_end x)) ≡ false) [ true ↦ ap not end | false ↦ refl ]
+
+is_of_item : (x : Event) (i : ℕ) → is_end x ≡ false → is_of i x ≡ (x.item == i)
+is_of_item x i on = elim (x.item == i) as (λ b. (b && not (is_end x)) ≡ b) [ true ↦ ap not on | false ↦ refl ]
+
+module _ (lanes : List Index) (list : List Event) (x : Event) (are : AreIndices lanes list) (ok : IsEventOk x (length lanes)) where
+  pub few_events : length (get_or lanes x.item no_index).places < 4_294_967_296
+  few_events =
+      let same : length (get_or lanes x.item no_index).places ≡ length (places_from (is_of x.item) 0 list) = ap (λ l. length l.places) (are.each x.item ok.0) in
+      omega (arith, few-places (is_of x.item) 0 list, are.front.few)
+
+  abbrev event : Index
+  event = with_event (get_or lanes x.item no_index) (length list) (is_release x) (is_barrier x)
+
+  pub indices_more : ¬ IsTrue (is_complete list) → length list < MOST_RECORDS → AreIndices (indexed lanes x (length list)) (list ++ x ∷ [])
+  indices_more open_list room = by_end (is_end x) refl
+    where
+      front : IsFront (length lanes) (list ++ x ∷ [])
+      front = front_more (length lanes) list x are.front ok open_list room
+
+      here : is_end x ≡ false → get_or (set lanes x.item event) x.item no_index ≡ index_of (list ++ x ∷ []) x.item
+      here on =
+          get_or-set_same lanes x.item event no_index ok.0 ∙ (ap (λ l. with_event l (length list) (is_release x) (is_barrier x)) (are.each x.item ok.0)
+          ∙ sym (index_here list x x.item (is_of_item x x.item on ∙ eq-eqb x.item x.item refl)))
+
+      other : is_end x ≡ false → (i : ℕ) → (i ≡ x.item → ⊥) → i < length lanes → get_or (set lanes x.item event) i no_index ≡ index_of (list ++ x ∷ []) i
+      other on i apart within = get_or-set_other lanes x.item i event no_index apart ∙ (are.each i within ∙ sym (index_other list x i (is_of_item x i on ∙ ne_eqb x.item i (λ e. apart (sym e)))))
+
+      by_end : (b : Bool) → is_end x ≡ b → AreIndices (cond b lanes (set lanes x.item event)) (list ++ x ∷ [])
+      by_end true end = record { front = front; each = λ i within. are.each i within ∙ sym (index_other list x i (end_is_of x i end)) }
+      by_end false on =
+          let size : length (set lanes x.item event) ≡ length lanes = length-set lanes x.item event in record {
+            front = subst (λ n. IsFront n (list ++ x ∷ [])) (sym size) front;
+            each = λ i within. ⊎_elim
+                (λ (same : i ≡ x.item). subst (λ n. get_or (set lanes x.item event) n no_index ≡ index_of (list ++ x ∷ []) n) (sym same) (here on))
+                (λ (apart : i ≡ x.item → ⊥). other on i apart (omega arith))
+                (cases_eq i x.item);
+          }
+
+  pub size_more : (n : ℕ) → length (indexed lanes x n) ≡ length lanes
+  size_more n = elim (is_end x) as (λ b. length (cond b lanes (set lanes x.item (with_event (get_or lanes x.item no_index) n (is_release x) (is_barrier x)))) ≡ length lanes) [
+      | true ↦ refl
+      | false ↦ length-set lanes x.item (with_event (get_or lanes x.item no_index) n (is_release x) (is_barrier x))
+    ]
+
+-- lanes of items without events
+pub no_events : (lanes : List Index) → ((i : ℕ) → i < length lanes → get_or lanes i no_index ≡ no_index) → AreIndices lanes []
+no_events lanes none = record { front = record { few = omega arith; good = λ p x at. cc }; each = none }
+
+pub one_lane_more : (old new : List Index) (n : ℕ) → length old ≡ n → ((i : ℕ) → i < n → get_or old i no_index ≡ no_index) → new ≡ old ++ no_index ∷ [] → (i : ℕ) → i < n + 1 → get_or new i no_index ≡ no_index
+one_lane_more old new n count none is i within =
+    ap (λ l. get_or l i no_index) is ∙ ⊎_elim
+    (λ (lt : i < n). get_or_append_left old (no_index ∷ []) no_index i (omega arith) ∙ none i lt)
+    (λ (ge : n ≤ i). get_or_push old no_index no_index i (omega arith))
+    (cases_lt i n)
+
+-- a slice of a whole vector was written
+pub whole_slice : {X : Type 0} (n : ℕ) (new rest : List X) → length new ≡ n → take n (new ++ rest) ≡ new
+whole_slice n new rest size = ap (λ k. take k (new ++ rest)) (sym size) ∙ take-append_seam new rest

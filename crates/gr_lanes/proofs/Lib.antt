@@ -1,0 +1,2 @@
+pub mod IndexLemmas
+pub mod GroupLemmas
