@@ -1,0 +1,2 @@
+pub mod GroupLemmas
+pub mod InstanceLemmas

@@ -1,0 +1,217 @@
+//! The barriers of one work-group: for each of its items the marks that it has brought, in their order.
+//!
+//! The mark with number k of each item belongs to instance k of the group (docs/MODEL.md, "Barriers").
+
+ghost use Rattle.std.specs.Prelude.{◌≡◌, ◌≢◌, ◌↔◌, ◌<◌, ◌≤◌, ◌++◌, ◌∷◌, [], ⊤, true, false, IsTrue, IfOk, OnOk, OnErr, MatchOption, length, replicate, slice_get, slice_index_or, slice_set, ℕ};
+ghost use Rattle.gr_barriers.specs.Arrived.{marks_at, brought, NobodyCame, SomeCame, SomeMissing, IsState, IsCause};
+
+use crate::instances::State;
+use crate::mark::Mark;
+use gr_model::limits::MOST_RECORDS;
+use gr_model::memory::Memory;
+use gr_model::report::DivergenceCause;
+use std::alloc::{Allocator, Global};
+use std::marker::Model;
+
+/// The barriers of one work-group. Contracts see the marks of each item, and whether the group's stream has ended.
+#[derive(Drop)]
+#[derive_where(Debug)]
+pub(crate) struct Group<A: Allocator = Global> {
+    marks: Vec<Vec<Mark, A>, A>,
+    ended: bool,
+}
+
+impl<A: Allocator> Model for Group<A> {
+    ghost use Rattle.std.specs.Prelude.{map};
+    ghost use Rattle.gr_barriers.specs.Arrived.{GroupMarks, AreFew};
+
+    ghost Value = { GroupMarks };
+
+    ghost view = { λ t. record { marks = map (λ v. v.items) t.marks.items; ended = t.ended } };
+
+    ghost invariant = { λ t. AreFew (map (λ v. v.items) t.marks.items) };
+}
+
+/// The mark with this number.
+fn mark_at(marks: &[Mark], number: u32) -> Option<Mark>
+    ensures { result ≡ slice_get marks.now number }
+{
+    marks.get(number as usize).copied()
+}
+
+impl<A: Allocator + Copy> Group<A> {
+    /// A group of so many items, none of which has come to a barrier.
+    pub(crate) fn new(alloc: A, items: u16) -> Result<Group<A>, Memory>
+        ensures { IfOk result (λ t. t ≡ record { marks = replicate items []; ended = false }) }
+    {
+        let mut marks = Vec::new(alloc);
+        for _item in 0..items {
+            marks.push(Vec::new(alloc))?;
+        }
+        Ok(Group {
+            marks,
+            ended: false,
+        })
+    }
+}
+
+impl<A: Allocator> Group<A> {
+    /// How many items the group has.
+    pub(crate) fn size(&self) -> usize
+        ensures { result ≡ length self.now.marks }
+    {
+        self.marks.len()
+    }
+
+    /// Whether the group's stream has ended.
+    pub(crate) fn has_ended(&self) -> bool
+        ensures { result ≡ self.now.ended }
+    {
+        self.ended
+    }
+
+    /// Ends the group's stream.
+    pub(crate) fn end(&mut self)
+        ensures { self.new ≡ record self.old { ended = true } }
+    {
+        self.ended = true;
+    }
+
+    /// Adds a mark of an item, and tells its number.
+    pub(crate) fn arrive(&mut self, item: u16, mark: Mark) -> Result<u32, Memory>
+        requires item { item < length self.old.marks }
+        requires few { length (marks_at self.old item) < MOST_RECORDS }
+        ensures number { IfOk result (λ k. k ≡ length (marks_at self.old item)) }
+        ensures ok { OnOk result (self.new ≡ record self.old { marks = slice_set self.old.marks item (marks_at self.old item ++ mark ∷ []) }) }
+        ensures err { OnErr result (self.new ≡ self.old) }
+    {
+        let marks = &mut self.marks[item as usize];
+        let number = marks.len() as u32;
+        marks.push(mark)?;
+        Ok(number)
+    }
+
+    /// What an item has brought to an instance, if it has come.
+    fn arrival(&self, item: usize, instance: u32) -> Option<Mark>
+        ensures { result ≡ brought self.now instance item }
+    {
+        match self.marks.get(item) {
+            None => None,
+            Some(marks) => mark_at(marks, instance),
+        }
+    }
+
+    /// How many marks an item has brought.
+    pub(crate) fn count(&self, item: usize) -> usize
+        ensures count { result ≡ length (marks_at self.now item) }
+        ensures few { result ≤ MOST_RECORDS }
+    {
+        if item < self.marks.len() {
+            self.marks[item].len()
+        } else {
+            0
+        }
+    }
+
+    /// How many barriers an item has met, at most.
+    pub(crate) fn instances(&self) -> u32
+        ensures { (k : ℕ) → result ≤ k → NobodyCame self.now k }
+    {
+        let mut most: usize = 0;
+        for item in 0..self.size() {
+            most = most.max(self.count(item));
+        }
+        most as u32
+    }
+
+    /// What some item has brought to an instance, if one has come.
+    fn some_arrival(&self, instance: u32) -> Option<Mark>
+        ensures { MatchOption result (NobodyCame self.now instance) (λ a. SomeCame self.now instance (λ b. b ≡ a)) }
+    {
+        for item in 0..self.size() {
+            if let Some(mark) = self.arrival(item, instance) {
+                return Some(mark);
+            }
+        }
+        None
+    }
+
+    /// Whether some item has not come to an instance.
+    fn lacks_one(&self, instance: u32) -> bool
+        ensures { IsTrue result ↔ SomeMissing self.now instance }
+    {
+        for item in 0..self.size() {
+            if self.arrival(item, instance).is_none() {
+                return true;
+            }
+        }
+        false
+    }
+
+    /// Whether some item has come to an instance from another site.
+    fn has_other_site(&self, instance: u32, mark: Mark) -> bool
+        ensures { IsTrue result ↔ SomeCame self.now instance (λ b. b.site ≢ mark.site) }
+    {
+        for item in 0..self.size() {
+            if let Some(other) = self.arrival(item, instance)
+                && !other.is_at_site_of(mark)
+            {
+                return true;
+            }
+        }
+        false
+    }
+
+    /// Whether some item has come to an instance from another site or with other flags.
+    fn has_other_mark(&self, instance: u32, mark: Mark) -> bool
+        ensures { IsTrue result ↔ SomeCame self.now instance (λ b. b ≢ mark) }
+    {
+        for item in 0..self.size() {
+            if let Some(other) = self.arrival(item, instance)
+                && !other.is_same(mark)
+            {
+                return true;
+            }
+        }
+        false
+    }
+
+    /// Whether some item has not come to an instance and never will.
+    fn is_missing_one(&self, instance: u32) -> bool
+        ensures { IsTrue result ↔ (IsTrue self.now.ended × SomeMissing self.now instance) }
+    {
+        self.ended && self.lacks_one(instance)
+    }
+
+    /// The state of an instance, or `None` where nobody came to it.
+    pub(crate) fn state(&self, instance: u32) -> Option<State>
+        ensures { IsState self.now instance result }
+    {
+        let mark = self.some_arrival(instance)?;
+        if self.has_other_mark(instance, mark) {
+            Some(State::Divergent)
+        } else if self.is_missing_one(instance) {
+            Some(State::Divergent)
+        } else if self.lacks_one(instance) {
+            Some(State::Waiting)
+        } else {
+            Some(State::Convergent)
+        }
+    }
+
+    /// Why an instance is divergent, or `None` where it is not.
+    pub(crate) fn cause(&self, instance: u32) -> Option<DivergenceCause>
+        ensures { IsCause self.now instance result }
+    {
+        let mark = self.some_arrival(instance)?;
+        if self.is_missing_one(instance) {
+            Some(DivergenceCause::Missing)
+        } else if self.has_other_site(instance, mark) {
+            Some(DivergenceCause::Site)
+        } else if self.has_other_mark(instance, mark) {
+            Some(DivergenceCause::Flags)
+        } else {
+            None
+        }
+    }
+}

@@ -1,0 +1,300 @@
+//! Worked rows of vector clocks. A call to which a growth was refused leaves the counts as they were, and then gives the
+//! row's answer.
+
+ghost use Rattle.std.specs.Prelude.{◌≡◌, ◌<◌, ◌∷◌, [], IfSome};
+ghost use Rattle.gr_clocks.specs.Counts.{sizes_of};
+
+use gr_clocks::clock::{Clock, ClockError, LARGEST_COUNT};
+use gr_clocks::clocks::Clocks;
+use gr_clocks::snapshot::Snapshot;
+use gr_model::event::{ItemId, Scope, Space, Word};
+use gr_model::shape::Shape;
+use refusing::Refusing;
+use std::alloc::Allocator;
+use std::test::Fail;
+
+/// The item of group 0 at this place.
+fn item(item: u16) -> ItemId
+    ensures { result ≡ record { group = 0; item = item } }
+{
+    ItemId { group: 0, item }
+}
+
+/// The shape of one group of two items.
+fn two_items<A: Allocator + Copy>(alloc: A) -> Option<Shape<A>>
+    ensures { IfSome result (λ s. s ≡ 2 ∷ []) }
+{
+    if let Ok(sizes) = vec![in alloc; 2_u16] {
+        return Shape::new(sizes).ok();
+    }
+    let sizes = vec![in alloc; 2_u16].ok()?;
+    Shape::new(sizes).ok()
+}
+
+fn new_clock<A: Allocator + Copy>(alloc: A, shape: &Shape<A>) -> Option<Clock<A>>
+    requires { shape.now ≡ 2 ∷ [] }
+    ensures { IfSome result (λ c. sizes_of c ≡ 2 ∷ []) }
+{
+    if let Ok(clock) = Clock::new(alloc, shape) {
+        return Some(clock);
+    }
+    Clock::new(alloc, shape).ok()
+}
+
+/// The counts of both items.
+fn counts<A: Allocator>(clock: &Clock<A>) -> [u32; 2] {
+    [clock.get(item(0)), clock.get(item(1))]
+}
+
+fn tick<A: Allocator>(clock: &mut Clock<A>, place: u16) -> bool
+    requires sizes { sizes_of clock.old ≡ 2 ∷ [] }
+    requires place { place < 2 }
+    ensures { sizes_of clock.new ≡ 2 ∷ [] }
+{
+    let before = counts(clock);
+    if clock.tick(item(place)).is_ok() {
+        return true;
+    }
+    let stays = counts(clock) == before;
+    clock.tick(item(place)).is_ok() && stays
+}
+
+fn join<A: Allocator>(clock: &mut Clock<A>, other: &Clock<A>) -> bool
+    requires sizes { sizes_of clock.old ≡ 2 ∷ [] }
+    requires others { sizes_of other.now ≡ 2 ∷ [] }
+    ensures { sizes_of clock.new ≡ 2 ∷ [] }
+{
+    let before = counts(clock);
+    if clock.join(other).is_ok() {
+        return true;
+    }
+    let stays = counts(clock) == before;
+    clock.join(other).is_ok() && stays
+}
+
+fn copy<A: Allocator + Copy>(clock: &Clock<A>) -> Option<Clock<A>> {
+    if let Ok(copied) = clock.copy() {
+        return Some(copied);
+    }
+    clock.copy().ok()
+}
+
+/// Ticks item 0 of one clock twice and item 1 of another once, and joins the first into the other: the other's counts, its
+/// copy's, and whether it covers indices 1 and 2 of item 0.
+fn ticks_and_a_join<A: Allocator + Copy>(alloc: A) -> Option<([u32; 2], [u32; 2], bool, bool)> {
+    let shape = two_items(alloc)?;
+    let mut first = new_clock(alloc, &shape)?;
+    let mut second = new_clock(alloc, &shape)?;
+    let ticked = tick(&mut first, 0) && tick(&mut first, 0) && tick(&mut second, 1);
+    if !ticked || !join(&mut second, &first) {
+        return None;
+    }
+    let copied = copy(&second)?;
+    Some((
+        counts(&second),
+        counts(&copied),
+        second.covers(item(0), 1),
+        second.covers(item(0), 2),
+    ))
+}
+
+#[test]
+fn a_clock_ticks_joins_and_covers(rt: HostRuntime) -> Result<(), Fail> {
+    for at in 0..1_000_u64 {
+        let heap = Refusing::new(rt.alloc(), at);
+        let want = Some(([2, 1], [2, 1], true, false));
+        assert_eq!(rt; ticks_and_a_join(&heap), want, "growth {at} refused");
+        if !heap.refused() {
+            assert!(rt; at > 0, "no growth was refused");
+            return Ok(());
+        }
+    }
+    Err("no end")?
+}
+
+/// Ticks an item so often, and tells how often it went well from the start on.
+fn tick_times<A: Allocator>(clock: &mut Clock<A>, place: u16, times: u32) -> u32
+    requires sizes { sizes_of clock.old ≡ 2 ∷ [] }
+    requires place { place < 2 }
+    ensures { sizes_of clock.new ≡ 2 ∷ [] }
+{
+    for done in 0..times {
+        if clock.tick(item(place)).is_err() {
+            return done;
+        }
+    }
+    times
+}
+
+#[test]
+fn a_count_is_spent_at_its_limit(rt: HostRuntime) -> Result<(), Fail> {
+    let shape = two_items(rt.alloc()).ok_or("memory")?;
+    let mut clock = new_clock(rt.alloc(), &shape).ok_or("memory")?;
+    assert_eq!(rt; tick_times(&mut clock, 0, 16_777_216), 16_777_216);
+    assert_eq!(rt; clock.tick(item(0)), Err(ClockError::Spent));
+    assert_eq!(rt; counts(&clock), [16_777_216, 0]);
+    assert_eq!(rt; LARGEST_COUNT, 16_777_216);
+    Ok(())
+}
+
+fn new_clocks<A: Allocator + Copy>(alloc: A, shape: &Shape<A>) -> Option<Clocks<A>>
+    requires { shape.now ≡ 2 ∷ [] }
+    ensures { IfSome result (λ c. c.sizes ≡ 2 ∷ []) }
+{
+    if let Ok(clocks) = Clocks::new(alloc, shape) {
+        return Some(clocks);
+    }
+    Clocks::new(alloc, shape).ok()
+}
+
+/// The counts of an item's clock in a memory.
+fn known<A: Allocator>(clocks: &Clocks<A>, place: u16, space: Space) -> [u32; 2]
+    requires sizes { clocks.now.sizes ≡ 2 ∷ [] }
+    requires place { place < 2 }
+{
+    counts(clocks.clock_of(item(place), space))
+}
+
+/// The counts of both items' clocks in global memory, then in local memory.
+fn all_known<A: Allocator>(clocks: &Clocks<A>) -> [[u32; 2]; 4]
+    requires { clocks.now.sizes ≡ 2 ∷ [] }
+{
+    [
+        known(clocks, 0, Space::Global),
+        known(clocks, 1, Space::Global),
+        known(clocks, 0, Space::Local),
+        known(clocks, 1, Space::Local),
+    ]
+}
+
+fn access<A: Allocator>(clocks: &mut Clocks<A>, place: u16) -> bool
+    requires sizes { clocks.old.sizes ≡ 2 ∷ [] }
+    requires place { place < 2 }
+    ensures { clocks.new.sizes ≡ 2 ∷ [] }
+{
+    let before = all_known(clocks);
+    if clocks.access(item(place)).is_ok() {
+        return true;
+    }
+    let stay = all_known(clocks) == before;
+    clocks.access(item(place)).is_ok() && stay
+}
+
+fn release<A: Allocator + Copy>(
+    clocks: &mut Clocks<A>,
+    place: u16,
+    word: Word,
+) -> Option<Snapshot<A>>
+    requires sizes { clocks.old.sizes ≡ 2 ∷ [] }
+    requires place { place < 2 }
+    ensures sizes { clocks.new.sizes ≡ 2 ∷ [] }
+    ensures snapshot { IfSome result (λ s. sizes_of s.clock ≡ 2 ∷ []) }
+{
+    let before = all_known(clocks);
+    if let Ok(snapshot) = clocks.release(item(place), word, Scope::Device) {
+        return Some(snapshot);
+    }
+    if all_known(clocks) != before {
+        return None;
+    }
+    clocks.release(item(place), word, Scope::Device).ok()
+}
+
+fn acquire<A: Allocator>(clocks: &mut Clocks<A>, place: u16, snapshot: &Snapshot<A>) -> bool
+    requires sizes { clocks.old.sizes ≡ 2 ∷ [] }
+    requires snapshot { sizes_of snapshot.now.clock ≡ 2 ∷ [] }
+    requires place { place < 2 }
+    ensures { clocks.new.sizes ≡ 2 ∷ [] }
+{
+    let before = all_known(clocks);
+    if clocks.acquire(item(place), snapshot).is_ok() {
+        return true;
+    }
+    let stay = all_known(clocks) == before;
+    clocks.acquire(item(place), snapshot).is_ok() && stay
+}
+
+fn acquire_release<A: Allocator + Copy>(
+    clocks: &mut Clocks<A>,
+    place: u16,
+    snapshot: &Snapshot<A>,
+    word: Word,
+) -> Option<Snapshot<A>>
+    requires sizes { clocks.old.sizes ≡ 2 ∷ [] }
+    requires snapshot { sizes_of snapshot.now.clock ≡ 2 ∷ [] }
+    requires place { place < 2 }
+    ensures { clocks.new.sizes ≡ 2 ∷ [] }
+{
+    let before = all_known(clocks);
+    if let Ok(left) = clocks.acquire_release(item(place), snapshot, word, Scope::Device) {
+        return Some(left);
+    }
+    if all_known(clocks) != before {
+        return None;
+    }
+    clocks
+        .acquire_release(item(place), snapshot, word, Scope::Device)
+        .ok()
+}
+
+fn meet<A: Allocator + Copy>(clocks: &mut Clocks<A>, global: bool, local: bool) -> bool
+    requires { clocks.old.sizes ≡ 2 ∷ [] }
+    ensures { clocks.new.sizes ≡ 2 ∷ [] }
+{
+    let before = all_known(clocks);
+    if clocks.meet(0, global, local).is_ok() {
+        return true;
+    }
+    let stay = all_known(clocks) == before;
+    clocks.meet(0, global, local).is_ok() && stay
+}
+
+/// What each step of the row shows: the first snapshot, item 1's clocks after the acquire, the second snapshot, and all
+/// clocks after the barrier.
+type Seen = ([u32; 2], [[u32; 2]; 2], [u32; 2], [[u32; 2]; 4]);
+
+/// An access and a release of item 0, an acquire of item 1, one that releases too, and a barrier for global memory.
+fn release_acquire_and_a_barrier<A: Allocator + Copy>(alloc: A) -> Option<Seen> {
+    let shape = two_items(alloc)?;
+    let mut clocks = new_clocks(alloc, &shape)?;
+    if !access(&mut clocks, 0) {
+        return None;
+    }
+    let first = release(&mut clocks, 0, Word::Global(20))?;
+    if !acquire(&mut clocks, 1, &first) {
+        return None;
+    }
+    let acquired = [
+        known(&clocks, 1, Space::Global),
+        known(&clocks, 1, Space::Local),
+    ];
+    let second = acquire_release(&mut clocks, 1, &first, Word::Global(24))?;
+    if !meet(&mut clocks, true, false) {
+        return None;
+    }
+    Some((
+        counts(first.clock()),
+        acquired,
+        counts(second.clock()),
+        all_known(&clocks),
+    ))
+}
+
+#[test]
+fn releases_acquires_and_barriers(rt: HostRuntime) -> Result<(), Fail> {
+    for at in 0..1_000_u64 {
+        let heap = Refusing::new(rt.alloc(), at);
+        let want = Some((
+            [2, 0],
+            [[2, 1], [0, 1]],
+            [2, 2],
+            [[3, 3], [3, 3], [3, 0], [0, 3]],
+        ));
+        assert_eq!(rt; release_acquire_and_a_barrier(&heap), want, "growth {at} refused");
+        if !heap.refused() {
+            assert!(rt; at > 0, "no growth was refused");
+            return Ok(());
+        }
+    }
+    Err("no end")?
+}

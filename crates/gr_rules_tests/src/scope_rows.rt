@@ -1,0 +1,96 @@
+//! Which accesses are exempt from racing, and which releases and acquires synchronize, case by case.
+
+use gr_model::event::{Event, Kind, Order, Scope, Space};
+use gr_scopes::access::pairs_with;
+use gr_scopes::class::{Class, exempt};
+use std::test::Fail;
+
+/// A name, two classes each with its group, and whether they are exempt.
+type Exemption = (&'static str, Class, u16, Class, u16, bool);
+
+const EXEMPTIONS: [Exemption; 6] = [
+    (
+        "group atomics of one group",
+        Class::GroupModify,
+        0,
+        Class::GroupModify,
+        0,
+        true,
+    ),
+    (
+        "group atomics of two groups",
+        Class::GroupModify,
+        0,
+        Class::GroupModify,
+        1,
+        false,
+    ),
+    (
+        "group against device",
+        Class::GroupModify,
+        0,
+        Class::DeviceModify,
+        0,
+        false,
+    ),
+    (
+        "device atomics of two groups",
+        Class::DeviceModify,
+        0,
+        Class::DeviceRead,
+        1,
+        true,
+    ),
+    (
+        "two reads",
+        Class::PlainRead,
+        0,
+        Class::GroupRead,
+        1,
+        true,
+    ),
+    (
+        "plain read against atomic write",
+        Class::PlainRead,
+        0,
+        Class::DeviceModify,
+        0,
+        false,
+    ),
+];
+
+#[test]
+fn exemptions(rt: HostRuntime) {
+    for (name, first, first_group, second, second_group, want) in EXEMPTIONS {
+        assert_eq!(rt; exempt(first, first_group, second, second_group), want, "{name}");
+    }
+}
+
+/// An event of item 0 on a global word.
+const fn on_global(kind: Kind, word: u32) -> Event {
+    Event {
+        item: 0,
+        kind,
+        space: Space::Global,
+        word,
+        name: None,
+    }
+}
+
+#[test]
+fn releases_and_acquires(rt: HostRuntime) {
+    let release = on_global(Kind::Store(Scope::Device, Order::Release), 20);
+    let pairs = [
+        ("device scope", Scope::Device, Order::Acquire, 20, true),
+        ("relaxed load", Scope::Device, Order::Relaxed, 20, false),
+        ("another word", Scope::Device, Order::Acquire, 24, false),
+        ("group scope", Scope::Group, Order::Acquire, 20, false),
+    ];
+    for (name, scope, order, word, want) in pairs {
+        let acquire = on_global(Kind::Load(scope, order), word);
+        assert_eq!(rt; pairs_with(&release, 0, &acquire, 1), want, "{name}");
+    }
+    let group_release = on_global(Kind::Store(Scope::Group, Order::Release), 20);
+    let acquire = on_global(Kind::Load(Scope::Device, Order::Acquire), 20);
+    assert!(rt; !pairs_with(&group_release, 0, &acquire, 1), "group scope of the release");
+}
