@@ -85,7 +85,7 @@ module _ (t : GroupMarks) (k : ℕ) (mark : Mark) (some : SomeCame t k (λ b. b 
   pub waits : SomeMissing t k → IsState t k (Some Waiting)
   waits (j, within_j, lacks) = record {
     some = (some.0, some.1, some.2);
-    not_convergent = λ a all. let came : brought t k j ≡ Some a = all j within_j in let clash : None ≡ Some a = sym lacks ∙ came in cc;
+    not_convergent = λ a all. let came : brought t k j ≡ Some a = all.1 j within_j in let clash : None ≡ Some a = sym lacks ∙ came in cc;
     not_divergent = not_divergent t k mark missing others;
   }
 
@@ -94,11 +94,14 @@ module _ (t : GroupMarks) (k : ℕ) (mark : Mark) (some : SomeCame t k (λ b. b 
     let first = some.2.0 in omega arith,
     (
       mark,
-      λ i within_i.
-          ⊎_elim
-          (λ (lacks : brought t k i ≡ None). absurd (whole (i, within_i, lacks)))
-          (λ (came : (b : Mark) × (brought t k i ≡ Some b)). came.1 ∙ ap (λ (m : Mark). Some m) (same_mark came.0 mark (λ other. others (i, came.0, (within_i, came.1), other))))
-          (came_or_not (brought t k i)),
+      (
+        let first = some.2.0 in omega arith,
+        λ i within_i.
+            ⊎_elim
+            (λ (lacks : brought t k i ≡ None). absurd (whole (i, within_i, lacks)))
+            (λ (came : (b : Mark) × (brought t k i ≡ Some b)). came.1 ∙ ap (λ (m : Mark). Some m) (same_mark came.0 mark (λ other. others (i, came.0, (within_i, came.1), other))))
+            (came_or_not (brought t k i)),
+      ),
     ),
   )
 

@@ -1,31 +1,58 @@
 -- What a run leaves behind, from what its outcome says.
-use Rattle.std.proofs.Common.{◌≡◌, ◌≢◌, ℕ, List, Option, Result, Ok, Err, inl, inr}
-use Rattle.std.specs.Prelude.{IfOk, IfErr, OnOk, IsErrAnd}
+use Rattle.std.proofs.Common.{◌≡◌, ◌≢◌, ◌⊎◌, ℕ, List, Option, Result, Ok, Err, inl, inr, sym, subst}
+use Rattle.std.specs.Prelude.{IfOk, IfErr, IfSome, OnOk, IsErrAnd}
 use Rattle.std.specs.Io.KnownBytes.{Appends, Keeps}
 use Rattle.gr_record.specs.declared.fault.Fault.{Fault}
-use Rattle.gr_record.specs.declared.fault.Fault.TheVariants.{Write}
+use Rattle.gr_record.specs.declared.fault.Fault.TheVariants.{Write, Memory}
 use Rattle.gr_report.specs.declared.report.Report.{Report}
 use Rattle.gr_report.specs.Putting.{AppendsFront}
 use Rattle.gr_report.specs.ReportText.{report_text}
 use Rattle.gr_report.specs.FaultText.{fault_line}
 use Rattle.gr_report.specs.Whole.{whole_of}
-use Rattle.gr_cli.specs.Answers.{IsAnswer}
+use Rattle.gr_replay.specs.Replays.{IsReplayReport, IsReplayFault, WritesFront}
+use Rattle.clap.specs.Words.{FailsBy, HasKind, IsAmong, Kinds}
+use Rattle.clap.specs.declared.error.Error.{Error}
+use Rattle.gr_cli.specs.Answers.{IsAnswer, IsTold}
 use Rattle.gr_cli.specs.Statuses.{fault_status, IsReportStatus}
+use Rattle.gr_cli.specs.Words.{AreHelp, AreWrong, IsHelp, IsWrongUsage}
+use Rattle.gr_cli.specs.declared.status.TheConstants.{NOTHING, USAGE, WANTING, FAILED}
+use Rattle.clap.specs.declared.error.kind.ErrorKind.{ErrorKind}
+use Rattle.clap.specs.declared.error.kind.ErrorKind.TheVariants.{OutOfMemory}
 
-pub answer_of : {Z : Type 0} (outcome : Result (Report Z) Fault) (old new old_errors new_errors : Option (List ℕ)) (status : ℕ)
+pub answer_of : {Z : Type 0} (outcome : Result (Report Z) Fault) (input old new old_errors new_errors : Option (List ℕ)) (status : ℕ)
+    → IfOk outcome (λ r. IfSome input (λ bytes. IsReplayReport bytes (whole_of r)))
     → IfOk outcome (λ r. Appends old new (report_text (whole_of r)))
+    → IfErr outcome (λ f. IfSome input (λ bytes. IsReplayFault bytes f))
     → IfErr outcome (λ f. f ≢ Write → Keeps old new)
+    → IfErr outcome (λ f. f ≡ Write → IfSome input (λ bytes. WritesFront bytes old new))
     → IfOk outcome (λ r. IsReportStatus (whole_of r) status)
     → OnOk outcome (Keeps old_errors new_errors)
     → IfErr outcome (λ f. status ≡ fault_status f)
     → IfErr outcome (λ f. AppendsFront old_errors new_errors (fault_line f))
-    → IsAnswer old new old_errors new_errors status
-answer_of (Ok report) old new old_errors new_errors status text untouched ends silent fault told =
-    inl (whole_of report, record { text = text; silent = silent; ends = ends })
-answer_of (Err f) old new old_errors new_errors status text untouched ends silent fault told =
-    inr (f, record { told = told; ends = fault; untouched = untouched })
+    → IsAnswer input old new old_errors new_errors status
+answer_of (Ok r) input old new old_errors new_errors status report text fault untouched front ends silent fault_ends line =
+    inl (whole_of r, record { report = report; text = text; silent = silent; ends = ends })
+answer_of (Err f) input old new old_errors new_errors status report text fault untouched front ends silent fault_ends line =
+    inr (f, record { fault = fault; told = record { line = line; ends = fault_ends; untouched = untouched }; front = front })
 
 -- what holds of the error that there is
 pub if_err : {X Y : Type 0} {P Q : Y → Type 0} (r : Result X Y) → ((y : Y) → P y → Q y) → IsErrAnd r P → IfErr r Q
 if_err (Ok x) step h = tt
 if_err (Err y) step h = step y h
+
+-- an error of one of the kinds is an answer of these kinds
+pub fails_by : {T : Type 0} (kinds : Kinds) (e : Error) (r : Result T Error) → IsErrAnd r (λ y. y ≡ e) → HasKind kinds e → FailsBy kinds r
+fails_by kinds e (Ok x) h k = absurd h
+fails_by kinds e (Err y) h k = subst (HasKind kinds) (sym h) k
+
+-- what is left behind where the words are wrong, and where they ask for help; memory may be wanting in both
+module _ (k : ErrorKind) (kinds : Kinds) (old new old_errors new_errors : Option (List ℕ)) (status : ℕ)
+    (memory : k ≡ OutOfMemory → IsTold old new old_errors new_errors status Memory) (among : (k ≡ OutOfMemory) ⊎ IsAmong k kinds) where
+  pub wrong_of : (IsWrongUsage k → (status ≡ USAGE) × Keeps old new) → AreWrong kinds → ((status ≡ USAGE) ⊎ (status ≡ WANTING)) × Keeps old new
+  wrong_of wrong are = elim among [
+    | inl e ↦ (inr (memory e).ends, (memory e).untouched (λ h. cc))
+    | inr a ↦ (inl (wrong (are.1 k a)).0, (wrong (are.1 k a)).1)
+  ]
+
+  pub help_of : (IsHelp k → (status ≡ NOTHING) ⊎ (status ≡ FAILED)) → AreHelp kinds → (status ≡ NOTHING) ⊎ (status ≡ WANTING) ⊎ (status ≡ FAILED)
+  help_of help are = elim among [ inl e ↦ inr (inl (memory e).ends) | inr a ↦ elim (help (are.1 k a)) [ inl n ↦ inl n | inr f ↦ inr (inr f) ] ]

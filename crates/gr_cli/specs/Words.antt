@@ -2,7 +2,7 @@
 use Rattle.std.specs.Prelude.{◌≡◌, ◌≢◌, ◌⊎◌, ℕ, true, List, [], ◌∷◌, codes}
 use Rattle.clap.specs.declared.error.kind.ErrorKind.{ErrorKind}
 use Rattle.clap.specs.declared.error.kind.ErrorKind.TheVariants.{DisplayHelp, DisplayVersion, OutOfMemory}
-use Rattle.clap.specs.Words.{App, Shape, new_app, with_subcommand}
+use Rattle.clap.specs.Words.{App, IsAmong, Shape, fault_of, new_app, with_subcommand}
 
 -- no word, or the command's
 abbrev pub AsksForReplay : List (List ℕ) → Type 0
@@ -23,3 +23,14 @@ IsHelp kind = (kind ≡ DisplayHelp) ⊎ (kind ≡ DisplayVersion)
 -- the words are wrong
 abbrev pub IsWrongUsage : ErrorKind → Type 0
 IsWrongUsage kind = ¬ IsHelp kind × (kind ≢ OutOfMemory)
+
+-- why the words are not taken, if they are not: what is wrong with the first that is
+unfoldable pub faults : List (List ℕ) → List ErrorKind
+faults words = fault_of gpurace words
+
+-- the words are wrong, or ask for help, whichever of these kinds the error has
+abbrev pub AreWrong : List ErrorKind → Type 0
+AreWrong kinds = (kinds ≢ []) × ((k : ErrorKind) → IsAmong k kinds → IsWrongUsage k)
+
+abbrev pub AreHelp : List ErrorKind → Type 0
+AreHelp kinds = (kinds ≢ []) × ((k : ErrorKind) → IsAmong k kinds → IsHelp k)

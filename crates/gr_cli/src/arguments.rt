@@ -1,8 +1,8 @@
 //! What the words of the command line ask for.
 
 ghost use Rattle.std.specs.Prelude.{◌≡◌, IfOk, IfErr, map};
-ghost use Rattle.clap.specs.Words.{app_of, kind_of};
-ghost use Rattle.gr_cli.specs.Words.{gpurace, AsksForReplay};
+ghost use Rattle.clap.specs.Words.{FailsBy, app_of, kind_of};
+ghost use Rattle.gr_cli.specs.Words.{gpurace, faults, AsksForReplay};
 
 use clap::error::ErrorKind;
 use clap::{Command, Error};
@@ -59,7 +59,8 @@ fn command<'a>(alloc: Global) -> Result<Command<'a>, AllocError>
 /// # Errors
 /// The text of help or of wrong usage, or want of memory; of words that ask for a replay this alone.
 pub fn task_of<S: AsStr>(alloc: Global, words: &[S]) -> Result<Task, Error>
-    ensures known { IfErr result (λ e. AsksForReplay (map S.text words.now) → kind_of e ≡ ErrorKind.OutOfMemory) }
+    ensures fails { FailsBy (faults (map S.text words.now)) result }
+    ensures replays { IfErr result (λ e. AsksForReplay (map S.text words.now) → kind_of e ≡ ErrorKind.OutOfMemory) }
 {
     let matches = command(alloc)?.try_get_matches_from(words)?;
     match matches.subcommand_name() {

@@ -6,12 +6,12 @@ ghost use Rattle.clap.specs.Words.{kind_of};
 ghost use Rattle.gr_report.specs.FaultText.{fault_line};
 ghost use Rattle.gr_report.specs.Putting.{AppendsFront};
 ghost use Rattle.gr_report.specs.Whole.{whole_of};
-ghost use Rattle.gr_cli.specs.Answers.{IsAnswer, IsFailed};
+ghost use Rattle.gr_cli.specs.Answers.{IsAnswer, IsTold};
 ghost use Rattle.gr_cli.specs.Statuses.{fault_status, IsReportStatus};
-ghost use Rattle.gr_cli.specs.Words.{AsksForReplay, IsHelp, IsWrongUsage};
+ghost use Rattle.gr_cli.specs.Words.{AreHelp, AreWrong, AsksForReplay, IsHelp, IsWrongUsage, faults};
 
 use crate::arguments::{Task, task_of};
-use crate::status::{FAILED, NOTHING, USAGE, status_of, status_of_report};
+use crate::status::{FAILED, NOTHING, USAGE, WANTING, status_of, status_of_report};
 use clap::Error;
 use clap::error::ErrorKind;
 use gr_record::fault::Fault;
@@ -35,7 +35,7 @@ pub fn fail<E: Write>(fault: &Fault, errors: &mut E) -> u8
 /// Writes help to standard output, or what is wrong with the words to standard error, and gives the status.
 fn explain_usage<W: Write, E: Write>(error: &Error, writer: &mut W, errors: &mut E) -> u8
     ensures known { result ≤ FAILED }
-    ensures memory { kind_of error.now ≡ ErrorKind.OutOfMemory → IsFailed (W.contents writer.old) (W.contents writer.new) (E.contents errors.old) (E.contents errors.new) result Fault.Memory }
+    ensures memory { kind_of error.now ≡ ErrorKind.OutOfMemory → IsTold (W.contents writer.old) (W.contents writer.new) (E.contents errors.old) (E.contents errors.new) result Fault.Memory }
     ensures wrong { IsWrongUsage (kind_of error.now) → (result ≡ USAGE) × Keeps (W.contents writer.old) (W.contents writer.new) }
     ensures help { IsHelp (kind_of error.now) → (result ≡ NOTHING) ⊎ (result ≡ FAILED) }
 {
@@ -65,8 +65,8 @@ fn conclude<E: Write>(outcome: Result<Report, Fault>, errors: &mut E) -> u8
     }
 }
 
-/// Does the task, and gives the exit status. Either the text of a report is written, and the status tells whether it is
-/// a finding; or standard error tells of a fault, whose status it is.
+/// Does the task, and gives the exit status. Either the text of the report of the input is written, and the status tells
+/// whether it has a finding; or standard error tells why there is none, and the status is that of the fault.
 fn perform<R: Read, W: Write, E: Write>(
     alloc: Global,
     task: Task,
@@ -74,7 +74,7 @@ fn perform<R: Read, W: Write, E: Write>(
     writer: &mut W,
     errors: &mut E,
 ) -> u8
-    ensures { IsAnswer (W.contents writer.old) (W.contents writer.new) (E.contents errors.old) (E.contents errors.new) result }
+    ensures { IsAnswer (R.remaining reader.old) (W.contents writer.old) (W.contents writer.new) (E.contents errors.old) (E.contents errors.new) result }
 {
     match task {
         Task::Replay => conclude(replay(alloc, reader, writer), errors),
@@ -90,7 +90,9 @@ pub fn execute<S: AsStr, R: Read, W: Write, E: Write>(
     errors: &mut E,
 ) -> u8
     ensures known { result ≤ FAILED }
-    ensures replays { AsksForReplay (map S.text words.now) → IsAnswer (W.contents writer.old) (W.contents writer.new) (E.contents errors.old) (E.contents errors.new) result }
+    ensures replays { AsksForReplay (map S.text words.now) → IsAnswer (R.remaining reader.old) (W.contents writer.old) (W.contents writer.new) (E.contents errors.old) (E.contents errors.new) result }
+    ensures wrong { AreWrong (faults (map S.text words.now)) → ((result ≡ USAGE) ⊎ (result ≡ WANTING)) × Keeps (W.contents writer.old) (W.contents writer.new) }
+    ensures help { AreHelp (faults (map S.text words.now)) → (result ≡ NOTHING) ⊎ (result ≡ WANTING) ⊎ (result ≡ FAILED) }
 {
     match task_of(alloc, words) {
         Ok(task) => perform(alloc, task, reader, writer, errors),

@@ -7,6 +7,8 @@ pub mod Places
 pub mod GrowthLaws
 pub mod CountLaws
 pub mod RaceGrowth
+pub mod AscendingLists
+pub mod ReportLaws
 pub mod Cuts
 pub mod HitsAreRaces
 pub mod Fronts

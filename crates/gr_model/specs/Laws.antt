@@ -1,5 +1,5 @@
 -- What follows from the definitions, each the contract of a function that does nothing.
-use Rattle.std.specs.Prelude.{◌↔◌, ℕ, ◌<◌, List}
+use Rattle.std.specs.Prelude.{◌≡◌, ◌↔◌, ℕ, ◌<◌, List}
 use Rattle.gr_model.specs.declared.event.Space.{Space}
 use Rattle.gr_model.specs.declared.event.ItemId.{ItemId}
 use Rattle.gr_model.specs.declared.event.EventId.{EventId}
@@ -11,6 +11,7 @@ use Rattle.gr_model.specs.LawfulOrders.{IsLawful, IsWholeOrder, IsAt, IsIn}
 use Rattle.gr_model.specs.Races.{Clashes, IsRacy}
 use Rattle.gr_model.specs.Counts.{IsCount}
 use Rattle.gr_model.specs.Hits.{SomePair}
+use Rattle.gr_model.specs.Reports.{WholeReport, IsReportOf}
 
 -- in a lawful order a base pair goes forwards
 abbrev pub PairsGoForwards : Type 0
@@ -51,3 +52,7 @@ WholeHitsAreRaces = (s : Streams) (order : List EventId) (w : Word) → IsWholeO
 -- a word that is racy within a lawful order is racy among the grounded events of all lists to which these grow
 abbrev pub RacesStay : Type 0
 RacesStay = (s t : Streams) (order : List EventId) (w : Word) → Grows s t → IsLawful s order → IsRacy s (IsIn order) w → IsRacy t (IsGrounded t) w
+
+-- lists have no two reports
+abbrev pub ReportIsOne : Type 0
+ReportIsOne = (s : Streams) (r q : WholeReport) → IsReportOf s r → IsReportOf s q → r ≡ q

@@ -1,6 +1,6 @@
 //! Laws of the definitions. Each is the contract of a function that does nothing, told in words in docs/MODEL.md, "Laws".
 
-ghost use Rattle.gr_model.specs.Laws.{PairsGoForwards, OrderGoesForwards, OrderStaysWithin, OrderIsGrounded, WaitsStay, StagesStay, OrderStays, CountsStay, HitsAreRaces, WholeHitsAreRaces, RacesStay};
+ghost use Rattle.gr_model.specs.Laws.{PairsGoForwards, OrderGoesForwards, OrderStaysWithin, OrderIsGrounded, WaitsStay, StagesStay, OrderStays, CountsStay, HitsAreRaces, WholeHitsAreRaces, RacesStay, ReportIsOne};
 
 /// In a lawful order base pairs go forwards, and so does the happens-before of each memory, which never leads in from
 /// outside the order.
@@ -34,4 +34,9 @@ pub fn hits_are_races()
 /// A race of events that were taken in a lawful order is a race of the report of all lists that go on from there.
 pub fn nothing_is_taken_back()
     ensures { RacesStay }
+{}
+
+/// What is reported is told by the lists alone: two reports of the same lists are equal.
+pub fn lists_have_one_report()
+    ensures { ReportIsOne }
 {}

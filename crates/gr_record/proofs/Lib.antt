@@ -1,5 +1,12 @@
+pub mod Apart
 pub mod Fields
 pub mod Found
+pub mod FoundFronts
+pub mod Growing
 pub mod Loop
 pub mod Numbers
+pub mod Resuming
 pub mod Spelled
+pub mod SpelledFronts
+pub mod Steps
+pub mod Written

@@ -6,7 +6,8 @@ use Rattle.gr_model.specs.Events.{is_end}
 use Rattle.gr_record.specs.declared.error.RecordError.{RecordError}
 use Rattle.gr_record.specs.declared.error.RecordError.TheVariants as errors
 use Rattle.gr_record.specs.declared.layout.TheConstants.{RECORD_LENGTH}
-use Rattle.gr_record.specs.Fronts.{Inside, AtFault, Records, behind, step, records_at}
+use Rattle.gr_record.specs.Fronts.{Records, behind, step, records_at}
+use Rattle.gr_record.specs.declared.stop.Stop.TheVariants.{Inside, AtFault}
 use Rattle.gr_record.specs.WholeStreams.{Fails, whole}
 
 -- events before those of a reading

@@ -75,7 +75,7 @@ spelled_header_is_read h rest fits =
     rw (two_again h.group (omega arith), two_again h.items (omega arith), four_again h.launch fits.launch, lt-leb 64 h.group group, ne_eqb h.items 0 none, le-ltb 256 h.items items) refl
 
 -- a spelling has as many bytes as a record
-kind_length : (kind : Kind) (space : Space) → length (kind_bytes kind space) ≡ 4
+pub kind_length : (kind : Kind) (space : Space) → length (kind_bytes kind space) ≡ 4
 kind_length Read space = refl
 kind_length Write space = refl
 kind_length (Load scope order) space = refl

@@ -5,13 +5,9 @@ use Rattle.gr_model.specs.declared.event.Event.{Event}
 use Rattle.gr_model.specs.Events.{is_end}
 use Rattle.gr_record.specs.declared.error.RecordError.{RecordError}
 use Rattle.gr_record.specs.declared.error.RecordError.TheVariants as errors
+use Rattle.gr_record.specs.declared.stop.Stop.{Stop}
+use Rattle.gr_record.specs.declared.stop.Stop.TheVariants.{Inside, AtEnd, AtFault}
 use Rattle.gr_record.specs.declared.layout.TheConstants.{RECORD_LENGTH}
-
--- why reading stops: behind an end, before bytes that are no whole record, or at a fault
-pub data Stop : Type 0 where
-  AtEnd : Stop
-  Inside : Stop
-  AtFault : RecordError → Stop
 
 -- the records that are read, the bytes after them, and why reading stops there
 pub record Records : Type 0 where

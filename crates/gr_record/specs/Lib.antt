@@ -1,4 +1,6 @@
+pub mod Decoding
 pub mod Faults
+pub mod FrontLaws
 pub mod Fronts
 pub mod Laws
 pub mod Reading

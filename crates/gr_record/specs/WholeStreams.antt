@@ -10,7 +10,9 @@ use Rattle.gr_record.specs.declared.header.Header.{Header}
 use Rattle.gr_record.specs.declared.layout.TheConstants.{HEADER_LENGTH}
 use Rattle.gr_record.specs.Spelling.{header_spelling, events_spelling, IsHeader}
 use Rattle.gr_record.specs.Reading.{header_at, event_at}
-use Rattle.gr_record.specs.Fronts.{Stop, AtEnd, Inside, AtFault, Records, records_at}
+use Rattle.gr_record.specs.Fronts.{Records, records_at}
+use Rattle.gr_record.specs.declared.stop.Stop.{Stop}
+use Rattle.gr_record.specs.declared.stop.Stop.TheVariants.{Inside, AtEnd, AtFault}
 
 infixl 10 ◌>>=◌
 abbrev pub ◌>>=◌ : {X Y : Type 0} → Result X RecordError → (X → Result Y RecordError) → Result Y RecordError

@@ -17,7 +17,9 @@ use Rattle.gr_model.specs.Streams.{AreGood, IsAccepted, is_complete}
 use Rattle.gr_record.specs.declared.error.RecordError.{RecordError}
 use Rattle.gr_record.specs.declared.error.RecordError.TheVariants as errors
 use Rattle.gr_record.specs.declared.layout.TheConstants.{HEADER_LENGTH, RECORD_LENGTH}
-use Rattle.gr_record.specs.Fronts.{Stop, AtEnd, Inside, AtFault, Records, behind, step, records_at}
+use Rattle.gr_record.specs.Fronts.{Records, behind, step, records_at}
+use Rattle.gr_record.specs.declared.stop.Stop.{Stop}
+use Rattle.gr_record.specs.declared.stop.Stop.TheVariants.{AtEnd, AtFault, Inside}
 use Rattle.gr_record.specs.Laws.{AreBytes}
 use Rattle.gr_record.specs.Reading.{event_at, header_at}
 use Rattle.gr_record.specs.WholeStreams as record_spec

@@ -1,5 +1,6 @@
 -- The places of the elements that pass a test, and so the barriers of an item: each has one number, and a later one a greater.
-use Rattle.std.proofs.Common.{◌≡◌, ℕ, zero, suc, ◌+◌, ◌<◌, Bool, true, false, cond, List, [], ◌∷◌, Some, slice_get, refl, sym, ap, ◌∙◌, subst, arith}
+use Rattle.std.proofs.Common.{◌≡◌, ℕ, zero, suc, ◌+◌, ◌<◌, ◌≤◌, Bool, true, false, cond, List, [], ◌∷◌, Some, None, slice_get, refl, sym, ap, ◌∙◌, subst, ⊎_elim, arith, true≢false}
+use Rattle.std.proofs.lemmas.Bool.{cases_lt}
 use Rattle.gr_model.specs.declared.event.Event.{Event}
 use Rattle.gr_model.specs.declared.event.EventId.{EventId}
 use Rattle.gr_model.specs.Barriers.{IsConvergent, StandsIn, is_barrier, mark_of}
@@ -72,6 +73,26 @@ pub barrier_stands : (s : Streams) (e : EventId) (x : Event) → event_at s e �
 barrier_stands s e x at t item =
     let found = places_from-find is_barrier 0 (trace_of s e.at) e.index x at t in
     (found.0, record { group = refl; item = item; place = found.1 ∙ ap Some (let n : 0 + e.index ≡ e.index = omega arith in n) })
+
+-- an event stands in an instance or in none
+pub standing : (s : Streams) (e : EventId) → Dec ((g k : ℕ) × StandsIn s e g k)
+standing s e =
+    elim (event_at s e) as (λ o. (event_at s e ≡ o) → Dec ((g k : ℕ) × StandsIn s e g k)) [
+      | None ↦ λ none. no (λ h. let there = barrier_there s e h.0 h.1 h.2 in let n : None ≡ Some there.0 = sym none ∙ there.1 in cc)
+      | Some x ↦ λ at. elim (is_barrier x) as (λ b. (is_barrier x ≡ b) → Dec ((g k : ℕ) × StandsIn s e g k)) [
+        | true ↦ λ t. ⊎_elim (λ item. let here = barrier_stands s e x at t item in yes (e.at.group, here.0, here.1)) (λ out. no (λ h. outside h.0 h.1 h.2 out)) (cases_lt e.at.item (size_of s e.at.group))
+        | false ↦ λ f. no (λ h. other x at f h.0 h.1 h.2)
+      ] refl
+    ] refl
+  where
+    outside : (g k : ℕ) → StandsIn s e g k → size_of s e.at.group ≤ e.at.item → ⊥
+    outside g k stands out = let within : e.at.item < size_of s e.at.group = subst (λ h. e.at.item < size_of s h) (sym stands.group) stands.item in omega (arith, within, out)
+
+    other : (x : Event) → event_at s e ≡ Some x → is_barrier x ≡ false → (g k : ℕ) → StandsIn s e g k → ⊥
+    other x at plain g k stands =
+        let there = barrier_there s e g k stands in
+        let same : there.0 ≡ x = let n : Some there.0 ≡ Some x = sym there.1 ∙ at in cc in
+        true≢false (sym there.2 ∙ (ap is_barrier same ∙ plain))
 
 -- each item of the group has a barrier of a convergent instance
 pub barrier_of : (s : Streams) (g k : ℕ) (a : Mark) → IsConvergent s g k a → (i : ℕ) → i < size_of s g → (n : ℕ) × StandsIn s (record { at = record { group = g; item = i }; index = n }) g k

@@ -1,8 +1,13 @@
 pub mod Orders
+pub mod Deciding
 pub mod BarrierPlaces
-pub mod Known
+pub mod EventRecords
 pub mod Handling
 pub mod Meeting
 pub mod Resting
 pub mod StepGrowth
 pub mod NextEvents
+pub mod DecidedWaits
+pub mod Reached
+pub mod AllGrounded
+pub mod Unmatched

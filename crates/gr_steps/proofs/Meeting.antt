@@ -1,5 +1,5 @@
 -- A lawful order stays lawful where the barriers of an instance that can meet come behind it; and when an instance can meet.
-use Rattle.std.proofs.Common.{◌≡◌, ◌⊎◌, ℕ, zero, suc, ◌+◌, ◌<◌, ◌≤◌, List, ◌++◌, length, Some, slice_get, option_and_then, refl, sym, ap, ◌∙◌, subst, inl, inr, ⊎_elim, arith, eq-or-lt_of_le}
+use Rattle.std.proofs.Common.{◌≡◌, ◌⊎◌, ℕ, ◌+◌, ◌<◌, ◌≤◌, List, ◌++◌, length, Some, slice_get, option_and_then, refl, sym, ap, ◌∙◌, subst, inl, inr, ⊎_elim, arith, eq-or-lt_of_le}
 use Rattle.std.proofs.lemmas.Option.{slice_get_within}
 use Rattle.gr_model.specs.declared.event.EventId.{EventId}
 use Rattle.gr_model.specs.declared.event.Name.{Name}
@@ -12,8 +12,8 @@ use Rattle.gr_model.specs.Waits.{CanGo, IsPrevious, Waits, for_arrival, for_meet
 use Rattle.gr_model.proofs.Places.{slice_get-append}
 use Rattle.gr_steps.specs.Steps.{AreBarriers, HasMet, IsMeeting}
 use Rattle.gr_steps.proofs.BarrierPlaces.{barrier_of, barrier_there, moved, same_instance, stands_before, stands_same}
-use Rattle.gr_steps.proofs.Known.{barriers_name_nothing}
-use Rattle.gr_steps.proofs.Orders.{at_behind, handled_before, same_event, split_last, there_is}
+use Rattle.gr_steps.proofs.EventRecords.{barriers_name_nothing}
+use Rattle.gr_steps.proofs.Orders.{at_behind, handled_before, number_before, same_event, split_last, there_is}
 
 module _ (s : Streams) (fronts : AreFronts s) (order : List EventId) (lawful : IsLawful s order) (g k : ℕ) (a : Mark) (meeting : IsMeeting s order g k a) (bs : List EventId) (are : AreBarriers s g k bs) where
   -- what stands in the longer order: what stood there, or one of the barriers
@@ -91,11 +91,6 @@ module _ (s : Streams) (fronts : AreFronts s) (order : List EventId) (lawful : I
 
 -- ---- when an instance can meet
 
--- the number before another
-pub IsBefore-number : (n : ℕ) → 0 < n → (m : ℕ) × (suc m ≡ n)
-IsBefore-number zero lt = absurd (omega arith)
-IsBefore-number (suc m) lt = (m, refl)
-
 -- an instance can meet where it is convergent and not handled, and the event before each of its barriers is: it is then the least
 pub meeting_of : (s : Streams) (order : List EventId) → IsLawful s order → (g k : ℕ) (a : Mark) → IsConvergent s g k a → ¬ HasMet s order g k → ((b d : EventId) → StandsIn s b g k → IsPrevious d b → IsIn order d) → IsMeeting s order g k a
 meeting_of s order lawful g k a convergent fresh before = record { convergent = convergent; fresh = fresh; least = least; before = before }
@@ -107,7 +102,7 @@ meeting_of s order lawful g k a convergent fresh before = record { convergent = 
         let c : EventId = record { at = record { group = g; item = 0 }; index = first.0 } in
         let b : EventId = record { at = record { group = g; item = 0 }; index = later.0 } in
         let below : first.0 < later.0 = stands_before s c b g l k first.1 later.1 refl lt in
-        let n = IsBefore-number later.0 (omega (arith, below)) in
+        let n = number_before later.0 (omega (arith, below)) in
         let d : EventId = record { at = record { group = g; item = 0 }; index = n.0 } in
         let there : IsIn order d = before b d later.1 (record { item = refl; next = n.1 }) in
         let handled : IsIn order c = ⊎_elim

@@ -1,5 +1,5 @@
--- When an item's next event is ready, by how many events of each item were handled.
-use Rattle.std.proofs.Common.{◌≡◌, ◌↔◌, ℕ, ◌<◌, ◌≤◌, List, Some, refl, sym, ap, ◌∙◌, subst, ⊎_elim, arith, eq-or-lt_of_le}
+-- What is ready is its item's next event; and when the next event is ready, by how many events of each item were handled.
+use Rattle.std.proofs.Common.{◌≡◌, ◌↔◌, ℕ, ◌<◌, ◌≤◌, List, refl, sym, ap, subst, ⊎_elim, arith, eq-or-lt_of_le}
 use Rattle.std.proofs.lemmas.Bool.{cases_lt}
 use Rattle.gr_model.specs.declared.event.EventId.{EventId}
 use Rattle.gr_model.specs.declared.event.ItemId.{ItemId}
@@ -11,14 +11,32 @@ use Rattle.gr_model.specs.Streams.{IsEvent, Streams}
 use Rattle.gr_model.specs.Waits.{IsPrevious, Waits, for_arrival, for_meeting, for_previous, for_release}
 use Rattle.gr_model.proofs.GrowthLaws.{not_both}
 use Rattle.gr_steps.specs.Steps.{IsReady}
-use Rattle.gr_steps.proofs.Meeting.{IsBefore-number}
-use Rattle.gr_steps.proofs.Orders.{same_event}
+use Rattle.gr_steps.proofs.EventRecords.{one_release}
+use Rattle.gr_steps.proofs.Orders.{handled_before, number_before, same_event}
 
-pub one_release : (s : Streams) (n : Name) (e d f : EventId) → MatchesBy s n e d → MatchesBy s n e f → d ≡ f
-one_release s n e d f a b =
-    let places : Some d.index ≡ Some f.index = sym a.place ∙ b.place in
-    let index : d.index ≡ f.index = cc in
-    same_event d f (a.item ∙ sym b.item) index
+module _ (s : Streams) (order : List EventId) (lawful : IsLawful s order) (e : EventId) (ready : IsReady s order e) (d : EventId) (item : d.at ≡ e.at) where
+  handled_is_before : IsIn order d → d.index < e.index
+  handled_is_before h =
+      ⊎_elim
+      (λ (lt : d.index < e.index). lt)
+      (λ (ge : e.index ≤ d.index). absurd (ready.fresh (⊎_elim
+      (λ (same : e.index ≡ d.index). subst (λ x. IsIn order x) (same_event d e item (sym same)) h)
+      (λ (lt : e.index < d.index). handled_before s order lawful e d (sym item) lt h)
+      (eq-or-lt_of_le ge))))
+      (cases_lt d.index e.index)
+
+  before_is_handled : d.index < e.index → IsIn order d
+  before_is_handled lt =
+      let n = number_before e.index (omega (arith, lt)) in
+      let p : EventId = record { at = e.at; index = n.0 } in
+      let there = ready.waits p (for_previous (record { item = refl; next = n.1 })) in
+      ⊎_elim
+      (λ (same : d.index ≡ n.0). subst (λ x. IsIn order x) (sym (same_event d p item same)) there)
+      (λ (less : d.index < n.0). handled_before s order lawful d p item less there)
+      (eq-or-lt_of_le (let le : d.index ≤ n.0 = omega (arith, n.1, lt) in le))
+
+  pub next_of_item : IsIn order d ↔ (d.index < e.index)
+  next_of_item = (handled_is_before, before_is_handled)
 
 -- the handled events of each item are its first ones, as many as c says
 abbrev pub AreFirst : List EventId → (ItemId → ℕ) → Type 0
@@ -60,7 +78,7 @@ module _ (s : Streams) (order : List EventId) (lawful : IsLawful s order) (c : I
     where
       over : c e.at < e.index → ⊥
       over lt =
-          let n = IsBefore-number e.index (omega (arith, lt)) in
+          let n = number_before e.index (omega (arith, lt)) in
           let d : EventId = record { at = e.at; index = n.0 } in
           let there = (first d).0 (ready.waits d (for_previous (record { item = refl; next = n.1 }))) in
           omega (arith, there, n.1)

@@ -1,6 +1,5 @@
 -- Places in an order and in a longer one, and what a lawful order has.
-use Rattle.std.proofs.Common.{◌≡◌, ◌⊎◌, ℕ, zero, suc, ◌+◌, ◌<◌, ◌≤◌, List, [], ◌∷◌, ◌++◌, length, Some, None, slice_get, refl, sym, ap, subst, inl, inr, ⊎_elim, arith, eq-or-lt_of_le}
-use Rattle.std.proofs.lemmas.Bool.{cases_lt}
+use Rattle.std.proofs.Common.{◌≡◌, ◌⊎◌, ℕ, zero, suc, ◌+◌, ◌<◌, List, [], ◌∷◌, ◌++◌, length, Some, None, slice_get, refl, sym, ap, subst, inl, inr, ⊎_elim, arith}
 use Rattle.gr_model.specs.declared.event.EventId.{EventId}
 use Rattle.gr_model.specs.LawfulOrders.{IsAt, IsIn, IsLawful}
 use Rattle.gr_model.specs.Streams.{IsEvent, Streams}
@@ -25,39 +24,27 @@ there_is [] i lt = absurd (omega arith)
 there_is (x ∷ xs) zero lt = (x, refl)
 there_is (x ∷ xs) (suc i) lt = there_is xs i (omega arith)
 
+-- the number before another
+pub number_before : (n : ℕ) → 0 < n → (m : ℕ) × (suc m ≡ n)
+number_before zero lt = absurd (omega arith)
+number_before (suc m) lt = (m, refl)
+
 -- ---- events
 
 pub same_event : (d e : EventId) → d.at ≡ e.at → d.index ≡ e.index → d ≡ e
 same_event d e item index = λ i. record { at = item i; index = index i }
 
-pub same_number : (m n : ℕ) → (m ≡ n) ⊎ (m ≡ n → ⊥)
-same_number m n =
-    ⊎_elim (λ (lt : m < n). inr (λ (e : m ≡ n). omega arith)) (λ (ge : n ≤ m). ⊎_elim (λ (e : n ≡ m). inl (sym e)) (λ (lt : n < m). inr (λ (e : m ≡ n). omega arith)) (eq-or-lt_of_le ge)) (cases_lt m n)
+in_cases_at : (x : EventId) (xs : List EventId) (e : EventId) (p : ℕ) → IsAt (x ∷ xs) p e → (e ≡ x) ⊎ IsIn xs e
+in_cases_at x xs e zero at = inl (let same : Some x ≡ Some e = at in cc)
+in_cases_at x xs e (suc p) at = inr (p, at)
 
--- an event is another or is not, and stands in an order or does not
-pub is_event : (d e : EventId) → (d ≡ e) ⊎ (d ≡ e → ⊥)
-is_event d e =
-    ⊎_elim
-    (λ (g : d.at.group ≡ e.at.group). ⊎_elim
-    (λ (i : d.at.item ≡ e.at.item). ⊎_elim
-    (λ (n : d.index ≡ e.index). inl (same_event d e (λ j. record { group = g j; item = i j }) n))
-    (λ other. inr (λ same. other (ap (λ x. x.index) same)))
-    (same_number d.index e.index))
-    (λ other. inr (λ same. other (ap (λ x. x.at.item) same)))
-    (same_number d.at.item e.at.item))
-    (λ other. inr (λ same. other (ap (λ x. x.at.group) same)))
-    (same_number d.at.group e.at.group)
+-- what stands in a list is its first, or stands behind it
+pub in_cases : (x : EventId) (xs : List EventId) (e : EventId) → IsIn (x ∷ xs) e → (e ≡ x) ⊎ IsIn xs e
+in_cases x xs e h = in_cases_at x xs e h.0 h.1
 
-pub is_in : (order : List EventId) (e : EventId) → IsIn order e ⊎ (IsIn order e → ⊥)
-is_in [] e = inr (λ h. let n : None ≡ Some e = h.1 in cc)
-is_in (d ∷ order) e =
-    ⊎_elim (λ (same : d ≡ e). inl (0, ap Some same))
-    (λ other. ⊎_elim (λ (h : IsIn order e). inl (suc h.0, h.1)) (λ away. inr (λ (h : IsIn (d ∷ order) e). neither other away h.0 h.1)) (is_in order e))
-    (is_event d e)
-  where
-    neither : (d ≡ e → ⊥) → (IsIn order e → ⊥) → (p : ℕ) → IsAt (d ∷ order) p e → ⊥
-    neither other away zero at = other (let s : Some d ≡ Some e = at in cc)
-    neither other away (suc p) at = away (p, at)
+pub in_either : (x : EventId) (xs : List EventId) (e : EventId) → (e ≡ x) ⊎ IsIn xs e → IsIn (x ∷ xs) e
+in_either x xs e (inl same) = (0, ap Some (sym same))
+in_either x xs e (inr h) = (suc h.0, h.1)
 
 -- ---- lawful orders
 

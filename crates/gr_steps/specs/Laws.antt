@@ -1,9 +1,17 @@
 -- What follows from the definitions of the steps, each the contract of a function that does nothing.
-use Rattle.std.specs.Prelude.{ℕ, List}
+use Rattle.std.specs.Prelude.{◌≡◌, ◌⊎◌, ◌↔◌, ℕ, ◌<◌, List, []}
 use Rattle.gr_model.specs.declared.event.EventId.{EventId}
-use Rattle.gr_model.specs.Streams.{Streams, AreFronts, Grows}
-use Rattle.gr_model.specs.LawfulOrders.{IsLawful}
-use Rattle.gr_steps.specs.Steps.{Handles, Meets, IsAtRest, AreGrounded}
+use Rattle.gr_model.specs.declared.event.Word.{Word}
+use Rattle.gr_model.specs.Streams.{Streams, AreFronts, AreComplete, Grows, IsEvent}
+use Rattle.gr_model.specs.Waits.{IsGrounded}
+use Rattle.gr_model.specs.LawfulOrders.{IsLawful, IsIn}
+use Rattle.gr_model.specs.Races.{IsRacy}
+use Rattle.gr_model.specs.Reports.{IsUnmatched, WholeReport, IsReportButRaces}
+use Rattle.gr_steps.specs.Steps.{IsReady, Handles, Meets, IsAtRest, AreGrounded}
+
+-- an event that may be handled is the next of its item: the handled ones are those before it
+abbrev pub ReadyIsNext : Type 0
+ReadyIsNext = (s : Streams) (order : List EventId) (e d : EventId) → IsLawful s order → IsReady s order e → d.at ≡ e.at → IsIn order d ↔ (d.index < e.index)
 
 -- an event that is handled, and the barriers of an instance that meets, make a lawful order longer
 abbrev pub HandleStaysLawful : Type 0
@@ -26,3 +34,24 @@ MeetsStay = (s t : Streams) (old new : List EventId) (g k : ℕ) → Grows s t �
 -- where no step is left, the handled events are the grounded ones
 abbrev pub RestIsGrounded : Type 0
 RestIsGrounded = (s : Streams) (order : List EventId) → IsLawful s order → IsAtRest s order → AreGrounded s order
+
+-- ---- complete lists
+
+-- no acquire is unmatched
+abbrev pub NoneIsUnmatched : Streams → Type 0
+NoneIsUnmatched s = (e : EventId) → ¬ IsUnmatched s e
+
+-- in complete lists each event is grounded or is not
+abbrev pub GroundedIsDecided : Type 0
+GroundedIsDecided = (s : Streams) (e : EventId) → AreComplete s → IsGrounded s e ⊎ ¬ IsGrounded s e
+
+-- a report of complete lists that names no unmatched acquire says that there is none
+abbrev pub UnmatchedAreReported : Type 0
+UnmatchedAreReported = (s : Streams) (r : WholeReport) → IsReportButRaces s r → r.unmatched ≡ [] → NoneIsUnmatched s
+
+-- where no acquire is unmatched in complete lists, every event is grounded, and every race is one of grounded events
+abbrev pub AllIsGrounded : Type 0
+AllIsGrounded = (s : Streams) (e : EventId) → AreComplete s → NoneIsUnmatched s → IsEvent s e → IsGrounded s e
+
+abbrev pub AllRacesCount : Type 0
+AllRacesCount = (s : Streams) (w : Word) → AreComplete s → NoneIsUnmatched s → IsRacy s (IsGrounded s) w ↔ IsRacy s (IsEvent s) w

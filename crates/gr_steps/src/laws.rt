@@ -1,6 +1,11 @@
 //! Laws of the steps. Each is the contract of a function that does nothing, told in words in docs/MODEL.md, "Steps".
 
-ghost use Rattle.gr_steps.specs.Laws.{HandleStaysLawful, MeetStaysLawful, GrowthStaysLawful, HandlesStay, MeetsStay, RestIsGrounded};
+ghost use Rattle.gr_steps.specs.Laws.{ReadyIsNext, HandleStaysLawful, MeetStaysLawful, GrowthStaysLawful, HandlesStay, MeetsStay, RestIsGrounded, GroundedIsDecided, UnmatchedAreReported, AllIsGrounded, AllRacesCount};
+
+/// What may be handled behind a lawful order is the next event of its item.
+pub fn ready_is_next()
+    ensures { ReadyIsNext }
+{}
 
 /// A lawful order stays lawful where an event is handled, where an instance meets, and where lists that are not complete
 /// grow.
@@ -19,4 +24,13 @@ pub fn steps_stay_allowed()
 /// Where no event may be handled and no instance may meet, the handled events are the grounded ones.
 pub fn rest_is_grounded()
     ensures { RestIsGrounded }
+{}
+
+/// In complete lists each event is grounded or is not. Where no acquire is unmatched, as a report says that names none,
+/// every event is grounded, and so every race is reported.
+pub fn all_is_grounded()
+    ensures decided { GroundedIsDecided }
+    ensures reported { UnmatchedAreReported }
+    ensures all { AllIsGrounded }
+    ensures races { AllRacesCount }
 {}

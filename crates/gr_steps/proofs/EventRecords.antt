@@ -1,4 +1,4 @@
--- What is known of an event of lists that groups may have: a barrier names nothing.
+-- The record of an event stands in its group's list; a name is that of one release, and a barrier has none.
 use Rattle.std.proofs.Common.{◌≡◌, ℕ, zero, suc, ◌<◌, ◌≤◌, Bool, true, false, cond, IsTrue, List, [], ◌∷◌, length, Option, Some, None, slice_get, filter, refl, sym, ap, ◌∙◌, subst, ⊎_elim, arith, is_some}
 use Rattle.std.proofs.lemmas.Bool.{cases_lt}
 use Rattle.std.proofs.lemmas.Option.{slice_get_past}
@@ -11,7 +11,9 @@ use Rattle.gr_model.specs.declared.event.Name.{Name}
 use Rattle.gr_model.specs.Access.{is_acquire_kind}
 use Rattle.gr_model.specs.Barriers.{is_barrier, mark_of_kind}
 use Rattle.gr_model.specs.Events.{IsNamingOk}
+use Rattle.gr_model.specs.Names.{MatchesBy}
 use Rattle.gr_model.specs.Streams.{AreFronts, IsEvent, Streams, event_at, is_of, list_of}
+use Rattle.gr_steps.proofs.Orders.{same_event}
 
 -- what a filter keeps is there
 pub filter-there : {X : Type 0} (test : X → Bool) (xs : List X) (k : ℕ) (x : X) → slice_get (filter test xs) k ≡ Some x → (p : ℕ) × (slice_get xs p ≡ Some x) × (test x ≡ true)
@@ -40,6 +42,13 @@ group_there s e there =
     let gone : slice_get [] listed.0 ≡ Some there.0 = ap (λ l. slice_get l listed.0) (sym (get_or_past s.lists e.at.group [] past)) ∙ listed.1 in
     absurd (let no : None ≡ Some there.0 = sym (slice_get_past [] listed.0 (omega arith)) ∙ gone in cc))
     (cases_lt e.at.group (length s.lists))
+
+-- a name is that of one release
+pub one_release : (s : Streams) (n : Name) (e d f : EventId) → MatchesBy s n e d → MatchesBy s n e f → d ≡ f
+one_release s n e d f a b =
+    let places : Some d.index ≡ Some f.index = sym a.place ∙ b.place in
+    let index : d.index ≡ f.index = cc in
+    same_event d f (a.item ∙ sym b.item) index
 
 -- what names a release is an acquire
 named_acquires : (kind : Kind) (a : Option Name) (n : Name) → a ≡ Some n → IsNamingOk kind a → IsTrue (is_acquire_kind kind)

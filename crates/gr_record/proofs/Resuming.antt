@@ -1,0 +1,78 @@
+-- A decoder that goes on from what it kept reads what one reads that begins anew.
+use Rattle.std.proofs.Common.{◌∙◌, ap, ◌≡◌, ℕ, ◌+◌, ◌-◌, ◌≤◌, List, [], ◌∷◌, ◌++◌, length, take, drop, Some, None, Result, Ok, Err, refl, sym, arith, inl, inr}
+use Rattle.std.proofs.lemmas.Bool.{lt-ltb, le-ltb, cases_lt}
+use Rattle.std.proofs.lemmas.List.{take-append-le, drop-append-le, length-append, map-append, append-nil}
+use Rattle.gr_model.specs.declared.event.Event.{Event}
+use Rattle.gr_record.specs.declared.error.RecordError.{RecordError}
+use Rattle.gr_record.specs.declared.header.Header.{Header}
+use Rattle.gr_record.specs.declared.part.Part.{Part}
+use Rattle.gr_record.specs.declared.part.Part.TheVariants as parts
+use Rattle.gr_record.specs.declared.stop.Stop.{Stop}
+use Rattle.gr_record.specs.declared.stop.Stop.{Stop}
+use Rattle.gr_record.specs.declared.stop.Stop.TheVariants.{Inside, AtEnd, AtFault}
+use Rattle.gr_record.specs.declared.layout.TheConstants.{HEADER_LENGTH}
+use Rattle.gr_record.specs.Reading.{header_at, event_at}
+use Rattle.gr_record.specs.Fronts.{records_at}
+use Rattle.gr_record.specs.Decoding.{Reading, Standing, closed, under, read_from, reading, parts_of, standing, still, still_at, standing_after}
+use Rattle.gr_record.specs.FrontLaws.{FaultStays}
+use Rattle.gr_record.proofs.Growing.{grown, records_grow}
+
+-- a reading of more bytes goes on from a reading of fewer
+pub record GoesOn (limit : ℕ) (piece : List ℕ) (fewer more : Reading) : Type 0 where
+  pub stands : standing limit more ≡ standing_after (standing limit fewer) (still (standing limit fewer) piece)
+  pub listed : parts_of more ≡ parts_of fewer ++ parts_of (still (standing limit fewer) piece)
+
+module _ (limit : ℕ) (piece : List ℕ) where
+  -- nothing more is read
+  no_more : (p : List Part) → p ≡ p ++ []
+  no_more p = sym (append-nil p)
+
+  same_count : (n : ℕ) → n ≡ n + 0
+  same_count n = omega arith
+
+  records_go_on : (h : Header) (stop : Stop) (events : List Event) (rest : List ℕ) → GoesOn limit piece (closed (Some h) (record { events = events; rest = rest; stop = stop })) (closed (Some h) (grown stop (record { events = events; rest = rest; stop = stop }) (λ n. records_at (event_at h.items) (limit - n) (rest ++ piece)) piece))
+  unfolding read_from
+  records_go_on h Inside events rest = record {
+    stands = rw (length-append events (records_at (event_at h.items) (limit - length events) (rest ++ piece)).events) refl;
+    listed = rw (map-append parts.Event events (records_at (event_at h.items) (limit - length events) (rest ++ piece)).events) refl;
+  }
+  records_go_on h AtEnd events [] = record { stands = rw (← same_count (length events)) refl; listed = no_more _ }
+  records_go_on h AtEnd events (b ∷ bytes) = record { stands = rw (← same_count (length events)) refl; listed = no_more _ }
+  records_go_on h (AtFault e) events rest = record { stands = rw (← same_count (length events)) refl; listed = no_more _ }
+
+  under_goes_on : (fed : List ℕ) → HEADER_LENGTH ≤ length fed → (x : Result Header RecordError) → GoesOn limit piece (under x limit fed) (under x limit (fed ++ piece))
+  under_goes_on fed long (Err e) = record { stands = refl; listed = refl }
+  under_goes_on fed long (Ok h) =
+      let r = records_at (event_at h.items) limit (drop HEADER_LENGTH fed) in
+      rw (drop-append-le HEADER_LENGTH fed piece long, records_grow (event_at h.items) piece limit (drop HEADER_LENGTH fed)) (records_go_on h r.stop r.events r.rest)
+
+  none_before : (n : ℕ) → n ≡ 0 + n
+  none_before n = omega arith
+
+  begins : (fed : List ℕ) (q : Reading) → standing limit q ≡ standing_after (record { limit = limit; items = None; count = 0; held = fed; stop = Inside }) q
+  begins fed q = rw (← none_before (length q.events)) refl
+
+  first_bytes : (fed : List ℕ) → GoesOn limit piece (record { header = None; events = []; rest = fed; stop = Inside }) (reading limit (fed ++ piece))
+  first_bytes fed =
+      let k : limit - 0 ≡ limit = omega arith in
+      record { stands = rw k (begins fed (reading limit (fed ++ piece))); listed = rw k refl }
+
+  pub reading_goes_on : (fed : List ℕ) → GoesOn limit piece (reading limit fed) (reading limit (fed ++ piece))
+  unfolding read_from
+  reading_goes_on fed =
+      elim (cases_lt (length fed) HEADER_LENGTH) [
+        | inl lt ↦
+            rw (lt-ltb (length fed) HEADER_LENGTH lt) (first_bytes fed)
+        | inr long ↦
+            let longer : HEADER_LENGTH ≤ length (fed ++ piece) = simp length-append (omega arith) in
+            rw (le-ltb (length fed) HEADER_LENGTH long, le-ltb (length (fed ++ piece)) HEADER_LENGTH longer, take-append-le HEADER_LENGTH fed piece long) (under_goes_on fed long (header_at (take HEADER_LENGTH fed)))
+      ]
+
+-- behind a fault nothing is read
+pub fault_stays : FaultStays
+fault_stays limit bytes more e is =
+    let g = reading_goes_on limit more bytes in
+    let s = standing limit (reading limit bytes) in (
+      ap (λ (d : Standing). d.stop) g.stands ∙ ap (λ (stop : Stop). (still_at stop s more).stop) is,
+      g.listed ∙ ap (λ (stop : Stop). parts_of (reading limit bytes) ++ parts_of (still_at stop s more)) is ∙ append-nil (parts_of (reading limit bytes)),
+    )

@@ -1,0 +1,69 @@
+-- What is spelled is read: a header and the records of its stream.
+use Rattle.std.proofs.Common.{◌≡◌, ℕ, zero, suc, ◌≤◌, Bool, true, false, cond, List, [], ◌∷◌, ◌++◌, length, drop, Result, Ok, refl, ap, ◌∙◌, arith, inl, inr}
+use Rattle.std.proofs.lemmas.Bool.{le-ltb, cases_Bool}
+use Rattle.std.proofs.lemmas.List.{take_at, drop_at, length-append, append-nil}
+use Rattle.gr_model.specs.declared.event.Event.{Event}
+use Rattle.gr_model.specs.declared.limits.TheConstants.{MOST_ITEMS_OF_A_GROUP}
+use Rattle.gr_model.specs.Events.{is_end}
+use Rattle.gr_model.specs.Streams.{is_complete}
+use Rattle.gr_record.specs.declared.error.RecordError.{RecordError}
+use Rattle.gr_record.specs.declared.header.Header.{Header}
+use Rattle.gr_record.specs.declared.stop.Stop.TheVariants.{Inside, AtEnd}
+use Rattle.gr_record.specs.declared.layout.TheConstants.{HEADER_LENGTH, RECORD_LENGTH}
+use Rattle.gr_record.specs.Spelling.{event_spelling, events_spelling, header_spelling, IsHeader}
+use Rattle.gr_record.specs.Reading.{header_at, event_at}
+use Rattle.gr_record.specs.Fronts.{Records, behind, step, records_at}
+use Rattle.gr_record.specs.Decoding.{close, read_from}
+use Rattle.gr_record.specs.FrontLaws.{Runs, stop_after, SpelledFrontIsRead}
+use Rattle.gr_record.proofs.Loop.{short, next}
+use Rattle.gr_record.proofs.FoundFronts.{complete_behind}
+use Rattle.gr_record.proofs.Spelled.{spelled_is_read, spelled_header_is_read, spelling_length}
+
+abbrev Spelled : List Event → Records
+Spelled events = record { events = events; rest = []; stop = stop_after events }
+
+-- an end is the last
+ended : (e : Event) (es : List Event) → is_end e ≡ true → es ≡ [] → stop_after (e ∷ es) ≡ AtEnd
+ended e es end none = rw (none, end) refl
+
+-- what follows a record that is no end decides
+gone_on : (e : Event) (es : List Event) → is_end e ≡ false → stop_after (e ∷ es) ≡ stop_after es
+gone_on e es on = ap (λ (b : Bool). cond b AtEnd Inside) (complete_behind e es on)
+
+long_front : (xs ys : List ℕ) → length xs ≡ RECORD_LENGTH → RECORD_LENGTH ≤ length (xs ++ ys)
+long_front xs ys len = omega (arith, length-append xs ys)
+
+records_spelled : (items : ℕ) → items ≤ MOST_ITEMS_OF_A_GROUP → (events : List Event) (most : ℕ) → Runs items events → length events ≤ most → records_at (event_at items) most (events_spelling events) ≡ Spelled events
+records_spelled items few [] most runs le = short (event_at items) most [] (omega arith)
+records_spelled items few (e ∷ es) zero runs le = absurd (omega arith)
+records_spelled items few (e ∷ es) (suc most) runs le =
+    let len = spelling_length e in
+    let bytes : List ℕ = event_spelling e ++ events_spelling es in
+    let long = long_front (event_spelling e) (events_spelling es) len in
+    let is : event_at items (event_spelling e) ≡ Ok e = rw (append-nil (event_spelling e)) at (spelled_is_read items e [] few runs.0) in
+    let here : records_at (event_at items) (suc most) (event_spelling e ++ events_spelling es) ≡ step (Ok e) (event_spelling e ++ events_spelling es) (records_at (event_at items) most (events_spelling es))
+    = next (event_at items) most (event_spelling e ++ events_spelling es) long
+    ∙ ap (λ (x : Result Event RecordError). step x bytes (records_at (event_at items) most (drop RECORD_LENGTH bytes))) (ap (event_at items) (take_at (event_spelling e) (events_spelling es) RECORD_LENGTH len) ∙ is)
+    ∙ ap (λ (x : List ℕ). step (Ok e) bytes (records_at (event_at items) most x)) (drop_at (event_spelling e) (events_spelling es) RECORD_LENGTH len) in
+    elim (cases_Bool (is_end e)) [
+      | inl end ↦
+          let none : es ≡ [] = runs.1 end in
+          here ∙ rw (end, drop_at (event_spelling e) (events_spelling es) RECORD_LENGTH len, ended e es end none, none) refl
+      | inr on ↦
+          let ih = records_spelled items few es most runs.2 (omega arith) in
+          here ∙ rw (on, gone_on e es on) (ap (behind e) ih)
+    ]
+
+closed_after : (b : Bool) → close (cond b AtEnd Inside) [] ≡ cond b AtEnd Inside
+closed_after true = refl
+closed_after false = refl
+
+header_read : (h : Header) → IsHeader h → header_at (header_spelling h) ≡ Ok h
+header_read h ok = spelled_header_is_read h [] ok
+
+pub spelled_front_is_read : SpelledFrontIsRead
+unfolding read_from
+spelled_front_is_read limit h events front =
+    let long : HEADER_LENGTH ≤ length (header_spelling h ++ events_spelling events) = omega arith in
+    let records = records_spelled h.items front.header.items events limit front.runs front.few in
+    rw (le-ltb (length (header_spelling h ++ events_spelling events)) HEADER_LENGTH long, header_read h front.header, records, closed_after (is_complete events)) refl

@@ -1,0 +1,55 @@
+-- The laws between spelling and reading of whole fronts: a header and records.
+-- Source: docs/FORMATS.md, "Stream".
+use Rattle.std.specs.Prelude.{◌≡◌, ℕ, ◌<◌, ◌≤◌, List, [], ◌∷◌, ◌++◌, length, Option, Some, None, IsTrue, ⊤, if◌then◌else◌}
+use Rattle.gr_model.specs.declared.event.Event.{Event}
+use Rattle.gr_model.specs.Events.{is_end}
+use Rattle.gr_model.specs.Streams.{is_complete}
+use Rattle.gr_record.specs.declared.error.RecordError.{RecordError}
+use Rattle.gr_record.specs.declared.header.Header.{Header}
+use Rattle.gr_record.specs.declared.stop.Stop.{Stop}
+use Rattle.gr_record.specs.declared.stop.Stop.TheVariants.{Inside, AtEnd, AtFault}
+use Rattle.gr_record.specs.Spelling.{header_spelling, events_spelling, IsHeader, IsEvent}
+use Rattle.gr_record.specs.Laws.{AreBytes}
+use Rattle.gr_record.specs.Decoding.{Reading, reading, parts_of, header_items, unit_length}
+
+-- records that a stream of so many items may have in this order: none but the last is an end
+abbrev pub Runs : ℕ → List Event → Type 0
+Runs items [] = ⊤
+Runs items (e ∷ es) = IsEvent items e × (IsTrue (is_end e) → es ≡ []) × Runs items es
+
+-- a header, and at most so many records of its stream
+pub record IsFront (limit : ℕ) (h : Header) (events : List Event) : Type 0 where
+  pub header : IsHeader h
+  pub runs : Runs h.items events
+  pub few : length events ≤ limit
+
+abbrev pub front_spelling : Option Header → List Event → List ℕ
+front_spelling None events = []
+front_spelling (Some h) events = header_spelling h ++ events_spelling events
+
+abbrev pub FrontIn : ℕ → Option Header → List Event → Type 0
+FrontIn limit None events = events ≡ []
+FrontIn limit (Some h) events = IsFront limit h events
+
+-- what is read is a front, the bytes are its spelling and the rest, and reading stops behind an end, before bytes that are no whole header or record, or at a fault
+pub record IsReadingOf (limit : ℕ) (bytes : List ℕ) (r : Reading) : Type 0 where
+  pub parts : bytes ≡ front_spelling r.header r.events ++ r.rest
+  pub front : FrontIn limit r.header r.events
+  pub ended : r.stop ≡ AtEnd → IsTrue (is_complete r.events) × (r.rest ≡ [])
+  pub short : r.stop ≡ Inside → length r.rest < unit_length (header_items r.header None)
+
+-- what is read of bytes is spelled so
+abbrev pub ReadFrontIsSpelled : Type 0
+ReadFrontIsSpelled = (limit : ℕ) (bytes : List ℕ) → AreBytes bytes → IsReadingOf limit bytes (reading limit bytes)
+
+-- reading stops behind records of which the last is an end, and waits for more behind others
+abbrev pub stop_after : List Event → Stop
+stop_after events = if is_complete events then AtEnd else Inside
+
+-- what is spelled is read
+abbrev pub SpelledFrontIsRead : Type 0
+SpelledFrontIsRead = (limit : ℕ) (h : Header) (events : List Event) → IsFront limit h events → reading limit (front_spelling (Some h) events) ≡ record { header = Some h; events = events; rest = []; stop = stop_after events }
+
+-- a fault stays the fault, and no part comes behind it
+abbrev pub FaultStays : Type 0
+FaultStays = (limit : ℕ) (bytes more : List ℕ) (e : RecordError) → (reading limit bytes).stop ≡ AtFault e → ((reading limit (bytes ++ more)).stop ≡ AtFault e) × (parts_of (reading limit (bytes ++ more)) ≡ parts_of (reading limit bytes))

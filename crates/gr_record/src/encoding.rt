@@ -1,0 +1,94 @@
+//! Writing one header and one record.
+
+ghost use Rattle.std.specs.Prelude.{◌≡◌, ◌<◌, ◌≤◌, ◌^◌, List, ℕ, ◌∷◌, [], length};
+ghost use Rattle.gr_model.specs.Events.{IsEventOk};
+ghost use Rattle.gr_record.specs.Spelling.{IsHeader, header_spelling, event_spelling, kind_bytes, name_bytes, space_byte, scope_byte, order_byte, bit};
+
+use crate::header::Header;
+use crate::layout::{HEADER_LENGTH, RECORD_LENGTH};
+use byteorder::{ByteOrder, LittleEndian};
+use gr_model::event::{Event, Kind, Name, Order, Scope, Space};
+use gr_model::limits::MOST_ITEMS_OF_A_GROUP;
+
+/// Writes a header in range.
+pub fn encode_header(header: &Header, bytes: &mut [u8; HEADER_LENGTH])
+    requires { IsHeader header.now }
+    ensures { bytes.new ≡ header_spelling header.now }
+{
+    bytes[..4].copy_from_slice(b"GRT1");
+    LittleEndian::write_u16(&mut bytes[4..], header.group);
+    LittleEndian::write_u16(&mut bytes[6..], header.items);
+    LittleEndian::write_u32(&mut bytes[8..], header.launch);
+}
+
+fn byte_of_space(space: Space) -> u8
+    ensures { result ≡ space_byte space }
+{
+    match space {
+        Space::Global => 0,
+        Space::Local => 1,
+    }
+}
+
+fn byte_of_scope(scope: Scope) -> u8
+    ensures { result ≡ scope_byte scope }
+{
+    match scope {
+        Scope::Group => 1,
+        Scope::Device => 2,
+    }
+}
+
+fn byte_of_order(order: Order) -> u8
+    ensures { result ≡ order_byte order }
+{
+    match order {
+        Order::Relaxed => 1,
+        Order::Acquire => 2,
+        Order::Release => 3,
+        Order::Both => 4,
+    }
+}
+
+/// The first four bytes of a record.
+fn bytes_of_kind(kind: Kind, space: Space) -> [u8; 4]
+    ensures { result ≡ kind_bytes kind space }
+{
+    let place = byte_of_space(space);
+    match kind {
+        Kind::Read => [0, place, 0, 0],
+        Kind::Write => [1, place, 0, 0],
+        Kind::Load(scope, order) => [2, place, byte_of_scope(scope), byte_of_order(order)],
+        Kind::Store(scope, order) => [3, place, byte_of_scope(scope), byte_of_order(order)],
+        Kind::Rmw(scope, order) => [4, place, byte_of_scope(scope), byte_of_order(order)],
+        Kind::Barrier { global, local } => [5, u8::from(global) + 2 * u8::from(local), 0, 0],
+        Kind::End { cut } => [6, u8::from(cut), 0, 0],
+    }
+}
+
+/// Writes a name, or that there is none, into the last eight bytes of a record.
+fn encode_name(name: Option<Name>, bytes: &mut [u8])
+    requires { length bytes.old ≡ 8 }
+    ensures { bytes.new ≡ name_bytes name }
+{
+    match name {
+        None => LittleEndian::write_u64(bytes, u64::MAX),
+        Some(name) => {
+            LittleEndian::write_u16(bytes, name.at.group);
+            LittleEndian::write_u16(&mut bytes[2..], name.at.item);
+            LittleEndian::write_u32(&mut bytes[4..], name.release);
+        }
+    }
+}
+
+/// Writes a record that some stream may have.
+pub fn encode_event(event: &Event, bytes: &mut [u8; RECORD_LENGTH])
+    requires { IsEventOk event.now MOST_ITEMS_OF_A_GROUP }
+    ensures { bytes.new ≡ event_spelling event.now }
+{
+    bytes[..4].copy_from_slice(&bytes_of_kind(event.kind, event.space));
+    LittleEndian::write_u16(&mut bytes[4..], event.item);
+    LittleEndian::write_u16(&mut bytes[6..], 0);
+    LittleEndian::write_u32(&mut bytes[8..], event.word);
+    encode_name(event.name, &mut bytes[12..]);
+}

@@ -1,0 +1,158 @@
+//! Each vector of the format is written so, and read so.
+
+use gr_model::event::{Event, ItemId, Kind, Name, Order, Scope, Space, event_ok};
+use gr_model::limits::MOST_ITEMS_OF_A_GROUP;
+use gr_record::decoder::Decoder;
+use gr_record::encoding::{encode_event, encode_header};
+use gr_record::header::Header;
+use gr_record::part::Part;
+use std::test::Fail;
+
+/// `group 0 items 2 launch 7`
+pub(super) const HEADER: [u8; 12] = [0x47, 0x52, 0x54, 0x31, 0, 0, 2, 0, 7, 0, 0, 0];
+
+/// `group 0 items 256 launch 7`
+pub(super) const LARGE_HEADER: [u8; 12] = [0x47, 0x52, 0x54, 0x31, 0, 0, 0, 1, 7, 0, 0, 0];
+
+/// A record as text, as the event that it says, and as bytes.
+pub(super) type Vector = (&'static str, Event, [u8; 20]);
+
+/// An event of global word 16 or of site 7, without a name.
+fn plain(item: u16, kind: Kind, word: u32) -> Event {
+    Event {
+        item,
+        kind,
+        space: Space::Global,
+        word,
+        name: None,
+    }
+}
+
+fn named(event: Event, group: u16, item: u16, release: u32) -> Event {
+    Event {
+        name: Some(Name {
+            at: ItemId { group, item },
+            release,
+        }),
+        ..event
+    }
+}
+
+/// The last of the vectors: the greatest number in each field.
+fn greatest() -> Event {
+    Event {
+        item: 255,
+        kind: Kind::Rmw(Scope::Group, Order::Both),
+        space: Space::Local,
+        word: 4_294_967_295,
+        name: Some(Name {
+            at: ItemId {
+                group: 63,
+                item: 255,
+            },
+            release: 16_777_215,
+        }),
+    }
+}
+
+pub(super) fn vectors() -> [Vector; 8] {
+    let store = Kind::Store(Scope::Device, Order::Release);
+    let load = Kind::Load(Scope::Device, Order::Acquire);
+    let barrier = Kind::Barrier {
+        global: true,
+        local: true,
+    };
+    [
+        (
+            "0 w g 16",
+            plain(0, Kind::Write, 16),
+            [
+                1, 0, 0, 0, 0, 0, 0, 0, 16, 0, 0, 0, 255, 255, 255, 255, 255, 255, 255, 255,
+            ],
+        ),
+        (
+            "1 r g 16",
+            plain(1, Kind::Read, 16),
+            [
+                0, 0, 0, 0, 1, 0, 0, 0, 16, 0, 0, 0, 255, 255, 255, 255, 255, 255, 255, 255,
+            ],
+        ),
+        (
+            "end",
+            plain(0, Kind::End { cut: false }, 0),
+            [
+                6, 0, 0, 0, 0, 0, 0, 0, 0, 0, 0, 0, 255, 255, 255, 255, 255, 255, 255, 255,
+            ],
+        ),
+        (
+            "end cut",
+            plain(0, Kind::End { cut: true }, 0),
+            [
+                6, 1, 0, 0, 0, 0, 0, 0, 0, 0, 0, 0, 255, 255, 255, 255, 255, 255, 255, 255,
+            ],
+        ),
+        (
+            "3 st g 16 dev rel",
+            plain(3, store, 16),
+            [
+                3, 0, 2, 3, 3, 0, 0, 0, 16, 0, 0, 0, 255, 255, 255, 255, 255, 255, 255, 255,
+            ],
+        ),
+        (
+            "4 ld g 16 dev acq < 0 3 0",
+            named(plain(4, load, 16), 0, 3, 0),
+            [2, 0, 2, 2, 4, 0, 0, 0, 16, 0, 0, 0, 0, 0, 3, 0, 0, 0, 0, 0],
+        ),
+        (
+            "0 bar 7 gl",
+            plain(0, barrier, 7),
+            [
+                5, 3, 0, 0, 0, 0, 0, 0, 7, 0, 0, 0, 255, 255, 255, 255, 255, 255, 255, 255,
+            ],
+        ),
+        (
+            "255 rmw l 4294967295 grp both < 63 255 16777215",
+            greatest(),
+            [
+                4, 1, 1, 4, 255, 0, 0, 0, 255, 255, 255, 255, 63, 0, 255, 0, 255, 255, 255, 0,
+            ],
+        ),
+    ]
+}
+
+#[test]
+fn a_header_is_written_and_read(rt: HostRuntime) -> Result<(), Fail> {
+    let header = Header {
+        group: 0,
+        items: 2,
+        launch: 7,
+    };
+    let mut bytes = [0; 12];
+    encode_header(&header, &mut bytes);
+    assert!(rt; bytes == HEADER);
+    let mut parts = Vec::new(rt.alloc());
+    let mut decoder = Decoder::new();
+    decoder.feed(&bytes, &mut parts)?;
+    assert!(rt; parts.as_slice() == [Part::Header(header)].as_slice());
+    Ok(())
+}
+
+#[test]
+fn each_record_is_written_and_read(rt: HostRuntime) -> Result<(), Fail> {
+    for (text, event, bytes) in vectors() {
+        assert!(rt; event_ok(&event, MOST_ITEMS_OF_A_GROUP), "{text}");
+        let mut written = [0; 20];
+        encode_event(&event, &mut written);
+        assert!(rt; written == bytes, "{text}");
+        let mut parts = Vec::new(rt.alloc());
+        let mut decoder = Decoder::new();
+        decoder.feed(&LARGE_HEADER, &mut parts)?;
+        parts.clear();
+        decoder.feed(&bytes, &mut parts)?;
+        assert!(rt;
+            parts.as_slice() == [Part::Event(event)].as_slice(),
+            "{text}"
+        );
+    }
+    Ok(())
+}

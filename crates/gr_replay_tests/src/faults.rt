@@ -1,0 +1,186 @@
+//! Which fault is told of inputs that are refused, and that nothing is written then.
+
+use crate::bytes::*;
+use gr_model::shape::ShapeError;
+use gr_record::error::RecordError;
+use gr_record::fault::Fault;
+use gr_replay::replay;
+use std::alloc::{AllocError, Global};
+use std::test::Fail;
+
+/// A row: its name, the pieces of its input, and the fault that is due.
+type Case = (&'static str, &'static [&'static [u8]], Fault);
+
+const RECORD_CASES: [Case; 9] = [
+    (
+        "no magic",
+        &[&[0], &HEADER_0_2, &END],
+        Fault::Stream(0, RecordError::BadMagic),
+    ),
+    (
+        "a header cut short",
+        &[&[71, 82, 84, 49, 0, 0, 2, 0, 7, 0, 0]],
+        Fault::Stream(0, RecordError::Truncated),
+    ),
+    (
+        "no item",
+        &[&[71, 82, 84, 49, 0, 0, 0, 0, 7, 0, 0, 0], &END],
+        Fault::Stream(0, RecordError::BadHeader),
+    ),
+    (
+        "group 64",
+        &[&[71, 82, 84, 49, 64, 0, 1, 0, 7, 0, 0, 0], &END],
+        Fault::Stream(0, RecordError::BadHeader),
+    ),
+    (
+        "no such kind",
+        &[&HEADER_0_2, &BAD_KIND, &END],
+        Fault::Stream(0, RecordError::BadKind),
+    ),
+    (
+        "no such space",
+        &[&HEADER_0_2, &BAD_SPACE, &END],
+        Fault::Stream(0, RecordError::BadField(1)),
+    ),
+    (
+        "a load that releases",
+        &[&HEADER_0_2, &BAD_ORDER, &END],
+        Fault::Stream(0, RecordError::BadOrder),
+    ),
+    (
+        "a relaxed load with a name",
+        &[&HEADER_0_2, &BAD_NAME, &END],
+        Fault::Stream(0, RecordError::BadName),
+    ),
+    (
+        "an item that the group lacks",
+        &[&HEADER_0_2, &READ_2, &END],
+        Fault::Stream(0, RecordError::UnknownItem),
+    ),
+];
+
+const STREAM_CASES: [Case; 10] = [
+    ("nothing", &[], Fault::Shape(ShapeError::NoGroups)),
+    (
+        "no end",
+        &[&HEADER_0_2, &WRITE_0, &READ_1],
+        Fault::Stream(0, RecordError::Truncated),
+    ),
+    (
+        "a byte behind the end",
+        &[&HEADER_0_2, &WRITE_0, &READ_1, &END, &[0]],
+        Fault::Stream(1, RecordError::Truncated),
+    ),
+    (
+        "one group twice",
+        &[&HEADER_0_1, &END, &HEADER_0_2, &END],
+        Fault::SameGroup(1),
+    ),
+    (
+        "two launches",
+        &[&HEADER_0_1, &END, &HEADER_1_1_LAUNCH_8, &END],
+        Fault::OtherLaunch(1),
+    ),
+    (
+        "a group that is missing",
+        &[&HEADER_0_1, &END, &HEADER_2_1, &END],
+        Fault::MissingGroup(1),
+    ),
+    (
+        "the least group is missing",
+        &[&HEADER_2_1, &END],
+        Fault::MissingGroup(0),
+    ),
+    (
+        "a barrier",
+        &[&HEADER_0_2, &BARRIER_0, &END],
+        Fault::Stream(0, RecordError::BadKind),
+    ),
+    (
+        "a named acquire in the second stream",
+        &[&HEADER_1_1, &END, &HEADER_0_1, &ACQUIRE_0, &END],
+        Fault::Stream(1, RecordError::BadKind),
+    ),
+    (
+        "an end of a stream of its own",
+        &[&END],
+        Fault::Stream(0, RecordError::BadMagic),
+    ),
+];
+
+const ORDER_CASES: [Case; 7] = [
+    (
+        "a group again before its bad record",
+        &[&HEADER_0_1, &END, &HEADER_0_2, &BAD_KIND],
+        Fault::SameGroup(1),
+    ),
+    (
+        "another launch before its bad record",
+        &[&HEADER_0_1, &END, &HEADER_1_1_LAUNCH_8, &BAD_KIND],
+        Fault::OtherLaunch(1),
+    ),
+    (
+        "a bad record before the next header",
+        &[&HEADER_0_1, &BAD_KIND, &END, &HEADER_0_1, &END],
+        Fault::Stream(0, RecordError::BadKind),
+    ),
+    (
+        "a bad record before a missing group",
+        &[&HEADER_0_1, &END, &HEADER_2_1, &READ_1, &END],
+        Fault::Stream(1, RecordError::UnknownItem),
+    ),
+    (
+        "a missing group before a barrier",
+        &[&HEADER_0_1, &BARRIER_0, &END, &HEADER_2_1, &END],
+        Fault::MissingGroup(1),
+    ),
+    (
+        "a truncated stream before a barrier",
+        &[&HEADER_0_1, &BARRIER_0, &END, &HEADER_1_1, &READ_0],
+        Fault::Stream(1, RecordError::Truncated),
+    ),
+    (
+        "the first of two barriers",
+        &[&HEADER_1_1, &BARRIER_0, &END, &HEADER_0_1, &BARRIER_0, &END],
+        Fault::Stream(0, RecordError::BadKind),
+    ),
+];
+
+fn is_refused(alloc: Global, pieces: &[&[u8]], fault: Fault) -> Result<bool, AllocError> {
+    let bytes = joined(alloc, pieces)?;
+    let mut text = Vec::new(alloc);
+    let answer = replay(alloc, &mut bytes.as_slice(), &mut text);
+    Ok(answer.err() == Some(fault) && text.is_empty())
+}
+
+#[test]
+fn the_first_fault_is_told_and_nothing_is_written(rt: HostRuntime) -> Result<(), Fail> {
+    for (name, pieces, fault) in RECORD_CASES {
+        assert!(rt; is_refused(rt.alloc(), pieces, fault)?, "{name}");
+    }
+    for (name, pieces, fault) in STREAM_CASES {
+        assert!(rt; is_refused(rt.alloc(), pieces, fault)?, "{name}");
+    }
+    for (name, pieces, fault) in ORDER_CASES {
+        assert!(rt; is_refused(rt.alloc(), pieces, fault)?, "{name}");
+    }
+    Ok(())
+}
+
+#[test]
+fn too_many_items_come_behind_a_missing_group(rt: HostRuntime) -> Result<(), Fail> {
+    let mut bytes = Vec::new(rt.alloc());
+    for group in 0..9_u8 {
+        bytes.extend_from_slice(&[71, 82, 84, 49, group, 0, 0, 1, 7, 0, 0, 0])?;
+        bytes.extend_from_slice(&END)?;
+    }
+    let mut text = Vec::new(rt.alloc());
+    let answer = replay(rt.alloc(), &mut bytes.as_slice(), &mut text);
+    assert_eq!(rt; answer.err(), Some(Fault::Shape(ShapeError::TooManyItems)));
+    bytes.extend_from_slice(&[71, 82, 84, 49, 10, 0, 0, 1, 7, 0, 0, 0])?;
+    bytes.extend_from_slice(&END)?;
+    let answer = replay(rt.alloc(), &mut bytes.as_slice(), &mut text);
+    assert_eq!(rt; answer.err(), Some(Fault::MissingGroup(9)));
+    assert!(rt; text.is_empty());
+    Ok(())
+}

@@ -1,0 +1,13 @@
+//! Tests of `gr_replay`: whole inputs by their bytes, readers and writers that fail, and growths that are refused.
+#![tactic(auto)]
+
+#[cfg(test)]
+mod bytes;
+#[cfg(test)]
+mod ends;
+#[cfg(test)]
+mod failures;
+#[cfg(test)]
+mod faults;
+#[cfg(test)]
+mod reports;

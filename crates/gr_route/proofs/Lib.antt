@@ -1,0 +1,5 @@
+pub mod FrontLemmas
+pub mod GroupLemmas
+pub mod IntakeSteps
+pub mod Views
+pub mod WorkSteps

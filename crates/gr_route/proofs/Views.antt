@@ -1,0 +1,38 @@
+-- What holds of each seat's view, where one view changes or one is added.
+use Rattle.std.proofs.Common.{◌≡◌, ◌≢◌, ℕ, zero, suc, false, true, true≢false, List, [], ◌∷◌, ◌++◌, length, set, sym, refl, ap, ◌∙◌, subst, ⊎_elim}
+use mathlib.Core.Option.{Option, some, none, some-injective, some-ne-none}
+use lib.ListN.{get_elem?}
+use Rattle.crossbeam_queue.proofs.Lists.{at_set, at_snoc}
+
+module _ {V : Type 0} where
+  abbrev pub Each : (ℕ → V → Type 0) → List V → Type 0
+  Each F views = (pass : ℕ) (v : V) → get_elem? views pass ≡ some v → F pass v
+
+  pub each_set : (F : ℕ → V → Type 0) (views : List V) (pass : ℕ) (w : V) → F pass w → ((j : ℕ) (u : V) → j ≢ pass → get_elem? views j ≡ some u → F j u) → Each F (set views pass w)
+  each_set F views pass w mine others j u at = ⊎_elim (λ (x : (j ≡ pass) × (w ≡ u)). subst (λ (y : ℕ × V). F y.0 y.1) (λ i. (sym x.0 i, x.1 i)) mine)
+      (λ (x : (j ≢ pass) × (get_elem? views j ≡ some u)). others j u x.0 x.1) (at_set views pass j w u at)
+
+  at_end : (views : List V) (a b : V) (j : ℕ) → get_elem? views j ≢ some b → get_elem? (views ++ a ∷ []) j ≡ some b → j ≡ length views
+  at_end [] a b zero new at = refl
+  at_end [] a b (suc j) new at = absurd (some-ne-none b (sym at))
+  at_end (x ∷ xs) a b zero new at = absurd (new at)
+  at_end (x ∷ xs) a b (suc j) new at = ap suc (at_end xs a b j new at)
+
+  pub each_snoc : (F : ℕ → V → Type 0) (views : List V) (w : V) → Each (λ j u. F j u × (w ≢ u)) views → F (length views) w → Each F (views ++ w ∷ [])
+  each_snoc F views w old new j u at = ⊎_elim (λ there. (old j u there).0)
+      (λ (same : w ≡ u). subst (λ (y : ℕ × V). F y.0 y.1) (λ i. (sym (at_end views w u j (λ there. (old j u there).1 same) at) i, same i)) new) (at_snoc views w u j at)
+
+  pub each_one : (F : ℕ → V → Type 0) (w : V) → F 0 w → Each F (w ∷ [])
+  each_one F w f zero u at = subst (λ y. F 0 y) (some-injective w u at) f
+  each_one F w f (suc j) u at = absurd (some-ne-none u (sym at))
+
+-- of the number of the pass that holds a seat
+
+pub none_holds : {A : Type 0} → false ≡ true → A
+none_holds e = absurd (true≢false (sym e))
+
+pub same_holder : {a b : ℕ} {s : Option ℕ} → s ≡ some a → s ≡ some b → a ≡ b
+same_holder {a} {b} p q = some-injective a b (sym p ∙ q)
+
+pub held : {A : Type 0} {a : ℕ} {s : Option ℕ} → s ≡ some a → s ≡ none → A
+held {A} {a} p q = absurd (some-ne-none a (sym p ∙ q))

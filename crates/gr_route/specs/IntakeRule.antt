@@ -1,0 +1,96 @@
+-- What each seat of an intake queue knows, and the rule that ties this to what the queue holds.
+-- Source: docs/QUEUES.md, "The intake queue".
+use Rattle.std.specs.Prelude.{◌≡◌, ◌≢◌, ◌==◌, ℕ, true, false, List, [], ◌∷◌, ◌++◌, replicate, slice_index, slice_set, if◌then◌else◌}
+use Rattle.std.specs.List.{All}
+use mathlib.Core.Option as seat
+use lib.ListN.{get_elem?}
+use Rattle.gr_model.specs.declared.event.Event.{Event}
+use Rattle.gr_model.specs.declared.limits.TheConstants.{MOST_GROUPS}
+use Rattle.gr_route.specs.declared.intake.Sent.{Sent}
+use Rattle.gr_route.specs.declared.intake_rule.Joined.{Joined}
+use Rattle.gr_route.specs.declared.intake_rule.IntakeView.{IntakeView}
+use Rattle.gr_route.specs.Fronts.{EndsWith, IsStreamFront}
+
+-- the events of a group, in order
+abbrev pub events_of : ℕ → List Sent → List Event
+events_of g [] = []
+events_of g (s ∷ ss) = if s.group == g then s.event ∷ events_of g ss else events_of g ss
+
+-- ---- the views
+
+-- the seat of a group with so many items, which has pushed these
+abbrev pub seat_of : ℕ → ℕ → List Event → IntakeView
+seat_of group items pushed = record { pushes = true; group = group; items = items; pushed = pushed; pops = false; popped = []; sizes = []; joined = [] }
+
+-- the taker's seat: what it popped, the items of each group that has had a seat (0 of another), and the lists of the seats that were joined back
+abbrev pub taker_of : List Sent → List ℕ → List Joined → IntakeView
+taker_of popped sizes joined = record { pushes = false; group = 0; items = 0; pushed = []; pops = true; popped = popped; sizes = sizes; joined = joined }
+
+abbrev pub no_sizes : List ℕ
+no_sizes = replicate MOST_GROUPS 0
+
+abbrev pub first_view : IntakeView
+first_view = taker_of [] no_sizes []
+
+-- what a seat that was joined back leaves
+abbrev pub spent_view : IntakeView
+spent_view = record { pushes = false; group = 0; items = 0; pushed = []; pops = false; popped = []; sizes = []; joined = [] }
+
+-- the taker's view after it split off the seat of a group
+abbrev pub after_split : ℕ → ℕ → IntakeView → IntakeView
+after_split group items v = taker_of v.popped (slice_set v.sizes group items) v.joined
+
+abbrev pub joined_from : IntakeView → Joined
+joined_from w = record { group = w.group; items = w.items; pushed = w.pushed }
+
+-- the taker's view after it took back a group's seat
+abbrev pub after_join : IntakeView → IntakeView → IntakeView
+after_join v w = taker_of v.popped v.sizes (v.joined ++ joined_from w ∷ [])
+
+-- ---- the rule
+
+module _ (holder : ℕ → seat.Option ℕ) (sent : ℕ → List Event) (size : ℕ → ℕ) where
+  -- a group has one seat at most, and it knows what was sent of the group
+  abbrev pub FitsSeat : ℕ → IntakeView → Type 0
+  FitsSeat pass v = v.pushes ≡ true → (holder v.group ≡ seat.some pass) × (v.pushed ≡ sent v.group) × (v.items ≡ size v.group)
+
+  -- a seat that was joined back pushed all that was sent of its group
+  abbrev pub FitsJoined : Joined → Type 0
+  FitsJoined j = (holder j.group ≡ seat.none) × (j.pushed ≡ sent j.group) × (j.items ≡ size j.group) × (size j.group ≢ 0)
+
+  -- there is one taker, and it knows what was popped, which groups have had a seat, and what the seats that were joined back pushed
+  abbrev pub FitsTaker : ℕ → List Sent → ℕ → IntakeView → Type 0
+  FitsTaker taker popped pass v = v.pops ≡ true → (pass ≡ taker) × (v.popped ≡ popped) × ((g : ℕ) → slice_index v.sizes g ≡ size g) × All FitsJoined v.joined
+
+-- of each group, what was popped, followed by what is queued, is what was sent, and that is the front of a stream; of a group that has had no seat nothing was sent
+pub record SeatsAgree (items : List Sent) (views : List IntakeView) : Type 0 where
+  pub taker : ℕ
+  pub holder : ℕ → seat.Option ℕ
+  pub sent : ℕ → List Event
+  pub size : ℕ → ℕ
+  pub popped : List Sent
+  pub queued : (g : ℕ) → events_of g (popped ++ items) ≡ sent g
+  pub fronts : (g : ℕ) → IsStreamFront (size g) (sent g)
+  pub unseated : (g : ℕ) → size g ≡ 0 → (holder g ≡ seat.none) × (sent g ≡ [])
+  pub fits : (pass : ℕ) (v : IntakeView) → get_elem? views pass ≡ seat.some v → FitsSeat holder sent size pass v × FitsTaker holder sent size taker popped pass v
+
+-- ---- what a step tells its seat
+
+-- a push adds to what the seat pushed
+abbrev pub Pushes : IntakeView → Sent → IntakeView → Type 0
+Pushes v x w = w ≡ seat_of v.group v.items (v.pushed ++ x.event ∷ [])
+
+-- of the seat's group, the queue holds the end of what the seat pushed
+abbrev pub SeatLearns : IntakeView → List Sent → Type 0
+SeatLearns v items = EndsWith v.pushed (events_of v.group items)
+
+-- what was popped and what is queued make the front of a stream, of each group; of one without a seat, nothing; of one whose seat was joined back, all that it pushed
+abbrev pub TakerLearns : IntakeView → List Sent → Type 0
+TakerLearns v items =
+    ((g : ℕ) → IsStreamFront (slice_index v.sizes g) (events_of g (v.popped ++ items)))
+    × ((g : ℕ) → slice_index v.sizes g ≡ 0 → events_of g (v.popped ++ items) ≡ [])
+    × All (λ j. (j.pushed ≡ events_of j.group (v.popped ++ items)) × (j.items ≡ slice_index v.sizes j.group)) v.joined
+
+-- a pop adds to what the taker popped
+abbrev pub Pops : IntakeView → Sent → IntakeView → Type 0
+Pops v x w = (w ≡ taker_of (v.popped ++ x ∷ []) v.sizes v.joined) × ((items : List Sent) × TakerLearns w items)

@@ -1,0 +1,67 @@
+-- What contracts see of an intake queue's seats.
+-- Source: docs/QUEUES.md, "The intake queue".
+use Rattle.std.specs.Prelude.{◌≡◌, ◌<◌, ◌≢◌, ℕ, List, [], ◌++◌, length, slice_index, IsFalse}
+use Rattle.std.specs.List.{All}
+use Rattle.atomic_table.specs.Seated.{TableId}
+use Rattle.crossbeam_queue.specs.Passes.{Pass, view}
+use Rattle.gr_model.specs.declared.event.Event.{Event}
+use Rattle.gr_model.specs.declared.limits.TheConstants.{MOST_RECORDS}
+use Rattle.gr_model.specs.Events.{IsEventOk}
+use Rattle.gr_model.specs.Streams.{is_complete}
+use Rattle.gr_route.specs.declared.intake.Sent.{Sent}
+use Rattle.gr_route.specs.declared.intake_rule.IntakeView.{IntakeView}
+use Rattle.gr_route.specs.declared.intake_rule.Joined.{Joined}
+use Rattle.gr_route.specs.Fronts.{IsStreamFront, StartsWith}
+use Rattle.gr_route.specs.IntakeRule.{events_of, seat_of, taker_of}
+
+-- the queue that the seat is of, its group, the group's number of items, and the events that it pushed
+pub record Seat : Type 0 where
+  pub queue : TableId
+  pub group : ℕ
+  pub items : ℕ
+  pub pushed : List Event
+
+-- the queue that the seat is of, what it popped, the number of items of each group that has had a seat (0 of another), and the lists of the seats that were joined back
+pub record Taker : Type 0 where
+  pub queue : TableId
+  pub popped : List Sent
+  pub sizes : List ℕ
+  pub joined : List Joined
+
+-- what was popped of a group
+abbrev pub popped_of : Taker → ℕ → List Event
+popped_of t g = events_of g t.popped
+
+-- a seat that was joined back had the items that its group has; what it pushed is the front of a stream, and begins with what was popped of the group
+pub record IsDelivered (t : Taker) (j : Joined) : Type 0 where
+  pub items : j.items ≡ slice_index t.sizes j.group
+  pub stream : IsStreamFront j.items j.pushed
+  pub front : StartsWith j.pushed (popped_of t j.group)
+
+-- what was popped of a group is the front of a stream, and of a group that has had no seat nothing was popped
+pub record IsDelivery (t : Taker) : Type 0 where
+  pub streams : (g : ℕ) → IsStreamFront (slice_index t.sizes g) (popped_of t g)
+  pub unseated : (g : ℕ) → slice_index t.sizes g ≡ 0 → popped_of t g ≡ []
+  pub joined : All (IsDelivered t) t.joined
+
+-- the next event to be popped is one of a group that has had a seat, and may follow what was popped of the group
+pub record IsNext (t : Taker) (s : Sent) : Type 0 where
+  pub seated : slice_index t.sizes s.group ≢ 0
+  pub good : IsEventOk s.event (slice_index t.sizes s.group)
+  pub unended : IsFalse (is_complete (popped_of t s.group))
+  pub room : length (popped_of t s.group) < MOST_RECORDS
+
+-- what the taker knows of the events that the queue holds: of a group whose seat was joined back they are all that was pushed and not popped
+abbrev pub IsQueued : Taker → List Sent → Type 0
+IsQueued t items = All (λ j. j.pushed ≡ events_of j.group (t.popped ++ items)) t.joined
+
+-- ---- what the seats keep: no place of the queue is taken and not given back, and the pass knows what the fields say
+
+pub record IsSeatPass (pass : Pass Sent IntakeView) (group items : ℕ) : Type 0 where
+  pub idle : pass.me.1 ≡ []
+  pub known : view pass ≡ seat_of group items (view pass).pushed
+  pub some : 0 < items
+
+pub record IsTakerPass (pass : Pass Sent IntakeView) (sizes : List ℕ) : Type 0 where
+  pub idle : pass.me.1 ≡ []
+  pub known : view pass ≡ taker_of (view pass).popped sizes (view pass).joined

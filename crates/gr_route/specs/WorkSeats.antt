@@ -1,0 +1,43 @@
+-- What contracts see of a work queue's seats.
+-- Source: docs/QUEUES.md, "The work queue".
+use Rattle.std.specs.Prelude.{◌≡◌, Bool, false, List, [], ◌++◌, Option, IfSome}
+use Rattle.atomic_table.specs.Seated.{TableId}
+use Rattle.crossbeam_queue.specs.Passes.{Pass, view}
+use Rattle.gr_route.specs.declared.work.Work.{Work}
+use Rattle.gr_route.specs.declared.work_rule.WorkView.{WorkView}
+use Rattle.gr_route.specs.Fronts.{StartsWith}
+use Rattle.gr_route.specs.WorkRule.{StopsLast, giver_of, worker_of}
+
+-- the queue that the seat is of, and what it pushed
+pub record Giver (A : Type 0) : Type 0 where
+  pub queue : TableId
+  pub pushed : List (Work A)
+
+-- the queue that the seat is of, what it popped, whether the giver's seat was split off, and what that had pushed, where it was joined back
+pub record Worker (A : Type 0) : Type 0 where
+  pub queue : TableId
+  pub popped : List (Work A)
+  pub split : Bool
+  pub given : Option (List (Work A))
+
+module _ {A : Type 0} where
+  -- what was popped has the word that there are no more last, and nothing was popped where there was no giver; what the giver pushed begins with it, where its seat was joined back
+  pub record IsDelivery (w : Worker A) : Type 0 where
+    pub stops : StopsLast w.popped
+    pub unsplit : w.split ≡ false → w.popped ≡ []
+    pub front : IfSome w.given (λ all. StartsWith all w.popped × StopsLast all)
+
+  -- what the worker knows of the work that the queue holds: there is none where there was no giver, and where its seat was joined back it is all that was pushed and not popped
+  pub record IsQueued (w : Worker A) (items : List (Work A)) : Type 0 where
+    pub unsplit : w.split ≡ false → items ≡ []
+    pub rest : IfSome w.given (λ all. all ≡ w.popped ++ items)
+
+  -- ---- what the seats keep: no place of the queue is taken and not given back, and the pass knows what the fields say
+
+  pub record IsGiverPass (pass : Pass (Work A) (WorkView A)) : Type 0 where
+    pub idle : pass.me.1 ≡ []
+    pub known : view pass ≡ giver_of (view pass).pushed
+
+  pub record IsWorkerPass (pass : Pass (Work A) (WorkView A)) (split : Bool) : Type 0 where
+    pub idle : pass.me.1 ≡ []
+    pub known : view pass ≡ worker_of (view pass).popped split (view pass).given

@@ -1,0 +1,230 @@
+//! The queue from the senders to the sequencer. Each work-group has one seat, which pushes its events, and one seat pops
+//! the events of all groups.
+//!
+//! Invariant: of each group, what was popped, followed by what is queued, is what its seat pushed (docs/QUEUES.md, "The
+//! intake queue"). What a seat knows is in its pass, a value without bytes, which the queue's rule keeps true.
+
+ghost use Rattle.std.specs.Prelude.{◌≡◌, ◌≢◌, ◌<◌, ◌≤◌, [], ◌∷◌, ◌++◌, length, slice_index, slice_set, IfOk, IfErr, OnOk, IfSome, IfNone, IsTrue, IsFalse};
+ghost use Rattle.crossbeam_queue.specs.Fifo.{Forks, Held};
+ghost use Rattle.crossbeam_queue.specs.Passes.{view as known, IsSamePass, IsPassOf};
+ghost use Rattle.gr_model.specs.Events.{IsEventOk};
+ghost use Rattle.gr_model.specs.Streams.{is_complete};
+ghost use Rattle.gr_route.specs.Fronts.{EndsWith};
+ghost use Rattle.gr_route.specs.IntakeRule.{SeatsAgree, after_split, events_of, no_sizes, seat_of};
+ghost use Rattle.gr_route.specs.IntakeSeats.{IsDelivered, IsDelivery, IsNext, IsQueued, popped_of};
+
+use crate::intake_rule::{
+    IntakeRule, IntakeView, JoinStep, NamesGroup, PopStep, PushStep, SplitStep,
+};
+use crate::room::{Full, MOST_PLACES};
+use crossbeam_queue::{Pass, RuledArrayQueue};
+use gr_model::event::Event;
+use gr_model::limits::{MOST_GROUPS, MOST_ITEMS_OF_A_GROUP, MOST_RECORDS};
+use gr_model::memory::Memory;
+use std::alloc::{Allocator, Global};
+use std::marker::{Brand, Model};
+use std::sync::Wait;
+
+/// An event, and the work-group that sent it.
+#[derive(Clone, Copy, Debug, PartialEq, Eq)]
+pub struct Sent {
+    pub group: u16,
+    pub event: Event,
+}
+
+/// A bounded queue of events. Contracts see which queue it is, and for how many events it has room.
+#[derive(Drop)]
+pub struct Intake<A: Allocator = Global> {
+    queue: RuledArrayQueue<Sent, IntakeView, IntakeRule, A>,
+}
+
+impl<A: Allocator> Model for Intake<A> {
+    ghost use Rattle.crossbeam_queue.specs.Passes.{ruled_capacity};
+    ghost use Rattle.gr_route.specs.Rooms.{Room};
+
+    ghost Value = { Room };
+
+    ghost view = { λ q. record { queue = q.queue.table.shared.table_id; places = ruled_capacity q.queue } };
+}
+
+/// The seat that pushes a work-group's events. Contracts see its queue, its group and items, and what it pushed.
+#[derive(Drop)]
+pub struct IntakeSeat {
+    pass: Pass<Sent, IntakeView>,
+    group: u16,
+    items: u16,
+}
+
+impl Model for IntakeSeat {
+    ghost use Rattle.crossbeam_queue.specs.Passes.{view as known};
+    ghost use Rattle.gr_route.specs.IntakeSeats.{IsSeatPass, Seat};
+
+    ghost Value = { Seat };
+
+    ghost view = { λ s. record { queue = s.pass.table_id; group = s.group; items = s.items; pushed = (known s.pass).pushed } };
+
+    ghost invariant = { λ s. IsSeatPass s.pass s.group s.items };
+}
+
+impl IntakeSeat {
+    /// The work-group whose events it pushes.
+    pub fn group(&self) -> u16
+        ensures { result ≡ self.now.group }
+    {
+        self.group
+    }
+
+    /// The number of the group's work-items, which is not 0.
+    pub fn items(&self) -> u16
+        ensures items { result ≡ self.now.items }
+        ensures some { 0 < result }
+    {
+        self.items
+    }
+}
+
+/// The seat that pops. Contracts see its queue, what it popped, which work-groups have had a seat, and what the seats
+/// that were joined back had pushed.
+#[derive(Drop)]
+pub struct TakerSeat {
+    pass: Pass<Sent, IntakeView>,
+    // The number of items of each group that has had a seat, and 0 of another.
+    sizes: [u16; MOST_GROUPS],
+}
+
+impl Model for TakerSeat {
+    ghost use Rattle.crossbeam_queue.specs.Passes.{view as known};
+    ghost use Rattle.gr_route.specs.IntakeSeats.{IsTakerPass, Taker};
+
+    ghost Value = { Taker };
+
+    ghost view = { λ s. record { queue = s.pass.table_id; popped = (known s.pass).popped; sizes = s.sizes; joined = (known s.pass).joined } };
+
+    ghost invariant = { λ s. IsTakerPass s.pass s.sizes };
+}
+
+/// Splits off the seat of a group that has had none.
+fn seat_for<G: NamesGroup, A: Allocator>(
+    queue: &RuledArrayQueue<Sent, IntakeView, IntakeRule, A>,
+    pass: &mut Pass<Sent, IntakeView>,
+    group: u16,
+    items: u16,
+) -> Pass<Sent, IntakeView>
+    requires named { (G.group ≡ group) × (G.items ≡ items) }
+    requires queue { IsPassOf queue.now pass.old }
+    requires rule { Forks SeatsAgree pass.old.id (known pass.old) (after_split group items (known pass.old)) (seat_of group items []) }
+    ensures queue { IsSamePass pass.old pass.new × IsPassOf queue.now result }
+    ensures taker { known pass.new ≡ after_split group items (known pass.old) }
+    ensures seat { known result ≡ seat_of group items [] }
+{
+    queue.another::<SplitStep<G>>(pass)
+}
+
+impl<A: Allocator + Copy> Intake<A> {
+    /// An empty queue with room for so many events, and the seat that pops.
+    ///
+    /// # Errors
+    /// `Memory`.
+    pub fn new(alloc: A, capacity: u32) -> Result<(Intake<A>, TakerSeat), Memory>
+        requires { (0 < capacity) × (capacity ≤ MOST_PLACES) }
+        ensures room { IfOk result (λ made. made.0.places ≡ capacity) }
+        ensures seat { IfOk result (λ made. made.1 ≡ record { queue = made.0.queue; popped = []; sizes = no_sizes; joined = [] }) }
+    {
+        let (queue, pass) = RuledArrayQueue::ruled(alloc, capacity as usize)?;
+        let seat = TakerSeat {
+            pass,
+            sizes: [0; MOST_GROUPS],
+        };
+        Ok((Intake { queue }, seat))
+    }
+}
+
+impl<A: Allocator> Intake<A> {
+    /// The seat of a work-group with so many items, or `None` where the group has had a seat.
+    #[tactic(auto, using(crate::proofs::IntakeSteps::splits_as))]
+    pub fn split(&self, taker: &mut TakerSeat, group: u16, items: u16) -> Option<IntakeSeat>
+        requires queue { taker.old.queue ≡ self.now.queue }
+        requires group { group < MOST_GROUPS }
+        requires items { (0 < items) × (items ≤ MOST_ITEMS_OF_A_GROUP) }
+
+        ensures first { IfSome result (λ _. slice_index taker.old.sizes group ≡ 0) }
+        ensures seat { IfSome result (λ seat. seat ≡ record { queue = self.now.queue; group = group; items = items; pushed = [] }) }
+        ensures taker { IfSome result (λ _. taker.new ≡ record taker.old { sizes = slice_set taker.old.sizes group items }) }
+
+        ensures again { IfNone result (slice_index taker.old.sizes group ≢ 0) }
+        ensures unchanged { IfNone result (taker.new ≡ taker.old) }
+    {
+        if taker.sizes[usize::from(group)] != 0 {
+            return None;
+        }
+        taker.sizes[usize::from(group)] = items;
+        let pass = seat_for::<Brand, A>(&self.queue, &mut taker.pass, group, items);
+        Some(IntakeSeat { pass, group, items })
+    }
+
+    /// Pushes an event of the seat's work-group.
+    ///
+    /// # Errors
+    /// `Full` with the event, only where the queue was full at some moment of the call.
+    pub fn push<R: Wait>(
+        &self,
+        rt: &R,
+        seat: &mut IntakeSeat,
+        event: Event,
+    ) -> Result<(), Full<Event>>
+        requires queue { seat.old.queue ≡ self.now.queue }
+        requires good { IsEventOk event seat.old.items }
+        requires unended { IsFalse (is_complete seat.old.pushed) }
+        requires room { length seat.old.pushed < MOST_RECORDS }
+
+        ensures ok { OnOk result (seat.new ≡ record seat.old { pushed = seat.old.pushed ++ event ∷ [] }) }
+
+        ensures unchanged { IfErr result (λ back. (back.0 ≡ event) × (seat.new ≡ seat.old)) }
+        ensures full { IfErr result (λ _. Held self.now.places (λ items. EndsWith seat.old.pushed (events_of seat.old.group items))) }
+    {
+        let sent = Sent {
+            group: seat.group,
+            event,
+        };
+        match self.queue.push_as::<PushStep, R>(rt, &mut seat.pass, sent) {
+            Ok(()) => Ok(()),
+            Err(back) => Err(Full(back.event)),
+        }
+    }
+
+    /// Pops the event that was pushed first, or `None` only where the queue was empty at some moment of the call.
+    pub fn pop<R: Wait>(&self, rt: &R, taker: &mut TakerSeat) -> Option<Sent>
+        requires { taker.old.queue ≡ self.now.queue }
+
+        ensures some { IfSome result (λ sent. taker.new ≡ record taker.old { popped = taker.old.popped ++ sent ∷ [] }) }
+        ensures next { IfSome result (IsNext taker.old) }
+
+        ensures unchanged { IfNone result (taker.new ≡ taker.old) }
+        ensures empty { IfNone result (Held 0 (IsQueued taker.old)) }
+
+        ensures delivery { IsDelivery taker.new }
+    {
+        self.queue.pop_as::<PopStep, R>(rt, &mut taker.pass)
+    }
+
+    /// Takes a work-group's seat back, and with it the list of what it pushed. That begins with what was popped of the
+    /// group, and is no more than it where the end was popped.
+    pub fn join_back(&self, taker: &mut TakerSeat, seat: IntakeSeat)
+        requires taker { taker.old.queue ≡ self.now.queue }
+        requires seat { seat.queue ≡ self.now.queue }
+        ensures joined { taker.new ≡ record taker.old { joined = taker.old.joined ++ record { group = seat.group; items = seat.items; pushed = seat.pushed } ∷ [] } }
+
+        ensures delivered { IsDelivered taker.new record { group = seat.group; items = seat.items; pushed = seat.pushed } }
+        ensures whole { IsTrue (is_complete (popped_of taker.new seat.group)) → popped_of taker.new seat.group ≡ seat.pushed }
+
+        ensures delivery { IsDelivery taker.new }
+    {
+        let IntakeSeat {
+            pass,
+            group: _,
+            items: _,
+        } = seat;
+        self.queue.absorb::<JoinStep>(&mut taker.pass, pass);
+        self.queue.learn_as::<PopStep>(&mut taker.pass);
+    }
+}

@@ -1,0 +1,11 @@
+//! The queues between the threads of a run: from the senders to the sequencer, and from the sequencer to each worker.
+//! Each stands under a rule over what it holds and what its seats pushed and popped, which every step of every thread
+//! keeps. Told in words in docs/QUEUES.md.
+#![tactic(auto)]
+
+pub mod intake;
+pub mod intake_rule;
+pub mod laws;
+pub mod room;
+pub mod work;
+pub mod work_rule;

@@ -1,0 +1,173 @@
+//! The queue from the sequencer to one worker. One seat pushes accesses, and at last the word that there are no more;
+//! one seat pops them.
+//!
+//! Invariant: what was popped, followed by what is queued, is what the giver pushed (docs/QUEUES.md, "The work queue").
+//! What a seat knows is in its pass, a value without bytes, which the queue's rule keeps true.
+
+ghost use Rattle.std.specs.Prelude.{◌≡◌, ◌<◌, ◌≤◌, true, false, [], ◌∷◌, ◌++◌, None, Some, IfOk, IfErr, OnOk, IfSome, IfNone, IsTrue, IsFalse};
+ghost use Rattle.crossbeam_queue.specs.Fifo.{Held};
+ghost use Rattle.gr_route.specs.Fronts.{EndsWith, StartsWith};
+ghost use Rattle.gr_route.specs.WorkRule.{is_stopped};
+ghost use Rattle.gr_route.specs.WorkSeats.{IsDelivery, IsQueued};
+
+use crate::room::{Full, MOST_PLACES};
+use crate::work_rule::{JoinStep, PopStep, PushStep, SplitStep, WorkRule, WorkView};
+use crossbeam_queue::{Pass, RuledArrayQueue};
+use gr_clocks::access::Access;
+use gr_model::memory::Memory;
+use std::alloc::{Allocator, Global};
+use std::marker::Model;
+use std::sync::Wait;
+
+/// What a worker is given: an access to apply, or the word that there are no more.
+#[derive(Drop)]
+#[derive_where(Debug)]
+pub enum Work<A: Allocator = Global> {
+    Access(Access<A>),
+    Stop,
+}
+
+/// A bounded queue of work. Contracts see which queue it is, and for how much work it has room.
+#[derive(Drop)]
+pub struct WorkQueue<A: Allocator = Global> {
+    queue: RuledArrayQueue<Work<A>, WorkView<A>, WorkRule, A>,
+}
+
+impl<A: Allocator> Model for WorkQueue<A> {
+    ghost use Rattle.crossbeam_queue.specs.Passes.{ruled_capacity};
+    ghost use Rattle.gr_route.specs.Rooms.{Room};
+
+    ghost Value = { Room };
+
+    ghost view = { λ q. record { queue = q.queue.table.shared.table_id; places = ruled_capacity q.queue } };
+}
+
+/// The seat that pushes. Contracts see its queue, and what it pushed.
+#[derive(Drop)]
+pub struct GiverSeat<A: Allocator = Global> {
+    pass: Pass<Work<A>, WorkView<A>>,
+}
+
+impl<A: Allocator> Model for GiverSeat<A> {
+    ghost use Rattle.crossbeam_queue.specs.Passes.{view as known};
+    ghost use Rattle.gr_route.specs.WorkSeats.{Giver, IsGiverPass};
+
+    ghost Value = { Giver A };
+
+    ghost view = { λ s. record { queue = s.pass.table_id; pushed = (known s.pass).pushed } };
+
+    ghost invariant = { λ s. IsGiverPass s.pass };
+}
+
+/// The seat that pops. Contracts see its queue, what it popped, whether the giver's seat was split off, and what that had
+/// pushed, where it was joined back.
+#[derive(Drop)]
+pub struct WorkerSeat<A: Allocator = Global> {
+    pass: Pass<Work<A>, WorkView<A>>,
+    split: bool,
+}
+
+impl<A: Allocator> Model for WorkerSeat<A> {
+    ghost use Rattle.crossbeam_queue.specs.Passes.{view as known};
+    ghost use Rattle.gr_route.specs.WorkSeats.{IsWorkerPass, Worker};
+
+    ghost Value = { Worker A };
+
+    ghost view = { λ s. record { queue = s.pass.table_id; popped = (known s.pass).popped; split = s.split; given = (known s.pass).given } };
+
+    ghost invariant = { λ s. IsWorkerPass s.pass s.split };
+}
+
+impl<A: Allocator + Copy> WorkQueue<A> {
+    /// An empty queue with room for so much work, and the seat that pops.
+    ///
+    /// # Errors
+    /// `Memory`.
+    pub fn new(alloc: A, capacity: u32) -> Result<(WorkQueue<A>, WorkerSeat<A>), Memory>
+        requires { (0 < capacity) × (capacity ≤ MOST_PLACES) }
+        ensures room { IfOk result (λ made. made.0.places ≡ capacity) }
+        ensures seat { IfOk result (λ made. made.1 ≡ record { queue = made.0.queue; popped = []; split = false; given = None }) }
+    {
+        let (queue, pass) = RuledArrayQueue::ruled(alloc, capacity as usize)?;
+        let seat = WorkerSeat { pass, split: false };
+        Ok((WorkQueue { queue }, seat))
+    }
+}
+
+impl<A: Allocator> WorkQueue<A> {
+    /// The seat that pushes, or `None` where it was split off before.
+    #[tactic(auto, using(crate::proofs::WorkSteps::splits_as))]
+    pub fn split(&self, worker: &mut WorkerSeat<A>) -> Option<GiverSeat<A>>
+        requires { worker.old.queue ≡ self.now.queue }
+
+        ensures first { IfSome result (λ _. worker.old.split ≡ false) }
+        ensures seat { IfSome result (λ giver. giver ≡ record { queue = self.now.queue; pushed = [] }) }
+        ensures worker { IfSome result (λ _. worker.new ≡ record worker.old { split = true }) }
+
+        ensures again { IfNone result (worker.old.split ≡ true) }
+        ensures unchanged { IfNone result (worker.new ≡ worker.old) }
+    {
+        if worker.split {
+            return None;
+        }
+        worker.split = true;
+        let pass = self.queue.another::<SplitStep>(&mut worker.pass);
+        Some(GiverSeat { pass })
+    }
+
+    /// Pushes an access, or the word that there are no more, after which nothing may be pushed.
+    ///
+    /// # Errors
+    /// `Full` with the work, only where the queue was full at some moment of the call.
+    pub fn push<R: Wait>(
+        &self,
+        rt: &R,
+        giver: &mut GiverSeat<A>,
+        work: Work<A>,
+    ) -> Result<(), Full<Work<A>>>
+        requires queue { giver.old.queue ≡ self.now.queue }
+        requires unstopped { IsFalse (is_stopped giver.old.pushed) }
+
+        ensures ok { OnOk result (giver.new ≡ record giver.old { pushed = giver.old.pushed ++ work ∷ [] }) }
+
+        ensures unchanged { IfErr result (λ back. (back.0 ≡ work) × (giver.new ≡ giver.old)) }
+        ensures full { IfErr result (λ _. Held self.now.places (EndsWith giver.old.pushed)) }
+    {
+        match self.queue.push_as::<PushStep, R>(rt, &mut giver.pass, work) {
+            Ok(()) => Ok(()),
+            Err(back) => Err(Full(back)),
+        }
+    }
+
+    /// Pops the work that was pushed first, or `None` only where the queue was empty at some moment of the call.
+    pub fn pop<R: Wait>(&self, rt: &R, worker: &mut WorkerSeat<A>) -> Option<Work<A>>
+        requires { worker.old.queue ≡ self.now.queue }
+
+        ensures some { IfSome result (λ work. worker.new ≡ record worker.old { popped = worker.old.popped ++ work ∷ [] }) }
+        ensures next { IfSome result (λ _. IsFalse (is_stopped worker.old.popped)) }
+
+        ensures unchanged { IfNone result (worker.new ≡ worker.old) }
+        ensures empty { IfNone result (Held 0 (IsQueued worker.old)) }
+
+        ensures delivery { IsDelivery worker.new }
+    {
+        self.queue.pop_as::<PopStep, R>(rt, &mut worker.pass)
+    }
+
+    /// Takes the giver's seat back, and with it the list of what it pushed. That begins with what was popped, and is no
+    /// more than it where `Stop` was popped.
+    pub fn join_back(&self, worker: &mut WorkerSeat<A>, giver: GiverSeat<A>)
+        requires worker { worker.old.queue ≡ self.now.queue }
+        requires giver { giver.queue ≡ self.now.queue }
+        ensures given { worker.new ≡ record worker.old { given = Some giver.pushed } }
+
+        ensures front { StartsWith giver.pushed worker.new.popped }
+        ensures whole { IsTrue (is_stopped worker.new.popped) → worker.new.popped ≡ giver.pushed }
+
+        ensures delivery { IsDelivery worker.new }
+    {
+        let GiverSeat { pass } = giver;
+        self.queue.absorb::<JoinStep>(&mut worker.pass, pass);
+        self.queue.learn_as::<PopStep>(&mut worker.pass);
+    }
+}

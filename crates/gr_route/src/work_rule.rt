@@ -1,0 +1,86 @@
+//! The rule of a work queue, over what the queue holds and what each of its seats knows.
+//!
+//! What was popped, followed by what is queued, is what the giver pushed. Told in words in docs/QUEUES.md, "The work
+//! queue".
+
+use crate::work::Work;
+use crossbeam_queue::protocol::{Join, Lesson, Outcome, Protocol, Split};
+use std::alloc::{Allocator, Global};
+use std::collections::LinkedList;
+
+/// What a seat knows. Contracts alone speak of it: no value of it is made.
+pub struct WorkView<A: Allocator = Global> {
+    /// Whether it is the giver's seat, which may push. The next is then what it pushed.
+    pub pushes: bool,
+    pub pushed: LinkedList<Work<A>>,
+    /// Whether it is the worker's seat, which may pop. The next three are then what it popped, whether the giver's seat
+    /// was split off, and what that had pushed, where it was joined back.
+    pub pops: bool,
+    pub popped: LinkedList<Work<A>>,
+    pub split: bool,
+    pub given: Option<LinkedList<Work<A>>>,
+}
+
+/// What was popped, followed by what is queued, is what the giver pushed, and `Stop` stands last in it.
+pub struct WorkRule;
+
+impl<A: Allocator> Protocol<Work<A>, WorkView<A>> for WorkRule {
+    ghost use Rattle.gr_route.specs.WorkRule.{SeatsAgree, first_view};
+
+    ghost holds = { SeatsAgree };
+
+    ghost first = { first_view };
+}
+
+/// The giver's seat is split off the worker's.
+pub struct SplitStep;
+
+impl<A: Allocator> Split<WorkView<A>> for SplitStep {
+    ghost use Rattle.std.specs.Prelude.{[]};
+    ghost use Rattle.gr_route.specs.WorkRule.{after_split, giver_of};
+
+    ghost left = { after_split };
+
+    ghost right = { λ _. giver_of [] };
+}
+
+/// The giver's seat is joined back into the worker's.
+pub struct JoinStep;
+
+impl<A: Allocator> Join<WorkView<A>> for JoinStep {
+    ghost use Rattle.gr_route.specs.WorkRule.{after_join, spent_view};
+
+    ghost both = { after_join };
+
+    ghost spent = { spent_view };
+}
+
+/// Work is pushed, or refused.
+pub struct PushStep;
+
+impl<A: Allocator> Outcome<Work<A>, WorkView<A>> for PushStep {
+    ghost use Rattle.gr_route.specs.WorkRule.{Pushes};
+
+    ghost then = { Pushes };
+}
+
+impl<A: Allocator> Lesson<Work<A>, WorkView<A>> for PushStep {
+    ghost use Rattle.gr_route.specs.WorkRule.{GiverLearns};
+
+    ghost fact = { GiverLearns };
+}
+
+/// Work is popped, or there is none.
+pub struct PopStep;
+
+impl<A: Allocator> Outcome<Work<A>, WorkView<A>> for PopStep {
+    ghost use Rattle.gr_route.specs.WorkRule.{Pops};
+
+    ghost then = { Pops };
+}
+
+impl<A: Allocator> Lesson<Work<A>, WorkView<A>> for PopStep {
+    ghost use Rattle.gr_route.specs.WorkRule.{WorkerLearns};
+
+    ghost fact = { WorkerLearns };
+}

@@ -1,0 +1,27 @@
+-- What a sender keeps over a push.
+use Rattle.std.proofs.Common.{◌≡◌, ℕ, ◌+◌, ◌<◌, Bool, List, [], ◌∷◌, ◌++◌, length, refl, sym, ◌∙◌, subst, arith, length-append, IsFalse}
+use Rattle.gr_model.specs.declared.event.Event.{Event}
+use Rattle.gr_model.specs.Events.{is_end}
+use Rattle.gr_model.specs.Streams.{is_complete}
+use Rattle.gr_route.specs.IntakeSeats.{Seat}
+use Rattle.gr_route.specs.Rooms.{Room}
+use Rattle.gr_sender.specs.Senders.{IsSender}
+
+is_complete-push : (xs : List Event) (e : Event) → is_complete (xs ++ e ∷ []) ≡ is_end e
+is_complete-push [] e = refl
+is_complete-push (x ∷ []) e = refl
+is_complete-push (x ∷ y ∷ ys) e = is_complete-push (y ∷ ys) e
+
+pub after_push : (queue : Room) (seat seat' : Seat) (group items records sent : ℕ) (closed closed' : Bool) (e : Event) → IsSender queue seat group items records sent closed
+    → closed' ≡ is_end e → (IsFalse (is_end e) → length seat.pushed + 1 < records) → seat' ≡ record seat { pushed = seat.pushed ++ e ∷ [] } → IsSender queue seat' group items records (sent + 1) closed'
+after_push queue seat seat' group items records sent closed closed' e s mark room now =
+    subst (λ (k : Seat). IsSender queue k group items records (sent + 1) closed') (sym now) record {
+      same_queue = s.same_queue;
+      same_group = s.same_group;
+      same_items = s.same_items;
+      some = s.some;
+      count = let n = s.count in omega (arith, length-append seat.pushed (e ∷ []));
+      mark = mark ∙ sym (is_complete-push seat.pushed e);
+      room = λ goes_on. let n = s.count in let left = room (sym mark ∙ goes_on) in omega arith;
+      limit = s.limit;
+    }

@@ -1,0 +1,59 @@
+-- When a sender refuses an event or an end.
+-- Source: docs/QUEUES.md, "Senders".
+use Rattle.std.specs.Prelude.{◌≡◌, ◌<◌, ◌≤◌, ◌+◌, ℕ, Bool, true, false, None, length, IsTrue, IsFalse}
+use Rattle.crossbeam_queue.specs.Fifo.{Held}
+use Rattle.gr_model.specs.declared.event.Event.{Event}
+use Rattle.gr_model.specs.declared.event.Kind.TheVariants.{End}
+use Rattle.gr_model.specs.declared.event.Space.TheVariants.{Global}
+use Rattle.gr_model.specs.Events.{IsEventOk, is_end}
+use Rattle.gr_model.specs.Streams.{is_complete}
+use Rattle.gr_route.specs.Fronts.{EndsWith}
+use Rattle.gr_route.specs.IntakeRule.{events_of}
+use Rattle.gr_sender.specs.declared.sender.SendError.{SendError}
+use Rattle.gr_sender.specs.declared.sender.SendError.TheVariants.{Closed, UnknownItem, BadEvent, StreamFull, Full}
+use Rattle.gr_sender.specs.Senders.{Sending}
+
+-- the end of a stream, with the mark that it was cut
+abbrev pub end_of : Bool → Event
+end_of cut = record { item = 0; kind = End cut; space = Global; word = 0; name = None }
+
+-- a record that a group of so many items may have, and no end
+abbrev pub IsSendable : Event → ℕ → Type 0
+IsSendable e items = IsFalse (is_end e) × IsEventOk e items
+
+-- the sender is not closed, the event is one of its group, and behind it there is room for the end
+pub record MaySend (s : Sending) (e : Event) : Type 0 where
+  pub unended : IsFalse (is_complete s.sent)
+  pub sendable : IsSendable e s.items
+  pub room : length s.sent + 1 < s.records
+
+-- at some moment of the call the queue was full, and of the group it held the last of what was sent
+abbrev pub WasFull : Sending → Type 0
+WasFull s = Held s.queue.places (λ items. EndsWith s.sent (events_of s.group items))
+
+-- why an event was refused: each cause stands where none before it does
+abbrev pub IsRefusal : Sending → Event → SendError → Type 0
+IsRefusal s e Closed = IsTrue (is_complete s.sent)
+IsRefusal s e UnknownItem = IsFalse (is_complete s.sent) × (s.items ≤ e.item)
+IsRefusal s e BadEvent = IsFalse (is_complete s.sent) × (e.item < s.items) × ¬ IsSendable e s.items
+IsRefusal s e StreamFull = IsFalse (is_complete s.sent) × IsSendable e s.items × (s.records ≤ length s.sent + 1)
+IsRefusal s e (Full x) = (x ≡ e) × MaySend s e × WasFull s
+
+-- why an end was refused
+abbrev pub IsRefusalOfEnd : Sending → Bool → SendError → Type 0
+IsRefusalOfEnd s cut Closed = IsTrue (is_complete s.sent)
+IsRefusalOfEnd s cut UnknownItem = ⊥
+IsRefusalOfEnd s cut BadEvent = ⊥
+IsRefusalOfEnd s cut StreamFull = ⊥
+IsRefusalOfEnd s cut (Full x) = (x ≡ end_of cut) × IsFalse (is_complete s.sent) × WasFull s
+
+abbrev pub is_full : SendError → Bool
+is_full Closed = false
+is_full UnknownItem = false
+is_full BadEvent = false
+is_full StreamFull = false
+is_full (Full x) = true
+
+-- why a record that may come next was not pushed
+abbrev pub IsFull : Sending → Event → SendError → Type 0
+IsFull s e error = (error ≡ Full e) × WasFull s

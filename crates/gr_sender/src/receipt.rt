@@ -1,0 +1,53 @@
+//! What is left of a sender that was closed.
+
+ghost use Rattle.std.specs.Prelude.{◌≡◌, IsTrue};
+ghost use Rattle.gr_model.specs.Streams.{is_complete};
+
+use gr_route::intake::IntakeSeat;
+use std::marker::Model;
+
+/// The seat of a sender that was closed. Contracts see it as that seat, whose list is all that was sent, its end last.
+#[derive(Drop)]
+pub struct Receipt {
+    seat: IntakeSeat,
+    group: u16,
+}
+
+impl Model for Receipt {
+    ghost use Rattle.std.specs.Prelude.{◌≡◌, IsTrue};
+    ghost use Rattle.gr_model.specs.Streams.{is_complete};
+    ghost use Rattle.gr_route.specs.IntakeSeats.{Seat};
+
+    ghost Value = { Seat };
+
+    ghost view = { λ r. r.seat };
+
+    ghost invariant = { λ r. (r.seat.group ≡ r.group) × IsTrue (is_complete r.seat.pushed) };
+}
+
+impl Receipt {
+    /// The receipt of a group's seat that pushed the end.
+    pub(crate) fn of(group: u16, seat: IntakeSeat) -> Receipt
+        requires group { seat.group ≡ group }
+        requires ended { IsTrue (is_complete seat.pushed) }
+        ensures { result ≡ seat }
+    {
+        Receipt { seat, group }
+    }
+
+    /// The work-group whose stream was sent.
+    pub fn group(&self) -> u16
+        ensures { result ≡ self.now.group }
+    {
+        self.group
+    }
+
+    /// The seat, to be joined back into the taker's.
+    pub fn into_seat(self) -> IntakeSeat
+        ensures seat { result ≡ self }
+        ensures ended { IsTrue (is_complete result.pushed) }
+    {
+        let Receipt { seat, group: _ } = self;
+        seat
+    }
+}

@@ -1,0 +1,254 @@
+//! The sending end of one work-group's stream.
+//!
+//! Invariant: the seat is the group's, in the sender's queue; the count is the length of what it pushed, and the sender is
+//! closed exactly where that ends in an end; one of the records that the stream may have is kept for the end.
+
+ghost use Rattle.std.specs.Prelude.{◌≡◌, ◌+◌, ◌<◌, ◌≤◌, [], ◌∷◌, ◌++◌, length, IfOk, IfErr, OnOk, OnErr, MatchOption, IsTrue, IsFalse};
+ghost use Rattle.std.specs.Arc.{arc_value};
+ghost use Rattle.gr_model.specs.Events.{IsEventOk, is_end};
+ghost use Rattle.gr_model.specs.Streams.{is_complete};
+ghost use Rattle.gr_sender.specs.Refusals.{IsFull, IsRefusal, IsRefusalOfEnd, MaySend, end_of, is_full};
+
+use crate::receipt::Receipt;
+use crossbeam_utils::Backoff;
+use gr_model::event::{Event, Kind, Space, event_ok};
+use gr_model::limits::MOST_RECORDS;
+use gr_route::intake::{Intake, IntakeSeat};
+use std::alloc::{Allocator, Global};
+use std::marker::Model;
+use std::sync::{Arc, Wait};
+use thiserror::Error;
+
+/// Why an event or an end was not sent: the first cause that is there.
+#[derive(Clone, Copy, Debug, PartialEq, Eq, Error)]
+pub enum SendError {
+    #[error("the sender is closed")]
+    Closed,
+    #[error("the work-group has no such work-item")]
+    UnknownItem,
+    /// It is an end, or no record that the work-group may have.
+    #[error("the work-group may not have this event")]
+    BadEvent,
+    /// The stream has room for its end alone.
+    #[error("the stream has room for its end alone")]
+    StreamFull,
+    /// The queue was full at some moment of the call, and this is what was not pushed.
+    #[error("the queue is full")]
+    Full(Event),
+}
+
+/// The sending end of one work-group's stream. Contracts see its queue, its group and items, the number of records that
+/// the stream may have, and what it has sent.
+#[derive(Drop)]
+pub struct Sender<A: Allocator = Global> {
+    queue: Arc<Intake<A>, A>,
+    seat: IntakeSeat,
+    group: u16,
+    items: u16,
+    records: u32,
+    sent: u32,
+    closed: bool,
+}
+
+impl<A: Allocator> Model for Sender<A> {
+    ghost use Rattle.std.specs.Arc.{arc_value};
+    ghost use Rattle.gr_sender.specs.Senders.{IsSender, Sending};
+
+    ghost Value = { Sending };
+
+    ghost view = { λ s. record { queue = arc_value s.queue; group = s.group; items = s.items; records = s.records; sent = s.seat.pushed } };
+
+    ghost invariant = { λ s. IsSender (arc_value s.queue) s.seat s.group s.items s.records s.sent s.closed };
+}
+
+impl<A: Allocator> Sender<A> {
+    /// An open sender of a work-group with so many items, over the group's seat, which has pushed nothing yet. The stream
+    /// may have so many records, its end included.
+    pub fn new(
+        group: u16,
+        items: u16,
+        records: u32,
+        queue: Arc<Intake<A>, A>,
+        seat: IntakeSeat,
+    ) -> Sender<A>
+        requires seat { seat ≡ record { queue = (arc_value queue).queue; group = group; items = items; pushed = [] } }
+        requires records { (0 < records) × (records ≤ MOST_RECORDS) }
+        ensures { result ≡ record { queue = arc_value queue; group = group; items = items; records = records; sent = [] } }
+    {
+        // A seat's group has work-items, so an end may stand at the first.
+        let _ = seat.items();
+        Sender {
+            queue,
+            seat,
+            group,
+            items,
+            records,
+            sent: 0,
+            closed: false,
+        }
+    }
+
+    /// The work-group whose stream it sends.
+    pub fn group(&self) -> u16
+        ensures { result ≡ self.now.group }
+    {
+        self.group
+    }
+
+    /// How many records it has sent, the end included.
+    pub fn sent(&self) -> u32
+        ensures { result ≡ length self.now.sent }
+    {
+        self.sent
+    }
+
+    /// Whether it has sent the end.
+    pub fn is_closed(&self) -> bool
+        ensures { result ≡ is_complete self.now.sent }
+    {
+        self.closed
+    }
+
+    /// Pushes the record that comes next: an event with room for the end behind it, or the end.
+    fn push<R: Wait>(&mut self, rt: &R, event: Event) -> Result<(), SendError>
+        requires unended { IsFalse (is_complete self.old.sent) }
+        requires good { IsEventOk event self.old.items }
+        requires room { IsFalse (is_end event) → length self.old.sent + 1 < self.old.records }
+        ensures ok { OnOk result (self.new ≡ record self.old { sent = self.old.sent ++ event ∷ [] }) }
+        ensures unchanged { OnErr result (self.new ≡ self.old) }
+        ensures full { IfErr result (λ error. IsFull self.old event error) }
+    {
+        match self.queue.push(rt, &mut self.seat, event) {
+            Ok(()) => {
+                self.sent += 1;
+                self.closed = event.kind.is_end();
+                Ok(())
+            }
+            Err(back) => Err(SendError::Full(back.0)),
+        }
+    }
+
+    /// Why an event is refused before the queue is asked: the first cause that is there.
+    fn refusal(&self, event: &Event) -> Option<SendError>
+        ensures { MatchOption result (MaySend self.now event.now) (IsRefusal self.now event.now) }
+    {
+        if self.closed {
+            return Some(SendError::Closed);
+        }
+        if event.item >= self.items {
+            return Some(SendError::UnknownItem);
+        }
+        if event.kind.is_end() || !event_ok(event, self.items) {
+            return Some(SendError::BadEvent);
+        }
+        if self.sent + 1 >= self.records {
+            return Some(SendError::StreamFull);
+        }
+        None
+    }
+
+    /// Sends an event.
+    ///
+    /// # Errors
+    /// In this order: `Closed`; `UnknownItem`; `BadEvent` for an end, too; `StreamFull` where only the end has room left;
+    /// `Full`, only where the queue was full at some moment of the call. Each leaves the sender as it was.
+    pub fn send<R: Wait>(&mut self, rt: &R, event: Event) -> Result<(), SendError>
+        ensures ok { OnOk result (self.new ≡ record self.old { sent = self.old.sent ++ event ∷ [] }) }
+        ensures accepted { OnOk result (MaySend self.old event) }
+        ensures unchanged { OnErr result (self.new ≡ self.old) }
+        ensures refused { IfErr result (λ error. IsRefusal self.old event error) }
+    {
+        match self.refusal(&event) {
+            Some(error) => Err(error),
+            None => self.push(rt, event),
+        }
+    }
+
+    /// Sends the end of the stream, with the mark that says whether the stream was cut.
+    ///
+    /// # Errors
+    /// `Closed`; `Full` with the end, only where the queue was full at some moment of the call. Each leaves the sender as
+    /// it was.
+    pub fn close<R: Wait>(&mut self, rt: &R, cut: bool) -> Result<(), SendError>
+        ensures ok { OnOk result (self.new ≡ record self.old { sent = self.old.sent ++ end_of cut ∷ [] }) }
+        ensures accepted { OnOk result (IsFalse (is_complete self.old.sent)) }
+        ensures unchanged { OnErr result (self.new ≡ self.old) }
+        ensures refused { IfErr result (λ error. IsRefusalOfEnd self.old cut error) }
+    {
+        if self.closed {
+            return Err(SendError::Closed);
+        }
+        let end = Event {
+            item: 0,
+            kind: Kind::End { cut },
+            space: Space::Global,
+            word: 0,
+            name: None,
+        };
+        self.push(rt, end)
+    }
+
+    /// Sends an event, and while the queue is full backs off and tries again.
+    ///
+    /// # Errors
+    /// As `send`, but never `Full`.
+    pub fn send_wait<R: Wait>(&mut self, rt: &R, event: Event) -> Result<(), SendError>
+        ensures ok { OnOk result (self.new ≡ record self.old { sent = self.old.sent ++ event ∷ [] }) }
+        ensures accepted { OnOk result (MaySend self.old event) }
+        ensures unchanged { OnErr result (self.new ≡ self.old) }
+        ensures refused { IfErr result (λ error. IsRefusal self.old event error) }
+        ensures never_full { IfErr result (λ error. IsFalse (is_full error)) }
+    {
+        let backoff = Backoff::new();
+        for _ in rt.forever() {
+            match self.send(rt, event) {
+                Err(SendError::Full(_)) => backoff.snooze(),
+                answer => return answer,
+            }
+        }
+        unreachable!()
+    }
+
+    /// Sends the end of the stream, and while the queue is full backs off and tries again.
+    ///
+    /// # Errors
+    /// As `close`, but never `Full`.
+    pub fn close_wait<R: Wait>(&mut self, rt: &R, cut: bool) -> Result<(), SendError>
+        ensures ok { OnOk result (self.new ≡ record self.old { sent = self.old.sent ++ end_of cut ∷ [] }) }
+        ensures accepted { OnOk result (IsFalse (is_complete self.old.sent)) }
+        ensures unchanged { OnErr result (self.new ≡ self.old) }
+        ensures refused { IfErr result (λ error. IsRefusalOfEnd self.old cut error) }
+        ensures never_full { IfErr result (λ error. IsFalse (is_full error)) }
+    {
+        let backoff = Backoff::new();
+        for _ in rt.forever() {
+            match self.close(rt, cut) {
+                Err(SendError::Full(_)) => backoff.snooze(),
+                answer => return answer,
+            }
+        }
+        unreachable!()
+    }
+
+    /// The receipt of what was sent, or the sender back where it is not closed.
+    pub fn into_receipt(self) -> Result<Receipt, Sender<A>>
+        ensures receipt { IfOk result (λ receipt. receipt ≡ record { queue = self.queue.queue; group = self.group; items = self.items; pushed = self.sent }) }
+        ensures closed { OnOk result (IsTrue (is_complete self.sent)) }
+        ensures back { IfErr result (λ sender. sender ≡ self) }
+        ensures not_closed { OnErr result (IsFalse (is_complete self.sent)) }
+    {
+        if !self.closed {
+            return Err(self);
+        }
+        let Sender {
+            queue: _,
+            seat,
+            group,
+            items: _,
+            records: _,
+            sent: _,
+            closed: _,
+        } = self;
+        Ok(Receipt::of(group, seat))
+    }
+}

@@ -1,0 +1,175 @@
+-- Where no acquire is unmatched in complete lists, every event is grounded.
+-- Of each item the first event that is not would be a barrier of a convergent instance. One with the least number would have met: each other item of its group stands at a barrier of the same instance, or has passed what is before it.
+use Rattle.std.proofs.Common.{◌≡◌, ◌⊎◌, ℕ, zero, suc, ◌<◌, ◌≤◌, List, length, refl, sym, ap, ◌∙◌, subst, ⊎_elim, arith, eq-or-lt_of_le}
+use Rattle.std.proofs.lemmas.Bool.{cases_lt}
+use Rattle.std.proofs.lemmas.Option.{slice_get_within}
+use Rattle.gr_model.specs.declared.event.EventId.{EventId}
+use Rattle.gr_model.specs.declared.event.ItemId.{ItemId}
+use Rattle.gr_model.specs.declared.event.Name.{Name}
+use Rattle.gr_model.specs.Barriers.{IsConvergent, IsDivergent, StandsIn, Together}
+use Rattle.gr_model.specs.Instances.{Mark}
+use Rattle.gr_model.specs.LawfulOrders.{IsIn}
+use Rattle.gr_model.specs.Names.{HasName}
+use Rattle.gr_model.specs.Reports.{IsUnmatched}
+use Rattle.gr_model.specs.Streams.{AreComplete, IsEvent, Streams, trace_of}
+use Rattle.gr_model.specs.Waits.{CanGo, IsGrounded, IsPrevious, Stage, Waits, for_arrival, for_meeting, for_previous, for_release}
+use Rattle.gr_model.proofs.Descent.{below_in_item, stage_descends}
+use Rattle.gr_model.proofs.GrowthLaws.{not_both}
+use Rattle.gr_steps.proofs.BarrierPlaces.{barrier_there, moved, same_instance, standing, stands_before, stands_same}
+use Rattle.gr_steps.proofs.DecidedWaits.{settled}
+use Rattle.gr_steps.proofs.Deciding.{IsLeastWithout, all_below, by_cases, in_dec}
+use Rattle.gr_steps.proofs.Orders.{number_before, there_is}
+use Rattle.gr_steps.proofs.Reached.{IsClosed, reached, stage_in}
+
+-- the places of an item
+abbrev event_of : ItemId → ℕ → EventId
+event_of i n = record { at = i; index = n }
+
+-- with an event, the earlier ones of its item are there
+earlier_event : (s : Streams) (e : EventId) → IsEvent s e → (n : ℕ) → n < e.index → IsEvent s (event_of e.at n)
+earlier_event s e there n lt =
+    let within : e.index < length (trace_of s e.at) = slice_get_within (trace_of s e.at) e.index there.0 there.1 in
+    there_is (trace_of s e.at) n (omega arith)
+
+-- an event stands in a convergent instance
+record StandsConvergent (s : Streams) (e : EventId) : Type 0 where
+  group : ℕ
+  instance : ℕ
+  mark : Mark
+  stands : StandsIn s e group instance
+  convergent : IsConvergent s group instance mark
+
+module _ (s : Streams) (complete : AreComplete s) (matched : (e : EventId) → ¬ IsUnmatched s e) (n : ℕ) (all : List EventId) (is : IsClosed s n all) where
+  -- all before an event in its item are grounded
+  abbrev IsPassed : EventId → Type 0
+  IsPassed e = (i : ℕ) → i < e.index → IsIn all (event_of e.at i)
+
+  grounded : (e : EventId) → IsIn all e → IsGrounded s e
+  grounded e h = (n, is.stage e h)
+
+  -- an event that is not grounded, though all before it are, names nothing
+  no_name : (e : EventId) → IsEvent s e → IsPassed e → (IsIn all e → ⊥) → (m : Name) → HasName s e m → ⊥
+  no_name e there passed away m named =
+      matched e (record {
+        event = there;
+        name = m;
+        named = named;
+        held = λ g. away (stage_in s n all is g.0 e g.1);
+        before = λ d item lt. grounded d (subst (λ i. IsIn all (event_of i d.index)) (sym item) (passed d.index lt));
+      })
+
+  -- the event before one is among those before it
+  previous_in : (e d : EventId) → IsPassed e → IsPrevious d e → IsIn all d
+  previous_in e d passed p = subst (λ i. IsIn all (event_of i d.index)) (sym p.item) (passed d.index (omega (arith, p.next)))
+
+  -- an event is grounded where all before it are, and, unless it names something, what its instance has it wait for
+  comes : (e : EventId) → IsEvent s e → IsPassed e → ((a : Mark) (b d : EventId) → Together s a e b → IsPrevious d b → IsIn all d) → ((a : Mark) (c d : EventId) → IsPrevious c e → Together s a c d → IsIn all d) → IsIn all e
+  comes e there passed arrival meeting = by_cases (in_dec all e) (λ h. h) (λ away. is.closed e there (go away) (waits away))
+    where
+      go : (IsIn all e → ⊥) → CanGo s e
+      go away = record { release = λ m named. absurd (no_name e there passed away m named); instance = settled s complete e }
+
+      waits : (IsIn all e → ⊥) → (d : EventId) → Waits s e d → IsIn all d
+      waits away d (for_previous p) = previous_in e d passed p
+      waits away d (for_release m) = absurd (no_name e there passed away m.name m.by.named)
+      waits away d (for_arrival a b met p) = arrival a b d met p
+      waits away d (for_meeting a c p met) = meeting a c d p met
+
+  -- the barriers of an instance are together
+  joined : (a m : Mark) (c d b : EventId) → Together s a c d → Together s m d b → Together s a c b
+  joined a m c d b first second =
+      let same = same_instance s d second.group second.instance first.group first.instance second.first first.second in
+      record {
+        group = first.group;
+        instance = first.instance;
+        convergent = first.convergent;
+        first = first.first;
+        second = moved s b second.group second.instance first.group first.instance same.0 same.1 second.second;
+      }
+
+  -- with a barrier that is grounded, each that it meets is
+  met_in : (k : ℕ) (a : Mark) (c d : EventId) → Stage s k c → Together s a c d → IsIn all d
+  met_in zero a c d h met = absurd h
+  met_in (suc k) a c d h met =
+      comes d (let there = barrier_there s d met.group met.instance met.second in (there.0, there.1)) passed
+      (λ m b x other p. stage_in s n all is k x (h.2 x (for_arrival a b (joined a m c d b met other) p)))
+      (λ m b x p other. met_in k m b x (h.2 b (for_arrival a d met p)) other)
+    where
+      passed : IsPassed d
+      passed i lt =
+          let m = number_before d.index (omega (arith, lt)) in
+          let p : EventId = event_of d.at m.0 in
+          let stage = h.2 p (for_arrival a d met (record { item = refl; next = m.1 })) in
+          ⊎_elim
+          (λ (same : i ≡ m.0). stage_in s n all is k (event_of d.at i) (subst (λ j. Stage s k (event_of d.at j)) (sym same) stage))
+          (λ (less : i < m.0). let lower = below_in_item s (Stage s) (stage_descends s) k (event_of d.at i) p stage refl less in stage_in s n all is lower.0 (event_of d.at i) lower.2)
+          (eq-or-lt_of_le (let le : i ≤ m.0 = omega (arith, m.1, lt) in le))
+
+  -- so an event is grounded where all before it are, and all before the barriers that it meets
+  comes_with : (e : EventId) → IsEvent s e → IsPassed e → ((a : Mark) (b d : EventId) → Together s a e b → IsPrevious d b → IsIn all d) → IsIn all e
+  comes_with e there passed arrival = comes e there passed arrival (λ a c d p met. met_in n a c d (is.stage c (previous_in e c passed p)) met)
+
+  -- the first event of an item that is not grounded is a barrier of a convergent instance
+  first_held : (e : EventId) → IsEvent s e → IsPassed e → (IsIn all e → ⊥) → StandsConvergent s e
+  first_held e there passed away =
+      by_cases (standing s e)
+      (λ h. ⊎_elim
+      (λ c. record { group = h.0; instance = h.1; mark = c.0; stands = h.2; convergent = c.1 })
+      (λ d. absurd (away (comes_with e there passed (λ a b x met p. absurd (apart h.0 h.1 h.2 d a b met)))))
+      (settled s complete e h.0 h.1 h.2))
+      (λ none. absurd (away (comes_with e there passed (λ a b d met p. absurd (none (met.group, met.instance, met.first))))))
+    where
+      apart : (g k : ℕ) → StandsIn s e g k → IsDivergent s g k → (a : Mark) (b : EventId) → Together s a e b → ⊥
+      apart g k stands d a b met =
+          let same = same_instance s e g k met.group met.instance stands met.first in
+          not_both s met.group met.instance a met.convergent (subst (λ l. IsDivergent s met.group l) same.1 (subst (λ h. IsDivergent s h k) same.0 d))
+
+  -- up to an event all of its item are grounded, or there is a first that is not
+  search : (e : EventId) → IsPassed e ⊎ ((i : ℕ) × IsLeastWithout (λ j. IsIn all (event_of e.at j)) e.index i)
+  search e = all_below (λ j. IsIn all (event_of e.at j)) e.index (λ i lt. in_dec all (event_of e.at i))
+
+  -- of two barriers of an item the earlier is of an earlier instance
+  earlier_instance : (b f : EventId) (g k h l : ℕ) → b.at ≡ f.at → StandsIn s b g k → StandsIn s f h l → f.index < b.index → l < k
+  earlier_instance b f g k h l at hb hf lt =
+      ⊎_elim (λ (less : l < k). less) (λ (ge : k ≤ l). ⊎_elim (λ (same : k ≡ l). absurd (one same)) (λ (over : k < l). let up = stands_before s b f g k l hb there at over in absurd (omega (arith, up, lt))) (eq-or-lt_of_le ge)) (cases_lt l k)
+    where
+      there : StandsIn s f g l
+      there = moved s f h l g l (sym hf.group ∙ (ap (λ i. i.group) (sym at) ∙ hb.group)) refl hf
+
+      one : k ≡ l → ⊥
+      one same =
+          let event = stands_same s b f g k hb (moved s f g l g k refl (sym same) there) (ap (λ i. i.item) at) in
+          let index : b.index ≡ f.index = ap (λ e. e.index) event in
+          omega (arith, lt, index)
+
+  -- no item's first event that is not grounded stands in a convergent instance, by induction on the number of the instance: each item of the group has passed what is before its barrier, or is held at one of an earlier instance
+  none_held : (bound : ℕ) (e : EventId) (at : StandsConvergent s e) → at.instance < bound → IsPassed e → (IsIn all e → ⊥) → ⊥
+  none_held zero e at lt passed away = omega arith
+  none_held (suc bound) e at lt passed away =
+      away (comes_with e (let there = barrier_there s e at.group at.instance at.stands in (there.0, there.1)) passed (λ m b d met p.
+      let here = same_instance s e met.group met.instance at.group at.instance met.first at.stands in
+      let other = moved s b met.group met.instance at.group at.instance here.0 here.1 met.second in
+      let there = barrier_there s b at.group at.instance other in
+      ⊎_elim
+      (λ (passed : IsPassed b). previous_in b d passed p)
+      (λ (h : (i : ℕ) × IsLeastWithout (λ j. IsIn all (event_of b.at j)) b.index i).
+      let f : EventId = event_of b.at h.0 in
+      let held = first_held f (earlier_event s b (there.0, there.1) h.0 h.1.0) h.1.2 h.1.1 in
+      let earlier = earlier_instance b f at.group at.instance held.group held.instance refl other held.stands h.1.0 in
+      absurd (none_held bound f held (omega (arith, earlier, lt)) h.1.2 h.1.1))
+      (search b)))
+
+  every_event : (e : EventId) → IsEvent s e → IsIn all e
+  every_event e there =
+      ⊎_elim
+      (λ (passed : IsPassed e). by_cases (in_dec all e) (λ h. h) (λ away. absurd (no_first e there passed away)))
+      (λ (h : (i : ℕ) × IsLeastWithout (λ j. IsIn all (event_of e.at j)) e.index i). absurd (no_first (event_of e.at h.0) (earlier_event s e there h.0 h.1.0) h.1.2 h.1.1))
+      (search e)
+    where
+      no_first : (f : EventId) → IsEvent s f → IsPassed f → (IsIn all f → ⊥) → ⊥
+      no_first f event passed away = let held = first_held f event passed away in none_held (suc held.instance) f held (omega arith) passed away
+
+pub all_is_grounded : (s : Streams) → AreComplete s → ((e : EventId) → ¬ IsUnmatched s e) → (e : EventId) → IsEvent s e → IsGrounded s e
+all_is_grounded s complete matched e there =
+    let all = reached s complete in
+    (all.0, all.2.stage e (every_event s complete matched all.0 all.1 all.2 e there))

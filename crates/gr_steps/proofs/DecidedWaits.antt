@@ -1,0 +1,147 @@
+-- In complete lists every instance is settled, and it can be decided whether an event has its releases and whether all that it waits for is of a set.
+use Rattle.std.proofs.Common.{◌≡◌, ◌⊎◌, ℕ, suc, ◌<◌, ◌≤◌, length, Some, None, refl, sym, ap, ◌∙◌, subst, inl, inr, ⊎_elim, arith}
+use Rattle.std.proofs.lemmas.Bool.{cases_lt}
+use Rattle.std.proofs.lemmas.List.{get_or_past}
+use Rattle.gr_model.specs.declared.event.EventId.{EventId}
+use Rattle.gr_model.specs.declared.event.ItemId.{ItemId}
+use Rattle.gr_model.specs.declared.event.Name.{Name}
+use Rattle.gr_model.specs.Barriers.{IsConvergent, IsDivergent, StandsIn, Together, arrivals, is_barrier, mark_of}
+use Rattle.gr_model.specs.Instances.{Mark}
+use Rattle.gr_model.specs.Names.{HasItsReleases, HasName, Matches, MatchesBy, name_at, release_place}
+use Rattle.gr_model.specs.Streams.{AreComplete, Streams, place_of, size_of, trace_of, word_at}
+use Rattle.gr_model.specs.Waits.{IsPrevious, Waits, for_arrival, for_meeting, for_previous, for_release}
+use Rattle.gr_model.proofs.GrowthLaws.{not_both}
+use Rattle.gr_model.proofs.Places.{place-filter_map}
+use Rattle.gr_steps.proofs.BarrierPlaces.{barrier_of, moved, same_instance, standing, stands_same}
+use Rattle.gr_steps.proofs.Deciding.{IsLeastWithout, all_below, dec_map, mark_dec, option_dec, word_dec}
+use Rattle.gr_steps.proofs.EventRecords.{one_release}
+use Rattle.gr_steps.proofs.Orders.{number_before, same_event}
+
+-- ---- instances
+
+-- a group with items is one of the shape
+group_of_items : (s : Streams) (g i : ℕ) → i < size_of s g → g < length s.sizes
+group_of_items s g i within =
+    ⊎_elim (λ lt. lt) (λ (past : length s.sizes ≤ g). let none : size_of s g ≡ 0 = get_or_past s.sizes g 0 past in absurd (omega (arith, within, none))) (cases_lt g (length s.sizes))
+
+-- an instance of a complete list is convergent or divergent, where an item has come to it
+pub settled : (s : Streams) → AreComplete s → (e : EventId) (g k : ℕ) → StandsIn s e g k → ((a : Mark) × IsConvergent s g k a) ⊎ IsDivergent s g k
+settled s complete e g k stands =
+    ⊎_elim
+    (λ all. inl (come.0, (omega (arith, stands.item), all)))
+    (λ (other : (i : ℕ) × IsLeastWithout (λ i. arrivals s g k i ≡ Some come.0) (size_of s g) i). inr (differs other.0 other.1.0 other.1.1))
+    (all_below (λ i. arrivals s g k i ≡ Some come.0) (size_of s g) (λ i lt. option_dec mark_dec (arrivals s g k i) (Some come.0)))
+  where
+    come : (a : Mark) × (arrivals s g k e.at.item ≡ Some a)
+    come =
+        let here : ItemId = record { group = g; item = e.at.item } in
+        let same : e.at ≡ here = λ i. record { group = stands.group i; item = e.at.item } in
+        place-filter_map mark_of 0 (trace_of s here) k e.index (ap (λ i. place_of s is_barrier i k) (sym same) ∙ stands.place)
+
+    differs : (i : ℕ) → i < size_of s g → (arrivals s g k i ≡ Some come.0 → ⊥) → IsDivergent s g k
+    differs i lt other =
+        elim (arrivals s g k i) as (λ o. (arrivals s g k i ≡ o) → IsDivergent s g k) [
+          | None ↦ λ none. inr (complete g (group_of_items s g i lt), (e.at.item, i, come.0, (stands.item, come.1), lt, none))
+          | Some b ↦ λ at. inl (e.at.item, i, come.0, b, (stands.item, come.1), (lt, at), λ same. other (at ∙ ap Some (sym same)))
+        ] refl
+
+-- ---- releases
+
+pub releases_dec : (s : Streams) (e : EventId) → Dec (HasItsReleases s e)
+releases_dec s e =
+    elim (name_at s e) as (λ o. (name_at s e ≡ o) → Dec (HasItsReleases s e)) [
+      | None ↦ λ none. yes (λ n named. absurd (let c : None ≡ Some n = sym none ∙ named in cc))
+      | Some n ↦ λ named. elim (release_place s n) as (λ o. (release_place s n ≡ o) → Dec (HasItsReleases s e)) [
+        | None ↦ λ absent. no (λ all. let r = all n named in let c : None ≡ Some r.0.index = sym absent ∙ r.1.place in cc)
+        | Some k ↦ λ at. dec_map (has n named k at) (had n named k at) (option_dec word_dec (word_at s e) (word_at s (record { at = n.at; index = k })))
+      ] refl
+    ] refl
+  where
+    has : (n : Name) → HasName s e n → (k : ℕ) → release_place s n ≡ Some k → word_at s e ≡ word_at s (record { at = n.at; index = k }) → HasItsReleases s e
+    has n named k at word m other =
+        let same : n ≡ m = let c : Some n ≡ Some m = sym named ∙ other in cc in
+        subst (λ x. (d : EventId) × MatchesBy s x e d) same (record { at = n.at; index = k }, record { named = named; item = refl; place = at; word = word })
+
+    had : (n : Name) → HasName s e n → (k : ℕ) → release_place s n ≡ Some k → HasItsReleases s e → word_at s e ≡ word_at s (record { at = n.at; index = k })
+    had n named k at all =
+        let r = all n named in
+        let index : r.0.index ≡ k = let c : Some r.0.index ≡ Some k = sym r.1.place ∙ at in cc in
+        r.1.word ∙ ap (word_at s) (same_event r.0 (record { at = n.at; index = k }) r.1.item index)
+
+-- ---- what is waited for
+
+-- the event before another, if there is one, has what can be decided of each event
+pub previous_dec : (Q : EventId → Type 0) → ((d : EventId) → Dec (Q d)) → (e : EventId) → Dec ((d : EventId) → IsPrevious d e → Q d)
+previous_dec Q decide e = ⊎_elim (λ (some : 0 < e.index). before (number_before e.index some)) (λ (none : e.index ≤ 0). yes (λ d p. absurd (omega (arith, p.next, none)))) (cases_lt 0 e.index)
+  where
+    before : (m : ℕ) × (suc m ≡ e.index) → Dec ((d : EventId) → IsPrevious d e → Q d)
+    before n =
+        let d : EventId = record { at = e.at; index = n.0 } in
+        dec_map
+        (λ q c p. subst Q (same_event d c (sym p.item) (let same : n.0 ≡ c.index = omega (arith, n.1, p.next) in same)) q)
+        (λ all. all d (record { item = refl; next = n.1 }))
+        (decide d)
+
+-- an item's barrier of an instance is of a set
+abbrev IsOfItem : Streams → (EventId → Type 0) → ℕ → ℕ → ℕ → Type 0
+IsOfItem s Q g k i = (b : EventId) → b.at.item ≡ i → StandsIn s b g k → Q b
+
+module _ (s : Streams) (complete : AreComplete s) where
+  -- each barrier of an event's convergent instance has what can be decided of each event
+  instance_dec : (Q : EventId → Type 0) → ((b : EventId) → Dec (Q b)) → (c : EventId) → Dec ((a : Mark) (b : EventId) → Together s a c b → Q b)
+  instance_dec Q decide c =
+      elim (standing s c) as (λ _. Dec ((a : Mark) (b : EventId) → Together s a c b → Q b)) [
+        | no h ↦ yes (λ a b met. absurd (h (met.group, met.instance, met.first)))
+        | yes h ↦ ⊎_elim (λ m. convergent h.0 h.1 h.2 m.0 m.1) (λ d. yes (λ a b met. absurd (divergent h.0 h.1 h.2 d a b met))) (settled s complete c h.0 h.1 h.2)
+      ]
+    where
+      divergent : (g k : ℕ) → StandsIn s c g k → IsDivergent s g k → (a : Mark) (b : EventId) → Together s a c b → ⊥
+      divergent g k stands d a b met =
+          let same = same_instance s c g k met.group met.instance stands met.first in
+          not_both s met.group met.instance a met.convergent (subst (λ n. IsDivergent s met.group n) same.1 (subst (λ n. IsDivergent s n k) same.0 d))
+
+      of_item : (g k : ℕ) (a : Mark) → IsConvergent s g k a → (i : ℕ) → i < size_of s g → Dec (IsOfItem s Q g k i)
+      of_item g k a m i lt =
+          let there = barrier_of s g k a m i lt in
+          let b : EventId = record { at = record { group = g; item = i }; index = there.0 } in
+          dec_map (λ q c item stands. subst Q (stands_same s b c g k there.1 stands (sym item)) q) (λ all. all b refl there.1) (decide b)
+
+      convergent : (g k : ℕ) → StandsIn s c g k → (a : Mark) → IsConvergent s g k a → Dec ((a : Mark) (b : EventId) → Together s a c b → Q b)
+      convergent g k stands a m =
+          ⊎_elim
+          (λ all. yes (λ n b met. let same = same_instance s c met.group met.instance g k met.first stands in let here = moved s b met.group met.instance g k same.0 same.1 met.second in all b.at.item here.item b refl here))
+          (λ (h : (i : ℕ) × IsLeastWithout (IsOfItem s Q g k) (size_of s g) i). no (λ all. h.1.1 (λ b item other. all a b (record { group = g; instance = k; convergent = m; first = stands; second = other }))))
+          (all_below (IsOfItem s Q g k) (size_of s g) (of_item g k a m))
+
+  module _ (In : EventId → Type 0) (in_dec : (d : EventId) → Dec (In d)) (e : EventId) (releases : HasItsReleases s e) where
+    release_dec : Dec ((d : EventId) → Matches s e d → In d)
+    release_dec =
+        elim (name_at s e) as (λ o. (name_at s e ≡ o) → Dec ((d : EventId) → Matches s e d → In d)) [
+          | None ↦ λ none. yes (λ d m. absurd (let c : None ≡ Some m.name = sym none ∙ m.by.named in cc))
+          | Some n ↦ λ named. let r = releases n named in dec_map (λ h d m. subst In (one n named r.0 r.1 d m) h) (λ all. all r.0 (record { name = n; by = r.1 })) (in_dec r.0)
+        ] refl
+      where
+        one : (n : Name) → HasName s e n → (r : EventId) → MatchesBy s n e r → (d : EventId) → Matches s e d → r ≡ d
+        one n named r by d m =
+            let same : m.name ≡ n = let c : Some m.name ≡ Some n = sym m.by.named ∙ named in cc in
+            one_release s n e r d by (subst (λ x. MatchesBy s x e d) same m.by)
+
+    -- all that an event waits for, by its four clauses
+    abbrev IsAll : Type 0
+    IsAll = (d : EventId) → Waits s e d → In d
+
+    all_of : ((d : EventId) → IsPrevious d e → In d) → ((d : EventId) → Matches s e d → In d) → ((a : Mark) (b : EventId) → Together s a e b → (d : EventId) → IsPrevious d b → In d) → ((c : EventId) → IsPrevious c e → (a : Mark) (d : EventId) → Together s a c d → In d) → IsAll
+    all_of previous release arrival meeting d (for_previous p) = previous d p
+    all_of previous release arrival meeting d (for_release m) = release d m
+    all_of previous release arrival meeting d (for_arrival a b met p) = arrival a b met d p
+    all_of previous release arrival meeting d (for_meeting a c p met) = meeting c p a d met
+
+    pub waits_dec : Dec IsAll
+    waits_dec = four (previous_dec In in_dec e) release_dec (instance_dec (λ b. (d : EventId) → IsPrevious d b → In d) (previous_dec In in_dec) e) (previous_dec (λ c. (a : Mark) (d : EventId) → Together s a c d → In d) (instance_dec In in_dec) e)
+      where
+        four : Dec ((d : EventId) → IsPrevious d e → In d) → Dec ((d : EventId) → Matches s e d → In d) → Dec ((a : Mark) (b : EventId) → Together s a e b → (d : EventId) → IsPrevious d b → In d) → Dec ((c : EventId) → IsPrevious c e → (a : Mark) (d : EventId) → Together s a c d → In d) → Dec IsAll
+        four (yes p) (yes r) (yes a) (yes m) = yes (all_of p r a m)
+        four (no h) r a m = no (λ all. h (λ d w. all d (for_previous w)))
+        four (yes p) (no h) a m = no (λ all. h (λ d w. all d (for_release w)))
+        four (yes p) (yes r) (no h) m = no (λ all. h (λ a b met d w. all d (for_arrival a b met w)))
+        four (yes p) (yes r) (yes a) (no h) = no (λ all. h (λ c w a d met. all d (for_meeting a c w met)))

@@ -1,0 +1,144 @@
+-- In complete lists the grounded events are those of a list that can be found, so each event is grounded or is not.
+use Rattle.std.proofs.Common.{◌≡◌, ◌⊎◌, ℕ, zero, suc, ◌+◌, ◌<◌, ◌≤◌, ◌==◌, not, List, [], ◌∷◌, length, Some, None, slice_get, map, refl, sym, ap, ◌∙◌, subst, inl, inr, ⊎_elim, arith, eqb-true}
+use Rattle.std.specs.List.{flat_map, range_with_len}
+use Rattle.std.proofs.lemmas.List.FromFn.{get_or-range_with_len, length-range_with_len}
+use Rattle.std.proofs.lemmas.Bool.{and_parts}
+use Rattle.std.proofs.lemmas.Option.{slice_get-get_or, slice_get_within}
+use Rattle.gr_model.specs.declared.event.EventId.{EventId}
+use Rattle.gr_model.specs.Events.{is_end}
+use Rattle.gr_model.specs.LawfulOrders.{IsIn}
+use Rattle.gr_model.specs.Streams.{AreComplete, IsEvent, Streams, event_at, is_of, list_of, trace_of}
+use Rattle.gr_model.specs.Waits.{CanGo, IsGrounded, Stage, Waits}
+use Rattle.gr_model.proofs.Descent.{stage_up}
+use Rattle.gr_model.proofs.Places.{slice_get-append}
+use Rattle.gr_steps.proofs.DecidedWaits.{releases_dec, settled, waits_dec}
+use Rattle.gr_steps.proofs.Deciding.{by_cases, in_dec}
+use Rattle.gr_steps.proofs.EventRecords.{filter-there, group_there}
+use Rattle.gr_steps.proofs.Orders.{at_behind, in_cases}
+
+-- an event that can go and whose waits are all in a list
+record IsNext (s : Streams) (reached : List EventId) (e : EventId) : Type 0 where
+  event : IsEvent s e
+  go : CanGo s e
+  waits : (d : EventId) → Waits s e d → IsIn reached d
+
+-- a list of events of one stage that has every event that could come to it
+pub record IsClosed (s : Streams) (n : ℕ) (reached : List EventId) : Type 0 where
+  pub stage : (e : EventId) → IsIn reached e → Stage s n e
+  pub closed : (e : EventId) → IsEvent s e → CanGo s e → ((d : EventId) → Waits s e d → IsIn reached d) → IsIn reached e
+
+-- of candidates one that comes next, and the others; or none comes next
+abbrev IsTaken : Streams → List EventId → List EventId → Type 0
+IsTaken s reached xs = (e : EventId) × (others : List EventId) × IsNext s reached e × (length xs ≡ suc (length others)) × ((d : EventId) → IsIn xs d → (d ≡ e) ⊎ IsIn others d)
+
+abbrev AreStuck : Streams → List EventId → List EventId → Type 0
+AreStuck s reached xs = (d : EventId) → IsIn xs d → IsNext s reached d → ⊥
+
+module _ (s : Streams) (complete : AreComplete s) where
+  next_dec : (reached : List EventId) (e : EventId) → Dec (IsNext s reached e)
+  next_dec reached e =
+      elim (event_at s e) as (λ o. (event_at s e ≡ o) → Dec (IsNext s reached e)) [
+        | None ↦ λ none. no (λ h. let c : None ≡ Some h.event.0 = sym none ∙ h.event.1 in cc)
+        | Some x ↦ λ at. elim (releases_dec s e) as (λ _. Dec (IsNext s reached e)) [
+          | no h ↦ no (λ next. h next.go.release)
+          | yes r ↦ elim (waits_dec s complete (IsIn reached) (in_dec reached) e r) as (λ _. Dec (IsNext s reached e)) [
+            | no h ↦ no (λ next. h next.waits)
+            | yes w ↦ yes (record { event = (x, at); go = record { release = r; instance = settled s complete e }; waits = w })
+          ]
+        ]
+      ] refl
+
+  take_next : (reached xs : List EventId) → IsTaken s reached xs ⊎ AreStuck s reached xs
+  take_next reached [] = inr (λ d h next. let c : None ≡ Some d = h.1 in cc)
+  take_next reached (x ∷ xs) = first (next_dec reached x) (take_next reached xs)
+    where
+      first : Dec (IsNext s reached x) → IsTaken s reached xs ⊎ AreStuck s reached xs → IsTaken s reached (x ∷ xs) ⊎ AreStuck s reached (x ∷ xs)
+      first (yes next) rest = inl (x, xs, next, refl, λ d h. in_cases x xs d h)
+      first (no h) (inl t) =
+          inl (t.0, x ∷ t.1, t.2, ap suc t.3, λ d there. ⊎_elim (λ (same : d ≡ x). inr (0, ap Some (sym same))) (λ later. ⊎_elim (λ same. inl same) (λ (k : IsIn t.1 d). inr (suc k.0, k.1)) (t.4 d later)) (in_cases x xs d there))
+      first (no h) (inr stuck) =
+          inr (λ d there next. ⊎_elim (λ (same : d ≡ x). h (subst (λ y. IsNext s reached y) same next)) (λ later. stuck d later next) (in_cases x xs d there))
+
+  stuck_closed : (n : ℕ) (reached xs : List EventId) → ((e : EventId) → IsIn reached e → Stage s n e) → ((e : EventId) → IsEvent s e → IsIn reached e ⊎ IsIn xs e) → AreStuck s reached xs → IsClosed s n reached
+  stuck_closed n reached xs stage cover stuck = record {
+    stage = stage;
+    closed = λ e there go waits. ⊎_elim (λ h. h) (λ candidate. absurd (stuck e candidate (record { event = there; go = go; waits = waits }))) (cover e there);
+  }
+
+  stage_more : (n : ℕ) (reached : List EventId) (x : EventId) → ((e : EventId) → IsIn reached e → Stage s n e) → IsNext s reached x → (e : EventId) → IsIn (x ∷ reached) e → Stage s (suc n) e
+  stage_more n reached x stage next e there =
+      ⊎_elim
+      (λ (same : e ≡ x). subst (λ y. Stage s (suc n) y) (sym same) (next.event, next.go, λ d w. stage d (next.waits d w)))
+      (λ was. stage_up s n e (stage e was))
+      (in_cases x reached e there)
+
+  cover_more : (reached xs : List EventId) (t : IsTaken s reached xs) → ((e : EventId) → IsEvent s e → IsIn reached e ⊎ IsIn xs e) → (e : EventId) → IsEvent s e → IsIn (t.0 ∷ reached) e ⊎ IsIn t.1 e
+  cover_more reached xs t cover e there =
+      ⊎_elim
+      (λ (h : IsIn reached e). inl (suc h.0, h.1))
+      (λ h. ⊎_elim (λ (same : e ≡ t.0). inl (0, ap Some (sym same))) (λ other. inr other) (t.4 e h))
+      (cover e there)
+
+  -- the candidates are taken until none comes next
+  closing : (fuel n : ℕ) (reached xs : List EventId) → length xs ≤ fuel → ((e : EventId) → IsIn reached e → Stage s n e) → ((e : EventId) → IsEvent s e → IsIn reached e ⊎ IsIn xs e) → (m : ℕ) × (all : List EventId) × IsClosed s m all
+  closing zero n reached xs few stage cover =
+      ⊎_elim (λ (t : IsTaken s reached xs). absurd (omega (arith, few, t.3))) (λ (stuck : AreStuck s reached xs). (n, reached, stuck_closed n reached xs stage cover stuck)) (take_next reached xs)
+  closing (suc fuel) n reached xs few stage cover =
+      ⊎_elim
+      (λ (t : IsTaken s reached xs). closing fuel (suc n) (t.0 ∷ reached) t.1 (omega (arith, few, t.3)) (stage_more n reached t.0 stage t.2) (cover_more reached xs t cover))
+      (λ (stuck : AreStuck s reached xs). (n, reached, stuck_closed n reached xs stage cover stuck))
+      (take_next reached xs)
+
+-- ---- all events are candidates
+
+in_flat_map : {X Y : Type 0} (f : X → List Y) (xs : List X) (p : ℕ) (x : X) → slice_get xs p ≡ Some x → (q : ℕ) (y : Y) → slice_get (f x) q ≡ Some y → (k : ℕ) × (slice_get (flat_map f xs) k ≡ Some y)
+in_flat_map f [] p x at q y there = cc
+in_flat_map f (z ∷ xs) zero x at q y there =
+    let same : x ≡ z = let c : Some z ≡ Some x = at in cc in
+    (q, slice_get-append (f z) (flat_map f xs) q y (subst (λ w. slice_get (f w) q ≡ Some y) same there))
+in_flat_map f (z ∷ xs) (suc p) x at q y there =
+    let h = in_flat_map f xs p x at q y there in
+    (length (f z) + h.0, at_behind (f z) (flat_map f xs) h.0 y h.1)
+
+in_range : (n k : ℕ) → k < n → slice_get (range_with_len 0 n) k ≡ Some k
+in_range n k lt =
+    let within : k < length (range_with_len 0 n) = subst (λ l. k < l) (sym (length-range_with_len 0 n)) lt in
+    slice_get-get_or (range_with_len 0 n) k 0 within ∙ ap Some (get_or-range_with_len 0 n k 0 lt ∙ (let z : 0 + k ≡ k = omega arith in z))
+
+in_map : {X Y : Type 0} (f : X → Y) (xs : List X) (k : ℕ) (x : X) → slice_get xs k ≡ Some x → slice_get (map f xs) k ≡ Some (f x)
+in_map f [] k x at = cc
+in_map f (y ∷ xs) zero x at = let same : y ≡ x = let c : Some y ≡ Some x = at in cc in ap (λ z. Some (f z)) same
+in_map f (y ∷ xs) (suc k) x at = in_map f xs k x at
+
+-- of an item the places of its trace, of a group those of the items of its records, and of all groups
+item_candidates : Streams → ℕ → ℕ → List EventId
+item_candidates s g i = map (λ n. record { at = record { group = g; item = i }; index = n }) (range_with_len 0 (length (trace_of s (record { group = g; item = i }))))
+
+candidates : Streams → List EventId
+candidates s = flat_map (λ g. flat_map (λ x. item_candidates s g x.item) (list_of s g)) (range_with_len 0 (length s.lists))
+
+event_is_candidate : (s : Streams) (e : EventId) → IsEvent s e → IsIn (candidates s) e
+unfolding candidates item_candidates
+event_is_candidate s e there =
+    let g = e.at.group in
+    let listed = filter-there (is_of e.at.item) (list_of s g) e.index there.0 there.1 in
+    let item : there.0.item ≡ e.at.item = eqb-true there.0.item e.at.item (and_parts (there.0.item == e.at.item) (not (is_end there.0)) listed.2).0 in
+    let within : e.index < length (trace_of s e.at) = slice_get_within (trace_of s e.at) e.index there.0 there.1 in
+    let last : slice_get (item_candidates s g e.at.item) e.index ≡ Some e = in_map (λ n. record { at = e.at; index = n }) (range_with_len 0 (length (trace_of s e.at))) e.index e.index (in_range (length (trace_of s e.at)) e.index within) in
+    let inner = in_flat_map (λ x. item_candidates s g x.item) (list_of s g) listed.0 there.0 listed.1 e.index e (subst (λ i. slice_get (item_candidates s g i) e.index ≡ Some e) (sym item) last) in
+    in_flat_map (λ g. flat_map (λ x. item_candidates s g x.item) (list_of s g)) (range_with_len 0 (length s.lists)) g g (in_range (length s.lists) g (group_there s e there)) inner.0 e inner.1
+
+-- ---- the grounded events
+
+pub reached : (s : Streams) → AreComplete s → (n : ℕ) × (all : List EventId) × IsClosed s n all
+reached s complete =
+    closing s complete (length (candidates s)) 0 [] (candidates s) (omega arith) (λ e h. absurd (let c : None ≡ Some e = h.1 in cc)) (λ e there. inr (event_is_candidate s e there))
+
+pub stage_in : (s : Streams) (n : ℕ) (all : List EventId) → IsClosed s n all → (m : ℕ) (e : EventId) → Stage s m e → IsIn all e
+stage_in s n all c zero e h = absurd h
+stage_in s n all c (suc m) e h = c.closed e h.0 h.1 (λ d w. stage_in s n all c m d (h.2 d w))
+
+pub grounded_dec : (s : Streams) → AreComplete s → (e : EventId) → IsGrounded s e ⊎ ¬ IsGrounded s e
+grounded_dec s complete e =
+    let all = reached s complete in
+    by_cases (in_dec all.1 e) (λ h. inl (all.0, all.2.stage e h)) (λ away. inr (λ (g : IsGrounded s e). away (stage_in s all.0 all.1 all.2 g.0 e g.1)))
