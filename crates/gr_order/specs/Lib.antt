@@ -1,0 +1,2 @@
+pub mod Sequences
+pub mod Answers
