@@ -1,9 +1,9 @@
 -- What one record more makes of the index of each item.
-use Rattle.std.proofs.Common.{◌≡◌, ◌⊎◌, ℕ, zero, suc, ◌+◌, ◌-◌, ◌<◌, ◌≤◌, Bool, true, false, not, ◌&&◌, ◌==◌, cond, List, [], ◌∷◌, ◌++◌, length, filter, Some, slice_get, get_or, set, take, refl, sym, ap, ◌∙◌, subst, inl, inr, ⊎_elim, arith, append-nil, IsTrue, eqb-true, true≢false, eq-or-lt_of_le}
-use Rattle.std.proofs.lemmas.Bool.{cases_lt, cases_eq, eq-eqb, ne_eqb}
+use Rattle.std.proofs.Common.{◌≡◌, ◌⊎◌, ℕ, zero, suc, ◌+◌, ◌-◌, ◌<◌, ◌≤◌, Bool, true, false, not, ◌&&◌, ◌==◌, cond, List, [], ◌∷◌, ◌++◌, length, filter, Option, Some, None, slice_get, get_or, set, take, refl, sym, ap, ◌∙◌, subst, inl, inr, ⊎_elim, arith, append-nil, IsTrue, eqb-true, true≢false, eq-or-lt_of_le, ltb}
+use Rattle.std.proofs.lemmas.Bool.{cases_lt, cases_eq, eq-eqb, ltb-false, ltb-true, ne_eqb}
 use Rattle.std.proofs.lemmas.List.{length-set, get_or-set_same, get_or-set_other, get_or_read, get_or_push, get_or_append_left, length_push}
 use Rattle.std.proofs.lemmas.List.Elements.{filter-append}
-use Rattle.std.proofs.lemmas.Option.{slice_get_within}
+use Rattle.std.proofs.lemmas.Option.{slice_get_past}
 use Rattle.std.proofs.Math.Seq.{take-append_seam}
 use Rattle.gr_model.specs.declared.event.Event.{Event}
 use Rattle.gr_model.specs.declared.limits.TheConstants.{MOST_RECORDS}
@@ -155,3 +155,68 @@ one_lane_more old new n count none is i within =
 -- a slice of a whole vector was written
 pub whole_slice : {X : Type 0} (n : ℕ) (new rest : List X) → length new ≡ n → take n (new ++ rest) ≡ new
 whole_slice n new rest size = ap (λ k. take k (new ++ rest)) (sym size) ∙ take-append_seam new rest
+
+-- ---- what is read by an index
+
+-- an event that passes a test is found by its place
+abbrev pub StandsAt : {X : Type 0} → (X → Bool) → ℕ → List X → ℕ → ℕ → Type 0
+StandsAt test i xs k n = (j : ℕ) × (n ≡ i + j) × (slice_get (filter test xs) k ≡ slice_get xs j)
+
+first-place : {X : Type 0} (test : X → Bool) (i : ℕ) (x : X) (xs : List X) (n : ℕ) → ((k : ℕ) → slice_get (places_from test (suc i) xs) k ≡ Some n → StandsAt test (suc i) xs k n) → (k : ℕ) → slice_get (i ∷ places_from test (suc i) xs) k ≡ Some n → (j : ℕ) × (n ≡ i + j) × (slice_get (x ∷ filter test xs) k ≡ slice_get (x ∷ xs) j)
+first-place test i x xs n rest zero e = let same : i ≡ n = cc in (0, omega arith, refl)
+first-place test i x xs n rest (suc k) e = let r = rest k e in (suc r.0, omega (arith, r.1), r.2)
+
+pub filter-place : {X : Type 0} (test : X → Bool) (i : ℕ) (xs : List X) (k n : ℕ) → slice_get (places_from test i xs) k ≡ Some n → StandsAt test i xs k n
+filter-place test i [] k n at = cc
+filter-place {X} test i (x ∷ xs) k n at =
+    let rest : (k : ℕ) → slice_get (places_from test (suc i) xs) k ≡ Some n → StandsAt test (suc i) xs k n = λ k e. filter-place test (suc i) xs k n e in
+    elim (test x) as (λ b. slice_get (cond b (i ∷ places_from test (suc i) xs) (places_from test (suc i) xs)) k ≡ Some n → (j : ℕ) × (n ≡ i + j) × (slice_get (cond b (x ∷ filter test xs) (filter test xs)) k ≡ slice_get (x ∷ xs) j)) [
+      | true ↦ λ e. first-place test i x xs n rest k e
+      | false ↦ λ e. let r = rest k e in (suc r.0, omega (arith, r.1), r.2)
+    ] at
+
+past : (l : List ℕ) (m : ℕ) → slice_get l m ≡ None → length l ≤ m
+past [] m e = omega arith
+past (x ∷ l) zero e = cc
+past (x ∷ l) (suc m) e = let rest = past l m e in omega arith
+
+pub filter-none : {X : Type 0} (test : X → Bool) (xs : List X) (k : ℕ) → slice_get (places_from test 0 xs) k ≡ None → slice_get (filter test xs) k ≡ None
+filter-none test xs k none = slice_get_past (filter test xs) k (omega (arith, length-places test 0 xs, past (places_from test 0 xs) k none))
+
+-- an item that the group lacks has no events
+none_of : (i : ℕ) (l : List Event) → ((p : ℕ) (x : Event) → slice_get l p ≡ Some x → x.item < i) → filter (is_of i) l ≡ []
+none_of i [] all = refl
+none_of i (x ∷ l) all =
+    let lt = all 0 x refl in
+    let other : is_of i x ≡ false = ap (λ b. b && not (is_end x)) (ne_eqb x.item i (λ e. omega arith)) in
+    ap (λ b. cond b (x ∷ filter (is_of i) l) (filter (is_of i) l)) other ∙ none_of i l (λ p y at. all (suc p) y at)
+
+pub no_trace : (n : ℕ) (list : List Event) → IsFront n list → (i : ℕ) → n ≤ i → filter (is_of i) list ≡ []
+no_trace n list front i beyond = none_of i list (λ p x at. let ok = (front.good p x at).0.0 in omega arith)
+
+-- what was read of the lanes, at the place that is the item's
+module _ (lanes : List Index) (list : List Event) (are : AreIndices lanes list) (read : List Index) (same : read ≡ lanes) (i j : ℕ) (here : j ≡ i) where
+  behind : false ≡ ltb j (length read) → length lanes ≤ i
+  behind beyond = let past = ltb-false j (length read) (sym beyond) in omega (arith, ap length same)
+
+  pub lacks_events : false ≡ ltb j (length read) → (k : ℕ) → None ≡ slice_get (filter (is_of i) list) k
+  lacks_events beyond k = sym (ap (λ l. slice_get l k) (no_trace (length lanes) list are.front i (behind beyond)))
+
+  pub lacks_places : false ≡ ltb j (length read) → (test : Event → Bool) (k : ℕ) → None ≡ slice_get (places_from test 0 (filter (is_of i) list)) k
+  lacks_places beyond test k = sym (ap (λ l. slice_get (places_from test 0 l) k) (no_trace (length lanes) list are.front i (behind beyond)))
+
+  module _ (lane : Index) (there : true ≡ ltb j (length read)) (reads : lane ≡ get_or read j lane) where
+    pub lane_is : lane ≡ index_of list i
+    lane_is =
+        let lt = ltb-true j (length read) (sym there) in
+        let within : i < length lanes = omega (arith, ap length same) in
+        get_or_read lanes i lane within (reads ∙ (ap (λ l. get_or l j lane) same ∙ ap (λ n. get_or lanes n lane) here)) no_index ∙ are.each i within
+
+    pub event_by_place : (k n : ℕ) → Some n ≡ slice_get lane.places k → slice_get list n ≡ slice_get (filter (is_of i) list) k
+    event_by_place k n at =
+        let found = filter-place (is_of i) 0 list k n (ap (λ (l : Index). slice_get l.places k) (sym lane_is) ∙ sym at) in
+        let place : n ≡ found.0 = omega (arith, found.1) in
+        ap (slice_get list) place ∙ sym found.2
+
+    pub no_event : (k : ℕ) → None ≡ slice_get lane.places k → None ≡ slice_get (filter (is_of i) list) k
+    no_event k none = sym (filter-none (is_of i) list k (ap (λ (l : Index). slice_get l.places k) (sym lane_is) ∙ sym none))

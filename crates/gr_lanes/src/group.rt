@@ -3,12 +3,12 @@
 //! Invariant: the records are a front of a list that the group may have, and each lane is the index of its item's events
 //! in it.
 
-ghost use Rattle.std.specs.Prelude.{◌≡◌, ◌∷◌, ◌++◌, ◌<◌, ◌≤◌, [], IsTrue, IfOk, OnOk, OnErr, length, slice_index_or};
+ghost use Rattle.std.specs.Prelude.{◌≡◌, ◌∷◌, ◌++◌, ◌<◌, ◌≤◌, [], IsTrue, IfOk, OnOk, OnErr, filter, length, slice_get, slice_index_or};
 ghost use Rattle.gr_model.specs.declared.limits.TheConstants.{MOST_RECORDS};
 ghost use Rattle.gr_model.specs.Access as model;
 ghost use Rattle.gr_model.specs.Barriers as model_barriers;
 ghost use Rattle.gr_model.specs.Events.{IsEventOk};
-ghost use Rattle.gr_model.specs.Streams.{is_complete};
+ghost use Rattle.gr_model.specs.Streams.{is_complete, is_of, places_from};
 ghost use Rattle.gr_lanes.specs.Indices.{no_index, indexed};
 
 use crate::lane::Lane;
@@ -120,6 +120,46 @@ impl<A: Allocator> Group<A> {
         match self.list.last() {
             None => false,
             Some(event) => event.kind.is_end(),
+        }
+    }
+
+    /// The record at a place of the group's list.
+    fn record(&self, place: u32) -> Option<Event>
+        ensures { result ≡ slice_get self.now.list place }
+    {
+        self.list.get(place as usize).copied()
+    }
+
+    /// The event of an item with this index.
+    pub(crate) fn event_at(&self, item: u16, index: u32) -> Option<Event>
+        ensures { result ≡ slice_get (filter (is_of item) self.now.list) index }
+    {
+        match self.lanes.get(usize::from(item)) {
+            None => None,
+            Some(lane) => match lane.place(index) {
+                None => None,
+                Some(place) => self.record(place),
+            },
+        }
+    }
+
+    /// The index of an item's release with this number.
+    pub(crate) fn release_at(&self, item: u16, number: u32) -> Option<u32>
+        ensures { result ≡ slice_get (places_from model.is_release 0 (filter (is_of item) self.now.list)) number }
+    {
+        match self.lanes.get(usize::from(item)) {
+            None => None,
+            Some(lane) => lane.release(number),
+        }
+    }
+
+    /// The index of an item's barrier with this number.
+    pub(crate) fn barrier_at(&self, item: u16, number: u32) -> Option<u32>
+        ensures { result ≡ slice_get (places_from model_barriers.is_barrier 0 (filter (is_of item) self.now.list)) number }
+    {
+        match self.lanes.get(usize::from(item)) {
+            None => None,
+            Some(lane) => lane.barrier(number),
         }
     }
 

@@ -3,7 +3,7 @@
 //! A lane knows where an item's events stand in its group's list, and which of them are releases and barriers. It stores
 //! no event.
 
-ghost use Rattle.std.specs.Prelude.{◌≡◌, ◌<◌, OnOk, OnErr, length};
+ghost use Rattle.std.specs.Prelude.{◌≡◌, ◌<◌, OnOk, OnErr, length, slice_get};
 ghost use Rattle.gr_lanes.specs.Indices.{no_index, with_event};
 
 use gr_model::memory::Memory;
@@ -41,6 +41,27 @@ impl<A: Allocator + Copy> Lane<A> {
 }
 
 impl<A: Allocator> Lane<A> {
+    /// The place in its group's list of the item's event with this index.
+    pub(crate) fn place(&self, index: u32) -> Option<u32>
+        ensures { result ≡ slice_get self.now.places index }
+    {
+        self.places.get(index as usize).copied()
+    }
+
+    /// The index of the item's release with this number.
+    pub(crate) fn release(&self, number: u32) -> Option<u32>
+        ensures { result ≡ slice_get self.now.releases number }
+    {
+        self.releases.get(number as usize).copied()
+    }
+
+    /// The index of the item's barrier with this number.
+    pub(crate) fn barrier(&self, number: u32) -> Option<u32>
+        ensures { result ≡ slice_get self.now.barriers number }
+    {
+        self.barriers.get(number as usize).copied()
+    }
+
     /// Adds the item's next event, which stands at this place of its group's list.
     ///
     /// # Errors

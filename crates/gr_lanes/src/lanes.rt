@@ -4,12 +4,14 @@
 
 ghost use Rattle.std.specs.Prelude.{◌≡◌, ◌<◌, IfOk, IfErr, OnOk, OnErr, length};
 ghost use Rattle.gr_model.specs.declared.limits.TheConstants.{MOST_RECORDS};
-ghost use Rattle.gr_model.specs.Streams.{AreFronts, list_of};
+ghost use Rattle.gr_model.specs.Streams.{AreFronts, event_at, is_complete, list_of, place_of};
+ghost use Rattle.gr_model.specs.Barriers.{is_barrier};
+ghost use Rattle.gr_model.specs.Names.{release_place};
 ghost use Rattle.gr_lanes.specs.Takes.{nothing_taken, with_record, IsEventButItem, CanTake, IsTakeFault};
 
 use crate::group::Group;
 use crate::seq_error::SeqError;
-use gr_model::event::Event;
+use gr_model::event::{Event, EventId, ItemId, Name};
 use gr_model::memory::Memory;
 use gr_model::shape::Shape;
 use std::alloc::{Allocator, Global};
@@ -67,6 +69,47 @@ impl<A: Allocator> Lanes<A> {
         match self.groups.get(usize::from(group)) {
             None => 0,
             Some(group) => group.taken(),
+        }
+    }
+
+    /// Whether a group's end was taken.
+    pub fn is_complete(&self, group: u16) -> bool
+        ensures { result ≡ is_complete (list_of self.now group) }
+    {
+        match self.groups.get(usize::from(group)) {
+            None => false,
+            Some(group) => group.is_complete(),
+        }
+    }
+
+    /// An event that was taken, or `None` where there is none of this index.
+    pub fn event_at(&self, event: EventId) -> Option<Event>
+        ensures { result ≡ event_at self.now event }
+    {
+        match self.groups.get(usize::from(event.at.group)) {
+            None => None,
+            Some(group) => group.event_at(event.at.item, event.index),
+        }
+    }
+
+    /// The index in its item's trace of the release of this name, or `None` where no such release was taken.
+    pub fn release_at(&self, name: Name) -> Option<u32>
+        ensures { result ≡ release_place self.now name }
+    {
+        match self.groups.get(usize::from(name.at.group)) {
+            None => None,
+            Some(group) => group.release_at(name.at.item, name.release),
+        }
+    }
+
+    /// The index in its item's trace of an item's barrier of this number, counted from 0, or `None` where no such barrier
+    /// was taken.
+    pub fn barrier_at(&self, item: ItemId, number: u32) -> Option<u32>
+        ensures { result ≡ place_of self.now is_barrier item number }
+    {
+        match self.groups.get(usize::from(item.group)) {
+            None => None,
+            Some(group) => group.barrier_at(item.item, number),
         }
     }
 
