@@ -1,2 +1,3 @@
 pub mod IndexLemmas
 pub mod GroupLemmas
+pub mod Growth

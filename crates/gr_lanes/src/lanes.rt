@@ -43,7 +43,8 @@ impl<A: Allocator + Copy> Lanes<A> {
     /// # Errors
     /// `Memory`.
     pub fn new(alloc: A, shape: Shape<A>) -> Result<Lanes<A>, Memory>
-        ensures { IfOk result (λ l. l ≡ nothing_taken shape) }
+        ensures nothing { IfOk result (λ l. l ≡ nothing_taken shape) }
+        ensures fronts { IfOk result (λ l. AreFronts l) }
     {
         let mut groups = Vec::new(alloc);
         for group in 0..shape.groups() {

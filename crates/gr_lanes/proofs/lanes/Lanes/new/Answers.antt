@@ -14,7 +14,10 @@ invariant_of-result g c =
     let whole : take c.loop-group.group c.args.shape ≡ c.args.shape = take_all c.loop-group.group c.args.shape (omega (arith, c.groups-group-end.ensures.count)) in
     nothing_groups c.args.shape c.loop-group.groups.items c.groups-group-end.ensures.shape (c.loop-group.invariant ∙ ap (map empty) whole)
 
-pub returns : goal.returns
-returns g c =
+pub returns-clause-nothing : goal.returns-clause-nothing
+returns-clause-nothing g c =
     let whole : take c.loop-group.group c.args.shape ≡ c.args.shape = take_all c.loop-group.group c.args.shape (omega (arith, c.groups-group-end.ensures.count)) in
     nothing_is c.args.shape c.loop-group.groups.items (c.loop-group.invariant ∙ ap (map empty) whole)
+
+pub returns-clause-fronts : goal.returns-clause-fronts
+returns-clause-fronts g c = (invariant_of-result g c).fronts
