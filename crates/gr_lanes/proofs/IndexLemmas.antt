@@ -1,9 +1,11 @@
 -- What one record more makes of the index of each item.
-use Rattle.std.proofs.Common.{◌≡◌, ◌⊎◌, ℕ, zero, suc, ◌+◌, ◌-◌, ◌<◌, ◌≤◌, Bool, true, false, not, ◌&&◌, ◌==◌, cond, List, [], ◌∷◌, ◌++◌, length, filter, Option, Some, None, slice_get, get_or, set, take, refl, sym, ap, ◌∙◌, subst, inl, inr, ⊎_elim, arith, append-nil, IsTrue, eqb-true, true≢false, eq-or-lt_of_le, ltb}
+use Rattle.std.proofs.Common.{◌≡◌, ◌⊎◌, ℕ, zero, suc, ◌+◌, ◌-◌, ◌<◌, ◌≤◌, Bool, true, false, not, ◌&&◌, ◌==◌, cond, List, [], ◌∷◌, ◌++◌, length, filter, Option, Some, None, Err, nat_cmp, slice_get, get_or, set, take, refl, sym, ap, ◌∙◌, subst, inl, inr, ⊎_elim, arith, append-nil, IsTrue, eqb-true, true≢false, eq-or-lt_of_le, ltb}
 use Rattle.std.proofs.lemmas.Bool.{cases_lt, cases_eq, eq-eqb, ltb-false, ltb-true, ne_eqb}
 use Rattle.std.proofs.lemmas.List.{length-set, get_or-set_same, get_or-set_other, get_or_read, get_or_push, get_or_append_left, length_push}
 use Rattle.std.proofs.lemmas.List.Elements.{filter-append}
-use Rattle.std.proofs.lemmas.Option.{slice_get_past}
+use Rattle.std.proofs.lemmas.Option.{get_or_from_slice_get, slice_get_past, slice_get_within}
+use Rattle.std.proofs.lemmas.List.Sorted.{searched}
+use Rattle.std.specs.List.Sorted.{IsBinarySearchResult}
 use Rattle.std.proofs.Math.Seq.{take-append_seam}
 use Rattle.gr_model.specs.declared.event.Event.{Event}
 use Rattle.gr_model.specs.declared.limits.TheConstants.{MOST_RECORDS}
@@ -13,7 +15,7 @@ use Rattle.gr_model.specs.Events.{IsEventOk, is_end}
 use Rattle.gr_model.specs.Streams.{IsFront, IsGoodAt, AreGood, is_complete, is_of, places_from}
 use Rattle.gr_model.proofs.Places.{places_from-append, slice_get-append_cases}
 use Rattle.gr_model.proofs.ListsOfRecords.{is_complete-last}
-use Rattle.gr_lanes.specs.Indices.{Index, index_of, no_index, with_if, with_event, indexed, AreIndices}
+use Rattle.gr_lanes.specs.Indices.{Index, index_of, no_index, with_if, with_event, indexed, AreIndices, AreRising}
 
 -- an element more at the end of a list
 pub places_more : {X : Type 0} (test : X → Bool) (xs : List X) (x : X) → places_from test 0 (xs ++ x ∷ []) ≡ with_if (test x) (places_from test 0 xs) (length xs)
@@ -194,6 +196,41 @@ none_of i (x ∷ l) all =
 pub no_trace : (n : ℕ) (list : List Event) → IsFront n list → (i : ℕ) → n ≤ i → filter (is_of i) list ≡ []
 no_trace n list front i beyond = none_of i list (λ p x at. let ok = (front.good p x at).0.0 in omega arith)
 
+at_least : {X : Type 0} (test : X → Bool) (i : ℕ) (xs : List X) (b : ℕ) → b < length (places_from test i xs) → i ≤ get_or (places_from test i xs) b 0
+at_least test i [] b within = absurd (omega arith)
+at_least {X} test i (x ∷ xs) b within =
+    elim (test x) as (λ t. b < length (cond t (i ∷ places_from test (suc i) xs) (places_from test (suc i) xs)) → i ≤ get_or (cond t (i ∷ places_from test (suc i) xs) (places_from test (suc i) xs)) b 0) [
+      | true ↦ λ w. here b w (λ c v. at_least test (suc i) xs c v)
+      | false ↦ λ w. let rest = at_least test (suc i) xs b w in omega arith
+    ] within
+  where
+    here : (c : ℕ) → c < suc (length (places_from test (suc i) xs)) → ((d : ℕ) → d < length (places_from test (suc i) xs) → suc i ≤ get_or (places_from test (suc i) xs) d 0) → i ≤ get_or (i ∷ places_from test (suc i) xs) c 0
+    here zero w rest = omega arith
+    here (suc c) w rest = let r = rest c (omega arith) in omega arith
+
+rising_here : (i : ℕ) (rest : List ℕ) → ((b : ℕ) → b < length rest → suc i ≤ get_or rest b 0) → AreRising rest → AreRising (i ∷ rest)
+rising_here i rest least rises zero zero le within = omega arith
+rising_here i rest least rises zero (suc b) le within = let l = least b (omega arith) in omega arith
+rising_here i rest least rises (suc a) zero le within = absurd (omega arith)
+rising_here i rest least rises (suc a) (suc b) le within = rises a b (omega arith) (omega arith)
+
+pub places_rise : {X : Type 0} (test : X → Bool) (i : ℕ) (xs : List X) → AreRising (places_from test i xs)
+places_rise test i [] a b le within = absurd (omega arith)
+places_rise test i (x ∷ xs) a b le within =
+    elim (test x) as (λ t. AreRising (cond t (i ∷ places_from test (suc i) xs) (places_from test (suc i) xs))) [
+      | true ↦ rising_here i (places_from test (suc i) xs) (λ b w. at_least test (suc i) xs b w) (places_rise test (suc i) xs)
+      | false ↦ places_rise test (suc i) xs
+    ] a b le within
+
+-- a binary search that finds no place finds none because there is none
+pub not_found : (xs ys : List ℕ) → ys ≡ xs → (x i : ℕ) → IsBinarySearchResult (λ y. nat_cmp y x) ys (Err i) → AreRising xs → (k : ℕ) → slice_get xs k ≡ Some x → ⊥
+not_found xs ys same x i search rises k at =
+    let missed = searched ys x (Err i) search (subst AreRising (sym same) rises) in
+    let there : slice_get ys k ≡ Some x = ap (λ l. slice_get l k) same ∙ at in
+    let within : k < length ys = slice_get_within ys k x there in
+    let value : get_or ys k 0 ≡ x = get_or_from_slice_get ys k x 0 there in
+    ⊎_elim (λ (lt : k < i). let below = missed.1 k lt in omega arith) (λ (ge : i ≤ k). let above = missed.2 k ge within in omega arith) (cases_lt k i)
+
 -- what was read of the lanes, at the place that is the item's
 module _ (lanes : List Index) (list : List Event) (are : AreIndices lanes list) (read : List Index) (same : read ≡ lanes) (i j : ℕ) (here : j ≡ i) where
   behind : false ≡ ltb j (length read) → length lanes ≤ i
@@ -211,6 +248,14 @@ module _ (lanes : List Index) (list : List Event) (are : AreIndices lanes list) 
         let lt = ltb-true j (length read) (sym there) in
         let within : i < length lanes = omega (arith, ap length same) in
         get_or_read lanes i lane within (reads ∙ (ap (λ l. get_or l j lane) same ∙ ap (λ n. get_or lanes n lane) here)) no_index ∙ are.each i within
+
+    pub few_barriers : length lane.barriers < 4_294_967_296
+    few_barriers =
+        let count : length lane.barriers ≡ length (places_from is_barrier 0 (filter (is_of i) list)) = ap (λ (l : Index). length l.barriers) lane_is in
+        omega (arith, few-places is_barrier 0 (filter (is_of i) list), length-places (is_of i) 0 list, few-places (is_of i) 0 list, are.front.few)
+
+    pub barriers_rise : AreRising lane.barriers
+    barriers_rise = subst (λ (l : Index). AreRising l.barriers) (sym lane_is) (places_rise is_barrier 0 (filter (is_of i) list))
 
     pub event_by_place : (k n : ℕ) → Some n ≡ slice_get lane.places k → slice_get list n ≡ slice_get (filter (is_of i) list) k
     event_by_place k n at =

@@ -1,5 +1,5 @@
 -- An index of each item's events in its group's list, and of its releases and barriers among its events.
-use Rattle.std.specs.Prelude.{◌≡◌, ℕ, ◌<◌, Bool, List, [], ◌∷◌, ◌++◌, length, map, filter, slice_index_or, slice_set, if◌then◌else◌}
+use Rattle.std.specs.Prelude.{◌≡◌, ℕ, ◌<◌, ◌≤◌, Bool, List, [], ◌∷◌, ◌++◌, length, map, filter, slice_index, slice_index_or, slice_set, if◌then◌else◌}
 use Rattle.gr_model.specs.declared.event.Event.{Event}
 use Rattle.gr_model.specs.Access.{is_release}
 use Rattle.gr_model.specs.Barriers.{is_barrier}
@@ -11,6 +11,10 @@ pub record Index : Type 0 where
   pub places : List ℕ
   pub releases : List ℕ
   pub barriers : List ℕ
+
+-- each place is at least as great as those before it
+abbrev pub AreRising : List ℕ → Type 0
+AreRising places = (i j : ℕ) → i ≤ j → j < length places → slice_index places i ≤ slice_index places j
 
 -- the index of an item of a group that has this list
 abbrev pub index_of : List Event → ℕ → Index

@@ -3,7 +3,7 @@
 //! Invariant: the records are a front of a list that the group may have, and each lane is the index of its item's events
 //! in it.
 
-ghost use Rattle.std.specs.Prelude.{◌≡◌, ◌∷◌, ◌++◌, ◌<◌, ◌≤◌, [], IsTrue, IfOk, OnOk, OnErr, filter, length, slice_get, slice_index_or};
+ghost use Rattle.std.specs.Prelude.{◌≡◌, ◌≢◌, ◌∷◌, ◌++◌, ◌<◌, ℕ, [], IsTrue, IfOk, MatchOption, OnOk, OnErr, filter, length, slice_get, slice_index_or};
 ghost use Rattle.gr_model.specs.declared.limits.TheConstants.{MOST_RECORDS};
 ghost use Rattle.gr_model.specs.Access as model;
 ghost use Rattle.gr_model.specs.Barriers as model_barriers;
@@ -160,6 +160,16 @@ impl<A: Allocator> Group<A> {
         match self.lanes.get(usize::from(item)) {
             None => None,
             Some(lane) => lane.barrier(number),
+        }
+    }
+
+    /// The number among an item's barriers of the event with this index, or `None` where that is no barrier.
+    pub(crate) fn barrier_number(&self, item: u16, index: u32) -> Option<u32>
+        ensures { MatchOption result ((k : ℕ) → slice_get (places_from model_barriers.is_barrier 0 (filter (is_of item) self.now.list)) k ≢ Some index) (λ k. slice_get (places_from model_barriers.is_barrier 0 (filter (is_of item) self.now.list)) k ≡ Some index) }
+    {
+        match self.lanes.get(usize::from(item)) {
+            None => None,
+            Some(lane) => lane.barrier_number(index),
         }
     }
 

@@ -3,8 +3,8 @@
 //! A lane knows where an item's events stand in its group's list, and which of them are releases and barriers. It stores
 //! no event.
 
-ghost use Rattle.std.specs.Prelude.{◌≡◌, ◌<◌, OnOk, OnErr, length, slice_get};
-ghost use Rattle.gr_lanes.specs.Indices.{no_index, with_event};
+ghost use Rattle.std.specs.Prelude.{◌≡◌, ◌≢◌, ◌<◌, ℕ, MatchOption, OnOk, OnErr, length, slice_get};
+ghost use Rattle.gr_lanes.specs.Indices.{AreRising, no_index, with_event};
 
 use gr_model::memory::Memory;
 use std::alloc::{Allocator, Global};
@@ -60,6 +60,18 @@ impl<A: Allocator> Lane<A> {
         ensures { result ≡ slice_get self.now.barriers number }
     {
         self.barriers.get(number as usize).copied()
+    }
+
+    /// The number among the item's barriers of the one with this index.
+    pub(crate) fn barrier_number(&self, index: u32) -> Option<u32>
+        requires few { length self.now.barriers < 4_294_967_296 }
+        requires rise { AreRising self.now.barriers }
+        ensures { MatchOption result ((k : ℕ) → slice_get self.now.barriers k ≢ Some index) (λ k. slice_get self.now.barriers k ≡ Some index) }
+    {
+        match self.barriers.binary_search(&index) {
+            Ok(number) => Some(number as u32),
+            Err(_) => None,
+        }
     }
 
     /// Adds the item's next event, which stands at this place of its group's list.

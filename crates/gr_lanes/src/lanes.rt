@@ -2,7 +2,7 @@
 //!
 //! Invariant: there is a group for each of the shape, of its size, and each has a front of a list that it may have.
 
-ghost use Rattle.std.specs.Prelude.{◌≡◌, ◌<◌, IfOk, IfErr, OnOk, OnErr, length};
+ghost use Rattle.std.specs.Prelude.{◌≡◌, ◌≢◌, ◌<◌, ℕ, IfOk, IfErr, MatchOption, OnOk, OnErr, length};
 ghost use Rattle.gr_model.specs.declared.limits.TheConstants.{MOST_RECORDS};
 ghost use Rattle.gr_model.specs.Streams.{AreFronts, event_at, is_complete, list_of, place_of};
 ghost use Rattle.gr_model.specs.Barriers.{is_barrier};
@@ -111,6 +111,16 @@ impl<A: Allocator> Lanes<A> {
         match self.groups.get(usize::from(item.group)) {
             None => None,
             Some(group) => group.barrier_at(item.item, number),
+        }
+    }
+
+    /// The number among its item's barriers of an event, or `None` where it is no barrier.
+    pub fn barrier_number(&self, event: EventId) -> Option<u32>
+        ensures { MatchOption result ((k : ℕ) → place_of self.now is_barrier event.at k ≢ Some event.index) (λ k. place_of self.now is_barrier event.at k ≡ Some event.index) }
+    {
+        match self.groups.get(usize::from(event.at.group)) {
+            None => None,
+            Some(group) => group.barrier_number(event.at.item, event.index),
         }
     }
 
