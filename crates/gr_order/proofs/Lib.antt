@@ -1,1 +1,2 @@
+pub mod ReadyLemmas
 pub mod StateLemmas

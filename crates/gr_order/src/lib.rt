@@ -4,3 +4,4 @@
 
 pub mod go_error;
 pub mod order;
+mod ready;

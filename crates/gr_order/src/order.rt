@@ -3,16 +3,20 @@
 //! Invariant: the order is lawful, and the handled events of each item are its first ones. How many they are is counted by
 //! a vector clock, the frontier.
 
-ghost use Rattle.std.specs.Prelude.{◌≡◌, ◌<◌, IfOk, IfErr, OnOk, OnErr, length};
+ghost use Rattle.std.specs.Prelude.{◌≡◌, ◌<◌, IfOk, IfErr, OnOk, MatchOption, OnErr, length};
 ghost use Rattle.gr_model.specs.declared.limits.TheConstants.{MOST_RECORDS};
 ghost use Rattle.gr_model.specs.Streams.{list_of};
 ghost use Rattle.gr_lanes.specs.Takes.{CanTake, IsEventButItem, IsTakeFault};
-ghost use Rattle.gr_order.specs.Sequences.{IsSequence, nothing, taking};
+ghost use Rattle.gr_steps.specs.Steps.{CanHandle, IsReady};
+ghost use Rattle.gr_order.specs.Answers.{IsHandleFault};
+ghost use Rattle.gr_order.specs.Sequences.{HandlesEvent, IsSequence, nothing, taking};
 
+use crate::go_error::GoError;
+use crate::ready::is_ready;
 use gr_clocks::clock::Clock;
 use gr_lanes::lanes::Lanes;
 use gr_lanes::seq_error::SeqError;
-use gr_model::event::{Event, EventId};
+use gr_model::event::{Event, EventId, ItemId};
 use gr_model::memory::Memory;
 use gr_model::shape::Shape;
 use std::alloc::{Allocator, Global};
@@ -69,6 +73,25 @@ impl<A: Allocator> Order<A> {
         self.lanes.taken(group)
     }
 
+    /// The event of an item that may be handled, if there is one.
+    pub fn next(&self, item: ItemId) -> Option<EventId>
+        ensures next { MatchOption result (¬ CanHandle self.now.taken self.now.handled item) (λ e. (e.at ≡ item) × IsReady self.now.taken self.now.handled e) }
+        ensures sequence { IsSequence self.now }
+    {
+        let index = self.frontier.get(item);
+        let event = EventId { at: item, index };
+        match self.lanes.event_at(event) {
+            None => None,
+            Some(taken) => {
+                if is_ready(&self.lanes, &self.frontier, event, &taken) {
+                    Some(event)
+                } else {
+                    None
+                }
+            }
+        }
+    }
+
     /// Takes the next record of a group. It is one that some group may have, whatever its item.
     ///
     /// # Errors
@@ -83,5 +106,44 @@ impl<A: Allocator> Order<A> {
         ensures sequence { IsSequence self.new }
     {
         self.lanes.take(group, event)
+    }
+
+    /// Handles an item's next event, where all that it waits for was handled and it is no barrier of a convergent or
+    /// waiting instance.
+    ///
+    /// # Errors
+    /// `NotReady`, and else `Memory`. Nothing is then handled.
+    pub fn handle(&mut self, item: ItemId) -> Result<EventId, GoError>
+        ensures step { IfOk result (λ e. (e.at ≡ item) × HandlesEvent self.old e self.new) }
+        ensures err { IfErr result (λ f. IsHandleFault self.old item f) }
+        ensures unchanged { OnErr result (self.new ≡ self.old) }
+        ensures sequence { IsSequence self.new }
+    {
+        let event = match self.next(item) {
+            None => return Err(GoError::NotReady),
+            Some(event) => event,
+        };
+        self.add(event)?;
+        Ok(event)
+    }
+
+    /// Adds an event that may be handled to the order.
+    ///
+    /// # Errors
+    /// `Memory`. Nothing is then handled.
+    fn add(&mut self, event: EventId) -> Result<(), Memory>
+        requires { IsReady self.old.taken self.old.handled event }
+        ensures step { OnOk result (HandlesEvent self.old event self.new) }
+        ensures unchanged { OnErr result (self.new ≡ self.old) }
+        ensures sequence { IsSequence self.new }
+    {
+        self.handled.reserve(1)?;
+        match self.frontier.tick(event.at) {
+            Err(_) => Err(Memory),
+            Ok(()) => {
+                self.handled.push_reserved(event);
+                Ok(())
+            }
+        }
     }
 }
