@@ -1,12 +1,10 @@
 -- What was taken of groups, by what was taken of each.
-use Rattle.std.proofs.Common.{◌≡◌, ◌⊎◌, ℕ, zero, suc, ◌+◌, ◌<◌, ◌≤◌, List, [], ◌∷◌, ◌++◌, length, map, get_or, set, take, refl, sym, ap, ◌∙◌, subst, ⊎_elim, arith, IsTrue}
-use Rattle.std.specs.Prelude.{slice_index_or}
+use Rattle.std.proofs.Common.{◌≡◌, ℕ, zero, suc, ◌+◌, ◌<◌, ◌≤◌, List, [], ◌∷◌, ◌++◌, length, map, get_or, set, take, refl, sym, ap, ◌∙◌, subst, ⊎_elim, arith, IsTrue}
 use Rattle.std.proofs.lemmas.Bool.{cases_eq}
-use Rattle.std.proofs.lemmas.List.{length-set, length-map, map-set, get_or-map, get_or-set_same, get_or-set_other, get_or_read, map-append, take_more}
+use Rattle.std.proofs.lemmas.List.{length-set, length-map, map-set, get_or-map, get_or-set_same, get_or-set_other, map-append, take_more}
 use Rattle.std.proofs.Math.Seq.{map-set_same}
 use Rattle.gr_model.specs.declared.event.Event.{Event}
 use Rattle.gr_model.specs.declared.limits.TheConstants.{MOST_RECORDS}
-use Rattle.gr_model.specs.Events.{IsEventOk}
 use Rattle.gr_model.specs.Shapes.{IsShape}
 use Rattle.gr_model.specs.Streams.{AreFronts, IsFront, Streams, is_complete, list_of, size_of}
 use Rattle.gr_lanes.specs.Indices.{AreGroups, GroupList, taken_of}
@@ -62,7 +60,6 @@ module _ (sizes : List ℕ) (groups : List GroupList) (are : AreGroups sizes gro
 
     pub group_size : now.size ≡ size_of (taken_of sizes groups) g
     group_size = ap (λ (x : GroupList). x.size) reads ∙ (sym (get_or-map (λ (x : GroupList). x.size) groups g now 0 within) ∙ ap (λ l. get_or l g 0) are.same)
-
 
 -- a group of these takes a record
 pub record Taking (sizes : List ℕ) (groups : List GroupList) (g : ℕ) (now : GroupList) (x : Event) (new : GroupList) : Type 0 where

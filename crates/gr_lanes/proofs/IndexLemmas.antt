@@ -1,5 +1,5 @@
 -- What one record more makes of the index of each item.
-use Rattle.std.proofs.Common.{◌≡◌, ◌⊎◌, ℕ, zero, suc, ◌+◌, ◌-◌, ◌<◌, ◌≤◌, Bool, true, false, not, ◌&&◌, ◌==◌, cond, List, [], ◌∷◌, ◌++◌, length, filter, Option, Some, None, Err, nat_cmp, slice_get, get_or, set, take, refl, sym, ap, ◌∙◌, subst, inl, inr, ⊎_elim, arith, append-nil, IsTrue, eqb-true, true≢false, eq-or-lt_of_le, ltb}
+use Rattle.std.proofs.Common.{◌≡◌, ℕ, zero, suc, ◌+◌, ◌-◌, ◌<◌, ◌≤◌, Bool, true, false, not, ◌&&◌, ◌==◌, cond, List, [], ◌∷◌, ◌++◌, length, filter, Some, None, Err, nat_cmp, slice_get, get_or, set, take, refl, sym, ap, ◌∙◌, subst, ⊎_elim, arith, append-nil, IsTrue, ltb}
 use Rattle.std.proofs.lemmas.Bool.{cases_lt, cases_eq, eq-eqb, ltb-false, ltb-true, ne_eqb}
 use Rattle.std.proofs.lemmas.List.{length-set, get_or-set_same, get_or-set_other, get_or_read, get_or_push, get_or_append_left, length_push}
 use Rattle.std.proofs.lemmas.List.Elements.{filter-append}
@@ -12,8 +12,8 @@ use Rattle.gr_model.specs.declared.limits.TheConstants.{MOST_RECORDS}
 use Rattle.gr_model.specs.Access.{is_release}
 use Rattle.gr_model.specs.Barriers.{is_barrier}
 use Rattle.gr_model.specs.Events.{IsEventOk, is_end}
-use Rattle.gr_model.specs.Streams.{IsFront, IsGoodAt, AreGood, is_complete, is_of, places_from}
-use Rattle.gr_model.proofs.Places.{places_from-append, slice_get-append_cases}
+use Rattle.gr_model.specs.Streams.{IsFront, AreGood, is_complete, is_of, places_from}
+use Rattle.gr_model.proofs.Places.{places_from-append}
 use Rattle.gr_model.proofs.ListsOfRecords.{is_complete-last}
 use Rattle.gr_lanes.specs.Indices.{Index, index_of, no_index, with_if, with_event, indexed, AreIndices, AreRising}
 
@@ -139,9 +139,9 @@ module _ (lanes : List Index) (list : List Event) (x : Event) (are : AreIndices 
 
   pub size_more : (n : ℕ) → length (indexed lanes x n) ≡ length lanes
   size_more n = elim (is_end x) as (λ b. length (cond b lanes (set lanes x.item (with_event (get_or lanes x.item no_index) n (is_release x) (is_barrier x)))) ≡ length lanes) [
-      | true ↦ refl
-      | false ↦ length-set lanes x.item (with_event (get_or lanes x.item no_index) n (is_release x) (is_barrier x))
-    ]
+    | true ↦ refl
+    | false ↦ length-set lanes x.item (with_event (get_or lanes x.item no_index) n (is_release x) (is_barrier x))
+  ]
 
 -- lanes of items without events
 pub no_events : (lanes : List Index) → ((i : ℕ) → i < length lanes → get_or lanes i no_index ≡ no_index) → AreIndices lanes []

@@ -1,5 +1,5 @@
 -- An order stays one where a record is taken, and where an event is handled.
-use Rattle.std.proofs.Common.{◌≡◌, ◌⊎◌, ◌↔◌, ℕ, ◌+◌, ◌<◌, ◌≤◌, List, [], ◌∷◌, ◌++◌, length, Result, Ok, Err, Some, slice_get, refl, sym, ap, ◌∙◌, subst, inl, inr, ⊎_elim, arith, Bool, true, false, cond, zero, suc, true≢false}
+use Rattle.std.proofs.Common.{◌≡◌, ◌⊎◌, ℕ, ◌+◌, ◌<◌, ◌≤◌, List, [], ◌∷◌, ◌++◌, length, Result, Ok, Err, Some, slice_get, refl, sym, ap, ◌∙◌, subst, inl, inr, ⊎_elim, arith, Bool, true, false, cond, zero, suc, true≢false}
 use Rattle.std.specs.Prelude.{OnOk, OnErr, ◌==◌, ◌&&◌}
 use Rattle.std.proofs.lemmas.Bool.{cases_lt, eq-eqb}
 use Rattle.gr_model.specs.declared.event.Event.{Event}
@@ -19,7 +19,7 @@ use Rattle.gr_clocks.specs.Counts.{Counts, IsTick, count_of, sizes_of, tick_at}
 use Rattle.gr_clocks.proofs.RowLemmas.{same_items}
 use Rattle.gr_lanes.specs.Takes.{CanTake, with_record}
 use Rattle.gr_lanes.proofs.Growth.{record_grows}
-use Rattle.gr_order.specs.Sequences.{IsSequence, Sequence}
+use Rattle.gr_order.specs.Sequences.{Sequence}
 use Rattle.gr_order.specs.States.{AreFirst, IsState}
 use Rattle.gr_order.proofs.ReadyLemmas.{group_of_event, item_of_event}
 
@@ -77,9 +77,9 @@ more_in order e d (inr same) = (length order + 0, at_behind order (e ∷ []) 0 d
 
 item_cases : (i j : ItemId) → (i ≡ j) ⊎ (i ≡ j → ⊥)
 item_cases i j = elim (same_item i j) as (λ b. same_item i j ≡ b → (i ≡ j) ⊎ (i ≡ j → ⊥)) [
-      | true ↦ λ t. inl (same_items i j t)
-      | false ↦ λ f. inr (λ same. true≢false (sym (same_true i j same) ∙ f))
-    ] refl
+  | true ↦ λ t. inl (same_items i j t)
+  | false ↦ λ f. inr (λ same. true≢false (sym (same_true i j same) ∙ f))
+] refl
 
 module _ (q : Sequence) (frontier : Counts) (state : IsState q frontier) (e : EventId) (ready : IsReady q.taken q.handled e) where
   abbrev counts : ItemId → ℕ

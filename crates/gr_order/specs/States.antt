@@ -1,7 +1,6 @@
 -- How an order knows which events were handled: by how many of each item.
-use Rattle.std.specs.Prelude.{◌≡◌, ◌↔◌, ℕ, ◌<◌, List}
+use Rattle.std.specs.Prelude.{◌≡◌, ◌↔◌, ◌<◌, List}
 use Rattle.gr_model.specs.declared.event.EventId.{EventId}
-use Rattle.gr_model.specs.declared.event.ItemId.{ItemId}
 use Rattle.gr_model.specs.LawfulOrders.{IsIn}
 use Rattle.gr_clocks.specs.Counts.{Counts, count_of, sizes_of}
 use Rattle.gr_order.specs.Sequences.{Sequence, IsSequence}

@@ -42,12 +42,7 @@ fn parts<A: Allocator>(lanes: &Lanes<A>, item: ItemId, number: u32, mine: &Event
 }
 
 /// Whether the instance of a barrier that was taken is divergent.
-fn is_divergent<A: Allocator>(
-    lanes: &Lanes<A>,
-    group: u16,
-    number: u32,
-    mine: &Event,
-) -> bool
+fn is_divergent<A: Allocator>(lanes: &Lanes<A>, group: u16, number: u32, mine: &Event) -> bool
     requires group { group < length lanes.now.sizes }
     requires come { HasCome lanes.now group number mine.now }
     ensures { IsTrue result ↔ IsDivergent lanes.now group number }

@@ -1,4 +1,4 @@
-use Rattle.std.proofs.Common.{◌≡◌, ◌∙◌, refl, sym}
+use Rattle.std.proofs.Common.{◌∙◌, refl, sym}
 use Rattle.gr_order.proofs.ReadyLemmas.{released_if, released_only}
 use Rattle.gr_order.proofs.ready.is_released.Goals as goal
 

@@ -1,4 +1,4 @@
-use Rattle.std.proofs.Common.{◌≡◌, ◌∙◌, ap, Some}
+use Rattle.std.proofs.Common.{◌∙◌, ap}
 use Rattle.std.specs.Prelude.{filter, slice_get}
 use Rattle.gr_model.specs.Barriers.{is_barrier}
 use Rattle.gr_model.specs.Streams.{is_of, places_from}

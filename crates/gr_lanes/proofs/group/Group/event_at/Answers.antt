@@ -1,6 +1,5 @@
-use Rattle.std.proofs.Common.{◌≡◌, ◌∙◌, ap, sym}
-use Rattle.std.specs.Prelude.{None, Option, filter, slice_get}
-use Rattle.gr_model.specs.declared.event.Event.{Event}
+use Rattle.std.proofs.Common.{◌∙◌, ap, sym}
+use Rattle.std.specs.Prelude.{filter, slice_get}
 use Rattle.gr_model.specs.Streams.{is_of}
 use Rattle.gr_lanes.specs.Indices.{GroupList}
 use Rattle.gr_lanes.proofs.IndexLemmas.{event_by_place, lacks_events, no_event}

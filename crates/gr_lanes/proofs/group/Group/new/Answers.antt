@@ -1,6 +1,6 @@
-use Rattle.std.proofs.Common.{◌≡◌, ◌∙◌, ◌+◌, ◌<◌, ◌++◌, ◌∷◌, ℕ, length, ap, arith, sym, subst, [], get_or}
+use Rattle.std.proofs.Common.{◌∙◌, ◌+◌, ◌++◌, ◌∷◌, ℕ, length, ap, arith, sym, subst, []}
 use Rattle.std.proofs.lemmas.List.{length_push}
-use Rattle.gr_lanes.specs.Indices.{no_index, AreIndices}
+use Rattle.gr_lanes.specs.Indices.{AreIndices}
 use Rattle.gr_lanes.proofs.IndexLemmas.{no_events, one_lane_more}
 use Rattle.gr_lanes.proofs.group.Group.new.Goals as goal
 

@@ -1,4 +1,4 @@
-use Rattle.std.proofs.Common.{◌≡◌, ◌∙◌, ap}
+use Rattle.std.proofs.Common.{◌∙◌, ap}
 use Rattle.gr_lanes.specs.Indices.{Index}
 use Rattle.gr_lanes.proofs.IndexLemmas.{not_found}
 use Rattle.gr_lanes.proofs.lane.Lane.barrier_number.Goals as goal

@@ -1,6 +1,5 @@
-use Rattle.std.proofs.Common.{◌≡◌, ◌∙◌, ◌++◌, ◌∷◌, ◌<◌, [], map, take, ap, sym, arith, length, get_or}
+use Rattle.std.proofs.Common.{◌≡◌, ◌∙◌, ◌<◌, map, take, ap, arith, length}
 use Rattle.std.proofs.lemmas.List.{take_all}
-use Rattle.gr_lanes.specs.Indices.{GroupList}
 use Rattle.gr_lanes.proofs.GroupLemmas.{empty, nothing_groups, nothing_is, one_group_more}
 use Rattle.gr_lanes.proofs.lanes.Lanes.new.Goals as goal
 

@@ -1,9 +1,8 @@
-use Rattle.std.proofs.Common.{◌≡◌, ◌∙◌, ◌++◌, ◌∷◌, [], List, ap, sym, subst}
+use Rattle.std.proofs.Common.{◌∙◌, ◌++◌, ◌∷◌, [], List, ap, sym, subst}
 use Rattle.gr_model.specs.declared.event.EventId.{EventId}
 use Rattle.gr_steps.specs.Steps.{IsReady}
 use Rattle.gr_order.specs.Sequences.{Sequence}
 use Rattle.gr_order.proofs.StateLemmas.{after_handle, item_there}
-use Rattle.gr_order.proofs.order.Order.add.Given as given
 use Rattle.gr_order.proofs.order.Order.add.Goals as goal
 
 pub tick-requires : goal.tick-requires

@@ -1,4 +1,4 @@
-use Rattle.std.proofs.Common.{◌≡◌, ◌∙◌, refl, sym, subst, true≢false}
+use Rattle.std.proofs.Common.{◌∙◌, refl, sym, subst, true≢false}
 use Rattle.gr_model.specs.declared.event.EventId.{EventId}
 use Rattle.gr_steps.specs.Steps.{CanHandle, IsReady}
 use Rattle.gr_order.specs.Sequences.{Sequence}
