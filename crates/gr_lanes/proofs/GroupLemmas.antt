@@ -1,0 +1,136 @@
+-- What was taken of groups, by what was taken of each.
+use Rattle.std.proofs.Common.{◌≡◌, ℕ, zero, suc, ◌+◌, ◌<◌, ◌≤◌, List, [], ◌∷◌, ◌++◌, length, map, get_or, set, take, refl, sym, ap, ◌∙◌, subst, ⊎_elim, arith, IsTrue}
+use Rattle.std.proofs.lemmas.Bool.{cases_eq}
+use Rattle.std.proofs.lemmas.List.{length-set, length-map, map-set, get_or-map, get_or-set_same, get_or-set_other, map-append, take_more}
+use Rattle.std.proofs.Math.Seq.{map-set_same}
+use Rattle.gr_model.specs.declared.event.Event.{Event}
+use Rattle.gr_model.specs.declared.limits.TheConstants.{MOST_RECORDS}
+use Rattle.gr_model.specs.Shapes.{IsShape}
+use Rattle.gr_model.specs.Streams.{AreFronts, IsFront, Streams, is_complete, list_of, size_of}
+use Rattle.gr_lanes.specs.Indices.{AreGroups, GroupList, taken_of}
+use Rattle.gr_lanes.specs.Takes.{CanTake, IsEventButItem, nothing_taken, with_record}
+use Rattle.gr_lanes.proofs.IndexLemmas.{front_more}
+
+-- a group of which nothing was taken
+abbrev pub empty : ℕ → GroupList
+empty n = record { size = n; list = [] }
+
+lists_empty : (sizes : List ℕ) → map (λ g. g.list) (map empty sizes) ≡ map (λ n. []) sizes
+lists_empty [] = refl
+lists_empty (n ∷ sizes) = ap (λ l. [] ∷ l) (lists_empty sizes)
+
+sizes_empty : (sizes : List ℕ) → map (λ g. g.size) (map empty sizes) ≡ sizes
+sizes_empty [] = refl
+sizes_empty (n ∷ sizes) = ap (λ l. n ∷ l) (sizes_empty sizes)
+
+none_at : (sizes : List ℕ) (g : ℕ) → get_or (map (λ g. g.list) (map empty sizes)) g [] ≡ []
+none_at [] g = refl
+none_at (n ∷ sizes) zero = refl
+none_at (n ∷ sizes) (suc g) = none_at sizes g
+
+pub nothing_is : (sizes : List ℕ) (groups : List GroupList) → groups ≡ map empty sizes → taken_of sizes groups ≡ nothing_taken sizes
+nothing_is sizes groups are = let lists = ap (map (λ (g : GroupList). g.list)) are ∙ lists_empty sizes in λ d. record { sizes = sizes; lists = lists d }
+
+pub nothing_groups : (sizes : List ℕ) (groups : List GroupList) → IsShape sizes → groups ≡ map empty sizes → AreGroups sizes groups
+nothing_groups sizes groups shape are = subst (AreGroups sizes) (sym are) (record {
+  same = sizes_empty sizes;
+  fronts = record {
+    shape = shape;
+    count = ap length (lists_empty sizes) ∙ length-map sizes (λ n. []);
+    each = λ g within. subst (IsFront (get_or sizes g 0)) (sym (none_at sizes g)) (record { few = omega arith; good = λ p x at. cc });
+  };
+})
+
+pub one_group_more : (sizes : List ℕ) (n : ℕ) (old : List GroupList) (new : GroupList) → n < length sizes → old ≡ map empty (take n sizes) → new ≡ empty (get_or sizes n 0) → old ++ new ∷ [] ≡ map empty (take (n + 1) sizes)
+one_group_more sizes n old new within was is =
+    ap (λ (l : List GroupList). l ++ new ∷ []) was ∙ (ap (λ (x : GroupList). map empty (take n sizes) ++ x ∷ []) is
+    ∙ (sym (map-append empty (take n sizes) (get_or sizes n 0 ∷ [])) ∙ ap (map empty) (sym (take_more sizes n 0 within))))
+
+-- the group at a place
+module _ (sizes : List ℕ) (groups : List GroupList) (are : AreGroups sizes groups) (g : ℕ) where
+  pub group_there : g < length sizes → g < length groups
+  group_there within = omega (arith, ap length are.same, length-map groups (λ (x : GroupList). x.size))
+
+  pub group_behind : length sizes ≤ g → length groups ≤ g
+  group_behind past = omega (arith, ap length are.same, length-map groups (λ (x : GroupList). x.size))
+
+  module _ (now : GroupList) (within : g < length groups) (reads : now ≡ get_or groups g now) where
+    pub group_list : now.list ≡ list_of (taken_of sizes groups) g
+    group_list = ap (λ (x : GroupList). x.list) reads ∙ sym (get_or-map (λ (x : GroupList). x.list) groups g now [] within)
+
+    pub group_size : now.size ≡ size_of (taken_of sizes groups) g
+    group_size = ap (λ (x : GroupList). x.size) reads ∙ (sym (get_or-map (λ (x : GroupList). x.size) groups g now 0 within) ∙ ap (λ l. get_or l g 0) are.same)
+
+-- a group of these takes a record
+pub record Taking (sizes : List ℕ) (groups : List GroupList) (g : ℕ) (now : GroupList) (x : Event) (new : GroupList) : Type 0 where
+  pub are : AreGroups sizes groups
+  pub there : g < length sizes
+  pub reads : now ≡ get_or groups g now
+  pub open_list : ¬ IsTrue (is_complete now.list)
+  pub item : x.item < now.size
+  pub good : IsEventButItem x
+  pub room : length now.list < MOST_RECORDS
+  pub is : new ≡ record { size = now.size; list = now.list ++ x ∷ [] }
+
+module _ {sizes : List ℕ} {groups : List GroupList} {g : ℕ} {now : GroupList} {x : Event} {new : GroupList} (t : Taking sizes groups g now x new) where
+  within : g < length groups
+  within = group_there sizes groups t.are g t.there
+
+  list : now.list ≡ list_of (taken_of sizes groups) g
+  list = group_list sizes groups t.are g now within t.reads
+
+  size : now.size ≡ size_of (taken_of sizes groups) g
+  size = group_size sizes groups t.are g now within t.reads
+
+  pub can_take : CanTake (taken_of sizes groups) g x
+  can_take = record {
+    group = t.there;
+    before_end = λ h. t.open_list (subst (λ l. IsTrue (is_complete l)) (sym list) h);
+    item = subst (λ n. x.item < n) size t.item;
+  }
+
+  abbrev lists : List (List Event)
+  lists = map (λ (x : GroupList). x.list) groups
+
+  abbrev longer : List Event
+  longer = list_of (taken_of sizes groups) g ++ x ∷ []
+
+  sizes_stay : map (λ (x : GroupList). x.size) (set groups g new) ≡ sizes
+  sizes_stay = map-set_same (λ (x : GroupList). x.size) groups g new now (ap (λ (x : GroupList). x.size) t.is ∙ ap (λ (x : GroupList). x.size) t.reads) ∙ t.are.same
+
+  lists_grow : map (λ (x : GroupList). x.list) (set groups g new) ≡ set lists g longer
+  lists_grow = map-set (λ (x : GroupList). x.list) groups g new ∙ ap (set lists g) (ap (λ (x : GroupList). x.list) t.is ∙ ap (λ l. l ++ x ∷ []) list)
+
+  pub set_taken : taken_of sizes (set groups g new) ≡ with_record (taken_of sizes groups) g x
+  set_taken = λ d. record { sizes = sizes; lists = lists_grow d }
+
+  list_there : g < length lists
+  list_there = omega (arith, length-map groups (λ (x : GroupList). x.list), within)
+
+  front_here : IsFront (get_or sizes g 0) (get_or (set lists g longer) g [])
+  front_here =
+      subst (IsFront (get_or sizes g 0)) (sym (get_or-set_same lists g longer [] list_there))
+      (front_more (get_or sizes g 0) (list_of (taken_of sizes groups) g) x (t.are.fronts.each g t.there) (can_take.item, t.good.0, t.good.1) can_take.before_end (subst (λ l. length l < MOST_RECORDS) list t.room))
+
+  pub fronts_grow : AreFronts (with_record (taken_of sizes groups) g x)
+  fronts_grow = record {
+    shape = t.are.fronts.shape;
+    count = length-set lists g longer ∙ t.are.fronts.count;
+    each = λ h there. ⊎_elim
+        (λ (here : h ≡ g). subst (λ n. IsFront (get_or sizes n 0) (get_or (set lists g longer) n [])) (sym here) front_here)
+        (λ (apart : h ≡ g → ⊥). subst (IsFront (get_or sizes h 0)) (sym (get_or-set_other lists g h longer [] apart)) (t.are.fronts.each h there))
+        (cases_eq h g);
+  }
+
+  pub set_groups : AreGroups sizes (set groups g new)
+  set_groups = record { same = sizes_stay; fronts = subst AreFronts (sym set_taken) fronts_grow }
+
+  -- the same of the lists and the group by other names
+  pub taken_so : (s : Streams) (h : ℕ) → taken_of sizes groups ≡ s → g ≡ h → CanTake s h x × (taken_of sizes (set groups g new) ≡ with_record s h x)
+  taken_so s h is same = (
+    subst (λ k. CanTake s k x) same (subst (λ r. CanTake r g x) is can_take),
+    set_taken ∙ (ap (λ r. with_record r g x) is ∙ ap (λ k. with_record s k x) same),
+  )
+
+  pub fronts_so : AreFronts (taken_of sizes (set groups g new))
+  fronts_so = set_groups.fronts

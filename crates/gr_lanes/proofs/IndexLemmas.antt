@@ -1,0 +1,267 @@
+-- What one record more makes of the index of each item.
+use Rattle.std.proofs.Common.{◌≡◌, ℕ, zero, suc, ◌+◌, ◌-◌, ◌<◌, ◌≤◌, Bool, true, false, not, ◌&&◌, ◌==◌, cond, List, [], ◌∷◌, ◌++◌, length, filter, Some, None, Err, nat_cmp, slice_get, get_or, set, take, refl, sym, ap, ◌∙◌, subst, ⊎_elim, arith, append-nil, IsTrue, ltb}
+use Rattle.std.proofs.lemmas.Bool.{cases_lt, cases_eq, eq-eqb, ltb-false, ltb-true, ne_eqb}
+use Rattle.std.proofs.lemmas.List.{length-set, get_or-set_same, get_or-set_other, get_or_read, get_or_push, get_or_append_left, length_push}
+use Rattle.std.proofs.lemmas.List.Elements.{filter-append}
+use Rattle.std.proofs.lemmas.Option.{get_or_from_slice_get, slice_get_past, slice_get_within}
+use Rattle.std.proofs.lemmas.List.Sorted.{searched}
+use Rattle.std.specs.List.Sorted.{IsBinarySearchResult}
+use Rattle.std.proofs.Math.Seq.{take-append_seam}
+use Rattle.gr_model.specs.declared.event.Event.{Event}
+use Rattle.gr_model.specs.declared.limits.TheConstants.{MOST_RECORDS}
+use Rattle.gr_model.specs.Access.{is_release}
+use Rattle.gr_model.specs.Barriers.{is_barrier}
+use Rattle.gr_model.specs.Events.{IsEventOk, is_end}
+use Rattle.gr_model.specs.Streams.{IsFront, AreGood, is_complete, is_of, places_from}
+use Rattle.gr_model.proofs.Places.{places_from-append}
+use Rattle.gr_model.proofs.ListsOfRecords.{is_complete-last}
+use Rattle.gr_lanes.specs.Indices.{Index, index_of, no_index, with_if, with_event, indexed, AreIndices, AreRising}
+
+-- an element more at the end of a list
+pub places_more : {X : Type 0} (test : X → Bool) (xs : List X) (x : X) → places_from test 0 (xs ++ x ∷ []) ≡ with_if (test x) (places_from test 0 xs) (length xs)
+places_more test xs x =
+    places_from-append test 0 xs (x ∷ []) ∙ elim (test x) as (λ b. places_from test 0 xs ++ cond b ((0 + length xs) ∷ []) [] ≡ with_if b (places_from test 0 xs) (length xs)) [
+      | true ↦ ap (λ n. places_from test 0 xs ++ n ∷ []) (omega arith)
+      | false ↦ append-nil (places_from test 0 xs)
+    ]
+
+pub trace_more : (list : List Event) (x : Event) (i : ℕ) → filter (is_of i) (list ++ x ∷ []) ≡ filter (is_of i) list ++ cond (is_of i x) (x ∷ []) []
+trace_more list x i = filter-append (is_of i) list (x ∷ [])
+
+pub length-places : {X : Type 0} (test : X → Bool) (n : ℕ) (xs : List X) → length (places_from test n xs) ≡ length (filter test xs)
+length-places test n [] = refl
+length-places test n (x ∷ xs) =
+    elim (test x) as (λ b. length (cond b (n ∷ places_from test (suc n) xs) (places_from test (suc n) xs)) ≡ length (cond b (x ∷ filter test xs) (filter test xs))) [
+      | true ↦ ap suc (length-places test (suc n) xs)
+      | false ↦ length-places test (suc n) xs
+    ]
+
+pub few-places : {X : Type 0} (test : X → Bool) (n : ℕ) (xs : List X) → length (places_from test n xs) ≤ length xs
+few-places test n [] = omega arith
+few-places test n (x ∷ xs) =
+    let rest = few-places test (suc n) xs in
+    elim (test x) as (λ b. length (cond b (n ∷ places_from test (suc n) xs) (places_from test (suc n) xs)) ≤ suc (length xs)) [
+      | true ↦ omega arith
+      | false ↦ omega arith
+    ]
+
+-- the record is none of the item's
+pub index_other : (list : List Event) (x : Event) (i : ℕ) → is_of i x ≡ false → index_of (list ++ x ∷ []) i ≡ index_of list i
+index_other list x i other =
+    let places : places_from (is_of i) 0 (list ++ x ∷ []) ≡ places_from (is_of i) 0 list = places_more (is_of i) list x ∙ ap (λ b. with_if b (places_from (is_of i) 0 list) (length list)) other in
+    let trace : filter (is_of i) (list ++ x ∷ []) ≡ filter (is_of i) list = trace_more list x i ∙ (ap (λ b. filter (is_of i) list ++ cond b (x ∷ []) []) other ∙ append-nil (filter (is_of i) list)) in
+    λ d. record { places = places d; releases = places_from is_release 0 (trace d); barriers = places_from is_barrier 0 (trace d) }
+
+-- the record is one of the item's
+pub index_here : (list : List Event) (x : Event) (i : ℕ) → is_of i x ≡ true → index_of (list ++ x ∷ []) i ≡ with_event (index_of list i) (length list) (is_release x) (is_barrier x)
+index_here list x i mine =
+    let places : places_from (is_of i) 0 (list ++ x ∷ []) ≡ places_from (is_of i) 0 list ++ length list ∷ [] = places_more (is_of i) list x ∙ ap (λ b. with_if b (places_from (is_of i) 0 list) (length list)) mine in
+    let trace : filter (is_of i) (list ++ x ∷ []) ≡ filter (is_of i) list ++ x ∷ [] = trace_more list x i ∙ ap (λ b. filter (is_of i) list ++ cond b (x ∷ []) []) mine in
+    let releases = marked is_release trace in
+    let barriers = marked is_barrier trace in
+    λ d. record { places = places d; releases = releases d; barriers = barriers d }
+  where
+    marked : (test : Event → Bool) → filter (is_of i) (list ++ x ∷ []) ≡ filter (is_of i) list ++ x ∷ [] → places_from test 0 (filter (is_of i) (list ++ x ∷ [])) ≡ with_if (test x) (places_from test 0 (filter (is_of i) list)) (length (places_from (is_of i) 0 list))
+    marked test trace = ap (places_from test 0) trace ∙ (places_more test (filter (is_of i) list) x ∙ ap (with_if (test x) (places_from test 0 (filter (is_of i) list))) (sym (length-places (is_of i) 0 list)))
+
+-- ---- fronts
+
+-- no record of a front that is not complete is an end
+no_end : (items : ℕ) (list : List Event) → AreGood items list → ¬ IsTrue (is_complete list) → (p : ℕ) (x : Event) → slice_get list p ≡ Some x → ¬ IsTrue (is_end x)
+no_end items list good open_list p x at end =
+    let last : p + 1 ≡ length list = (good p x at).1 end in
+    let same : length list - 1 ≡ p = omega arith in
+    open_list (is_complete-last list x (ap (slice_get list) same ∙ at) ∙ end)
+
+at_end : {X : Type 0} (xs : List X) (x y : X) (p : ℕ) → length xs ≤ p → slice_get (xs ++ x ∷ []) p ≡ Some y → (x ≡ y) × (p ≡ length xs)
+at_end [] x y zero l e = (cc, refl)
+at_end [] x y (suc p) l e = cc
+at_end (z ∷ xs) x y zero l e = absurd (omega arith)
+at_end (z ∷ xs) x y (suc p) l e = let h = at_end xs x y p (omega arith) e in (h.0, omega (arith, h.1))
+
+before : {X : Type 0} (xs : List X) (x y : X) (p : ℕ) → p < length xs → slice_get (xs ++ x ∷ []) p ≡ Some y → slice_get xs p ≡ Some y
+before [] x y p l e = absurd (omega arith)
+before (z ∷ xs) x y zero l e = e
+before (z ∷ xs) x y (suc p) l e = before xs x y p (omega arith) e
+
+pub front_more : (items : ℕ) (list : List Event) (x : Event) → IsFront items list → IsEventOk x items → ¬ IsTrue (is_complete list) → length list < MOST_RECORDS → IsFront items (list ++ x ∷ [])
+front_more items list x front ok open_list room = record { few = omega (arith, length_push list x); good = good }
+  where
+    good : AreGood items (list ++ x ∷ [])
+    good p y at =
+        ⊎_elim
+        (λ (lt : p < length list). let was = before list x y p lt at in ((front.good p y was).0, λ end. absurd (no_end items list front.good open_list p y was end)))
+        (λ (ge : length list ≤ p). let last = at_end list x y p ge at in (subst (λ z. IsEventOk z items) last.0 ok, λ end. omega (arith, last.1, length_push list x)))
+        (cases_lt p (length list))
+
+-- ---- the lanes of a group
+
+-- a record that is an end is none of any item's
+end_is_of : (x : Event) (i : ℕ) → is_end x ≡ true → is_of i x ≡ false
+end_is_of x i end = elim (x.item == i) as (λ b. (b && not (is_end x)) ≡ false) [ true ↦ ap not end | false ↦ refl ]
+
+is_of_item : (x : Event) (i : ℕ) → is_end x ≡ false → is_of i x ≡ (x.item == i)
+is_of_item x i on = elim (x.item == i) as (λ b. (b && not (is_end x)) ≡ b) [ true ↦ ap not on | false ↦ refl ]
+
+module _ (lanes : List Index) (list : List Event) (x : Event) (are : AreIndices lanes list) (ok : IsEventOk x (length lanes)) where
+  pub few_events : length (get_or lanes x.item no_index).places < 4_294_967_296
+  few_events =
+      let same : length (get_or lanes x.item no_index).places ≡ length (places_from (is_of x.item) 0 list) = ap (λ l. length l.places) (are.each x.item ok.0) in
+      omega (arith, few-places (is_of x.item) 0 list, are.front.few)
+
+  abbrev event : Index
+  event = with_event (get_or lanes x.item no_index) (length list) (is_release x) (is_barrier x)
+
+  pub indices_more : ¬ IsTrue (is_complete list) → length list < MOST_RECORDS → AreIndices (indexed lanes x (length list)) (list ++ x ∷ [])
+  indices_more open_list room = by_end (is_end x) refl
+    where
+      front : IsFront (length lanes) (list ++ x ∷ [])
+      front = front_more (length lanes) list x are.front ok open_list room
+
+      here : is_end x ≡ false → get_or (set lanes x.item event) x.item no_index ≡ index_of (list ++ x ∷ []) x.item
+      here on =
+          get_or-set_same lanes x.item event no_index ok.0 ∙ (ap (λ l. with_event l (length list) (is_release x) (is_barrier x)) (are.each x.item ok.0)
+          ∙ sym (index_here list x x.item (is_of_item x x.item on ∙ eq-eqb x.item x.item refl)))
+
+      other : is_end x ≡ false → (i : ℕ) → (i ≡ x.item → ⊥) → i < length lanes → get_or (set lanes x.item event) i no_index ≡ index_of (list ++ x ∷ []) i
+      other on i apart within = get_or-set_other lanes x.item i event no_index apart ∙ (are.each i within ∙ sym (index_other list x i (is_of_item x i on ∙ ne_eqb x.item i (λ e. apart (sym e)))))
+
+      by_end : (b : Bool) → is_end x ≡ b → AreIndices (cond b lanes (set lanes x.item event)) (list ++ x ∷ [])
+      by_end true end = record { front = front; each = λ i within. are.each i within ∙ sym (index_other list x i (end_is_of x i end)) }
+      by_end false on =
+          let size : length (set lanes x.item event) ≡ length lanes = length-set lanes x.item event in record {
+            front = subst (λ n. IsFront n (list ++ x ∷ [])) (sym size) front;
+            each = λ i within. ⊎_elim
+                (λ (same : i ≡ x.item). subst (λ n. get_or (set lanes x.item event) n no_index ≡ index_of (list ++ x ∷ []) n) (sym same) (here on))
+                (λ (apart : i ≡ x.item → ⊥). other on i apart (omega arith))
+                (cases_eq i x.item);
+          }
+
+  pub size_more : (n : ℕ) → length (indexed lanes x n) ≡ length lanes
+  size_more n = elim (is_end x) as (λ b. length (cond b lanes (set lanes x.item (with_event (get_or lanes x.item no_index) n (is_release x) (is_barrier x)))) ≡ length lanes) [
+    | true ↦ refl
+    | false ↦ length-set lanes x.item (with_event (get_or lanes x.item no_index) n (is_release x) (is_barrier x))
+  ]
+
+-- lanes of items without events
+pub no_events : (lanes : List Index) → ((i : ℕ) → i < length lanes → get_or lanes i no_index ≡ no_index) → AreIndices lanes []
+no_events lanes none = record { front = record { few = omega arith; good = λ p x at. cc }; each = none }
+
+pub one_lane_more : (old new : List Index) (n : ℕ) → length old ≡ n → ((i : ℕ) → i < n → get_or old i no_index ≡ no_index) → new ≡ old ++ no_index ∷ [] → (i : ℕ) → i < n + 1 → get_or new i no_index ≡ no_index
+one_lane_more old new n count none is i within =
+    ap (λ l. get_or l i no_index) is ∙ ⊎_elim
+    (λ (lt : i < n). get_or_append_left old (no_index ∷ []) no_index i (omega arith) ∙ none i lt)
+    (λ (ge : n ≤ i). get_or_push old no_index no_index i (omega arith))
+    (cases_lt i n)
+
+-- a slice of a whole vector was written
+pub whole_slice : {X : Type 0} (n : ℕ) (new rest : List X) → length new ≡ n → take n (new ++ rest) ≡ new
+whole_slice n new rest size = ap (λ k. take k (new ++ rest)) (sym size) ∙ take-append_seam new rest
+
+-- ---- what is read by an index
+
+-- an event that passes a test is found by its place
+abbrev pub StandsAt : {X : Type 0} → (X → Bool) → ℕ → List X → ℕ → ℕ → Type 0
+StandsAt test i xs k n = (j : ℕ) × (n ≡ i + j) × (slice_get (filter test xs) k ≡ slice_get xs j)
+
+first-place : {X : Type 0} (test : X → Bool) (i : ℕ) (x : X) (xs : List X) (n : ℕ) → ((k : ℕ) → slice_get (places_from test (suc i) xs) k ≡ Some n → StandsAt test (suc i) xs k n) → (k : ℕ) → slice_get (i ∷ places_from test (suc i) xs) k ≡ Some n → (j : ℕ) × (n ≡ i + j) × (slice_get (x ∷ filter test xs) k ≡ slice_get (x ∷ xs) j)
+first-place test i x xs n rest zero e = let same : i ≡ n = cc in (0, omega arith, refl)
+first-place test i x xs n rest (suc k) e = let r = rest k e in (suc r.0, omega (arith, r.1), r.2)
+
+pub filter-place : {X : Type 0} (test : X → Bool) (i : ℕ) (xs : List X) (k n : ℕ) → slice_get (places_from test i xs) k ≡ Some n → StandsAt test i xs k n
+filter-place test i [] k n at = cc
+filter-place {X} test i (x ∷ xs) k n at =
+    let rest : (k : ℕ) → slice_get (places_from test (suc i) xs) k ≡ Some n → StandsAt test (suc i) xs k n = λ k e. filter-place test (suc i) xs k n e in
+    elim (test x) as (λ b. slice_get (cond b (i ∷ places_from test (suc i) xs) (places_from test (suc i) xs)) k ≡ Some n → (j : ℕ) × (n ≡ i + j) × (slice_get (cond b (x ∷ filter test xs) (filter test xs)) k ≡ slice_get (x ∷ xs) j)) [
+      | true ↦ λ e. first-place test i x xs n rest k e
+      | false ↦ λ e. let r = rest k e in (suc r.0, omega (arith, r.1), r.2)
+    ] at
+
+past : (l : List ℕ) (m : ℕ) → slice_get l m ≡ None → length l ≤ m
+past [] m e = omega arith
+past (x ∷ l) zero e = cc
+past (x ∷ l) (suc m) e = let rest = past l m e in omega arith
+
+pub filter-none : {X : Type 0} (test : X → Bool) (xs : List X) (k : ℕ) → slice_get (places_from test 0 xs) k ≡ None → slice_get (filter test xs) k ≡ None
+filter-none test xs k none = slice_get_past (filter test xs) k (omega (arith, length-places test 0 xs, past (places_from test 0 xs) k none))
+
+-- an item that the group lacks has no events
+none_of : (i : ℕ) (l : List Event) → ((p : ℕ) (x : Event) → slice_get l p ≡ Some x → x.item < i) → filter (is_of i) l ≡ []
+none_of i [] all = refl
+none_of i (x ∷ l) all =
+    let lt = all 0 x refl in
+    let other : is_of i x ≡ false = ap (λ b. b && not (is_end x)) (ne_eqb x.item i (λ e. omega arith)) in
+    ap (λ b. cond b (x ∷ filter (is_of i) l) (filter (is_of i) l)) other ∙ none_of i l (λ p y at. all (suc p) y at)
+
+pub no_trace : (n : ℕ) (list : List Event) → IsFront n list → (i : ℕ) → n ≤ i → filter (is_of i) list ≡ []
+no_trace n list front i beyond = none_of i list (λ p x at. let ok = (front.good p x at).0.0 in omega arith)
+
+at_least : {X : Type 0} (test : X → Bool) (i : ℕ) (xs : List X) (b : ℕ) → b < length (places_from test i xs) → i ≤ get_or (places_from test i xs) b 0
+at_least test i [] b within = absurd (omega arith)
+at_least {X} test i (x ∷ xs) b within =
+    elim (test x) as (λ t. b < length (cond t (i ∷ places_from test (suc i) xs) (places_from test (suc i) xs)) → i ≤ get_or (cond t (i ∷ places_from test (suc i) xs) (places_from test (suc i) xs)) b 0) [
+      | true ↦ λ w. here b w (λ c v. at_least test (suc i) xs c v)
+      | false ↦ λ w. let rest = at_least test (suc i) xs b w in omega arith
+    ] within
+  where
+    here : (c : ℕ) → c < suc (length (places_from test (suc i) xs)) → ((d : ℕ) → d < length (places_from test (suc i) xs) → suc i ≤ get_or (places_from test (suc i) xs) d 0) → i ≤ get_or (i ∷ places_from test (suc i) xs) c 0
+    here zero w rest = omega arith
+    here (suc c) w rest = let r = rest c (omega arith) in omega arith
+
+rising_here : (i : ℕ) (rest : List ℕ) → ((b : ℕ) → b < length rest → suc i ≤ get_or rest b 0) → AreRising rest → AreRising (i ∷ rest)
+rising_here i rest least rises zero zero le within = omega arith
+rising_here i rest least rises zero (suc b) le within = let l = least b (omega arith) in omega arith
+rising_here i rest least rises (suc a) zero le within = absurd (omega arith)
+rising_here i rest least rises (suc a) (suc b) le within = rises a b (omega arith) (omega arith)
+
+pub places_rise : {X : Type 0} (test : X → Bool) (i : ℕ) (xs : List X) → AreRising (places_from test i xs)
+places_rise test i [] a b le within = absurd (omega arith)
+places_rise test i (x ∷ xs) a b le within =
+    elim (test x) as (λ t. AreRising (cond t (i ∷ places_from test (suc i) xs) (places_from test (suc i) xs))) [
+      | true ↦ rising_here i (places_from test (suc i) xs) (λ b w. at_least test (suc i) xs b w) (places_rise test (suc i) xs)
+      | false ↦ places_rise test (suc i) xs
+    ] a b le within
+
+-- a binary search that finds no place finds none because there is none
+pub not_found : (xs ys : List ℕ) → ys ≡ xs → (x i : ℕ) → IsBinarySearchResult (λ y. nat_cmp y x) ys (Err i) → AreRising xs → (k : ℕ) → slice_get xs k ≡ Some x → ⊥
+not_found xs ys same x i search rises k at =
+    let missed = searched ys x (Err i) search (subst AreRising (sym same) rises) in
+    let there : slice_get ys k ≡ Some x = ap (λ l. slice_get l k) same ∙ at in
+    let within : k < length ys = slice_get_within ys k x there in
+    let value : get_or ys k 0 ≡ x = get_or_from_slice_get ys k x 0 there in
+    ⊎_elim (λ (lt : k < i). let below = missed.1 k lt in omega arith) (λ (ge : i ≤ k). let above = missed.2 k ge within in omega arith) (cases_lt k i)
+
+-- what was read of the lanes, at the place that is the item's
+module _ (lanes : List Index) (list : List Event) (are : AreIndices lanes list) (read : List Index) (same : read ≡ lanes) (i j : ℕ) (here : j ≡ i) where
+  behind : false ≡ ltb j (length read) → length lanes ≤ i
+  behind beyond = let past = ltb-false j (length read) (sym beyond) in omega (arith, ap length same)
+
+  pub lacks_events : false ≡ ltb j (length read) → (k : ℕ) → None ≡ slice_get (filter (is_of i) list) k
+  lacks_events beyond k = sym (ap (λ l. slice_get l k) (no_trace (length lanes) list are.front i (behind beyond)))
+
+  pub lacks_places : false ≡ ltb j (length read) → (test : Event → Bool) (k : ℕ) → None ≡ slice_get (places_from test 0 (filter (is_of i) list)) k
+  lacks_places beyond test k = sym (ap (λ l. slice_get (places_from test 0 l) k) (no_trace (length lanes) list are.front i (behind beyond)))
+
+  module _ (lane : Index) (there : true ≡ ltb j (length read)) (reads : lane ≡ get_or read j lane) where
+    pub lane_is : lane ≡ index_of list i
+    lane_is =
+        let lt = ltb-true j (length read) (sym there) in
+        let within : i < length lanes = omega (arith, ap length same) in
+        get_or_read lanes i lane within (reads ∙ (ap (λ l. get_or l j lane) same ∙ ap (λ n. get_or lanes n lane) here)) no_index ∙ are.each i within
+
+    pub few_barriers : length lane.barriers < 4_294_967_296
+    few_barriers =
+        let count : length lane.barriers ≡ length (places_from is_barrier 0 (filter (is_of i) list)) = ap (λ (l : Index). length l.barriers) lane_is in
+        omega (arith, few-places is_barrier 0 (filter (is_of i) list), length-places (is_of i) 0 list, few-places (is_of i) 0 list, are.front.few)
+
+    pub barriers_rise : AreRising lane.barriers
+    barriers_rise = subst (λ (l : Index). AreRising l.barriers) (sym lane_is) (places_rise is_barrier 0 (filter (is_of i) list))
+
+    pub event_by_place : (k n : ℕ) → Some n ≡ slice_get lane.places k → slice_get list n ≡ slice_get (filter (is_of i) list) k
+    event_by_place k n at =
+        let found = filter-place (is_of i) 0 list k n (ap (λ (l : Index). slice_get l.places k) (sym lane_is) ∙ sym at) in
+        let place : n ≡ found.0 = omega (arith, found.1) in
+        ap (slice_get list) place ∙ sym found.2
+
+    pub no_event : (k : ℕ) → None ≡ slice_get lane.places k → None ≡ slice_get (filter (is_of i) list) k
+    no_event k none = sym (filter-none (is_of i) list k (ap (λ (l : Index). slice_get l.places k) (sym lane_is) ∙ sym none))

@@ -1,0 +1,22 @@
+use Rattle.std.proofs.Common.{◌≡◌, ◌∙◌, ◌<◌, map, take, ap, arith, length}
+use Rattle.std.proofs.lemmas.List.{take_all}
+use Rattle.gr_lanes.proofs.GroupLemmas.{empty, nothing_groups, nothing_is, one_group_more}
+use Rattle.gr_lanes.proofs.lanes.Lanes.new.Goals as goal
+
+pub loop-group-preserved : goal.loop-group-preserved
+loop-group-preserved g c =
+    let within : c.loop-group.group < length c.args.shape = omega (arith, c.groups-group-end.ensures.count) in
+    c.in_ok-push.ensures.items ∙ one_group_more c.args.shape c.loop-group.group c.loop-group.groups.items c.in_ok-new.field-0 within c.loop-group.invariant (c.in_ok-new.ensures ∙ ap empty c.items.ensures.size)
+
+pub invariant_of-result : goal.invariant_of-result
+invariant_of-result g c =
+    let whole : take c.loop-group.group c.args.shape ≡ c.args.shape = take_all c.loop-group.group c.args.shape (omega (arith, c.groups-group-end.ensures.count)) in
+    nothing_groups c.args.shape c.loop-group.groups.items c.groups-group-end.ensures.shape (c.loop-group.invariant ∙ ap (map empty) whole)
+
+pub returns-clause-nothing : goal.returns-clause-nothing
+returns-clause-nothing g c =
+    let whole : take c.loop-group.group c.args.shape ≡ c.args.shape = take_all c.loop-group.group c.args.shape (omega (arith, c.groups-group-end.ensures.count)) in
+    nothing_is c.args.shape c.loop-group.groups.items (c.loop-group.invariant ∙ ap (map empty) whole)
+
+pub returns-clause-fronts : goal.returns-clause-fronts
+returns-clause-fronts g c = (invariant_of-result g c).fronts

@@ -1,0 +1,36 @@
+use Rattle.std.proofs.Common.{◌≡◌, ◌∙◌, ◌<◌, ap, sym, subst, arith, length, List, true≢false}
+use Rattle.gr_model.specs.declared.event.Event.{Event}
+use Rattle.gr_model.specs.declared.limits.TheConstants.{MOST_RECORDS}
+use Rattle.gr_model.specs.Streams.{Streams, list_of}
+use Rattle.gr_lanes.specs.Indices.{taken_of}
+use Rattle.gr_lanes.proofs.GroupLemmas.{Taking, fronts_so, group_list, group_there, set_groups, taken_so}
+use Rattle.gr_lanes.proofs.lanes.Lanes.take.Given as given
+use Rattle.gr_lanes.proofs.lanes.Lanes.take.Goals as goal
+
+-- the group at hand takes the record
+at_hand : (g : given.Over) (c : goal.In_ok-take g) → Taking c.self.inside.shape c.self.inside.groups.items c.from.result c.index_mut-taken.result.now c.args.event c.take.new.self
+at_hand g c =
+    let sizes = c.self.inside.shape in
+    let groups = c.self.inside.groups.items in
+    let there : c.from.result < length sizes = omega (arith, c.from.ensures, c.groups.ensures.count, c.if-group-groups.false) in
+    let list : c.index_mut-taken.result.now.list ≡ list_of c.args.self.now c.args.group =
+    group_list sizes groups c.self.invariant c.from.result c.index_mut-taken.result.now (group_there sizes groups c.self.invariant c.from.result there) c.index_mut-taken.ensures.value
+    ∙ (ap (list_of (taken_of sizes groups)) c.from.ensures ∙ ap (λ (s : Streams). list_of s c.args.group) c.self.view_is) in record {
+      are = c.self.invariant;
+      there = there;
+      reads = c.index_mut-taken.ensures.value;
+      open_list = λ h. true≢false (sym h ∙ (sym c.is_complete.ensures ∙ c.if-is_complete.false));
+      item = omega (arith, c.if-from-size.false, c.from-2.ensures, c.size.ensures);
+      good = c.requires.good;
+      room = subst (λ (l : List Event). length l < MOST_RECORDS) (sym list) c.requires.room;
+      is = c.in_ok-take.ensures.ok;
+    }
+
+pub invariant_of-self-2 : goal.invariant_of-self-2
+invariant_of-self-2 g c = set_groups (at_hand g c)
+
+pub returns-clause-ok : goal.returns-clause-ok
+returns-clause-ok g c = taken_so (at_hand g c) c.args.self.now c.args.group c.self.view_is c.from.ensures
+
+pub returns-clause-fronts : goal.returns-clause-fronts
+returns-clause-fronts g c = fronts_so (at_hand g c)

@@ -1,0 +1,64 @@
+-- An index of each item's events in its group's list, and of its releases and barriers among its events.
+use Rattle.std.specs.Prelude.{◌≡◌, ℕ, ◌<◌, ◌≤◌, Bool, List, [], ◌∷◌, ◌++◌, length, map, filter, slice_index, slice_index_or, slice_set, if◌then◌else◌}
+use Rattle.gr_model.specs.declared.event.Event.{Event}
+use Rattle.gr_model.specs.Access.{is_release}
+use Rattle.gr_model.specs.Barriers.{is_barrier}
+use Rattle.gr_model.specs.Events.{is_end}
+use Rattle.gr_model.specs.Streams.{Streams, AreFronts, IsFront, is_of, places_from}
+
+-- the places of an item's events in its group's list, and of its releases and its barriers in its trace
+pub record Index : Type 0 where
+  pub places : List ℕ
+  pub releases : List ℕ
+  pub barriers : List ℕ
+
+-- each place is at least as great as those before it
+abbrev pub AreRising : List ℕ → Type 0
+AreRising places = (i j : ℕ) → i ≤ j → j < length places → slice_index places i ≤ slice_index places j
+
+-- the index of an item of a group that has this list
+abbrev pub index_of : List Event → ℕ → Index
+index_of list item = record {
+  places = places_from (is_of item) 0 list;
+  releases = places_from is_release 0 (filter (is_of item) list);
+  barriers = places_from is_barrier 0 (filter (is_of item) list);
+}
+
+-- the index of an item without events
+abbrev pub no_index : Index
+no_index = record { places = []; releases = []; barriers = [] }
+
+-- the list with one place more, if so told
+abbrev pub with_if : Bool → List ℕ → ℕ → List ℕ
+with_if told places n = if told then places ++ n ∷ [] else places
+
+-- the index with one event more, at this place of the list, which is a release or a barrier if so told
+abbrev pub with_event : Index → ℕ → Bool → Bool → Index
+with_event i place release barrier = record {
+  places = i.places ++ place ∷ [];
+  releases = with_if release i.releases (length i.places);
+  barriers = with_if barrier i.barriers (length i.places);
+}
+
+-- the indices of a group's items with a record more at this place of the list: an end is no item's event
+abbrev pub indexed : List Index → Event → ℕ → List Index
+indexed lanes x place = if is_end x then lanes else slice_set lanes x.item (with_event (slice_index_or lanes x.item no_index) place (is_release x) (is_barrier x))
+
+-- what was taken of a group of so many items
+pub record GroupList : Type 0 where
+  pub size : ℕ
+  pub list : List Event
+
+-- each item has its index in the list, and its group may have such a list
+pub record AreIndices (lanes : List Index) (list : List Event) : Type 0 where
+  pub front : IsFront (length lanes) list
+  pub each : (i : ℕ) → i < length lanes → slice_index_or lanes i no_index ≡ index_of list i
+
+-- what was taken of the groups of a shape
+abbrev pub taken_of : List ℕ → List GroupList → Streams
+taken_of sizes groups = record { sizes = sizes; lists = map (λ g. g.list) groups }
+
+-- the groups are those of the shape, and each has a list that it may have
+pub record AreGroups (sizes : List ℕ) (groups : List GroupList) : Type 0 where
+  pub same : map (λ g. g.size) groups ≡ sizes
+  pub fronts : AreFronts (taken_of sizes groups)

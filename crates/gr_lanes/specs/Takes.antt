@@ -1,0 +1,33 @@
+-- What is taken of a launch's streams: the records that have come of each work-group, one more at a time.
+-- Source: docs/MODEL.md, "Streams and traces".
+use Rattle.std.specs.Prelude.{◌≡◌, ℕ, ◌<◌, ◌≤◌, List, [], ◌∷◌, ◌++◌, length, map, slice_set, IsTrue}
+use Rattle.gr_model.specs.declared.event.Event.{Event}
+use Rattle.gr_model.specs.Events.{IsNamingOk, IsKindOk}
+use Rattle.gr_model.specs.Streams.{Streams, list_of, size_of, is_complete}
+use Rattle.gr_lanes.specs.declared.seq_error.SeqError.{SeqError}
+use Rattle.gr_lanes.specs.declared.seq_error.SeqError.TheVariants.{UnknownGroup, AfterEnd, UnknownItem, Memory}
+
+-- groups of these sizes, of which nothing was taken
+abbrev pub nothing_taken : List ℕ → Streams
+nothing_taken sizes = record { sizes = sizes; lists = map (λ n. []) sizes }
+
+-- one record more of a group
+abbrev pub with_record : Streams → ℕ → Event → Streams
+with_record s g x = record { sizes = s.sizes; lists = slice_set s.lists g (list_of s g ++ x ∷ []) }
+
+-- a record that some group may have, whatever its item
+abbrev pub IsEventButItem : Event → Type 0
+IsEventButItem x = IsNamingOk x.kind x.name × IsKindOk x.kind x.item x.space x.word
+
+-- a record of a group may be taken
+pub record CanTake (s : Streams) (g : ℕ) (x : Event) : Type 0 where
+  pub group : g < length s.sizes
+  pub before_end : ¬ IsTrue (is_complete (list_of s g))
+  pub item : x.item < size_of s g
+
+-- why a record is not taken: each cause stands where none before it does
+abbrev pub IsTakeFault : Streams → ℕ → Event → SeqError → Type 0
+IsTakeFault s g x UnknownGroup = length s.sizes ≤ g
+IsTakeFault s g x (AfterEnd h) = (h ≡ g) × (g < length s.sizes) × IsTrue (is_complete (list_of s g))
+IsTakeFault s g x UnknownItem = (g < length s.sizes) × ¬ IsTrue (is_complete (list_of s g)) × (size_of s g ≤ x.item)
+IsTakeFault s g x Memory = CanTake s g x

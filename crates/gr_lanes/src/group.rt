@@ -1,0 +1,193 @@
+//! What was taken of one work-group: its records in their order, and a lane for each of its items.
+//!
+//! Invariant: the records are a front of a list that the group may have, and each lane is the index of its item's events
+//! in it.
+
+ghost use Rattle.std.specs.Prelude.{◌≡◌, ◌≢◌, ◌∷◌, ◌++◌, ◌<◌, ℕ, [], IsTrue, IfOk, MatchOption, OnOk, OnErr, filter, length, slice_get, slice_index_or};
+ghost use Rattle.gr_model.specs.declared.limits.TheConstants.{MOST_RECORDS};
+ghost use Rattle.gr_model.specs.Access as model;
+ghost use Rattle.gr_model.specs.Barriers as model_barriers;
+ghost use Rattle.gr_model.specs.Events.{IsEventOk};
+ghost use Rattle.gr_model.specs.Streams.{is_complete, is_of, places_from};
+ghost use Rattle.gr_lanes.specs.Indices.{no_index, indexed};
+
+use crate::lane::Lane;
+use gr_model::event::{Event, Kind};
+use gr_model::memory::Memory;
+use std::alloc::{Allocator, Global};
+use std::marker::Model;
+
+/// What was taken of a work-group. Contracts see how many items it has, and its records.
+#[derive(Drop)]
+#[derive_where(Debug)]
+pub(crate) struct Group<A: Allocator = Global> {
+    list: Vec<Event, A>,
+    lanes: Vec<Lane<A>, A>,
+}
+
+impl<A: Allocator> Model for Group<A> {
+    ghost use Rattle.std.specs.Prelude.{length};
+    ghost use Rattle.gr_lanes.specs.Indices.{GroupList, AreIndices};
+
+    ghost Value = { GroupList };
+
+    ghost view = { λ g. record { size = length g.lanes.items; list = g.list.items } };
+
+    ghost invariant = { λ g. AreIndices g.lanes.items g.list.items };
+}
+
+/// Whether an event is a release.
+fn is_release(event: &Event) -> bool
+    ensures { result ≡ model.is_release event.now }
+{
+    match event.kind {
+        Kind::Load(_, order) | Kind::Store(_, order) | Kind::Rmw(_, order) => order.releases(),
+        Kind::Read
+        | Kind::Write
+        | Kind::Barrier {
+            global: _,
+            local: _,
+        }
+        | Kind::End { cut: _ } => false,
+    }
+}
+
+/// Whether an event is a barrier.
+fn is_barrier(event: &Event) -> bool
+    ensures { result ≡ model_barriers.is_barrier event.now }
+{
+    matches!(
+        event.kind,
+        Kind::Barrier {
+            global: _,
+            local: _
+        }
+    )
+}
+
+/// Adds the group's next record, which stands at this place, to the lane of its item; an end is no item's event.
+///
+/// # Errors
+/// `Memory`. The lanes are then as they were.
+fn index<A: Allocator>(lanes: &mut [Lane<A>], event: &Event, place: u32) -> Result<(), Memory>
+    requires item { event.now.item < length lanes.old }
+    requires few { length (slice_index_or lanes.old event.now.item no_index).places < 4_294_967_296 }
+    ensures ok { OnOk result (lanes.new ≡ indexed lanes.old event.now place) }
+    ensures err { OnErr result (lanes.new ≡ lanes.old) }
+{
+    if event.kind.is_end() {
+        return Ok(());
+    }
+    lanes[usize::from(event.item)].add(place, is_release(event), is_barrier(event))
+}
+
+impl<A: Allocator + Copy> Group<A> {
+    /// A group of so many items of which nothing was taken.
+    ///
+    /// # Errors
+    /// `Memory`.
+    pub(crate) fn new(alloc: A, items: u16) -> Result<Group<A>, Memory>
+        ensures { IfOk result (λ g. g ≡ record { size = items; list = [] }) }
+    {
+        let mut lanes = Vec::new(alloc);
+        for _item in 0..items {
+            lanes.push(Lane::new(alloc))?;
+        }
+        let list = Vec::new(alloc);
+        Ok(Group { list, lanes })
+    }
+}
+
+impl<A: Allocator> Group<A> {
+    /// How many items the group has.
+    pub(crate) fn size(&self) -> usize
+        ensures { result ≡ self.now.size }
+    {
+        self.lanes.len()
+    }
+
+    /// How many records were taken of it.
+    pub(crate) fn taken(&self) -> u32
+        ensures { result ≡ length self.now.list }
+    {
+        self.list.len() as u32
+    }
+
+    /// Whether its end was taken.
+    pub(crate) fn is_complete(&self) -> bool
+        ensures { result ≡ is_complete self.now.list }
+    {
+        match self.list.last() {
+            None => false,
+            Some(event) => event.kind.is_end(),
+        }
+    }
+
+    /// The record at a place of the group's list.
+    fn record(&self, place: u32) -> Option<Event>
+        ensures { result ≡ slice_get self.now.list place }
+    {
+        self.list.get(place as usize).copied()
+    }
+
+    /// The event of an item with this index.
+    pub(crate) fn event_at(&self, item: u16, index: u32) -> Option<Event>
+        ensures { result ≡ slice_get (filter (is_of item) self.now.list) index }
+    {
+        match self.lanes.get(usize::from(item)) {
+            None => None,
+            Some(lane) => match lane.place(index) {
+                None => None,
+                Some(place) => self.record(place),
+            },
+        }
+    }
+
+    /// The index of an item's release with this number.
+    pub(crate) fn release_at(&self, item: u16, number: u32) -> Option<u32>
+        ensures { result ≡ slice_get (places_from model.is_release 0 (filter (is_of item) self.now.list)) number }
+    {
+        match self.lanes.get(usize::from(item)) {
+            None => None,
+            Some(lane) => lane.release(number),
+        }
+    }
+
+    /// The index of an item's barrier with this number.
+    pub(crate) fn barrier_at(&self, item: u16, number: u32) -> Option<u32>
+        ensures { result ≡ slice_get (places_from model_barriers.is_barrier 0 (filter (is_of item) self.now.list)) number }
+    {
+        match self.lanes.get(usize::from(item)) {
+            None => None,
+            Some(lane) => lane.barrier(number),
+        }
+    }
+
+    /// The number among an item's barriers of the event with this index, or `None` where that is no barrier.
+    pub(crate) fn barrier_number(&self, item: u16, index: u32) -> Option<u32>
+        ensures { MatchOption result ((k : ℕ) → slice_get (places_from model_barriers.is_barrier 0 (filter (is_of item) self.now.list)) k ≢ Some index) (λ k. slice_get (places_from model_barriers.is_barrier 0 (filter (is_of item) self.now.list)) k ≡ Some index) }
+    {
+        match self.lanes.get(usize::from(item)) {
+            None => None,
+            Some(lane) => lane.barrier_number(index),
+        }
+    }
+
+    /// Takes the group's next record.
+    ///
+    /// # Errors
+    /// `Memory`. The group is then as it was.
+    pub(crate) fn take(&mut self, event: Event) -> Result<(), Memory>
+        requires good { IsEventOk event self.old.size }
+        requires before_end { ¬ IsTrue (is_complete self.old.list) }
+        requires room { length self.old.list < MOST_RECORDS }
+        ensures ok { OnOk result (self.new ≡ record { size = self.old.size; list = self.old.list ++ event ∷ [] }) }
+        ensures err { OnErr result (self.new ≡ self.old) }
+    {
+        self.list.reserve(1)?;
+        let place = self.list.len() as u32;
+        index(&mut self.lanes, &event, place)?;
+        self.list.push_reserved(event);
+        Ok(())
+    }
+}

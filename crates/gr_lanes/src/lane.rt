@@ -1,0 +1,99 @@
+//! The index of one work-item's events.
+//!
+//! A lane knows where an item's events stand in its group's list, and which of them are releases and barriers. It stores
+//! no event.
+
+ghost use Rattle.std.specs.Prelude.{◌≡◌, ◌≢◌, ◌<◌, ℕ, MatchOption, OnOk, OnErr, length, slice_get};
+ghost use Rattle.gr_lanes.specs.Indices.{AreRising, no_index, with_event};
+
+use gr_model::memory::Memory;
+use std::alloc::{Allocator, Global};
+use std::marker::Model;
+
+/// Where an item's events stand in its group's list, and its releases and its barriers among its events.
+#[derive(Drop)]
+#[derive_where(Debug)]
+pub(crate) struct Lane<A: Allocator = Global> {
+    places: Vec<u32, A>,
+    releases: Vec<u32, A>,
+    barriers: Vec<u32, A>,
+}
+
+impl<A: Allocator> Model for Lane<A> {
+    ghost use Rattle.gr_lanes.specs.Indices.{Index};
+
+    ghost Value = { Index };
+
+    ghost view = { λ l. record { places = l.places.items; releases = l.releases.items; barriers = l.barriers.items } };
+}
+
+impl<A: Allocator + Copy> Lane<A> {
+    /// The lane of an item without events.
+    pub(crate) fn new(alloc: A) -> Lane<A>
+        ensures { result ≡ no_index }
+    {
+        Lane {
+            places: Vec::new(alloc),
+            releases: Vec::new(alloc),
+            barriers: Vec::new(alloc),
+        }
+    }
+}
+
+impl<A: Allocator> Lane<A> {
+    /// The place in its group's list of the item's event with this index.
+    pub(crate) fn place(&self, index: u32) -> Option<u32>
+        ensures { result ≡ slice_get self.now.places index }
+    {
+        self.places.get(index as usize).copied()
+    }
+
+    /// The index of the item's release with this number.
+    pub(crate) fn release(&self, number: u32) -> Option<u32>
+        ensures { result ≡ slice_get self.now.releases number }
+    {
+        self.releases.get(number as usize).copied()
+    }
+
+    /// The index of the item's barrier with this number.
+    pub(crate) fn barrier(&self, number: u32) -> Option<u32>
+        ensures { result ≡ slice_get self.now.barriers number }
+    {
+        self.barriers.get(number as usize).copied()
+    }
+
+    /// The number among the item's barriers of the one with this index.
+    pub(crate) fn barrier_number(&self, index: u32) -> Option<u32>
+        requires few { length self.now.barriers < 4_294_967_296 }
+        requires rise { AreRising self.now.barriers }
+        ensures { MatchOption result ((k : ℕ) → slice_get self.now.barriers k ≢ Some index) (λ k. slice_get self.now.barriers k ≡ Some index) }
+    {
+        match self.barriers.binary_search(&index) {
+            Ok(number) => Some(number as u32),
+            Err(_) => None,
+        }
+    }
+
+    /// Adds the item's next event, which stands at this place of its group's list.
+    ///
+    /// # Errors
+    /// `Memory`. The lane is then as it was.
+    pub(crate) fn add(&mut self, place: u32, release: bool, barrier: bool) -> Result<(), Memory>
+        requires { length self.old.places < 4_294_967_296 }
+        ensures ok { OnOk result (self.new ≡ with_event self.old place release barrier) }
+        ensures err { OnErr result (self.new ≡ self.old) }
+    {
+        self.places.reserve(1)?;
+        self.releases.reserve(usize::from(release))?;
+        self.barriers.reserve(usize::from(barrier))?;
+        let index = self.places.len() as u32;
+        self.places.push_reserved(place);
+        if release {
+            self.releases.push_reserved(index);
+        }
+        if barrier {
+            self.barriers.push_reserved(index);
+        }
+        Ok(())
+    }
+}

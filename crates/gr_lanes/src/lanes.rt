@@ -1,0 +1,153 @@
+//! What was taken of a launch's streams.
+//!
+//! Invariant: there is a group for each of the shape, of its size, and each has a front of a list that it may have.
+
+ghost use Rattle.std.specs.Prelude.{◌≡◌, ◌≢◌, ◌<◌, ℕ, IfOk, IfErr, MatchOption, OnOk, OnErr, length};
+ghost use Rattle.gr_model.specs.declared.limits.TheConstants.{MOST_RECORDS};
+ghost use Rattle.gr_model.specs.Streams.{AreFronts, event_at, is_complete, list_of, place_of};
+ghost use Rattle.gr_model.specs.Barriers.{is_barrier};
+ghost use Rattle.gr_model.specs.Names.{release_place};
+ghost use Rattle.gr_lanes.specs.Takes.{nothing_taken, with_record, IsEventButItem, CanTake, IsTakeFault};
+
+use crate::group::Group;
+use crate::seq_error::SeqError;
+use gr_model::event::{Event, EventId, ItemId, Name};
+use gr_model::memory::Memory;
+use gr_model::shape::Shape;
+use std::alloc::{Allocator, Global};
+use std::marker::Model;
+
+/// What was taken of a launch's streams. Contracts see the groups' sizes and one list of records for each group, in the
+/// order in which they were taken.
+#[derive(Drop)]
+#[derive_where(Debug)]
+pub struct Lanes<A: Allocator = Global> {
+    shape: Shape<A>,
+    groups: Vec<Group<A>, A>,
+}
+
+impl<A: Allocator> Model for Lanes<A> {
+    ghost use Rattle.gr_model.specs.Streams.{Streams};
+    ghost use Rattle.gr_lanes.specs.Indices.{taken_of, AreGroups};
+
+    ghost Value = { Streams };
+
+    ghost view = { λ l. taken_of l.shape l.groups.items };
+
+    ghost invariant = { λ l. AreGroups l.shape l.groups.items };
+}
+
+impl<A: Allocator + Copy> Lanes<A> {
+    /// The groups of a shape, of which nothing was taken.
+    ///
+    /// # Errors
+    /// `Memory`.
+    pub fn new(alloc: A, shape: Shape<A>) -> Result<Lanes<A>, Memory>
+        ensures nothing { IfOk result (λ l. l ≡ nothing_taken shape) }
+        ensures fronts { IfOk result (λ l. AreFronts l) }
+    {
+        let mut groups = Vec::new(alloc);
+        for group in 0..shape.groups() {
+            groups.push(Group::new(alloc, shape.items(group))?)?;
+        }
+        Ok(Lanes { shape, groups })
+    }
+}
+
+impl<A: Allocator> Lanes<A> {
+    /// The sizes of the groups.
+    pub fn shape(&self) -> &Shape<A>
+        ensures sizes { result.now ≡ self.now.sizes }
+        ensures fronts { AreFronts self.now }
+    {
+        &self.shape
+    }
+
+    /// How many records were taken of a group; 0 of one that is not there.
+    pub fn taken(&self, group: u16) -> u32
+        ensures { result ≡ length (list_of self.now group) }
+    {
+        match self.groups.get(usize::from(group)) {
+            None => 0,
+            Some(group) => group.taken(),
+        }
+    }
+
+    /// Whether a group's end was taken.
+    pub fn is_complete(&self, group: u16) -> bool
+        ensures { result ≡ is_complete (list_of self.now group) }
+    {
+        match self.groups.get(usize::from(group)) {
+            None => false,
+            Some(group) => group.is_complete(),
+        }
+    }
+
+    /// An event that was taken, or `None` where there is none of this index.
+    pub fn event_at(&self, event: EventId) -> Option<Event>
+        ensures { result ≡ event_at self.now event }
+    {
+        match self.groups.get(usize::from(event.at.group)) {
+            None => None,
+            Some(group) => group.event_at(event.at.item, event.index),
+        }
+    }
+
+    /// The index in its item's trace of the release of this name, or `None` where no such release was taken.
+    pub fn release_at(&self, name: Name) -> Option<u32>
+        ensures { result ≡ release_place self.now name }
+    {
+        match self.groups.get(usize::from(name.at.group)) {
+            None => None,
+            Some(group) => group.release_at(name.at.item, name.release),
+        }
+    }
+
+    /// The index in its item's trace of an item's barrier of this number, counted from 0, or `None` where no such barrier
+    /// was taken.
+    pub fn barrier_at(&self, item: ItemId, number: u32) -> Option<u32>
+        ensures { result ≡ place_of self.now is_barrier item number }
+    {
+        match self.groups.get(usize::from(item.group)) {
+            None => None,
+            Some(group) => group.barrier_at(item.item, number),
+        }
+    }
+
+    /// The number among its item's barriers of an event, or `None` where it is no barrier.
+    pub fn barrier_number(&self, event: EventId) -> Option<u32>
+        ensures { MatchOption result ((k : ℕ) → place_of self.now is_barrier event.at k ≢ Some event.index) (λ k. place_of self.now is_barrier event.at k ≡ Some event.index) }
+    {
+        match self.groups.get(usize::from(event.at.group)) {
+            None => None,
+            Some(group) => group.barrier_number(event.at.item, event.index),
+        }
+    }
+
+    /// Takes the next record of a group.
+    ///
+    /// # Errors
+    /// The first of `UnknownGroup`, `AfterEnd` with the group, `UnknownItem` and `Memory` that is there. Nothing is then
+    /// taken.
+    pub fn take(&mut self, group: u16, event: Event) -> Result<(), SeqError>
+        requires good { IsEventButItem event }
+        requires room { length (list_of self.old group) < MOST_RECORDS }
+        ensures ok { OnOk result (CanTake self.old group event × (self.new ≡ with_record self.old group event)) }
+        ensures err { IfErr result (λ e. IsTakeFault self.old group event e) }
+        ensures unchanged { OnErr result (self.new ≡ self.old) }
+        ensures fronts { AreFronts self.new }
+    {
+        if group >= self.shape.groups() {
+            return Err(SeqError::UnknownGroup);
+        }
+        let taken = &mut self.groups[usize::from(group)];
+        if taken.is_complete() {
+            return Err(SeqError::AfterEnd(group));
+        }
+        if usize::from(event.item) >= taken.size() {
+            return Err(SeqError::UnknownItem);
+        }
+        taken.take(event)?;
+        Ok(())
+    }
+}

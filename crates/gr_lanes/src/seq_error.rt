@@ -1,0 +1,28 @@
+//! Why a record is not taken.
+
+ghost use Rattle.std.specs.Prelude.{◌≡◌};
+ghost use Rattle.gr_lanes.specs.declared.seq_error.SeqError.TheVariants.{Memory as OutOfMemory};
+
+use gr_model::memory::Memory;
+use thiserror::Error;
+
+/// Why a record is not taken: the first cause of these that is there.
+#[derive(Clone, Copy, Debug, PartialEq, Eq, Error)]
+pub enum SeqError {
+    #[error("no such group")]
+    UnknownGroup,
+    #[error("a record behind the end of group {0}")]
+    AfterEnd(u16),
+    #[error("no such item")]
+    UnknownItem,
+    #[error("out of memory")]
+    Memory,
+}
+
+impl From<Memory> for SeqError {
+    ghost from_gives = { λ _ e. e ≡ OutOfMemory };
+
+    fn from(_error: Memory) -> SeqError {
+        SeqError::Memory
+    }
+}

@@ -1,0 +1,2 @@
+pub mod ReadyLemmas
+pub mod StateLemmas

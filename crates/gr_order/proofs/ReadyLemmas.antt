@@ -1,0 +1,167 @@
+-- Instances and releases, by what is looked at.
+use Rattle.std.proofs.Common.{◌≡◌, ℕ, zero, suc, ◌+◌, ◌<◌, Bool, true, false, cond, List, [], ◌∷◌, length, Option, Some, None, slice_get, filter_map, is_some, refl, sym, ap, ◌∙◌, subst, inl, inr, arith, true≢false, eqb-true, ◌&&◌, ◌==◌, not, option_and_then}
+use Rattle.std.specs.List.{cons_option}
+use Rattle.gr_model.specs.declared.event.Event.{Event}
+use Rattle.gr_model.specs.Barriers.{IsDivergent, StandsIn, arrivals, is_barrier, mark_of}
+use Rattle.gr_model.specs.declared.event.ItemId.{ItemId}
+use Rattle.gr_model.specs.declared.event.Name.{Name}
+use Rattle.gr_model.specs.Access.{event_word}
+use Rattle.gr_model.specs.Instances.{Mark}
+use Rattle.gr_model.specs.LawfulOrders.{IsLawful}
+use Rattle.gr_model.specs.Names.{HasName, release_place}
+use Rattle.gr_model.specs.Streams.{AreFronts, Streams, event_at, is_complete, is_of, list_of, place_of, places_from, size_of, trace_of, word_at}
+use Rattle.gr_model.specs.declared.event.EventId.{EventId}
+use Rattle.gr_model.specs.Events.{is_end}
+use Rattle.gr_steps.proofs.BarrierPlaces.{same_instance}
+use Rattle.gr_steps.proofs.EventRecords.{filter-there, group_there}
+use Rattle.gr_steps.specs.Steps.{CanHandle, IsReady}
+use Rattle.gr_steps.proofs.NextEvents.{next_is_ready, ready_is_next, ready_release}
+use Rattle.gr_steps.proofs.Orders.{same_event}
+use Rattle.gr_clocks.specs.Counts.{Counts, count_of}
+use Rattle.gr_order.specs.Readiness.{AreReleased, HasCome, IsParted, IsReleased, MayPass, Parts}
+use Rattle.gr_order.specs.States.{AreFirst}
+
+-- the k-th barrier of a list gives the k-th mark
+abbrev pub GivesMark : ℕ → List Event → ℕ → ℕ → Type 0
+GivesMark i xs k n = (j : ℕ) × (x : Event) × (n ≡ i + j) × (slice_get xs j ≡ Some x) × (slice_get (filter_map mark_of xs) k ≡ mark_of x) × (is_some (mark_of x) ≡ true)
+
+later : (i : ℕ) (x : Event) (xs : List Event) (k n : ℕ) → GivesMark (suc i) xs k n → (j : ℕ) × (y : Event) × (n ≡ i + j) × (slice_get (x ∷ xs) j ≡ Some y) × (slice_get (filter_map mark_of xs) k ≡ mark_of y) × (is_some (mark_of y) ≡ true)
+later i x xs k n h = (suc h.0, h.1, omega (arith, h.2), h.3, h.4, h.5)
+
+first : (i : ℕ) (x : Event) (xs : List Event) (a : Mark) (n : ℕ) → mark_of x ≡ Some a → ((k : ℕ) → slice_get (places_from is_barrier (suc i) xs) k ≡ Some n → GivesMark (suc i) xs k n) → (k : ℕ) → slice_get (i ∷ places_from is_barrier (suc i) xs) k ≡ Some n → (j : ℕ) × (y : Event) × (n ≡ i + j) × (slice_get (x ∷ xs) j ≡ Some y) × (slice_get (a ∷ filter_map mark_of xs) k ≡ mark_of y) × (is_some (mark_of y) ≡ true)
+first i x xs a n is rest zero e = let same : i ≡ n = cc in (0, x, omega arith, refl, sym is, ap is_some is)
+first i x xs a n is rest (suc k) e = later i x xs k n (rest k e)
+
+pub barrier_mark : (i : ℕ) (xs : List Event) (k n : ℕ) → slice_get (places_from is_barrier i xs) k ≡ Some n → GivesMark i xs k n
+barrier_mark i [] k n e = cc
+barrier_mark i (x ∷ xs) k n e =
+    let rest : (k : ℕ) → slice_get (places_from is_barrier (suc i) xs) k ≡ Some n → GivesMark (suc i) xs k n = λ k at. barrier_mark (suc i) xs k n at in
+    elim (mark_of x) as (λ o. (mark_of x ≡ o) → slice_get (cond (is_some o) (i ∷ places_from is_barrier (suc i) xs) (places_from is_barrier (suc i) xs)) k ≡ Some n → (j : ℕ) × (y : Event) × (n ≡ i + j) × (slice_get (x ∷ xs) j ≡ Some y) × (slice_get (cons_option o (filter_map mark_of xs)) k ≡ mark_of y) × (is_some (mark_of y) ≡ true)) [
+      | None ↦ λ is at. later i x xs k n (rest k at)
+      | Some a ↦ λ is at. first i x xs a n is rest k at
+    ] refl e
+
+-- and where there is none there is no mark
+pub no_mark : (i : ℕ) (xs : List Event) (k : ℕ) → slice_get (places_from is_barrier i xs) k ≡ None → slice_get (filter_map mark_of xs) k ≡ None
+no_mark i [] k e = refl
+no_mark i (x ∷ xs) k e =
+    elim (mark_of x) as (λ o. slice_get (cond (is_some o) (i ∷ places_from is_barrier (suc i) xs) (places_from is_barrier (suc i) xs)) k ≡ None → slice_get (cons_option o (filter_map mark_of xs)) k ≡ None) [
+      | None ↦ λ at. no_mark (suc i) xs k at
+      | Some a ↦ λ at. here a k at (λ m f. no_mark (suc i) xs m f)
+    ] e
+  where
+    here : (a : Mark) (m : ℕ) → slice_get (i ∷ places_from is_barrier (suc i) xs) m ≡ None → ((l : ℕ) → slice_get (places_from is_barrier (suc i) xs) l ≡ None → slice_get (filter_map mark_of xs) l ≡ None) → slice_get (a ∷ filter_map mark_of xs) m ≡ None
+    here a zero f rest = cc
+    here a (suc m) f rest = rest m f
+
+-- ---- divergence
+
+module _ (s : Streams) (g k : ℕ) (x : Event) (come : HasCome s g k x) where
+  some_mark : (o : Option Mark) → is_some o ≡ true → (a : Mark) × (o ≡ Some a)
+  some_mark None e = absurd (true≢false (sym e))
+  some_mark (Some a) e = (a, refl)
+
+  mine : (a : Mark) × (mark_of x ≡ Some a)
+  mine = some_mark (mark_of x) come.barrier
+
+  pub parted_diverges : (j : ℕ) → j < size_of s g → IsParted s g k (mark_of x) j → IsDivergent s g k
+  parted_diverges j within parted =
+      elim (arrivals s g k j) as (λ o. (arrivals s g k j ≡ o) → Parts (is_complete (list_of s g)) (mark_of x) o → IsDivergent s g k) [
+        | None ↦ λ none whole. inr (whole, (come.item, j, mine.0, (come.within, come.came ∙ mine.1), within, none))
+        | Some b ↦ λ at other. inl (come.item, j, mine.0, b, (come.within, come.came ∙ mine.1), (within, at), λ same. other (ap (λ (m : Mark). Some m) (sym same) ∙ sym mine.1))
+      ] refl parted
+
+  pub none_parted : ((j : ℕ) → j < size_of s g → IsParted s g k (mark_of x) j → ⊥) → IsDivergent s g k → ⊥
+  none_parted none (inl mixed) =
+      none mixed.0 mixed.4.0 (subst (Parts (is_complete (list_of s g)) (mark_of x)) (sym mixed.4.1) (λ (first_is : Some mixed.2 ≡ mark_of x).
+      none mixed.1 mixed.5.0 (subst (Parts (is_complete (list_of s g)) (mark_of x)) (sym mixed.5.1) (λ (second_is : Some mixed.3 ≡ mark_of x).
+      mixed.6 (let same : Some mixed.2 ≡ Some mixed.3 = first_is ∙ sym second_is in cc)))))
+  none_parted none (inr part) = none part.1.1 part.1.4 (subst (Parts (is_complete (list_of s g)) (mark_of x)) (sym part.1.5) part.0)
+
+-- ---- an event that was taken
+
+and_left : (a b : Bool) → (a && b) ≡ true → a ≡ true
+and_left true b e = refl
+and_left false b e = absurd (true≢false (sym e))
+
+module _ (s : Streams) (fronts : AreFronts s) (e : EventId) (x : Event) (at : event_at s e ≡ Some x) where
+  pub group_of_event : e.at.group < length s.sizes
+  group_of_event = omega (arith, group_there s e (x, at), fronts.count)
+
+  pub item_of_event : e.at.item < size_of s e.at.group
+  item_of_event =
+      let kept = filter-there (is_of e.at.item) (list_of s e.at.group) e.index x at in
+      let ok = ((fronts.each e.at.group group_of_event).good kept.0 x kept.1).0 in
+      subst (λ n. n < size_of s e.at.group) (eqb-true x.item e.at.item (and_left (x.item == e.at.item) (not (is_end x)) kept.2)) ok.0
+
+  -- a barrier has come to its instance
+  pub come_of : (k : ℕ) → place_of s is_barrier e.at k ≡ Some e.index → HasCome s e.at.group k x
+  come_of k place =
+      let h = barrier_mark 0 (trace_of s e.at) k e.index place in
+      let index : e.index ≡ h.0 = omega (arith, h.2) in
+      let same : h.1 ≡ x = let is : Some h.1 ≡ Some x = sym h.3 ∙ (ap (slice_get (trace_of s e.at)) (sym index) ∙ at) in cc in record {
+        item = e.at.item;
+        within = item_of_event;
+        barrier = subst (λ y. is_some (mark_of y) ≡ true) same h.5;
+        came = h.4 ∙ ap mark_of same;
+      }
+
+  pub stands_there : (k : ℕ) → place_of s is_barrier e.at k ≡ Some e.index → StandsIn s e e.at.group k
+  stands_there k place = record { group = refl; item = item_of_event; place = place }
+
+  pub passes_if : (k : ℕ) → place_of s is_barrier e.at k ≡ Some e.index → IsDivergent s e.at.group k → MayPass s e
+  passes_if k place divergent h l stands =
+      let same = same_instance s e e.at.group k h l (stands_there k place) stands in
+      subst (λ n. IsDivergent s h n) same.1 (subst (λ n. IsDivergent s n k) same.0 divergent)
+
+  pub passes_only : (k : ℕ) → place_of s is_barrier e.at k ≡ Some e.index → MayPass s e → IsDivergent s e.at.group k
+  passes_only k place may = may e.at.group k (stands_there k place)
+
+-- ---- the release of a name
+
+module _ (s : Streams) (frontier : Counts) (group : ℕ) (x : Event) (n : Name) (index : ℕ) (place : release_place s n ≡ Some index) where
+  pub released_if : index < count_of frontier n.at → event_word group x ≡ word_at s (record { at = n.at; index = index }) → IsReleased s frontier group x n
+  released_if handled word = record { release = record { at = n.at; index = index }; item = refl; place = place; word = word; handled = handled }
+
+  pub released_only : IsReleased s frontier group x n → event_word group x ≡ word_at s (record { at = n.at; index = index })
+  released_only r =
+      let same : r.release.index ≡ index = let is : Some r.release.index ≡ Some index = sym r.place ∙ place in cc in
+      r.word ∙ ap (word_at s) (same_event r.release (record { at = n.at; index = index }) r.item same)
+
+-- ---- the next event of an item
+
+module _ (s : Streams) (order : List EventId) (lawful : IsLawful s order) (frontier : Counts) (first_ones : AreFirst order frontier) (e : EventId) (next : e.index ≡ count_of frontier e.at) where
+  abbrev counts : ItemId → ℕ
+  counts i = count_of frontier i
+
+  -- what may be handled of the item is this event
+  pub only_next : CanHandle s order e.at → IsReady s order e
+  only_next (d, item, ready) =
+      let index : d.index ≡ e.index = ready_is_next s order lawful counts first_ones d ready ∙ (ap (count_of frontier) item ∙ sym next) in
+      subst (IsReady s order) (same_event d e item index) ready
+
+  pub none_next : event_at s e ≡ None → ¬ CanHandle s order e.at
+  none_next none can = let there = (only_next can).event in let clash : None ≡ Some there.0 = sym none ∙ there.1 in cc
+
+  module _ (x : Event) (at : event_at s e ≡ Some x) where
+    named : (n : Name) → HasName s e n → x.name ≡ Some n
+    named n has = sym (ap (option_and_then (λ (y : Event). y.name)) at) ∙ has
+
+    names : (n : Name) → x.name ≡ Some n → HasName s e n
+    names n is = ap (option_and_then (λ (y : Event). y.name)) at ∙ is
+
+    word : word_at s e ≡ event_word e.at.group x
+    word = ap (option_and_then (event_word e.at.group)) at
+
+    pub ready_if : AreReleased s frontier e.at.group x → MayPass s e → IsReady s order e
+    ready_if released pass = next_is_ready s order lawful counts first_ones e (x, at) next
+        (λ n has. let r = released n (named n has) in (r.release, record { named = has; item = r.item; place = r.place; word = word ∙ r.word }, r.handled)) pass
+
+    pub ready_only : IsReady s order e → AreReleased s frontier e.at.group x × MayPass s e
+    ready_only ready = (
+      λ n is. let r = ready_release s order lawful counts first_ones e ready n (names n is) in record { release = r.0; item = r.1.item; place = r.1.place; word = sym word ∙ r.1.word; handled = r.2 },
+      ready.instance,
+    )
+
+    pub not_next : ¬ (AreReleased s frontier e.at.group x × MayPass s e) → ¬ CanHandle s order e.at
+    not_next not_ready can = not_ready (ready_only (only_next can))

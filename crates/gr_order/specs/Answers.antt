@@ -1,0 +1,17 @@
+-- Why no step was made.
+use Rattle.std.specs.Prelude.{ℕ}
+use Rattle.gr_model.specs.declared.event.ItemId.{ItemId}
+use Rattle.gr_steps.specs.Steps.{CanHandle, CanMeet}
+use Rattle.gr_order.specs.declared.go_error.GoError.{GoError}
+use Rattle.gr_order.specs.declared.go_error.GoError.TheVariants.{NotReady, Memory}
+use Rattle.gr_order.specs.Sequences.{Sequence}
+
+-- no event of the item may be handled; for want of memory one that may is not
+abbrev pub IsHandleFault : Sequence → ItemId → GoError → Type 0
+IsHandleFault q i NotReady = ¬ CanHandle q.taken q.handled i
+IsHandleFault q i Memory = CanHandle q.taken q.handled i
+
+-- no instance of the group may meet; for want of memory one that may does not
+abbrev pub IsMeetFault : Sequence → ℕ → GoError → Type 0
+IsMeetFault q g NotReady = ¬ CanMeet q.taken q.handled g
+IsMeetFault q g Memory = CanMeet q.taken q.handled g

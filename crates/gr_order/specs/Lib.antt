@@ -1,0 +1,4 @@
+pub mod Sequences
+pub mod Answers
+pub mod States
+pub mod Readiness

@@ -1,0 +1,47 @@
+-- What is looked at to tell whether an item's next event may be handled.
+use Rattle.std.specs.Prelude.{◌≡◌, ◌≢◌, ℕ, ◌<◌, Bool, true, Option, Some, None, IsTrue, is_some}
+use Rattle.gr_model.specs.declared.event.Event.{Event}
+use Rattle.gr_model.specs.declared.event.EventId.{EventId}
+use Rattle.gr_model.specs.declared.event.Name.{Name}
+use Rattle.gr_model.specs.Access.{event_word}
+use Rattle.gr_model.specs.Barriers.{IsDivergent, StandsIn, arrivals, mark_of}
+use Rattle.gr_model.specs.Instances.{Mark}
+use Rattle.gr_model.specs.Names.{release_place}
+use Rattle.gr_model.specs.Streams.{Streams, is_complete, list_of, size_of, word_at}
+use Rattle.gr_clocks.specs.Counts.{Counts, count_of}
+
+-- ---- instances
+
+-- what came to an instance, or did not, parts it from one who came with this mark
+abbrev pub Parts : Bool → Option Mark → Option Mark → Type 0
+Parts complete mine None = IsTrue complete
+Parts complete mine (Some other) = Some other ≢ mine
+
+-- an item of the group does
+abbrev pub IsParted : Streams → ℕ → ℕ → Option Mark → ℕ → Type 0
+IsParted s g k mine i = Parts (is_complete (list_of s g)) mine (arrivals s g k i)
+
+-- somebody came with the mark of this barrier
+pub record HasCome (s : Streams) (g k : ℕ) (x : Event) : Type 0 where
+  pub item : ℕ
+  pub within : item < size_of s g
+  pub barrier : is_some (mark_of x) ≡ true
+  pub came : arrivals s g k item ≡ mark_of x
+
+-- each instance in which an event stands is divergent
+abbrev pub MayPass : Streams → EventId → Type 0
+MayPass s e = (g k : ℕ) → StandsIn s e g k → IsDivergent s g k
+
+-- ---- releases
+
+-- the release of this name was handled, and has the word of the event that has the name
+pub record IsReleased (s : Streams) (frontier : Counts) (group : ℕ) (x : Event) (n : Name) : Type 0 where
+  pub release : EventId
+  pub item : release.at ≡ n.at
+  pub place : release_place s n ≡ Some release.index
+  pub word : event_word group x ≡ word_at s release
+  pub handled : release.index < count_of frontier release.at
+
+-- so is the release of each name that it has
+abbrev pub AreReleased : Streams → Counts → ℕ → Event → Type 0
+AreReleased s frontier group x = (n : Name) → x.name ≡ Some n → IsReleased s frontier group x n

@@ -1,0 +1,56 @@
+-- What was taken of a launch's streams, and in which order its events were handled.
+-- Source: docs/MODEL.md, "Steps".
+use Rattle.std.specs.Prelude.{◌≡◌, ℕ, ◌⊎◌, List, [], length, filter, not}
+use Rattle.std.specs.List.{sum_by}
+use Rattle.gr_model.specs.declared.event.Event.{Event}
+use Rattle.gr_model.specs.declared.event.EventId.{EventId}
+use Rattle.gr_model.specs.declared.event.ItemId.{ItemId}
+use Rattle.gr_model.specs.Events.{is_end}
+use Rattle.gr_model.specs.Streams.{Streams, AreFronts}
+use Rattle.gr_model.specs.LawfulOrders.{IsLawful}
+use Rattle.gr_lanes.specs.Takes.{nothing_taken, with_record}
+use Rattle.gr_steps.specs.Steps.{Handles, Meets, CanHandle, CanMeet, IsAtRest, AreGrounded}
+
+pub record Sequence : Type 0 where
+  pub taken : Streams
+  pub handled : List EventId
+
+-- what is so of every sequence: the lists are fronts of lists that the groups may have, and the order is lawful
+pub record IsSequence (q : Sequence) : Type 0 where
+  pub fronts : AreFronts q.taken
+  pub lawful : IsLawful q.taken q.handled
+
+-- groups of these sizes, of which nothing was taken
+abbrev pub nothing : List ℕ → Sequence
+nothing sizes = record { taken = nothing_taken sizes; handled = [] }
+
+-- one record more of a group
+abbrev pub taking : Sequence → ℕ → Event → Sequence
+taking q g x = record { taken = with_record q.taken g x; handled = q.handled }
+
+-- ---- steps
+
+-- one event more is handled
+pub record HandlesEvent (old : Sequence) (e : EventId) (new : Sequence) : Type 0 where
+  pub taken : new.taken ≡ old.taken
+  pub handles : Handles old.taken old.handled e new.handled
+
+-- one instance more has met
+pub record MeetsInstance (old : Sequence) (g k : ℕ) (new : Sequence) : Type 0 where
+  pub taken : new.taken ≡ old.taken
+  pub meets : Meets old.taken old.handled g k new.handled
+
+-- some event may be handled, or some instance may meet
+abbrev pub CanStep : Sequence → Type 0
+CanStep q = ((i : ItemId) × CanHandle q.taken q.handled i) ⊎ ((g : ℕ) × CanMeet q.taken q.handled g)
+
+-- no step is left, and the handled events are the grounded ones
+pub record IsDone (q : Sequence) : Type 0 where
+  pub rest : IsAtRest q.taken q.handled
+  pub grounded : AreGrounded q.taken q.handled
+
+-- ---- what is counted
+
+-- how many events were taken, ends aside
+abbrev pub events_of : Streams → ℕ
+events_of s = sum_by (λ list. length (filter (λ x. not (is_end x)) list)) s.lists

@@ -1,0 +1,7 @@
+//! The order in which a launch's events are handled: each after all that it waits for, and the barriers of a convergent
+//! instance together. Nothing here knows of what happens before what.
+#![tactic(auto)]
+
+pub mod go_error;
+pub mod order;
+mod ready;

@@ -1,0 +1,134 @@
+//! What is looked at to tell whether an item's next event may be handled: the instance of a barrier, and the release that
+//! an acquire names.
+
+ghost use Rattle.std.specs.Prelude.{◌≡◌, ◌↔◌, ◌<◌, true, IsTrue, MatchOption, Some, is_some, length};
+ghost use Rattle.gr_model.specs.Barriers.{IsDivergent, arrivals, mark_of};
+ghost use Rattle.gr_model.specs.Streams.{is_complete, list_of};
+ghost use Rattle.gr_model.specs.Streams as model;
+ghost use Rattle.gr_order.specs.Readiness.{AreReleased, HasCome, IsParted, IsReleased, MayPass};
+
+use gr_clocks::clock::Clock;
+use gr_lanes::lanes::Lanes;
+use gr_model::event::{Event, EventId, ItemId, Name, Word, word_of};
+use std::alloc::Allocator;
+
+/// The record of an item's barrier of this number, if it was taken.
+fn barrier<A: Allocator>(lanes: &Lanes<A>, item: ItemId, number: u32) -> Option<Event>
+    ensures { MatchOption result (arrivals lanes.now item.group number item.item ≡ None) (λ x. (arrivals lanes.now item.group number item.item ≡ mark_of x) × (is_some (mark_of x) ≡ true)) }
+{
+    match lanes.barrier_at(item, number) {
+        None => None,
+        Some(index) => lanes.event_at(EventId { at: item, index }),
+    }
+}
+
+/// Whether two barriers have one site and the same flags.
+fn has_mark_of(mine: &Event, other: &Event) -> bool
+    requires { is_some (mark_of mine.now) ≡ true }
+    ensures { IsTrue result ↔ (mark_of other.now ≡ mark_of mine.now) }
+{
+    other.kind == mine.kind && other.word == mine.word
+}
+
+/// Whether an item parts the instance of a barrier: it came with another mark, or it never comes.
+fn parts<A: Allocator>(lanes: &Lanes<A>, item: ItemId, number: u32, mine: &Event) -> bool
+    requires { is_some (mark_of mine.now) ≡ true }
+    ensures { IsTrue result ↔ IsParted lanes.now item.group number (mark_of mine.now) item.item }
+{
+    match barrier(lanes, item, number) {
+        None => lanes.is_complete(item.group),
+        Some(other) => !has_mark_of(mine, &other),
+    }
+}
+
+/// Whether the instance of a barrier that was taken is divergent.
+fn is_divergent<A: Allocator>(lanes: &Lanes<A>, group: u16, number: u32, mine: &Event) -> bool
+    requires group { group < length lanes.now.sizes }
+    requires come { HasCome lanes.now group number mine.now }
+    ensures { IsTrue result ↔ IsDivergent lanes.now group number }
+{
+    for item in 0..lanes.shape().items(group) {
+        if parts(lanes, ItemId { group, item }, number, mine) {
+            return true;
+        }
+    }
+    false
+}
+
+/// The word that an event accesses, if it was taken and is an access.
+fn word_at<A: Allocator>(lanes: &Lanes<A>, event: EventId) -> Option<Word>
+    ensures { result ≡ model.word_at lanes.now event }
+{
+    match lanes.event_at(event) {
+        None => None,
+        Some(taken) => word_of(event.at.group, &taken),
+    }
+}
+
+/// Whether two events access one word, or neither is an access.
+fn is_same(mine: Option<Word>, other: Option<Word>) -> bool
+    ensures { IsTrue result ↔ (mine ≡ other) }
+{
+    mine == other
+}
+
+/// Whether the release of a name was handled and has the word of the event that has the name.
+fn is_released<A: Allocator>(
+    lanes: &Lanes<A>,
+    frontier: &Clock<A>,
+    group: u16,
+    acquire: &Event,
+    name: Name,
+) -> bool
+    ensures { IsTrue result ↔ IsReleased lanes.now frontier.now group acquire.now name }
+{
+    match lanes.release_at(name) {
+        None => false,
+        Some(index) => {
+            let release = EventId { at: name.at, index };
+            frontier.covers(name.at, index)
+                && is_same(word_at(lanes, release), word_of(group, acquire))
+        }
+    }
+}
+
+/// Whether the release that an event of a group names, if it names one, was handled and has its word.
+fn has_its_release<A: Allocator>(
+    lanes: &Lanes<A>,
+    frontier: &Clock<A>,
+    group: u16,
+    acquire: &Event,
+) -> bool
+    ensures { IsTrue result ↔ AreReleased lanes.now frontier.now group acquire.now }
+{
+    match acquire.name {
+        None => true,
+        Some(name) => is_released(lanes, frontier, group, acquire, name),
+    }
+}
+
+/// Whether an event that was taken is no barrier, or one of a divergent instance.
+fn may_pass<A: Allocator>(lanes: &Lanes<A>, event: EventId, taken: &Event) -> bool
+    requires there { model.event_at lanes.now event ≡ Some taken.now }
+    requires fronts { model.AreFronts lanes.now }
+    ensures { IsTrue result ↔ MayPass lanes.now event }
+{
+    match lanes.barrier_number(event) {
+        None => true,
+        Some(number) => is_divergent(lanes, event.at.group, number, taken),
+    }
+}
+
+/// Whether an item's next event waits for nothing that was not handled.
+pub(crate) fn is_ready<A: Allocator>(
+    lanes: &Lanes<A>,
+    frontier: &Clock<A>,
+    event: EventId,
+    taken: &Event,
+) -> bool
+    requires there { model.event_at lanes.now event ≡ Some taken.now }
+    requires fronts { model.AreFronts lanes.now }
+    ensures { IsTrue result ↔ (AreReleased lanes.now frontier.now event.at.group taken.now × MayPass lanes.now event) }
+{
+    has_its_release(lanes, frontier, event.at.group, taken) && may_pass(lanes, event, taken)
+}

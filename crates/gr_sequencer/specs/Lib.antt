@@ -1,0 +1,2 @@
+pub mod ClockRules
+pub mod Accesses
