@@ -1,2 +1,0 @@
-pub mod ClockRules
-pub mod Accesses
