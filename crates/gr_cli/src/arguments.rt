@@ -23,7 +23,9 @@ Reports the data races of an OpenCL kernel launch, from a trace of what its work
 
 A race is that of the OpenCL 2.0 memory model: two accesses of different work-items to one word, at least one of
 them a write, not both atomic with inclusive scope, and neither of which happens before the other. The report is
-exact for the trace: it names each word that has a race, and no other.";
+exact for the trace: it names each word that has a race, and no other.
+
+So far, traces with work-group barriers, or with acquires that name a release, are refused with `bad kind`.";
 
 const AFTER_HELP: &str = "\
 Example:
