@@ -1,2 +1,3 @@
 pub mod ReadyLemmas
 pub mod StateLemmas
+pub mod MeetLemmas

@@ -7,12 +7,13 @@ ghost use Rattle.std.specs.Prelude.{◌≡◌, ◌<◌, IfOk, IfErr, OnOk, Match
 ghost use Rattle.gr_model.specs.declared.limits.TheConstants.{MOST_RECORDS};
 ghost use Rattle.gr_model.specs.Streams.{list_of};
 ghost use Rattle.gr_lanes.specs.Takes.{CanTake, IsEventButItem, IsTakeFault};
-ghost use Rattle.gr_steps.specs.Steps.{CanHandle, IsReady};
+ghost use Rattle.gr_steps.specs.Steps.{CanHandle, CanMeet, IsMeeting, IsReady};
+ghost use Rattle.gr_model.specs.Instances.{Mark};
 ghost use Rattle.gr_order.specs.Answers.{IsHandleFault};
 ghost use Rattle.gr_order.specs.Sequences.{HandlesEvent, IsSequence, nothing, taking};
 
 use crate::go_error::GoError;
-use crate::ready::is_ready;
+use crate::ready::{is_ready, next_instance};
 use gr_clocks::clock::Clock;
 use gr_lanes::lanes::Lanes;
 use gr_lanes::seq_error::SeqError;
@@ -90,6 +91,17 @@ impl<A: Allocator> Order<A> {
                 }
             }
         }
+    }
+
+    /// The instance of a group that may meet, if there is one.
+    pub fn meeting(&self, group: u16) -> Option<u32>
+        ensures meeting { MatchOption result (¬ CanMeet self.now.taken self.now.handled group) (λ k. (a : Mark) × IsMeeting self.now.taken self.now.handled group k a) }
+        ensures sequence { IsSequence self.now }
+    {
+        if group >= self.lanes.shape().groups() {
+            return None;
+        }
+        next_instance(&self.lanes, &self.frontier, group)
     }
 
     /// Takes the next record of a group. It is one that some group may have, whatever its item.
