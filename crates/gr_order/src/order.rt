@@ -3,14 +3,14 @@
 //! Invariant: the order is lawful, and the handled events of each item are its first ones. How many they are is counted by
 //! a vector clock, the frontier.
 
-ghost use Rattle.std.specs.Prelude.{◌≡◌, ◌<◌, IfOk, IfErr, OnOk, MatchOption, OnErr, length};
+ghost use Rattle.std.specs.Prelude.{◌≡◌, ◌<◌, IfOk, IfErr, OnOk, MatchOption, OnErr, length, IsTrue, ◌↔◌};
 ghost use Rattle.gr_model.specs.declared.limits.TheConstants.{MOST_RECORDS};
 ghost use Rattle.gr_model.specs.Streams.{list_of};
 ghost use Rattle.gr_lanes.specs.Takes.{CanTake, IsEventButItem, IsTakeFault};
-ghost use Rattle.gr_steps.specs.Steps.{CanHandle, CanMeet, IsMeeting, IsReady};
+ghost use Rattle.gr_steps.specs.Steps.{CanHandle, CanMeet, IsAtRest, IsMeeting, IsReady};
 ghost use Rattle.gr_model.specs.Instances.{Mark};
 ghost use Rattle.gr_order.specs.Answers.{IsHandleFault};
-ghost use Rattle.gr_order.specs.Sequences.{HandlesEvent, IsSequence, nothing, taking};
+ghost use Rattle.gr_order.specs.Sequences.{HandlesEvent, IsDone, IsGroupAtRest, IsSequence, nothing, taking};
 
 use crate::go_error::GoError;
 use crate::ready::{is_ready, next_instance};
@@ -157,5 +157,36 @@ impl<A: Allocator> Order<A> {
                 Ok(())
             }
         }
+    }
+
+    /// Whether no step is left in a group.
+    fn is_group_at_rest(&self, group: u16) -> bool
+        requires { group < length self.now.taken.sizes }
+        ensures { IsTrue result ↔ IsGroupAtRest self.now group }
+    {
+        for item in 0..self.lanes.shape().items(group) {
+            match self.next(ItemId { group, item }) {
+                None => {}
+                Some(_) => return false,
+            }
+        }
+        match self.meeting(group) {
+            None => true,
+            Some(_) => false,
+        }
+    }
+
+    /// Whether no step is left. The handled events are then the grounded ones.
+    pub fn is_at_rest(&self) -> bool
+        ensures rest { IsTrue result ↔ IsAtRest self.now.taken self.now.handled }
+        ensures done { IsTrue result → IsDone self.now }
+        ensures sequence { IsSequence self.now }
+    {
+        for group in 0..self.lanes.shape().groups() {
+            if !self.is_group_at_rest(group) {
+                return false;
+            }
+        }
+        true
     }
 }
