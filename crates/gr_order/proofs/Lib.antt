@@ -1,2 +1,4 @@
 pub mod ReadyLemmas
 pub mod StateLemmas
+pub mod MeetLemmas
+pub mod RestLemmas

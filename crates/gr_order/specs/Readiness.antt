@@ -4,10 +4,10 @@ use Rattle.gr_model.specs.declared.event.Event.{Event}
 use Rattle.gr_model.specs.declared.event.EventId.{EventId}
 use Rattle.gr_model.specs.declared.event.Name.{Name}
 use Rattle.gr_model.specs.Access.{event_word}
-use Rattle.gr_model.specs.Barriers.{IsDivergent, StandsIn, arrivals, mark_of}
+use Rattle.gr_model.specs.Barriers.{IsDivergent, StandsIn, arrivals, is_barrier, mark_of}
 use Rattle.gr_model.specs.Instances.{Mark}
 use Rattle.gr_model.specs.Names.{release_place}
-use Rattle.gr_model.specs.Streams.{Streams, is_complete, list_of, size_of, word_at}
+use Rattle.gr_model.specs.Streams.{Streams, is_complete, list_of, place_of, size_of, word_at}
 use Rattle.gr_clocks.specs.Counts.{Counts, count_of}
 
 -- ---- instances
@@ -27,6 +27,17 @@ pub record HasCome (s : Streams) (g k : ℕ) (x : Event) : Type 0 where
   pub within : item < size_of s g
   pub barrier : is_some (mark_of x) ≡ true
   pub came : arrivals s g k item ≡ mark_of x
+
+-- an item's next event is its barrier of this number, and it came with this mark
+pub record StandsNext (s : Streams) (frontier : Counts) (g k : ℕ) (mine : Option Mark) (i : ℕ) : Type 0 where
+  pub place : place_of s is_barrier (record { group = g; item = i }) k ≡ Some (count_of frontier (record { group = g; item = i }))
+  pub mark : arrivals s g k i ≡ mine
+
+-- the next event of each item of the group is its barrier of the instance, all with one mark
+pub record IsNextInstance (s : Streams) (frontier : Counts) (g k : ℕ) : Type 0 where
+  pub mark : Mark
+  pub some : 0 < size_of s g
+  pub each : (i : ℕ) → i < size_of s g → StandsNext s frontier g k (Some mark) i
 
 -- each instance in which an event stands is divergent
 abbrev pub MayPass : Streams → EventId → Type 0

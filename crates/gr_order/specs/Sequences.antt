@@ -1,12 +1,12 @@
 -- What was taken of a launch's streams, and in which order its events were handled.
 -- Source: docs/MODEL.md, "Steps".
-use Rattle.std.specs.Prelude.{◌≡◌, ℕ, ◌⊎◌, List, [], length, filter, not}
+use Rattle.std.specs.Prelude.{◌≡◌, ℕ, ◌<◌, ◌⊎◌, List, [], length, filter, not}
 use Rattle.std.specs.List.{sum_by}
 use Rattle.gr_model.specs.declared.event.Event.{Event}
 use Rattle.gr_model.specs.declared.event.EventId.{EventId}
 use Rattle.gr_model.specs.declared.event.ItemId.{ItemId}
 use Rattle.gr_model.specs.Events.{is_end}
-use Rattle.gr_model.specs.Streams.{Streams, AreFronts}
+use Rattle.gr_model.specs.Streams.{Streams, AreFronts, size_of}
 use Rattle.gr_model.specs.LawfulOrders.{IsLawful}
 use Rattle.gr_lanes.specs.Takes.{nothing_taken, with_record}
 use Rattle.gr_steps.specs.Steps.{Handles, Meets, CanHandle, CanMeet, IsAtRest, AreGrounded}
@@ -43,6 +43,11 @@ pub record MeetsInstance (old : Sequence) (g k : ℕ) (new : Sequence) : Type 0 
 -- some event may be handled, or some instance may meet
 abbrev pub CanStep : Sequence → Type 0
 CanStep q = ((i : ItemId) × CanHandle q.taken q.handled i) ⊎ ((g : ℕ) × CanMeet q.taken q.handled g)
+
+-- no step is left in a group
+pub record IsGroupAtRest (q : Sequence) (g : ℕ) : Type 0 where
+  pub handles : (i : ℕ) → i < size_of q.taken g → ¬ CanHandle q.taken q.handled (record { group = g; item = i })
+  pub meets : ¬ CanMeet q.taken q.handled g
 
 -- no step is left, and the handled events are the grounded ones
 pub record IsDone (q : Sequence) : Type 0 where

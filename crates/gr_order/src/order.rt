@@ -3,16 +3,17 @@
 //! Invariant: the order is lawful, and the handled events of each item are its first ones. How many they are is counted by
 //! a vector clock, the frontier.
 
-ghost use Rattle.std.specs.Prelude.{◌≡◌, ◌<◌, IfOk, IfErr, OnOk, MatchOption, OnErr, length};
+ghost use Rattle.std.specs.Prelude.{◌≡◌, ◌<◌, IfOk, IfErr, OnOk, MatchOption, OnErr, length, IsTrue, ◌↔◌};
 ghost use Rattle.gr_model.specs.declared.limits.TheConstants.{MOST_RECORDS};
 ghost use Rattle.gr_model.specs.Streams.{list_of};
 ghost use Rattle.gr_lanes.specs.Takes.{CanTake, IsEventButItem, IsTakeFault};
-ghost use Rattle.gr_steps.specs.Steps.{CanHandle, IsReady};
+ghost use Rattle.gr_steps.specs.Steps.{CanHandle, CanMeet, IsAtRest, IsMeeting, IsReady};
+ghost use Rattle.gr_model.specs.Instances.{Mark};
 ghost use Rattle.gr_order.specs.Answers.{IsHandleFault};
-ghost use Rattle.gr_order.specs.Sequences.{HandlesEvent, IsSequence, nothing, taking};
+ghost use Rattle.gr_order.specs.Sequences.{HandlesEvent, IsDone, IsGroupAtRest, IsSequence, nothing, taking};
 
 use crate::go_error::GoError;
-use crate::ready::is_ready;
+use crate::ready::{is_ready, next_instance};
 use gr_clocks::clock::Clock;
 use gr_lanes::lanes::Lanes;
 use gr_lanes::seq_error::SeqError;
@@ -92,6 +93,17 @@ impl<A: Allocator> Order<A> {
         }
     }
 
+    /// The instance of a group that may meet, if there is one.
+    pub fn meeting(&self, group: u16) -> Option<u32>
+        ensures meeting { MatchOption result (¬ CanMeet self.now.taken self.now.handled group) (λ k. (a : Mark) × IsMeeting self.now.taken self.now.handled group k a) }
+        ensures sequence { IsSequence self.now }
+    {
+        if group >= self.lanes.shape().groups() {
+            return None;
+        }
+        next_instance(&self.lanes, &self.frontier, group)
+    }
+
     /// Takes the next record of a group. It is one that some group may have, whatever its item.
     ///
     /// # Errors
@@ -145,5 +157,36 @@ impl<A: Allocator> Order<A> {
                 Ok(())
             }
         }
+    }
+
+    /// Whether no step is left in a group.
+    fn is_group_at_rest(&self, group: u16) -> bool
+        requires { group < length self.now.taken.sizes }
+        ensures { IsTrue result ↔ IsGroupAtRest self.now group }
+    {
+        for item in 0..self.lanes.shape().items(group) {
+            match self.next(ItemId { group, item }) {
+                None => {}
+                Some(_) => return false,
+            }
+        }
+        match self.meeting(group) {
+            None => true,
+            Some(_) => false,
+        }
+    }
+
+    /// Whether no step is left. The handled events are then the grounded ones.
+    pub fn is_at_rest(&self) -> bool
+        ensures rest { IsTrue result ↔ IsAtRest self.now.taken self.now.handled }
+        ensures done { IsTrue result → IsDone self.now }
+        ensures sequence { IsSequence self.now }
+    {
+        for group in 0..self.lanes.shape().groups() {
+            if !self.is_group_at_rest(group) {
+                return false;
+            }
+        }
+        true
     }
 }

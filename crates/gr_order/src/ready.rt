@@ -1,11 +1,11 @@
 //! What is looked at to tell whether an item's next event may be handled: the instance of a barrier, and the release that
 //! an acquire names.
 
-ghost use Rattle.std.specs.Prelude.{◌≡◌, ◌↔◌, ◌<◌, true, IsTrue, MatchOption, Some, is_some, length};
+ghost use Rattle.std.specs.Prelude.{◌≡◌, ◌↔◌, ◌<◌, true, IsTrue, MatchOption, Some, is_some, length, ℕ};
 ghost use Rattle.gr_model.specs.Barriers.{IsDivergent, arrivals, mark_of};
 ghost use Rattle.gr_model.specs.Streams.{is_complete, list_of};
 ghost use Rattle.gr_model.specs.Streams as model;
-ghost use Rattle.gr_order.specs.Readiness.{AreReleased, HasCome, IsParted, IsReleased, MayPass};
+ghost use Rattle.gr_order.specs.Readiness.{AreReleased, HasCome, IsNextInstance, IsParted, IsReleased, MayPass, StandsNext};
 
 use gr_clocks::clock::Clock;
 use gr_lanes::lanes::Lanes;
@@ -131,4 +131,80 @@ pub(crate) fn is_ready<A: Allocator>(
     ensures { IsTrue result ↔ (AreReleased lanes.now frontier.now event.at.group taken.now × MayPass lanes.now event) }
 {
     has_its_release(lanes, frontier, event.at.group, taken) && may_pass(lanes, event, taken)
+}
+
+/// Whether an item came to an instance with the mark of a barrier.
+fn came_with<A: Allocator>(lanes: &Lanes<A>, item: ItemId, number: u32, mine: &Event) -> bool
+    requires { is_some (mark_of mine.now) ≡ true }
+    ensures { IsTrue result ↔ (arrivals lanes.now item.group number item.item ≡ mark_of mine.now) }
+{
+    match barrier(lanes, item, number) {
+        None => false,
+        Some(other) => has_mark_of(mine, &other),
+    }
+}
+
+/// Whether an item's next event is its barrier of this number, and has the mark of another.
+fn stands_next<A: Allocator>(
+    lanes: &Lanes<A>,
+    frontier: &Clock<A>,
+    item: ItemId,
+    number: u32,
+    mine: &Event,
+) -> bool
+    requires { is_some (mark_of mine.now) ≡ true }
+    ensures { IsTrue result ↔ StandsNext lanes.now frontier.now item.group number (mark_of mine.now) item.item }
+{
+    match lanes.barrier_at(item, number) {
+        None => false,
+        Some(index) => index == frontier.get(item) && came_with(lanes, item, number, mine),
+    }
+}
+
+/// Whether the next event of each item of a group is its barrier of this number, and has the mark of one of them.
+fn all_stand_next<A: Allocator>(
+    lanes: &Lanes<A>,
+    frontier: &Clock<A>,
+    group: u16,
+    number: u32,
+    mine: &Event,
+) -> bool
+    requires group { group < length lanes.now.sizes }
+    requires barrier { is_some (mark_of mine.now) ≡ true }
+    ensures { IsTrue result ↔ ((i : ℕ) → i < model.size_of lanes.now group → StandsNext lanes.now frontier.now group number (mark_of mine.now) i) }
+{
+    for item in 0..lanes.shape().items(group) {
+        if !stands_next(lanes, frontier, ItemId { group, item }, number, mine) {
+            return false;
+        }
+    }
+    true
+}
+
+/// The instance of a group whose barriers are the next events of all its items, with one mark, if there is one.
+pub(crate) fn next_instance<A: Allocator>(
+    lanes: &Lanes<A>,
+    frontier: &Clock<A>,
+    group: u16,
+) -> Option<u32>
+    requires group { group < length lanes.now.sizes }
+    requires fronts { model.AreFronts lanes.now }
+    ensures { MatchOption result ((k : ℕ) → ¬ IsNextInstance lanes.now frontier.now group k) (λ k. IsNextInstance lanes.now frontier.now group k) }
+{
+    let first = ItemId { group, item: 0 };
+    let index = frontier.get(first);
+    let event = EventId { at: first, index };
+    match lanes.event_at(event) {
+        None => None,
+        Some(mine) => match lanes.barrier_number(event) {
+            None => None,
+            Some(number) => {
+                if all_stand_next(lanes, frontier, group, number, &mine) {
+                    Some(number)
+                } else {
+                    None
+                }
+            }
+        },
+    }
 }

@@ -1,0 +1,122 @@
+-- The next instance of a group, by the next events of its items.
+use Rattle.std.proofs.Common.{◌≡◌, ℕ, ◌<◌, ◌≤◌, List, Some, None, Option, slice_get, is_some, true, true≢false, length, refl, sym, ap, ◌∙◌, subst, ⊎_elim, arith, eq-or-lt_of_le}
+use Rattle.std.specs.Prelude.{MatchOption}
+use Rattle.std.proofs.lemmas.Bool.{cases_lt}
+use Rattle.std.proofs.lemmas.List.{get_or_past}
+use Rattle.gr_model.specs.declared.event.Event.{Event}
+use Rattle.gr_model.specs.declared.event.EventId.{EventId}
+use Rattle.gr_model.specs.declared.event.ItemId.{ItemId}
+use Rattle.gr_model.specs.Barriers.{IsConvergent, StandsIn, arrivals, is_barrier, mark_of}
+use Rattle.gr_model.specs.Instances.{Mark}
+use Rattle.gr_model.specs.Streams.{AreFronts, Streams, event_at, place_of, size_of, trace_of}
+use Rattle.gr_clocks.specs.Counts.{Counts, count_of}
+use Rattle.gr_steps.specs.Steps.{CanMeet, IsMeeting}
+use Rattle.gr_steps.proofs.BarrierPlaces.{barrier_of, places_from-once, stands_before}
+use Rattle.gr_steps.proofs.Orders.{number_before}
+use Rattle.gr_order.specs.Readiness.{HasCome, IsNextInstance, StandsNext}
+use Rattle.gr_order.specs.States.{AreFirst}
+use Rattle.gr_order.proofs.ReadyLemmas.{barrier_mark, come_of}
+
+-- the item of a group at a place, and its next event
+abbrev pub item_at : ℕ → ℕ → ItemId
+item_at g i = record { group = g; item = i }
+
+abbrev pub next_of : Counts → ItemId → EventId
+next_of frontier i = record { at = i; index = count_of frontier i }
+
+module _ (s : Streams) (frontier : Counts) (g : ℕ) where
+  -- the first item's next event is there, and is a barrier of that number
+  pub first_there : (k : ℕ) → IsNextInstance s frontier g k → event_at s (next_of frontier (item_at g 0)) ≡ None → ⊥
+  first_there k h none =
+      let stands = h.each 0 h.some in
+      let there = barrier_mark 0 (trace_of s (item_at g 0)) k (count_of frontier (item_at g 0)) stands.place in
+      let place : count_of frontier (item_at g 0) ≡ there.0 = omega (arith, there.2) in
+      let clash : None ≡ Some there.1 = sym none ∙ (ap (slice_get (trace_of s (item_at g 0))) place ∙ there.3) in cc
+
+  pub first_numbered : ((k : ℕ) → place_of s is_barrier (item_at g 0) k ≡ Some (count_of frontier (item_at g 0)) → ⊥) → (k : ℕ) → IsNextInstance s frontier g k → ⊥
+  first_numbered none k h = none k (h.each 0 h.some).place
+
+  module _ (fronts : AreFronts s) (x : Event) (at : event_at s (next_of frontier (item_at g 0)) ≡ Some x) (number : ℕ) (place : place_of s is_barrier (item_at g 0) number ≡ Some (count_of frontier (item_at g 0))) where
+    come : HasCome s g number x
+    come = come_of s fronts (next_of frontier (item_at g 0)) x at number place
+
+    pub is_mark : is_some (mark_of x) ≡ true
+    is_mark = come.barrier
+
+    first_mark : arrivals s g number 0 ≡ mark_of x
+    first_mark =
+        let there = barrier_mark 0 (trace_of s (item_at g 0)) number (count_of frontier (item_at g 0)) place in
+        let index : count_of frontier (item_at g 0) ≡ there.0 = omega (arith, there.2) in
+        let same : there.1 ≡ x = let is : Some there.1 ≡ Some x = sym there.3 ∙ (ap (slice_get (trace_of s (item_at g 0))) (sym index) ∙ at) in cc in
+        there.4 ∙ ap mark_of same
+
+    pub next_if : (m : Mark) → mark_of x ≡ Some m → 0 < size_of s g → ((i : ℕ) → i < size_of s g → StandsNext s frontier g number (mark_of x) i) → IsNextInstance s frontier g number
+    next_if m is some all = record { mark = m; some = some; each = λ i lt. subst (λ o. StandsNext s frontier g number o i) is (all i lt) }
+
+    pub next_only : (k : ℕ) → IsNextInstance s frontier g k → (i : ℕ) → i < size_of s g → StandsNext s frontier g number (mark_of x) i
+    next_only k h =
+        let first_stands = h.each 0 h.some in
+        let same : k ≡ number = places_from-once is_barrier 0 (trace_of s (item_at g 0)) (count_of frontier (item_at g 0)) k number first_stands.place place in
+        let mark : Some h.mark ≡ mark_of x = sym first_stands.mark ∙ (ap (λ n. arrivals s g n 0) same ∙ first_mark) in
+        λ i lt. subst (λ n. StandsNext s frontier g n (mark_of x) i) same (subst (λ o. StandsNext s frontier g k o i) mark (h.each i lt))
+
+-- ---- that instance is the one that may meet
+
+module _ (s : Streams) (order : List EventId) (frontier : Counts) (first_ones : AreFirst order frontier) (g : ℕ) where
+  stands_at : (k : ℕ) (b : EventId) → IsNextInstance s frontier g k → StandsIn s b g k → b.index ≡ count_of frontier b.at
+  stands_at k b h stands =
+      let item : item_at g b.at.item ≡ b.at = λ d. record { group = sym stands.group d; item = b.at.item } in
+      let next = h.each b.at.item stands.item in
+      let here : Some b.index ≡ Some (count_of frontier b.at) = sym stands.place ∙ (ap (λ (i : ItemId). place_of s is_barrier i k) (sym item) ∙ (next.place ∙ ap (λ (i : ItemId). Some (count_of frontier i)) item)) in
+      cc
+
+  pub next_meets : (k : ℕ) → IsNextInstance s frontier g k → (a : Mark) × IsMeeting s order g k a
+  next_meets k h = (
+    h.mark,
+    record {
+      convergent = convergent;
+      fresh = λ met. let index = stands_at k met.0 h met.1 in let lt = (first_ones met.0).0 met.2 in omega arith;
+      least = λ l b lt c.
+          let was = barrier_of s g l b c 0 h.some in
+          let now = barrier_of s g k h.mark convergent 0 h.some in
+          let before = stands_before s (record { at = item_at g 0; index = was.0 }) (record { at = item_at g 0; index = now.0 }) g l k was.1 now.1 refl lt in
+          let index = stands_at k (record { at = item_at g 0; index = now.0 }) h now.1 in
+          (record { at = item_at g 0; index = was.0 }, was.1, (first_ones (record { at = item_at g 0; index = was.0 })).1 (omega arith));
+      before = λ b d stands previous.
+          let index = stands_at k b h stands in
+          let same : count_of frontier d.at ≡ count_of frontier b.at = ap (count_of frontier) previous.item in
+          (first_ones d).1 (omega (arith, previous.next));
+    },
+  )
+    where
+      convergent : IsConvergent s g k h.mark
+      convergent = (h.some, λ i lt. (h.each i lt).mark)
+
+  pub meets_next : (k : ℕ) (a : Mark) → IsMeeting s order g k a → IsNextInstance s frontier g k
+  meets_next k a meeting = record { mark = a; some = meeting.convergent.0; each = λ i lt. record { place = place i lt; mark = meeting.convergent.1 i lt } }
+    where
+      index_of_barrier : (b : EventId) → StandsIn s b g k → b.index ≡ count_of frontier b.at
+      index_of_barrier b stands = ⊎_elim
+          (λ (lt : b.index < count_of frontier b.at). absurd (meeting.fresh (b, stands, (first_ones b).1 lt)))
+          (λ (ge : count_of frontier b.at ≤ b.index). ⊎_elim (λ (same : count_of frontier b.at ≡ b.index). sym same) (λ (lt : count_of frontier b.at < b.index).
+          absurd (let n = number_before b.index (omega arith) in
+          let d : EventId = record { at = b.at; index = n.0 } in
+          let there = (first_ones d).0 (meeting.before b d stands (record { item = refl; next = n.1 })) in omega (arith, n.1, there))) (eq-or-lt_of_le ge))
+          (cases_lt b.index (count_of frontier b.at))
+
+      place : (i : ℕ) → i < size_of s g → place_of s is_barrier (item_at g i) k ≡ Some (count_of frontier (item_at g i))
+      place i lt =
+          let b = barrier_of s g k a meeting.convergent i lt in
+          b.1.place ∙ ap Some (index_of_barrier (record { at = item_at g i; index = b.0 }) b.1)
+
+  -- so it is told which instance may meet
+  pub meeting_of : (o : Option ℕ) → MatchOption o ((k : ℕ) → ¬ IsNextInstance s frontier g k) (λ k. IsNextInstance s frontier g k) → MatchOption o (¬ CanMeet s order g) (λ k. (a : Mark) × IsMeeting s order g k a)
+  meeting_of None none = λ can. none can.0 (meets_next can.0 can.1 can.2)
+  meeting_of (Some k) next = next_meets k next
+
+pub no_group_meets : (s : Streams) (order : List EventId) (g : ℕ) → length s.sizes ≤ g → ¬ CanMeet s order g
+no_group_meets s order g past can = let some = can.2.convergent.0 in let none : size_of s g ≡ 0 = get_or_past s.sizes g 0 past in omega arith
+
+pub mark_there : (o : Option Mark) → is_some o ≡ true → (a : Mark) × (o ≡ Some a)
+mark_there None e = absurd (true≢false (sym e))
+mark_there (Some a) e = (a, refl)

@@ -1,0 +1,22 @@
+use Rattle.std.proofs.Common.{◌≡◌, ◌∙◌, List, ℕ, ap, arith, below_more, get_or, refl}
+use Rattle.std.proofs.lemmas.Bool.{false≢true}
+use Rattle.gr_model.specs.Streams.{size_of}
+use Rattle.gr_order.specs.Sequences.{Sequence}
+use Rattle.gr_order.proofs.order.Order.is_group_at_rest.Goals as goal
+
+pub loop-item-preserved : goal.loop-item-preserved
+loop-item-preserved g c = below_more _ _ c.loop-item.invariant c.in-None.ensures.next
+
+pub returns-in-Some : goal.returns-in-Some
+returns-in-Some g c =
+    let size : c.items-item-end.result ≡ size_of c.args.self.now.taken c.args.group = c.items-item-end.ensures.size ∙ ap (λ (l : List ℕ). get_or l c.args.group 0) (c.shape.ensures.sizes ∙ ap (λ (q : Sequence). q.taken.sizes) c.self.view_is) in (
+      λ never. absurd (false≢true never),
+      λ rest. absurd (rest.handles c.loop-item.item (omega arith) (c.in-Some.field-0, c.in-Some.ensures.next.0, c.in-Some.ensures.next.1)),
+    )
+
+pub returns-in-None-meeting : goal.returns-in-None-meeting
+returns-in-None-meeting g c =
+    let size : c.items-item-end.result ≡ size_of c.args.self.now.taken c.args.group = c.items-item-end.ensures.size ∙ ap (λ (l : List ℕ). get_or l c.args.group 0) (c.shape.ensures.sizes ∙ ap (λ (q : Sequence). q.taken.sizes) c.self.view_is) in (
+      λ always. record { handles = λ i within. c.loop-item.invariant i (omega arith); meets = c.in-None-meeting.ensures.meeting },
+      λ rest. refl,
+    )
