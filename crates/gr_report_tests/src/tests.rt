@@ -225,27 +225,69 @@ fn a_report_has_its_text(rt: HostRuntime) -> Result<(), Fail> {
 }
 
 const FAULTS: [(Fault, &str); 25] = [
-    (Fault::Stream(0, RecordError::BadMagic), "stream 0: bad magic"),
-    (Fault::Stream(1, RecordError::BadHeader), "stream 1: bad header"),
+    (
+        Fault::Stream(0, RecordError::BadMagic),
+        "stream 0: bad magic",
+    ),
+    (
+        Fault::Stream(1, RecordError::BadHeader),
+        "stream 1: bad header",
+    ),
     (Fault::Stream(2, RecordError::BadKind), "stream 2: bad kind"),
-    (Fault::Stream(3, RecordError::BadField(11)), "stream 3: bad field 11"),
-    (Fault::Stream(4, RecordError::BadOrder), "stream 4: bad order"),
+    (
+        Fault::Stream(3, RecordError::BadField(11)),
+        "stream 3: bad field 11",
+    ),
+    (
+        Fault::Stream(4, RecordError::BadOrder),
+        "stream 4: bad order",
+    ),
     (Fault::Stream(5, RecordError::BadName), "stream 5: bad name"),
-    (Fault::Stream(6, RecordError::UnknownItem), "stream 6: unknown item"),
-    (Fault::Stream(7, RecordError::AfterEnd), "stream 7: after end"),
-    (Fault::Stream(8, RecordError::Truncated), "stream 8: truncated"),
-    (Fault::Stream(63, RecordError::TooManyRecords), "stream 63: too many records"),
-    (Fault::Stream(10, RecordError::Memory), "stream 10: out of memory"),
-    (Fault::SameGroup(18_446_744_073_709_551_615), "stream 18446744073709551615: group given twice"),
+    (
+        Fault::Stream(6, RecordError::UnknownItem),
+        "stream 6: unknown item",
+    ),
+    (
+        Fault::Stream(7, RecordError::AfterEnd),
+        "stream 7: after end",
+    ),
+    (
+        Fault::Stream(8, RecordError::Truncated),
+        "stream 8: truncated",
+    ),
+    (
+        Fault::Stream(63, RecordError::TooManyRecords),
+        "stream 63: too many records",
+    ),
+    (
+        Fault::Stream(10, RecordError::Memory),
+        "stream 10: out of memory",
+    ),
+    (
+        Fault::SameGroup(18_446_744_073_709_551_615),
+        "stream 18446744073709551615: group given twice",
+    ),
     (Fault::OtherLaunch(1), "stream 1: other launch"),
     (Fault::MissingGroup(62), "group 62 missing"),
     (Fault::Shape(ShapeError::NoGroups), "shape: no groups"),
-    (Fault::Shape(ShapeError::TooManyGroups), "shape: too many groups"),
-    (Fault::Shape(ShapeError::BadItems(9)), "shape: bad items in group 9"),
-    (Fault::Shape(ShapeError::TooManyItems), "shape: too many items"),
+    (
+        Fault::Shape(ShapeError::TooManyGroups),
+        "shape: too many groups",
+    ),
+    (
+        Fault::Shape(ShapeError::BadItems(9)),
+        "shape: bad items in group 9",
+    ),
+    (
+        Fault::Shape(ShapeError::TooManyItems),
+        "shape: too many items",
+    ),
     (Fault::BadLine(1), "line 1: bad line"),
     (Fault::NoEnd, "no end"),
-    (Fault::LongStream(16_777_218), "line 16777218: too many records"),
+    (
+        Fault::LongStream(16_777_218),
+        "line 16777218: too many records",
+    ),
     (Fault::Memory, "out of memory"),
     (Fault::Threads, "no thread"),
     (Fault::Read, "read fault"),
@@ -279,13 +321,27 @@ fn a_writer_that_fails_has_a_front(rt: HostRuntime) -> Result<(), Fail> {
     for failure in [Failure::Error, Failure::TakesNothing, Failure::Flush] {
         for room in 0..text.len() + 2 {
             let taken = Vec::new(rt.alloc());
-            let mut writer = Failing { taken, room, failure };
+            let mut writer = Failing {
+                taken,
+                room,
+                failure,
+            };
             let answer = write(&report, &mut writer);
-            assert!(rt; is_front(&writer, answer, text, room), "report, {failure:?} at {room}");
+            assert!(rt;
+                is_front(&writer, answer, text, room),
+                "report, {failure:?} at {room}"
+            );
             let taken = Vec::new(rt.alloc());
-            let mut writer = Failing { taken, room, failure };
+            let mut writer = Failing {
+                taken,
+                room,
+                failure,
+            };
             let answer = write_fault(&FAULTS[3].0, &mut writer);
-            assert!(rt; is_front(&writer, answer, line, room), "line, {failure:?} at {room}");
+            assert!(rt;
+                is_front(&writer, answer, line, room),
+                "line, {failure:?} at {room}"
+            );
         }
     }
     Ok(())
