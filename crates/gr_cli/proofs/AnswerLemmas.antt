@@ -12,7 +12,14 @@ use Rattle.gr_report.specs.Whole.{whole_of}
 use Rattle.gr_replay.specs.Replays.{IsReplayReport, IsReplayFault, WritesFront}
 use Rattle.clap.specs.Words.{FailsBy, HasKind, IsAmong, Kinds}
 use Rattle.clap.specs.declared.error.Error.{Error}
-use Rattle.gr_cli.specs.Answers.{IsAnswer, IsTold}
+use Rattle.gr_input.specs.Faults.{Fails}
+use Rattle.gr_text.specs.Writes.{Writes, WritesFront as WritesFrontOf}
+use Rattle.gr_input.proofs.Outside.{at_any}
+use Rattle.gr_text.specs.Texts.{packed}
+use Rattle.gr_text.specs.Dumps.{dumped}
+use Rattle.gr_cli.specs.declared.arguments.Task.{Task}
+use Rattle.gr_cli.specs.declared.arguments.Task.TheVariants.{Replay, Pack, Dump}
+use Rattle.gr_cli.specs.Answers.{IsAnswer, IsAnswerOf, IsRewriting, IsTold}
 use Rattle.gr_cli.specs.Statuses.{fault_status, IsReportStatus}
 use Rattle.gr_cli.specs.Words.{AreHelp, AreWrong, IsHelp, IsWrongUsage}
 use Rattle.gr_cli.specs.declared.status.TheConstants.{NOTHING, USAGE, WANTING, FAILED}
@@ -34,6 +41,30 @@ answer_of (Ok r) input old new old_errors new_errors status report text fault un
     inl (whole_of r, record { report = report; text = text; silent = silent; ends = ends })
 answer_of (Err f) input old new old_errors new_errors status report text fault untouched front ends silent fault_ends line =
     inr (f, record { fault = fault; told = record { line = line; ends = fault_ends; untouched = untouched }; front = front })
+
+pub rewriting_of : (meaning : List ℕ → Result (List ℕ) Fault) (outcome : Result (Unit {0}) Fault) (input old new old_errors new_errors : Option (List ℕ)) (status : ℕ)
+    → OnOk outcome (IfSome input (λ bytes. Writes (meaning bytes) old new))
+    → IfErr outcome (λ f. f ≢ Write → IfSome input (λ bytes. Fails f (meaning bytes)))
+    → IfErr outcome (λ f. f ≢ Write → Keeps old new)
+    → IfErr outcome (λ f. f ≡ Write → IfSome input (λ bytes. WritesFrontOf (meaning bytes) old new))
+    → OnOk outcome (status ≡ NOTHING)
+    → OnOk outcome (Keeps old_errors new_errors)
+    → IfErr outcome (λ f. status ≡ fault_status f)
+    → IfErr outcome (λ f. AppendsFront old_errors new_errors (fault_line f))
+    → IsRewriting meaning input old new old_errors new_errors status
+rewriting_of meaning (Ok r) input old new old_errors new_errors status whole fault untouched front ends silent fault_ends line =
+    inl (record { whole = whole; silent = silent; ends = ends })
+rewriting_of meaning (Err f) input old new old_errors new_errors status whole fault untouched front ends silent fault_ends line =
+    inr (f, record { fault = fault; told = record { line = line; ends = fault_ends; untouched = untouched }; front = front })
+
+-- where memory was wanting before the task began
+pub no_memory : (t : Task) (input old new old_errors new_errors : Option (List ℕ)) (status : ℕ) → IsTold old new old_errors new_errors status Memory → IsAnswerOf t input old new old_errors new_errors status
+no_memory Replay input old new old_errors new_errors status told =
+    inr (Memory, record { fault = at_any input (λ bytes. IsReplayFault bytes Memory) (λ bytes. inl (inl tt)); told = told; front = λ h. absurd cc })
+no_memory Pack input old new old_errors new_errors status told =
+    inr (Memory, record { fault = λ _. at_any input (λ bytes. Fails Memory (packed bytes)) (λ bytes. tt); told = told; front = λ h. absurd cc })
+no_memory Dump input old new old_errors new_errors status told =
+    inr (Memory, record { fault = λ _. at_any input (λ bytes. Fails Memory (dumped bytes)) (λ bytes. tt); told = told; front = λ h. absurd cc })
 
 -- what holds of the error that there is
 pub if_err : {X Y : Type 0} {P Q : Y → Type 0} (r : Result X Y) → ((y : Y) → P y → Q y) → IsErrAnd r P → IfErr r Q

@@ -1,6 +1,6 @@
 -- What a run of the program leaves behind: on standard output, on standard error, and its status.
 -- Source: docs/FORMATS.md, "Report", "Fault lines" and "Exit statuses".
-use Rattle.std.specs.Prelude.{◌≡◌, ◌≢◌, ◌⊎◌, ℕ, List, Option, IfSome}
+use Rattle.std.specs.Prelude.{◌≡◌, ◌≢◌, ◌⊎◌, ℕ, List, Option, Result, IfSome}
 use Rattle.std.specs.Io.KnownBytes.{Appends, Keeps}
 use Rattle.gr_model.specs.Reports.{WholeReport}
 use Rattle.gr_record.specs.declared.fault.Fault.{Fault}
@@ -9,6 +9,13 @@ use Rattle.gr_report.specs.Putting.{AppendsFront}
 use Rattle.gr_report.specs.ReportText.{report_text}
 use Rattle.gr_report.specs.FaultText.{fault_line}
 use Rattle.gr_replay.specs.Replays.{IsReplayReport, IsReplayFault, WritesFront}
+use Rattle.gr_input.specs.Faults.{Fails}
+use Rattle.gr_text.specs.Texts.{packed}
+use Rattle.gr_text.specs.Dumps.{dumped}
+use Rattle.gr_text.specs.Writes.{Writes, WritesFront as WritesFrontOf}
+use Rattle.gr_cli.specs.declared.arguments.Task.{Task}
+use Rattle.gr_cli.specs.declared.arguments.Task.TheVariants.{Replay, Pack, Dump}
+use Rattle.gr_cli.specs.declared.status.TheConstants.{NOTHING}
 use Rattle.gr_cli.specs.Statuses.{fault_status, IsReportStatus}
 
 -- r is the report of the input; its whole text is written, nothing is told on standard error, and the status is that of r
@@ -35,3 +42,26 @@ abbrev pub IsAnswer : Option (List ℕ) → Option (List ℕ) → Option (List �
 IsAnswer input old new old_errors new_errors status =
     ((r : WholeReport) × IsReported input old new old_errors new_errors status r)
     ⊎ ((f : Fault) × IsRefused input old new old_errors new_errors status f)
+
+-- what the input means is written whole, nothing is told on standard error, and the status is that of a task that is done
+pub record IsRewritten (meaning : List ℕ → Result (List ℕ) Fault) (input old new old_errors new_errors : Option (List ℕ)) (status : ℕ) : Type 0 where
+  pub whole : IfSome input (λ bytes. Writes (meaning bytes) old new)
+  pub silent : Keeps old_errors new_errors
+  pub ends : status ≡ NOTHING
+
+-- f is why the input means nothing, and is told; where the writer failed, it has a front of what the input means
+pub record IsNotRewritten (meaning : List ℕ → Result (List ℕ) Fault) (input old new old_errors new_errors : Option (List ℕ)) (status : ℕ) (f : Fault) : Type 0 where
+  pub fault : f ≢ Write → IfSome input (λ bytes. Fails f (meaning bytes))
+  pub told : IsTold old new old_errors new_errors status f
+  pub front : f ≡ Write → IfSome input (λ bytes. WritesFrontOf (meaning bytes) old new)
+
+abbrev pub IsRewriting : (List ℕ → Result (List ℕ) Fault) → Option (List ℕ) → Option (List ℕ) → Option (List ℕ) → Option (List ℕ) → Option (List ℕ) → ℕ → Type 0
+IsRewriting meaning input old new old_errors new_errors status =
+    IsRewritten meaning input old new old_errors new_errors status
+    ⊎ ((f : Fault) × IsNotRewritten meaning input old new old_errors new_errors status f)
+
+-- what each task leaves behind
+abbrev pub IsAnswerOf : Task → Option (List ℕ) → Option (List ℕ) → Option (List ℕ) → Option (List ℕ) → Option (List ℕ) → ℕ → Type 0
+IsAnswerOf Replay input old new old_errors new_errors status = IsAnswer input old new old_errors new_errors status
+IsAnswerOf Pack input old new old_errors new_errors status = IsRewriting packed input old new old_errors new_errors status
+IsAnswerOf Dump input old new old_errors new_errors status = IsRewriting dumped input old new old_errors new_errors status

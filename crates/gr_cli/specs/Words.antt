@@ -1,20 +1,31 @@
--- The words that ask for a report, and the commands that they are read by.
+-- The words that ask for a task, and the commands that they are read by.
 use Rattle.std.specs.Prelude.{◌≡◌, ◌≢◌, ◌⊎◌, ℕ, true, List, [], ◌∷◌, codes}
 use Rattle.clap.specs.declared.error.kind.ErrorKind.{ErrorKind}
 use Rattle.clap.specs.declared.error.kind.ErrorKind.TheVariants.{DisplayHelp, DisplayVersion, OutOfMemory}
+use Rattle.gr_cli.specs.declared.arguments.Task.{Task}
+use Rattle.gr_cli.specs.declared.arguments.Task.TheVariants.{Replay, Pack, Dump}
 use Rattle.clap.specs.Words.{App, IsAmong, Shape, fault_of, new_app, with_subcommand}
 
--- no word, or the command's
-abbrev pub AsksForReplay : List (List ℕ) → Type 0
-AsksForReplay words = (words ≡ []) ⊎ (words ≡ codes "replay" ∷ [])
+-- the command of a task
+abbrev pub name_of : Task → List ℕ
+name_of Replay = codes "replay"
+name_of Pack = codes "pack"
+name_of Dump = codes "dump"
+
+-- the command's name; and no word asks for a report
+abbrev pub AsksFor : Task → List (List ℕ) → Type 0
+AsksFor t words = (words ≡ name_of t ∷ []) ⊎ ((words ≡ []) × (t ≡ Replay))
 
 -- the program, whose words come without its own name
 abbrev pub alone : Shape
 alone = record (new_app (codes "gpurace")).top { no_binary_name = true; has_version = true }
 
--- the program with its command
+-- the program with its commands
+abbrev pub command_named : List ℕ → Shape
+command_named name = (new_app name).top
+
 abbrev pub gpurace : App
-gpurace = with_subcommand (record { top = alone; subs = [] }) (new_app (codes "replay")).top
+gpurace = with_subcommand (with_subcommand (with_subcommand (record { top = alone; subs = [] }) (command_named (codes "replay"))) (command_named (codes "pack"))) (command_named (codes "dump"))
 
 -- help was asked for, or the version
 abbrev pub IsHelp : ErrorKind → Type 0

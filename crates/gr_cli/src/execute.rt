@@ -6,9 +6,10 @@ ghost use Rattle.clap.specs.Words.{kind_of};
 ghost use Rattle.gr_report.specs.FaultText.{fault_line};
 ghost use Rattle.gr_report.specs.Putting.{AppendsFront};
 ghost use Rattle.gr_report.specs.Whole.{whole_of};
-ghost use Rattle.gr_cli.specs.Answers.{IsAnswer, IsTold};
+ghost use Rattle.gr_cli.specs.declared.arguments.Task.{Task as AnyTask};
+ghost use Rattle.gr_cli.specs.Answers.{IsAnswerOf, IsTold};
 ghost use Rattle.gr_cli.specs.Statuses.{fault_status, IsReportStatus};
-ghost use Rattle.gr_cli.specs.Words.{AreHelp, AreWrong, AsksForReplay, IsHelp, IsWrongUsage, faults};
+ghost use Rattle.gr_cli.specs.Words.{AreHelp, AreWrong, AsksFor, IsHelp, IsWrongUsage, faults};
 
 use crate::arguments::{Task, task_of};
 use crate::status::{FAILED, NOTHING, USAGE, WANTING, status_of, status_of_report};
@@ -18,6 +19,7 @@ use gr_record::fault::Fault;
 use gr_replay::replay;
 use gr_report::report::Report;
 use gr_report::write_fault;
+use gr_text::{dump, pack};
 use std::alloc::Global;
 use std::convert::AsStr;
 use std::io::{Read, Write};
@@ -65,8 +67,21 @@ fn conclude<E: Write>(outcome: Result<Report, Fault>, errors: &mut E) -> u8
     }
 }
 
-/// Does the task, and gives the exit status. Either the text of the report of the input is written, and the status tells
-/// whether it has a finding; or standard error tells why there is none, and the status is that of the fault.
+/// Tells of a rewriting that failed, and gives the status of what came of it.
+fn conclude_rewriting<E: Write>(outcome: Result<(), Fault>, errors: &mut E) -> u8
+    ensures done { OnOk outcome (result ≡ NOTHING) }
+    ensures silent { OnOk outcome (Keeps (E.contents errors.old) (E.contents errors.new)) }
+    ensures fault { IfErr outcome (λ fault. result ≡ fault_status fault) }
+    ensures told { IfErr outcome (λ fault. AppendsFront (E.contents errors.old) (E.contents errors.new) (fault_line fault)) }
+{
+    match outcome {
+        Ok(()) => NOTHING,
+        Err(fault) => fail(&fault, errors),
+    }
+}
+
+/// Does the task, and gives the exit status. Either all that the task gives on the input is written, and nothing is told
+/// on standard error; or standard error tells why it gives nothing, and the status is that of the fault.
 fn perform<R: Read, W: Write, E: Write>(
     alloc: Global,
     task: Task,
@@ -74,10 +89,12 @@ fn perform<R: Read, W: Write, E: Write>(
     writer: &mut W,
     errors: &mut E,
 ) -> u8
-    ensures { IsAnswer (R.remaining reader.old) (W.contents writer.old) (W.contents writer.new) (E.contents errors.old) (E.contents errors.new) result }
+    ensures { IsAnswerOf task (R.remaining reader.old) (W.contents writer.old) (W.contents writer.new) (E.contents errors.old) (E.contents errors.new) result }
 {
     match task {
         Task::Replay => conclude(replay(alloc, reader, writer), errors),
+        Task::Pack => conclude_rewriting(pack(alloc, reader, writer), errors),
+        Task::Dump => conclude_rewriting(dump(alloc, reader, writer), errors),
     }
 }
 
@@ -90,7 +107,7 @@ pub fn execute<S: AsStr, R: Read, W: Write, E: Write>(
     errors: &mut E,
 ) -> u8
     ensures known { result ≤ FAILED }
-    ensures replays { AsksForReplay (map S.text words.now) → IsAnswer (R.remaining reader.old) (W.contents writer.old) (W.contents writer.new) (E.contents errors.old) (E.contents errors.new) result }
+    ensures does { (t : AnyTask) → AsksFor t (map S.text words.now) → IsAnswerOf t (R.remaining reader.old) (W.contents writer.old) (W.contents writer.new) (E.contents errors.old) (E.contents errors.new) result }
     ensures wrong { AreWrong (faults (map S.text words.now)) → ((result ≡ USAGE) ⊎ (result ≡ WANTING)) × Keeps (W.contents writer.old) (W.contents writer.new) }
     ensures help { AreHelp (faults (map S.text words.now)) → (result ≡ NOTHING) ⊎ (result ≡ WANTING) ⊎ (result ≡ FAILED) }
 {

@@ -45,7 +45,7 @@ type Case = (
     u8,
 );
 
-const CASES: [Case; 13] = [
+const CASES: [Case; 23] = [
     ("a race", &["replay"], &RACE, REPORT, "", 1),
     ("a race, without a command", &[], &RACE, REPORT, "", 1),
     ("no race", &["replay"], &NO_RACE, CLEAN, "", 0),
@@ -115,7 +115,68 @@ const CASES: [Case; 13] = [
         "error: unexpected argument '--quiet' found",
         3,
     ),
+    ("the text of a race", &["dump"], &RACE, RACE_TEXT, "", 0),
+    ("the text of nothing", &["dump"], &[], "", "", 0),
+    ("the bytes of nothing", &["pack"], &[], "", "", 0),
+    (
+        "the text of a stream that is cut off",
+        &["dump"],
+        &CUT_OFF,
+        "",
+        "gpurace: stream 0: truncated\n",
+        2,
+    ),
+    (
+        "a line of another place",
+        &["pack"],
+        b"end\n",
+        "",
+        "gpurace: line 1: bad line\n",
+        2,
+    ),
+    (
+        "an item too many",
+        &["pack"],
+        b"group 0 items 2 launch 7\n2 r g 16\nend\n",
+        "",
+        "gpurace: line 2: bad line\n",
+        2,
+    ),
+    (
+        "no end",
+        &["pack"],
+        b"group 0 items 2 launch 7\n",
+        "",
+        "gpurace: no end\n",
+        2,
+    ),
+    (
+        "bytes in the place of text",
+        &["pack"],
+        &RACE,
+        "",
+        "gpurace: line 1: bad line\n",
+        2,
+    ),
+    (
+        "help on packing",
+        &["pack", "--help"],
+        &[],
+        "Writes the bytes",
+        "",
+        0,
+    ),
+    (
+        "a word too many behind dump",
+        &["dump", "file"],
+        &RACE,
+        "",
+        "error: unexpected argument 'file' found",
+        3,
+    ),
 ];
+
+const RACE_TEXT: &str = "group 0 items 2 launch 7\n0 w g 16\n1 r g 16\nend\n";
 
 /// Whether the text begins so, or is empty too.
 fn begins(text: &[u8], front: &str) -> bool {
@@ -136,6 +197,17 @@ fn words_and_input_give_output_and_status(rt: HostRuntime) -> Result<(), Fail> {
             "errors of {name}"
         );
     }
+    Ok(())
+}
+
+#[test]
+fn packing_gives_the_bytes(rt: HostRuntime) -> Result<(), Fail> {
+    let mut reader = RACE_TEXT.as_bytes();
+    let mut output = Vec::new(rt.alloc());
+    let mut errors = Vec::new(rt.alloc());
+    let status = execute(rt.alloc(), &["pack"], &mut reader, &mut output, &mut errors);
+    assert_eq!(rt; status, 0);
+    assert!(rt; output.as_slice() == RACE.as_slice() && errors.is_empty());
     Ok(())
 }
 
@@ -177,7 +249,10 @@ fn input_and_output_that_fail_are_told(rt: HostRuntime) -> Result<(), Fail> {
     assert_eq!(rt; status, 5, "report");
     let status = status_over_broken_output(alloc, &["--help"], &mut errors);
     assert_eq!(rt; status, 5, "help");
-    let told = b"gpurace: read fault\ngpurace: write fault\ngpurace: write fault\n";
+    let status = status_over_broken_output(alloc, &["dump"], &mut errors);
+    assert_eq!(rt; status, 5, "text");
+    let told =
+        b"gpurace: read fault\ngpurace: write fault\ngpurace: write fault\ngpurace: write fault\n";
     assert_eq!(rt; errors.as_slice(), told.as_slice());
     Ok(())
 }

@@ -114,7 +114,7 @@ impl<A: Allocator> Clock<A> {
     }
 
     /// Counts one more event of an item whose count can grow.
-    pub(crate) fn raise(&mut self, item: ItemId)
+    pub fn raise(&mut self, item: ItemId)
         requires item { HasItem (sizes_of self.old) item }
         requires room { count_of self.old item ≢ LARGEST_COUNT }
         ensures { IsTick self.old item self.new }
@@ -138,10 +138,11 @@ impl<A: Allocator> Clock<A> {
     /// Counts one more event of the item.
     ///
     /// # Errors
-    /// `Spent` where its count is `LARGEST_COUNT`, `Memory`. The clock is then as it was.
+    /// `Spent` where its count is `LARGEST_COUNT`. The clock is then as it was.
     pub fn tick(&mut self, item: ItemId) -> Result<(), ClockError>
         requires { HasItem (sizes_of self.old) item }
         ensures ok { OnOk result (IsTick self.old item self.new) }
+        ensures only { IsOkUnless result ClockError.Spent }
         ensures spent { (result ≡ Err ClockError.Spent) ↔ (count_of self.old item ≡ LARGEST_COUNT) }
         ensures err { OnErr result (self.new ≡ self.old) }
     {

@@ -4,12 +4,12 @@
 //! left, in the memory of the release's word alone. A barrier gives each item of its group what all of them count, in
 //! the memories that it flags (docs/MODEL.md, "Clocks"). A call that is refused changes no clock.
 
-ghost use Rattle.std.specs.Prelude.{◌≡◌, ◌↔◌, ◌<◌, ◌⊎◌, ◌≢◌, IsTrue, IfOk, OnOk, OnErr, IsOkUnless, length};
+ghost use Rattle.std.specs.Prelude.{◌≡◌, ◌↔◌, ◌<◌, ◌⊎◌, ◌≢◌, IsTrue, IfOk, OnOk, OnErr, IsOkUnless, is_some, length};
 ghost use Rattle.gr_clocks.specs.declared.clock.ClockError.TheVariants.{Memory as OutOfMemory};
 ghost use Rattle.gr_model.specs.Access as model;
 ghost use Rattle.gr_model.specs.Shapes.{HasItem, IsShape};
 ghost use Rattle.gr_clocks.specs.Counts.{count_of, sizes_of};
-ghost use Rattle.gr_clocks.specs.ItemClocks.{clock_in, AreNew, IsSpent, IsGroupSpent, Ticks, release_of, Acquires, Meets};
+ghost use Rattle.gr_clocks.specs.ItemClocks.{clock_in, AreNew, IsMeetRoom, IsSpent, IsGroupSpent, Ticks, release_of, Acquires, Meets};
 
 use crate::clock::{Clock, ClockError, LARGEST_COUNT};
 use crate::snapshot::Snapshot;
@@ -38,8 +38,16 @@ impl<A: Allocator> Model for Clocks<A> {
     ghost invariant = { λ c. AreOfOneShape c.global c.local };
 }
 
+/// Room for a barrier of a group: a clock for each memory that it flags.
+#[derive(Drop)]
+#[derive_where(Debug)]
+pub struct MeetRoom<A: Allocator = Global> {
+    pub global: Option<Clock<A>>,
+    pub local: Option<Clock<A>>,
+}
+
 /// The memory of a word.
-fn memory_of(word: Word) -> Space
+pub fn memory_of(word: Word) -> Space
     ensures { result ≡ model.memory_of word }
 {
     match word {
@@ -126,11 +134,12 @@ impl<A: Allocator> Clocks<A> {
     /// Counts an event of the item that neither releases nor acquires.
     ///
     /// # Errors
-    /// `Spent` where the item has too many events, `Memory`.
+    /// `Spent` where the item has too many events. It takes no memory.
     pub fn access(&mut self, item: ItemId) -> Result<(), ClockError>
         requires { HasItem self.old.sizes item }
         ensures ok { OnOk result (Ticks self.old item self.new) }
         ensures spent { (result ≡ Err ClockError.Spent) ↔ IsSpent self.old item }
+        ensures only { IsOkUnless result ClockError.Spent }
         ensures err { OnErr result (self.new ≡ self.old) }
     {
         if self.is_spent(item) {
@@ -171,12 +180,13 @@ impl<A: Allocator> Clocks<A> {
     /// Counts an acquire of the item, which takes its value from the release of this snapshot.
     ///
     /// # Errors
-    /// `Spent` where the item has too many events, or the snapshot counts too many of it; `Memory`.
+    /// `Spent` where the item has too many events, or the snapshot counts too many of it. It takes no memory.
     pub fn acquire(&mut self, item: ItemId, snapshot: &Snapshot<A>) -> Result<(), ClockError>
         requires item { HasItem self.old.sizes item }
         requires shape { sizes_of snapshot.now.clock ≡ self.old.sizes }
         ensures ok { OnOk result (Acquires self.old item snapshot.now self.new) }
         ensures spent { (result ≡ Err ClockError.Spent) ↔ (IsSpent self.old item ⊎ (count_of snapshot.now.clock item ≡ LARGEST_COUNT)) }
+        ensures only { IsOkUnless result ClockError.Spent }
         ensures err { OnErr result (self.new ≡ self.old) }
     {
         if self.is_spent(item) || snapshot.clock().is_spent(item) {
@@ -229,6 +239,35 @@ impl<A: Allocator> Clocks<A> {
         self.global.is_group_spent(group) || self.local.is_group_spent(group)
     }
 
+    /// Room for a barrier of a group, with the memories that its flags name.
+    ///
+    /// # Errors
+    /// `Memory`.
+    pub fn room(&self, group: u16, global: bool, local: bool) -> Result<MeetRoom<A>, ClockError>
+    where
+        A: Clone,
+        requires { group < length self.now.sizes }
+        ensures room { IfOk result (λ r. IsMeetRoom self.now group r) }
+        ensures flags { IfOk result (λ r. (is_some r.global ≡ global) × (is_some r.local ≡ local)) }
+        ensures memory { IsOkUnless result ClockError.Memory }
+    {
+        let global = self.global.room(group, global)?;
+        let local = self.local.room(group, local)?;
+        Ok(MeetRoom { global, local })
+    }
+
+    /// Counts a barrier that all items of the group meet, none of which has too many events, with the memories for which
+    /// there is room.
+    pub fn meet_in(&mut self, group: u16, room: MeetRoom<A>)
+        requires group { group < length self.old.sizes }
+        requires free { ¬ IsGroupSpent self.old group }
+        requires room { IsMeetRoom self.old group room }
+        ensures { Meets self.old group (is_some room.global) (is_some room.local) self.new }
+    {
+        self.global.meet(group, room.global);
+        self.local.meet(group, room.local);
+    }
+
     /// Counts a barrier that all items of the group meet, with the memories that its flags name.
     ///
     /// # Errors
@@ -244,10 +283,8 @@ impl<A: Allocator> Clocks<A> {
         if self.is_group_spent(group) {
             return Err(ClockError::Spent);
         }
-        let global_room = self.global.room(group, global)?;
-        let local_room = self.local.room(group, local)?;
-        self.global.meet(group, global_room);
-        self.local.meet(group, local_room);
+        let room = self.room(group, global, local)?;
+        self.meet_in(group, room);
         Ok(())
     }
 }

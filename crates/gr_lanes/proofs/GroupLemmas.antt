@@ -1,13 +1,15 @@
 -- What was taken of groups, by what was taken of each.
-use Rattle.std.proofs.Common.{◌≡◌, ℕ, zero, suc, ◌+◌, ◌<◌, ◌≤◌, List, [], ◌∷◌, ◌++◌, length, map, get_or, set, take, refl, sym, ap, ◌∙◌, subst, ⊎_elim, arith, IsTrue}
-use Rattle.std.proofs.lemmas.Bool.{cases_eq}
+use Rattle.std.proofs.Common.{◌≡◌, ℕ, zero, suc, ◌+◌, ◌<◌, ◌≤◌, List, [], ◌∷◌, ◌++◌, length, map, get_or, set, take, refl, sym, ap, ◌∙◌, subst, ⊎_elim, arith, IsTrue, true}
+use Rattle.std.specs.Prelude.{nat_lt}
+use Rattle.std.proofs.lemmas.Bool.{cases_eq, ltb-true}
 use Rattle.std.proofs.lemmas.List.{length-set, length-map, map-set, get_or-map, get_or-set_same, get_or-set_other, map-append, take_more}
 use Rattle.std.proofs.Math.Seq.{map-set_same}
 use Rattle.gr_model.specs.declared.event.Event.{Event}
 use Rattle.gr_model.specs.declared.limits.TheConstants.{MOST_RECORDS}
 use Rattle.gr_model.specs.Shapes.{IsShape}
 use Rattle.gr_model.specs.Streams.{AreFronts, IsFront, Streams, is_complete, list_of, size_of}
-use Rattle.gr_lanes.specs.Indices.{AreGroups, GroupList, taken_of}
+use Rattle.gr_model.specs.Reports.{IsCut}
+use Rattle.gr_lanes.specs.Indices.{AreGroups, EndsCut, GroupList, taken_of}
 use Rattle.gr_lanes.specs.Takes.{CanTake, IsEventButItem, nothing_taken, with_record}
 use Rattle.gr_lanes.proofs.IndexLemmas.{front_more}
 
@@ -134,3 +136,21 @@ module _ {sizes : List ℕ} {groups : List GroupList} {g : ℕ} {now : GroupList
 
   pub fronts_so : AreFronts (taken_of sizes (set groups g new))
   fronts_so = set_groups.fronts
+
+-- ---- cut streams
+
+module _ (sizes : List ℕ) (groups found : List GroupList) (are : AreGroups sizes groups) (is : found ≡ groups) (g h : ℕ) (here : g ≡ h) (within : true ≡ nat_lt g (length found)) (now : GroupList) (reads : now ≡ get_or found g now) (s : Streams) (taken : taken_of sizes groups ≡ s) where
+  inside : g < length groups
+  inside = let lt : g < length found = ltb-true g (length found) (sym within) in omega (arith, ap length is)
+
+  list_is : now.list ≡ list_of s h
+  list_is = group_list sizes groups are g now inside (reads ∙ ap (λ l. get_or l g now) is) ∙ (ap (list_of (taken_of sizes groups)) here ∙ ap (λ (t : Streams). list_of t h) taken)
+
+  there : h < length s.sizes
+  there = omega (arith, inside, ap length are.same, length-map groups (λ (x : GroupList). x.size), ap (λ (t : Streams). length t.sizes) taken)
+
+  pub is_cut_if : EndsCut now.list → IsCut s h
+  is_cut_if cut = let ends = subst EndsCut list_is cut in (there, ends.0, ends.1, ends.2, ends.3)
+
+  pub is_cut_only : IsCut s h → EndsCut now.list
+  is_cut_only cut = subst EndsCut (sym list_is) (cut.1, cut.2, cut.3, cut.4)

@@ -11,11 +11,12 @@ use Rattle.gr_model.specs.declared.event.Event.{Event}
 use Rattle.gr_model.specs.declared.limits.TheConstants.{MOST_RECORDS}
 use Rattle.gr_model.specs.Access.{is_release}
 use Rattle.gr_model.specs.Barriers.{is_barrier}
-use Rattle.gr_model.specs.Events.{IsEventOk, is_end}
+use Rattle.gr_model.specs.declared.event.Kind.TheVariants.{End}
+use Rattle.gr_model.specs.Events.{IsEventOk, is_end, is_end_kind}
 use Rattle.gr_model.specs.Streams.{IsFront, AreGood, is_complete, is_of, places_from}
 use Rattle.gr_model.proofs.Places.{places_from-append}
 use Rattle.gr_model.proofs.ListsOfRecords.{is_complete-last}
-use Rattle.gr_lanes.specs.Indices.{Index, index_of, no_index, with_if, with_event, indexed, AreIndices, AreRising}
+use Rattle.gr_lanes.specs.Indices.{EndsCut, Index, index_of, no_index, with_if, with_event, indexed, AreIndices, AreRising}
 
 -- an element more at the end of a list
 pub places_more : {X : Type 0} (test : X → Bool) (xs : List X) (x : X) → places_from test 0 (xs ++ x ∷ []) ≡ with_if (test x) (places_from test 0 xs) (length xs)
@@ -265,3 +266,17 @@ module _ (lanes : List Index) (list : List Event) (are : AreIndices lanes list) 
 
     pub no_event : (k : ℕ) → None ≡ slice_get lane.places k → None ≡ slice_get (filter (is_of i) list) k
     no_event k none = sym (filter-none (is_of i) list k (ap (λ (l : Index). slice_get l.places k) (sym lane_is) ∙ sym none))
+
+-- ---- cut streams
+
+-- the last record tells whether a stream was cut, since an end stands at no other place
+pub cut_if_last : (list : List Event) (x : Event) → slice_get list (length list - 1) ≡ Some x → x.kind ≡ End true → EndsCut list
+cut_if_last list x last kind = (length list - 1, x, last, kind)
+
+pub last_if_cut : {size : ℕ} (list : List Event) → AreGood size list → (x : Event) → slice_get list (length list - 1) ≡ Some x → EndsCut list → x.kind ≡ End true
+last_if_cut list good x last (p, y, at, kind) =
+    let ends : IsTrue (is_end y) = ap is_end_kind kind in
+    let place : p + 1 ≡ length list = (good p y at).1 ends in
+    let same : Some y ≡ Some x = sym at ∙ (ap (slice_get list) (let q : p ≡ length list - 1 = omega arith in q) ∙ last) in
+    let one : y ≡ x = cc in
+    subst (λ (z : Event). z.kind ≡ End true) one kind

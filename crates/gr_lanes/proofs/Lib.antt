@@ -1,3 +1,4 @@
 pub mod IndexLemmas
 pub mod GroupLemmas
 pub mod Growth
+pub mod InstanceLemmas

@@ -1,6 +1,7 @@
 -- An index of each item's events in its group's list, and of its releases and barriers among its events.
-use Rattle.std.specs.Prelude.{◌≡◌, ℕ, ◌<◌, ◌≤◌, Bool, List, [], ◌∷◌, ◌++◌, length, map, filter, slice_index, slice_index_or, slice_set, if◌then◌else◌}
+use Rattle.std.specs.Prelude.{◌≡◌, ℕ, ◌<◌, ◌≤◌, Bool, List, [], ◌∷◌, ◌++◌, length, map, filter, true, Some, slice_get, slice_index, slice_index_or, slice_set, if◌then◌else◌}
 use Rattle.gr_model.specs.declared.event.Event.{Event}
+use Rattle.gr_model.specs.declared.event.Kind.TheVariants.{End}
 use Rattle.gr_model.specs.Access.{is_release}
 use Rattle.gr_model.specs.Barriers.{is_barrier}
 use Rattle.gr_model.specs.Events.{is_end}
@@ -53,6 +54,10 @@ pub record GroupList : Type 0 where
 pub record AreIndices (lanes : List Index) (list : List Event) : Type 0 where
   pub front : IsFront (length lanes) list
   pub each : (i : ℕ) → i < length lanes → slice_index_or lanes i no_index ≡ index_of list i
+
+-- some record of a list is an end that says that its stream was cut
+abbrev pub EndsCut : List Event → Type 0
+EndsCut list = (p : ℕ) × (x : Event) × (slice_get list p ≡ Some x) × (x.kind ≡ End true)
 
 -- what was taken of the groups of a shape
 abbrev pub taken_of : List ℕ → List GroupList → Streams

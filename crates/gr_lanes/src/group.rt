@@ -3,13 +3,14 @@
 //! Invariant: the records are a front of a list that the group may have, and each lane is the index of its item's events
 //! in it.
 
-ghost use Rattle.std.specs.Prelude.{◌≡◌, ◌≢◌, ◌∷◌, ◌++◌, ◌<◌, ℕ, [], IsTrue, IfOk, MatchOption, OnOk, OnErr, filter, length, slice_get, slice_index_or};
+ghost use Rattle.std.specs.Prelude.{◌≡◌, ◌≢◌, ◌↔◌, ◌∷◌, ◌++◌, ◌<◌, ℕ, [], true, IsTrue, IfOk, MatchOption, OnOk, OnErr, filter, length, slice_get, slice_index_or};
 ghost use Rattle.gr_model.specs.declared.limits.TheConstants.{MOST_RECORDS};
+ghost use Rattle.gr_model.specs.declared.event.Kind.TheVariants.{End};
 ghost use Rattle.gr_model.specs.Access as model;
 ghost use Rattle.gr_model.specs.Barriers as model_barriers;
 ghost use Rattle.gr_model.specs.Events.{IsEventOk};
 ghost use Rattle.gr_model.specs.Streams.{is_complete, is_of, places_from};
-ghost use Rattle.gr_lanes.specs.Indices.{no_index, indexed};
+ghost use Rattle.gr_lanes.specs.Indices.{EndsCut, no_index, indexed};
 
 use crate::lane::Lane;
 use gr_model::event::{Event, Kind};
@@ -63,6 +64,13 @@ fn is_barrier(event: &Event) -> bool
             local: _
         }
     )
+}
+
+/// Whether an event is an end that says that its stream was cut.
+fn is_cut(event: &Event) -> bool
+    ensures { IsTrue result ↔ (event.now.kind ≡ End true) }
+{
+    event.kind == Kind::End { cut: true }
 }
 
 /// Adds the group's next record, which stands at this place, to the lane of its item; an end is no item's event.
@@ -120,6 +128,16 @@ impl<A: Allocator> Group<A> {
         match self.list.last() {
             None => false,
             Some(event) => event.kind.is_end(),
+        }
+    }
+
+    /// Whether its end was taken and says that its stream was cut.
+    pub(crate) fn is_cut(&self) -> bool
+        ensures { IsTrue result ↔ EndsCut self.now.list }
+    {
+        match self.list.last() {
+            None => false,
+            Some(event) => is_cut(event),
         }
     }
 

@@ -2,16 +2,19 @@
 //!
 //! Invariant: there is a group for each of the shape, of its size, and each has a front of a list that it may have.
 
-ghost use Rattle.std.specs.Prelude.{◌≡◌, ◌≢◌, ◌<◌, ℕ, IfOk, IfErr, MatchOption, OnOk, OnErr, length};
+ghost use Rattle.std.specs.Prelude.{◌≡◌, ◌≢◌, ◌↔◌, ◌<◌, ℕ, Some, IsTrue, IfOk, IfErr, MatchOption, OnOk, OnErr, length};
 ghost use Rattle.gr_model.specs.declared.limits.TheConstants.{MOST_RECORDS};
 ghost use Rattle.gr_model.specs.Streams.{AreFronts, event_at, is_complete, list_of, place_of};
 ghost use Rattle.gr_model.specs.Barriers.{is_barrier};
+ghost use Rattle.gr_model.specs.Reports.{IsCut};
+ghost use Rattle.gr_model.specs.Streams as model;
 ghost use Rattle.gr_model.specs.Names.{release_place};
+ghost use Rattle.gr_lanes.specs.declared.seq_error.SeqError.TheVariants.{Memory as OutOfMemory};
 ghost use Rattle.gr_lanes.specs.Takes.{nothing_taken, with_record, IsEventButItem, CanTake, IsTakeFault};
 
 use crate::group::Group;
 use crate::seq_error::SeqError;
-use gr_model::event::{Event, EventId, ItemId, Name};
+use gr_model::event::{Event, EventId, ItemId, Name, Word, word_of};
 use gr_model::memory::Memory;
 use gr_model::shape::Shape;
 use std::alloc::{Allocator, Global};
@@ -83,6 +86,16 @@ impl<A: Allocator> Lanes<A> {
         }
     }
 
+    /// Whether a group's end was taken and says that its stream was cut.
+    pub fn is_cut(&self, group: u16) -> bool
+        ensures { IsTrue result ↔ IsCut self.now group }
+    {
+        match self.groups.get(usize::from(group)) {
+            None => false,
+            Some(group) => group.is_cut(),
+        }
+    }
+
     /// An event that was taken, or `None` where there is none of this index.
     pub fn event_at(&self, event: EventId) -> Option<Event>
         ensures { result ≡ event_at self.now event }
@@ -90,6 +103,16 @@ impl<A: Allocator> Lanes<A> {
         match self.groups.get(usize::from(event.at.group)) {
             None => None,
             Some(group) => group.event_at(event.at.item, event.index),
+        }
+    }
+
+    /// The word that an event accesses, or `None` where it was not taken or is no access.
+    pub fn word_at(&self, event: EventId) -> Option<Word>
+        ensures { result ≡ model.word_at self.now event }
+    {
+        match self.event_at(event) {
+            None => None,
+            Some(taken) => word_of(event.at.group, &taken),
         }
     }
 
@@ -124,6 +147,23 @@ impl<A: Allocator> Lanes<A> {
         }
     }
 
+    /// Why a record can't be the next of a group, or `None` where it can.
+    pub fn refusal(&self, group: u16, event: &Event) -> Option<SeqError>
+        ensures fault { MatchOption result (CanTake self.now group event.now) (λ e. IsTakeFault self.now group event.now e) }
+        ensures memory { result ≢ Some OutOfMemory }
+    {
+        if group >= self.shape.groups() {
+            return Some(SeqError::UnknownGroup);
+        }
+        if self.is_complete(group) {
+            return Some(SeqError::AfterEnd(group));
+        }
+        if event.item >= self.shape.items(group) {
+            return Some(SeqError::UnknownItem);
+        }
+        None
+    }
+
     /// Takes the next record of a group.
     ///
     /// # Errors
@@ -137,17 +177,11 @@ impl<A: Allocator> Lanes<A> {
         ensures unchanged { OnErr result (self.new ≡ self.old) }
         ensures fronts { AreFronts self.new }
     {
-        if group >= self.shape.groups() {
-            return Err(SeqError::UnknownGroup);
+        match self.refusal(group, &event) {
+            None => {}
+            Some(refusal) => return Err(refusal),
         }
-        let taken = &mut self.groups[usize::from(group)];
-        if taken.is_complete() {
-            return Err(SeqError::AfterEnd(group));
-        }
-        if usize::from(event.item) >= taken.size() {
-            return Err(SeqError::UnknownItem);
-        }
-        taken.take(event)?;
+        self.groups[usize::from(group)].take(event)?;
         Ok(())
     }
 }

@@ -3,6 +3,7 @@
 #![tactic(auto)]
 
 mod group;
+pub mod instance;
 mod lane;
 pub mod lanes;
 pub mod seq_error;

@@ -4,6 +4,7 @@ ghost use Rattle.std.specs.Prelude.{◌≡◌};
 ghost use Rattle.gr_lanes.specs.declared.seq_error.SeqError.TheVariants.{Memory as OutOfMemory};
 
 use gr_model::memory::Memory;
+use std::alloc::AllocError;
 use thiserror::Error;
 
 /// Why a record is not taken: the first cause of these that is there.
@@ -23,6 +24,14 @@ impl From<Memory> for SeqError {
     ghost from_gives = { λ _ e. e ≡ OutOfMemory };
 
     fn from(_error: Memory) -> SeqError {
+        SeqError::Memory
+    }
+}
+
+impl From<AllocError> for SeqError {
+    ghost from_gives = { λ _ e. e ≡ OutOfMemory };
+
+    fn from(_error: AllocError) -> SeqError {
         SeqError::Memory
     }
 }

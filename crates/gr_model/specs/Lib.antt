@@ -1,6 +1,7 @@
 pub mod Access
 pub mod Events
 pub mod Shapes
+pub mod Configs
 pub mod Streams
 pub mod Names
 pub mod Instances

@@ -52,14 +52,14 @@ pub enum Kind {
 }
 
 /// A work-item, by its work-group and its place in it.
-#[derive(Clone, Copy, Debug, PartialEq, Eq, PartialOrd, Ord)]
+#[derive(Clone, Copy, Debug, PartialEq, Eq, PartialOrd, Ord, Hash)]
 pub struct ItemId {
     pub group: u16,
     pub item: u16,
 }
 
 /// An event, by its work-item and its place in that item's trace, counted from 0.
-#[derive(Clone, Copy, Debug, PartialEq, Eq, PartialOrd, Ord)]
+#[derive(Clone, Copy, Debug, PartialEq, Eq, PartialOrd, Ord, Hash)]
 pub struct EventId {
     pub at: ItemId,
     pub index: u32,

@@ -2,6 +2,7 @@
 //! happens-before, of a data race and of the report. Told in words in docs/MODEL.md.
 #![tactic(auto)]
 
+pub mod config;
 pub mod event;
 pub mod laws;
 pub mod limits;

@@ -11,3 +11,12 @@ pub const MOST_ITEMS: u32 = 2048;
 
 /// The greatest number of records in a work-group's stream, its end included.
 pub const MOST_RECORDS: usize = 16_777_216;
+
+/// The greatest number of workers of a run.
+pub const MOST_WORKERS: u16 = 8;
+
+/// The greatest number of intake queues of a run.
+pub const MOST_QUEUES: u16 = 4;
+
+/// The greatest number of values that a queue may have room for.
+pub const MOST_PLACES: u32 = 65_536;

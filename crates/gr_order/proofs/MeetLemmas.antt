@@ -13,9 +13,11 @@ use Rattle.gr_clocks.specs.Counts.{Counts, count_of}
 use Rattle.gr_steps.specs.Steps.{CanMeet, IsMeeting}
 use Rattle.gr_steps.proofs.BarrierPlaces.{barrier_of, places_from-once, stands_before}
 use Rattle.gr_steps.proofs.Orders.{number_before}
-use Rattle.gr_order.specs.Readiness.{HasCome, IsNextInstance, StandsNext}
+use Rattle.gr_lanes.proofs.InstanceLemmas.{barrier_mark}
+use Rattle.gr_lanes.specs.Instances.{HasCome}
+use Rattle.gr_order.specs.Readiness.{IsNextInstance, StandsNext}
 use Rattle.gr_order.specs.States.{AreFirst}
-use Rattle.gr_order.proofs.ReadyLemmas.{barrier_mark, come_of}
+use Rattle.gr_order.proofs.ReadyLemmas.{come_of}
 
 -- the item of a group at a place, and its next event
 abbrev pub item_at : ℕ → ℕ → ItemId

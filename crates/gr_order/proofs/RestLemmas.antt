@@ -1,8 +1,12 @@
 -- No step is left where none is left in any group.
-use Rattle.std.proofs.Common.{ℕ, ◌<◌, ◌≤◌, length, sym, subst, ⊎_elim}
-use Rattle.std.proofs.lemmas.Bool.{cases_lt}
+use Rattle.std.proofs.Common.{ℕ, ◌↔◌, ◌<◌, ◌≤◌, length, refl, sym, subst, ⊎_elim, ◌≡◌, Bool, true, false, true≢false, not, IsTrue, Option, Some, None, is_some}
+use Rattle.std.specs.Prelude.{MatchOption}
+use Rattle.std.proofs.lemmas.Bool.{cases_lt, false≢true}
 use Rattle.gr_steps.specs.Steps.{CanHandle, IsAtRest}
 use Rattle.gr_steps.proofs.Resting.{rest_grounded}
+use Rattle.gr_order.specs.declared.steps.Ready.{Ready}
+use Rattle.gr_order.specs.declared.steps.Ready.TheVariants.{Item, Group}
+use Rattle.gr_order.specs.Answers.{CanMake}
 use Rattle.gr_order.specs.Sequences.{IsDone, IsGroupAtRest, IsSequence, Sequence}
 use Rattle.gr_order.proofs.MeetLemmas.{no_group_meets}
 use Rattle.gr_order.proofs.ReadyLemmas.{group_of_event, item_of_event}
@@ -19,8 +23,23 @@ module _ (q : Sequence) (is : IsSequence q) where
     meets = λ g. ⊎_elim (λ (within : g < length q.taken.sizes). (rest g within).meets) (λ (past : length q.taken.sizes ≤ g). no_group_meets q.taken q.handled g past) (cases_lt g (length q.taken.sizes));
   }
 
-  pub rests_there : (g : ℕ) → IsAtRest q.taken q.handled → IsGroupAtRest q g
-  rests_there g rest = record { handles = λ i within. rest.handles (record { group = g; item = i }); meets = rest.meets g }
-
   pub rest_is_done : IsAtRest q.taken q.handled → IsDone q
   rest_is_done rest = record { rest = rest; grounded = rest_grounded q.taken q.handled is.lawful rest }
+
+-- where a step can be made, some step is left
+not_at_rest : (q : Sequence) (r : Ready) → CanMake q r → ¬ IsAtRest q.taken q.handled
+not_at_rest q (Item i) can rest = rest.handles i can
+not_at_rest q (Group g) can rest = rest.meets g can
+
+-- b tells that no step can be made
+module _ (q : Sequence) where
+  pub rest_if_none : (o : Option Ready) (b : Bool) → is_some o ≡ not b → MatchOption o (IsDone q) (λ r. CanMake q r) → IsTrue b ↔ IsAtRest q.taken q.handled
+  rest_if_none None true e done = (λ none. done.rest, λ rest. refl)
+  rest_if_none None false e done = absurd (false≢true e)
+  rest_if_none (Some r) true e can = absurd (true≢false e)
+  rest_if_none (Some r) false e can = (λ none. absurd (false≢true none), λ rest. absurd (not_at_rest q r can rest))
+
+  pub done_if_none : (o : Option Ready) (b : Bool) → is_some o ≡ not b → MatchOption o (IsDone q) (λ r. CanMake q r) → IsTrue b → IsDone q
+  done_if_none None b e done none = done
+  done_if_none (Some r) true e can none = absurd (true≢false e)
+  done_if_none (Some r) false e can none = absurd (false≢true none)

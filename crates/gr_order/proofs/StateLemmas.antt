@@ -1,7 +1,9 @@
 -- An order stays one where a record is taken, and where an event is handled.
-use Rattle.std.proofs.Common.{◌≡◌, ◌⊎◌, ℕ, ◌+◌, ◌<◌, ◌≤◌, List, [], ◌∷◌, ◌++◌, length, Result, Ok, Err, Some, slice_get, refl, sym, ap, ◌∙◌, subst, inl, inr, ⊎_elim, arith, Bool, true, false, cond, zero, suc, true≢false}
-use Rattle.std.specs.Prelude.{OnOk, OnErr, ◌==◌, ◌&&◌}
+use Rattle.std.proofs.Common.{◌≡◌, ◌⊎◌, ℕ, ◌+◌, ◌<◌, ◌≤◌, List, [], ◌∷◌, ◌++◌, length, Some, slice_get, refl, sym, ap, ◌∙◌, subst, inl, inr, ⊎_elim, arith, Bool, true, false, cond, zero, suc, true≢false}
+use Rattle.std.specs.Prelude.{◌==◌, ◌&&◌, not}
 use Rattle.std.proofs.lemmas.Bool.{cases_lt, eq-eqb}
+use Rattle.std.proofs.lemmas.List.{length_push}
+use Rattle.gr_model.specs.Events.{is_end}
 use Rattle.gr_model.specs.declared.event.Event.{Event}
 use Rattle.gr_model.specs.declared.event.EventId.{EventId}
 use Rattle.gr_model.specs.declared.event.ItemId.{ItemId}
@@ -10,59 +12,75 @@ use Rattle.gr_model.specs.LawfulOrders.{IsIn, IsLawful}
 use Rattle.gr_steps.proofs.StepGrowth.{lawful_grows}
 use Rattle.gr_steps.proofs.Handling.{lawful_handle}
 use Rattle.gr_steps.proofs.NextEvents.{ready_is_next}
-use Rattle.gr_steps.proofs.Orders.{at_behind, same_event, split_last}
+use Rattle.gr_steps.proofs.Orders.{at_behind, lawful_empty, same_event, split_last}
 use Rattle.gr_steps.specs.Steps.{IsReady}
-use Rattle.gr_model.specs.Shapes.{HasItem}
+use Rattle.gr_model.specs.Shapes.{HasItem, items_of}
 use Rattle.gr_model.proofs.Places.{slice_get-append}
 use Rattle.gr_clocks.specs.Rows.{same_item}
-use Rattle.gr_clocks.specs.Counts.{Counts, IsTick, count_of, sizes_of, tick_at}
+use Rattle.gr_clocks.specs.Counts.{Counts, IsTick, IsZero, count_of, tick_at}
 use Rattle.gr_clocks.proofs.RowLemmas.{same_items}
-use Rattle.gr_lanes.specs.Takes.{CanTake, with_record}
+use Rattle.gr_lanes.specs.Takes.{CanTake, nothing_taken, with_record}
 use Rattle.gr_lanes.proofs.Growth.{record_grows}
-use Rattle.gr_order.specs.Sequences.{Sequence}
-use Rattle.gr_order.specs.States.{AreFirst, IsState}
+use Rattle.gr_order.specs.Sequences.{Sequence, events_of}
+use Rattle.gr_order.specs.States.{AreFirst, IsState, counted_in}
 use Rattle.gr_order.proofs.ReadyLemmas.{group_of_event, item_of_event}
+use Rattle.gr_order.proofs.SumLemmas.{item_more, sum_none}
+use Rattle.gr_order.proofs.TakenLemmas.{events_more, no_events, one_at_most, one_if}
 
-module _ (q : Sequence) (frontier : Counts) (state : IsState q frontier) (g : ℕ) (x : Event) where
-  took : (new : Streams) → AreFronts new → CanTake q.taken g x → new ≡ with_record q.taken g x → IsState (record { taken = new; handled = q.handled }) frontier
-  took new fronts can is = record {
-    sequence = record {
-      fronts = fronts;
-      lawful = subst (λ (s : Streams). IsLawful s q.handled) (sym is) (lawful_grows q.taken (with_record q.taken g x) (record_grows q.taken g x state.sequence.fronts can) q.handled state.sequence.lawful);
-    };
-    shape = state.shape ∙ sym (ap (λ (s : Streams). s.sizes) is);
-    first = state.first;
-  }
+-- nothing was taken
+pub new_state : (sizes : List ℕ) (taken : Streams) → taken ≡ nothing_taken sizes → AreFronts taken → (frontier : Counts) → IsZero sizes frontier → (items : List EventId) → items ≡ [] → (room : ℕ) → IsState (record { taken = taken; handled = items }) frontier 0 room
+new_state sizes taken is fronts frontier clock items none room =
+    let events : events_of taken ≡ 0 = ap (λ (s : Streams). events_of s) is ∙ no_events sizes in
+    let size : length items ≡ 0 = ap (λ (l : List EventId). length l) none in record {
+      sequence = record { fronts = fronts; lawful = subst (IsLawful taken) (sym none) (lawful_empty taken) };
+      shape = clock.shape ∙ ap (λ (s : Streams). s.sizes) (sym is);
+      first = λ e. (
+        λ there. absurd (nowhere (subst (λ (l : List EventId). IsIn l e) none there)),
+        λ lt. absurd (let count = clock.zero e.at in omega arith),
+      );
+      counts = sum_none (λ i. count_of frontier i) (items_of taken.sizes) clock.zero ∙ sym size;
+      rest = omega arith;
+      fits = omega arith;
+    }
+  where
+    nowhere : {e : EventId} → IsIn [] e → ⊥
+    nowhere there = let at = there.1 in cc
 
-  kept : (new : Streams) → AreFronts new → new ≡ q.taken → IsState (record { taken = new; handled = q.handled }) frontier
-  kept new fronts same = record {
-    sequence = record { fronts = fronts; lawful = subst (λ (s : Streams). IsLawful s q.handled) (sym same) state.sequence.lawful };
-    shape = state.shape ∙ sym (ap (λ (s : Streams). s.sizes) same);
-    first = state.first;
-  }
-
-  -- whether a record was taken or not
-  pub after_take : {T E : Type 0} (r : Result T E) (new : Streams) → OnOk r (CanTake q.taken g x × (new ≡ with_record q.taken g x)) → OnErr r (new ≡ q.taken) → AreFronts new → IsState (record { taken = new; handled = q.handled }) frontier
-  after_take (Ok v) new ok err fronts = took new fronts ok.0 ok.1
-  after_take (Err e) new ok err fronts = kept new fronts err
+-- a record is taken
+module _ (q : Sequence) (frontier : Counts) (held room : ℕ) (state : IsState q frontier held room) where
+  pub took : (g : ℕ) (x : Event) (new : Streams) → AreFronts new → CanTake q.taken g x → new ≡ with_record q.taken g x → (more wide : ℕ) → more ≡ held + one_if (not (is_end x)) → room ≤ wide → length q.handled + (held + 1) ≤ wide → IsState (record { taken = new; handled = q.handled }) frontier more wide
+  took g x new fronts can is more wide counts grows wider =
+      let events : events_of new ≡ events_of q.taken + one_if (not (is_end x)) = ap (λ (s : Streams). events_of s) is ∙ events_more q.taken g x state.sequence.fronts can in
+      let rest = state.rest in
+      let one = one_at_most (not (is_end x)) in record {
+        sequence = record {
+          fronts = fronts;
+          lawful = subst (λ (s : Streams). IsLawful s q.handled) (sym is) (lawful_grows q.taken (with_record q.taken g x) (record_grows q.taken g x state.sequence.fronts can) q.handled state.sequence.lawful);
+        };
+        shape = state.shape ∙ sym (ap (λ (s : Streams). s.sizes) is);
+        first = state.first;
+        counts = ap (λ (s : Streams). counted_in frontier s.sizes) is ∙ state.counts;
+        rest = omega arith;
+        fits = omega arith;
+      }
 
 -- ---- an event is handled
 
-abbrev one_if : Bool → ℕ
-one_if b = cond b 1 0
+abbrev tick_if : Bool → ℕ
+tick_if b = cond b 1 0
 
 same_true : (i j : ItemId) → i ≡ j → same_item i j ≡ true
 same_true i j same = ap (λ b. b && (i.item == j.item)) (eq-eqb i.group j.group (ap (λ (x : ItemId). x.group) same)) ∙ eq-eqb i.item j.item (ap (λ (x : ItemId). x.item) same)
 
-tick_here : (i j : ItemId) → i ≡ j → tick_at i j ≡ 1
-tick_here i j same = ap one_if (same_true i j same)
+pub tick_here : (i j : ItemId) → i ≡ j → tick_at i j ≡ 1
+tick_here i j same = ap tick_if (same_true i j same)
 
-tick_there : (i j : ItemId) → (i ≡ j → ⊥) → tick_at i j ≡ 0
+pub tick_there : (i j : ItemId) → (i ≡ j → ⊥) → tick_at i j ≡ 0
 tick_there i j apart = by_test (same_item i j) refl
   where
     by_test : (b : Bool) → same_item i j ≡ b → tick_at i j ≡ 0
     by_test true t = absurd (apart (same_items i j t))
-    by_test false f = ap one_if f
+    by_test false f = ap tick_if f
 
 in_more : (order : List EventId) (e d : EventId) → IsIn (order ++ e ∷ []) d → IsIn order d ⊎ (d ≡ e)
 in_more order e d (p, at) = ⊎_elim (λ before. inl (p, before)) (λ (last : (i : ℕ) × (p ≡ length order + i) × (slice_get (e ∷ []) i ≡ Some d)). inr (only last.0 last.2)) (split_last order (e ∷ []) p d at)
@@ -75,13 +93,13 @@ more_in : (order : List EventId) (e d : EventId) → IsIn order d ⊎ (d ≡ e) 
 more_in order e d (inl (p, at)) = (p, slice_get-append order (e ∷ []) p d at)
 more_in order e d (inr same) = (length order + 0, at_behind order (e ∷ []) 0 d (ap Some (sym same)))
 
-item_cases : (i j : ItemId) → (i ≡ j) ⊎ (i ≡ j → ⊥)
+pub item_cases : (i j : ItemId) → (i ≡ j) ⊎ (i ≡ j → ⊥)
 item_cases i j = elim (same_item i j) as (λ b. same_item i j ≡ b → (i ≡ j) ⊎ (i ≡ j → ⊥)) [
   | true ↦ λ t. inl (same_items i j t)
   | false ↦ λ f. inr (λ same. true≢false (sym (same_true i j same) ∙ f))
 ] refl
 
-module _ (q : Sequence) (frontier : Counts) (state : IsState q frontier) (e : EventId) (ready : IsReady q.taken q.handled e) where
+module _ (q : Sequence) (frontier : Counts) (held room : ℕ) (state : IsState q frontier held room) (e : EventId) (ready : IsReady q.taken q.handled e) where
   abbrev counts : ItemId → ℕ
   counts i = count_of frontier i
 
@@ -103,15 +121,22 @@ module _ (q : Sequence) (frontier : Counts) (state : IsState q frontier) (e : Ev
       ))
       (item_cases e.at d.at)
 
-  pub after_handle : (new : Counts) (items : List EventId) → IsTick frontier e.at new → items ≡ q.handled ++ e ∷ [] → IsState (record { taken = q.taken; handled = items }) new
-  after_handle new items tick is = record {
-    sequence = record { fronts = state.sequence.fronts; lawful = subst (IsLawful q.taken) (sym is) (lawful_handle q.taken q.handled state.sequence.lawful e ready) };
-    shape = tick.shape ∙ state.shape;
-    first = subst (λ l. AreFirst l new) (sym is) (first_more new tick);
-  }
+  pub item_there : HasItem q.taken.sizes e.at
+  item_there = (group_of_event q.taken state.sequence.fronts e ready.event.0 ready.event.1, item_of_event q.taken state.sequence.fronts e ready.event.0 ready.event.1)
 
-  pub item_there : HasItem (sizes_of frontier) e.at
-  item_there =
-      let group = group_of_event q.taken state.sequence.fronts e ready.event.0 ready.event.1 in
-      let item = item_of_event q.taken state.sequence.fronts e ready.event.0 ready.event.1 in
-      subst (λ sizes. HasItem sizes e.at) (sym state.shape) (group, item)
+  pub after_handle : (new : Counts) (items : List EventId) (less : ℕ) → IsTick frontier e.at new → items ≡ q.handled ++ e ∷ [] → less + 1 ≡ held → IsState (record { taken = q.taken; handled = items }) new less room
+  after_handle new items less tick is one =
+      let size : length items ≡ length q.handled + 1 = ap (λ (l : List EventId). length l) is ∙ length_push q.handled e in
+      let rest = state.rest in
+      let more : counted_in new q.taken.sizes ≡ counted_in frontier q.taken.sizes + 1 =
+      item_more counts (λ j. count_of new j) q.taken.sizes e.at item_there
+      (let ticks = tick.counts e.at in let here = tick_here e.at e.at refl in omega arith)
+      (λ j apart. let ticks = tick.counts j in let none = tick_there e.at j apart in omega arith) in
+      let handled = state.counts in record {
+        sequence = record { fronts = state.sequence.fronts; lawful = subst (IsLawful q.taken) (sym is) (lawful_handle q.taken q.handled state.sequence.lawful e ready) };
+        shape = tick.shape ∙ state.shape;
+        first = subst (λ l. AreFirst l new) (sym is) (first_more new tick);
+        counts = omega arith;
+        rest = omega arith;
+        fits = state.fits;
+      }

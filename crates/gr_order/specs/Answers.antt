@@ -1,10 +1,17 @@
--- Why no step was made.
+-- Which step can be made, and why none was.
 use Rattle.std.specs.Prelude.{ℕ}
 use Rattle.gr_model.specs.declared.event.ItemId.{ItemId}
 use Rattle.gr_steps.specs.Steps.{CanHandle, CanMeet}
 use Rattle.gr_order.specs.declared.go_error.GoError.{GoError}
 use Rattle.gr_order.specs.declared.go_error.GoError.TheVariants.{NotReady, Memory}
+use Rattle.gr_order.specs.declared.steps.Ready.{Ready}
+use Rattle.gr_order.specs.declared.steps.Ready.TheVariants.{Item, Group}
 use Rattle.gr_order.specs.Sequences.{Sequence}
+
+-- a step can be made
+abbrev pub CanMake : Sequence → Ready → Type 0
+CanMake q (Item i) = CanHandle q.taken q.handled i
+CanMake q (Group g) = CanMeet q.taken q.handled g
 
 -- no event of the item may be handled; for want of memory one that may is not
 abbrev pub IsHandleFault : Sequence → ItemId → GoError → Type 0

@@ -1,32 +1,16 @@
 -- What is looked at to tell whether an item's next event may be handled.
-use Rattle.std.specs.Prelude.{◌≡◌, ◌≢◌, ℕ, ◌<◌, Bool, true, Option, Some, None, IsTrue, is_some}
+use Rattle.std.specs.Prelude.{◌≡◌, ℕ, ◌<◌, Option, Some}
 use Rattle.gr_model.specs.declared.event.Event.{Event}
 use Rattle.gr_model.specs.declared.event.EventId.{EventId}
 use Rattle.gr_model.specs.declared.event.Name.{Name}
 use Rattle.gr_model.specs.Access.{event_word}
-use Rattle.gr_model.specs.Barriers.{IsDivergent, StandsIn, arrivals, is_barrier, mark_of}
+use Rattle.gr_model.specs.Barriers.{IsDivergent, StandsIn, arrivals, is_barrier}
 use Rattle.gr_model.specs.Instances.{Mark}
 use Rattle.gr_model.specs.Names.{release_place}
-use Rattle.gr_model.specs.Streams.{Streams, is_complete, list_of, place_of, size_of, word_at}
+use Rattle.gr_model.specs.Streams.{Streams, place_of, size_of, word_at}
 use Rattle.gr_clocks.specs.Counts.{Counts, count_of}
 
 -- ---- instances
-
--- what came to an instance, or did not, parts it from one who came with this mark
-abbrev pub Parts : Bool → Option Mark → Option Mark → Type 0
-Parts complete mine None = IsTrue complete
-Parts complete mine (Some other) = Some other ≢ mine
-
--- an item of the group does
-abbrev pub IsParted : Streams → ℕ → ℕ → Option Mark → ℕ → Type 0
-IsParted s g k mine i = Parts (is_complete (list_of s g)) mine (arrivals s g k i)
-
--- somebody came with the mark of this barrier
-pub record HasCome (s : Streams) (g k : ℕ) (x : Event) : Type 0 where
-  pub item : ℕ
-  pub within : item < size_of s g
-  pub barrier : is_some (mark_of x) ≡ true
-  pub came : arrivals s g k item ≡ mark_of x
 
 -- an item's next event is its barrier of this number, and it came with this mark
 pub record StandsNext (s : Streams) (frontier : Counts) (g k : ℕ) (mine : Option Mark) (i : ℕ) : Type 0 where

@@ -6,10 +6,11 @@ use Rattle.gr_model.specs.declared.event.Event.{Event}
 use Rattle.gr_model.specs.declared.event.EventId.{EventId}
 use Rattle.gr_model.specs.declared.event.ItemId.{ItemId}
 use Rattle.gr_model.specs.Events.{is_end}
+use Rattle.gr_model.specs.Instances.{Mark}
 use Rattle.gr_model.specs.Streams.{Streams, AreFronts, size_of}
 use Rattle.gr_model.specs.LawfulOrders.{IsLawful}
 use Rattle.gr_lanes.specs.Takes.{nothing_taken, with_record}
-use Rattle.gr_steps.specs.Steps.{Handles, Meets, CanHandle, CanMeet, IsAtRest, AreGrounded}
+use Rattle.gr_steps.specs.Steps.{Handles, Meets, CanHandle, CanMeet, IsAtRest, IsMeeting, AreGrounded}
 
 pub record Sequence : Type 0 where
   pub taken : Streams
@@ -39,6 +40,10 @@ pub record HandlesEvent (old : Sequence) (e : EventId) (new : Sequence) : Type 0
 pub record MeetsInstance (old : Sequence) (g k : ℕ) (new : Sequence) : Type 0 where
   pub taken : new.taken ≡ old.taken
   pub meets : Meets old.taken old.handled g k new.handled
+
+-- and that is whichever of the group could meet
+abbrev pub MeetsNext : Sequence → ℕ → Sequence → Type 0
+MeetsNext old g new = (k : ℕ) (a : Mark) → IsMeeting old.taken old.handled g k a → MeetsInstance old g k new
 
 -- some event may be handled, or some instance may meet
 abbrev pub CanStep : Sequence → Type 0

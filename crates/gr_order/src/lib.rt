@@ -3,5 +3,7 @@
 #![tactic(auto)]
 
 pub mod go_error;
+mod meeting;
 pub mod order;
 mod ready;
+pub mod steps;

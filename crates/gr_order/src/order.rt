@@ -1,19 +1,26 @@
 //! What was taken of a launch's streams, and the order in which its events were handled.
 //!
 //! Invariant: the order is lawful, and the handled events of each item are its first ones. How many they are is counted by
-//! a vector clock, the frontier.
+//! a vector clock, the frontier. There is room to handle every event that was taken, so that no step wants for memory.
 
-ghost use Rattle.std.specs.Prelude.{◌≡◌, ◌<◌, IfOk, IfErr, OnOk, MatchOption, OnErr, length, IsTrue, ◌↔◌};
+ghost use Rattle.std.specs.Prelude.{◌≡◌, ◌+◌, ◌<◌, IsOkUnless, IfOk, IfErr, OnOk, MatchOption, OnErr, length, IsTrue, not, ◌↔◌};
 ghost use Rattle.gr_model.specs.declared.limits.TheConstants.{MOST_RECORDS};
-ghost use Rattle.gr_model.specs.Streams.{list_of};
+ghost use Rattle.gr_model.specs.Events.{is_end};
+ghost use Rattle.gr_model.specs.Reports.{IsHeld};
+ghost use Rattle.gr_model.specs.Streams.{AreComplete, list_of};
+ghost use Rattle.gr_order.specs.declared.go_error.GoError.TheVariants.{NotReady};
 ghost use Rattle.gr_lanes.specs.Takes.{CanTake, IsEventButItem, IsTakeFault};
 ghost use Rattle.gr_steps.specs.Steps.{CanHandle, CanMeet, IsAtRest, IsMeeting, IsReady};
 ghost use Rattle.gr_model.specs.Instances.{Mark};
-ghost use Rattle.gr_order.specs.Answers.{IsHandleFault};
-ghost use Rattle.gr_order.specs.Sequences.{HandlesEvent, IsDone, IsGroupAtRest, IsSequence, nothing, taking};
+ghost use Rattle.gr_order.specs.Answers.{CanMake, IsHandleFault, IsMeetFault};
+ghost use Rattle.gr_clocks.specs.Counts.{sizes_of};
+ghost use Rattle.gr_order.specs.States.{AreFirst};
+ghost use Rattle.gr_order.specs.Sequences.{HandlesEvent, IsDone, IsGroupAtRest, IsSequence, MeetsInstance, MeetsNext, events_of, nothing, taking};
 
 use crate::go_error::GoError;
+use crate::meeting::{add_next_events, count_next_events};
 use crate::ready::{is_ready, next_instance};
+use crate::steps::Ready;
 use gr_clocks::clock::Clock;
 use gr_lanes::lanes::Lanes;
 use gr_lanes::seq_error::SeqError;
@@ -31,17 +38,26 @@ pub struct Order<A: Allocator = Global> {
     lanes: Lanes<A>,
     handled: Vec<EventId, A>,
     frontier: Clock<A>,
+    held: u32,
 }
 
 impl<A: Allocator> Model for Order<A> {
     ghost use Rattle.gr_order.specs.Sequences.{Sequence};
+    ghost use Rattle.std.specs.Prelude.{vec_capacity};
     ghost use Rattle.gr_order.specs.States.{IsState};
 
     ghost Value = { Sequence };
 
     ghost view = { λ o. record { taken = o.lanes; handled = o.handled.items } };
 
-    ghost invariant = { λ o. IsState (record { taken = o.lanes; handled = o.handled.items }) o.frontier };
+    ghost invariant = { λ o. IsState (record { taken = o.lanes; handled = o.handled.items }) o.frontier o.held (vec_capacity o.handled) };
+}
+
+/// Whether a record is an event of its item, and not the end of its stream.
+fn is_event(event: &Event) -> bool
+    ensures { result ≡ not (is_end event.now) }
+{
+    !event.kind.is_end()
 }
 
 impl<A: Allocator + Copy> Order<A> {
@@ -62,11 +78,28 @@ impl<A: Allocator + Copy> Order<A> {
             lanes,
             handled,
             frontier,
+            held: 0,
         })
     }
 }
 
 impl<A: Allocator> Order<A> {
+    /// What was taken of the launch's streams.
+    pub fn lanes(&self) -> &Lanes<A>
+        ensures taken { result.now ≡ self.now.taken }
+        ensures sequence { IsSequence self.now }
+    {
+        &self.lanes
+    }
+
+    /// How many events of each item were handled: these are its first ones.
+    pub fn frontier(&self) -> &Clock<A>
+        ensures shape { sizes_of result.now ≡ self.now.taken.sizes }
+        ensures first { AreFirst self.now.handled result.now }
+    {
+        &self.frontier
+    }
+
     /// How many records were taken of a group; 0 of one that is not there.
     pub fn taken(&self, group: u16) -> u32
         ensures { result ≡ length (list_of self.now.taken group) }
@@ -117,63 +150,112 @@ impl<A: Allocator> Order<A> {
         ensures unchanged { OnErr result (self.new ≡ self.old) }
         ensures sequence { IsSequence self.new }
     {
-        self.lanes.take(group, event)
+        match self.lanes.refusal(group, &event) {
+            None => {}
+            Some(refusal) => return Err(refusal),
+        }
+        self.handled.reserve(self.held as usize + 1)?;
+        let more = is_event(&event);
+        self.lanes.take(group, event)?;
+        self.held += u32::from(more);
+        Ok(())
     }
 
     /// Handles an item's next event, where all that it waits for was handled and it is no barrier of a convergent or
     /// waiting instance.
     ///
     /// # Errors
-    /// `NotReady`, and else `Memory`. Nothing is then handled.
+    /// `NotReady`. Nothing is then handled.
     pub fn handle(&mut self, item: ItemId) -> Result<EventId, GoError>
         ensures step { IfOk result (λ e. (e.at ≡ item) × HandlesEvent self.old e self.new) }
         ensures err { IfErr result (λ f. IsHandleFault self.old item f) }
+        ensures only { IsOkUnless result NotReady }
         ensures unchanged { OnErr result (self.new ≡ self.old) }
         ensures sequence { IsSequence self.new }
     {
-        let event = match self.next(item) {
-            None => return Err(GoError::NotReady),
-            Some(event) => event,
-        };
-        self.add(event)?;
-        Ok(event)
-    }
-
-    /// Adds an event that may be handled to the order.
-    ///
-    /// # Errors
-    /// `Memory`. Nothing is then handled.
-    fn add(&mut self, event: EventId) -> Result<(), Memory>
-        requires { IsReady self.old.taken self.old.handled event }
-        ensures step { OnOk result (HandlesEvent self.old event self.new) }
-        ensures unchanged { OnErr result (self.new ≡ self.old) }
-        ensures sequence { IsSequence self.new }
-    {
-        self.handled.reserve(1)?;
-        match self.frontier.tick(event.at) {
-            Err(_) => Err(Memory),
-            Ok(()) => {
-                self.handled.push_reserved(event);
-                Ok(())
+        match self.next(item) {
+            None => Err(GoError::NotReady),
+            Some(event) => {
+                self.add(event);
+                Ok(event)
             }
         }
     }
 
-    /// Whether no step is left in a group.
-    fn is_group_at_rest(&self, group: u16) -> bool
+    /// Handles an event that may be handled.
+    pub fn add(&mut self, event: EventId)
+        requires { IsReady self.old.taken self.old.handled event }
+        ensures step { HandlesEvent self.old event self.new }
+        ensures sequence { IsSequence self.new }
+    {
+        self.handled.push_reserved(event);
+        self.frontier.raise(event.at);
+        self.held -= 1;
+    }
+
+    /// Handles the barriers of a group's least convergent instance that was not handled, where the event before each of
+    /// them was. Tells the number of the instance.
+    ///
+    /// # Errors
+    /// `NotReady`. Nothing is then handled.
+    pub fn meet(&mut self, group: u16) -> Result<u32, GoError>
+        ensures step { IfOk result (λ k. MeetsInstance self.old group k self.new) }
+        ensures err { IfErr result (λ e. IsMeetFault self.old group e) }
+        ensures only { IsOkUnless result NotReady }
+        ensures unchanged { OnErr result (self.new ≡ self.old) }
+        ensures sequence { IsSequence self.new }
+    {
+        match self.meeting(group) {
+            None => Err(GoError::NotReady),
+            Some(instance) => {
+                self.pass(group);
+                Ok(instance)
+            }
+        }
+    }
+
+    /// Handles the barriers of a group's instance that may meet.
+    pub fn pass(&mut self, group: u16)
+        requires { CanMeet self.old.taken self.old.handled group }
+        ensures step { MeetsNext self.old group self.new }
+        ensures sequence { IsSequence self.new }
+    {
+        let size = self.lanes.shape().items(group);
+        add_next_events(&mut self.handled, &self.frontier, group, size);
+        count_next_events(&mut self.frontier, group, size);
+        self.held -= u32::from(size);
+    }
+
+    /// A step of a group that is ready, if there is one.
+    fn ready_in(&self, group: u16) -> Option<Ready>
         requires { group < length self.now.taken.sizes }
-        ensures { IsTrue result ↔ IsGroupAtRest self.now group }
+        ensures { MatchOption result (IsGroupAtRest self.now group) (λ r. CanMake self.now r) }
     {
         for item in 0..self.lanes.shape().items(group) {
-            match self.next(ItemId { group, item }) {
+            let at = ItemId { group, item };
+            match self.next(at) {
                 None => {}
-                Some(_) => return false,
+                Some(_) => return Some(Ready::Item(at)),
             }
         }
         match self.meeting(group) {
-            None => true,
-            Some(_) => false,
+            None => None,
+            Some(_) => Some(Ready::Group(group)),
         }
+    }
+
+    /// Any one step that is ready, or none where none is: the handled events are then the grounded ones.
+    pub fn ready(&self) -> Option<Ready>
+        ensures ready { MatchOption result (IsDone self.now) (λ r. CanMake self.now r) }
+        ensures sequence { IsSequence self.now }
+    {
+        for group in 0..self.lanes.shape().groups() {
+            match self.ready_in(group) {
+                None => {}
+                Some(step) => return Some(step),
+            }
+        }
+        None
     }
 
     /// Whether no step is left. The handled events are then the grounded ones.
@@ -182,11 +264,36 @@ impl<A: Allocator> Order<A> {
         ensures done { IsTrue result → IsDone self.now }
         ensures sequence { IsSequence self.now }
     {
+        self.ready().is_none()
+    }
+
+    /// Whether every group's end was taken.
+    fn is_complete(&self) -> bool
+        ensures complete { IsTrue result ↔ AreComplete self.now.taken }
+        ensures sequence { IsSequence self.now }
+    {
         for group in 0..self.lanes.shape().groups() {
-            if !self.is_group_at_rest(group) {
+            if !self.lanes.is_complete(group) {
                 return false;
             }
         }
         true
+    }
+
+    /// Whether every group's end was taken and no step is left.
+    pub fn is_at_end(&self) -> bool
+        ensures ended { IsTrue result ↔ (AreComplete self.now.taken × IsAtRest self.now.taken self.now.handled) }
+        ensures done { IsTrue result → IsDone self.now }
+        ensures sequence { IsSequence self.now }
+    {
+        self.is_complete() && self.is_at_rest()
+    }
+
+    /// How many events were taken and not handled. Where no step is left, these are the events that are not grounded.
+    pub fn held(&self) -> u64
+        ensures count { result + length self.now.handled ≡ events_of self.now.taken }
+        ensures held { IsAtRest self.now.taken self.now.handled → IsHeld self.now.taken result }
+    {
+        u64::from(self.held)
     }
 }

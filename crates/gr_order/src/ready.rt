@@ -2,68 +2,15 @@
 //! an acquire names.
 
 ghost use Rattle.std.specs.Prelude.{◌≡◌, ◌↔◌, ◌<◌, true, IsTrue, MatchOption, Some, is_some, length, ℕ};
-ghost use Rattle.gr_model.specs.Barriers.{IsDivergent, arrivals, mark_of};
-ghost use Rattle.gr_model.specs.Streams.{is_complete, list_of};
+ghost use Rattle.gr_model.specs.Barriers.{arrivals, mark_of};
 ghost use Rattle.gr_model.specs.Streams as model;
-ghost use Rattle.gr_order.specs.Readiness.{AreReleased, HasCome, IsNextInstance, IsParted, IsReleased, MayPass, StandsNext};
+ghost use Rattle.gr_order.specs.Readiness.{AreReleased, IsNextInstance, IsReleased, MayPass, StandsNext};
 
 use gr_clocks::clock::Clock;
+use gr_lanes::instance::{barrier, has_mark_of, is_divergent};
 use gr_lanes::lanes::Lanes;
 use gr_model::event::{Event, EventId, ItemId, Name, Word, word_of};
 use std::alloc::Allocator;
-
-/// The record of an item's barrier of this number, if it was taken.
-fn barrier<A: Allocator>(lanes: &Lanes<A>, item: ItemId, number: u32) -> Option<Event>
-    ensures { MatchOption result (arrivals lanes.now item.group number item.item ≡ None) (λ x. (arrivals lanes.now item.group number item.item ≡ mark_of x) × (is_some (mark_of x) ≡ true)) }
-{
-    match lanes.barrier_at(item, number) {
-        None => None,
-        Some(index) => lanes.event_at(EventId { at: item, index }),
-    }
-}
-
-/// Whether two barriers have one site and the same flags.
-fn has_mark_of(mine: &Event, other: &Event) -> bool
-    requires { is_some (mark_of mine.now) ≡ true }
-    ensures { IsTrue result ↔ (mark_of other.now ≡ mark_of mine.now) }
-{
-    other.kind == mine.kind && other.word == mine.word
-}
-
-/// Whether an item parts the instance of a barrier: it came with another mark, or it never comes.
-fn parts<A: Allocator>(lanes: &Lanes<A>, item: ItemId, number: u32, mine: &Event) -> bool
-    requires { is_some (mark_of mine.now) ≡ true }
-    ensures { IsTrue result ↔ IsParted lanes.now item.group number (mark_of mine.now) item.item }
-{
-    match barrier(lanes, item, number) {
-        None => lanes.is_complete(item.group),
-        Some(other) => !has_mark_of(mine, &other),
-    }
-}
-
-/// Whether the instance of a barrier that was taken is divergent.
-fn is_divergent<A: Allocator>(lanes: &Lanes<A>, group: u16, number: u32, mine: &Event) -> bool
-    requires group { group < length lanes.now.sizes }
-    requires come { HasCome lanes.now group number mine.now }
-    ensures { IsTrue result ↔ IsDivergent lanes.now group number }
-{
-    for item in 0..lanes.shape().items(group) {
-        if parts(lanes, ItemId { group, item }, number, mine) {
-            return true;
-        }
-    }
-    false
-}
-
-/// The word that an event accesses, if it was taken and is an access.
-fn word_at<A: Allocator>(lanes: &Lanes<A>, event: EventId) -> Option<Word>
-    ensures { result ≡ model.word_at lanes.now event }
-{
-    match lanes.event_at(event) {
-        None => None,
-        Some(taken) => word_of(event.at.group, &taken),
-    }
-}
 
 /// Whether two events access one word, or neither is an access.
 fn is_same(mine: Option<Word>, other: Option<Word>) -> bool
@@ -87,7 +34,7 @@ fn is_released<A: Allocator>(
         Some(index) => {
             let release = EventId { at: name.at, index };
             frontier.covers(name.at, index)
-                && is_same(word_at(lanes, release), word_of(group, acquire))
+                && is_same(lanes.word_at(release), word_of(group, acquire))
         }
     }
 }

@@ -21,7 +21,7 @@ use Rattle.gr_record.specs.FrontLaws.{Runs, IsReadingOf, ReadFrontIsSpelled}
 use Rattle.gr_record.proofs.Loop.{short, too_many, next}
 use Rattle.gr_record.proofs.Found.{read_is_spelled, read_header_is_spelled}
 
-bytes_drop : (n : ℕ) (bytes : List ℕ) → AreBytes bytes → AreBytes (drop n bytes)
+pub bytes_drop : (n : ℕ) (bytes : List ℕ) → AreBytes bytes → AreBytes (drop n bytes)
 bytes_drop n bytes h i = rw get_or-drop (h (n + i))
 
 bytes_take : (n : ℕ) (bytes : List ℕ) → AreBytes bytes → AreBytes (take n bytes)
@@ -42,17 +42,18 @@ end_apart h = absurd cc
 
 -- ---- records
 
-abbrev is_at_end : Stop → Bool
+abbrev pub is_at_end : Stop → Bool
 is_at_end Inside = false
 is_at_end AtEnd = true
 is_at_end (AtFault e) = false
 
-record Found (items most : ℕ) (bytes : List ℕ) (r : Records) : Type 0 where
-  parts : bytes ≡ events_spelling r.events ++ r.rest
-  runs : Runs items r.events
-  few : length r.events ≤ most
-  complete : is_complete r.events ≡ is_at_end r.stop
-  short : r.stop ≡ Inside → length r.rest < RECORD_LENGTH
+-- what is read is spelled so, and ends where reading stops at an end
+pub record Found (items most : ℕ) (bytes : List ℕ) (r : Records) : Type 0 where
+  pub parts : bytes ≡ events_spelling r.events ++ r.rest
+  pub runs : Runs items r.events
+  pub few : length r.events ≤ most
+  pub complete : is_complete r.events ≡ is_at_end r.stop
+  pub short : r.stop ≡ Inside → length r.rest < RECORD_LENGTH
 
 pub complete_behind : (e : Event) (es : List Event) → is_end e ≡ false → is_complete (e ∷ es) ≡ is_complete es
 complete_behind e [] on = on
@@ -86,7 +87,7 @@ module _ (items : ℕ) where
   short_found : (most : ℕ) (bytes : List ℕ) → length bytes < RECORD_LENGTH → Found items most bytes (records_at (event_at items) most bytes)
   short_found most bytes lt = rw (short (event_at items) most bytes lt) (record { parts = refl; runs = tt; few = omega arith; complete = refl; short = λ _. lt })
 
-  records_found : (most : ℕ) (bytes : List ℕ) → AreBytes bytes → Found items most bytes (records_at (event_at items) most bytes)
+  pub records_found : (most : ℕ) (bytes : List ℕ) → AreBytes bytes → Found items most bytes (records_at (event_at items) most bytes)
   records_found zero bytes fits =
       elim (cases_lt (length bytes) RECORD_LENGTH) [
         | inl lt ↦ short_found zero bytes lt

@@ -13,7 +13,7 @@ use Rattle.gr_record.specs.Faults.{stream_fault}
 use Rattle.gr_record.specs.WholeStreams as record_spec
 use Rattle.gr_record.specs.WholeStreams.{front_header_at, front_records_at}
 use Rattle.gr_replay.specs.declared.joined.Stream.{Stream}
-use Rattle.gr_replay.specs.Faults.{IsOutside, Fails}
+use Rattle.gr_input.specs.Faults.{IsOutside, Fails}
 use Rattle.gr_replay.specs.Joined.{Flat, flats, stream_at, joined_at}
 
 list_any-flats : {Z : Type 0} (test : Header → Bool) (seen : List (Stream Z)) → list_any (λ s. test s.header) (flats seen) ≡ list_any (λ s. test s.header) seen
@@ -59,7 +59,7 @@ unfolding joined_at
 nothing_left zero seen bytes e = refl
 nothing_left (suc n) seen bytes e = rw e refl
 
-fails_through : {X Y : Type 0} (f : Fault) (part : Result X Fault) (total : Result Y Fault) → Fails f part → (part ≡ Err f → total ≡ Err f) → Fails f total
+pub fails_through : {X Y : Type 0} (f : Fault) (part : Result X Fault) (total : Result Y Fault) → Fails f part → (part ≡ Err f → total ≡ Err f) → Fails f total
 fails_through faults.Memory part total h go = tt
 fails_through faults.Read part total h go = tt
 fails_through f part total h go = go h

@@ -1,7 +1,8 @@
-pub mod Consuming
 pub mod Joining
 pub mod Accepted
 pub mod Launching
-pub mod Treating
-pub mod Cutting
-pub mod NothingHeld
+pub mod TakenLists
+pub mod EventLists
+pub mod StepLemmas
+pub mod Reporting
+pub mod Apart

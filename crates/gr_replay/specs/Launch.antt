@@ -5,7 +5,7 @@ use Rattle.gr_model.specs.Shapes.{IsShapeFault}
 use Rattle.gr_model.specs.Streams.{Streams}
 use Rattle.gr_record.specs.declared.fault.Fault.{Fault}
 use Rattle.gr_record.specs.declared.fault.Fault.TheVariants as faults
-use Rattle.gr_replay.specs.Faults.{Fails}
+use Rattle.gr_input.specs.Faults.{Fails}
 use Rattle.gr_replay.specs.Joined.{Flat, joined_of}
 
 -- one of the streams is of this group

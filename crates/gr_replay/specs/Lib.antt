@@ -1,5 +1,6 @@
-pub mod Faults
 pub mod Joined
 pub mod Launch
+pub mod Sequencing
 pub mod Replays
 pub mod Laws
+pub mod Each

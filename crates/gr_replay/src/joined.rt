@@ -3,7 +3,7 @@
 ghost use Rattle.std.specs.Prelude.{◌≡◌, ◌≢◌, ◌==◌, ◌++◌, ◌∷◌, [], not, length, IfErr, IfOk, OnOk, Ok};
 ghost use Rattle.std.specs.List.{list_any};
 ghost use Rattle.gr_record.specs.declared.fault.Fault.TheVariants as faults;
-ghost use Rattle.gr_replay.specs.Faults.{Gives};
+ghost use Rattle.gr_input.specs.Faults.{Gives};
 ghost use Rattle.gr_replay.specs.Laws.{AreStreams};
 ghost use Rattle.gr_replay.specs.Joined.{flat, flats, stream_at, joined_of};
 
@@ -36,7 +36,7 @@ fn has_other_launch<A: Allocator>(streams: &[Stream<A>], launch: u32) -> bool
 }
 
 /// The stream at the front of the bytes, behind these streams, and the bytes after it.
-fn read_stream<'a, A: Allocator>(
+pub(crate) fn read_stream<'a, A: Allocator>(
     alloc: A,
     streams: &[Stream<A>],
     bytes: &'a [u8],
@@ -62,7 +62,10 @@ fn read_stream<'a, A: Allocator>(
 }
 
 /// Keeps one more stream.
-fn keep<A: Allocator>(streams: &mut Vec<Stream<A>, A>, stream: Stream<A>) -> Result<(), Fault>
+pub(crate) fn keep<A: Allocator>(
+    streams: &mut Vec<Stream<A>, A>,
+    stream: Stream<A>,
+) -> Result<(), Fault>
     ensures kept { OnOk result (streams.new.items ≡ streams.old.items ++ stream ∷ []) }
     ensures memory { IfErr result (λ f. f ≡ Fault.Memory) }
 {

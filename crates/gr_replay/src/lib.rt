@@ -2,11 +2,14 @@
 #![tactic(auto)]
 
 pub mod detect;
-mod input;
+pub mod each;
+mod handling;
 pub mod joined;
 pub mod launch;
 pub mod laws;
 mod run;
+mod taking;
 
+pub use each::read_each;
 pub use launch::read_joined;
 pub use run::replay;

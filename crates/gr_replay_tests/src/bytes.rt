@@ -11,6 +11,12 @@ pub(crate) const HEADER_0_2: [u8; 12] = [71, 82, 84, 49, 0, 0, 2, 0, 7, 0, 0, 0]
 /// Group 1 of one item, in launch 7.
 pub(crate) const HEADER_1_1: [u8; 12] = [71, 82, 84, 49, 1, 0, 1, 0, 7, 0, 0, 0];
 
+/// Group 0 of three items, in launch 7.
+pub(crate) const HEADER_0_3: [u8; 12] = [71, 82, 84, 49, 0, 0, 3, 0, 7, 0, 0, 0];
+
+/// Group 1 of three items, in launch 7.
+pub(crate) const HEADER_1_3: [u8; 12] = [71, 82, 84, 49, 1, 0, 3, 0, 7, 0, 0, 0];
+
 /// Group 2 of one item, in launch 7.
 pub(crate) const HEADER_2_1: [u8; 12] = [71, 82, 84, 49, 2, 0, 1, 0, 7, 0, 0, 0];
 
@@ -72,14 +78,149 @@ pub(crate) const DEVICE_RMW_1: [u8; 20] = [
     4, 0, 2, 1, 1, 0, 0, 0, 16, 0, 0, 0, 255, 255, 255, 255, 255, 255, 255, 255,
 ];
 
-/// Item 0 comes to the barrier at site 7, with both flags.
-pub(crate) const BARRIER_0: [u8; 20] = [
-    5, 3, 0, 0, 0, 0, 0, 0, 7, 0, 0, 0, 255, 255, 255, 255, 255, 255, 255, 255,
+/// Item 0 stores to global word 20 at device scope, releasing.
+pub(crate) const STORE_0_20_DEVICE: [u8; 20] = [
+    3, 0, 2, 3, 0, 0, 0, 0, 20, 0, 0, 0, 255, 255, 255, 255, 255, 255, 255, 255,
 ];
 
-/// Item 0 acquires global word 16 from release 0 of item 0 of group 0.
-pub(crate) const ACQUIRE_0: [u8; 20] = [
-    2, 0, 2, 2, 0, 0, 0, 0, 16, 0, 0, 0, 0, 0, 0, 0, 0, 0, 0, 0,
+/// Item 0 loads global word 20 at device scope, acquiring from release 0 of item 0 of group 0.
+pub(crate) const LOAD_0_20_DEVICE_FROM_0_0_0: [u8; 20] = [
+    2, 0, 2, 2, 0, 0, 0, 0, 20, 0, 0, 0, 0, 0, 0, 0, 0, 0, 0, 0,
+];
+
+/// Item 0 stores to global word 20 at work-group scope, releasing.
+pub(crate) const STORE_0_20_GROUP: [u8; 20] = [
+    3, 0, 1, 3, 0, 0, 0, 0, 20, 0, 0, 0, 255, 255, 255, 255, 255, 255, 255, 255,
+];
+
+/// Item 0 loads global word 20 at work-group scope, acquiring from release 0 of item 0 of group 0.
+pub(crate) const LOAD_0_20_GROUP_FROM_0_0_0: [u8; 20] = [
+    2, 0, 1, 2, 0, 0, 0, 0, 20, 0, 0, 0, 0, 0, 0, 0, 0, 0, 0, 0,
+];
+
+/// Item 0 writes local word 4.
+pub(crate) const WRITE_0_LOCAL_4: [u8; 20] = [
+    1, 1, 0, 0, 0, 0, 0, 0, 4, 0, 0, 0, 255, 255, 255, 255, 255, 255, 255, 255,
+];
+
+/// Item 1 loads global word 20 at device scope, acquiring from release 0 of item 0 of group 0.
+pub(crate) const LOAD_1_20_DEVICE_FROM_0_0_0: [u8; 20] = [
+    2, 0, 2, 2, 1, 0, 0, 0, 20, 0, 0, 0, 0, 0, 0, 0, 0, 0, 0, 0,
+];
+
+/// Item 1 reads local word 4.
+pub(crate) const READ_1_LOCAL_4: [u8; 20] = [
+    0, 1, 0, 0, 1, 0, 0, 0, 4, 0, 0, 0, 255, 255, 255, 255, 255, 255, 255, 255,
+];
+
+/// Item 0 comes to the barrier at site 1, with the local flag.
+pub(crate) const BARRIER_0_SITE_1_LOCAL: [u8; 20] = [
+    5, 2, 0, 0, 0, 0, 0, 0, 1, 0, 0, 0, 255, 255, 255, 255, 255, 255, 255, 255,
+];
+
+/// Item 1 comes to the barrier at site 1, with the local flag.
+pub(crate) const BARRIER_1_SITE_1_LOCAL: [u8; 20] = [
+    5, 2, 0, 0, 1, 0, 0, 0, 1, 0, 0, 0, 255, 255, 255, 255, 255, 255, 255, 255,
+];
+
+/// Item 0 comes to the barrier at site 1, with both flags.
+pub(crate) const BARRIER_0_SITE_1_BOTH: [u8; 20] = [
+    5, 3, 0, 0, 0, 0, 0, 0, 1, 0, 0, 0, 255, 255, 255, 255, 255, 255, 255, 255,
+];
+
+/// Item 1 comes to the barrier at site 1, with both flags.
+pub(crate) const BARRIER_1_SITE_1_BOTH: [u8; 20] = [
+    5, 3, 0, 0, 1, 0, 0, 0, 1, 0, 0, 0, 255, 255, 255, 255, 255, 255, 255, 255,
+];
+
+/// Item 0 comes to the barrier at site 1, without flags.
+pub(crate) const BARRIER_0_SITE_1_NONE: [u8; 20] = [
+    5, 0, 0, 0, 0, 0, 0, 0, 1, 0, 0, 0, 255, 255, 255, 255, 255, 255, 255, 255,
+];
+
+/// Item 1 comes to the barrier at site 1, without flags.
+pub(crate) const BARRIER_1_SITE_1_NONE: [u8; 20] = [
+    5, 0, 0, 0, 1, 0, 0, 0, 1, 0, 0, 0, 255, 255, 255, 255, 255, 255, 255, 255,
+];
+
+/// Item 2 comes to the barrier at site 1, with both flags.
+pub(crate) const BARRIER_2_SITE_1_BOTH: [u8; 20] = [
+    5, 3, 0, 0, 2, 0, 0, 0, 1, 0, 0, 0, 255, 255, 255, 255, 255, 255, 255, 255,
+];
+
+/// Item 0 comes to the barrier at site 2, with both flags.
+pub(crate) const BARRIER_0_SITE_2_BOTH: [u8; 20] = [
+    5, 3, 0, 0, 0, 0, 0, 0, 2, 0, 0, 0, 255, 255, 255, 255, 255, 255, 255, 255,
+];
+
+/// Item 1 comes to the barrier at site 2, with both flags.
+pub(crate) const BARRIER_1_SITE_2_BOTH: [u8; 20] = [
+    5, 3, 0, 0, 1, 0, 0, 0, 2, 0, 0, 0, 255, 255, 255, 255, 255, 255, 255, 255,
+];
+
+/// Item 1 writes global word 24.
+pub(crate) const WRITE_1_24: [u8; 20] = [
+    1, 0, 0, 0, 1, 0, 0, 0, 24, 0, 0, 0, 255, 255, 255, 255, 255, 255, 255, 255,
+];
+
+/// Item 2 reads global word 24.
+pub(crate) const READ_2_24: [u8; 20] = [
+    0, 0, 0, 0, 2, 0, 0, 0, 24, 0, 0, 0, 255, 255, 255, 255, 255, 255, 255, 255,
+];
+
+/// Item 0 loads global word 20 at device scope, acquiring from release 0 of item 0 of group 1.
+pub(crate) const LOAD_0_20_DEVICE_FROM_1_0_0: [u8; 20] = [
+    2, 0, 2, 2, 0, 0, 0, 0, 20, 0, 0, 0, 1, 0, 0, 0, 0, 0, 0, 0,
+];
+
+/// Item 0 stores to global word 24 at device scope, releasing.
+pub(crate) const STORE_0_24_DEVICE: [u8; 20] = [
+    3, 0, 2, 3, 0, 0, 0, 0, 24, 0, 0, 0, 255, 255, 255, 255, 255, 255, 255, 255,
+];
+
+/// Item 0 loads global word 24 at device scope, acquiring from release 0 of item 0 of group 0.
+pub(crate) const LOAD_0_24_DEVICE_FROM_0_0_0: [u8; 20] = [
+    2, 0, 2, 2, 0, 0, 0, 0, 24, 0, 0, 0, 0, 0, 0, 0, 0, 0, 0, 0,
+];
+
+/// Item 2 loads global word 20 at device scope, acquiring from release 0 of item 0 of group 0.
+pub(crate) const LOAD_2_20_DEVICE_FROM_0_0_0: [u8; 20] = [
+    2, 0, 2, 2, 2, 0, 0, 0, 20, 0, 0, 0, 0, 0, 0, 0, 0, 0, 0, 0,
+];
+
+/// Item 2 stores to global word 24 at device scope, releasing.
+pub(crate) const STORE_2_24_DEVICE: [u8; 20] = [
+    3, 0, 2, 3, 2, 0, 0, 0, 24, 0, 0, 0, 255, 255, 255, 255, 255, 255, 255, 255,
+];
+
+/// Item 0 loads global word 24 at device scope, acquiring from release 0 of item 2 of group 0.
+pub(crate) const LOAD_0_24_DEVICE_FROM_0_2_0: [u8; 20] = [
+    2, 0, 2, 2, 0, 0, 0, 0, 24, 0, 0, 0, 0, 0, 2, 0, 0, 0, 0, 0,
+];
+
+/// Item 0 modifies global word 16 at device scope, acquiring and releasing from release 0 of item 0 of group 0.
+pub(crate) const RMW_0_16_DEVICE_FROM_0_0_0: [u8; 20] = [
+    4, 0, 2, 4, 0, 0, 0, 0, 16, 0, 0, 0, 0, 0, 0, 0, 0, 0, 0, 0,
+];
+
+/// Item 1 loads global word 24 at device scope, acquiring from release 0 of item 0 of group 0.
+pub(crate) const LOAD_1_24_DEVICE_FROM_0_0_0: [u8; 20] = [
+    2, 0, 2, 2, 1, 0, 0, 0, 24, 0, 0, 0, 0, 0, 0, 0, 0, 0, 0, 0,
+];
+
+/// Item 0 loads global word 20 at device scope, acquiring from release 0 of item 1 of group 0.
+pub(crate) const LOAD_0_20_DEVICE_FROM_0_1_0: [u8; 20] = [
+    2, 0, 2, 2, 0, 0, 0, 0, 20, 0, 0, 0, 0, 0, 1, 0, 0, 0, 0, 0,
+];
+
+/// Item 1 writes global word 16.
+pub(crate) const WRITE_1_16: [u8; 20] = [
+    1, 0, 0, 0, 1, 0, 0, 0, 16, 0, 0, 0, 255, 255, 255, 255, 255, 255, 255, 255,
+];
+
+/// Item 1 stores to global word 20 at device scope, releasing.
+pub(crate) const STORE_1_20_DEVICE: [u8; 20] = [
+    3, 0, 2, 3, 1, 0, 0, 0, 20, 0, 0, 0, 255, 255, 255, 255, 255, 255, 255, 255,
 ];
 
 /// A record of no kind.

@@ -2,6 +2,7 @@
 
 use crate::bytes::*;
 use crate::ends::{FailingReader, FailingWriter};
+use crate::orders::CASES;
 use gr_model::memory::Memory;
 use gr_record::fault::Fault;
 use gr_replay::replay;
@@ -11,6 +12,10 @@ use std::test::Fail;
 
 const TEXT: &str =
     "gpurace 1\ngroups 1 items 2 records 3\nrace global 16\nend races 1 diverge 0 unmatched 0 held 0\n";
+
+/// Item 1's last two records are held: it names a release on another word.
+const ORDERED_TEXT: &str =
+    "gpurace 1\ngroups 1 items 2 records 9\ndiverge 0 1 missing\nunmatched 0 1 2 otherword\nend races 0 diverge 1 unmatched 1 held 2\n";
 
 fn race(alloc: Global) -> Result<Vec<u8>, AllocError> {
     joined(alloc, &[&HEADER_0_2, &WRITE_0, &READ_1, &END])
@@ -68,35 +73,73 @@ fn a_writer_that_fails_has_a_front_of_the_text(rt: HostRuntime) -> Result<(), Fa
     Ok(())
 }
 
-/// Whether the race is found, or memory runs out with nothing written.
-fn finds_the_race<A: Allocator + Copy>(
+/// Whether this text is written, or memory runs out with nothing written.
+fn is_replayed<A: Allocator + Copy>(
     alloc: A,
     ample: Global,
     bytes: &[u8],
+    lines: &str,
 ) -> Result<bool, Memory> {
     let mut text = Vec::new(ample);
     let mut reader = bytes;
     match replay(alloc, &mut reader, &mut text) {
-        Ok(_) => Ok(text.as_slice() == TEXT.as_bytes()),
+        Ok(_) => Ok(text.as_slice() == lines.as_bytes()),
         Err(Fault::Memory) if text.is_empty() => Err(Memory),
         Err(_) => Ok(false),
     }
 }
 
+/// Refuses each growth in turn, until none is refused; the row where the answer is wrong, if there is one.
+fn first_wrong_growth(alloc: Global, bytes: &[u8], lines: &str) -> Option<u64> {
+    for at in 0..10_000_u64 {
+        let heap = Refusing::new(alloc, at);
+        let answer = is_replayed(&heap, alloc, bytes, lines);
+        if answer != Ok(true) && !(answer == Err(Memory) && heap.refused()) {
+            return Some(at);
+        }
+        if !heap.refused() {
+            return if at > 4 { None } else { Some(at) };
+        }
+    }
+    Some(10_000)
+}
+
 #[test]
 fn each_refused_growth_is_want_of_memory(rt: HostRuntime) -> Result<(), Fail> {
     let bytes = race(rt.alloc())?;
-    for at in 0..1_000_u64 {
-        let heap = Refusing::new(rt.alloc(), at);
-        let answer = finds_the_race(&heap, rt.alloc(), &bytes);
-        assert!(rt;
-            answer == Ok(true) || (answer == Err(Memory) && heap.refused()),
-            "the growth numbered {at}"
+    assert_eq!(rt;
+        first_wrong_growth(rt.alloc(), &bytes, TEXT),
+        None,
+        "a race"
+    );
+    let bytes = joined(
+        rt.alloc(),
+        &[
+            &HEADER_0_2,
+            &WRITE_0,
+            &STORE_0_20_DEVICE,
+            &BARRIER_0_SITE_1_LOCAL,
+            &LOAD_1_20_DEVICE_FROM_0_0_0,
+            &BARRIER_1_SITE_1_LOCAL,
+            &BARRIER_0_SITE_2_BOTH,
+            &LOAD_1_24_DEVICE_FROM_0_0_0,
+            &READ_1,
+            &END,
+        ],
+    )?;
+    assert_eq!(rt;
+        first_wrong_growth(rt.alloc(), &bytes, ORDERED_TEXT),
+        None,
+        "barriers and names"
+    );
+    for (name, pieces, lines) in CASES {
+        let bytes = joined(rt.alloc(), pieces)?;
+        let text = format!(in rt.alloc(); "gpurace 1\n{lines}")?;
+        assert_eq!(rt;
+            first_wrong_growth(rt.alloc(), &bytes, &text),
+            None,
+            "{name}"
         );
-        if !heap.refused() {
-            assert!(rt; at > 4, "some growths were refused");
-            return Ok(());
-        }
     }
-    Err("a growth was refused each time")?
+    Ok(())
 }

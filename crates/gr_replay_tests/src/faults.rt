@@ -59,7 +59,7 @@ const RECORD_CASES: [Case; 9] = [
     ),
 ];
 
-const STREAM_CASES: [Case; 10] = [
+const STREAM_CASES: [Case; 8] = [
     ("nothing", &[], Fault::Shape(ShapeError::NoGroups)),
     (
         "no end",
@@ -92,23 +92,13 @@ const STREAM_CASES: [Case; 10] = [
         Fault::MissingGroup(0),
     ),
     (
-        "a barrier",
-        &[&HEADER_0_2, &BARRIER_0, &END],
-        Fault::Stream(0, RecordError::BadKind),
-    ),
-    (
-        "a named acquire in the second stream",
-        &[&HEADER_1_1, &END, &HEADER_0_1, &ACQUIRE_0, &END],
-        Fault::Stream(1, RecordError::BadKind),
-    ),
-    (
         "an end of a stream of its own",
         &[&END],
         Fault::Stream(0, RecordError::BadMagic),
     ),
 ];
 
-const ORDER_CASES: [Case; 7] = [
+const ORDER_CASES: [Case; 4] = [
     (
         "a group again before its bad record",
         &[&HEADER_0_1, &END, &HEADER_0_2, &BAD_KIND],
@@ -128,21 +118,6 @@ const ORDER_CASES: [Case; 7] = [
         "a bad record before a missing group",
         &[&HEADER_0_1, &END, &HEADER_2_1, &READ_1, &END],
         Fault::Stream(1, RecordError::UnknownItem),
-    ),
-    (
-        "a missing group before a barrier",
-        &[&HEADER_0_1, &BARRIER_0, &END, &HEADER_2_1, &END],
-        Fault::MissingGroup(1),
-    ),
-    (
-        "a truncated stream before a barrier",
-        &[&HEADER_0_1, &BARRIER_0, &END, &HEADER_1_1, &READ_0],
-        Fault::Stream(1, RecordError::Truncated),
-    ),
-    (
-        "the first of two barriers",
-        &[&HEADER_1_1, &BARRIER_0, &END, &HEADER_0_1, &BARRIER_0, &END],
-        Fault::Stream(0, RecordError::BadKind),
     ),
 ];
 

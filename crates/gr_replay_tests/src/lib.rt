@@ -4,10 +4,14 @@
 #[cfg(test)]
 mod bytes;
 #[cfg(test)]
+mod each;
+#[cfg(test)]
 mod ends;
 #[cfg(test)]
 mod failures;
 #[cfg(test)]
 mod faults;
+#[cfg(test)]
+mod orders;
 #[cfg(test)]
 mod reports;

@@ -4,7 +4,7 @@
 #![tactic(auto)]
 
 mod fault_text;
-mod putting;
+pub mod putting;
 pub mod report;
 mod report_text;
 pub mod rows;

@@ -15,7 +15,7 @@ use thiserror::Error;
 pub struct WriteFault;
 
 /// Writes the bytes.
-pub(crate) fn put<W: Write>(writer: &mut W, bytes: &[u8]) -> Result<(), WriteFault>
+pub fn put<W: Write>(writer: &mut W, bytes: &[u8]) -> Result<(), WriteFault>
     ensures { Puts (W.contents writer.old) (W.contents writer.new) result bytes.now }
 {
     let mut rest = bytes;
@@ -55,7 +55,7 @@ pub(crate) fn put_line<W: Write, N: Integer>(
 }
 
 /// Flushes behind a text that was written.
-pub(crate) fn finish<W: Write>(writer: &mut W) -> Result<(), WriteFault>
+pub fn finish<W: Write>(writer: &mut W) -> Result<(), WriteFault>
     ensures { Keeps (W.contents writer.old) (W.contents writer.new) }
 {
     match writer.flush() {

@@ -72,6 +72,17 @@ fn scope_of(kind: &Kind) -> Option<Scope>
     }
 }
 
+/// The scope of a release, or `None` for what is no release.
+pub fn release_scope(kind: &Kind) -> Option<Scope>
+    ensures { result ≡ spec.release_scope kind.now }
+{
+    if is_release(kind) {
+        scope_of(kind)
+    } else {
+        None
+    }
+}
+
 /// Whether two scopes, each of an access of this group, are the same, and for work-group scope of one group. A plain
 /// access has no scope, which is the same as none.
 pub(crate) fn same_scope(

@@ -1,19 +1,5 @@
-use Rattle.std.proofs.Common.{◌≡◌, Bool, ◌&&◌, ◌||◌, arith, rules}
-use Rattle.std.specs.Prelude.{not}
-use Rattle.gr_model.specs.Access.{modifies, inclusive}
-use Rattle.gr_scopes.specs.Laws.{ClassesTellModifies, ClassesTellScopes}
+use Rattle.gr_scopes.proofs.ClassLemmas.{exemption_told}
 use Rattle.gr_scopes.proofs.laws.classes_tell_conflicts.Goals as goal
 
-modifies_told : ClassesTellModifies
-modifies_told k a e = search rules
-
-scopes_told : ClassesTellScopes
-scopes_told k a e = search rules
-
--- one modifies or not, and the scopes are inclusive or not
-apart : (p q r : Bool) → not (p || q) || r ≡ not ((p || q) && not r)
-apart p q r = grind arith
-
 pub returns-clause-exempt : goal.returns-clause-exempt
-returns-clause-exempt c k l a b g h is_a is_b =
-    rw (modifies_told k a is_a, modifies_told l b is_b, scopes_told k a is_a, scopes_told l b is_b) (apart (modifies k) (modifies l) (inclusive k g l h))
+returns-clause-exempt c = exemption_told

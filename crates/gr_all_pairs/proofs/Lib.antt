@@ -1,4 +1,0 @@
-pub mod Members
-pub mod Unordered
-pub mod RaceLemmas
-pub mod AccessLemmas

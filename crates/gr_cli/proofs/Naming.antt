@@ -1,0 +1,58 @@
+-- The command that a parse met.
+use Rattle.std.proofs.Common.{◌≡◌, true, List, [], ◌∷◌, Option, Some, None, refl, ap, ◌∙◌}
+use Rattle.std.specs.Prelude.{option_map, Box}
+use Rattle.std.specs.Box.{box_value}
+use Rattle.clap.specs.declared.parser.matches.ArgMatches.{ArgMatches}
+use Rattle.clap.specs.declared.parser.matches.ArgMatches.TheViews.{out-ArgMatches, out-SubCommand}
+use Rattle.clap.specs.declared.parser.matches.SubCommand.{SubCommand}
+use Rattle.clap.specs.Words.{App, HasMatchesOf, Text, is_simple, subcommand_name_of, subcommand_of, subcommand_rows, subcommand_rows_of, takes}
+use Rattle.clap.proofs.OnLiterals.{clap_on_literals}
+use Rattle.gr_cli.specs.declared.arguments.Task.{Task}
+use Rattle.gr_cli.specs.declared.arguments.Task.TheVariants.{Replay, Pack, Dump}
+use Rattle.gr_cli.specs.Words.{gpurace, name_of}
+
+-- the words of each task are taken, and name its command
+
+pub no_word_is_taken : takes gpurace [] ≡ true
+unfolding clap_on_literals
+no_word_is_taken = refl
+
+pub command_is_taken : (t : Task) → takes gpurace (name_of t ∷ []) ≡ true
+unfolding clap_on_literals
+command_is_taken Replay = refl
+command_is_taken Pack = refl
+command_is_taken Dump = refl
+
+gpurace_is_simple : is_simple gpurace ≡ true
+unfolding clap_on_literals
+gpurace_is_simple = refl
+
+abbrev met : List Text → Option Text
+met words = option_map (λ p. p.0) (subcommand_of gpurace words)
+
+nothing_is_met : met [] ≡ None
+unfolding clap_on_literals
+nothing_is_met = refl
+
+command_is_met : (t : Task) → met (name_of t ∷ []) ≡ Some (name_of t)
+unfolding clap_on_literals
+command_is_met Replay = refl
+command_is_met Pack = refl
+command_is_met Dump = refl
+
+-- the name is that of the rows
+name_from_rows : {Z : Type 0} (o : Option (Box SubCommand Z)) → option_map (λ b. (out-SubCommand (box_value b)).name.now) o ≡ option_map (λ p. p.0) (subcommand_rows o)
+name_from_rows None = refl
+name_from_rows (Some b) = refl
+
+module _ (command : App) (m : ArgMatches) (is : command ≡ gpurace) (words : List Text) (matches : HasMatchesOf command words m) where
+  name_is_met : subcommand_name_of m ≡ met words
+  name_is_met =
+      let rows : subcommand_rows_of m ≡ subcommand_of command words = (matches (ap is_simple is ∙ gpurace_is_simple)).1 in
+      name_from_rows (out-ArgMatches m).subcommand ∙ ap (option_map (λ p. p.0)) (rows ∙ ap (λ a. subcommand_of a words) is)
+
+  pub no_name : words ≡ [] → subcommand_name_of m ≡ None
+  no_name none = name_is_met ∙ ap met none ∙ nothing_is_met
+
+  pub name_is : (t : Task) → words ≡ name_of t ∷ [] → subcommand_name_of m ≡ Some (name_of t)
+  name_is t asks = name_is_met ∙ ap met asks ∙ command_is_met t

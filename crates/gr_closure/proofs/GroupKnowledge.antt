@@ -1,0 +1,107 @@
+-- What a barrier sees whose instance meets; and what its item, its group, and the others, know then.
+use Rattle.std.proofs.Common.{◌≡◌, ◌≢◌, ◌⊎◌, ◌↔◌, ℕ, ◌<◌, List, Some, IsTrue, IsFalse, refl, sym, ap, ◌∙◌, subst, inl, inr, ⊎_elim, option_and_then, true≢false}
+use Rattle.gr_model.specs.declared.event.EventId.{EventId}
+use Rattle.gr_model.specs.declared.event.ItemId.{ItemId}
+use Rattle.gr_model.specs.declared.event.Space.{Space}
+use Rattle.gr_model.specs.Barriers.{IsConvergent, StandsIn, Together}
+use Rattle.gr_model.specs.Counts.{IsSeen}
+use Rattle.gr_model.specs.Instances.{Mark, flags}
+use Rattle.gr_model.specs.LawfulOrders.{IsIn, IsLawful}
+use Rattle.gr_model.specs.Streams.{AreFronts, IsEvent, Streams, size_of}
+use Rattle.gr_steps.specs.Steps.{Meets}
+use Rattle.gr_steps.proofs.BarrierPlaces.{barrier_of, barrier_there, moved, same_instance, stands_same}
+use Rattle.gr_steps.proofs.EventRecords.{barriers_name_nothing}
+use Rattle.gr_steps.proofs.Orders.{there_is}
+use Rattle.gr_closure.specs.Knowledge.{Knows, Learns, by_event, by_instance}
+use Rattle.gr_closure.proofs.LongerOrders.{in_back, in_front, in_longer, knows_more}
+use Rattle.gr_closure.proofs.NextInItem.{barrier_is_next, known_before, next_sees}
+
+module _ (s : Streams) (m : Space) (old new : List EventId) (g k : ℕ) (fronts : AreFronts s) (lawful : IsLawful s old) (met : Meets s old g k new) where
+  event_of : (b : EventId) → StandsIn s b g k → IsEvent s b
+  event_of b stands = let there = barrier_there s b g k stands in (there.0, there.1)
+
+  -- a barrier names nothing, so it learns nothing
+  learns_nothing : (b d : EventId) → StandsIn s b g k → Learns s m b d → ⊥
+  learns_nothing b d stands l =
+      let there = barrier_there s b g k stands in
+      barriers_name_nothing s fronts b there.0 l.matches.name there.1 there.2 (sym (ap (option_and_then (λ y. y.name)) there.1) ∙ l.matches.by.named)
+
+  pub met_sees : (b d : EventId) → StandsIn s b g k → IsSeen s m b d ↔ ((d ≡ b) ⊎ Knows s m old b.at d)
+  met_sees b d stands =
+      let sees = next_sees s m old b (event_of b stands) (barrier_is_next s old lawful g k new met b stands) d in (
+        λ seen. ⊎_elim (λ same. inl same) (λ h. ⊎_elim (λ known. inr known) (λ l. absurd (learns_nothing b d stands l)) h) (sees.0 seen),
+        ⊎_elim (λ same. inl same) (λ known. sees.1 (inr (inl known))),
+      )
+
+  -- ---- the longer order
+
+  pub met_stays : (x : EventId) → IsIn old x → IsIn new x
+  met_stays x h = subst (λ l. IsIn l x) (sym met.order) (in_front old met.barriers x h)
+
+  pub met_now : (b : EventId) → StandsIn s b g k → IsIn new b
+  met_now b stands =
+      let there = there_is met.barriers b.at.item (subst (λ n. b.at.item < n) (sym met.are.count) stands.item) in
+      let is = met.are.each b.at.item there.0 there.1 in
+      let same : there.0 ≡ b = stands_same s there.0 b g k is.1 stands is.0 in
+      subst (λ l. IsIn l b) (sym met.order) (in_back old met.barriers b (b.at.item, there.1 ∙ ap Some same))
+
+  pub met_cases : (x : EventId) → IsIn new x → IsIn old x ⊎ StandsIn s x g k
+  met_cases x h = ⊎_elim (λ was. inl was) (λ (b : IsIn met.barriers x). inr (met.are.each b.0 x b.1).1) (in_longer old met.barriers x (subst (λ l. IsIn l x) met.order h))
+
+  -- what a barrier's item knew, the barrier sees
+  known_seen : (b d : EventId) → StandsIn s b g k → Knows s m old b.at d → IsSeen s m b d
+  known_seen b d stands known = inr (known_before s m old b (event_of b stands) (barrier_is_next s old lawful g k new met b stands) d known)
+
+  -- of an instance that a barrier stands in, this is the number
+  here : (a : Mark) (c b : EventId) → StandsIn s b g k → Together s a c b → StandsIn s c g k × IsConvergent s g k a
+  here a c b stands t =
+      let same = same_instance s b t.group t.instance g k t.second stands in (
+        moved s c t.group t.instance g k same.0 same.1 t.first,
+        subst (λ n. IsConvergent s g n a) same.1 (subst (λ h. IsConvergent s h t.instance a) same.0 t.convergent),
+      )
+
+  -- the item's own barrier is the one
+  own : (x b : EventId) → StandsIn s x g k → StandsIn s b g k → x.at ≡ b.at → x ≡ b
+  own x b hx hb item = stands_same s x b g k hx hb (ap (λ i. i.item) item)
+
+  -- ---- in a memory that is flagged
+
+  some_sees : (b d : EventId) → StandsIn s b g k → Knows s m new b.at d → (c : EventId) × StandsIn s c g k × IsSeen s m c d
+  some_sees b d stands (by_event x h item seen) =
+      ⊎_elim (λ was. (b, stands, known_seen b d stands (by_event x was item seen))) (λ now. (x, now, seen)) (met_cases x h)
+  some_sees b d stands (by_instance a c x h item flagged t seen) =
+      ⊎_elim (λ was. (b, stands, known_seen b d stands (by_instance a c x was item flagged t seen))) (λ now. (c, (here a c x now t).0, seen)) (met_cases x h)
+
+  pub flagged_knows : (i : ItemId) (d : EventId) → IsTrue (flags met.mark m) → i.group ≡ g → i.item < size_of s g → Knows s m new i d ↔ ((b : EventId) × StandsIn s b g k × IsSeen s m b d)
+  flagged_knows i d flagged group within =
+      let found = barrier_of s g k met.mark met.meeting.convergent i.item within in
+      let b : EventId = record { at = record { group = g; item = i.item }; index = found.0 } in
+      let item : b.at ≡ i = λ j. record { group = sym group j; item = i.item } in (
+        λ known. some_sees b d found.1 (subst (λ j. Knows s m new j d) (sym item) known),
+        λ h. by_instance met.mark h.0 b (met_now b found.1) item flagged (record { group = g; instance = k; convergent = met.meeting.convergent; first = h.1; second = found.1 }) h.2,
+      )
+
+  -- ---- in the other
+
+  one_mark : (a : Mark) → IsConvergent s g k a → a ≡ met.mark
+  one_mark a c = let e : Some a ≡ Some met.mark = sym (c.1 0 c.0) ∙ met.meeting.convergent.1 0 c.0 in cc
+
+  own_sees : (b d : EventId) → IsFalse (flags met.mark m) → StandsIn s b g k → Knows s m new b.at d → IsSeen s m b d
+  own_sees b d apart stands (by_event x h item seen) =
+      ⊎_elim (λ was. known_seen b d stands (by_event x was item seen)) (λ now. subst (λ y. IsSeen s m y d) (own x b now stands item) seen) (met_cases x h)
+  own_sees b d apart stands (by_instance a c x h item flagged t seen) =
+      ⊎_elim
+      (λ was. known_seen b d stands (by_instance a c x was item flagged t seen))
+      (λ now. absurd (true≢false (sym (subst (λ f. IsTrue (flags f m)) (one_mark a (here a c x now t).1) flagged) ∙ apart)))
+      (met_cases x h)
+
+  pub unflagged_knows : (b d : EventId) → IsFalse (flags met.mark m) → StandsIn s b g k → Knows s m new b.at d ↔ IsSeen s m b d
+  unflagged_knows b d apart stands = (own_sees b d apart stands, λ seen. by_event b (met_now b stands) refl seen)
+
+  -- ---- in other groups
+
+  pub others_know_after_meet : (i : ItemId) (d : EventId) → i.group ≢ g → Knows s m new i d ↔ Knows s m old i d
+  others_know_after_meet i d other = (
+    knows_more s m new old i d (λ x item h. ⊎_elim (λ was. was) (λ (now : StandsIn s x g k). absurd (other (ap (λ j. j.group) (sym item) ∙ now.group))) (met_cases x h)),
+    knows_more s m old new i d (λ x item h. met_stays x h),
+  )

@@ -1,0 +1,24 @@
+-- Events of an order that grows at its end, and what is known along it.
+use Rattle.std.proofs.Common.{◌≡◌, ◌⊎◌, ℕ, ◌+◌, List, ◌++◌, length, Some, slice_get, inl, inr, ⊎_elim}
+use Rattle.gr_model.specs.declared.event.EventId.{EventId}
+use Rattle.gr_model.specs.declared.event.ItemId.{ItemId}
+use Rattle.gr_model.specs.declared.event.Space.{Space}
+use Rattle.gr_model.specs.LawfulOrders.{IsIn}
+use Rattle.gr_model.specs.Streams.{Streams}
+use Rattle.gr_model.proofs.Places.{slice_get-append}
+use Rattle.gr_steps.proofs.Orders.{at_behind, split_last}
+use Rattle.gr_closure.specs.Knowledge.{Knows, by_event, by_instance}
+
+pub in_front : (old more : List EventId) (e : EventId) → IsIn old e → IsIn (old ++ more) e
+in_front old more e h = (h.0, slice_get-append old more h.0 e h.1)
+
+pub in_back : (old more : List EventId) (e : EventId) → IsIn more e → IsIn (old ++ more) e
+in_back old more e h = (length old + h.0, at_behind old more h.0 e h.1)
+
+pub in_longer : (old more : List EventId) (e : EventId) → IsIn (old ++ more) e → IsIn old e ⊎ IsIn more e
+in_longer old more e h = ⊎_elim (λ at. inl (h.0, at)) (λ (b : (i : ℕ) × (h.0 ≡ length old + i) × (slice_get more i ≡ Some e)). inr (b.0, b.2)) (split_last old more h.0 e h.1)
+
+-- what an item knows along an order, it knows along each that has all of its events
+pub knows_more : (s : Streams) (m : Space) (old new : List EventId) (i : ItemId) (d : EventId) → ((e : EventId) → e.at ≡ i → IsIn old e → IsIn new e) → Knows s m old i d → Knows s m new i d
+knows_more s m old new i d keep (by_event e h item seen) = by_event e (keep e item h) item seen
+knows_more s m old new i d keep (by_instance a c b h item flagged met seen) = by_instance a c b (keep b item h) item flagged met seen

@@ -1,0 +1,27 @@
+-- What a work-item knows along an order: the events that happen before whatever it does next.
+-- Source: docs/MODEL.md, "Clocks". After OpenCL 2.0 specification, section 3.3 (memory model), "global-happens-before" and "local-happens-before".
+use Rattle.std.specs.Prelude.{◌≡◌, List, IsTrue}
+use Rattle.gr_model.specs.declared.event.Space.{Space}
+use Rattle.gr_model.specs.declared.event.ItemId.{ItemId}
+use Rattle.gr_model.specs.declared.event.EventId.{EventId}
+use Rattle.gr_model.specs.Instances.{Mark, flags}
+use Rattle.gr_model.specs.Streams.{Streams}
+use Rattle.gr_model.specs.Names.{Matches}
+use Rattle.gr_model.specs.Barriers.{Together}
+use Rattle.gr_model.specs.LawfulOrders.{IsIn}
+use Rattle.gr_model.specs.HappensBefore.{IsInclusive}
+use Rattle.gr_model.specs.Counts.{IsSeen}
+
+-- in a memory, item i knows of d when the events of this order are handled
+pub data Knows (s : Streams) (m : Space) (order : List EventId) (i : ItemId) (d : EventId) : Type 0 where
+  -- an event of the item was handled, and d is this event or happens before it
+  by_event : (e : EventId) → IsIn order e → e.at ≡ i → IsSeen s m e d → Knows s m order i d
+  -- a barrier b of the item was handled in a convergent instance that flags the memory, and d is a barrier of the instance or happens before one
+  by_instance : (a : Mark) (c b : EventId) → IsIn order b → b.at ≡ i → IsTrue (flags a m) → Together s a c b → IsSeen s m c d → Knows s m order i d
+
+-- in a memory, e learns of d from the release that it matches
+pub record Learns (s : Streams) (m : Space) (e d : EventId) : Type 0 where
+  pub release : EventId
+  pub matches : Matches s e release
+  pub inclusive : IsInclusive s m release e
+  pub seen : IsSeen s m release d

@@ -1,0 +1,201 @@
+-- The unmatched acquires, found one after the other.
+use Rattle.std.proofs.Common.{◌≡◌, ◌≢◌, ◌⊎◌, ℕ, ◌+◌, ◌<◌, ◌≤◌, Bool, true, false, List, [], ◌∷◌, ◌++◌, length, Some, None, refl, sym, ap, ◌∙◌, subst, inl, inr, ⊎_elim, arith, eq-or-lt_of_le, option_and_then, eqb-true, true≢false, ◌&&◌, ◌==◌, not}
+use Rattle.std.proofs.lemmas.Bool.{cases_eq, cases_lt}
+use Rattle.gr_model.specs.declared.event.Event.{Event}
+use Rattle.gr_model.specs.declared.event.EventId.{EventId}
+use Rattle.gr_model.specs.declared.event.ItemId.{ItemId}
+use Rattle.gr_model.specs.declared.event.Name.{Name}
+use Rattle.gr_model.specs.declared.report.AcquireCause.{AcquireCause}
+use Rattle.gr_model.specs.declared.report.AcquireCause.TheVariants.{Absent, Behind, OtherWord}
+use Rattle.gr_model.specs.declared.report.Unmatched.{Unmatched}
+use Rattle.gr_model.specs.Events.{is_end}
+use Rattle.gr_model.specs.Names.{HasAcquireCause, HasName, IsAbsent, IsOfItsWord, IsOfOtherWord}
+use Rattle.gr_model.specs.Reports.{IsUnmatched, IsUnmatchedAcquire, Lists, UnmatchedBelow}
+use Rattle.gr_model.specs.Streams.{AreFronts, IsEvent, Streams, event_at, is_of, list_of, size_of, word_at}
+use Rattle.gr_steps.proofs.EventRecords.{filter-there, group_there}
+use Rattle.gr_steps.proofs.Orders.{same_event}
+use Rattle.gr_clocks.specs.Counts.{Counts, count_of}
+use Rattle.gr_findings.specs.Acquires.{AreUnmatchedBefore, IsGroundedFront, IsItemBefore}
+use Rattle.gr_findings.proofs.Lists.{listed_push, listed_same, none_listed}
+
+-- ---- causes
+
+module _ (s : Streams) (f : EventId) where
+  there : (n : Name) → IsOfItsWord s f n → IsAbsent s n → ⊥
+  there n its absent = let clash : None ≡ Some its.0 = sym absent ∙ its.1 in cc
+
+  one_word : (n : Name) → IsOfItsWord s f n → IsOfOtherWord s f n → ⊥
+  one_word n its other =
+      let same : its.0 ≡ other.0 = let is : Some its.0 ≡ Some other.0 = sym its.1 ∙ other.1 in cc in
+      other.2 (ap (λ (k : ℕ). word_at s (record { at = n.at; index = k })) (sym same) ∙ its.2)
+
+  one_cause : (a b : AcquireCause) → HasAcquireCause s f a → HasAcquireCause s f b → a ≡ b
+  one_cause Absent Absent p q = refl
+  one_cause Absent OtherWord p q = absurd (q.0 p.0 p.1 p.2)
+  one_cause Absent Behind p q = absurd (there p.0 (q p.0 p.1) p.2)
+  one_cause OtherWord Absent p q = absurd (p.0 q.0 q.1 q.2)
+  one_cause OtherWord OtherWord p q = refl
+  one_cause OtherWord Behind p q = absurd (one_word p.1.0 (q p.1.0 p.1.1) p.1.2)
+  one_cause Behind Absent p q = absurd (there q.0 (p q.0 q.1) q.2)
+  one_cause Behind OtherWord p q = absurd (one_word q.1.0 (p q.1.0 q.1.1) q.1.2)
+  one_cause Behind Behind p q = refl
+
+-- ---- one item
+
+module _ (s : Streams) where
+  one_event : (e f : EventId) → IsUnmatched s e → IsUnmatched s f → e.at ≡ f.at → e ≡ f
+  one_event e f a b at =
+      ⊎_elim
+      (λ (lt : e.index < f.index). absurd (a.held (b.before e at lt)))
+      (λ (ge : f.index ≤ e.index). ⊎_elim
+      (λ (same : f.index ≡ e.index). same_event e f at (sym same))
+      (λ (lt : f.index < e.index). absurd (b.held (a.before f (sym at) lt)))
+      (eq-or-lt_of_le ge))
+      (cases_lt e.index f.index)
+
+  pub one_acquire : (u v : Unmatched) → IsUnmatchedAcquire s u → IsUnmatchedAcquire s v → u.event.at ≡ v.event.at → u ≡ v
+  one_acquire u v a b at =
+      let event = one_event u.event v.event a.unmatched b.unmatched at in
+      let cause = one_cause s v.event u.cause v.cause (subst (λ e. HasAcquireCause s e u.cause) event a.cause) b.cause in
+      λ d. record { event = event d; cause = cause d }
+
+module _ (s : Streams) (frontier : Counts) (front : IsGroundedFront s frontier) (item : ItemId) (index : ℕ) (is : index ≡ count_of frontier item) where
+  abbrev next : EventId
+  next = record { at = item; index = index }
+
+  -- an item's unmatched event is the next to be handled
+  only_next : (e : EventId) → IsUnmatched s e → e.at ≡ item → e ≡ next
+  only_next e unmatched at =
+      let count : count_of frontier e.at ≡ index = ap (count_of frontier) at ∙ sym is in
+      let this : EventId = record { at = e.at; index = index } in
+      ⊎_elim
+      (λ (lt : e.index < index). absurd (unmatched.held ((front e).1 (omega arith))))
+      (λ (ge : index ≤ e.index). ⊎_elim
+      (λ (same : index ≡ e.index). same_event e next at (sym same))
+      (λ (past : index < e.index). let below : index < count_of frontier e.at = (front this).0 (unmatched.before this refl past) in absurd (omega arith))
+      (eq-or-lt_of_le ge))
+      (cases_lt e.index index)
+
+  pub none_there : event_at s next ≡ None → (u : Unmatched) → IsUnmatchedAcquire s u → u.event.at ≢ item
+  none_there none u unmatched at =
+      let same = only_next u.event unmatched.unmatched at in
+      let event = unmatched.unmatched.event in
+      let clash : None ≡ Some event.0 = sym none ∙ (ap (event_at s) (sym same) ∙ event.1) in
+      cc
+
+  module _ (x : Event) (at_next : event_at s next ≡ Some x) where
+    name_is : (n : Name) → HasName s next n → x.name ≡ Some n
+    name_is n has = sym (ap (option_and_then (λ (y : Event). y.name)) at_next) ∙ has
+
+    pub none_named : x.name ≡ None → (u : Unmatched) → IsUnmatchedAcquire s u → u.event.at ≢ item
+    none_named none u unmatched at =
+        let named = unmatched.unmatched.named in
+        let name = unmatched.unmatched.name in
+        let same = only_next u.event unmatched.unmatched at in
+        let clash : None ≡ Some name = sym none ∙ name_is name (subst (λ e. HasName s e name) same named) in
+        cc
+
+    module _ (n : Name) (named : x.name ≡ Some n) where
+      pub names : HasName s next n
+      names = ap (option_and_then (λ (y : Event). y.name)) at_next ∙ named
+
+      pub this_is : (c : AcquireCause) → HasAcquireCause s next c → IsUnmatchedAcquire s (record { event = next; cause = c })
+      this_is c cause = record {
+        unmatched = record {
+          event = (x, at_next);
+          name = n;
+          named = names;
+          held = λ grounded. let lt : index < count_of frontier item = (front next).0 grounded in omega arith;
+          before = λ d at lt. let count : count_of frontier d.at ≡ index = ap (count_of frontier) at ∙ sym is in (front d).1 (omega arith);
+        };
+        cause = cause;
+      }
+
+-- ---- the list
+
+and_left : (a b : Bool) → (a && b) ≡ true → a ≡ true
+and_left true b e = refl
+and_left false b e = absurd (true≢false (sym e))
+
+-- an event that was taken is one of the shape's items
+item_there : (s : Streams) → AreFronts s → (e : EventId) → IsEvent s e → (e.at.group < length s.sizes) × (e.at.item < size_of s e.at.group)
+item_there s fronts e (x, at) =
+    let group : e.at.group < length s.sizes = omega (arith, group_there s e (x, at), fronts.count) in
+    let kept = filter-there (is_of e.at.item) (list_of s e.at.group) e.index x at in
+    let ok = ((fronts.each e.at.group group).good kept.0 x kept.1).0 in
+    (group, subst (λ n. n < size_of s e.at.group) (eqb-true x.item e.at.item (and_left (x.item == e.at.item) (not (is_end x)) kept.2)) ok.0)
+
+item_at : ℕ → ℕ → ItemId
+item_at g i = record { group = g; item = i }
+
+before_more : (g i : ℕ) (at : ItemId) → IsItemBefore g i at → IsItemBefore g (i + 1) at
+before_more g i at (inl lower) = inl lower
+before_more g i at (inr here) = inr (here.0, let lt : at.item < i + 1 = omega (arith, here.1) in lt)
+
+before_cases : (g i : ℕ) (at : ItemId) → IsItemBefore g (i + 1) at → IsItemBefore g i at ⊎ (at ≡ record { group = g; item = i })
+before_cases g i at (inl lower) = inl (inl lower)
+before_cases g i at (inr here) =
+    ⊎_elim
+    (λ (same : at.item ≡ i). inr (λ d. record { group = here.0 d; item = same d }))
+    (λ (other : at.item ≡ i → ⊥). inl (inr (here.0, let lt : at.item < i = omega (arith, here.1) in lt)))
+    (cases_eq at.item i)
+
+module _ (s : Streams) where
+  abbrev Found : ℕ → ℕ → Unmatched → Type 0
+  Found g i u = IsUnmatchedAcquire s u × IsItemBefore g i u.event.at
+
+  pub none_found : AreUnmatchedBefore s 0 0 []
+  none_found = none_listed UnmatchedBelow (Found 0 0) (λ u p. nothing u.event.at p.1)
+    where
+      nothing : (at : ItemId) → IsItemBefore 0 0 at → ⊥
+      nothing at (inl lower) = omega arith
+      nothing at (inr here) = let over : at.item < 0 = here.1 in omega arith
+
+  module _ (g i : ℕ) (us : List Unmatched) (found : AreUnmatchedBefore s g i us) where
+    -- an item that has none
+    pub item_without : ((u : Unmatched) → IsUnmatchedAcquire s u → u.event.at ≢ record { group = g; item = i }) → AreUnmatchedBefore s g (i + 1) us
+    item_without none = listed_same UnmatchedBelow (Found g i) (Found g (i + 1)) us found
+        (λ u p. (p.0, before_more g i u.event.at p.1))
+        (λ u p. (p.0, ⊎_elim (λ before. before) (λ (here : u.event.at ≡ record { group = g; item = i }). absurd (none u p.0 here)) (before_cases g i u.event.at p.1)))
+
+    -- an item that has one
+    pub item_with : (v : Unmatched) → v.event.at ≡ record { group = g; item = i } → IsUnmatchedAcquire s v → AreUnmatchedBefore s g (i + 1) (us ++ v ∷ [])
+    item_with v at unmatched = listed_push UnmatchedBelow (Found g i) (Found g (i + 1)) us v found
+        (λ u p. below u p.1)
+        (unmatched, inr (ap (λ (x : ItemId). x.group) at, let lt : v.event.at.item < i + 1 = omega (arith, ap (λ (x : ItemId). x.item) at) in lt))
+        (λ u p. (p.0, before_more g i u.event.at p.1))
+        (λ u p. ⊎_elim (λ before. inl (p.0, before)) (λ (here : u.event.at ≡ record { group = g; item = i }). inr (one_acquire s u v p.0 unmatched (here ∙ sym at))) (before_cases g i u.event.at p.1))
+      where
+        group : v.event.at.group ≡ g
+        group = ap (λ (x : ItemId). x.group) at
+
+        item : v.event.at.item ≡ i
+        item = ap (λ (x : ItemId). x.item) at
+
+        below : (u : Unmatched) → IsItemBefore g i u.event.at → UnmatchedBelow u v
+        below u (inl lower) = inl (let lt : u.event.at.group < v.event.at.group = omega (arith, group) in lt)
+        below u (inr here) = inr (here.0 ∙ sym group, inl (let lt : u.event.at.item < v.event.at.item = omega (arith, item, here.1) in lt))
+
+    -- behind its last item a group is done
+    pub group_done : AreFronts s → size_of s g ≤ i → AreUnmatchedBefore s (g + 1) 0 us
+    group_done fronts all = listed_same UnmatchedBelow (Found g i) (Found (g + 1) 0) us found (λ u p. (p.0, earlier u.event.at p.1)) (λ u p. (p.0, later u p.0 p.1))
+      where
+        earlier : (at : ItemId) → IsItemBefore g i at → IsItemBefore (g + 1) 0 at
+        earlier at (inl lower) = inl (let lt : at.group < g + 1 = omega arith in lt)
+        earlier at (inr here) = inl (let lt : at.group < g + 1 = omega (arith, here.0) in lt)
+
+        later : (u : Unmatched) → IsUnmatchedAcquire s u → IsItemBefore (g + 1) 0 u.event.at → IsItemBefore g i u.event.at
+        later u p (inr past) = let over : u.event.at.item < 0 = past.1 in absurd (omega arith)
+        later u p (inl lower) =
+            ⊎_elim
+            (λ (same : u.event.at.group ≡ g).
+            let within = (item_there s fronts u.event p.unmatched.event).1 in
+            let size : size_of s u.event.at.group ≡ size_of s g = ap (size_of s) same in
+            inr (same, let lt : u.event.at.item < i = omega arith in lt))
+            (λ (other : u.event.at.group ≡ g → ⊥). inl (let lt : u.event.at.group < g = omega arith in lt))
+            (cases_eq u.event.at.group g)
+
+    -- and behind the last group all are found
+    pub all_found : AreFronts s → length s.sizes ≤ g → Lists UnmatchedBelow (IsUnmatchedAcquire s) us
+    all_found fronts all = listed_same UnmatchedBelow (Found g i) (IsUnmatchedAcquire s) us found (λ u p. p.0)
+        (λ u p. (p, inl (let lt : u.event.at.group < g = omega (arith, (item_there s fronts u.event p.unmatched.event).0) in lt)))

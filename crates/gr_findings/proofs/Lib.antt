@@ -1,0 +1,4 @@
+mod Lists
+mod Cutting
+mod Acquiring
+mod Diverging

@@ -1,0 +1,23 @@
+-- Which acquires are found unmatched, where the grounded events of each item are known by their number.
+use Rattle.std.specs.Prelude.{◌≡◌, ◌⊎◌, ◌↔◌, ℕ, ◌<◌, List}
+use Rattle.gr_model.specs.declared.event.EventId.{EventId}
+use Rattle.gr_model.specs.declared.event.ItemId.{ItemId}
+use Rattle.gr_model.specs.declared.report.Unmatched.{Unmatched}
+use Rattle.gr_model.specs.Reports.{IsUnmatchedAcquire, Lists, UnmatchedBelow}
+use Rattle.gr_model.specs.Streams.{Streams}
+use Rattle.gr_model.specs.Waits.{IsGrounded}
+use Rattle.gr_clocks.specs.Counts.{Counts, count_of}
+
+-- the grounded events of each item are its first ones, as many as the clock counts
+abbrev pub IsGroundedFront : Streams → Counts → Type 0
+IsGroundedFront s frontier = (e : EventId) → IsGrounded s e ↔ (e.index < count_of frontier e.at)
+
+-- ---- a list in the making
+
+-- an item of an earlier group, or an earlier one of this group
+abbrev pub IsItemBefore : ℕ → ℕ → ItemId → Type 0
+IsItemBefore g i at = (at.group < g) ⊎ ((at.group ≡ g) × (at.item < i))
+
+-- the unmatched acquires of the items before item i of group g
+abbrev pub AreUnmatchedBefore : Streams → ℕ → ℕ → List Unmatched → Type 0
+AreUnmatchedBefore s g i us = Lists UnmatchedBelow (λ u. IsUnmatchedAcquire s u × IsItemBefore g i u.event.at) us

@@ -1,0 +1,2 @@
+pub mod Acquires
+pub mod Instances

@@ -1,0 +1,4 @@
+pub mod PairTests
+pub mod Clashing
+pub mod Adding
+pub mod Growing

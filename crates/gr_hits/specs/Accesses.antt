@@ -1,0 +1,21 @@
+-- The accesses along an order: what a race test is given, one access after another.
+-- Source: docs/MODEL.md, "Hits".
+use Rattle.std.specs.Prelude.{◌≡◌, List, [], ◌∷◌, None}
+use Rattle.gr_model.specs.declared.event.EventId.{EventId}
+use Rattle.gr_model.specs.Streams.{Streams, word_at}
+use Rattle.gr_clocks.specs.declared.access.Access.{Access}
+use Rattle.gr_shadow.specs.Clashes.{ClockedAccess}
+use Rattle.gr_closure.specs.Accesses.{IsAccess}
+
+-- an access without its allocator
+abbrev pub bare : ClockedAccess → Access (Unit {0})
+bare x = record { word = x.word; item = x.item; index = x.index; class = x.class; clock = x.clock }
+
+-- the accesses of the events of an order, one for each event that is an access, in the order of the events
+pub data AreAccesses (s : Streams) : List EventId → List ClockedAccess → Type 0 where
+  -- of no events there are none
+  of_none : AreAccesses s [] []
+  -- an event that is an access has its own at the front
+  of_access : {e : EventId} {x : ClockedAccess} {order : List EventId} {accesses : List ClockedAccess} → IsAccess s e (bare x) → AreAccesses s order accesses → AreAccesses s (e ∷ order) (x ∷ accesses)
+  -- an event that has no word has none
+  of_other : {e : EventId} {order : List EventId} {accesses : List ClockedAccess} → word_at s e ≡ None → AreAccesses s order accesses → AreAccesses s (e ∷ order) accesses

@@ -1,0 +1,24 @@
+//! Laws of hits along an order. Each is the contract of a function that does nothing, told in words in docs/MODEL.md, "Hits".
+
+ghost use Rattle.gr_hits.specs.Laws.{AccessesStay, HandledAdds, HitsAreClashes, LawfulHitsAreRaces, MetAddNone, OthersAddNone, WholeHitsAreRaces};
+
+/// A word is hit in the accesses along an order exactly where two events of the order clash on it. Where the order is
+/// lawful the word is then racy within it, and where it has all grounded events, among these.
+pub fn hits_tell_races()
+    ensures clashes { HitsAreClashes }
+    ensures lawful { LawfulHitsAreRaces }
+    ensures whole { WholeHitsAreRaces }
+{}
+
+/// An event that is handled adds its access to those along the order; an event without a word, and the barriers of an
+/// instance that meets, add none.
+pub fn steps_add_accesses()
+    ensures handle { HandledAdds }
+    ensures other { OthersAddNone }
+    ensures meet { MetAddNone }
+{}
+
+/// The accesses along a lawful order stay so where lists that are not complete grow.
+pub fn accesses_stay()
+    ensures { AccessesStay }
+{}

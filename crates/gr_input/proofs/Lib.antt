@@ -1,0 +1,2 @@
+pub mod Consuming
+pub mod Outside

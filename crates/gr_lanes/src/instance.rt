@@ -1,0 +1,53 @@
+//! One instance of a work-group's barriers, as far as it was taken: the barriers with number k of the group's items are its
+//! instance k (docs/MODEL.md, "Barriers").
+
+ghost use Rattle.std.specs.Prelude.{◌≡◌, ◌↔◌, ◌<◌, true, IsTrue, MatchOption, is_some, length};
+ghost use Rattle.gr_model.specs.Barriers.{IsDivergent, arrivals, mark_of};
+ghost use Rattle.gr_lanes.specs.Instances.{HasCome, IsParted};
+
+use crate::lanes::Lanes;
+use gr_model::event::{Event, EventId, ItemId};
+use std::alloc::Allocator;
+
+/// The record of an item's barrier of this number, if it was taken.
+pub fn barrier<A: Allocator>(lanes: &Lanes<A>, item: ItemId, number: u32) -> Option<Event>
+    ensures { MatchOption result (arrivals lanes.now item.group number item.item ≡ None) (λ x. (arrivals lanes.now item.group number item.item ≡ mark_of x) × (is_some (mark_of x) ≡ true)) }
+{
+    match lanes.barrier_at(item, number) {
+        None => None,
+        Some(index) => lanes.event_at(EventId { at: item, index }),
+    }
+}
+
+/// Whether two barriers have one site and the same flags.
+pub fn has_mark_of(mine: &Event, other: &Event) -> bool
+    requires { is_some (mark_of mine.now) ≡ true }
+    ensures { IsTrue result ↔ (mark_of other.now ≡ mark_of mine.now) }
+{
+    other.kind == mine.kind && other.word == mine.word
+}
+
+/// Whether an item parts the instance of a barrier: it came with another mark, or it never comes.
+fn parts<A: Allocator>(lanes: &Lanes<A>, item: ItemId, number: u32, mine: &Event) -> bool
+    requires { is_some (mark_of mine.now) ≡ true }
+    ensures { IsTrue result ↔ IsParted lanes.now item.group number (mark_of mine.now) item.item }
+{
+    match barrier(lanes, item, number) {
+        None => lanes.is_complete(item.group),
+        Some(other) => !has_mark_of(mine, &other),
+    }
+}
+
+/// Whether the instance of a barrier that was taken is divergent.
+pub fn is_divergent<A: Allocator>(lanes: &Lanes<A>, group: u16, number: u32, mine: &Event) -> bool
+    requires group { group < length lanes.now.sizes }
+    requires come { HasCome lanes.now group number mine.now }
+    ensures { IsTrue result ↔ IsDivergent lanes.now group number }
+{
+    for item in 0..lanes.shape().items(group) {
+        if parts(lanes, ItemId { group, item }, number, mine) {
+            return true;
+        }
+    }
+    false
+}

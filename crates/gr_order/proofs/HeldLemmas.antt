@@ -1,0 +1,120 @@
+-- What was taken is handled or held, and what is ready is held.
+use Rattle.std.proofs.Common.{◌≡◌, ◌≢◌, ℕ, ◌+◌, ◌-◌, ◌<◌, ◌≤◌, Bool, cond, length, refl, sym, ap, subst, ⊎_elim, arith}
+use Rattle.std.specs.List.{sum_by}
+use Rattle.std.specs.Prelude.{◌==◌}
+use Rattle.std.proofs.lemmas.Bool.{cases_eq, cases_lt, eq-eqb, ne_eqb}
+use Rattle.std.proofs.lemmas.Option.{slice_get_within}
+use Rattle.gr_model.specs.declared.event.EventId.{EventId}
+use Rattle.gr_model.specs.declared.event.ItemId.{ItemId}
+use Rattle.gr_model.specs.Reports.{IsHeld}
+use Rattle.gr_model.specs.Shapes.{HasItem, items_of}
+use Rattle.gr_model.specs.Streams.{size_of, trace_of}
+use Rattle.gr_clocks.specs.declared.clock.TheConstants.{LARGEST_COUNT}
+use Rattle.gr_clocks.specs.Counts.{Counts, count_of, tick_at}
+use Rattle.gr_clocks.specs.Tables.{item_of}
+use Rattle.gr_steps.specs.Steps.{IsAtRest, IsReady}
+use Rattle.gr_steps.proofs.HeldEvents.{held_at_rest}
+use Rattle.gr_steps.proofs.NextEvents.{ready_is_next}
+use Rattle.gr_steps.proofs.Resting.{rest_grounded}
+use Rattle.gr_order.specs.Sequences.{Sequence}
+use Rattle.gr_order.specs.States.{IsState}
+use Rattle.gr_order.proofs.StateLemmas.{item_cases, item_there, tick_here, tick_there}
+use Rattle.gr_order.proofs.SumLemmas.{group_more, item_more, items_at_most}
+use Rattle.gr_order.proofs.TakenLemmas.{events_most, taken_events, trace_most}
+
+module _ (q : Sequence) (frontier : Counts) (held room : ℕ) (state : IsState q frontier held room) where
+  abbrev traces : ItemId → ℕ
+  traces i = length (trace_of q.taken i)
+
+  abbrev counts : ItemId → ℕ
+  counts i = count_of frontier i
+
+  -- no more events of an item are handled than were taken
+  taken_first : (i : ItemId) → counts i ≤ traces i
+  taken_first i = ⊎_elim (λ over. absurd (past over)) (λ le. le) (cases_lt (traces i) (counts i))
+    where
+      past : traces i < counts i → ⊥
+      past over =
+          let e : EventId = record { at = i; index = traces i } in
+          let there = (state.first e).1 over in
+          let event = (state.sequence.lawful.event there.0 e there.1).0 in
+          let within : traces i < traces i = slice_get_within (trace_of q.taken i) (traces i) event.0 event.1 in
+          omega arith
+
+  held_sum : held ≡ sum_by (λ i. traces i - counts i) (items_of q.taken.sizes)
+  held_sum =
+      let sum = items_at_most counts traces q.taken.sizes (λ i there. taken_first i) in
+      let taken = taken_events q.taken state.sequence.fronts in
+      let handled = state.counts in
+      let rest = state.rest in omega arith
+
+  pub held_most : held ≤ 1073741824
+  held_most = let most = events_most q.taken state.sequence.fronts in let rest = state.rest in omega arith
+
+  -- where no step is left, the held events are those that are not grounded
+  pub held_at : IsAtRest q.taken q.handled → IsHeld q.taken held
+  held_at rest = subst (IsHeld q.taken) (sym held_sum) (held_at_rest q.taken q.handled state.sequence.lawful (rest_grounded q.taken q.handled state.sequence.lawful rest) counts state.first)
+
+  -- n events more that were taken are held
+  are_held : (more : ItemId → ℕ) (n : ℕ) → ((i : ItemId) → HasItem q.taken.sizes i → more i ≤ traces i) → sum_by more (items_of q.taken.sizes) ≡ sum_by counts (items_of q.taken.sizes) + n → (n ≤ held) × (length q.handled + n ≤ room)
+  are_held more n within sum =
+      let most = items_at_most more traces q.taken.sizes within in
+      let taken = taken_events q.taken state.sequence.fronts in
+      let handled = state.counts in
+      let rest = state.rest in
+      let all = state.fits in (omega arith, omega arith)
+
+  -- an event that is ready
+  module _ (e : EventId) (ready : IsReady q.taken q.handled e) where
+    index_is : e.index ≡ counts e.at
+    index_is = ready_is_next q.taken q.handled state.sequence.lawful counts state.first e ready
+
+    is_taken : e.index < traces e.at
+    is_taken = slice_get_within (trace_of q.taken e.at) e.index ready.event.0 ready.event.1
+
+    ready_item : HasItem q.taken.sizes e.at
+    ready_item = item_there q frontier held room state e ready
+
+    pub ready_can_count : count_of frontier e.at ≢ LARGEST_COUNT
+    ready_can_count full =
+        let most = trace_most q.taken state.sequence.fronts e.at ready_item.0 in
+        let index = index_is in
+        let taken = is_taken in omega arith
+
+    pub ready_is_held : (1 ≤ held) × (length q.handled + 1 ≤ room)
+    ready_is_held =
+        are_held (λ j. counts j + tick_at e.at j) 1
+        (λ j has. ⊎_elim
+        (λ (here : e.at ≡ j). subst (λ (i : ItemId). counts i + tick_at e.at i ≤ traces i) here (let one = tick_here e.at e.at refl in let index = index_is in let taken = is_taken in omega arith))
+        (λ (apart : e.at ≡ j → ⊥). let none = tick_there e.at j apart in let first = taken_first j in omega arith)
+        (item_cases e.at j))
+        (item_more counts (λ j. counts j + tick_at e.at j) q.taken.sizes e.at ready_item
+        (let one = tick_here e.at e.at refl in omega arith)
+        (λ j apart. let none = tick_there e.at j apart in omega arith))
+
+  -- the next events of a group
+  module _ (g : ℕ) (there : g < length q.taken.sizes) (next : (k : ℕ) → k < size_of q.taken g → counts (item_of g k) < traces (item_of g k)) where
+    abbrev one_of : ItemId → ℕ
+    one_of j = cond (j.group == g) 1 0
+
+    one_here : (j : ItemId) → j.group ≡ g → one_of j ≡ 1
+    one_here j here = ap (λ (b : Bool). cond b 1 0) (eq-eqb j.group g here)
+
+    none_there : (j : ItemId) → (j.group ≡ g → ⊥) → one_of j ≡ 0
+    none_there j apart = ap (λ (b : Bool). cond b 1 0) (ne_eqb j.group g apart)
+
+    is_next : (j : ItemId) → HasItem q.taken.sizes j → j.group ≡ g → counts j < traces j
+    is_next j has here =
+        let same : item_of g j.item ≡ j = λ d. record { group = sym here d; item = j.item } in
+        subst (λ (i : ItemId). counts i < traces i) same (next j.item (subst (λ (n : ℕ). j.item < size_of q.taken n) here has.1))
+
+    pub group_is_held : (size_of q.taken g ≤ held) × (length q.handled + size_of q.taken g ≤ room)
+    group_is_held =
+        are_held (λ j. counts j + one_of j) (size_of q.taken g)
+        (λ j has. ⊎_elim
+        (λ (here : j.group ≡ g). let one = one_here j here in let taken = is_next j has here in omega arith)
+        (λ (apart : j.group ≡ g → ⊥). let none = none_there j apart in let first = taken_first j in omega arith)
+        (cases_eq j.group g))
+        (group_more counts (λ j. counts j + one_of j) q.taken.sizes g there
+        (λ k lt. let one = one_here (item_of g k) refl in omega arith)
+        (λ j apart. let none = none_there j apart in omega arith))

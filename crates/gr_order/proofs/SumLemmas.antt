@@ -1,0 +1,119 @@
+-- Sums over the items of a shape, and over the lists of groups.
+use Rattle.std.proofs.Common.{◌≡◌, ℕ, zero, suc, ◌+◌, ◌-◌, ◌<◌, ◌≤◌, List, [], ◌∷◌, length, map, get_or, refl, sym, ap, ◌∙◌, subst, ⊎_elim, arith}
+use Rattle.std.specs.List.{flat_map, range_with_len, sum_by}
+use Rattle.std.proofs.lemmas.Bool.{cases_eq}
+use Rattle.std.proofs.lemmas.List.Concat.{flat_map-cons}
+use Rattle.std.proofs.lemmas.List.FromFn.{fill_by_all}
+use Rattle.std.proofs.lemmas.List.Sums.{sum_by-append, sum_by-cons}
+use Rattle.gr_model.specs.declared.event.ItemId.{ItemId}
+use Rattle.gr_model.specs.Shapes.{HasItem, items_of}
+use Rattle.gr_clocks.specs.Tables.{item_of}
+
+-- the sum of n numbers, from the one at a on
+abbrev pub total : (ℕ → ℕ) → ℕ → ℕ → ℕ
+total f a zero = 0
+total f a (suc n) = f a + total f (a + 1) n
+
+-- ---- lists
+
+sum_range : (h : ℕ → ℕ) (a n : ℕ) → sum_by h (range_with_len a n) ≡ total h a n
+sum_range h a zero = refl
+sum_range h a (suc n) = sum_by-cons h a (range_with_len (a + 1) n) ∙ ap (λ (t : ℕ). h a + t) (sum_range h (a + 1) n)
+
+sum_map : {X : Type 0} (h : X → ℕ) (f : ℕ → X) (a n : ℕ) → sum_by h (map f (range_with_len a n)) ≡ total (λ k. h (f k)) a n
+sum_map h f a zero = refl
+sum_map h f a (suc n) = sum_by-cons h (f a) (map f (range_with_len (a + 1) n)) ∙ ap (λ (t : ℕ). h (f a) + t) (sum_map h f (a + 1) n)
+
+sum_flat : {X Y : Type 0} (h : Y → ℕ) (f : X → List Y) (xs : List X) → sum_by h (flat_map f xs) ≡ sum_by (λ x. sum_by h (f x)) xs
+sum_flat h f [] = refl
+sum_flat {X} {Y} h f (x ∷ xs) =
+    ap (λ (l : List Y). sum_by h l) (flat_map-cons f x xs)
+    ∙ (sum_by-append h (f x) (flat_map f xs) ∙ (ap (λ (t : ℕ). sum_by h (f x) + t) (sum_flat h f xs) ∙ sym (sum_by-cons (λ (y : X). sum_by h (f y)) x xs)))
+
+-- a sum over a list is one over its places
+pub sum_places : {X : Type 0} (h : X → ℕ) (xs : List X) (d : X) → sum_by h xs ≡ total (λ k. h (get_or xs k d)) 0 (length xs)
+sum_places {X} h xs d = ap (λ (l : List X). sum_by h l) (fill_by_all (λ k. get_or xs k d) xs (length xs) d refl (λ k lt. refl)) ∙ sum_map h (λ k. get_or xs k d) 0 (length xs)
+
+-- ---- totals
+
+pub total_same : (f h : ℕ → ℕ) (a n : ℕ) → ((k : ℕ) → a ≤ k → k < a + n → h k ≡ f k) → total h a n ≡ total f a n
+total_same f h a zero same = refl
+total_same f h a (suc n) same =
+    let first = same a (omega arith) (omega arith) in
+    let rest = total_same f h (a + 1) n (λ k ge lt. same k (omega arith) (omega arith)) in omega arith
+
+-- one of the numbers is greater by c
+pub total_more : (f h : ℕ → ℕ) (m c a n : ℕ) → h m ≡ f m + c → ((k : ℕ) → (k ≡ m → ⊥) → h k ≡ f k) → a ≤ m → m < a + n → total h a n ≡ total f a n + c
+total_more f h m c a zero more same ge lt = absurd (omega arith)
+total_more f h m c a (suc n) more same ge lt = ⊎_elim
+    (λ (here : a ≡ m).
+    let first : h a ≡ f a + c = subst (λ (k : ℕ). h k ≡ f k + c) (sym here) more in
+    let rest = total_same f h (a + 1) n (λ k past below. same k (λ is. omega arith)) in omega arith)
+    (λ (apart : a ≡ m → ⊥).
+    let first = same a apart in
+    let rest = total_more f h m c (a + 1) n more same (omega arith) (omega arith) in omega arith)
+    (cases_eq a m)
+
+-- each of them is greater by one
+pub total_each : (f h : ℕ → ℕ) (a n : ℕ) → ((k : ℕ) → a ≤ k → k < a + n → h k ≡ f k + 1) → total h a n ≡ total f a n + n
+total_each f h a zero more = omega arith
+total_each f h a (suc n) more =
+    let first = more a (omega arith) (omega arith) in
+    let rest = total_each f h (a + 1) n (λ k ge lt. more k (omega arith) (omega arith)) in omega arith
+
+-- ---- the items of a shape
+
+-- the sum over the items of a group
+abbrev pub group_sum : (ItemId → ℕ) → List ℕ → ℕ → ℕ
+group_sum h sizes g = total (λ k. h (item_of g k)) 0 (get_or sizes g 0)
+
+pub items_sum : (h : ItemId → ℕ) (sizes : List ℕ) → sum_by h (items_of sizes) ≡ total (group_sum h sizes) 0 (length sizes)
+items_sum h sizes =
+    let f : ℕ → List ItemId = λ g. map (λ k. item_of g k) (range_with_len 0 (get_or sizes g 0)) in
+    sum_flat h f (range_with_len 0 (length sizes))
+    ∙ (sum_range (λ g. sum_by h (f g)) 0 (length sizes) ∙ total_same (group_sum h sizes) (λ g. sum_by h (f g)) 0 (length sizes) (λ g ge lt. sum_map h (λ k. item_of g k) 0 (get_or sizes g 0)))
+
+module _ (f h : ItemId → ℕ) (sizes : List ℕ) where
+  pub items_same : ((i : ItemId) → HasItem sizes i → h i ≡ f i) → sum_by h (items_of sizes) ≡ sum_by f (items_of sizes)
+  items_same same =
+      items_sum h sizes
+      ∙ (total_same (group_sum f sizes) (group_sum h sizes) 0 (length sizes) (λ g ge within. total_same (λ k. f (item_of g k)) (λ k. h (item_of g k)) 0 (get_or sizes g 0) (λ k from lt. same (item_of g k) (omega arith, omega arith)))
+      ∙ sym (items_sum f sizes))
+
+  -- the items of one group count more
+  more_in : (g c : ℕ) → g < length sizes → group_sum h sizes g ≡ group_sum f sizes g + c → ((j : ItemId) → (j.group ≡ g → ⊥) → h j ≡ f j) → sum_by h (items_of sizes) ≡ sum_by f (items_of sizes) + c
+  more_in g c there more same =
+      let groups = total_more (group_sum f sizes) (group_sum h sizes) g c 0 (length sizes) more (λ k apart. total_same (λ n. f (item_of k n)) (λ n. h (item_of k n)) 0 (get_or sizes k 0) (λ n from lt. same (item_of k n) apart)) (omega arith) (omega arith) in
+      let mine = items_sum h sizes in
+      let others = items_sum f sizes in omega arith
+
+  -- each by one
+  pub group_more : (g : ℕ) → g < length sizes → ((k : ℕ) → k < get_or sizes g 0 → h (item_of g k) ≡ f (item_of g k) + 1) → ((j : ItemId) → (j.group ≡ g → ⊥) → h j ≡ f j) → sum_by h (items_of sizes) ≡ sum_by f (items_of sizes) + get_or sizes g 0
+  group_more g there more same = more_in g (get_or sizes g 0) there (total_each (λ k. f (item_of g k)) (λ k. h (item_of g k)) 0 (get_or sizes g 0) (λ k from lt. more k (omega arith))) same
+
+  -- or one item
+  pub item_more : (i : ItemId) → HasItem sizes i → h i ≡ f i + 1 → ((j : ItemId) → (i ≡ j → ⊥) → h j ≡ f j) → sum_by h (items_of sizes) ≡ sum_by f (items_of sizes) + 1
+  item_more i there more same =
+      more_in i.group 1 there.0
+      (total_more (λ k. f (item_of i.group k)) (λ k. h (item_of i.group k)) i.item 1 0 (get_or sizes i.group 0) more (λ k apart. same (item_of i.group k) (λ is. apart (ap (λ (j : ItemId). j.item) (sym is)))) (omega arith) (omega (arith, there.1)))
+      (λ j apart. same j (λ is. apart (ap (λ (x : ItemId). x.group) (sym is))))
+
+-- ---- sums of sums
+
+pub sum_add : {X : Type 0} (f h : X → ℕ) (xs : List X) → sum_by (λ x. f x + h x) xs ≡ sum_by f xs + sum_by h xs
+sum_add f h [] = refl
+sum_add f h (x ∷ xs) =
+    let rest = sum_add f h xs in
+    let both = sum_by-cons (λ y. f y + h y) x xs in
+    let first = sum_by-cons f x xs in
+    let second = sum_by-cons h x xs in omega arith
+
+pub sum_none : {X : Type 0} (f : X → ℕ) (xs : List X) → ((x : X) → f x ≡ 0) → sum_by f xs ≡ 0
+sum_none f [] none = refl
+sum_none f (x ∷ xs) none = let rest = sum_none f xs none in let here = none x in let first = sum_by-cons f x xs in omega arith
+
+-- what is at most so much at each item is in all at most so much
+pub items_at_most : (f h : ItemId → ℕ) (sizes : List ℕ) → ((i : ItemId) → HasItem sizes i → f i ≤ h i) → sum_by (λ i. h i - f i) (items_of sizes) + sum_by f (items_of sizes) ≡ sum_by h (items_of sizes)
+items_at_most f h sizes most =
+    sym (sum_add (λ i. h i - f i) f (items_of sizes))
+    ∙ items_same h (λ i. (h i - f i) + f i) sizes (λ i there. let le = most i there in omega arith)

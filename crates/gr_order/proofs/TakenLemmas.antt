@@ -1,0 +1,107 @@
+-- How many events were taken: of each item, of each group, and in all.
+use Rattle.std.proofs.Common.{◌≡◌, ℕ, zero, suc, ◌+◌, ◌*◌, ◌<◌, ◌≤◌, Bool, true, false, not, ◌&&◌, cond, List, [], ◌∷◌, ◌++◌, length, filter, map, Some, slice_get, refl, sym, ap, ◌∙◌, arith}
+use Rattle.std.specs.Int.{from_bool}
+use Rattle.std.specs.List.{sum_by}
+use Rattle.std.proofs.lemmas.Bool.{eq-eqb, ne_eqb}
+use Rattle.std.proofs.lemmas.List.{length-append}
+use Rattle.std.proofs.lemmas.List.Elements.{filter-append}
+use Rattle.std.proofs.lemmas.List.Sums.{count_by-le-length, length-filter, sum_by-cons, sum_by-set}
+use Rattle.gr_model.specs.declared.event.Event.{Event}
+use Rattle.gr_model.specs.declared.event.ItemId.{ItemId}
+use Rattle.gr_model.specs.declared.limits.TheConstants.{MOST_GROUPS, MOST_RECORDS}
+use Rattle.gr_model.specs.Events.{is_end}
+use Rattle.gr_model.specs.Shapes.{items_of}
+use Rattle.gr_model.specs.Streams.{AreFronts, Streams, is_of, list_of, size_of, trace_of}
+use Rattle.gr_lanes.specs.Takes.{CanTake, nothing_taken, with_record}
+use Rattle.gr_order.specs.Sequences.{events_of}
+use Rattle.gr_order.proofs.SumLemmas.{group_sum, items_sum, sum_places, total, total_more, total_same}
+
+-- how many events a list has, ends aside
+abbrev pub events_in : List Event → ℕ
+events_in list = length (filter (λ x. not (is_end x)) list)
+
+abbrev pub one_if : Bool → ℕ
+one_if b = from_bool b
+
+pub one_at_most : (b : Bool) → one_if b ≤ 1
+one_at_most true = omega arith
+one_at_most false = omega arith
+
+filter_one : (test : Event → Bool) (x : Event) (list : List Event) → length (filter test (x ∷ list)) ≡ one_if (test x) + length (filter test list)
+filter_one test x list = elim (test x) as (λ b. length (cond b (x ∷ filter test list) (filter test list)) ≡ one_if b + length (filter test list)) [
+  | true ↦ omega arith
+  | false ↦ omega arith
+]
+
+-- an event is one of its item alone, and an end of none
+of_other : (x : Event) (i : ℕ) → (i ≡ x.item → ⊥) → one_if (is_of i x) ≡ 0
+of_other x i apart = ap (λ (b : Bool). one_if (b && not (is_end x))) (ne_eqb x.item i (λ same. apart (sym same)))
+
+of_item : (x : Event) → one_if (is_of x.item x) ≡ one_if (not (is_end x))
+of_item x = ap (λ (b : Bool). one_if (b && not (is_end x))) (eq-eqb x.item x.item refl)
+
+-- the events of a group are those of its items
+abbrev AreWithin : ℕ → List Event → Type 0
+AreWithin n list = (p : ℕ) (x : Event) → slice_get list p ≡ Some x → x.item < n
+
+pub group_events : (n : ℕ) (list : List Event) → AreWithin n list → total (λ i. length (filter (is_of i) list)) 0 n ≡ events_in list
+group_events n [] within = none 0 n
+  where
+    none : (a n : ℕ) → total (λ i. 0) a n ≡ 0
+    none a zero = refl
+    none a (suc n) = let rest = none (a + 1) n in omega arith
+group_events n (x ∷ list) within =
+    let rest = group_events n list (λ p y at. within (suc p) y at) in
+    let more : total (λ i. length (filter (is_of i) (x ∷ list))) 0 n ≡ total (λ i. length (filter (is_of i) list)) 0 n + one_if (not (is_end x)) =
+    total_more (λ i. length (filter (is_of i) list)) (λ i. length (filter (is_of i) (x ∷ list))) x.item (one_if (not (is_end x))) 0 n
+    (let here = filter_one (is_of x.item) x list in let of = of_item x in omega arith)
+    (λ i apart. let here = filter_one (is_of i) x list in let of = of_other x i apart in omega arith)
+    (omega arith) (let first = within 0 x refl in omega arith) in
+    let one = filter_one (λ y. not (is_end y)) x list in omega arith
+
+-- so the events that were taken are those of all items
+pub taken_events : (s : Streams) → AreFronts s → sum_by (λ i. length (trace_of s i)) (items_of s.sizes) ≡ events_of s
+taken_events s fronts =
+    let groups = total_same (λ g. events_in (list_of s g)) (group_sum (λ i. length (trace_of s i)) s.sizes) 0 (length s.sizes) (λ g from there.
+    group_events (size_of s g) (list_of s g) (λ p x at. ((fronts.each g (omega arith)).good p x at).0.0)) in
+    let lists : events_of s ≡ total (λ g. events_in (list_of s g)) 0 (length s.sizes) = sum_places events_in s.lists [] ∙ ap (λ (n : ℕ). total (λ g. events_in (list_of s g)) 0 n) fronts.count in
+    let items = items_sum (λ i. length (trace_of s i)) s.sizes in omega arith
+
+-- one record more
+pub events_more : (s : Streams) (g : ℕ) (x : Event) → AreFronts s → CanTake s g x → events_of (with_record s g x) ≡ events_of s + one_if (not (is_end x))
+events_more s g x fronts can =
+    let grown : events_in (list_of s g ++ x ∷ []) ≡ events_in (list_of s g) + one_if (not (is_end x)) =
+    ap (λ (l : List Event). length l) (filter-append (λ y. not (is_end y)) (list_of s g) (x ∷ [])) ∙ (length-append (filter (λ y. not (is_end y)) (list_of s g)) (filter (λ y. not (is_end y)) (x ∷ [])) ∙ last) in
+    let there : g < length s.lists = omega (arith, fronts.count, can.group) in
+    let sum = sum_by-set events_in s.lists g (list_of s g ++ x ∷ []) [] there in omega arith
+  where
+    last : events_in (list_of s g) + length (filter (λ y. not (is_end y)) (x ∷ [])) ≡ events_in (list_of s g) + one_if (not (is_end x))
+    last = let one = filter_one (λ y. not (is_end y)) x [] in omega arith
+
+pub no_events : (sizes : List ℕ) → events_of (nothing_taken sizes) ≡ 0
+no_events [] = refl
+no_events (n ∷ sizes) = let rest = no_events sizes in let one = sum_by-cons events_in [] (map (λ m. []) sizes) in omega arith
+
+-- ---- how many they can be
+
+total_most : (f : ℕ → ℕ) (a n : ℕ) → ((k : ℕ) → a ≤ k → k < a + n → f k ≤ 16777216) → total f a n ≤ n * 16777216
+total_most f a zero most = omega arith
+total_most f a (suc n) most =
+    let first = most a (omega arith) (omega arith) in
+    let rest = total_most f (a + 1) n (λ k from lt. most k (omega arith) (omega arith)) in omega arith
+
+few_in : {X : Type 0} (test : X → Bool) (list : List X) → length (filter test list) ≤ length list
+few_in test list = let part = length-filter test list in let most = count_by-le-length test list in omega arith
+
+pub trace_most : (s : Streams) → AreFronts s → (i : ItemId) → i.group < length s.sizes → length (trace_of s i) ≤ 16777216
+trace_most s fronts i there =
+    let few : length (list_of s i.group) ≤ MOST_RECORDS = (fronts.each i.group there).few in
+    let part = few_in (is_of i.item) (list_of s i.group) in omega arith
+
+pub events_most : (s : Streams) → AreFronts s → events_of s ≤ 1073741824
+events_most s fronts =
+    let lists : events_of s ≡ total (λ g. events_in (list_of s g)) 0 (length s.sizes) = sum_places events_in s.lists [] ∙ ap (λ (n : ℕ). total (λ g. events_in (list_of s g)) 0 n) fronts.count in
+    let most = total_most (λ g. events_in (list_of s g)) 0 (length s.sizes) (λ g from there.
+    let few : length (list_of s g) ≤ MOST_RECORDS = (fronts.each g (omega arith)).few in
+    let part = few_in (λ x. not (is_end x)) (list_of s g) in omega arith) in
+    let groups : length s.sizes ≤ MOST_GROUPS = fronts.shape.groups in omega arith

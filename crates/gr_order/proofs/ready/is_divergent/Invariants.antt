@@ -1,7 +1,0 @@
-use Rattle.std.proofs.Common.{ℕ, ◌<◌}
-use Rattle.gr_model.specs.Barriers.{mark_of}
-use Rattle.gr_order.specs.Readiness.{IsParted}
-use Rattle.gr_order.proofs.ready.is_divergent.Given as goal
-
-abbrev pub invariant-loop-item : goal.invariant-loop-item
-invariant-loop-item g l = (i : ℕ) → i < l.item → IsParted l.lanes l.group l.number (mark_of l.mine) i → ⊥

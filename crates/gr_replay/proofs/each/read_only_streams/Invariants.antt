@@ -1,0 +1,8 @@
+use Rattle.std.proofs.Common.{◌≡◌, drop}
+use Rattle.gr_replay.specs.Each.{each_at, each_of, inputs_of}
+use Rattle.gr_replay.specs.Joined.{flats}
+use Rattle.gr_replay.specs.Laws.{AreStreams}
+use Rattle.gr_replay.proofs.each.read_only_streams.Given as goal
+
+abbrev pub invariant-loop-input : goal.invariant-loop-input
+invariant-loop-input g l = record { so_far : each_at (flats l.streams.items) (drop l.input-index (inputs_of l.inputs)) ≡ each_of (inputs_of l.inputs); good : AreStreams (flats l.streams.items) }

@@ -1,0 +1,29 @@
+-- What a sequencer is given of a launch, and what is found of the accesses that it answers.
+-- Source: docs/MODEL.md, "Steps" and "Hits".
+use Rattle.std.specs.Prelude.{ℕ, List, [], ◌∷◌, Some, slice_set}
+use Rattle.gr_model.specs.declared.event.Event.{Event}
+use Rattle.gr_model.specs.Streams.{Streams}
+use Rattle.gr_order.specs.Sequences.{Sequence}
+use Rattle.gr_shadow.specs.Clashes.{ClockedAccess, clocked}
+use Rattle.gr_shadow.specs.Kept.{Kept}
+use Rattle.gr_shadow.specs.StandsFor.{StandsFor}
+use Rattle.gr_sequencer.specs.declared.handled.Handled.{Handled}
+use Rattle.gr_sequencer.specs.declared.handled.Handled.TheVariants.{One}
+use Rattle.gr_hits.specs.Accesses.{AreAccesses}
+
+-- all of a launch was taken, and nothing was handled
+abbrev pub all_taken : Streams → Sequence
+all_taken s = record { taken = s; handled = [] }
+
+-- the same with this list of a group
+abbrev pub with_list : Sequence → ℕ → List Event → Sequence
+with_list q g list = record { taken = record { sizes = q.taken.sizes; lists = slice_set q.taken.lists g list }; handled = q.handled }
+
+-- the accesses of a step: one at most
+abbrev pub accesses_of : {Z : Type 0} → Handled Z → List ClockedAccess
+accesses_of (One e (Some a)) = clocked a ∷ []
+accesses_of _ = []
+
+-- shadows stand for the accesses of the handled events
+abbrev pub AreShadowsOf : Sequence → Kept → Type 0
+AreShadowsOf q kept = (accesses : List ClockedAccess) × AreAccesses q.taken q.handled accesses × StandsFor accesses kept

@@ -1,0 +1,102 @@
+//! The streams of a launch that come from a reader each.
+
+ghost use Rattle.std.specs.Prelude.{◌≡◌, ◌≢◌, ◌++◌, ◌∷◌, [], IfErr, IfOk, IfSome, OnOk, map};
+ghost use Rattle.gr_record.specs.declared.fault.Fault.TheVariants as faults;
+ghost use Rattle.gr_replay.specs.Each.{AreRead, IsEachFault, ReadsEach, all_known, each_of, inputs_of, only_stream_at};
+ghost use Rattle.gr_input.specs.Faults.{Gives, IsOutside};
+ghost use Rattle.gr_replay.specs.Joined.{flat, flats};
+ghost use Rattle.gr_replay.specs.Laws.{AreStreams};
+
+use crate::joined::{Stream, keep, read_stream};
+use crate::launch::traces_of;
+use gr_input::read_all;
+use gr_model::memory::Memory;
+use gr_model::traces::Traces;
+use gr_record::error::RecordError;
+use gr_record::fault::Fault;
+use std::alloc::Allocator;
+use std::io::Read;
+
+/// Keeps the bytes of one more reader.
+fn keep_input<A: Allocator>(
+    inputs: &mut Vec<Vec<u8, A>, A>,
+    input: Vec<u8, A>,
+) -> Result<(), Memory>
+    ensures { OnOk result (inputs.new.items ≡ inputs.old.items ++ input ∷ []) }
+{
+    inputs.push(input)?;
+    Ok(())
+}
+
+/// Reads each reader to its end.
+///
+/// # Errors
+/// `Read` and `Memory`, as they are met.
+fn read_inputs<A: Allocator + Copy, T: Read + Drop>(
+    alloc: A,
+    readers: Vec<T, A>,
+) -> Result<Vec<Vec<u8, A>, A>, Fault>
+    ensures bytes { IfOk result (λ v. AreRead (map T.remaining readers.items) (inputs_of v.items)) }
+    ensures faults { IfErr result IsOutside }
+{
+    let mut inputs = Vec::new(alloc);
+    for reader in readers {
+        let mut reader = reader;
+        let input = read_all(alloc, &mut reader)?;
+        keep_input(&mut inputs, input)?;
+    }
+    Ok(inputs)
+}
+
+/// The stream that the bytes are, behind these streams.
+fn read_only_stream<A: Allocator>(
+    alloc: A,
+    streams: &[Stream<A>],
+    bytes: &[u8],
+) -> Result<Stream<A>, Fault>
+    ensures exact { Gives flat result (only_stream_at (flats streams.now) bytes.now) }
+    ensures good { AreStreams (flats streams.now) → IfOk result (λ s. AreStreams (flats streams.now ++ flat s ∷ [])) }
+    ensures reading { IfErr result (λ f. f ≢ faults.Write) }
+{
+    let (stream, rest) = read_stream(alloc, streams, bytes)?;
+    if rest.is_empty() {
+        Ok(stream)
+    } else {
+        Err(Fault::Stream(streams.len() as u64, RecordError::AfterEnd))
+    }
+}
+
+/// The streams of these inputs, one in each, in their order.
+fn read_only_streams<A: Allocator + Copy>(
+    alloc: A,
+    inputs: &[Vec<u8, A>],
+) -> Result<Vec<Stream<A>, A>, Fault>
+    ensures exact { Gives (λ v. flats v.items) result (each_of (inputs_of inputs.now)) }
+    ensures good { IfOk result (λ v. AreStreams (flats v.items)) }
+    ensures reading { IfErr result (λ f. f ≢ faults.Write) }
+{
+    let mut streams = Vec::new(alloc);
+    for input in inputs {
+        let stream = read_only_stream(alloc, streams.as_slice(), input.as_slice())?;
+        keep(&mut streams, stream)?;
+    }
+    Ok(streams)
+}
+
+/// Reads each reader to its end, and gives the traces of the launch whose streams they have, one each.
+///
+/// # Errors
+/// The first fault of the streams from the left, `AfterEnd` where bytes stand behind a stream's end; then
+/// `MissingGroup`, then `Shape`. `Read` where a reader fails, or gives no end within 4,294,967,296 calls; `Memory` where a
+/// list can't be made. These two can come before a fault of the streams.
+pub fn read_each<A: Allocator + Copy, T: Read + Drop>(
+    alloc: A,
+    readers: Vec<T, A>,
+) -> Result<Traces<A>, Fault>
+    ensures launch { IfOk result (λ t. IfSome (all_known (map T.remaining readers.items)) (λ inputs. ReadsEach inputs t)) }
+    ensures fault { IfErr result (λ f. IfSome (all_known (map T.remaining readers.items)) (λ inputs. IsEachFault inputs f)) }
+{
+    let inputs = read_inputs(alloc, readers)?;
+    let streams = read_only_streams(alloc, inputs.as_slice())?;
+    traces_of(alloc, streams)
+}

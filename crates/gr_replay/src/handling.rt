@@ -1,0 +1,53 @@
+//! All events that can be handled, and the words that are hit in their accesses.
+
+ghost use Rattle.std.specs.Prelude.{◌≡◌, ◌++◌, [], List, IfOk, OnOk};
+ghost use Rattle.gr_order.specs.Sequences.{IsDone, IsSequence};
+ghost use Rattle.gr_shadow.specs.Clashes.{ClockedAccess};
+ghost use Rattle.gr_shadow.specs.StandsFor.{StandsFor};
+ghost use Rattle.gr_replay.specs.Sequencing.{accesses_of, AreShadowsOf};
+
+use gr_model::memory::Memory;
+use gr_sequencer::handled::Handled;
+use gr_sequencer::sequencer::Sequencer;
+use gr_shadow::shadows::Shadows;
+use std::alloc::Allocator;
+
+/// Gives shadows the access of a step, if it has one.
+///
+/// # Errors
+/// `Memory`.
+fn shade<A: Allocator + Copy>(shadows: &mut Shadows<A>, step: Handled<A>) -> Result<(), Memory>
+    ensures { (accesses : List ClockedAccess) → StandsFor accesses shadows.old → OnOk result (StandsFor (accesses ++ accesses_of step) shadows.new) }
+{
+    match step {
+        Handled::One {
+            event: _,
+            access: Some(access),
+        } => {
+            shadows.apply(&access)?;
+            Ok(())
+        }
+        _ => Ok(()),
+    }
+}
+
+/// Handles all events that can be handled, and gives the shadows of their accesses.
+///
+/// # Errors
+/// `Memory`.
+pub(crate) fn handle_all<A: Allocator + Copy>(
+    alloc: A,
+    sequencer: &mut Sequencer<A>,
+) -> Result<Shadows<A>, Memory>
+    requires { sequencer.old.handled ≡ [] }
+    ensures taken { OnOk result (sequencer.new.taken ≡ sequencer.old.taken) }
+    ensures done { OnOk result (IsDone sequencer.new) }
+    ensures sequence { OnOk result (IsSequence sequencer.new) }
+    ensures shadows { IfOk result (λ shadows. AreShadowsOf sequencer.new shadows) }
+{
+    let mut shadows = Shadows::new(alloc);
+    while let Some(step) = sequencer.step()? {
+        shade(&mut shadows, step)?;
+    }
+    Ok(shadows)
+}

@@ -1,0 +1,196 @@
+//! Streams that come from a reader each: which launch they are, and which fault is told of those that are refused.
+
+use crate::bytes::*;
+use crate::ends::FailingReader;
+use gr_model::memory::Memory;
+use gr_model::shape::ShapeError;
+use gr_record::error::RecordError;
+use gr_record::fault::Fault;
+use gr_replay::{read_each, read_joined};
+use refusing::Refusing;
+use std::alloc::{AllocError, Allocator, Global};
+use std::test::Fail;
+
+/// A row: its name, the pieces of each input, and the fault that is due.
+type Case = (&'static str, &'static [&'static [&'static [u8]]], Fault);
+
+const CASES: [Case; 11] = [
+    ("no reader", &[], Fault::Shape(ShapeError::NoGroups)),
+    (
+        "an input of nothing",
+        &[&[]],
+        Fault::Stream(0, RecordError::Truncated),
+    ),
+    (
+        "no end",
+        &[&[&HEADER_0_1, &END], &[&HEADER_1_1, &READ_0]],
+        Fault::Stream(1, RecordError::Truncated),
+    ),
+    (
+        "a byte behind the end",
+        &[&[&HEADER_0_2, &WRITE_0, &READ_1, &END, &[0]]],
+        Fault::Stream(0, RecordError::AfterEnd),
+    ),
+    (
+        "two streams in one input",
+        &[&[&HEADER_0_1, &END, &HEADER_1_1, &END]],
+        Fault::Stream(0, RecordError::AfterEnd),
+    ),
+    (
+        "a byte behind the end before the next input's header",
+        &[&[&HEADER_0_1, &END, &[0]], &[&HEADER_0_2, &END]],
+        Fault::Stream(0, RecordError::AfterEnd),
+    ),
+    (
+        "one group twice",
+        &[&[&HEADER_0_1, &END], &[&HEADER_0_2, &END]],
+        Fault::SameGroup(1),
+    ),
+    (
+        "two launches, before a bad record",
+        &[&[&HEADER_0_1, &END], &[&HEADER_1_1_LAUNCH_8, &BAD_KIND]],
+        Fault::OtherLaunch(1),
+    ),
+    (
+        "a bad record before the next input's header",
+        &[&[&HEADER_0_1, &BAD_KIND, &END], &[&HEADER_0_1, &END]],
+        Fault::Stream(0, RecordError::BadKind),
+    ),
+    (
+        "an item that the group lacks",
+        &[&[&HEADER_0_1, &END], &[&HEADER_1_1, &READ_1, &END]],
+        Fault::Stream(1, RecordError::UnknownItem),
+    ),
+    (
+        "a group that is missing",
+        &[&[&HEADER_2_1, &END], &[&HEADER_0_1, &END]],
+        Fault::MissingGroup(1),
+    ),
+];
+
+/// The bytes of each input.
+fn inputs_of(alloc: Global, inputs: &[&[&[u8]]]) -> Result<Vec<Vec<u8>>, AllocError> {
+    let mut all = Vec::new(alloc);
+    for pieces in inputs {
+        all.push(joined(alloc, pieces)?)?;
+    }
+    Ok(all)
+}
+
+/// A reader of each input.
+fn readers_of<'a, A: Allocator>(
+    alloc: A,
+    inputs: &'a [Vec<u8>],
+) -> Result<Vec<&'a [u8], A>, AllocError> {
+    let mut readers = Vec::new(alloc);
+    for input in inputs {
+        readers.push(input.as_slice())?;
+    }
+    Ok(readers)
+}
+
+#[test]
+fn the_first_fault_of_the_inputs_is_told(rt: HostRuntime) -> Result<(), Fail> {
+    for (name, inputs, fault) in CASES {
+        let inputs = inputs_of(rt.alloc(), inputs)?;
+        let readers = readers_of(rt.alloc(), inputs.as_slice())?;
+        let answer = read_each(rt.alloc(), readers);
+        assert!(rt; answer.err() == Some(fault), "{name}");
+    }
+    Ok(())
+}
+
+/// A barrier and an acquire that names a release, in the order of their groups and in the other.
+const LAUNCHES: [&[&[&[u8]]]; 2] = [
+    &[
+        &[&HEADER_0_1, &BARRIER_0_SITE_1_BOTH, &END],
+        &[&HEADER_1_1, &LOAD_0_20_DEVICE_FROM_0_0_0, &END_CUT],
+    ],
+    &[
+        &[&HEADER_1_1, &LOAD_0_20_DEVICE_FROM_0_0_0, &END_CUT],
+        &[&HEADER_0_1, &BARRIER_0_SITE_1_BOTH, &END],
+    ],
+];
+
+#[test]
+fn inputs_give_what_they_give_joined(rt: HostRuntime) -> Result<(), Fail> {
+    let whole = joined(
+        rt.alloc(),
+        &[
+            &HEADER_0_1,
+            &BARRIER_0_SITE_1_BOTH,
+            &END,
+            &HEADER_1_1,
+            &LOAD_0_20_DEVICE_FROM_0_0_0,
+            &END_CUT,
+        ],
+    )?;
+    let Ok(due) = read_joined(rt.alloc(), &mut whole.as_slice()) else {
+        return Err("the joined streams are a launch")?;
+    };
+    for inputs in LAUNCHES {
+        let inputs = inputs_of(rt.alloc(), inputs)?;
+        let readers = readers_of(rt.alloc(), inputs.as_slice())?;
+        let Ok(traces) = read_each(rt.alloc(), readers) else {
+            return Err("the inputs are a launch")?;
+        };
+        assert_eq!(rt; traces.shape().groups(), 2);
+        assert_eq!(rt; due.shape().groups(), 2);
+        for group in 0..2 {
+            assert!(rt; traces.list(group) == due.list(group), "group {group}");
+            assert_eq!(rt; traces.list(group).len(), 2);
+        }
+    }
+    Ok(())
+}
+
+#[test]
+fn a_reader_that_fails_comes_before_a_fault(rt: HostRuntime) -> Result<(), Fail> {
+    for calls in 0..33 {
+        let mut readers = Vec::new(rt.alloc());
+        readers.push(FailingReader {
+            bytes: &BAD_KIND,
+            calls: 21,
+        })?;
+        readers.push(FailingReader { bytes: &END, calls })?;
+        let answer = read_each(rt.alloc(), readers);
+        let due = if calls < 21 {
+            Fault::Read
+        } else {
+            Fault::Stream(0, RecordError::BadMagic)
+        };
+        assert!(rt; answer.err() == Some(due), "after {calls} calls");
+    }
+    Ok(())
+}
+
+/// How many records the launch has, or that memory ran out.
+fn records_of<A: Allocator + Copy>(alloc: A, inputs: &[Vec<u8>]) -> Result<usize, Memory> {
+    let readers = readers_of(alloc, inputs)?;
+    match read_each(alloc, readers) {
+        Ok(traces) if traces.shape().groups() == 2 => {
+            Ok(traces.list(0).len() + 10 * traces.list(1).len())
+        }
+        Ok(_) => Ok(0),
+        Err(Fault::Memory) => Err(Memory),
+        Err(_) => Ok(0),
+    }
+}
+
+#[test]
+fn each_refused_growth_of_reading_is_want_of_memory(rt: HostRuntime) -> Result<(), Fail> {
+    let inputs = inputs_of(rt.alloc(), LAUNCHES[1])?;
+    for at in 0..1_000_u64 {
+        let heap = Refusing::new(rt.alloc(), at);
+        let answer = records_of(&heap, inputs.as_slice());
+        assert!(rt;
+            answer == Ok(22) || (answer == Err(Memory) && heap.refused()),
+            "the growth numbered {at}"
+        );
+        if !heap.refused() {
+            assert!(rt; at > 4, "some growths were refused");
+            return Ok(());
+        }
+    }
+    Err("a growth was refused each time")?
+}

@@ -1,0 +1,31 @@
+use Rattle.std.proofs.Common.{◌≡◌, List, [], ◌∷◌, ◌++◌, Some, IsTrue, sym, ap, ◌∙◌, subst}
+use Rattle.gr_model.specs.declared.event.Event.{Event}
+use Rattle.gr_model.specs.declared.event.EventId.{EventId}
+use Rattle.gr_model.specs.Access.{is_release}
+use Rattle.gr_model.specs.Streams.{event_at}
+use Rattle.gr_sequencer.specs.Known.{AreLeft, IsKnown, IsLeftBy, IsNext, left_at}
+use Rattle.gr_sequencer.proofs.EventSteps.{left_longer}
+use Rattle.gr_sequencer.proofs.sequencer.Sequencer.handle.Goals as goal
+
+pub invariant_of-self-2 : goal.invariant_of-self-2
+invariant_of-self-2 g c =
+    let q = c.self.inside.order in
+    let s = q.taken in
+    let e = c.in-Some.event in
+    let known = c.self.inside.known in
+    let kept = c.keep.new.self in
+    let now = c.advance.new.self in
+    let longer : List EventId = q.handled ++ e ∷ [] in
+    let next : IsNext s q.handled known e = record {
+      fronts = c.in-Some.ensures.sequence.fronts;
+      lawful = c.in-Some.ensures.sequence.lawful;
+      follows = c.self.invariant;
+      ready = c.in-Some.ensures.next.1;
+    } in
+    let there : event_at s e ≡ Some c.in-Some-event_at.taken = ap (λ t. event_at t e) (sym c.lanes.ensures.taken) ∙ sym c.event_at.ensures ∙ c.in-Some-event_at.is in
+    let own : (x : Event) → event_at s e ≡ Some x → IsTrue (is_release x) → IsLeftBy s e (left_at kept.left e) = λ x at releases.
+    let same : x ≡ c.in-Some-event_at.taken = let both : Some x ≡ Some c.in-Some-event_at.taken = sym at ∙ there in cc in
+    c.in_ok-keep.ensures.kept (subst (λ y. IsTrue (is_release y)) same releases) in
+    let left = subst (AreLeft s longer) (sym c.advance.ensures.left) (left_longer s q.handled known e next kept.left c.keep.ensures.others own) in
+    let step = c.add.ensures.step in
+    subst (λ t. IsKnown t c.add.new.self.handled now) (sym step.taken) (subst (λ l. IsKnown s l now) (sym step.handles.order) (record { clocks = c.advance.ensures.clocks; left = left }))

@@ -1,0 +1,22 @@
+-- What a sequencer answers of a step.
+-- Source: docs/MODEL.md, "Steps".
+use Rattle.std.specs.Prelude.{◌≡◌, ℕ}
+use Rattle.gr_model.specs.declared.event.ItemId.{ItemId}
+use Rattle.gr_order.specs.Sequences.{Sequence, HandlesEvent, MeetsInstance}
+use Rattle.gr_closure.specs.Accesses.{IsAccessOf}
+use Rattle.gr_sequencer.specs.declared.handled.Handled.{Handled}
+use Rattle.gr_sequencer.specs.declared.handled.Handled.TheVariants.{One, Meet}
+
+-- the step leads from old to new: an event was handled, whose access is answered with it, or an instance has met
+abbrev pub IsStep : {Z : Type 0} → Sequence → Sequence → Handled Z → Type 0
+IsStep old new (One e access) = HandlesEvent old e new × IsAccessOf new.taken e access
+IsStep old new (Meet g k) = MeetsInstance old g k new
+
+-- the step is of this item, or of this group
+abbrev pub IsOfItem : {Z : Type 0} → ItemId → Handled Z → Type 0
+IsOfItem i (One e access) = e.at ≡ i
+IsOfItem i (Meet g k) = ⊥
+
+abbrev pub IsOfGroup : {Z : Type 0} → ℕ → Handled Z → Type 0
+IsOfGroup g (One e access) = ⊥
+IsOfGroup g (Meet h k) = h ≡ g

@@ -1,0 +1,82 @@
+-- What clocks and what releases left say of the events that were handled.
+-- Source: docs/MODEL.md, "Clocks".
+use Rattle.std.specs.Prelude.{◌≡◌, ◌≢◌, ◌⊎◌, Bool, List, Option, Some, None, IsTrue, map, length}
+use Rattle.std.specs.Map.{lookup}
+use Rattle.gr_model.specs.declared.event.Space.{Space}
+use Rattle.gr_model.specs.declared.event.ItemId.{ItemId}
+use Rattle.gr_model.specs.declared.event.EventId.{EventId}
+use Rattle.gr_model.specs.declared.event.Event.{Event}
+use Rattle.gr_model.specs.contracts.event.EventIdPartialEq.TheImpl as equality
+use Rattle.gr_model.specs.Access.{is_release, memory_of}
+use Rattle.gr_model.specs.Counts.{IsSeen}
+use Rattle.gr_model.specs.LawfulOrders.{IsIn, IsLawful}
+use Rattle.gr_model.specs.Shapes.{HasItem}
+use Rattle.gr_model.specs.Streams.{Streams, AreFronts, event_at, word_at}
+use Rattle.gr_steps.specs.Steps.{IsReady}
+use Rattle.gr_clocks.specs.Counts.{sizes_of}
+use Rattle.gr_clocks.specs.ItemClocks.{ItemClocks, ReleaseClock, clock_in, clocks_in}
+use Rattle.gr_closure.specs.Accesses.{CountsJust}
+use Rattle.gr_closure.specs.Knowledge.{Knows, Learns}
+
+-- what events left
+abbrev pub Left : Type 0
+Left = List (EventId × ReleaseClock)
+
+abbrev pub same_event : EventId → EventId → Bool
+same_event e f = (equality.eq-value).it e f
+
+abbrev pub left_at : Left → EventId → Option ReleaseClock
+left_at left e = lookup (same_event e) left
+
+-- the clocks of the items, and what releases left
+pub record Known : Type 0 where
+  pub clocks : ItemClocks
+  pub left : Left
+
+-- each item's clock counts just what the item knows along the order
+pub record AreTrue (s : Streams) (order : List EventId) (clocks : ItemClocks) : Type 0 where
+  pub shape : clocks.sizes ≡ s.sizes
+  pub tables : (m : Space) → map length (clocks_in clocks m) ≡ s.sizes
+  pub counts : (m : Space) (i : ItemId) → HasItem s.sizes i → CountsJust (clock_in clocks m i) (Knows s m order i)
+
+-- what a release left has its word, and counts just what is seen at the release in the word's memory
+pub record IsLeft (s : Streams) (r : EventId) (left : ReleaseClock) : Type 0 where
+  pub word : word_at s r ≡ Some left.word
+  pub shape : sizes_of left.clock ≡ s.sizes
+  pub counts : CountsJust left.clock (IsSeen s (memory_of left.word) r)
+
+abbrev pub IsLeftBy : Streams → EventId → Option ReleaseClock → Type 0
+IsLeftBy s r None = ⊥
+IsLeftBy s r (Some left) = IsLeft s r left
+
+-- each release of the order left such a clock
+abbrev pub AreLeft : Streams → List EventId → Left → Type 0
+AreLeft s order left = (r : EventId) (x : Event) → IsIn order r → event_at s r ≡ Some x → IsTrue (is_release x) → IsLeftBy s r (left_at left r)
+
+pub record IsKnown (s : Streams) (order : List EventId) (known : Known) : Type 0 where
+  pub clocks : AreTrue s order known.clocks
+  pub left : AreLeft s order known.left
+
+-- ---- the next event
+
+-- an event may be handled behind a lawful order of which this is known
+pub record IsNext (s : Streams) (order : List EventId) (known : Known) (e : EventId) : Type 0 where
+  pub fronts : AreFronts s
+  pub lawful : IsLawful s order
+  pub follows : IsKnown s order known
+  pub ready : IsReady s order e
+
+-- d is known to the event's item, or the event learns of it
+abbrev pub IsGathered : Streams → List EventId → Space → EventId → EventId → Type 0
+IsGathered s order m e d = Knows s m order e.at d ⊎ Learns s m e d
+
+-- what an event learns from the release that it matches: it has the event's word, and counts just what is learned in the word's memory, where alone something is
+pub record IsLesson (s : Streams) (e : EventId) (left : ReleaseClock) : Type 0 where
+  pub word : word_at s e ≡ Some left.word
+  pub shape : sizes_of left.clock ≡ s.sizes
+  pub counts : CountsJust left.clock (Learns s (memory_of left.word) e)
+  pub others : (m : Space) (d : EventId) → m ≢ memory_of left.word → ¬ Learns s m e d
+
+-- the event learns nothing
+abbrev pub IsUntaught : Streams → EventId → Type 0
+IsUntaught s e = (m : Space) (d : EventId) → ¬ Learns s m e d

@@ -1,0 +1,21 @@
+//! A step that was made.
+
+use gr_clocks::access::Access;
+use gr_model::event::EventId;
+use std::alloc::{Allocator, Global};
+
+/// A step that was made.
+#[derive(Drop)]
+#[derive_where(Debug)]
+pub enum Handled<A: Allocator = Global> {
+    /// An event was handled. It has its access where it is one; a barrier of a divergent instance has none.
+    One {
+        event: EventId,
+        access: Option<Access<A>>,
+    },
+    /// The barriers of a convergent instance of a group were handled.
+    Meet {
+        group: u16,
+        instance: u32,
+    },
+}

@@ -1,0 +1,275 @@
+//! What the work-items know of the events that were handled: their clocks, and what each handled release left.
+
+ghost use Rattle.std.specs.Prelude.{◌≡◌, ◌≢◌, ◌<◌, ◌++◌, ◌∷◌, [], Some, IfOk, OnOk, IsTrue, MatchOption, is_some, length};
+ghost use Rattle.gr_model.specs.declared.event.EventId.{EventId as AnyEvent};
+ghost use Rattle.gr_model.specs.Access as model;
+ghost use Rattle.gr_model.specs.Barriers.{IsConvergent};
+ghost use Rattle.gr_model.specs.Instances.{Mark};
+ghost use Rattle.gr_model.specs.Streams.{event_at, word_at};
+ghost use Rattle.gr_model.specs.Counts.{IsSeen};
+ghost use Rattle.gr_steps.specs.Steps.{IsReady};
+ghost use Rattle.gr_clocks.specs.Counts.{sizes_of};
+ghost use Rattle.gr_clocks.specs.ItemClocks.{IsGroupSpent, IsMeetRoom, Meets};
+ghost use Rattle.gr_closure.specs.Accesses.{CountsJust, IsAccessOf};
+ghost use Rattle.gr_lanes.specs.Takes.{nothing_taken};
+ghost use Rattle.gr_sequencer.specs.Known.{AreLeft, AreTrue, IsGathered, IsKnown, IsLeftBy, IsLesson, IsNext, IsUntaught, left_at};
+
+use gr_clocks::access::Access;
+use gr_clocks::clock::Clock;
+use gr_clocks::clocks::{Clocks, MeetRoom, memory_of};
+use gr_clocks::snapshot::Snapshot;
+use gr_lanes::instance::barrier;
+use gr_model::event::{Event, EventId, ItemId, Kind, Word, word_of};
+use gr_model::memory::Memory;
+use gr_model::shape::Shape;
+use gr_order::order::Order;
+use gr_scopes::access::{inclusive, release_scope};
+use gr_scopes::class::class_of;
+use indexmap::IndexMap;
+use std::alloc::{Allocator, Global};
+use std::hash::{BuildHasherDefault, FoldHasher};
+use std::marker::Model;
+
+/// What releases left, by the event.
+type Left<A> = IndexMap<EventId, Snapshot<A>, BuildHasherDefault<FoldHasher>, A>;
+
+/// What the work-items know of the events that were handled: their clocks, and what each handled release left.
+#[derive(Drop)]
+#[derive_where(Debug)]
+pub(crate) struct Known<A: Allocator = Global> {
+    clocks: Clocks<A>,
+    left: Left<A>,
+}
+
+impl<A: Allocator> Model for Known<A> {
+    ghost use Rattle.gr_sequencer.specs.Known as spec;
+
+    ghost Value = { spec.Known };
+
+    ghost view = { λ k. record { clocks = k.clocks; left = k.left.entries } };
+}
+
+impl<A: Allocator + Copy> Known<A> {
+    /// What is known where nothing was handled.
+    pub(crate) fn new(alloc: A, shape: &Shape<A>) -> Result<Known<A>, Memory>
+        ensures { IfOk result (IsKnown (nothing_taken shape.now) []) }
+    {
+        let clocks = match Clocks::new(alloc, shape) {
+            Ok(clocks) => clocks,
+            Err(_) => return Err(Memory),
+        };
+        Ok(Known {
+            clocks,
+            left: IndexMap::new(alloc),
+        })
+    }
+}
+
+/// What the release that an event matches left, where the two are of inclusive scope.
+fn lesson<'a, A: Allocator>(
+    order: &Order<A>,
+    left: &'a Left<A>,
+    event: EventId,
+    taken: &Event,
+) -> Option<&'a Snapshot<A>>
+    requires there { event_at order.now.taken event ≡ Some taken.now }
+    requires left { AreLeft order.now.taken order.now.handled left.now.entries }
+    requires ready { IsReady order.now.taken order.now.handled event }
+    ensures { MatchOption result (IsUntaught order.now.taken event) (λ l. IsLesson order.now.taken event l.now) }
+{
+    let name = taken.name?;
+    let lanes = order.lanes();
+    let index = lanes.release_at(name)?;
+    let release = EventId { at: name.at, index };
+    let given = lanes.event_at(release)?;
+    if inclusive(&given.kind, release.at.group, &taken.kind, event.at.group) {
+        left.get(&release)
+    } else {
+        None
+    }
+}
+
+/// The memories that the barriers of a convergent instance flag: the global one, the local one.
+fn flags_of<A: Allocator>(order: &Order<A>, group: u16, instance: u32) -> (bool, bool)
+    requires { (a : Mark) × IsConvergent order.now.taken group instance a }
+    ensures { (a : Mark) → IsConvergent order.now.taken group instance a → (result.0 ≡ a.global) × (result.1 ≡ a.local) }
+{
+    match barrier(order.lanes(), ItemId { group, item: 0 }, instance) {
+        None => unreachable!(),
+        Some(barrier) => match barrier.kind {
+            Kind::Barrier { global, local } => (global, local),
+            _ => unreachable!(),
+        },
+    }
+}
+
+impl<A: Allocator> Known<A> {
+    /// What an event that may be handled next learns and what its item knows, in its word's memory, as a clock.
+    fn gathered(
+        &self,
+        order: &Order<A>,
+        event: EventId,
+        taken: &Event,
+        word: Word,
+    ) -> Result<Clock<A>, Memory>
+    where
+        A: Clone,
+        requires next { IsNext order.now.taken order.now.handled self.now event }
+        requires there { event_at order.now.taken event ≡ Some taken.now }
+        requires word { word_at order.now.taken event ≡ Some word }
+        ensures shape { IfOk result (λ c. sizes_of c ≡ order.now.taken.sizes) }
+        ensures counts { IfOk result (λ c. CountsJust c (IsGathered order.now.taken order.now.handled (model.memory_of word) event)) }
+    {
+        let mut clock = match self.clocks.clock_of(event.at, memory_of(word)).copy() {
+            Ok(clock) => clock,
+            Err(_) => return Err(Memory),
+        };
+        match lesson(order, &self.left, event, taken) {
+            None => Ok(clock),
+            Some(lesson) => match clock.join(lesson.clock()) {
+                Ok(()) => Ok(clock),
+                Err(_) => Err(Memory),
+            },
+        }
+    }
+
+    /// The clock in its word's memory of an event that may be handled next and is an access.
+    fn clock_of(
+        &self,
+        order: &Order<A>,
+        event: EventId,
+        taken: &Event,
+        word: Word,
+    ) -> Result<Clock<A>, Memory>
+    where
+        A: Clone,
+        requires next { IsNext order.now.taken order.now.handled self.now event }
+        requires there { event_at order.now.taken event ≡ Some taken.now }
+        requires word { word_at order.now.taken event ≡ Some word }
+        ensures shape { IfOk result (λ c. sizes_of c ≡ order.now.taken.sizes) }
+        ensures counts { IfOk result (λ c. CountsJust c (IsSeen order.now.taken (model.memory_of word) event)) }
+    {
+        let mut clock = self.gathered(order, event, taken, word)?;
+        match clock.tick(event.at) {
+            Ok(()) => Ok(clock),
+            Err(_) => unreachable!(),
+        }
+    }
+
+    /// The access of an event that may be handled next, or `None` where it is no access.
+    ///
+    /// # Errors
+    /// `Memory`.
+    pub(crate) fn access_of(
+        &self,
+        order: &Order<A>,
+        event: EventId,
+        taken: &Event,
+    ) -> Result<Option<Access<A>>, Memory>
+    where
+        A: Clone,
+        requires next { IsNext order.now.taken order.now.handled self.now event }
+        requires there { event_at order.now.taken event ≡ Some taken.now }
+        ensures { IfOk result (λ access. IsAccessOf order.now.taken event access) }
+    {
+        match (word_of(event.at.group, taken), class_of(&taken.kind)) {
+            (Some(word), Some(class)) => {
+                let clock = self.clock_of(order, event, taken, word)?;
+                Ok(Some(Access {
+                    word,
+                    item: event.at,
+                    index: event.index,
+                    class,
+                    clock,
+                }))
+            }
+            _ => Ok(None),
+        }
+    }
+
+    /// Keeps what an event leaves, where it is a release.
+    ///
+    /// # Errors
+    /// `Memory`. What is known is then as before.
+    pub(crate) fn keep(
+        &mut self,
+        order: &Order<A>,
+        event: EventId,
+        taken: &Event,
+        access: &Option<Access<A>>,
+    ) -> Result<(), Memory>
+    where
+        A: Clone,
+        requires there { event_at order.now.taken event ≡ Some taken.now }
+        requires access { IsAccessOf order.now.taken event access.now }
+        ensures clocks { self.new.clocks ≡ self.old.clocks }
+        ensures kept { OnOk result (IsTrue (model.is_release taken.now) → IsLeftBy order.now.taken event (left_at self.new.left event)) }
+        ensures others { (r : AnyEvent) → r ≢ event → left_at self.new.left r ≡ left_at self.old.left r }
+    {
+        match (release_scope(&taken.kind), access) {
+            (Some(scope), Some(access)) => {
+                let clock = match access.clock.copy() {
+                    Ok(clock) => clock,
+                    Err(_) => return Err(Memory),
+                };
+                let snapshot = Snapshot::new(access.word, scope, clock);
+                self.left.insert(event, snapshot)?;
+                Ok(())
+            }
+            _ => Ok(()),
+        }
+    }
+
+    /// Gives an event's item the clocks that it has behind the event, which may be handled next.
+    pub(crate) fn advance(&mut self, order: &Order<A>, event: EventId, taken: &Event)
+        requires next { IsNext order.now.taken order.now.handled self.old event }
+        requires there { event_at order.now.taken event ≡ Some taken.now }
+        ensures left { self.new.left ≡ self.old.left }
+        ensures clocks { AreTrue order.now.taken (order.now.handled ++ event ∷ []) self.new.clocks }
+    {
+        let answer = match lesson(order, &self.left, event, taken) {
+            None => self.clocks.access(event.at),
+            Some(lesson) => self.clocks.acquire(event.at, lesson),
+        };
+        match answer {
+            Ok(()) => {}
+            Err(_) => unreachable!(),
+        }
+    }
+
+    /// Room for a meeting of a convergent instance of a group.
+    ///
+    /// # Errors
+    /// `Memory`.
+    pub(crate) fn room(
+        &self,
+        order: &Order<A>,
+        group: u16,
+        instance: u32,
+    ) -> Result<MeetRoom<A>, Memory>
+    where
+        A: Clone,
+        requires shape { self.now.clocks.sizes ≡ order.now.taken.sizes }
+        requires group { group < length order.now.taken.sizes }
+        requires convergent { (a : Mark) × IsConvergent order.now.taken group instance a }
+        ensures room { IfOk result (λ r. IsMeetRoom self.now.clocks group r) }
+        ensures flags { IfOk result (λ r. (a : Mark) → IsConvergent order.now.taken group instance a → (is_some r.global ≡ a.global) × (is_some r.local ≡ a.local)) }
+    {
+        let (global, local) = flags_of(order, group, instance);
+        match self.clocks.room(group, global, local) {
+            Ok(room) => Ok(room),
+            Err(_) => Err(Memory),
+        }
+    }
+
+    /// Gives the items of a group the clocks that they have behind a meeting, for which there is room.
+    pub(crate) fn meet(&mut self, group: u16, room: MeetRoom<A>)
+        requires group { group < length self.old.clocks.sizes }
+        requires free { ¬ IsGroupSpent self.old.clocks group }
+        requires room { IsMeetRoom self.old.clocks group room }
+        ensures meets { Meets self.old.clocks group (is_some room.global) (is_some room.local) self.new.clocks }
+        ensures left { self.new.left ≡ self.old.left }
+    {
+        self.clocks.meet_in(group, room);
+    }
+}

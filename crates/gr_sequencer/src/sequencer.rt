@@ -1,0 +1,222 @@
+//! The sequencer.
+//!
+//! Invariant: each item's clock counts just what the item knows along the order of the handled events, and each handled
+//! release left such a clock.
+
+ghost use Rattle.std.specs.Prelude.{◌≡◌, ◌↔◌, ◌+◌, ◌<◌, ℕ, IsTrue, IfOk, IfErr, OnOk, OnErr, MatchOption, length};
+ghost use Rattle.gr_model.specs.declared.limits.TheConstants.{MOST_RECORDS};
+ghost use Rattle.gr_model.specs.Streams.{AreComplete, list_of};
+ghost use Rattle.gr_model.specs.Reports.{Lists, DivergenceBelow, IsDivergence, IsCut, IsHeld, IsUnmatchedAcquire, UnmatchedBelow};
+ghost use Rattle.gr_lanes.specs.Takes.{CanTake, IsEventButItem, IsTakeFault};
+ghost use Rattle.gr_steps.specs.Steps.{IsAtRest};
+ghost use Rattle.gr_order.specs.Sequences.{CanStep, IsDone, IsSequence, events_of, nothing, taking};
+ghost use Rattle.gr_order.specs.Answers.{IsHandleFault, IsMeetFault};
+ghost use Rattle.gr_sequencer.specs.Answers.{IsOfGroup, IsOfItem, IsStep};
+
+use crate::handled::Handled;
+use crate::known::Known;
+use gr_findings::{acquires, groups, instances};
+use gr_lanes::seq_error::SeqError;
+use gr_model::event::{Event, EventId, ItemId};
+use gr_model::memory::Memory;
+use gr_model::report::{Divergence, Unmatched};
+use gr_model::shape::Shape;
+use gr_order::go_error::GoError;
+use gr_order::order::Order;
+use gr_order::steps::Ready;
+use std::alloc::{Allocator, Global};
+use std::marker::Model;
+
+/// Takes the records of a launch and handles its events. Contracts see the lists that it took, and the events that it
+/// handled in their order.
+#[derive(Drop)]
+#[derive_where(Debug)]
+pub struct Sequencer<A: Allocator = Global> {
+    #[derive_where(skip)]
+    alloc: A,
+    order: Order<A>,
+    known: Known<A>,
+}
+
+impl<A: Allocator> Model for Sequencer<A> {
+    ghost use Rattle.gr_order.specs.Sequences.{Sequence};
+    ghost use Rattle.gr_sequencer.specs.Known.{IsKnown};
+
+    ghost Value = { Sequence };
+
+    ghost view = { λ s. s.order };
+
+    ghost invariant = { λ s. IsKnown s.order.taken s.order.handled s.known };
+}
+
+impl<A: Allocator + Copy> Sequencer<A> {
+    /// A sequencer of a launch of this shape, of which nothing was taken.
+    ///
+    /// # Errors
+    /// `Memory`.
+    pub fn new(alloc: A, shape: Shape<A>) -> Result<Sequencer<A>, Memory>
+        ensures { IfOk result (λ s. s ≡ nothing shape) }
+    {
+        let known = Known::new(alloc, &shape)?;
+        let order = Order::new(alloc, shape)?;
+        Ok(Sequencer {
+            alloc,
+            order,
+            known,
+        })
+    }
+
+    /// The divergent instances with their causes, by group and then by instance.
+    ///
+    /// # Errors
+    /// `Memory`.
+    pub fn divergences(&self) -> Result<Vec<Divergence, A>, Memory>
+        ensures { IfOk result (λ v. Lists DivergenceBelow (IsDivergence self.now.taken) v.items) }
+    {
+        instances::divergences(self.alloc, self.order.lanes())
+    }
+
+    /// The groups whose streams were cut, ascending.
+    ///
+    /// # Errors
+    /// `Memory`.
+    pub fn cut(&self) -> Result<Vec<u16, A>, Memory>
+        ensures { IfOk result (λ v. Lists (λ (g h : ℕ). g < h) (IsCut self.now.taken) v.items) }
+    {
+        groups::cut(self.alloc, self.order.lanes())
+    }
+
+    /// The unmatched acquires with their causes, by item and then by index. The sequencer is at its end.
+    ///
+    /// # Errors
+    /// `Memory`.
+    pub fn unmatched(&self) -> Result<Vec<Unmatched, A>, Memory>
+        requires rest { IsAtRest self.now.taken self.now.handled }
+        ensures { IfOk result (λ v. Lists UnmatchedBelow (IsUnmatchedAcquire self.now.taken) v.items) }
+    {
+        acquires::unmatched(self.alloc, self.order.lanes(), self.order.frontier())
+    }
+}
+
+impl<A: Allocator> Sequencer<A> {
+    /// Takes the next record of a group. It is one that some group may have, whatever its item.
+    ///
+    /// # Errors
+    /// The first of `UnknownGroup`, `AfterEnd` with the group, `UnknownItem` and `Memory` that is there. Nothing is then
+    /// taken.
+    pub fn take(&mut self, group: u16, event: Event) -> Result<(), SeqError>
+        requires good { IsEventButItem event }
+        requires room { length (list_of self.old.taken group) < MOST_RECORDS }
+        ensures ok { OnOk result (CanTake self.old.taken group event × (self.new ≡ taking self.old group event)) }
+        ensures err { IfErr result (λ e. IsTakeFault self.old.taken group event e) }
+        ensures unchanged { OnErr result (self.new ≡ self.old) }
+        ensures sequence { IsSequence self.new }
+    {
+        let _taken = self.order.lanes();
+        self.order.take(group, event)
+    }
+
+    /// How many records were taken of a group; 0 of one that is not there.
+    pub fn taken(&self, group: u16) -> u32
+        ensures { result ≡ length (list_of self.now.taken group) }
+    {
+        self.order.taken(group)
+    }
+
+    /// Handles an item's next event, where all that it waits for was handled and it is no barrier of a convergent or
+    /// waiting instance.
+    ///
+    /// # Errors
+    /// `NotReady`, and else `Memory`. Nothing is then handled.
+    pub fn handle(&mut self, item: ItemId) -> Result<Handled<A>, GoError>
+    where
+        A: Clone,
+        ensures step { IfOk result (λ h. IsStep self.old self.new h) }
+        ensures item { IfOk result (λ h. IsOfItem item h) }
+        ensures err { IfErr result (λ e. IsHandleFault self.old item e) }
+        ensures unchanged { OnErr result (self.new ≡ self.old) }
+        ensures sequence { IsSequence self.new }
+    {
+        let event = match self.order.next(item) {
+            None => return Err(GoError::NotReady),
+            Some(event) => event,
+        };
+        let taken = match self.order.lanes().event_at(event) {
+            None => unreachable!(),
+            Some(taken) => taken,
+        };
+        let access = self.known.access_of(&self.order, event, &taken)?;
+        self.known.keep(&self.order, event, &taken, &access)?;
+        self.known.advance(&self.order, event, &taken);
+        self.order.add(event);
+        Ok(Handled::One { event, access })
+    }
+
+    /// Handles the barriers of a group's least convergent instance that was not handled, where the event before each of
+    /// them was.
+    ///
+    /// # Errors
+    /// `NotReady`, and else `Memory`. Nothing is then handled.
+    pub fn meet(&mut self, group: u16) -> Result<Handled<A>, GoError>
+    where
+        A: Clone,
+        ensures step { IfOk result (λ h. IsStep self.old self.new h) }
+        ensures group { IfOk result (λ h. IsOfGroup group h) }
+        ensures err { IfErr result (λ e. IsMeetFault self.old group e) }
+        ensures unchanged { OnErr result (self.new ≡ self.old) }
+        ensures sequence { IsSequence self.new }
+    {
+        let instance = match self.order.meeting(group) {
+            None => return Err(GoError::NotReady),
+            Some(instance) => instance,
+        };
+        let room = self.known.room(&self.order, group, instance)?;
+        self.order.pass(group);
+        self.known.meet(group, room);
+        Ok(Handled::Meet { group, instance })
+    }
+
+    /// Makes any one step that is ready, or none where none is: the handled events are then the grounded ones.
+    ///
+    /// # Errors
+    /// `Memory`, where some step is ready. Nothing is then handled.
+    pub fn step(&mut self) -> Result<Option<Handled<A>>, Memory>
+    where
+        A: Clone,
+        ensures some { IfOk result (λ o. MatchOption o (self.new ≡ self.old) (λ h. IsStep self.old self.new h)) }
+        ensures none { IfOk result (λ o. MatchOption o (IsDone self.old) (λ h. CanStep self.old)) }
+        ensures err { OnErr result (CanStep self.old) }
+        ensures unchanged { OnErr result (self.new ≡ self.old) }
+        ensures sequence { IsSequence self.new }
+    {
+        let made = match self.order.ready() {
+            None => return Ok(None),
+            Some(Ready::Item(item)) => self.handle(item),
+            Some(Ready::Group(group)) => self.meet(group),
+        };
+        match made {
+            Ok(handled) => Ok(Some(handled)),
+            Err(error) => match error {
+                GoError::Memory => Err(Memory),
+                GoError::NotReady => unreachable!(),
+            },
+        }
+    }
+
+    /// Whether every group's end was taken and no step is left. The handled events are then the grounded ones.
+    pub fn at_end(&self) -> bool
+        ensures ended { IsTrue result ↔ (AreComplete self.now.taken × IsAtRest self.now.taken self.now.handled) }
+        ensures done { IsTrue result → IsDone self.now }
+        ensures sequence { IsSequence self.now }
+    {
+        self.order.is_at_end()
+    }
+
+    /// How many events were taken and not handled. Where no step is left, these are the events that are not grounded.
+    pub fn held(&self) -> u64
+        ensures count { result + length self.now.handled ≡ events_of self.now.taken }
+        ensures held { IsAtRest self.now.taken self.now.handled → IsHeld self.now.taken result }
+    {
+        self.order.held()
+    }
+}

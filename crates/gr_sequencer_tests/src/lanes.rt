@@ -1,0 +1,157 @@
+//! The worked rows by the lanes, and by the order in which events are handled, each with each growth refused in turn. Where
+//! memory ran out, nothing is to have changed, and the second try is judged.
+
+use crate::calls::{is_lawful, shape_of};
+use crate::rows::{ROWS, Record, Row, event_of};
+use gr_lanes::lanes::Lanes;
+use gr_lanes::seq_error::SeqError;
+use gr_model::memory::Memory;
+use gr_order::order::Order;
+use gr_order::steps::Ready;
+use refusing::Refusing;
+use std::alloc::{Allocator, Global};
+
+/// How many records were taken of each of three groups, and whether their ends were.
+fn state<A: Allocator>(lanes: &Lanes<A>) -> ([u32; 3], [bool; 3]) {
+    (
+        [lanes.taken(0), lanes.taken(1), lanes.taken(2)],
+        [
+            lanes.is_complete(0),
+            lanes.is_complete(1),
+            lanes.is_complete(2),
+        ],
+    )
+}
+
+fn new_lanes<A: Allocator + Copy>(alloc: A, sizes: &[u16]) -> Result<Lanes<A>, Memory> {
+    let shape = shape_of(alloc, sizes)?;
+    Lanes::new(alloc, shape)
+}
+
+fn lanes_take<A: Allocator>(lanes: &mut Lanes<A>, record: &Record) -> Result<(), SeqError> {
+    let event = event_of(record);
+    if is_lawful(&event) && lanes.taken(record.0) < 16_777_216 {
+        lanes.take(record.0, event)
+    } else {
+        Err(SeqError::Memory)
+    }
+}
+
+/// Takes a record, tried twice.
+fn take_in_lanes<A: Allocator>(lanes: &mut Lanes<A>, record: &Record) -> Option<()> {
+    let before = state(lanes);
+    let answer = lanes_take(lanes, record);
+    if answer != Err(SeqError::Memory) {
+        return answer.ok();
+    }
+    if state(lanes) != before || lanes.refusal(record.0, &event_of(record)).is_some() {
+        return None;
+    }
+    lanes_take(lanes, record).ok()
+}
+
+fn take_all_in_lanes<A: Allocator>(lanes: &mut Lanes<A>, records: &[Record]) -> Option<()> {
+    for record in records {
+        take_in_lanes(lanes, record)?;
+    }
+    Some(())
+}
+
+/// Whether the lanes have so many records as the row, and its first group is cut or not as it says.
+fn are_rows_lanes<A: Allocator + Copy>(alloc: A, row: &Row) -> Option<bool> {
+    let (_, sizes, records, told) = row;
+    let mut lanes = match new_lanes(alloc, sizes) {
+        Ok(lanes) => lanes,
+        Err(_) => new_lanes(alloc, sizes).ok()?,
+    };
+    take_all_in_lanes(&mut lanes, records)?;
+    let ([first, second, third], _) = state(&lanes);
+    let all = u64::from(first) + u64::from(second) + u64::from(third);
+    Some(all == records.len() as u64 && lanes.is_cut(0) == (told.2[0] == Some(0)))
+}
+
+fn new_order<A: Allocator + Copy>(alloc: A, sizes: &[u16]) -> Result<Order<A>, Memory> {
+    let shape = shape_of(alloc, sizes)?;
+    Order::new(alloc, shape)
+}
+
+fn order_take<A: Allocator>(order: &mut Order<A>, record: &Record) -> Result<(), SeqError> {
+    let event = event_of(record);
+    if is_lawful(&event) && order.taken(record.0) < 16_777_216 {
+        order.take(record.0, event)
+    } else {
+        Err(SeqError::Memory)
+    }
+}
+
+/// Takes a record, tried twice.
+fn take_in_order<A: Allocator>(order: &mut Order<A>, record: &Record) -> Option<()> {
+    let before = (state(order.lanes()), order.held(), order.is_at_end());
+    let answer = order_take(order, record);
+    if answer != Err(SeqError::Memory) {
+        return answer.ok();
+    }
+    if (state(order.lanes()), order.held(), order.is_at_end()) != before {
+        return None;
+    }
+    order_take(order, record).ok()
+}
+
+fn take_all_in_order<A: Allocator>(order: &mut Order<A>, records: &[Record]) -> Option<()> {
+    for record in records {
+        take_in_order(order, record)?;
+    }
+    Some(())
+}
+
+/// Makes steps until none is ready.
+fn rest<A: Allocator>(order: &mut Order<A>) -> Option<()> {
+    for _time in 0..100_u32 {
+        match order.ready() {
+            None => return Some(()),
+            Some(Ready::Item(item)) => {
+                let _event = order.handle(item).ok()?;
+            }
+            Some(Ready::Group(group)) => {
+                let _instance = order.meet(group).ok()?;
+            }
+        }
+    }
+    None
+}
+
+/// Whether the order comes to the row's end and holds so many events as the row says.
+fn is_rows_order<A: Allocator + Copy>(alloc: A, row: &Row) -> Option<bool> {
+    let (_, sizes, records, told) = row;
+    let mut order = match new_order(alloc, sizes) {
+        Ok(order) => order,
+        Err(_) => new_order(alloc, sizes).ok()?,
+    };
+    take_all_in_order(&mut order, records)?;
+    rest(&mut order)?;
+    Some(order.is_at_end() && order.held() == told.3)
+}
+
+/// Refuses each growth in turn, until none is refused; the number of one where the answers are wrong, if there is one.
+fn first_wrong_growth(alloc: Global, row: &Row) -> Option<u64> {
+    for at in 0..1_000_u64 {
+        let first = Refusing::new(alloc, at);
+        let second = Refusing::new(alloc, at);
+        let lanes = are_rows_lanes(&first, row);
+        let order = is_rows_order(&second, row);
+        if lanes != Some(true) || order != Some(true) {
+            return Some(at);
+        }
+        if !first.refused() && !second.refused() {
+            return if at > 4 { None } else { Some(at) };
+        }
+    }
+    Some(1_000)
+}
+
+#[test]
+fn rows_are_taken_and_ordered_whatever_growth_is_refused(rt: HostRuntime) {
+    for row in ROWS.iter() {
+        assert_eq!(rt; first_wrong_growth(rt.alloc(), row), None, "{}", row.0);
+    }
+}

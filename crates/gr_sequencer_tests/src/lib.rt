@@ -1,0 +1,16 @@
+//! Tests alone: the worked rows of launches, by the sequencer and by the crates under it, also with each growth refused in
+//! turn.
+#![tactic(auto)]
+
+#[cfg(test)]
+mod calls;
+#[cfg(test)]
+mod lanes;
+#[cfg(test)]
+mod rows;
+#[cfg(test)]
+mod sequencers;
+#[cfg(test)]
+mod told;
+#[cfg(test)]
+mod waits;

@@ -1,0 +1,104 @@
+//! The worked rows by the sequencer, each with each growth refused in turn: the steps are made once all records were taken,
+//! or behind each record, by `step` or by the calls that it stands for.
+
+use crate::calls::{handle, meet, new, step, take};
+use crate::rows::{ROWS, Row, Told, event_of};
+use crate::told::told;
+use gr_model::event::ItemId;
+use gr_sequencer::sequencer::Sequencer;
+use refusing::Refusing;
+use std::alloc::{Allocator, Global};
+use std::test::Fail;
+
+/// How the steps are made.
+#[derive(Clone, Copy, Debug, PartialEq, Eq)]
+enum Way {
+    /// By `step`, once all records were taken.
+    Last,
+    /// By `step`, behind each record.
+    AtOnce,
+    /// By `handle` and `meet`, once all records were taken.
+    ByCalls,
+}
+
+/// Steps until none is left.
+fn rest<A: Allocator + Copy>(sequencer: &mut Sequencer<A>) -> Option<()> {
+    for _time in 0..100_u32 {
+        if step(sequencer)?.is_none() {
+            return Some(());
+        }
+    }
+    None
+}
+
+/// Takes all records of a row.
+fn take_all<A: Allocator + Copy>(sequencer: &mut Sequencer<A>, row: &Row, way: Way) -> Option<()> {
+    let (_, _, records, _) = row;
+    for record in records.iter() {
+        if take(sequencer, record.0, event_of(record))? != Ok(()) {
+            return None;
+        }
+        if way == Way::AtOnce {
+            rest(sequencer)?;
+        }
+    }
+    Some(())
+}
+
+/// Tries the next event of each of a group's items, and its next meeting.
+fn go_round<A: Allocator + Copy>(sequencer: &mut Sequencer<A>, group: u16) -> Option<()> {
+    for item in 0..4_u16 {
+        let _made = handle(sequencer, ItemId { group, item })?;
+    }
+    let _met = meet(sequencer, group)?;
+    Some(())
+}
+
+/// So many rounds over three groups: more than any row has records.
+fn go_rounds<A: Allocator + Copy>(sequencer: &mut Sequencer<A>) -> Option<()> {
+    for _time in 0..11_u32 {
+        go_round(sequencer, 2)?;
+        go_round(sequencer, 1)?;
+        go_round(sequencer, 0)?;
+    }
+    Some(())
+}
+
+/// What a row tells at its end.
+fn told_of<A: Allocator + Copy>(alloc: A, row: &Row, way: Way) -> Option<Told> {
+    let mut sequencer = new(alloc, row.1)?;
+    take_all(&mut sequencer, row, way)?;
+    match way {
+        Way::Last | Way::AtOnce => rest(&mut sequencer)?,
+        Way::ByCalls => go_rounds(&mut sequencer)?,
+    }
+    told(&sequencer)
+}
+
+/// Refuses each growth in turn, until none is refused; the number of one where the row's answer is wrong, if there is one.
+fn first_wrong_growth(alloc: Global, row: &Row, way: Way) -> Option<u64> {
+    for at in 0..1_000_u64 {
+        let heap = Refusing::new(alloc, at);
+        if told_of(&heap, row, way) != Some(row.3) {
+            return Some(at);
+        }
+        if !heap.refused() {
+            return if at > 4 { None } else { Some(at) };
+        }
+    }
+    Some(1_000)
+}
+
+#[test]
+fn rows_are_told_whatever_growth_is_refused(rt: HostRuntime) {
+    for row in ROWS.iter() {
+        for way in [Way::Last, Way::AtOnce, Way::ByCalls] {
+            assert_eq!(rt;
+                first_wrong_growth(rt.alloc(), row, way),
+                None,
+                "{}, {way:?}",
+                row.0
+            );
+        }
+    }
+}

@@ -1,0 +1,102 @@
+//! An acquire waits until the release that it names was handled.
+
+use crate::calls::{handle, new, step, take};
+use crate::rows::{ACQUIRE, END, FIRST_0_0, NOTHING, READ, RELEASE, Told, event_of};
+use crate::told::told;
+use gr_lanes::seq_error::SeqError;
+use gr_model::event::{Event, EventId, ItemId, Space};
+use gr_sequencer::handled::Handled;
+use gr_sequencer::sequencer::Sequencer;
+use refusing::Refusing;
+use std::alloc::Allocator;
+use std::test::Fail;
+
+fn acquire() -> Event {
+    event_of(&(1, 0, ACQUIRE, Space::Global, 20, FIRST_0_0))
+}
+
+fn release() -> Event {
+    event_of(&(0, 0, RELEASE, Space::Global, 20, None))
+}
+
+fn end() -> Event {
+    event_of(&(0, 0, END, Space::Global, 0, None))
+}
+
+/// The event that was handled, if one was.
+fn handled<A: Allocator>(step: &Option<Handled<A>>) -> Option<EventId> {
+    match step {
+        Some(Handled::One { event, access: _ }) => Some(*event),
+        _ => None,
+    }
+}
+
+/// Whether no step is made.
+fn waits<A: Allocator + Copy>(sequencer: &mut Sequencer<A>) -> Option<bool> {
+    Some(step(sequencer)?.is_none())
+}
+
+/// What the row shows: whether no step was made before anything was taken, behind the acquire, by a call for the acquire's
+/// item, and behind all; the events that the two steps behind the release handled; and what was told at the end.
+type Seen = ([bool; 4], [Option<EventId>; 2], Option<Told>);
+
+fn acquire_before_its_release<A: Allocator + Copy>(sequencer: &mut Sequencer<A>) -> Option<Seen> {
+    let item = ItemId { group: 1, item: 0 };
+    let first = waits(sequencer)?;
+    let _taken = take(sequencer, 1, acquire())?.ok()?;
+    let second = waits(sequencer)?;
+    let third = handle(sequencer, item)?.is_none();
+    let _released = take(sequencer, 0, release())?.ok()?;
+    let one = handled(&step(sequencer)?);
+    let two = handled(&step(sequencer)?);
+    let fourth = waits(sequencer)?;
+    let before = told(sequencer);
+    let _first_end = take(sequencer, 0, end())?.ok()?;
+    let _second_end = take(sequencer, 1, end())?.ok()?;
+    if before.is_some() {
+        return None;
+    }
+    Some(([first, second, third, fourth], [one, two], told(sequencer)))
+}
+
+/// What is answered to a record of an item that is not there, to one behind an end, and to one of a group that is not there.
+type Refusals = [Result<(), SeqError>; 3];
+
+fn seen<A: Allocator + Copy>(alloc: A) -> Option<(Seen, Refusals)> {
+    let mut sequencer = new(alloc, &[1, 1])?;
+    let nobody = take(
+        &mut sequencer,
+        1,
+        event_of(&(1, 1, READ, Space::Global, 16, None)),
+    )?;
+    let seen = acquire_before_its_release(&mut sequencer)?;
+    let behind = take(&mut sequencer, 0, release())?;
+    let nowhere = take(&mut sequencer, 2, release())?;
+    Some((seen, [nobody, behind, nowhere]))
+}
+
+fn first_of(group: u16) -> Option<EventId> {
+    let at = ItemId { group, item: 0 };
+    Some(EventId { at, index: 0 })
+}
+
+#[test]
+fn an_acquire_waits_for_its_release(rt: HostRuntime) -> Result<(), Fail> {
+    for at in 0..1_000_u64 {
+        let heap = Refusing::new(rt.alloc(), at);
+        let want = (
+            ([true; 4], [first_of(0), first_of(1)], Some(NOTHING)),
+            [
+                Err(SeqError::UnknownItem),
+                Err(SeqError::AfterEnd(0)),
+                Err(SeqError::UnknownGroup),
+            ],
+        );
+        assert_eq!(rt; seen(&heap), Some(want), "growth {at} refused");
+        if !heap.refused() {
+            assert!(rt; at > 4, "few growths were refused");
+            return Ok(());
+        }
+    }
+    Err("a growth was refused each time")?
+}

@@ -1,0 +1,7 @@
+pub mod Splitting
+pub mod Saying
+pub mod Streaming
+pub mod DumpedStreams
+pub mod PackedStreams
+pub mod SpelledStreams
+pub mod SaidStreams

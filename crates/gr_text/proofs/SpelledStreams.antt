@@ -1,0 +1,89 @@
+-- The bytes of whole streams are dumped, and what is packed is dumped again.
+use Rattle.std.proofs.Common.{◌≡◌, ℕ, zero, suc, ◌+◌, ◌≤◌, false, List, [], ◌∷◌, ◌++◌, length, drop, All, Result, Ok, refl, sym, ap, ◌∙◌, append_assoc, arith, inl, inr, IsTrue, true≢false}
+use Rattle.std.specs.Prelude.{◌==◌}
+use Rattle.std.specs.List.{flat_map}
+use Rattle.std.proofs.lemmas.Bool.{le-ltb, ne_eqb, cases_Bool}
+use Rattle.std.proofs.lemmas.List.{take_at, drop_at, length-append, append-nil}
+use Rattle.gr_model.specs.declared.event.Event.{Event}
+use Rattle.gr_model.specs.declared.limits.TheConstants.{MOST_ITEMS_OF_A_GROUP, MOST_RECORDS}
+use Rattle.gr_model.specs.Events.{is_end}
+use Rattle.gr_model.specs.Streams.{is_complete}
+use Rattle.gr_record.specs.declared.error.RecordError.{RecordError}
+use Rattle.gr_record.specs.declared.header.Header.{Header}
+use Rattle.gr_record.specs.declared.layout.TheConstants.{HEADER_LENGTH, RECORD_LENGTH}
+use Rattle.gr_record.specs.declared.stop.Stop.TheVariants.{AtEnd}
+use Rattle.gr_record.specs.Fronts.{Records, behind, step, records_at}
+use Rattle.gr_record.specs.FrontLaws.{Runs}
+use Rattle.gr_record.specs.Reading.{event_at}
+use Rattle.gr_record.specs.Spelling.{IsHeader, event_spelling, events_spelling, header_spelling}
+use Rattle.gr_record.specs.WholeStreams.{front_header_at, front_records_at, stream_spelling}
+use Rattle.gr_record.proofs.FoundFronts.{complete_behind}
+use Rattle.gr_record.proofs.Loop.{next}
+use Rattle.gr_record.proofs.Spelled.{spelled_is_read, spelled_header_is_read, spelling_length}
+use Rattle.gr_text.specs.Dumps.{stream_at, streams_at, dumped}
+use Rattle.gr_text.specs.Wholes.{WholeStream, IsWhole, parts_in, bytes_of, text_of, WholeStreamsAreDumped, PackedIsDumpedAgain}
+use Rattle.gr_text.proofs.PackedStreams.{packed_are_streams}
+use Rattle.gr_text.proofs.Streaming.{nothing_left}
+
+abbrev ended_with : List Event → List ℕ → Records
+ended_with events rest = record { events = events; rest = rest; stop = AtEnd }
+
+module _ (items : ℕ) (few : items ≤ MOST_ITEMS_OF_A_GROUP) where
+  records_before : (events : List Event) (most : ℕ) (rest : List ℕ) → Runs items events → IsTrue (is_complete events) → length events ≤ most → records_at (event_at items) most (events_spelling events ++ rest) ≡ ended_with events rest
+  records_before [] most rest runs complete le = absurd (true≢false (sym complete))
+  records_before (e ∷ es) zero rest runs complete le = absurd (omega arith)
+  records_before (e ∷ es) (suc most) rest runs complete le =
+      let len = spelling_length e in
+      let more : List ℕ = events_spelling es ++ rest in
+      let bytes : List ℕ = event_spelling e ++ more in
+      let long : RECORD_LENGTH ≤ length (event_spelling e ++ more) = omega (arith, length-append (event_spelling e) more, len) in
+      let is : event_at items (event_spelling e) ≡ Ok e = rw (append-nil (event_spelling e)) at (spelled_is_read items e [] few runs.0) in
+      let here : records_at (event_at items) (suc most) (event_spelling e ++ more) ≡ step (Ok e) (event_spelling e ++ more) (records_at (event_at items) most more)
+      = next (event_at items) most (event_spelling e ++ more) long
+      ∙ ap (λ (x : Result Event RecordError). step x bytes (records_at (event_at items) most (drop RECORD_LENGTH bytes))) (ap (event_at items) (take_at (event_spelling e) more RECORD_LENGTH len) ∙ is)
+      ∙ ap (λ (x : List ℕ). step (Ok e) bytes (records_at (event_at items) most x)) (drop_at (event_spelling e) more RECORD_LENGTH len) in
+      rw (append_assoc (event_spelling e) (events_spelling es) rest)
+      (elim (cases_Bool (is_end e)) [
+        | inl end ↦
+            let none : es ≡ [] = runs.1 end in
+            here ∙ rw (end, drop_at (event_spelling e) more RECORD_LENGTH len, none) refl
+        | inr on ↦
+            let ih = records_before es most rest runs.2 (sym (complete_behind e es on) ∙ complete) (omega arith) in
+            here ∙ rw on (ap (behind e) ih)
+      ])
+
+  pub events_before : (events : List Event) (rest : List ℕ) → Runs items events → IsTrue (is_complete events) → length events ≤ MOST_RECORDS → front_records_at items (events_spelling events ++ rest) ≡ Ok (events, rest)
+  unfolding front_records_at
+  events_before events rest runs complete le = rw (records_before events MOST_RECORDS rest runs complete le) refl
+
+header_before : (h : Header) (rest : List ℕ) → IsHeader h → front_header_at (header_spelling h ++ rest) ≡ Ok (h, rest)
+unfolding front_header_at
+header_before h rest ok =
+    let long : HEADER_LENGTH ≤ length (header_spelling h ++ rest) = omega arith in
+    rw (le-ltb (length (header_spelling h ++ rest)) HEADER_LENGTH long, spelled_header_is_read h rest ok) refl
+
+stream_before : (place : ℕ) (s : WholeStream) (rest : List ℕ) → IsWhole s → stream_at place (stream_spelling s.header s.events ++ rest) ≡ Ok (parts_in s, rest)
+unfolding stream_at
+stream_before place s rest whole =
+    let front = whole.front in
+    let records = events_before s.header.items front.header.items s.events rest front.runs whole.ended front.few in
+    rw (append_assoc (header_spelling s.header) (events_spelling s.events) rest, header_before s.header (events_spelling s.events ++ rest) front.header, records) refl
+
+streams_before : (ss : List WholeStream) (most place : ℕ) → All IsWhole ss → length (bytes_of ss) ≤ most → streams_at most place (bytes_of ss) ≡ Ok (flat_map parts_in ss)
+unfolding streams_at
+streams_before [] most place whole le = nothing_left most place [] refl
+streams_before (s ∷ ss) zero place whole le = absurd (omega arith)
+streams_before (s ∷ ss) (suc most) place whole le =
+    let some : (length (bytes_of (s ∷ ss)) == 0) ≡ false = ne_eqb (length (bytes_of (s ∷ ss))) 0 (λ none. absurd (omega arith)) in
+    let one = stream_before place s (bytes_of ss) (whole 0 s (omega arith)) in
+    let shorter : length (bytes_of ss) ≤ most = omega (arith, length-append (stream_spelling s.header s.events) (bytes_of ss)) in
+    let ih = streams_before ss most (place + 1) (λ k d lt. whole (suc k) d (omega arith)) shorter in
+    rw (some, one, ih) refl
+
+pub whole_streams_are_dumped : WholeStreamsAreDumped
+whole_streams_are_dumped ss whole = let all = streams_before ss (length (bytes_of ss)) 0 whole (omega arith) in rw all refl
+
+pub packed_is_dumped_again : PackedIsDumpedAgain
+packed_is_dumped_again text bytes e =
+    let s = packed_are_streams text bytes e in
+    (text_of s.0, ap dumped s.3 ∙ whole_streams_are_dumped s.0 s.1, s.2)

@@ -1,0 +1,15 @@
+use Rattle.std.proofs.Common.{Option, Some, None, ap, ◌∙◌}
+use Rattle.std.specs.Prelude.{IfSome}
+use Rattle.gr_text.specs.Texts.{line_at}
+use Rattle.gr_text.proofs.Saying.{parsed_is_said, taken_is_said}
+use Rattle.gr_text.proofs.place.take_line.Goals as goal
+
+first_part : {X : Type 0} (o : Option X) (P Q : X → Type 0) → IfSome o (λ x. P x × Q x) → IfSome o P
+first_part None P Q h = tt
+first_part (Some x) P Q h = h.0
+
+pub returns-clause-exact : goal.returns-clause-exact
+returns-clause-exact c = c.take_said.ensures ∙ ap (line_at c.args.number c.args.place) (parsed_is_said c.parse_line.result c.args.line.now c.parse_line.ensures.found c.parse_line.ensures.only)
+
+pub returns-clause-said : goal.returns-clause-said
+returns-clause-said c = rw c.take_said.ensures (taken_is_said c.args.number c.args.place c.parse_line.result (first_part c.parse_line.result _ _ c.parse_line.ensures.found))

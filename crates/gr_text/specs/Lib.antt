@@ -1,0 +1,5 @@
+pub mod Lines
+pub mod Texts
+pub mod Dumps
+pub mod Writes
+pub mod Wholes

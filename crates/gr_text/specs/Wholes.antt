@@ -1,0 +1,64 @@
+-- Whole streams, as bytes and as text, and that what is accepted is such streams.
+-- Source: docs/FORMATS.md, "Stream" and "Text form".
+use Rattle.std.specs.Prelude.{◌≡◌, ◌⊎◌, ℕ, List, [], ◌∷◌, ◌++◌, map, All, Ok, IsTrue}
+use Rattle.std.specs.List.{flat_map}
+use Rattle.gr_model.specs.declared.event.Event.{Event}
+use Rattle.gr_model.specs.declared.limits.TheConstants.{MOST_RECORDS}
+use Rattle.gr_model.specs.Streams.{is_complete}
+use Rattle.gr_record.specs.declared.header.Header.{Header}
+use Rattle.gr_record.specs.declared.line.Line.{Line}
+use Rattle.gr_record.specs.declared.line.Line.TheVariants as lines
+use Rattle.gr_record.specs.FrontLaws.{IsFront}
+use Rattle.gr_record.specs.Laws.{AreBytes}
+use Rattle.gr_record.specs.WholeStreams.{stream_spelling}
+use Rattle.gr_text.specs.Texts.{packed, whole_line}
+use Rattle.gr_text.specs.Dumps.{dumped}
+
+-- a header, and the records behind it
+pub record WholeStream : Type 0 where
+  pub header : Header
+  pub events : List Event
+
+-- all in range and not too many, and the last record is an end, and no other
+pub record IsWhole (s : WholeStream) : Type 0 where
+  pub front : IsFront MOST_RECORDS s.header s.events
+  pub ended : IsTrue (is_complete s.events)
+
+abbrev pub parts_in : WholeStream → List Line
+parts_in s = lines.Header s.header ∷ map lines.Event s.events
+
+-- the bytes of streams, one after another
+abbrev pub bytes_of : List WholeStream → List ℕ
+bytes_of ss = flat_map (λ s. stream_spelling s.header s.events) ss
+
+-- their text
+abbrev pub text_of : List WholeStream → List ℕ
+text_of ss = flat_map whole_line (flat_map parts_in ss)
+
+-- a text of these streams: its last line feed may be missing
+abbrev pub IsTextOf : List WholeStream → List ℕ → Type 0
+IsTextOf ss text = (text ≡ text_of ss) ⊎ (text ++ 10 ∷ [] ≡ text_of ss)
+
+-- bytes that are dumped are those of whole streams, and what is written is the text of these
+abbrev pub DumpedAreStreams : Type 0
+DumpedAreStreams = (bytes text : List ℕ) → AreBytes bytes → dumped bytes ≡ Ok text → (ss : List WholeStream) × All IsWhole ss × (bytes ≡ bytes_of ss) × (text ≡ text_of ss)
+
+-- a text that is packed is one of whole streams, and what is written is the bytes of these
+abbrev pub PackedAreStreams : Type 0
+PackedAreStreams = (text bytes : List ℕ) → packed text ≡ Ok bytes → (ss : List WholeStream) × All IsWhole ss × IsTextOf ss text × (bytes ≡ bytes_of ss)
+
+-- the bytes of whole streams are dumped
+abbrev pub WholeStreamsAreDumped : Type 0
+WholeStreamsAreDumped = (ss : List WholeStream) → All IsWhole ss → dumped (bytes_of ss) ≡ Ok (text_of ss)
+
+-- what is packed is dumped again as the text that it was, with its last line feed
+abbrev pub PackedIsDumpedAgain : Type 0
+PackedIsDumpedAgain = (text bytes : List ℕ) → packed text ≡ Ok bytes → (again : List ℕ) × (dumped bytes ≡ Ok again) × ((text ≡ again) ⊎ (text ++ 10 ∷ [] ≡ again))
+
+-- the text of whole streams is packed
+abbrev pub WholeStreamsArePacked : Type 0
+WholeStreamsArePacked = (ss : List WholeStream) → All IsWhole ss → packed (text_of ss) ≡ Ok (bytes_of ss)
+
+-- what is dumped is packed again as the bytes that it was
+abbrev pub DumpedIsPackedAgain : Type 0
+DumpedIsPackedAgain = (bytes text : List ℕ) → AreBytes bytes → dumped bytes ≡ Ok text → packed text ≡ Ok bytes

@@ -1,0 +1,74 @@
+//! Which line a text may have at a place.
+
+ghost use Rattle.std.specs.Prelude.{◌≡◌, ◌≢◌, IfOk, IfErr};
+ghost use Rattle.gr_record.specs.LineLaws.{IsSaid};
+ghost use Rattle.gr_record.specs.LineReading.{line_said};
+ghost use Rattle.gr_text.specs.Texts.{record_at, line_at};
+
+use gr_model::event::Event;
+use gr_model::limits::MOST_RECORDS;
+use gr_record::fault::Fault;
+use gr_record::line::Line;
+use gr_record::parsing::parse_line;
+
+/// Where a line of a text stands.
+#[derive(Clone, Copy, Debug, PartialEq, Eq)]
+pub enum Place {
+    /// Before a header: at the start of the text, or behind an end.
+    Outside,
+    /// In a stream of so many items, which may have so many records more.
+    Inside { items: u16, left: u32 },
+}
+
+/// The record at this line of a stream, and the place behind it.
+fn take_event(number: u64, items: u16, left: u32, event: Event) -> Result<(Line, Place), Fault>
+    ensures { result ≡ record_at number items left event }
+{
+    if event.item >= items {
+        return Err(Fault::BadLine(number));
+    }
+    if left == 0 {
+        return Err(Fault::LongStream(number));
+    }
+    let behind = if event.kind.is_end() {
+        Place::Outside
+    } else {
+        Place::Inside {
+            items,
+            left: left - 1,
+        }
+    };
+    Ok((Line::Event(event), behind))
+}
+
+/// What a line says that stands at this place, if it may stand there, and the place behind it.
+fn take_said(number: u64, place: Place, line: Option<Line>) -> Result<(Line, Place), Fault>
+    ensures { result ≡ line_at number place line }
+{
+    match (place, line) {
+        (Place::Outside, Some(Line::Header(header))) => {
+            let behind = Place::Inside {
+                items: header.items,
+                left: MOST_RECORDS as u32,
+            };
+            Ok((Line::Header(header), behind))
+        }
+        (Place::Inside { items, left }, Some(Line::Event(event))) => {
+            take_event(number, items, left, event)
+        }
+        (Place::Outside, Some(Line::Event(_))) => Err(Fault::BadLine(number)),
+        (Place::Inside { items: _, left: _ }, Some(Line::Header(_))) => Err(Fault::BadLine(number)),
+        (_, None) => Err(Fault::BadLine(number)),
+    }
+}
+
+/// What the line of this number says at this place, and the place behind it. The line comes without its line feed.
+///
+/// # Errors
+/// `BadLine` where the place needs another line; else `LongStream` where it is one record more than a stream may have.
+pub fn take_line(number: u64, place: Place, line: &[u8]) -> Result<(Line, Place), Fault>
+    ensures exact { result ≡ line_at number place (line_said line.now) }
+    ensures said { IfOk result (λ x. IsSaid x.0) }
+{
+    take_said(number, place, parse_line(line))
+}

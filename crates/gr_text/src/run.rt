@@ -1,0 +1,81 @@
+//! From a reader to a writer.
+
+ghost use Rattle.std.specs.Prelude.{◌≡◌, ◌≢◌, IfErr, IfSome, OnOk};
+ghost use Rattle.std.specs.Io.KnownBytes.{Appends, Keeps};
+ghost use Rattle.gr_input.specs.Faults.{Fails};
+ghost use Rattle.gr_record.specs.declared.fault.Fault.TheVariants as faults;
+ghost use Rattle.gr_report.specs.Putting.{AppendsFront};
+ghost use Rattle.gr_text.specs.Texts.{packed};
+ghost use Rattle.gr_text.specs.Dumps.{dumped};
+ghost use Rattle.gr_text.specs.Writes.{Writes, WritesFront};
+
+use crate::dumping::dump_bytes;
+use crate::packing::pack_text;
+use gr_input::read_all;
+use gr_record::fault::Fault;
+use gr_report::putting::{finish, put};
+use std::alloc::Allocator;
+use std::io::{Read, Write};
+
+/// Writes the bytes, and flushes.
+fn write_all<W: Write>(writer: &mut W, bytes: &[u8]) -> Result<(), Fault>
+    ensures whole { OnOk result (Appends (W.contents writer.old) (W.contents writer.new) bytes.now) }
+    ensures front { IfErr result (λ _. AppendsFront (W.contents writer.old) (W.contents writer.new) bytes.now) }
+    ensures fault { IfErr result (λ f. f ≡ faults.Write) }
+{
+    match put(writer, bytes) {
+        Ok(()) => {}
+        Err(_) => return Err(Fault::Write),
+    }
+    match finish(writer) {
+        Ok(()) => Ok(()),
+        Err(_) => Err(Fault::Write),
+    }
+}
+
+/// Reads a text to its end, and writes the bytes of its streams, one stream after another.
+///
+/// # Errors
+/// Of the first line at fault `BadLine`, where its place needs another, or `LongStream`, where it is one record more
+/// than a stream may have; `NoEnd` where the text is over inside a stream; `Read` where the reader fails, or gives no end
+/// within 4,294,967,296 calls; `Memory` where something can't be kept; `Write` where the writer fails, which then has a
+/// front of the bytes. In every other case of an error nothing is written.
+pub fn pack<A: Allocator + Copy, T: Read, W: Write>(
+    alloc: A,
+    reader: &mut T,
+    writer: &mut W,
+) -> Result<(), Fault>
+    ensures whole { OnOk result (IfSome (T.remaining reader.old) (λ text. Writes (packed text) (W.contents writer.old) (W.contents writer.new))) }
+    ensures fault { IfErr result (λ f. f ≢ faults.Write → IfSome (T.remaining reader.old) (λ text. Fails f (packed text))) }
+
+    // What a refusal leaves with the writer.
+    ensures untouched { IfErr result (λ f. f ≢ faults.Write → Keeps (W.contents writer.old) (W.contents writer.new)) }
+    ensures front { IfErr result (λ f. f ≡ faults.Write → IfSome (T.remaining reader.old) (λ text. WritesFront (packed text) (W.contents writer.old) (W.contents writer.new))) }
+{
+    let text = read_all(alloc, reader)?;
+    let bytes = pack_text(alloc, text.as_slice())?;
+    write_all(writer, bytes.as_slice())
+}
+
+/// Reads streams to their end, one after another, and writes their text.
+///
+/// # Errors
+/// `Stream` with the first fault from the left; `Read` where the reader fails, or gives no end within 4,294,967,296
+/// calls; `Memory` where something can't be kept; `Write` where the writer fails, which then has a front of the text. In
+/// every other case of an error nothing is written.
+pub fn dump<A: Allocator + Copy, T: Read, W: Write>(
+    alloc: A,
+    reader: &mut T,
+    writer: &mut W,
+) -> Result<(), Fault>
+    ensures whole { OnOk result (IfSome (T.remaining reader.old) (λ bytes. Writes (dumped bytes) (W.contents writer.old) (W.contents writer.new))) }
+    ensures fault { IfErr result (λ f. f ≢ faults.Write → IfSome (T.remaining reader.old) (λ bytes. Fails f (dumped bytes))) }
+
+    // What a refusal leaves with the writer.
+    ensures untouched { IfErr result (λ f. f ≢ faults.Write → Keeps (W.contents writer.old) (W.contents writer.new)) }
+    ensures front { IfErr result (λ f. f ≡ faults.Write → IfSome (T.remaining reader.old) (λ bytes. WritesFront (dumped bytes) (W.contents writer.old) (W.contents writer.new))) }
+{
+    let bytes = read_all(alloc, reader)?;
+    let text = dump_bytes(alloc, bytes.as_slice())?;
+    write_all(writer, text.as_slice())
+}

@@ -1,0 +1,6 @@
+//! Tests of `pack` and `dump`. Texts and bytes are those of docs/FORMATS.md, "Stream" and "Text form".
+
+mod ends;
+mod growths;
+mod pairs;
+mod refused;

@@ -1,0 +1,86 @@
+//! Texts and the bytes that they stand for.
+
+use gr_text::{dump, pack};
+use std::test::Fail;
+
+/// The first race.
+pub(super) const RACE: Pair = (
+    "the first race",
+    "group 0 items 2 launch 7\n0 w g 16\n1 r g 16\nend\n",
+    &[
+        0x47, 0x52, 0x54, 0x31, 0, 0, 2, 0, 7, 0, 0, 0, //
+        1, 0, 0, 0, 0, 0, 0, 0, 16, 0, 0, 0, 255, 255, 255, 255, 255, 255, 255, 255, //
+        0, 0, 0, 0, 1, 0, 0, 0, 16, 0, 0, 0, 255, 255, 255, 255, 255, 255, 255, 255, //
+        6, 0, 0, 0, 0, 0, 0, 0, 0, 0, 0, 0, 255, 255, 255, 255, 255, 255, 255, 255,
+    ],
+);
+
+/// A text and its bytes, under a name.
+pub(super) type Pair = (&'static str, &'static str, &'static [u8]);
+
+pub(super) const PAIRS: [Pair; 4] = [
+    ("nothing", "", &[]),
+    RACE,
+    (
+        "a release in one stream and its acquire in another",
+        "group 0 items 1 launch 7\n0 w g 16\n0 st g 20 dev rel\nend\n\
+         group 1 items 1 launch 7\n0 ld g 20 dev acq < 0 0 0\n0 r g 16\nend\n",
+        &[
+            0x47, 0x52, 0x54, 0x31, 0, 0, 1, 0, 7, 0, 0, 0, //
+            1, 0, 0, 0, 0, 0, 0, 0, 16, 0, 0, 0, 255, 255, 255, 255, 255, 255, 255, 255, //
+            3, 0, 2, 3, 0, 0, 0, 0, 20, 0, 0, 0, 255, 255, 255, 255, 255, 255, 255, 255, //
+            6, 0, 0, 0, 0, 0, 0, 0, 0, 0, 0, 0, 255, 255, 255, 255, 255, 255, 255, 255, //
+            0x47, 0x52, 0x54, 0x31, 1, 0, 1, 0, 7, 0, 0, 0, //
+            2, 0, 2, 2, 0, 0, 0, 0, 20, 0, 0, 0, 0, 0, 0, 0, 0, 0, 0, 0, //
+            0, 0, 0, 0, 0, 0, 0, 0, 16, 0, 0, 0, 255, 255, 255, 255, 255, 255, 255, 255, //
+            6, 0, 0, 0, 0, 0, 0, 0, 0, 0, 0, 0, 255, 255, 255, 255, 255, 255, 255, 255,
+        ],
+    ),
+    (
+        "each record of the format's table",
+        "group 0 items 256 launch 7\n0 w g 16\n1 r g 16\n3 st g 16 dev rel\n\
+         4 ld g 16 dev acq < 0 3 0\n255 rmw l 4294967295 grp both < 63 255 16777215\n0 bar 7 gl\nend cut\n",
+        &[
+            0x47, 0x52, 0x54, 0x31, 0, 0, 0, 1, 7, 0, 0, 0, //
+            1, 0, 0, 0, 0, 0, 0, 0, 16, 0, 0, 0, 255, 255, 255, 255, 255, 255, 255, 255, //
+            0, 0, 0, 0, 1, 0, 0, 0, 16, 0, 0, 0, 255, 255, 255, 255, 255, 255, 255, 255, //
+            3, 0, 2, 3, 3, 0, 0, 0, 16, 0, 0, 0, 255, 255, 255, 255, 255, 255, 255, 255, //
+            2, 0, 2, 2, 4, 0, 0, 0, 16, 0, 0, 0, 0, 0, 3, 0, 0, 0, 0, 0, //
+            4, 1, 1, 4, 255, 0, 0, 0, 255, 255, 255, 255, 63, 0, 255, 0, 255, 255, 255, 0, //
+            5, 3, 0, 0, 0, 0, 0, 0, 7, 0, 0, 0, 255, 255, 255, 255, 255, 255, 255, 255, //
+            6, 1, 0, 0, 0, 0, 0, 0, 0, 0, 0, 0, 255, 255, 255, 255, 255, 255, 255, 255,
+        ],
+    ),
+];
+
+#[test]
+fn text_and_bytes_give_each_other(rt: HostRuntime) -> Result<(), Fail> {
+    for (name, text, bytes) in PAIRS {
+        let mut packed = Vec::new(rt.alloc());
+        let mut lines = text.as_bytes();
+        assert!(rt;
+            pack(rt.alloc(), &mut lines, &mut packed) == Ok(()),
+            "packing {name}"
+        );
+        assert!(rt; packed.as_slice() == bytes, "bytes of {name}");
+        let mut dumped = Vec::new(rt.alloc());
+        let mut streams = bytes;
+        assert!(rt;
+            dump(rt.alloc(), &mut streams, &mut dumped) == Ok(()),
+            "dumping {name}"
+        );
+        assert!(rt; dumped.as_slice() == text.as_bytes(), "text of {name}");
+    }
+    Ok(())
+}
+
+#[test]
+fn the_last_line_feed_may_be_missing(rt: HostRuntime) -> Result<(), Fail> {
+    let (_, text, bytes) = RACE;
+    let mut packed = Vec::new(rt.alloc());
+    let mut lines = text.trim_end().as_bytes();
+    assert_eq!(rt; lines.len() + 1, text.len());
+    assert!(rt; pack(rt.alloc(), &mut lines, &mut packed) == Ok(()));
+    assert!(rt; packed.as_slice() == bytes);
+    Ok(())
+}

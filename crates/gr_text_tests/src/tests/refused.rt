@@ -1,0 +1,129 @@
+//! Inputs that are refused, each with its fault, and that nothing is written then.
+
+use gr_record::error::RecordError;
+use gr_record::fault::Fault;
+use gr_text::{dump, pack};
+use std::test::Fail;
+
+const TEXTS: [(&str, Fault); 19] = [
+    (
+        "group 0 items 2 launch 7\n2 r g 16\nend\n",
+        Fault::BadLine(2),
+    ),
+    ("end\n", Fault::BadLine(1)),
+    ("group 0 items 2 launch 7\n", Fault::NoEnd),
+    ("group 0 items 2 launch 7\n0 w g 16\n", Fault::NoEnd),
+    (
+        "group 0 items 2 launch 7\ngroup 0 items 2 launch 7\nend\n",
+        Fault::BadLine(2),
+    ),
+    (
+        "group 0 items 2 launch 7\nend\n0 w g 16\n",
+        Fault::BadLine(3),
+    ),
+    ("group 0 items 2 launch 7\nend\nend\n", Fault::BadLine(3)),
+    ("\n", Fault::BadLine(1)),
+    ("group 0 items 2 launch 7\nend\n\n", Fault::BadLine(3)),
+    ("group 0 items 2 launch 7\r\nend\r\n", Fault::BadLine(1)),
+    (
+        "group 0 items 2 launch 7\n0 w g 16\r\nend\n",
+        Fault::BadLine(2),
+    ),
+    ("\u{feff}group 0 items 2 launch 7\nend\n", Fault::BadLine(1)),
+    (
+        "group 0 items 2 launch 7\n00 w g 16\nend\n",
+        Fault::BadLine(2),
+    ),
+    (
+        "group 0 items 2 launch 7\n0 w g  16\nend\n",
+        Fault::BadLine(2),
+    ),
+    (
+        "group 0 items 2 launch 7\n0 ld g 16 dev rel\nend\n",
+        Fault::BadLine(2),
+    ),
+    (
+        "group 0 items 2 launch 7\n0 st g 16 dev rel < 0 0 0\nend\n",
+        Fault::BadLine(2),
+    ),
+    (
+        "group 0 items 2 launch 7\n0 bar 7 lg\nend\n",
+        Fault::BadLine(2),
+    ),
+    ("group 0 items 2 launch 7\nEnd\n", Fault::BadLine(2)),
+    ("group 0 items 2 launch 7\n\nend\n", Fault::BadLine(2)),
+];
+
+#[test]
+fn each_bad_text_is_refused_with_its_fault(rt: HostRuntime) -> Result<(), Fail> {
+    for (text, fault) in TEXTS {
+        let mut packed = Vec::new(rt.alloc());
+        let mut lines = text.as_bytes();
+        assert!(rt;
+            pack(rt.alloc(), &mut lines, &mut packed) == Err(fault),
+            "{text}"
+        );
+        assert!(rt; packed.is_empty(), "{text}");
+    }
+    Ok(())
+}
+
+/// The header `group 0 items 2 launch 7`, the write `0 w g 16`, an end and one byte more.
+const STREAM: [u8; 53] = [
+    0x47, 0x52, 0x54, 0x31, 0, 0, 2, 0, 7, 0, 0, 0, //
+    1, 0, 0, 0, 0, 0, 0, 0, 16, 0, 0, 0, 255, 255, 255, 255, 255, 255, 255, 255, //
+    6, 0, 0, 0, 0, 0, 0, 0, 0, 0, 0, 0, 255, 255, 255, 255, 255, 255, 255, 255, //
+    0,
+];
+
+#[test]
+fn streams_that_break_off_are_truncated(rt: HostRuntime) -> Result<(), Fail> {
+    for length in 1..54 {
+        let mut dumped = Vec::new(rt.alloc());
+        let mut bytes = &STREAM[..length];
+        let due = match length {
+            52 => Ok(()),
+            53 => Err(Fault::Stream(1, RecordError::Truncated)),
+            _ => Err(Fault::Stream(0, RecordError::Truncated)),
+        };
+        assert!(rt;
+            dump(rt.alloc(), &mut bytes, &mut dumped) == due,
+            "the first {length} bytes"
+        );
+        assert!(rt;
+            dumped.is_empty() == due.is_err(),
+            "the first {length} bytes"
+        );
+    }
+    Ok(())
+}
+
+/// A place in the stream, the byte that stands there instead, and the fault of the stream.
+const CHANGES: [(usize, u8, RecordError); 7] = [
+    (0, 0x48, RecordError::BadMagic),
+    (4, 64, RecordError::BadHeader),
+    (6, 0, RecordError::BadHeader),
+    (12, 7, RecordError::BadKind),
+    (13, 2, RecordError::BadField(1)),
+    (18, 1, RecordError::BadField(6)),
+    (16, 2, RecordError::UnknownItem),
+];
+
+#[test]
+fn each_bad_stream_is_refused_at_its_place(rt: HostRuntime) -> Result<(), Fail> {
+    for (at, byte, fault) in CHANGES {
+        let mut two = Vec::new(rt.alloc());
+        two.extend_from_slice(&STREAM[..52])?;
+        two.extend_from_slice(&STREAM[..at])?;
+        two.push(byte)?;
+        two.extend_from_slice(&STREAM[at + 1..52])?;
+        let mut bytes = two.as_slice();
+        let mut dumped = Vec::new(rt.alloc());
+        assert!(rt;
+            dump(rt.alloc(), &mut bytes, &mut dumped) == Err(Fault::Stream(1, fault)),
+            "byte {at}"
+        );
+        assert!(rt; dumped.is_empty(), "byte {at}");
+    }
+    Ok(())
+}

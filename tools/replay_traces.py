@@ -1,0 +1,72 @@
+#!/usr/bin/env python3
+"""Writes a trace for tools/replay_rate.sh: SHAPE RECORDS ITEMS, the bytes on standard output.
+
+SHAPE is `barriers` (items write and read words between barriers), `atomics` (atomic adds on 64 words, and plain reads of
+words that nobody writes) or `messages` (each item hands a word to the next by a release and an acquire with a name).
+Items are in work-groups of at most 256. RECORDS counts the records of all streams, ends included, and is met nearly.
+"""
+import struct
+import sys
+
+READ, WRITE, LOAD, STORE, RMW, BARRIER, END = range(7)
+GLOBAL = 0
+GROUP_SCOPE, DEVICE = 1, 2
+RELAXED, ACQUIRE, RELEASE, BOTH = 1, 2, 3, 4
+NO_NAME = b"\xff" * 8
+
+
+def record(kind, one, scope, order, item, word, name=NO_NAME):
+    return struct.pack("<BBBBHHI", kind, one, scope, order, item, 0, word) + name
+
+
+def groups_of(items):
+    return [min(256, items - first) for first in range(0, items, 256)]
+
+
+def barriers(group, size, count):
+    base = group * 1_000_000
+    rounds = max(1, count // (3 * size))
+    for turn in range(rounds):
+        for item in range(size):
+            yield record(WRITE, GLOBAL, 0, 0, item, base + item)
+        for item in range(size):
+            yield record(BARRIER, 1, 0, 0, item, 2 * turn)
+        for item in range(size):
+            yield record(READ, GLOBAL, 0, 0, item, base + (item + 1) % size)
+        for item in range(size):
+            yield record(BARRIER, 1, 0, 0, item, 2 * turn + 1)
+
+
+def atomics(group, size, count):
+    for turn in range(count):
+        item = turn % size
+        if turn % 4:
+            yield record(READ, GLOBAL, 0, 0, item, 1_000_000 + turn % 4096)
+        else:
+            yield record(RMW, GLOBAL, DEVICE, RELAXED, item, turn % 64)
+
+
+def messages(group, size, count):
+    base = group * 1_000_000
+    for turn in range(max(1, count // 4)):
+        item, after = turn % size, (turn + 1) % size
+        number = turn // size
+        word, flag = base + 2 * (turn % size), base + 2 * (turn % size) + 1
+        yield record(WRITE, GLOBAL, 0, 0, item, word)
+        yield record(STORE, GLOBAL, DEVICE, RELEASE, item, flag)
+        yield record(LOAD, GLOBAL, DEVICE, ACQUIRE, after, flag, struct.pack("<HHI", group, item, number))
+        yield record(READ, GLOBAL, 0, 0, after, word)
+
+
+def main():
+    shape, records, items = sys.argv[1], int(sys.argv[2]), int(sys.argv[3])
+    make = {"barriers": barriers, "atomics": atomics, "messages": messages}[shape]
+    sizes = groups_of(items)
+    out = sys.stdout.buffer
+    for group, size in enumerate(sizes):
+        out.write(b"GRT1" + struct.pack("<HHI", group, size, 7))
+        out.writelines(make(group, size, records // len(sizes)))
+        out.write(record(END, 0, 0, 0, 0, 0))
+
+
+main()
