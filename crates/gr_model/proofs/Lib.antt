@@ -13,3 +13,4 @@ pub mod Cuts
 pub mod HitsAreRaces
 pub mod Fronts
 pub mod WordLemmas
+pub mod Sending

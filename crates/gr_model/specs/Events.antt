@@ -45,3 +45,7 @@ is_end_kind (End cut) = true
 
 abbrev pub is_end : Event → Bool
 is_end e = is_end_kind e.kind
+
+-- the end of a stream
+abbrev pub end_of : Bool → Event
+end_of cut = record { item = 0; kind = End cut; space = Global; word = 0; name = None }

@@ -2,6 +2,7 @@
 -- Source: docs/MODEL.md, "Streams and traces". An item's trace is its part of "sequenced-before" (OpenCL 2.0 specification, section 3.3, memory model).
 use Rattle.std.specs.Prelude.{◌≡◌, ◌≢◌, ◌⊎◌, ℕ, ◌+◌, ◌<◌, ◌≤◌, Bool, false, List, [], ◌∷◌, length, slice_index, slice_index_or, slice_get, IsTrue, Some, Option, Vec, map, filter, ◌==◌, ◌&&◌, not, ◌++◌, suc, option_and_then, if◌then◌else◌}
 use Rattle.gr_model.specs.declared.event.Event.{Event}
+use Rattle.gr_model.specs.declared.event.Sent.{Sent}
 use Rattle.gr_model.specs.declared.event.ItemId.{ItemId}
 use Rattle.gr_model.specs.declared.event.EventId.{EventId}
 use Rattle.gr_model.specs.declared.event.Word.{Word}
@@ -27,6 +28,11 @@ list_of s g = slice_index_or s.lists g []
 
 abbrev pub size_of : Streams → ℕ → ℕ
 size_of s g = slice_index s.sizes g
+
+-- the events that one group sent, among those that several sent
+abbrev pub events_of : ℕ → List Sent → List Event
+events_of g [] = []
+events_of g (s ∷ ss) = if s.group == g then s.event ∷ events_of g ss else events_of g ss
 
 -- whether a list is complete: it ends in an end
 abbrev pub is_complete : List Event → Bool

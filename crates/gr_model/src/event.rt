@@ -5,7 +5,7 @@
 
 ghost use Rattle.std.specs.Prelude.{◌≡◌, ◌↔◌, IsTrue};
 ghost use Rattle.gr_model.specs.Access.{acquires, releases, is_acquire_kind, event_word};
-ghost use Rattle.gr_model.specs.Events.{IsNameInRange, IsNamingOk, IsKindOk, IsEventOk, is_end_kind};
+ghost use Rattle.gr_model.specs.Events.{IsNameInRange, IsNamingOk, IsKindOk, IsEventOk, end_of, is_end_kind};
 
 use crate::limits::{MOST_GROUPS, MOST_ITEMS_OF_A_GROUP, MOST_RECORDS};
 
@@ -86,6 +86,13 @@ pub struct Event {
     pub name: Option<Name>,
 }
 
+/// An event, and the work-group that sent it.
+#[derive(Clone, Copy, Debug, PartialEq, Eq)]
+pub struct Sent {
+    pub group: u16,
+    pub event: Event,
+}
+
 /// A location: a word of global memory, or a word of one work-group's local memory. Global words come first.
 #[derive(Clone, Copy, Debug, PartialEq, Eq, PartialOrd, Ord, Hash)]
 pub enum Word {
@@ -137,6 +144,21 @@ impl Kind {
         ensures { result ≡ is_end_kind self }
     {
         matches!(self, Kind::End { cut: _ })
+    }
+}
+
+impl Event {
+    /// The end of a stream, with whether the stream was cut.
+    pub fn end(cut: bool) -> Event
+        ensures { result ≡ end_of cut }
+    {
+        Event {
+            item: 0,
+            kind: Kind::End { cut },
+            space: Space::Global,
+            word: 0,
+            name: None,
+        }
     }
 }
 

@@ -1,0 +1,23 @@
+-- The events of one group among those that several sent, and where a list of records is complete.
+use Rattle.std.proofs.Common.{◌≡◌, ◌≢◌, ℕ, true, false, cond, eqb, eq-eqb, ne_eqb, List, [], ◌∷◌, ◌++◌, refl, ap}
+use Rattle.gr_model.specs.declared.event.Event.{Event}
+use Rattle.gr_model.specs.declared.event.Sent.{Sent}
+use Rattle.gr_model.specs.Events.{is_end}
+use Rattle.gr_model.specs.Streams.{events_of, is_complete}
+
+pub events_append : (g : ℕ) (xs ys : List Sent) → events_of g (xs ++ ys) ≡ events_of g xs ++ events_of g ys
+events_append g [] ys = refl
+events_append g (s ∷ ss) ys = elim (eqb s.group g) as (λ b. cond b (s.event ∷ events_of g (ss ++ ys)) (events_of g (ss ++ ys)) ≡ cond b (s.event ∷ events_of g ss) (events_of g ss) ++ events_of g ys)
+    [ true ↦ ap (λ l. s.event ∷ l) (events_append g ss ys) | false ↦ events_append g ss ys ]
+
+pub events_here : (s : Sent) → events_of s.group (s ∷ []) ≡ s.event ∷ []
+events_here s = ap (λ b. cond b (s.event ∷ []) []) (eq-eqb s.group s.group refl)
+
+pub events_else : (g : ℕ) (s : Sent) → s.group ≢ g → events_of g (s ∷ []) ≡ []
+events_else g s other = ap (λ b. cond b (s.event ∷ []) []) (ne_eqb s.group g other)
+
+-- a list is complete where what was added last is an end
+pub is_complete-push : (xs : List Event) (x : Event) → is_complete (xs ++ x ∷ []) ≡ is_end x
+is_complete-push [] x = refl
+is_complete-push (y ∷ []) x = refl
+is_complete-push (y ∷ z ∷ zs) x = is_complete-push (z ∷ zs) x
