@@ -4,10 +4,10 @@ use Rattle.std.proofs.lemmas.Option.{none-some, same_Some, slice_get_within, sli
 use Rattle.gr_model.specs.declared.event.Event.{Event}
 use Rattle.gr_model.specs.declared.limits.TheConstants.{MOST_RECORDS}
 use Rattle.gr_model.specs.Events.{IsEventOk, is_end}
-use Rattle.gr_model.specs.Streams.{is_complete}
+use Rattle.gr_model.specs.Streams.{IsFront, is_complete}
 use Rattle.gr_model.proofs.ListsOfRecords.{is_complete-last}
 use Rattle.gr_model.proofs.Places.{slice_get-append}
-use Rattle.gr_route.specs.Fronts.{EndMakesAccepted, EndMakesWhole, IsStreamFront}
+use Rattle.gr_route.specs.Fronts.{EndMakesAccepted, EndMakesWhole}
 
 -- ---- lists
 
@@ -45,10 +45,10 @@ last_ends (x ∷ xs) whole =
     let there = slice_get-get_or (x ∷ xs) (length (x ∷ xs) - 1) x (omega arith) in
     (_, there, sym (is_complete-last (x ∷ xs) _ there) ∙ whole)
 
-pub front_nil : (n : ℕ) → IsStreamFront n []
+pub front_nil : (n : ℕ) → IsFront n []
 front_nil n = record { few = omega arith; good = λ p x at. absurd (none-some x at) }
 
-pub front_push : (n : ℕ) (xs : List Event) (e : Event) → IsStreamFront n xs → IsEventOk e n → IsFalse (is_complete xs) → length xs < MOST_RECORDS → IsStreamFront n (xs ++ e ∷ [])
+pub front_push : (n : ℕ) (xs : List Event) (e : Event) → IsFront n xs → IsEventOk e n → IsFalse (is_complete xs) → length xs < MOST_RECORDS → IsFront n (xs ++ e ∷ [])
 front_push n xs e front ok unended room = record {
   few = omega (arith, length-append xs (e ∷ []));
   good = λ p x at. ⊎_elim
@@ -60,7 +60,7 @@ front_push n xs e front ok unended room = record {
       (slice_get-push xs e p x at);
 }
 
-pub front_front : (n : ℕ) (xs ys : List Event) → IsStreamFront n (xs ++ ys) → IsStreamFront n xs
+pub front_front : (n : ℕ) (xs ys : List Event) → IsFront n (xs ++ ys) → IsFront n xs
 front_front n xs ys front = record {
   few = let few = front.few in omega (arith, length-append xs ys);
   good = λ p x at.
@@ -68,31 +68,31 @@ front_front n xs ys front = record {
       (good.0, λ ends. let last = good.1 ends in omega (arith, length-append xs ys, slice_get_within xs p x at));
 }
 
-pub front_whole : (n : ℕ) (xs ys : List Event) → IsStreamFront n (xs ++ ys) → IsTrue (is_complete xs) → ys ≡ []
+pub front_whole : (n : ℕ) (xs ys : List Event) → IsFront n (xs ++ ys) → IsTrue (is_complete xs) → ys ≡ []
 front_whole n xs ys front whole =
     let end = last_ends xs whole in
     let last = (front.good (length xs - 1) end.0 (slice_get-append xs ys (length xs - 1) end.0 end.1)).1 end.2 in
     no_more xs ys (omega (arith, slice_get_within xs (length xs - 1) end.0 end.1))
 
 -- what a stream has next
-pub next_ok : (n : ℕ) (xs : List Event) (e : Event) (ys : List Event) → IsStreamFront n (xs ++ e ∷ ys) → IsEventOk e n
+pub next_ok : (n : ℕ) (xs : List Event) (e : Event) (ys : List Event) → IsFront n (xs ++ e ∷ ys) → IsEventOk e n
 next_ok n xs e ys front = (front.good (length xs) e (slice_get-seam xs e ys)).0
 
-pub next_unended : (n : ℕ) (xs : List Event) (e : Event) (ys : List Event) → IsStreamFront n (xs ++ e ∷ ys) → IsFalse (is_complete xs)
+pub next_unended : (n : ℕ) (xs : List Event) (e : Event) (ys : List Event) → IsFront n (xs ++ e ∷ ys) → IsFalse (is_complete xs)
 next_unended n xs e ys front = by_cases (is_complete xs) refl
   where
     by_cases : (b : Bool) → is_complete xs ≡ b → IsFalse (is_complete xs)
     by_cases false is = is
     by_cases true is = absurd (let none = front_whole n xs (e ∷ ys) front is in cc)
 
-pub next_room : (n : ℕ) (xs : List Event) (e : Event) (ys : List Event) → IsStreamFront n (xs ++ e ∷ ys) → length xs < MOST_RECORDS
+pub next_room : (n : ℕ) (xs : List Event) (e : Event) (ys : List Event) → IsFront n (xs ++ e ∷ ys) → length xs < MOST_RECORDS
 next_room n xs e ys front = let few = front.few in omega (arith, length-append xs (e ∷ ys))
 
 -- ---- laws
 
 pub end_makes_whole : EndMakesWhole
 end_makes_whole n list xs front starts whole =
-    let none = front_whole n xs starts.0 (subst (IsStreamFront n) starts.1 front) whole in
+    let none = front_whole n xs starts.0 (subst (IsFront n) starts.1 front) whole in
     sym (starts.1 ∙ ap (λ r. xs ++ r) none ∙ append-nil xs)
 
 pub end_makes_accepted : EndMakesAccepted
