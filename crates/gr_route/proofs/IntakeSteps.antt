@@ -17,9 +17,10 @@ use Rattle.gr_model.specs.Streams.{IsFront, events_of, is_complete}
 use Rattle.gr_route.specs.declared.intake_rule.Joined.{Joined}
 use Rattle.gr_route.specs.declared.intake_rule.IntakeView.{IntakeView}
 use Rattle.gr_model.proofs.Sending.{events_append, events_else, events_here}
+use Rattle.gr_model.proofs.StreamFronts.{front_front, front_nil, front_push, next_ok, next_unended, next_room}
 use Rattle.gr_route.specs.IntakeRule.{FitsJoined, FitsSeat, FitsTaker, Pops, Pushes, SeatLearns, SeatsAgree, TakerLearns, after_join, after_split, first_view, joined_from, no_sizes, seat_of, spent_view, taker_of}
 use Rattle.gr_route.specs.IntakeSeats.{IsDelivered, IsDelivery, IsNext, Seat, Taker}
-use Rattle.gr_route.proofs.FrontLemmas.{front_front, front_nil, front_push, next_ok, next_unended, next_room, nil_front, not_nil}
+use Rattle.gr_route.proofs.FrontLemmas.{nil_front, not_nil}
 use Rattle.gr_route.proofs.GroupLemmas.{by_place, changed, changed_else, changed_here}
 use Rattle.gr_route.proofs.Views.{Each, each_one, each_set, each_snoc, held, none_holds, same_holder}
 
