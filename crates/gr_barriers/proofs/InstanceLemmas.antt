@@ -1,5 +1,5 @@
 -- All groups' barriers: what a mark more and an ended group change, and the list of the divergences so far.
-use Rattle.std.proofs.Common.{◌≡◌, ◌≢◌, ◌⊎◌, ◌↔◌, ℕ, zero, suc, ◌+◌, ◌<◌, ◌≤◌, Bool, true, false, List, [], ◌∷◌, ◌++◌, length, get_or, set, Some, None, Contains, refl, sym, ◌∙◌, ap, subst, arith, inl, inr, ⊎_elim}
+use Rattle.std.proofs.Common.{◌≡◌, ◌≢◌, ◌⊎◌, ◌↔◌, ℕ, zero, suc, ◌+◌, ◌<◌, ◌≤◌, true, false, List, [], ◌∷◌, ◌++◌, length, get_or, set, Some, None, Contains, refl, sym, ◌∙◌, ap, subst, arith, inl, inr, ⊎_elim}
 use Rattle.std.proofs.lemmas.Bool.{cases_eq, cases_lt}
 use Rattle.std.proofs.lemmas.List.{get_or-set_same, get_or-set_other, length-set, get_or_read, get_or-map, length-map}
 use Rattle.std.proofs.lemmas.List.Elements.{Contains-append_left, Contains-append_cases, Contains-push, Contains-get_or}
@@ -8,10 +8,10 @@ use Rattle.std.proofs.Math.Seq.{map-set_same}
 use Rattle.gr_model.specs.declared.event.ItemId.{ItemId}
 use Rattle.gr_model.specs.declared.report.Divergence.{Divergence}
 use Rattle.gr_model.specs.declared.report.DivergenceCause.{DivergenceCause}
-use Rattle.gr_model.specs.declared.report.DivergenceCause.TheVariants.{Missing, Site, Flags}
-use Rattle.gr_model.specs.Instances.{Mark, Arrivals, IsDivergentOf, HasDivergenceCause}
+use Rattle.gr_model.specs.Instances.{Mark, IsDivergentOf, HasDivergenceCause}
 use Rattle.gr_model.specs.Shapes.{HasItem}
 use Rattle.gr_model.specs.Reports.{Lists, DivergenceBelow}
+use Rattle.gr_model.proofs.Causes.{cause_diverges, one_cause}
 use Rattle.gr_barriers.specs.Arrived.{GroupMarks, sizes_of, group_of, marks_at, brought, Arrives, Ends, NobodyCame, IsDivergence, IsBefore, AreListed}
 
 -- ---- another group in its place
@@ -93,22 +93,6 @@ nobody_diverges : (t : GroupMarks) (k : ℕ) → NobodyCame t k → ¬ IsDiverge
 nobody_diverges t k none (inl (i, j, a, b, at_i, at_j, differ)) = let lacks : brought t k i ≡ None = none i at_i.0 in let clash : Some a ≡ None = sym at_i.1 ∙ lacks in cc
 nobody_diverges t k none (inr (ended, (i, j, a, at_i, within, lacks))) = let lacks_i : brought t k i ≡ None = none i at_i.0 in let clash : Some a ≡ None = sym at_i.1 ∙ lacks_i in cc
 
-cause_unique : (complete : Bool) (size : ℕ) (arrived : Arrivals) (c d : DivergenceCause) → HasDivergenceCause complete size arrived c → HasDivergenceCause complete size arrived d → c ≡ d
-cause_unique complete size arrived Missing Missing p q = refl
-cause_unique complete size arrived Missing Site p q = absurd (q.0 p)
-cause_unique complete size arrived Missing Flags p q = absurd (q.0 p)
-cause_unique complete size arrived Site Missing p q = absurd (p.0 q)
-cause_unique complete size arrived Site Site p q = refl
-cause_unique complete size arrived Site Flags p q = absurd (q.1 p.1)
-cause_unique complete size arrived Flags Missing p q = absurd (p.0 q)
-cause_unique complete size arrived Flags Site p q = absurd (p.1 q.1)
-cause_unique complete size arrived Flags Flags p q = refl
-
-cause_diverges : (complete : Bool) (size : ℕ) (arrived : Arrivals) (c : DivergenceCause) → HasDivergenceCause complete size arrived c → IsDivergentOf complete size arrived
-cause_diverges complete size arrived Missing p = inr p
-cause_diverges complete size arrived Site (missing, (i, j, a, b, at_i, at_j, differ)) = inl (i, j, a, b, at_i, at_j, λ same. differ (ap (λ (m : Mark). m.site) same))
-cause_diverges complete size arrived Flags p = inl p.2
-
 -- the cause of a group's instance
 abbrev pub HasCause : List GroupMarks → ℕ → ℕ → DivergenceCause → Type 0
 HasCause v g k c = HasDivergenceCause (group_of v g).ended (length (group_of v g).marks) (brought (group_of v g) k) c
@@ -152,7 +136,7 @@ module _ (v : List GroupMarks) (g k : ℕ) (ds : List Divergence) (listed : AreL
     is_this : (d : Divergence) → IsDivergence v d → d.group ≡ g → d.instance ≡ k → d ≡ this
     is_this d is group instance =
         let causes : HasCause v g k d.cause = subst (λ (n : ℕ). HasCause v g n d.cause) instance (subst (λ (n : ℕ). HasCause v n d.instance d.cause) group is.cause) in
-        let same : d.cause ≡ c = cause_unique (group_of v g).ended (length (group_of v g).marks) (brought (group_of v g) k) d.cause c causes cause in
+        let same : d.cause ≡ c = one_cause (group_of v g).ended (length (group_of v g).marks) (brought (group_of v g) k) d.cause c causes cause in
         let first : Divergence = record { group = g; instance = d.instance; cause = d.cause } in
         let second : Divergence = record { group = g; instance = k; cause = d.cause } in
         let one : d ≡ first = ap (λ (n : ℕ). let x : Divergence = record { group = n; instance = d.instance; cause = d.cause } in x) group in

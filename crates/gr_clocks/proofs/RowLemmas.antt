@@ -114,6 +114,9 @@ same_items i j t =
     let turn : i ≡ first = ap (λ (g : ℕ). let x : ItemId = record { group = g; item = i.item } in x) group in
     turn ∙ ap (λ (n : ℕ). let x : ItemId = record { group = j.group; item = n } in x) item
 
+pub same_item_self : (i : ItemId) → same_item i i ≡ true
+same_item_self i = and_from (i.group == i.group) (i.item == i.item) (eq-eqb i.group i.group refl) (eq-eqb i.item i.item refl)
+
 apart_items : (i j : ItemId) → same_item i j ≡ false → (i.group ≡ j.group) × (i.item ≡ j.item) → ⊥
 apart_items i j f (group, item) =
     both_ways (same_item i j) f (and_from (i.group == j.group) (i.item == j.item) (eq-eqb i.group j.group group) (eq-eqb i.item j.item item))

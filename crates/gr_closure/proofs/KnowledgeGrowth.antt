@@ -9,7 +9,7 @@ use Rattle.gr_model.specs.Instances.{Mark}
 use Rattle.gr_model.specs.LawfulOrders.{IsIn, IsLawful}
 use Rattle.gr_model.specs.Streams.{Grows, Streams}
 use Rattle.gr_model.proofs.Descent.{lawful_is_grounded, together-swap}
-use Rattle.gr_model.proofs.GrowthLaws.{before_grows, before_shrinks, convergent_grows, stands_grows, together_shrinks}
+use Rattle.gr_model.proofs.GrowthLaws.{before_grows, before_shrinks, together_shrinks, together_grows}
 use Rattle.gr_closure.specs.Knowledge.{Knows, by_event, by_instance}
 
 module _ (s t : Streams) (m : Space) (order : List EventId) (grows : Grows s t) (lawful : IsLawful s order) where
@@ -25,15 +25,6 @@ module _ (s t : Streams) (m : Space) (order : List EventId) (grows : Grows s t) 
   seen_stays e d h = (seen_grows e d h, seen_shrinks e d h)
 
   -- the barriers that a handled barrier has met stay the same, and are handled
-  met_grows : (a : Mark) (c b : EventId) → Together s a c b → Together t a c b
-  met_grows a c b met = record {
-    group = met.group;
-    instance = met.instance;
-    convergent = convergent_grows s t grows met.group met.instance a met.convergent;
-    first = stands_grows s t grows c met.group met.instance met.first;
-    second = stands_grows s t grows b met.group met.instance met.second;
-  }
-
   met_shrinks : (a : Mark) (c b : EventId) → IsIn order b → Together t a c b → Together s a c b
   met_shrinks a c b h met =
       let event = lawful.event h.0 b h.1 in
@@ -44,7 +35,7 @@ module _ (s t : Streams) (m : Space) (order : List EventId) (grows : Grows s t) 
 
   known_grows : (i : ItemId) (d : EventId) → Knows s m order i d → Knows t m order i d
   known_grows i d (by_event e h item seen) = by_event e h item (seen_grows e d h seen)
-  known_grows i d (by_instance a c b h item flagged met seen) = by_instance a c b h item flagged (met_grows a c b met) (seen_grows c d (met_handled a c b h met) seen)
+  known_grows i d (by_instance a c b h item flagged met seen) = by_instance a c b h item flagged (together_grows s t grows a c b met) (seen_grows c d (met_handled a c b h met) seen)
 
   known_shrinks : (i : ItemId) (d : EventId) → Knows t m order i d → Knows s m order i d
   known_shrinks i d (by_event e h item seen) = by_event e h item (seen_shrinks e d h seen)

@@ -8,9 +8,10 @@ use Rattle.gr_model.specs.Counts.{IsSeen}
 use Rattle.gr_model.specs.HappensBefore.{BasePair, HappensBefore, behind_barrier, sequenced, synchronized}
 use Rattle.gr_model.specs.LawfulOrders.{IsIn, IsLawful}
 use Rattle.gr_model.specs.Streams.{IsEvent, Streams}
+use Rattle.gr_model.proofs.Cuts.{same_event}
 use Rattle.gr_steps.specs.Steps.{IsReady, Meets}
 use Rattle.gr_steps.proofs.NextEvents.{next_of_item}
-use Rattle.gr_steps.proofs.Orders.{handled_before, number_before, same_event}
+use Rattle.gr_steps.proofs.Orders.{handled_before, number_before}
 use Rattle.gr_closure.specs.Knowledge.{Knows, Learns, by_event, by_instance}
 use Rattle.gr_closure.proofs.Seeing.{last_pair, seen_before}
 

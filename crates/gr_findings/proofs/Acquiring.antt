@@ -1,5 +1,5 @@
 -- The unmatched acquires, found one after the other.
-use Rattle.std.proofs.Common.{◌≡◌, ◌≢◌, ◌⊎◌, ℕ, ◌+◌, ◌<◌, ◌≤◌, Bool, true, false, List, [], ◌∷◌, ◌++◌, length, Some, None, refl, sym, ap, ◌∙◌, subst, inl, inr, ⊎_elim, arith, eq-or-lt_of_le, option_and_then, eqb-true, true≢false, ◌&&◌, ◌==◌, not}
+use Rattle.std.proofs.Common.{◌≡◌, ◌≢◌, ◌⊎◌, ℕ, ◌+◌, ◌<◌, ◌≤◌, List, [], ◌∷◌, ◌++◌, length, Some, None, refl, sym, ap, ◌∙◌, subst, inl, inr, ⊎_elim, arith, eq-or-lt_of_le, option_and_then}
 use Rattle.std.proofs.lemmas.Bool.{cases_eq, cases_lt}
 use Rattle.gr_model.specs.declared.event.Event.{Event}
 use Rattle.gr_model.specs.declared.event.EventId.{EventId}
@@ -8,15 +8,14 @@ use Rattle.gr_model.specs.declared.event.Name.{Name}
 use Rattle.gr_model.specs.declared.report.AcquireCause.{AcquireCause}
 use Rattle.gr_model.specs.declared.report.AcquireCause.TheVariants.{Absent, Behind, OtherWord}
 use Rattle.gr_model.specs.declared.report.Unmatched.{Unmatched}
-use Rattle.gr_model.specs.Events.{is_end}
 use Rattle.gr_model.specs.Names.{HasAcquireCause, HasName, IsAbsent, IsOfItsWord, IsOfOtherWord}
 use Rattle.gr_model.specs.Reports.{IsUnmatched, IsUnmatchedAcquire, Lists, UnmatchedBelow}
-use Rattle.gr_model.specs.Streams.{AreFronts, IsEvent, Streams, event_at, is_of, list_of, size_of, word_at}
-use Rattle.gr_steps.proofs.EventRecords.{filter-there, group_there}
-use Rattle.gr_steps.proofs.Orders.{same_event}
+use Rattle.gr_model.specs.Streams.{AreFronts, Streams, event_at, size_of, word_at}
+use Rattle.gr_model.proofs.Cuts.{same_event}
 use Rattle.gr_clocks.specs.Counts.{Counts, count_of}
 use Rattle.gr_findings.specs.Acquires.{AreUnmatchedBefore, IsGroundedFront, IsItemBefore}
 use Rattle.gr_findings.proofs.Lists.{listed_push, listed_same, none_listed}
+use Rattle.gr_steps.proofs.EventRecords.{group_of_event, item_of_event}
 
 -- ---- causes
 
@@ -113,18 +112,6 @@ module _ (s : Streams) (frontier : Counts) (front : IsGroundedFront s frontier) 
 
 -- ---- the list
 
-and_left : (a b : Bool) → (a && b) ≡ true → a ≡ true
-and_left true b e = refl
-and_left false b e = absurd (true≢false (sym e))
-
--- an event that was taken is one of the shape's items
-item_there : (s : Streams) → AreFronts s → (e : EventId) → IsEvent s e → (e.at.group < length s.sizes) × (e.at.item < size_of s e.at.group)
-item_there s fronts e (x, at) =
-    let group : e.at.group < length s.sizes = omega (arith, group_there s e (x, at), fronts.count) in
-    let kept = filter-there (is_of e.at.item) (list_of s e.at.group) e.index x at in
-    let ok = ((fronts.each e.at.group group).good kept.0 x kept.1).0 in
-    (group, subst (λ n. n < size_of s e.at.group) (eqb-true x.item e.at.item (and_left (x.item == e.at.item) (not (is_end x)) kept.2)) ok.0)
-
 item_at : ℕ → ℕ → ItemId
 item_at g i = record { group = g; item = i }
 
@@ -189,7 +176,7 @@ module _ (s : Streams) where
         later u p (inl lower) =
             ⊎_elim
             (λ (same : u.event.at.group ≡ g).
-            let within = (item_there s fronts u.event p.unmatched.event).1 in
+            let within = item_of_event s fronts u.event p.unmatched.event.0 p.unmatched.event.1 in
             let size : size_of s u.event.at.group ≡ size_of s g = ap (size_of s) same in
             inr (same, let lt : u.event.at.item < i = omega arith in lt))
             (λ (other : u.event.at.group ≡ g → ⊥). inl (let lt : u.event.at.group < g = omega arith in lt))
@@ -198,4 +185,4 @@ module _ (s : Streams) where
     -- and behind the last group all are found
     pub all_found : AreFronts s → length s.sizes ≤ g → Lists UnmatchedBelow (IsUnmatchedAcquire s) us
     all_found fronts all = listed_same UnmatchedBelow (Found g i) (IsUnmatchedAcquire s) us found (λ u p. p.0)
-        (λ u p. (p, inl (let lt : u.event.at.group < g = omega (arith, (item_there s fronts u.event p.unmatched.event).0) in lt)))
+        (λ u p. (p, inl (let lt : u.event.at.group < g = omega (arith, group_of_event s fronts u.event p.unmatched.event.0 p.unmatched.event.1) in lt)))

@@ -1,5 +1,5 @@
 -- The divergent instances, found one after the other.
-use Rattle.std.proofs.Common.{◌≡◌, ◌⊎◌, ℕ, zero, suc, ◌+◌, ◌<◌, ◌≤◌, Bool, true, false, cond, List, [], ◌∷◌, ◌++◌, length, filter, filter_map, Option, Some, None, IsTrue, is_some, slice_get, refl, sym, ap, ◌∙◌, subst, inl, inr, ⊎_elim, arith, true≢false}
+use Rattle.std.proofs.Common.{◌≡◌, ◌⊎◌, ℕ, zero, suc, ◌+◌, ◌<◌, ◌≤◌, List, [], ◌∷◌, ◌++◌, length, filter, filter_map, Some, None, IsTrue, slice_get, refl, sym, ap, ◌∙◌, subst, inl, inr, ⊎_elim, arith}
 use Rattle.std.specs.List.{cons_option}
 use Rattle.std.proofs.lemmas.Bool.{cases_eq, cases_lt}
 use Rattle.std.proofs.lemmas.Option.{slice_get_past}
@@ -8,12 +8,14 @@ use Rattle.gr_model.specs.declared.event.Kind.{Kind}
 use Rattle.gr_model.specs.declared.event.Kind.TheVariants.{Barrier, End, Load, Read, Rmw, Store, Write}
 use Rattle.gr_model.specs.declared.report.Divergence.{Divergence}
 use Rattle.gr_model.specs.declared.report.DivergenceCause.{DivergenceCause}
-use Rattle.gr_model.specs.declared.report.DivergenceCause.TheVariants.{Flags, Missing, Site}
 use Rattle.gr_model.specs.Barriers.{IsDivergent, arrivals, mark_of, mark_of_kind}
-use Rattle.gr_model.specs.Instances.{AreMixed, Arrivals, HasDivergenceCause, IsDivergentOf, IsMissing, Mark, SitesDiffer}
+use Rattle.gr_model.specs.Instances.{AreMixed, HasDivergenceCause, IsMissing, Mark, SitesDiffer}
 use Rattle.gr_model.specs.Reports.{DivergenceBelow, IsDivergence, Lists}
 use Rattle.gr_model.specs.Streams.{Streams, is_complete, is_of, list_of, size_of, trace_of}
+use Rattle.gr_model.proofs.Causes.{cause_diverges, one_cause}
+use Rattle.gr_model.proofs.ListsOfRecords.{length-filter_le}
 use Rattle.gr_lanes.specs.Instances.{HasCome}
+use Rattle.gr_lanes.proofs.InstanceLemmas.{mark_come}
 use Rattle.gr_findings.specs.Instances.{AreDivergencesBefore, IsInstanceBefore, NobodyCame, SomeCameFromElsewhere, SomeMissing}
 use Rattle.gr_findings.proofs.Lists.{listed_push, listed_same, none_listed}
 
@@ -29,15 +31,11 @@ site_of_kind (Rmw scope order) word a e = cc
 site_of_kind (Barrier global local) word a e = let m : Mark = record { site = word; global = global; local = local } in let is : m ≡ a = cc in ap (λ (b : Mark). b.site) (sym is)
 site_of_kind (End cut) word a e = cc
 
-some_mark : (o : Option Mark) → is_some o ≡ true → (a : Mark) × (o ≡ Some a)
-some_mark None e = absurd (true≢false (sym e))
-some_mark (Some a) e = (a, refl)
-
 -- ---- causes
 
 module _ (s : Streams) (g k : ℕ) (x : Event) (come : HasCome s g k x) where
   mine : (a : Mark) × (mark_of x ≡ Some a)
-  mine = some_mark (mark_of x) come.barrier
+  mine = mark_come s g k x come
 
   site_is : mine.0.site ≡ x.word
   site_is = site_of_kind x.kind x.word mine.0 mine.1
@@ -56,22 +54,6 @@ module _ (s : Streams) (g k : ℕ) (x : Event) (come : HasCome s g k x) where
   mixed_if (inl mixed) whole = mixed
   mixed_if (inr missing) whole = absurd (whole missing)
 
-one_cause : (complete : Bool) (size : ℕ) (arrived : Arrivals) (c d : DivergenceCause) → HasDivergenceCause complete size arrived c → HasDivergenceCause complete size arrived d → c ≡ d
-one_cause complete size arrived Missing Missing p q = refl
-one_cause complete size arrived Missing Site p q = absurd (q.0 p)
-one_cause complete size arrived Missing Flags p q = absurd (q.0 p)
-one_cause complete size arrived Site Missing p q = absurd (p.0 q)
-one_cause complete size arrived Site Site p q = refl
-one_cause complete size arrived Site Flags p q = absurd (q.1 p.1)
-one_cause complete size arrived Flags Missing p q = absurd (p.0 q)
-one_cause complete size arrived Flags Site p q = absurd (p.1 q.1)
-one_cause complete size arrived Flags Flags p q = refl
-
-cause_diverges : (complete : Bool) (size : ℕ) (arrived : Arrivals) (c : DivergenceCause) → HasDivergenceCause complete size arrived c → IsDivergentOf complete size arrived
-cause_diverges complete size arrived Missing p = inr p
-cause_diverges complete size arrived Site (missing, (i, j, a, b, at_i, at_j, differ)) = inl (i, j, a, b, at_i, at_j, λ same. differ (ap (λ (m : Mark). m.site) same))
-cause_diverges complete size arrived Flags p = inl p.2
-
 -- ---- how far instances go
 
 none_later : {X : Type 0} (xs : List X) (k n : ℕ) → k ≤ n → slice_get xs k ≡ None → slice_get xs n ≡ None
@@ -89,22 +71,13 @@ few_marks (x ∷ xs) =
       | Some a ↦ omega arith
     ]
 
-few_kept : {X : Type 0} (test : X → Bool) (xs : List X) → length (filter test xs) ≤ length xs
-few_kept test [] = omega arith
-few_kept test (x ∷ xs) =
-    let rest = few_kept test xs in
-    elim (test x) as (λ b. length (cond b (x ∷ filter test xs) (filter test xs)) ≤ suc (length xs)) [
-      | true ↦ omega arith
-      | false ↦ omega arith
-    ]
-
 pub nobody_later : (s : Streams) (g k : ℕ) → NobodyCame s g k → (n : ℕ) → k ≤ n → NobodyCame s g n
 nobody_later s g k none n le i within = none_later (filter_map mark_of (trace_of s (record { group = g; item = i }))) k n le (none i within)
 
 pub nobody_past : (s : Streams) (g k : ℕ) → length (list_of s g) ≤ k → (n : ℕ) → k ≤ n → NobodyCame s g n
 nobody_past s g k past n le i within =
     let marks = few_marks (filter (is_of i) (list_of s g)) in
-    let kept = few_kept (is_of i) (list_of s g) in
+    let kept = length-filter_le (is_of i) (list_of s g) in
     slice_get_past (filter_map mark_of (filter (is_of i) (list_of s g))) n (omega arith)
 
 nobody_diverges : (s : Streams) (g k : ℕ) → NobodyCame s g k → ¬ IsDivergent s g k

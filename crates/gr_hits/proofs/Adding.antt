@@ -10,9 +10,9 @@ use Rattle.gr_model.specs.Streams.{Streams, word_at}
 use Rattle.gr_clocks.specs.declared.access.Access.{Access}
 use Rattle.gr_steps.specs.Steps.{AreBarriers, Handles, Meets}
 use Rattle.gr_steps.proofs.BarrierPlaces.{barrier_there}
-use Rattle.gr_shadow.specs.Clashes.{ClockedAccess, clocked}
+use Rattle.gr_clocks.specs.ClockedAccess.{ClockedAccess, clocked, bare}
 use Rattle.gr_closure.specs.Accesses.{IsAccess}
-use Rattle.gr_hits.specs.Accesses.{AreAccesses, bare, of_none, of_access, of_other}
+use Rattle.gr_hits.specs.Accesses.{AreAccesses, of_none, of_access, of_other}
 
 -- an access tells the same without its allocator
 pub bare_access : {Z : Type 0} (s : Streams) (e : EventId) (a : Access Z) → IsAccess s e a → IsAccess s e (bare (clocked a))

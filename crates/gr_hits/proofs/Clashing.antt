@@ -10,9 +10,10 @@ use Rattle.gr_model.specs.Hits.{ClashesAt, SomePair}
 use Rattle.gr_model.specs.Races.{Clashes, IsRacy}
 use Rattle.gr_model.specs.Streams.{Streams, word_at}
 use Rattle.gr_model.proofs.Pairs.{PairIn, PairIn-from_some, SomeOf, SomePair-from_in}
-use Rattle.gr_shadow.specs.Clashes.{ClockedAccess, IsHitIn, clashes}
+use Rattle.gr_clocks.specs.ClockedAccess.{ClockedAccess, bare}
+use Rattle.gr_shadow.specs.Clashes.{IsHitIn, clashes}
 use Rattle.gr_closure.specs.Accesses.{IsAccess}
-use Rattle.gr_hits.specs.Accesses.{AreAccesses, bare, of_none, of_access, of_other}
+use Rattle.gr_hits.specs.Accesses.{AreAccesses, of_none, of_access, of_other}
 use Rattle.gr_hits.proofs.PairTests.{clash_is_hit, hit_is_clash}
 
 -- what clashes on a word has one

@@ -8,9 +8,9 @@ use Rattle.gr_model.specs.Streams.{Grows, Streams}
 use Rattle.gr_model.specs.Waits.{IsGrounded}
 use Rattle.gr_model.proofs.Descent.{lawful_is_grounded}
 use Rattle.gr_model.proofs.GrowthLaws.{before_grows, before_shrinks, event_grows, stage_event, word_grows}
-use Rattle.gr_shadow.specs.Clashes.{ClockedAccess}
+use Rattle.gr_clocks.specs.ClockedAccess.{ClockedAccess, bare}
 use Rattle.gr_closure.specs.Accesses.{IsAccess}
-use Rattle.gr_hits.specs.Accesses.{AreAccesses, bare, of_none, of_access, of_other}
+use Rattle.gr_hits.specs.Accesses.{AreAccesses, of_none, of_access, of_other}
 
 module _ (s t : Streams) (grows : Grows s t) where
   access_grows : (e : EventId) (x : ClockedAccess) → IsGrounded s e → IsAccess s e (bare x) → IsAccess t e (bare x)

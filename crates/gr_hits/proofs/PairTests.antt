@@ -1,7 +1,7 @@
 -- Of two accesses the race test tells whether their events clash.
 use Rattle.std.proofs.Common.{◌≡◌, ℕ, ◌<◌, Bool, true, false, ◌&&◌, ◌||◌, Some, refl, sym, ap, ◌∙◌, subst, inr, ⊎_elim, arith}
 use Rattle.std.specs.Prelude.{not, nat_lt}
-use Rattle.std.proofs.lemmas.Bool.{and_parts, and_from, not-true, not_from_false, false_from_ne_true, ltb-true, lt-ltb, eq-eqb, true≢false}
+use Rattle.std.proofs.lemmas.Bool.{and_parts, and_from, not-true, not_from_false, false_from_ne_true, ltb-true, lt-ltb, true≢false}
 use Rattle.gr_model.specs.declared.event.Event.{Event}
 use Rattle.gr_model.specs.declared.event.EventId.{EventId}
 use Rattle.gr_model.specs.declared.event.ItemId.{ItemId}
@@ -14,12 +14,12 @@ use Rattle.gr_model.specs.Races.{Clashes}
 use Rattle.gr_model.specs.Streams.{Streams}
 use Rattle.gr_clocks.specs.Rows.{same_item}
 use Rattle.gr_clocks.specs.Counts.{count_of}
-use Rattle.gr_clocks.proofs.RowLemmas.{same_items}
+use Rattle.gr_clocks.proofs.RowLemmas.{same_items, same_item_self}
 use Rattle.gr_scopes.specs.Classes.{exempt}
 use Rattle.gr_scopes.proofs.ClassLemmas.{exemption_told}
-use Rattle.gr_shadow.specs.Clashes.{ClockedAccess, clashes}
+use Rattle.gr_clocks.specs.ClockedAccess.{ClockedAccess, bare}
+use Rattle.gr_shadow.specs.Clashes.{clashes}
 use Rattle.gr_closure.specs.Accesses.{IsAccess}
-use Rattle.gr_hits.specs.Accesses.{bare}
 
 not_exempt : (e p r : Bool) → e ≡ not (p && not r) → p ≡ true → r ≡ false → not e ≡ true
 not_exempt e p r is modifying apart = grind arith
@@ -28,9 +28,6 @@ exempt_parts : (e p r : Bool) → e ≡ not (p && not r) → not e ≡ true → 
 exempt_parts e true true is h = cc
 exempt_parts e true false is h = (refl, refl)
 exempt_parts e false r is h = cc
-
-same_item_self : (i : ItemId) → same_item i i ≡ true
-same_item_self i = and_from _ _ (eq-eqb i.group i.group refl) (eq-eqb i.item i.item refl)
 
 module _ (s : Streams) (w : Word) (e f : EventId) (x y : ClockedAccess) (of_e : IsAccess s e (bare x)) (of_f : IsAccess s f (bare y)) where
   exemption : exempt x.class x.item.group y.class y.item.group ≡ not ((modifies of_e.event.kind || modifies of_f.event.kind) && not (inclusive of_e.event.kind x.item.group of_f.event.kind y.item.group))

@@ -3,13 +3,8 @@
 use Rattle.std.specs.Prelude.{◌≡◌, List, [], ◌∷◌, None}
 use Rattle.gr_model.specs.declared.event.EventId.{EventId}
 use Rattle.gr_model.specs.Streams.{Streams, word_at}
-use Rattle.gr_clocks.specs.declared.access.Access.{Access}
-use Rattle.gr_shadow.specs.Clashes.{ClockedAccess}
 use Rattle.gr_closure.specs.Accesses.{IsAccess}
-
--- an access without its allocator
-abbrev pub bare : ClockedAccess → Access (Unit {0})
-bare x = record { word = x.word; item = x.item; index = x.index; class = x.class; clock = x.clock }
+use Rattle.gr_clocks.specs.ClockedAccess.{ClockedAccess, bare}
 
 -- the accesses of the events of an order, one for each event that is an access, in the order of the events
 pub data AreAccesses (s : Streams) : List EventId → List ClockedAccess → Type 0 where

@@ -8,9 +8,10 @@ use Rattle.gr_model.specs.LawfulOrders.{IsLawful, IsWholeOrder, IsIn}
 use Rattle.gr_model.specs.Races.{Clashes, IsRacy}
 use Rattle.gr_model.specs.Hits.{SomePair}
 use Rattle.gr_steps.specs.Steps.{Handles, Meets}
-use Rattle.gr_shadow.specs.Clashes.{ClockedAccess, IsHitIn}
+use Rattle.gr_clocks.specs.ClockedAccess.{ClockedAccess, bare}
+use Rattle.gr_shadow.specs.Clashes.{IsHitIn}
 use Rattle.gr_closure.specs.Accesses.{IsAccess}
-use Rattle.gr_hits.specs.Accesses.{AreAccesses, bare}
+use Rattle.gr_hits.specs.Accesses.{AreAccesses}
 
 -- a word is hit in the accesses along an order exactly where an event of the order clashes on it with an earlier one
 abbrev pub HitsAreClashes : Type 0

@@ -1,7 +1,7 @@
 -- What was taken of groups, by what was taken of each.
 use Rattle.std.proofs.Common.{◌≡◌, ℕ, zero, suc, ◌+◌, ◌<◌, ◌≤◌, List, [], ◌∷◌, ◌++◌, length, map, get_or, set, take, refl, sym, ap, ◌∙◌, subst, ⊎_elim, arith, IsTrue, true}
 use Rattle.std.specs.Prelude.{nat_lt}
-use Rattle.std.proofs.lemmas.Bool.{cases_eq, ltb-true}
+use Rattle.std.proofs.lemmas.Bool.{cases_eq, ltb-true, false_from_ne_true}
 use Rattle.std.proofs.lemmas.List.{length-set, length-map, map-set, get_or-map, get_or-set_same, get_or-set_other, map-append, take_more}
 use Rattle.std.proofs.Math.Seq.{map-set_same}
 use Rattle.gr_model.specs.declared.event.Event.{Event}
@@ -9,9 +9,9 @@ use Rattle.gr_model.specs.declared.limits.TheConstants.{MOST_RECORDS}
 use Rattle.gr_model.specs.Shapes.{IsShape}
 use Rattle.gr_model.specs.Streams.{AreFronts, IsFront, Streams, is_complete, list_of, size_of}
 use Rattle.gr_model.specs.Reports.{IsCut}
+use Rattle.gr_model.proofs.StreamFronts.{front_push}
 use Rattle.gr_lanes.specs.Indices.{AreGroups, EndsCut, GroupList, taken_of}
 use Rattle.gr_lanes.specs.Takes.{CanTake, IsEventButItem, nothing_taken, with_record}
-use Rattle.gr_lanes.proofs.IndexLemmas.{front_more}
 
 -- a group of which nothing was taken
 abbrev pub empty : ℕ → GroupList
@@ -112,7 +112,7 @@ module _ {sizes : List ℕ} {groups : List GroupList} {g : ℕ} {now : GroupList
   front_here : IsFront (get_or sizes g 0) (get_or (set lists g longer) g [])
   front_here =
       subst (IsFront (get_or sizes g 0)) (sym (get_or-set_same lists g longer [] list_there))
-      (front_more (get_or sizes g 0) (list_of (taken_of sizes groups) g) x (t.are.fronts.each g t.there) (can_take.item, t.good.0, t.good.1) can_take.before_end (subst (λ l. length l < MOST_RECORDS) list t.room))
+      (front_push (get_or sizes g 0) (list_of (taken_of sizes groups) g) x (t.are.fronts.each g t.there) (can_take.item, t.good.0, t.good.1) (false_from_ne_true (is_complete (list_of (taken_of sizes groups) g)) can_take.before_end) (subst (λ l. length l < MOST_RECORDS) list t.room))
 
   pub fronts_grow : AreFronts (with_record (taken_of sizes groups) g x)
   fronts_grow = record {

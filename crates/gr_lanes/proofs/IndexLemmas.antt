@@ -1,7 +1,7 @@
 -- What one record more makes of the index of each item.
 use Rattle.std.proofs.Common.{◌≡◌, ℕ, zero, suc, ◌+◌, ◌-◌, ◌<◌, ◌≤◌, Bool, true, false, not, ◌&&◌, ◌==◌, cond, List, [], ◌∷◌, ◌++◌, length, filter, Some, None, Err, nat_cmp, slice_get, get_or, set, take, refl, sym, ap, ◌∙◌, subst, ⊎_elim, arith, append-nil, IsTrue, ltb}
-use Rattle.std.proofs.lemmas.Bool.{cases_lt, cases_eq, eq-eqb, ltb-false, ltb-true, ne_eqb}
-use Rattle.std.proofs.lemmas.List.{length-set, get_or-set_same, get_or-set_other, get_or_read, get_or_push, get_or_append_left, length_push}
+use Rattle.std.proofs.lemmas.Bool.{cases_lt, cases_eq, eq-eqb, ltb-false, ltb-true, ne_eqb, false_from_ne_true}
+use Rattle.std.proofs.lemmas.List.{length-set, get_or-set_same, get_or-set_other, get_or_read, get_or_push, get_or_append_left}
 use Rattle.std.proofs.lemmas.List.Elements.{filter-append}
 use Rattle.std.proofs.lemmas.Option.{get_or_from_slice_get, slice_get_past, slice_get_within}
 use Rattle.std.proofs.lemmas.List.Sorted.{searched}
@@ -15,7 +15,7 @@ use Rattle.gr_model.specs.declared.event.Kind.TheVariants.{End}
 use Rattle.gr_model.specs.Events.{IsEventOk, is_end, is_end_kind}
 use Rattle.gr_model.specs.Streams.{IsFront, AreGood, is_complete, is_of, places_from}
 use Rattle.gr_model.proofs.Places.{places_from-append}
-use Rattle.gr_model.proofs.ListsOfRecords.{is_complete-last}
+use Rattle.gr_model.proofs.StreamFronts.{front_push}
 use Rattle.gr_lanes.specs.Indices.{EndsCut, Index, index_of, no_index, with_if, with_event, indexed, AreIndices, AreRising}
 
 -- an element more at the end of a list
@@ -65,36 +65,6 @@ index_here list x i mine =
     marked : (test : Event → Bool) → filter (is_of i) (list ++ x ∷ []) ≡ filter (is_of i) list ++ x ∷ [] → places_from test 0 (filter (is_of i) (list ++ x ∷ [])) ≡ with_if (test x) (places_from test 0 (filter (is_of i) list)) (length (places_from (is_of i) 0 list))
     marked test trace = ap (places_from test 0) trace ∙ (places_more test (filter (is_of i) list) x ∙ ap (with_if (test x) (places_from test 0 (filter (is_of i) list))) (sym (length-places (is_of i) 0 list)))
 
--- ---- fronts
-
--- no record of a front that is not complete is an end
-no_end : (items : ℕ) (list : List Event) → AreGood items list → ¬ IsTrue (is_complete list) → (p : ℕ) (x : Event) → slice_get list p ≡ Some x → ¬ IsTrue (is_end x)
-no_end items list good open_list p x at end =
-    let last : p + 1 ≡ length list = (good p x at).1 end in
-    let same : length list - 1 ≡ p = omega arith in
-    open_list (is_complete-last list x (ap (slice_get list) same ∙ at) ∙ end)
-
-at_end : {X : Type 0} (xs : List X) (x y : X) (p : ℕ) → length xs ≤ p → slice_get (xs ++ x ∷ []) p ≡ Some y → (x ≡ y) × (p ≡ length xs)
-at_end [] x y zero l e = (cc, refl)
-at_end [] x y (suc p) l e = cc
-at_end (z ∷ xs) x y zero l e = absurd (omega arith)
-at_end (z ∷ xs) x y (suc p) l e = let h = at_end xs x y p (omega arith) e in (h.0, omega (arith, h.1))
-
-before : {X : Type 0} (xs : List X) (x y : X) (p : ℕ) → p < length xs → slice_get (xs ++ x ∷ []) p ≡ Some y → slice_get xs p ≡ Some y
-before [] x y p l e = absurd (omega arith)
-before (z ∷ xs) x y zero l e = e
-before (z ∷ xs) x y (suc p) l e = before xs x y p (omega arith) e
-
-pub front_more : (items : ℕ) (list : List Event) (x : Event) → IsFront items list → IsEventOk x items → ¬ IsTrue (is_complete list) → length list < MOST_RECORDS → IsFront items (list ++ x ∷ [])
-front_more items list x front ok open_list room = record { few = omega (arith, length_push list x); good = good }
-  where
-    good : AreGood items (list ++ x ∷ [])
-    good p y at =
-        ⊎_elim
-        (λ (lt : p < length list). let was = before list x y p lt at in ((front.good p y was).0, λ end. absurd (no_end items list front.good open_list p y was end)))
-        (λ (ge : length list ≤ p). let last = at_end list x y p ge at in (subst (λ z. IsEventOk z items) last.0 ok, λ end. omega (arith, last.1, length_push list x)))
-        (cases_lt p (length list))
-
 -- ---- the lanes of a group
 
 -- a record that is an end is none of any item's
@@ -117,7 +87,7 @@ module _ (lanes : List Index) (list : List Event) (x : Event) (are : AreIndices 
   indices_more open_list room = by_end (is_end x) refl
     where
       front : IsFront (length lanes) (list ++ x ∷ [])
-      front = front_more (length lanes) list x are.front ok open_list room
+      front = front_push (length lanes) list x are.front ok (false_from_ne_true (is_complete list) open_list) room
 
       here : is_end x ≡ false → get_or (set lanes x.item event) x.item no_index ≡ index_of (list ++ x ∷ []) x.item
       here on =

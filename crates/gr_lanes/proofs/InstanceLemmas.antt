@@ -42,19 +42,20 @@ no_mark i (x ∷ xs) k e =
 
 -- ---- divergence
 
-module _ (s : Streams) (g k : ℕ) (x : Event) (come : HasCome s g k x) where
-  some_mark : (o : Option Mark) → is_some o ≡ true → (a : Mark) × (o ≡ Some a)
-  some_mark None e = absurd (true≢false (sym e))
-  some_mark (Some a) e = (a, refl)
+pub some_mark : (o : Option Mark) → is_some o ≡ true → (a : Mark) × (o ≡ Some a)
+some_mark None e = absurd (true≢false (sym e))
+some_mark (Some a) e = (a, refl)
 
-  mine : (a : Mark) × (mark_of x ≡ Some a)
-  mine = some_mark (mark_of x) come.barrier
+module _ (s : Streams) (g k : ℕ) (x : Event) (come : HasCome s g k x) where
+  -- the mark of one that came
+  pub mark_come : (a : Mark) × (mark_of x ≡ Some a)
+  mark_come = some_mark (mark_of x) come.barrier
 
   pub parted_diverges : (j : ℕ) → j < size_of s g → IsParted s g k (mark_of x) j → IsDivergent s g k
   parted_diverges j within parted =
       elim (arrivals s g k j) as (λ o. (arrivals s g k j ≡ o) → Parts (is_complete (list_of s g)) (mark_of x) o → IsDivergent s g k) [
-        | None ↦ λ none whole. inr (whole, (come.item, j, mine.0, (come.within, come.came ∙ mine.1), within, none))
-        | Some b ↦ λ at other. inl (come.item, j, mine.0, b, (come.within, come.came ∙ mine.1), (within, at), λ same. other (ap (λ (m : Mark). Some m) (sym same) ∙ sym mine.1))
+        | None ↦ λ none whole. inr (whole, (come.item, j, mark_come.0, (come.within, come.came ∙ mark_come.1), within, none))
+        | Some b ↦ λ at other. inl (come.item, j, mark_come.0, b, (come.within, come.came ∙ mark_come.1), (within, at), λ same. other (ap (λ (m : Mark). Some m) (sym same) ∙ sym mark_come.1))
       ] refl parted
 
   pub none_parted : ((j : ℕ) → j < size_of s g → IsParted s g k (mark_of x) j → ⊥) → IsDivergent s g k → ⊥

@@ -16,6 +16,7 @@ use Rattle.gr_model.specs.Waits.{CanGo, Stage, Waits, for_arrival, for_meeting, 
 use Rattle.gr_model.specs.declared.event.Space.{Space}
 use Rattle.gr_model.proofs.Descent.{together-swap, below_in_item, below_by_pair, stage_descends}
 use Rattle.gr_model.proofs.Places.{slice_get-append, places_from-append, places_from-there, places_from-within, filter_map-place}
+use Rattle.gr_model.proofs.Cuts.{same_event}
 
 -- an instance is not both convergent and divergent
 pub not_both : (u : Streams) (g k : ℕ) (a : Mark) → IsConvergent u g k a → IsDivergent u g k → ⊥
@@ -82,9 +83,6 @@ module _ (s t : Streams) (grows : Grows s t) where
       let p : Some had.0.index ≡ Some e.index = sym (place_grows is_release m.name.at m.name.release had.0.index had.1.place) ∙ m.by.place in cc in
       let same : had.0 ≡ e = same_event had.0 e (had.1.item ∙ sym m.by.item) place in
       record { name = m.name; by = subst (λ d. MatchesBy s m.name f d) same had.1 }
-    where
-      same_event : (d e : EventId) → d.at ≡ e.at → d.index ≡ e.index → d ≡ e
-      same_event d e item index = λ i. record { at = item i; index = index i }
 
   -- ---- barriers
 
@@ -133,7 +131,7 @@ module _ (s t : Streams) (grows : Grows s t) where
   pub stands_shrinks : (e : EventId) (g k : ℕ) → IsEvent s e → StandsIn t e g k → StandsIn s e g k
   stands_shrinks e g k there h = record { group = h.group; item = subst (λ n. e.at.item < n) (sym (size_grows g)) h.item; place = place_shrinks is_barrier e k there h.place }
 
-  together_grows : (a : Mark) (e b : EventId) → Together s a e b → Together t a e b
+  pub together_grows : (a : Mark) (e b : EventId) → Together s a e b → Together t a e b
   together_grows a e b h = record {
     group = h.group;
     instance = h.instance;

@@ -17,7 +17,7 @@ use Rattle.gr_model.specs.Races.{Clashes, Conflicts, IsRacy}
 use Rattle.gr_model.specs.Streams.{Streams}
 use Rattle.gr_model.proofs.Descent.{below_before, lawful_descends}
 
-eqb_swap : (a b : ℕ) → eqb a b ≡ eqb b a
+pub eqb_swap : (a b : ℕ) → eqb a b ≡ eqb b a
 eqb_swap a b = grind (arith, nat_tests)
 
 pub inclusive_swap : (a : Kind) (g : ℕ) (b : Kind) (h : ℕ) → inclusive a g b h ≡ inclusive b h a g

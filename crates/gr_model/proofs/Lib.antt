@@ -14,3 +14,5 @@ pub mod HitsAreRaces
 pub mod Fronts
 pub mod WordLemmas
 pub mod Sending
+pub mod Causes
+pub mod StreamFronts

@@ -1,5 +1,5 @@
 -- The next instance of a group, by the next events of its items.
-use Rattle.std.proofs.Common.{◌≡◌, ℕ, ◌<◌, ◌≤◌, List, Some, None, Option, slice_get, is_some, true, true≢false, length, refl, sym, ap, ◌∙◌, subst, ⊎_elim, arith, eq-or-lt_of_le}
+use Rattle.std.proofs.Common.{◌≡◌, ℕ, ◌<◌, ◌≤◌, List, Some, None, Option, slice_get, is_some, true, length, refl, sym, ap, ◌∙◌, subst, ⊎_elim, arith, eq-or-lt_of_le}
 use Rattle.std.specs.Prelude.{MatchOption}
 use Rattle.std.proofs.lemmas.Bool.{cases_lt}
 use Rattle.std.proofs.lemmas.List.{get_or_past}
@@ -118,7 +118,3 @@ module _ (s : Streams) (order : List EventId) (frontier : Counts) (first_ones : 
 
 pub no_group_meets : (s : Streams) (order : List EventId) (g : ℕ) → length s.sizes ≤ g → ¬ CanMeet s order g
 no_group_meets s order g past can = let some = can.2.convergent.0 in let none : size_of s g ≡ 0 = get_or_past s.sizes g 0 past in omega arith
-
-pub mark_there : (o : Option Mark) → is_some o ≡ true → (a : Mark) × (o ≡ Some a)
-mark_there None e = absurd (true≢false (sym e))
-mark_there (Some a) e = (a, refl)

@@ -12,12 +12,13 @@ use Rattle.gr_model.specs.LawfulOrders.{IsIn, IsLawful}
 use Rattle.gr_model.specs.Shapes.{HasItem}
 use Rattle.gr_model.specs.Streams.{size_of, trace_of}
 use Rattle.gr_model.proofs.Places.{slice_get-append}
+use Rattle.gr_model.proofs.Cuts.{same_event}
 use Rattle.gr_clocks.specs.declared.clock.TheConstants.{LARGEST_COUNT}
 use Rattle.gr_clocks.specs.Counts.{Counts, IsTick, count_of, sizes_of}
 use Rattle.gr_clocks.specs.Tables.{IsBeyond, item_of}
 use Rattle.gr_steps.specs.Steps.{AreBarriers, CanMeet, IsMeeting}
 use Rattle.gr_steps.proofs.Meeting.{lawful_meet}
-use Rattle.gr_steps.proofs.Orders.{at_behind, same_event, split_last, there_is}
+use Rattle.gr_steps.proofs.Orders.{at_behind, split_last, there_is}
 use Rattle.gr_order.specs.Readiness.{IsNextInstance}
 use Rattle.gr_order.specs.Sequences.{MeetsInstance, MeetsNext, Sequence}
 use Rattle.gr_order.specs.States.{AreFirst, IsState, TicksItems, counted_in, next_event, next_events}

@@ -1,5 +1,5 @@
 -- Instances and releases, by what is looked at.
-use Rattle.std.proofs.Common.{◌≡◌, ℕ, ◌<◌, Bool, true, false, List, length, Some, None, slice_get, is_some, refl, sym, ap, ◌∙◌, subst, arith, true≢false, eqb-true, ◌&&◌, ◌==◌, not, option_and_then}
+use Rattle.std.proofs.Common.{◌≡◌, ℕ, ◌<◌, true, List, Some, None, slice_get, is_some, refl, sym, ap, ◌∙◌, subst, arith, option_and_then}
 use Rattle.gr_model.specs.declared.event.Event.{Event}
 use Rattle.gr_model.specs.Barriers.{IsDivergent, StandsIn, is_barrier, mark_of}
 use Rattle.gr_model.specs.declared.event.ItemId.{ItemId}
@@ -7,14 +7,13 @@ use Rattle.gr_model.specs.declared.event.Name.{Name}
 use Rattle.gr_model.specs.Access.{event_word}
 use Rattle.gr_model.specs.LawfulOrders.{IsLawful}
 use Rattle.gr_model.specs.Names.{HasName, release_place}
-use Rattle.gr_model.specs.Streams.{AreFronts, Streams, event_at, is_of, list_of, place_of, size_of, trace_of, word_at}
+use Rattle.gr_model.specs.Streams.{AreFronts, Streams, event_at, place_of, trace_of, word_at}
 use Rattle.gr_model.specs.declared.event.EventId.{EventId}
-use Rattle.gr_model.specs.Events.{is_end}
+use Rattle.gr_model.proofs.Cuts.{same_event}
 use Rattle.gr_steps.proofs.BarrierPlaces.{same_instance}
-use Rattle.gr_steps.proofs.EventRecords.{filter-there, group_there}
 use Rattle.gr_steps.specs.Steps.{CanHandle, IsReady}
 use Rattle.gr_steps.proofs.NextEvents.{next_is_ready, ready_is_next, ready_release}
-use Rattle.gr_steps.proofs.Orders.{same_event}
+use Rattle.gr_steps.proofs.EventRecords.{item_of_event}
 use Rattle.gr_clocks.specs.Counts.{Counts, count_of}
 use Rattle.gr_lanes.proofs.InstanceLemmas.{barrier_mark}
 use Rattle.gr_lanes.specs.Instances.{HasCome}
@@ -23,20 +22,7 @@ use Rattle.gr_order.specs.States.{AreFirst}
 
 -- ---- an event that was taken
 
-and_left : (a b : Bool) → (a && b) ≡ true → a ≡ true
-and_left true b e = refl
-and_left false b e = absurd (true≢false (sym e))
-
 module _ (s : Streams) (fronts : AreFronts s) (e : EventId) (x : Event) (at : event_at s e ≡ Some x) where
-  pub group_of_event : e.at.group < length s.sizes
-  group_of_event = omega (arith, group_there s e (x, at), fronts.count)
-
-  pub item_of_event : e.at.item < size_of s e.at.group
-  item_of_event =
-      let kept = filter-there (is_of e.at.item) (list_of s e.at.group) e.index x at in
-      let ok = ((fronts.each e.at.group group_of_event).good kept.0 x kept.1).0 in
-      subst (λ n. n < size_of s e.at.group) (eqb-true x.item e.at.item (and_left (x.item == e.at.item) (not (is_end x)) kept.2)) ok.0
-
   -- a barrier has come to its instance
   pub come_of : (k : ℕ) → place_of s is_barrier e.at k ≡ Some e.index → HasCome s e.at.group k x
   come_of k place =
@@ -44,13 +30,13 @@ module _ (s : Streams) (fronts : AreFronts s) (e : EventId) (x : Event) (at : ev
       let index : e.index ≡ h.0 = omega (arith, h.2) in
       let same : h.1 ≡ x = let is : Some h.1 ≡ Some x = sym h.3 ∙ (ap (slice_get (trace_of s e.at)) (sym index) ∙ at) in cc in record {
         item = e.at.item;
-        within = item_of_event;
+        within = item_of_event s fronts e x at;
         barrier = subst (λ y. is_some (mark_of y) ≡ true) same h.5;
         came = h.4 ∙ ap mark_of same;
       }
 
   pub stands_there : (k : ℕ) → place_of s is_barrier e.at k ≡ Some e.index → StandsIn s e e.at.group k
-  stands_there k place = record { group = refl; item = item_of_event; place = place }
+  stands_there k place = record { group = refl; item = item_of_event s fronts e x at; place = place }
 
   pub passes_if : (k : ℕ) → place_of s is_barrier e.at k ≡ Some e.index → IsDivergent s e.at.group k → MayPass s e
   passes_if k place divergent h l stands =

@@ -4,12 +4,12 @@ use Rattle.std.specs.Prelude.{MatchOption}
 use Rattle.std.proofs.lemmas.Bool.{cases_lt, false≢true}
 use Rattle.gr_steps.specs.Steps.{CanHandle, IsAtRest}
 use Rattle.gr_steps.proofs.Resting.{rest_grounded}
+use Rattle.gr_steps.proofs.EventRecords.{group_of_event, item_of_event}
 use Rattle.gr_order.specs.declared.steps.Ready.{Ready}
 use Rattle.gr_order.specs.declared.steps.Ready.TheVariants.{Item, Group}
 use Rattle.gr_order.specs.Answers.{CanMake}
 use Rattle.gr_order.specs.Sequences.{IsDone, IsGroupAtRest, IsSequence, Sequence}
 use Rattle.gr_order.proofs.MeetLemmas.{no_group_meets}
-use Rattle.gr_order.proofs.ReadyLemmas.{group_of_event, item_of_event}
 
 module _ (q : Sequence) (is : IsSequence q) where
   pub all_rest : ((g : ℕ) → g < length q.taken.sizes → IsGroupAtRest q g) → IsAtRest q.taken q.handled

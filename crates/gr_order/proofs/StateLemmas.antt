@@ -12,10 +12,12 @@ use Rattle.gr_model.specs.LawfulOrders.{IsIn, IsLawful}
 use Rattle.gr_steps.proofs.StepGrowth.{lawful_grows}
 use Rattle.gr_steps.proofs.Handling.{lawful_handle}
 use Rattle.gr_steps.proofs.NextEvents.{ready_is_next}
-use Rattle.gr_steps.proofs.Orders.{at_behind, lawful_empty, same_event, split_last}
+use Rattle.gr_steps.proofs.Orders.{at_behind, lawful_empty, split_last}
 use Rattle.gr_steps.specs.Steps.{IsReady}
+use Rattle.gr_steps.proofs.EventRecords.{group_of_event, item_of_event}
 use Rattle.gr_model.specs.Shapes.{HasItem, items_of}
 use Rattle.gr_model.proofs.Places.{slice_get-append}
+use Rattle.gr_model.proofs.Cuts.{same_event}
 use Rattle.gr_clocks.specs.Rows.{same_item}
 use Rattle.gr_clocks.specs.Counts.{Counts, IsTick, IsZero, count_of, tick_at}
 use Rattle.gr_clocks.proofs.RowLemmas.{same_items}
@@ -23,7 +25,6 @@ use Rattle.gr_lanes.specs.Takes.{CanTake, nothing_taken, with_record}
 use Rattle.gr_lanes.proofs.Growth.{record_grows}
 use Rattle.gr_order.specs.Sequences.{Sequence, events_of}
 use Rattle.gr_order.specs.States.{AreFirst, IsState, counted_in}
-use Rattle.gr_order.proofs.ReadyLemmas.{group_of_event, item_of_event}
 use Rattle.gr_order.proofs.SumLemmas.{item_more, sum_none}
 use Rattle.gr_order.proofs.TakenLemmas.{events_more, no_events, one_at_most, one_if}
 

@@ -5,13 +5,14 @@ use Rattle.std.specs.List.{sum_by}
 use Rattle.std.proofs.lemmas.Bool.{eq-eqb, ne_eqb}
 use Rattle.std.proofs.lemmas.List.{length-append}
 use Rattle.std.proofs.lemmas.List.Elements.{filter-append}
-use Rattle.std.proofs.lemmas.List.Sums.{count_by-le-length, length-filter, sum_by-cons, sum_by-set}
+use Rattle.std.proofs.lemmas.List.Sums.{sum_by-cons, sum_by-set}
 use Rattle.gr_model.specs.declared.event.Event.{Event}
 use Rattle.gr_model.specs.declared.event.ItemId.{ItemId}
 use Rattle.gr_model.specs.declared.limits.TheConstants.{MOST_GROUPS, MOST_RECORDS}
 use Rattle.gr_model.specs.Events.{is_end}
 use Rattle.gr_model.specs.Shapes.{items_of}
 use Rattle.gr_model.specs.Streams.{AreFronts, Streams, is_of, list_of, size_of, trace_of}
+use Rattle.gr_model.proofs.ListsOfRecords.{length-filter_le}
 use Rattle.gr_lanes.specs.Takes.{CanTake, nothing_taken, with_record}
 use Rattle.gr_order.specs.Sequences.{events_of}
 use Rattle.gr_order.proofs.SumLemmas.{group_sum, items_sum, sum_places, total, total_more, total_same}
@@ -90,18 +91,15 @@ total_most f a (suc n) most =
     let first = most a (omega arith) (omega arith) in
     let rest = total_most f (a + 1) n (λ k from lt. most k (omega arith) (omega arith)) in omega arith
 
-few_in : {X : Type 0} (test : X → Bool) (list : List X) → length (filter test list) ≤ length list
-few_in test list = let part = length-filter test list in let most = count_by-le-length test list in omega arith
-
 pub trace_most : (s : Streams) → AreFronts s → (i : ItemId) → i.group < length s.sizes → length (trace_of s i) ≤ 16777216
 trace_most s fronts i there =
     let few : length (list_of s i.group) ≤ MOST_RECORDS = (fronts.each i.group there).few in
-    let part = few_in (is_of i.item) (list_of s i.group) in omega arith
+    let part = length-filter_le (is_of i.item) (list_of s i.group) in omega arith
 
 pub events_most : (s : Streams) → AreFronts s → events_of s ≤ 1073741824
 events_most s fronts =
     let lists : events_of s ≡ total (λ g. events_in (list_of s g)) 0 (length s.sizes) = sum_places events_in s.lists [] ∙ ap (λ (n : ℕ). total (λ g. events_in (list_of s g)) 0 n) fronts.count in
     let most = total_most (λ g. events_in (list_of s g)) 0 (length s.sizes) (λ g from there.
     let few : length (list_of s g) ≤ MOST_RECORDS = (fronts.each g (omega arith)).few in
-    let part = few_in (λ x. not (is_end x)) (list_of s g) in omega arith) in
+    let part = length-filter_le (λ x. not (is_end x)) (list_of s g) in omega arith) in
     let groups : length s.sizes ≤ MOST_GROUPS = fronts.shape.groups in omega arith

@@ -11,13 +11,13 @@ use Rattle.gr_model.specs.declared.event.Kind.TheVariants.{Read, Write, Load, St
 use Rattle.gr_model.specs.declared.event.Name.{Name}
 use Rattle.gr_model.specs.declared.event.Event.{Event}
 use Rattle.gr_model.specs.Access.{is_acquire_kind}
-use Rattle.gr_model.specs.Events.{IsNamingOk, IsKindOk}
+use Rattle.gr_model.specs.Events.{IsNamingOk, IsKindOk, end_of}
 use Rattle.gr_record.specs.declared.header.Header.{Header}
 use Rattle.gr_record.specs.declared.line.Line.TheVariants as lines
 use Rattle.gr_record.specs.Reading.{is_order_ok}
 use Rattle.gr_record.specs.Spelling.{IsHeader}
 use Rattle.gr_record.specs.LineText.{space_word, scope_word, order_word, flags_word, name_words, later_text, line_text}
-use Rattle.gr_record.specs.LineReading.{same, header_said, name_said, kind_said, atomic_said, barrier_said, event_said, checked, end_with, ◌>>=◌, line_said}
+use Rattle.gr_record.specs.LineReading.{same, header_said, name_said, kind_said, atomic_said, barrier_said, event_said, checked, ◌>>=◌, line_said}
 use Rattle.gr_record.specs.LineLaws.{TextIsRead}
 use Rattle.gr_record.proofs.LineNumbers.{same_self, number_back}
 use Rattle.gr_record.proofs.LineWords.{decimal_word, no_key, key_word, space_is_word, scope_is_word, order_is_word, flags_are_word, space_again, scope_again, order_again, flags_again, short_again, first_of_more, first_of_last}
@@ -137,7 +137,7 @@ event_line e key words lt order naming is =
     let w = first_of_more (decimal e.item) key words (decimal_word e.item (omega arith)) in
     rw (w, no_key e.item (codes "group") (omega arith) refl, no_key e.item (codes "end") (omega arith) refl, short_again e.item (omega arith), is) (ap (λ (o : Option Event). o >>= λ x. Some (lines.Event x)) (checked_again e lt order naming))
 
-end_again : (cut : Bool) → line_said (line_text (lines.Event (end_with cut))) ≡ Some (lines.Event (end_with cut))
+end_again : (cut : Bool) → line_said (line_text (lines.Event (end_of cut))) ≡ Some (lines.Event (end_of cut))
 unfolding line_said same
 end_again true = rw (first_of_more (codes "end") (codes "cut") [] (key_word (codes "end") refl)) refl
 end_again false = rw (first_of_last (codes "end") (key_word (codes "end") refl)) refl

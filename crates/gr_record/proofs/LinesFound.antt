@@ -9,7 +9,7 @@ use Rattle.gr_model.specs.declared.event.Kind.{Kind}
 use Rattle.gr_model.specs.declared.event.Kind.TheVariants.{Read, Write}
 use Rattle.gr_model.specs.declared.event.Name.{Name}
 use Rattle.gr_model.specs.declared.event.Event.{Event}
-use Rattle.gr_model.specs.Events.{IsKindOk}
+use Rattle.gr_model.specs.Events.{IsKindOk, end_of}
 use Rattle.gr_record.proofs.Found.{naming_ok}
 use Rattle.gr_record.specs.declared.header.Header.{Header}
 use Rattle.gr_record.specs.declared.line.Line.{Line}
@@ -17,7 +17,7 @@ use Rattle.gr_record.specs.declared.line.Line.TheVariants as lines
 use Rattle.gr_record.specs.Reading.{is_order_ok}
 use Rattle.gr_record.specs.Spelling.{IsHeader}
 use Rattle.gr_record.specs.LineText.{space_word, scope_word, order_word, flags_word, name_words, first_word, later_words, later_text, line_text}
-use Rattle.gr_record.specs.LineReading.{same, number_of, short_of, behind_space, first_of, ◌>>=◌, at_end, space_said, scope_said, order_said, flags_said, header_said, name_said, naming_said, kind_said, atomic_said, barrier_said, event_said, checked, end_with, end_said, line_said}
+use Rattle.gr_record.specs.LineReading.{same, number_of, short_of, behind_space, first_of, ◌>>=◌, at_end, space_said, scope_said, order_said, flags_said, header_said, name_said, naming_said, kind_said, atomic_said, barrier_said, event_said, checked, end_said, line_said}
 use Rattle.gr_record.specs.LineLaws.{IsSaid, ReadIsText}
 use Rattle.gr_record.proofs.LineNumbers.{same_is, number_found}
 use Rattle.gr_record.proofs.Words.{first_found}
@@ -320,11 +320,11 @@ line_of_event bytes rest item x e first behind said check =
 
 end_by : (bytes : List ℕ) (e : Event) (rest : Option (List ℕ)) → bytes ≡ codes "end" ++ behind_space rest → end_said rest ≡ Some e → IsSaid (lines.Event e) × (bytes ≡ line_text (lines.Event e))
 end_by bytes e None text h =
-    subst (λ (y : Event). IsSaid (lines.Event y) × (bytes ≡ line_text (lines.Event y))) (some_is (end_with false) e h) (record { ok = (omega arith, tt, (refl, refl, refl)); word = omega arith }, text)
+    subst (λ (y : Event). IsSaid (lines.Event y) × (bytes ≡ line_text (lines.Event y))) (some_is (end_of false) e h) (record { ok = (omega arith, tt, (refl, refl, refl)); word = omega arith }, text)
 end_by bytes e (Some rest) text h =
     let g = guard_some _ _ _ h in
     let cut : bytes ≡ codes "end" ++ later_text (codes "cut" ∷ []) = text ∙ ap (λ (x : List ℕ). codes "end" ++ 32 ∷ x) (same_is rest (codes "cut") g.0) in
-    subst (λ (y : Event). IsSaid (lines.Event y) × (bytes ≡ line_text (lines.Event y))) (some_is (end_with true) e g.1) (record { ok = (omega arith, tt, (refl, refl, refl)); word = omega arith }, cut)
+    subst (λ (y : Event). IsSaid (lines.Event y) × (bytes ≡ line_text (lines.Event y))) (some_is (end_of true) e g.1) (record { ok = (omega arith, tt, (refl, refl, refl)); word = omega arith }, cut)
 
 end_found : (bytes : List ℕ) (e : Event) → (first_of bytes).0 ≡ codes "end" → end_said (first_of bytes).1 ≡ Some e → IsSaid (lines.Event e) × (bytes ≡ line_text (lines.Event e))
 end_found bytes e first h = end_by bytes e (first_of bytes).1 (first_found bytes ∙ ap (λ (x : List ℕ). x ++ behind_space (first_of bytes).1) first) h

@@ -5,9 +5,10 @@ use Rattle.std.specs.Cmp.Lexicographic.{pointwise}
 use Rattle.std.specs.Str.Parse.{digits_value}
 use Rattle.gr_model.specs.declared.limits.TheConstants.{MOST_GROUPS, MOST_ITEMS_OF_A_GROUP}
 use Rattle.gr_model.specs.declared.event.Kind.{Kind}
-use Rattle.gr_model.specs.declared.event.Kind.TheVariants.{Read, Write, Load, Store, Rmw, Barrier, End}
+use Rattle.gr_model.specs.declared.event.Kind.TheVariants.{Read, Write, Load, Store, Rmw, Barrier}
 use Rattle.gr_model.specs.declared.event.Name.{Name}
 use Rattle.gr_model.specs.declared.event.Event.{Event}
+use Rattle.gr_model.specs.Events.{end_of}
 use Rattle.gr_record.specs.declared.header.Header.{Header}
 use Rattle.gr_record.specs.declared.line.Line.{Line}
 use Rattle.gr_record.specs.declared.line.Line.TheVariants as lines
@@ -159,13 +160,10 @@ event_said item bytes =
 abbrev pub checked : Event → Option Event
 checked e = if nat_lt e.item MOST_ITEMS_OF_A_GROUP && is_order_ok e.kind && is_name_ok e.kind e.name then Some e else None
 
-abbrev pub end_with : Bool → Event
-end_with cut = record { item = 0; kind = End cut; space = Global; word = 0; name = None }
-
 -- what stands behind `end`
 abbrev pub end_said : Option (List ℕ) → Option Event
-end_said None = Some (end_with false)
-end_said (Some bytes) = if same bytes (codes "cut") then Some (end_with true) else None
+end_said None = Some (end_of false)
+end_said (Some bytes) = if same bytes (codes "cut") then Some (end_of true) else None
 
 unfoldable pub line_said : List ℕ → Option Line
 line_said bytes =

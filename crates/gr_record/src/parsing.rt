@@ -2,7 +2,7 @@
 
 ghost use Rattle.std.specs.Prelude.{◌≡◌, ◌≢◌, ◌^◌, ◌<◌, ◌++◌, ℕ, List, Some, None, IfSome, MatchOption, All, decimal};
 ghost use Rattle.std.specs.Option.{option_map};
-ghost use Rattle.gr_record.specs.LineReading.{same, number_of, IsWord, IsFirstSpace, behind_space, first_of, space_said, scope_said, order_said, flags_said, short_of, header_made, header_said, name_said, kind_said, atomic_said, barrier_said, event_said, checked, end_with, line_said};
+ghost use Rattle.gr_record.specs.LineReading.{same, number_of, IsWord, IsFirstSpace, behind_space, first_of, space_said, scope_said, order_said, flags_said, short_of, header_made, header_said, name_said, kind_said, atomic_said, barrier_said, event_said, checked, line_said};
 ghost use Rattle.gr_record.specs.declared.line.Line.{Line};
 ghost use Rattle.gr_record.specs.LineText.{line_text};
 ghost use Rattle.gr_record.specs.LineLaws.{IsSaid};
@@ -236,6 +236,7 @@ fn parse_barrier(item: u16, site: &[u8], flags: &[u8]) -> Option<Event>
     })
 }
 
+/// A record that carries no name.
 fn plain(item: u16, kind: Kind, space: Space, word: u32) -> Event
     ensures { result ≡ record { item = item; kind = kind; space = space; word = word; name = None } }
 {
@@ -296,13 +297,6 @@ fn check(event: Event) -> Option<Event>
     }
 }
 
-/// The end of a stream.
-fn make_end(cut: bool) -> Event
-    ensures { result ≡ end_with cut }
-{
-    plain(0, Kind::End { cut }, Space::Global, 0)
-}
-
 /// What a line says, word by word.
 #[tactic(auto, unfolding(crate::specs::LineReading::line_said))]
 fn read_line(line: &[u8]) -> Option<Line>
@@ -314,8 +308,8 @@ fn read_line(line: &[u8]) -> Option<Line>
     }
     if is_word(first, "end") {
         return match rest {
-            None => Some(Line::Event(make_end(false))),
-            Some(bytes) if is_word(bytes, "cut") => Some(Line::Event(make_end(true))),
+            None => Some(Line::Event(Event::end(false))),
+            Some(bytes) if is_word(bytes, "cut") => Some(Line::Event(Event::end(true))),
             Some(_) => None,
         };
     }

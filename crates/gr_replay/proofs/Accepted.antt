@@ -7,9 +7,7 @@ use Rattle.std.proofs.lemmas.Bool.{ltb-false, eqb-false, not-false}
 use Rattle.std.proofs.lemmas.List.Folds.{list_any_at}
 use Rattle.std.proofs.lemmas.List.Elements.{All-push}
 use Rattle.std.proofs.lemmas.List.Quantifiers.{all_pairs_push}
-use Rattle.std.proofs.lemmas.List.{get_or-drop, get_or-take, get_or_past, length-take}
-use Rattle.std.proofs.lemmas.Bool.{cases_lt}
-use Rattle.std.proofs.Common.{⊎_elim}
+use Rattle.std.proofs.lemmas.List.{length-take}
 use Rattle.gr_model.specs.declared.event.Event.{Event}
 use Rattle.gr_model.specs.declared.limits.TheConstants.{MOST_RECORDS}
 use Rattle.gr_model.specs.Events.{is_end, IsEventOk}
@@ -31,6 +29,7 @@ use Rattle.gr_replay.specs.Joined as joined_spec
 use Rattle.gr_replay.specs.Joined.{Flat, at_place, stream_at, joined_at}
 use Rattle.gr_replay.specs.Laws.{AreStreams}
 use Rattle.gr_record.proofs.Found.{read_is_spelled}
+use Rattle.gr_record.proofs.FoundFronts.{bytes_drop, bytes_take}
 
 abbrev all : List Flat → Result (List Flat) Fault
 all x = Ok x
@@ -49,16 +48,6 @@ done x = Ok x
 
 same_done : {X : Type 0} (x y : X) → done x ≡ done y → x ≡ y
 same_done x y e = cc
-
-pub bytes-drop : (n : ℕ) (bytes : List ℕ) → AreBytes bytes → AreBytes (drop n bytes)
-bytes-drop n bytes fits i = rw get_or-drop (fits (n + i))
-
-bytes-take : (n : ℕ) (bytes : List ℕ) → AreBytes bytes → AreBytes (take n bytes)
-bytes-take n bytes fits i =
-    ⊎_elim
-    (λ (lt : i < n). let e = get_or-take n bytes i 0 lt in rw e (fits i))
-    (λ (ge : n ≤ i). let e = get_or_past (take n bytes) i 0 (omega (arith, length-take n bytes)) in rw e (omega arith))
-    (cases_lt i n)
 
 -- what a list is whose records were read up to its end
 pub record AreRead (items most : ℕ) (events : List Event) (rest : List ℕ) : Type 0 where
@@ -98,19 +87,19 @@ module _ (items : ℕ) where
 
   is_ok : (bytes : List ℕ) (e : Event) → AreBytes bytes → RECORD_LENGTH ≤ length bytes → event_at items (take RECORD_LENGTH bytes) ≡ Ok e → IsEventOk e items
   is_ok bytes e fits long h =
-      (read_is_spelled items e (take RECORD_LENGTH bytes) (bytes-take RECORD_LENGTH bytes fits) (omega (arith, length-take RECORD_LENGTH bytes)) h).1.ok
+      (read_is_spelled items e (take RECORD_LENGTH bytes) (bytes_take RECORD_LENGTH bytes fits) (omega (arith, length-take RECORD_LENGTH bytes)) h).1.ok
 
   pub records_read : (most : ℕ) (bytes : List ℕ) → AreBytes bytes → (events : List Event) (rest : List ℕ) → whole (records_at (event_at items) most bytes) ≡ Ok (events, rest) → AreRead items most events rest
   unfolding records_at
   records_read zero bytes fits events rest h = absurd (no_more (ltb (length bytes) RECORD_LENGTH) bytes events rest h)
   records_read (suc most) bytes fits events rest h =
-      by_length (ltb (length bytes) RECORD_LENGTH) refl h (λ es k. records_read most (drop RECORD_LENGTH bytes) (bytes-drop RECORD_LENGTH bytes fits) es rest k)
+      by_length (ltb (length bytes) RECORD_LENGTH) refl h (λ es k. records_read most (drop RECORD_LENGTH bytes) (bytes_drop RECORD_LENGTH bytes fits) es rest k)
     where
       next : Records
       next = records_at (event_at items) most (drop RECORD_LENGTH bytes)
 
       by_end : (e : Event) (b : Bool) → is_end e ≡ b → IsEventOk e items → whole (cond b (record { events = e ∷ []; rest = drop RECORD_LENGTH bytes; stop = AtEnd }) (behind e next)) ≡ Ok (events, rest) → ((es : List Event) → whole next ≡ Ok (es, rest) → AreRead items most es rest) → AreRead items (suc most) events rest
-      by_end e true end ok h later = let p = same_done {X = List Event × List ℕ} (e ∷ [], drop RECORD_LENGTH bytes) (events, rest) h in subst (λ (x : List Event × List ℕ). AreRead items (suc most) x.0 x.1) p (one_end most e (drop RECORD_LENGTH bytes) (bytes-drop RECORD_LENGTH bytes fits) ok end)
+      by_end e true end ok h later = let p = same_done {X = List Event × List ℕ} (e ∷ [], drop RECORD_LENGTH bytes) (events, rest) h in subst (λ (x : List Event × List ℕ). AreRead items (suc most) x.0 x.1) p (one_end most e (drop RECORD_LENGTH bytes) (bytes_drop RECORD_LENGTH bytes fits) ok end)
       by_end e false on ok h later =
           let p = behind_parts e next events rest h in
           subst (λ es. AreRead items (suc most) es rest) (sym p.0) (one_more most e next.events rest ok on (later next.events p.1))
@@ -134,7 +123,7 @@ header_rest bytes fits h rest e = by_length (ltb (length bytes) HEADER_LENGTH) e
   where
     by_header : (r : Result Header RecordError) → record_spec.◌>>=◌ {Y = Header × List ℕ} r (λ x. Ok (x, drop HEADER_LENGTH bytes)) ≡ Ok (h, rest) → AreBytes rest
     by_header (Err d) k = cc
-    by_header (Ok x) k = let p = same_done {X = Header × List ℕ} (x, drop HEADER_LENGTH bytes) (h, rest) k in subst (λ (y : Header × List ℕ). AreBytes y.1) p (bytes-drop HEADER_LENGTH bytes fits)
+    by_header (Ok x) k = let p = same_done {X = Header × List ℕ} (x, drop HEADER_LENGTH bytes) (h, rest) k in subst (λ (y : Header × List ℕ). AreBytes y.1) p (bytes_drop HEADER_LENGTH bytes fits)
 
     by_length : (b : Bool) → cond b (Err errors.Truncated) (record_spec.◌>>=◌ {Y = Header × List ℕ} (header_at bytes) (λ x. Ok (x, drop HEADER_LENGTH bytes))) ≡ Ok (h, rest) → AreBytes rest
     by_length true k = cc

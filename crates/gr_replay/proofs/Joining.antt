@@ -1,6 +1,6 @@
 -- Reading streams one after the other, as a loop does.
-use Rattle.std.proofs.Common.{◌≡◌, ℕ, zero, suc, ◌+◌, ◌-◌, ◌<◌, ◌≤◌, Bool, true, false, List, [], ◌∷◌, ◌++◌, length, Option, Some, None, Result, Ok, Err, refl, sym, ap, subst, ◌∙◌, arith}
-use Rattle.std.specs.Prelude.{not, ◌==◌, ◌||◌, IfSome}
+use Rattle.std.proofs.Common.{◌≡◌, ℕ, zero, suc, ◌+◌, ◌-◌, ◌<◌, ◌≤◌, Bool, true, false, List, [], ◌∷◌, ◌++◌, length, Result, Ok, Err, refl, sym, ap, ◌∙◌, arith}
+use Rattle.std.specs.Prelude.{not, ◌==◌, ◌||◌}
 use Rattle.std.specs.List.{list_any}
 use Rattle.std.proofs.lemmas.List.{length-map}
 use Rattle.gr_model.specs.declared.event.Event.{Event}
@@ -13,7 +13,8 @@ use Rattle.gr_record.specs.Faults.{stream_fault}
 use Rattle.gr_record.specs.WholeStreams as record_spec
 use Rattle.gr_record.specs.WholeStreams.{front_header_at, front_records_at}
 use Rattle.gr_replay.specs.declared.joined.Stream.{Stream}
-use Rattle.gr_input.specs.Faults.{IsOutside, Fails}
+use Rattle.gr_input.specs.Faults.{Fails}
+use Rattle.gr_input.proofs.Outside.{fails_through}
 use Rattle.gr_replay.specs.Joined.{Flat, flats, stream_at, joined_at}
 
 list_any-flats : {Z : Type 0} (test : Header → Bool) (seen : List (Stream Z)) → list_any (λ s. test s.header) (flats seen) ≡ list_any (λ s. test s.header) seen
@@ -59,11 +60,6 @@ unfolding joined_at
 nothing_left zero seen bytes e = refl
 nothing_left (suc n) seen bytes e = rw e refl
 
-pub fails_through : {X Y : Type 0} (f : Fault) (part : Result X Fault) (total : Result Y Fault) → Fails f part → (part ≡ Err f → total ≡ Err f) → Fails f total
-fails_through faults.Memory part total h go = tt
-fails_through faults.Read part total h go = tt
-fails_through f part total h go = go h
-
 module _ (seen : List Flat) (stop i : ℕ) (bytes : List ℕ) (total : Result (List Flat) Fault) (so_far : joined_at (stop - i) seen bytes ≡ total) where
   pub ends : (length bytes == 0) ≡ true → total ≡ Ok seen
   ends e = sym so_far ∙ nothing_left (stop - i) seen bytes e
@@ -91,19 +87,6 @@ module _ (seen : List Flat) (stop i : ℕ) (bytes : List ℕ) (total : Result (L
         sym one ∙ so_far
 
 -- ---- from a list of bytes to a reader
-
-pub at_known : (known : Option (List ℕ)) (bytes : List ℕ) (P : List ℕ → Type 0) → IfSome known (λ xs. bytes ≡ xs) → P bytes → IfSome known P
-at_known None bytes P e p = tt
-at_known (Some xs) bytes P e p = subst P e p
-
-pub at_any : (known : Option (List ℕ)) (P : List ℕ → Type 0) → ((xs : List ℕ) → P xs) → IfSome known P
-at_any None P p = tt
-at_any (Some xs) P p = p xs
-
-pub outside_fails : {Y : Type 0} (f : Fault) (meaning : Result Y Fault) → IsOutside f → Fails f meaning
-outside_fails faults.Memory meaning h = tt
-outside_fails faults.Read meaning h = tt
-outside_fails _ meaning h = absurd h
 
 -- a fault of a stream is none of the writer
 pub stream_fault_reads : (place : ℕ) (e : RecordError) → stream_fault place e ≡ faults.Write → ⊥

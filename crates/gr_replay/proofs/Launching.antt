@@ -1,7 +1,7 @@
 -- From streams to the launch that they are of.
 use Rattle.std.proofs.Common.{◌≡◌, ◌≢◌, ◌⊎◌, ℕ, zero, suc, ◌<◌, ◌≤◌, List, [], ◌∷◌, length, map, get_or, AllPairs, Contains, IsPermutation, Some, slice_get, slice_index, refl, sym, ap, ◌∙◌, subst, ⊎_elim, arith, eqb, eq-or-lt_of_le, option_map, inl, inr, Vec}
 use Rattle.std.proofs.lemmas.Bool.{cases_lt}
-use Rattle.std.proofs.lemmas.Bool.Decides.{nat_tests, Decides-eqb}
+use Rattle.std.proofs.lemmas.Bool.Decides.{Decides-eqb}
 use Rattle.std.proofs.lemmas.List.{get_or-map, length-map}
 use Rattle.std.proofs.lemmas.List.Elements.{All-get_or}
 use Rattle.std.proofs.lemmas.List.Sorted.{IsPermutation-map, IsPermutation-sym, Contains-permutation, All-permutation}
@@ -12,10 +12,13 @@ use Rattle.std.specs.List.Sorted.{IsNonDecreasingBy}
 use Rattle.gr_model.specs.Shapes.{IsShape}
 use Rattle.gr_model.specs.declared.event.Event.{Event}
 use Rattle.gr_model.specs.Streams.{Streams, streams, IsAccepted, AreAccepted}
+use Rattle.gr_model.proofs.HitsAreRaces.{eqb_swap}
+use Rattle.gr_model.proofs.Places.{Contains-at}
 use Rattle.gr_replay.specs.declared.joined.Stream.{Stream}
 use Rattle.gr_replay.specs.Joined.{Flat, flat, flats}
 use Rattle.gr_replay.specs.Laws.{AreStreams}
 use Rattle.gr_replay.specs.Launch.{IsLaunchOf, IsLeastMissing, AreApart, AreRising, ArePlaced}
+use Rattle.gr_steps.proofs.Orders.{there_is}
 
 -- what holds of the values of each two elements holds of each two values
 pub AllPairs-map : {X Y : Type 0} (f : X → Y) (R : Y → Y → Type 0) (xs : List X) → AllPairs (λ a b. R (f a) (f b)) xs → AllPairs R (map f xs)
@@ -28,14 +31,11 @@ AllPairs-map {X} f R (x ∷ xs) h = λ i j d before within.
 abbrev groups : List Flat → List ℕ
 groups fs = map (λ f. f.header.group) fs
 
-eqb_flips : (x y : ℕ) → eqb x y ≡ eqb y x
-eqb_flips x y = grind (arith, nat_tests)
-
 -- streams of different groups are so in any order
 pub apart_permutation : (fs gs : List Flat) → IsPermutation fs gs → AreApart fs → AreApart gs
 apart_permutation fs gs perm apart =
     let keys = IsPermutation-map (λ f. f.header.group) fs gs perm in
-    let distinct = IsDistinct-IsPermutation eqb eqb_flips (groups fs) (groups gs) keys (IsDistinct-from_AllPairs Decides-eqb (groups fs) (AllPairs-map (λ f. f.header.group) (λ x y. x ≢ y) fs apart)) in
+    let distinct = IsDistinct-IsPermutation eqb eqb_swap (groups fs) (groups gs) keys (IsDistinct-from_AllPairs Decides-eqb (groups fs) (AllPairs-map (λ f. f.header.group) (λ x y. x ≢ y) fs apart)) in
     let pairs = AllPairs-from_IsDistinct Decides-eqb (groups gs) distinct in
     λ i j d before within same.
     let last : j < length (groups gs) = omega (arith, length-map gs (λ (f : Flat). f.header.group)) in
@@ -93,11 +93,6 @@ module _ (fs : List Flat) (rising : AreRising fs) where
 
 -- ---- the launch
 
-some_at : {X : Type 0} (xs : List X) (i : ℕ) → i < length xs → (x : X) × (slice_get xs i ≡ Some x)
-some_at [] i lt = absurd (omega arith)
-some_at (x ∷ xs) zero lt = (x, refl)
-some_at (x ∷ xs) (suc i) lt = some_at xs i (omega arith)
-
 -- each group's items and records, of streams that are each at the place of its group
 abbrev pub launch_of : List Flat → Streams
 launch_of fs = record { sizes = map (λ f. f.header.items) fs; lists = map (λ f. f.events) fs }
@@ -108,12 +103,12 @@ module _ (seen fs : List Flat) (perm : IsPermutation seen fs) (placed : ArePlace
     count = length-map fs (λ f. f.events) ∙ sym (length-map fs (λ f. f.header.items));
     there = λ g lt.
         let within : g < length fs = omega (arith, length-map fs (λ (f : Flat). f.header.items)) in
-        let at = some_at fs g within in
+        let at = there_is fs g within in
         let is = get_or_from_slice_get fs g at.0 at.0 at.1 in
         (at.0, Contains-permutation fs seen at.0 (IsPermutation-sym seen fs perm) (g, within, is), ap (λ f. f.header.group) (sym is) ∙ placed g at.0 within);
     each = λ f in_seen.
         let there = Contains-permutation seen fs f perm in_seen in
-        let at : slice_get fs there.0 ≡ Some f = slice_get-get_or fs there.0 f there.1 ∙ ap Some there.2 in
+        let at : slice_get fs there.0 ≡ Some f = Contains-at fs f there in
         let group : there.0 ≡ f.header.group = sym (placed there.0 f there.1) ∙ ap (λ x. x.header.group) there.2 in (
           subst (λ k. slice_get (map (λ x. x.header.items) fs) k ≡ Some f.header.items) group (slice_get-map (λ x. x.header.items) fs there.0 ∙ ap (option_map (λ x. x.header.items)) at),
           subst (λ k. slice_get (map (λ x. x.events) fs) k ≡ Some f.events) group (slice_get-map (λ x. x.events) fs there.0 ∙ ap (option_map (λ x. x.events)) at),
@@ -126,7 +121,7 @@ module _ (seen fs : List Flat) (perm : IsPermutation seen fs) (placed : ArePlace
     count = is_launch.count;
     each = λ g lt.
         let within : g < length fs = omega (arith, length-map fs (λ (f : Flat). f.header.items)) in
-        let at = some_at fs g within in
+        let at = there_is fs g within in
         let f = at.0 in
         let is = get_or_from_slice_get fs g f f at.1 in
         let accepted : IsAccepted f.header.items f.events = subst (λ x. IsAccepted x.header.items x.events) is (All-get_or (λ x. IsAccepted x.header.items x.events) fs g f within (All-permutation (λ x. IsAccepted x.header.items x.events) seen fs perm are.accepted)) in

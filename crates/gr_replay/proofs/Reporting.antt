@@ -5,7 +5,8 @@ use Rattle.gr_model.specs.declared.event.Word.{Word}
 use Rattle.gr_model.specs.Reports.{AreRaces, Lists, WordBelow}
 use Rattle.gr_model.specs.Streams.{Streams}
 use Rattle.gr_order.specs.Sequences.{IsDone, IsSequence, Sequence}
-use Rattle.gr_shadow.specs.Clashes.{ClockedAccess, IsHitIn}
+use Rattle.gr_clocks.specs.ClockedAccess.{ClockedAccess}
+use Rattle.gr_shadow.specs.Clashes.{IsHitIn}
 use Rattle.gr_shadow.specs.Kept.{Kept}
 use Rattle.gr_shadow.specs.StandsFor.{StandsFor}
 use Rattle.gr_replay.specs.Sequencing.{AreShadowsOf}

@@ -9,7 +9,7 @@ use Rattle.gr_order.specs.Sequences.{Sequence, IsSequence, events_of}
 use Rattle.gr_sequencer.specs.Answers.{IsStep}
 use Rattle.gr_sequencer.specs.declared.handled.Handled.{Handled}
 use Rattle.gr_sequencer.specs.declared.handled.Handled.TheVariants.{One, Meet}
-use Rattle.gr_shadow.specs.Clashes.{ClockedAccess, clocked}
+use Rattle.gr_clocks.specs.ClockedAccess.{ClockedAccess, clocked}
 use Rattle.gr_replay.specs.Sequencing.{accesses_of}
 use Rattle.gr_replay.proofs.EventLists.{order_is_short}
 

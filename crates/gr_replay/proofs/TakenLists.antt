@@ -1,12 +1,15 @@
 -- What a sequencer has taken of a launch, list after list.
-use Rattle.std.proofs.Common.{◌≡◌, ℕ, zero, suc, ◌+◌, ◌<◌, ◌≤◌, List, [], ◌∷◌, ◌++◌, length, map, None, get_or, set, take, refl, sym, ap, ◌∙◌, subst, ⊎_elim, arith, eq-or-lt_of_le}
-use Rattle.std.proofs.lemmas.List.{ext_get_or, get_or-set_other, get_or-set_same, length-map, length-set, set-get_or, take_more}
+use Rattle.std.proofs.Common.{◌≡◌, ℕ, zero, suc, ◌+◌, ◌<◌, ◌≤◌, List, [], ◌∷◌, ◌++◌, length, map, None, get_or, set, take, drop, IsTrue, refl, sym, ap, ◌∙◌, subst, ⊎_elim, arith, eq-or-lt_of_le}
+use Rattle.std.proofs.lemmas.List.{ext_get_or, get_or-set_other, get_or-set_same, length-map, length-set, set-get_or, take_more, get_or_past, length-drop, take-append-drop}
 use Rattle.std.proofs.lemmas.Option.{slice_get-get_or}
 use Rattle.gr_model.specs.declared.event.Event.{Event}
 use Rattle.gr_model.specs.declared.event.Kind.TheVariants.{Read}
 use Rattle.gr_model.specs.declared.event.Space.TheVariants.{Global}
-use Rattle.gr_model.specs.Streams.{Streams, AreAccepted, IsAccepted, list_of, size_of}
-use Rattle.gr_lanes.specs.Takes.{IsEventButItem}
+use Rattle.gr_model.specs.Streams.{Streams, AreAccepted, IsAccepted, list_of, size_of, IsFront, is_complete}
+use Rattle.gr_model.proofs.StreamFronts.{front_whole}
+use Rattle.gr_lanes.specs.Takes.{IsEventButItem, IsTakeFault}
+use Rattle.gr_lanes.specs.declared.seq_error.SeqError.{SeqError}
+use Rattle.gr_lanes.specs.declared.seq_error.SeqError.TheVariants.{AfterEnd, Memory, UnknownGroup, UnknownItem}
 use Rattle.gr_order.specs.Sequences.{Sequence, nothing, taking}
 use Rattle.gr_replay.specs.Sequencing.{all_taken, with_list}
 
@@ -39,6 +42,26 @@ one_more q g i list d there lt =
 
 pub event_taken : (q before new : Sequence) (g i : ℕ) (list : List Event) (d : Event) → g < length q.taken.lists → i < length list → before ≡ with_list q g (take i list) → new ≡ taking before g (get_or list i d) → new ≡ with_list q g (take (i + 1) list)
 event_taken q before new g i list d there lt so_far is = is ∙ (ap (λ (p : Sequence). taking p g (get_or list i d)) so_far ∙ one_more q g i list d there lt)
+
+-- of an accepted list, each record may be taken behind those before it, so taking it fails only for want of memory
+pub only_memory : (q before : Sequence) (g i : ℕ) (list : List Event) (d : Event) (e : SeqError) → g < length q.taken.lists → IsAccepted (size_of q.taken g) list → i < length list → before ≡ with_list q g (take i list)
+    → IsTakeFault before.taken g (get_or list i d) e → e ≡ Memory
+only_memory q before g i list d e there accepted lt so_far fault = by_fault e (subst (λ (p : Sequence). IsTakeFault p.taken g (get_or list i d) e) so_far fault)
+  where
+    item : (get_or list i d).item < size_of q.taken g
+    item = (accepted.good i (get_or list i d) (slice_get-get_or list i d lt)).0.0
+
+    front : IsFront (size_of q.taken g) (take i list ++ drop i list)
+    front = subst (IsFront (size_of q.taken g)) (sym (take-append-drop i list)) (record { few = accepted.few; good = accepted.good })
+
+    unended : IsTrue (is_complete (take i list)) → ⊥
+    unended ended = let rest = front_whole (size_of q.taken g) (take i list) (drop i list) front ended in let none : length (drop i list) ≡ 0 = ap length rest in omega (arith, length-drop i list)
+
+    by_fault : (e : SeqError) → IsTakeFault (with_list q g (take i list)).taken g (get_or list i d) e → e ≡ Memory
+    by_fault UnknownGroup past = absurd (let none : size_of q.taken g ≡ 0 = get_or_past q.taken.sizes g 0 past in omega (arith, item))
+    by_fault (AfterEnd h) (same, group, ended) = absurd (unended (subst (λ (xs : List Event). IsTrue (is_complete xs)) (get_or-set_same q.taken.lists g (take i list) [] there) ended))
+    by_fault UnknownItem (group, open_list, past) = absurd (omega (arith, item))
+    by_fault Memory can = refl
 
 -- ---- all lists
 

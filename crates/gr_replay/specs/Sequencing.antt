@@ -4,7 +4,7 @@ use Rattle.std.specs.Prelude.{ℕ, List, [], ◌∷◌, Some, slice_set}
 use Rattle.gr_model.specs.declared.event.Event.{Event}
 use Rattle.gr_model.specs.Streams.{Streams}
 use Rattle.gr_order.specs.Sequences.{Sequence}
-use Rattle.gr_shadow.specs.Clashes.{ClockedAccess, clocked}
+use Rattle.gr_clocks.specs.ClockedAccess.{ClockedAccess, clocked}
 use Rattle.gr_shadow.specs.Kept.{Kept}
 use Rattle.gr_shadow.specs.StandsFor.{StandsFor}
 use Rattle.gr_sequencer.specs.declared.handled.Handled.{Handled}

@@ -2,7 +2,7 @@
 
 ghost use Rattle.std.specs.Prelude.{◌≡◌, ◌++◌, [], List, IfOk, OnOk};
 ghost use Rattle.gr_order.specs.Sequences.{IsDone, IsSequence};
-ghost use Rattle.gr_shadow.specs.Clashes.{ClockedAccess};
+ghost use Rattle.gr_clocks.specs.ClockedAccess.{ClockedAccess};
 ghost use Rattle.gr_shadow.specs.StandsFor.{StandsFor};
 ghost use Rattle.gr_replay.specs.Sequencing.{accesses_of, AreShadowsOf};
 

@@ -4,6 +4,7 @@ ghost use Rattle.std.specs.Prelude.{◌≡◌, ◌<◌, [], IfOk, OnOk, length};
 ghost use Rattle.gr_model.specs.Streams.{IsAccepted, list_of, size_of};
 ghost use Rattle.gr_replay.specs.Sequencing.{all_taken, with_list};
 
+use gr_lanes::seq_error::SeqError;
 use gr_model::event::Event;
 use gr_model::memory::Memory;
 use gr_model::traces::Traces;
@@ -27,7 +28,10 @@ fn take_list<A: Allocator + Copy>(
     for event in list {
         match sequencer.take(group, *event) {
             Ok(()) => {}
-            Err(_) => return Err(Memory),
+            Err(error) => match error {
+                SeqError::Memory => return Err(Memory),
+                _ => unreachable!(),
+            },
         }
     }
     Ok(())

@@ -1,20 +1,7 @@
--- The events of one group, and functions of the group with one value changed.
-use Rattle.std.proofs.Common.{◌≡◌, ◌≢◌, ℕ, true, false, cond, eqb, eq-eqb, ne_eqb, List, [], ◌∷◌, ◌++◌, refl, ap}
+-- Functions of the group with one value changed.
+use Rattle.std.proofs.Common.{◌≡◌, ◌≢◌, ℕ, cond, eqb, eq-eqb, ne_eqb, ap}
 use mathlib.Core.Logic.{dite}
 use native.Mathlib.Decide.{ℕ_discrete}
-use Rattle.gr_route.specs.declared.intake.Sent.{Sent}
-use Rattle.gr_route.specs.IntakeRule.{events_of}
-
-pub events_append : (g : ℕ) (xs ys : List Sent) → events_of g (xs ++ ys) ≡ events_of g xs ++ events_of g ys
-events_append g [] ys = refl
-events_append g (s ∷ ss) ys = elim (eqb s.group g) as (λ b. cond b (s.event ∷ events_of g (ss ++ ys)) (events_of g (ss ++ ys)) ≡ cond b (s.event ∷ events_of g ss) (events_of g ss) ++ events_of g ys)
-    [ true ↦ ap (λ l. s.event ∷ l) (events_append g ss ys) | false ↦ events_append g ss ys ]
-
-pub events_here : (s : Sent) → events_of s.group (s ∷ []) ≡ s.event ∷ []
-events_here s = ap (λ b. cond b (s.event ∷ []) []) (eq-eqb s.group s.group refl)
-
-pub events_else : (g : ℕ) (s : Sent) → s.group ≢ g → events_of g (s ∷ []) ≡ []
-events_else g s other = ap (λ b. cond b (s.event ∷ []) []) (ne_eqb s.group g other)
 
 -- a function with another value at one place
 abbrev pub changed : {A : Type 0} → (ℕ → A) → ℕ → A → ℕ → A

@@ -10,17 +10,18 @@ use Rattle.atomic_table.specs.Seated.{TableId}
 use Rattle.crossbeam_queue.specs.Fifo as queue
 use Rattle.crossbeam_queue.proofs.Lists.{at_set}
 use Rattle.gr_model.specs.declared.event.Event.{Event}
+use Rattle.gr_model.specs.declared.event.Sent.{Sent}
 use Rattle.gr_model.specs.declared.limits.TheConstants.{MOST_RECORDS}
 use Rattle.gr_model.specs.Events.{IsEventOk}
-use Rattle.gr_model.specs.Streams.{is_complete}
-use Rattle.gr_route.specs.declared.intake.Sent.{Sent}
+use Rattle.gr_model.specs.Streams.{IsFront, events_of, is_complete}
 use Rattle.gr_route.specs.declared.intake_rule.Joined.{Joined}
 use Rattle.gr_route.specs.declared.intake_rule.IntakeView.{IntakeView}
-use Rattle.gr_route.specs.Fronts.{IsStreamFront}
-use Rattle.gr_route.specs.IntakeRule.{FitsJoined, FitsSeat, FitsTaker, Pops, Pushes, SeatLearns, SeatsAgree, TakerLearns, after_join, after_split, events_of, first_view, joined_from, no_sizes, seat_of, spent_view, taker_of}
+use Rattle.gr_model.proofs.Sending.{events_append, events_else, events_here}
+use Rattle.gr_model.proofs.StreamFronts.{front_front, front_nil, front_push, next_ok, next_unended, next_room}
+use Rattle.gr_route.specs.IntakeRule.{FitsJoined, FitsSeat, FitsTaker, Pops, Pushes, SeatLearns, SeatsAgree, TakerLearns, after_join, after_split, first_view, joined_from, no_sizes, seat_of, spent_view, taker_of}
 use Rattle.gr_route.specs.IntakeSeats.{IsDelivered, IsDelivery, IsNext, Seat, Taker}
-use Rattle.gr_route.proofs.FrontLemmas.{front_front, front_nil, front_push, next_ok, next_unended, next_room, nil_front, not_nil}
-use Rattle.gr_route.proofs.GroupLemmas.{by_place, changed, changed_else, changed_here, events_append, events_else, events_here}
+use Rattle.gr_route.proofs.FrontLemmas.{nil_front, not_nil}
+use Rattle.gr_route.proofs.GroupLemmas.{by_place, changed, changed_else, changed_here}
 use Rattle.gr_route.proofs.Views.{Each, each_one, each_set, each_snoc, held, none_holds, same_holder}
 
 abbrev Fits : (ℕ → seat.Option ℕ) → (ℕ → List Event) → (ℕ → ℕ) → ℕ → List Sent → ℕ → IntakeView → Type 0
@@ -65,12 +66,12 @@ pushes n pass g size l e ok unended room items views _ h at =
         popped = h.popped;
         queued = λ k. ap (events_of k) (sym (append_assoc h.popped items (x ∷ []))) ∙ events_append k (h.popped ++ items) (x ∷ []) ∙ ap (λ m. m ++ events_of k (x ∷ [])) (h.queued k);
         fronts = λ k. by_place k g
-            (λ same. subst (IsStreamFront (h.size k)) (sym (here k same))
+            (λ same. subst (IsFront (h.size k)) (sym (here k same))
             (front_push (h.size k) (h.sent k) e (h.fronts k)
             (subst (λ (s : ℕ). IsEventOk e s) (mine.2 ∙ ap h.size (sym same)) ok)
             (subst (λ (m : List Event). IsFalse (is_complete m)) (mine.1 ∙ ap h.sent (sym same)) unended)
             (subst (λ (m : List Event). length m < MOST_RECORDS) (mine.1 ∙ ap h.sent (sym same)) room)))
-            (λ other. subst (IsStreamFront (h.size k)) (sym (else k other)) (h.fronts k));
+            (λ other. subst (IsFront (h.size k)) (sym (else k other)) (h.fronts k));
         unseated = λ k none. let old = h.unseated k none in (old.0, else k (λ same. held mine.0 (ap h.holder (sym same) ∙ old.0)) ∙ old.1);
         fits = each_set (Fits h.holder sent h.size h.taker h.popped) views pass w
             ((λ _. (mine.0, ap (λ m. m ++ e ∷ []) mine.1 ∙ sym (here g refl), mine.2)), (λ q. none_holds q))
@@ -93,11 +94,11 @@ seat_learns pass g size l items views h at = (events_of g h.popped, ((h.fits pas
 -- ---- a pop
 
 learned : (holder : ℕ → seat.Option ℕ) (sent : ℕ → List Event) (size : ℕ → ℕ) (popped items p : List Sent) (s : List ℕ) (js : List Joined)
-    → ((g : ℕ) → events_of g (popped ++ items) ≡ sent g) → ((g : ℕ) → IsStreamFront (size g) (sent g)) → ((g : ℕ) → size g ≡ 0 → (holder g ≡ seat.none) × (sent g ≡ []))
+    → ((g : ℕ) → events_of g (popped ++ items) ≡ sent g) → ((g : ℕ) → IsFront (size g) (sent g)) → ((g : ℕ) → size g ≡ 0 → (holder g ≡ seat.none) × (sent g ≡ []))
     → p ≡ popped → ((g : ℕ) → slice_index s g ≡ size g) → All (FitsJoined holder sent size) js → TakerLearns (taker_of p s js) items
 learned holder sent size popped items p s js queued fronts unseated same sizes back =
     let e : (g : ℕ) → events_of g (p ++ items) ≡ sent g = λ g. ap (λ k. events_of g (k ++ items)) same ∙ queued g in (
-      (λ g. subst (λ (y : ℕ × List Event). IsStreamFront y.0 y.1) (λ i. (sym (sizes g) i, sym (e g) i)) (fronts g)),
+      (λ g. subst (λ (y : ℕ × List Event). IsFront y.0 y.1) (λ i. (sym (sizes g) i, sym (e g) i)) (fronts g)),
       (λ g none. e g ∙ (unseated g (sym (sizes g) ∙ none)).1),
       All-weaker (FitsJoined holder sent size) (λ j. (j.pushed ≡ events_of j.group (p ++ items)) × (j.items ≡ slice_index s j.group)) (λ j t. (t.1 ∙ sym (e j.group), t.2 ∙ sym (sizes j.group))) js back,
     )
@@ -152,8 +153,8 @@ splits pass g n p s js within vacant some_items items views h at =
       popped = h.popped;
       queued = h.queued;
       fronts = λ k. by_place k g
-          (λ same. subst (IsStreamFront (size k)) (sym (ap h.sent same ∙ gone.1)) (front_nil (size k)))
-          (λ other. subst (λ (m : ℕ). IsStreamFront m (h.sent k)) (sym (changed_else h.size g n k other)) (h.fronts k));
+          (λ same. subst (IsFront (size k)) (sym (ap h.sent same ∙ gone.1)) (front_nil (size k)))
+          (λ other. subst (λ (m : ℕ). IsFront m (h.sent k)) (sym (changed_else h.size g n k other)) (h.fronts k));
       unseated = λ k none. by_place k g
           (λ same. absurd (some_items (sym (changed_here h.size g n k same) ∙ none)))
           (λ other. let old = h.unseated k (sym (changed_else h.size g n k other) ∙ none) in (changed_else h.holder g (seat.some (length vs)) k other ∙ old.0, old.1));
@@ -258,12 +259,12 @@ taker_again v u w s is now = subst (λ (y : IntakeView). y ≡ taker_of y.popped
 
 delivery : (q : TableId) (p : List Sent) (s : List ℕ) (js : List Joined) (items : List Sent) → TakerLearns (taker_of p s js) items → IsDelivery record { queue = q; popped = p; sizes = s; joined = js }
 delivery q p s js items t = record {
-  streams = λ g. front_front (slice_index s g) (events_of g p) (events_of g items) (subst (IsStreamFront (slice_index s g)) (events_append g p items) (t.0 g));
+  streams = λ g. front_front (slice_index s g) (events_of g p) (events_of g items) (subst (IsFront (slice_index s g)) (events_append g p items) (t.0 g));
   unseated = λ g none. nil_front (events_of g p) (events_of g items) (sym (events_append g p items) ∙ t.1 g none);
   joined = All-weaker (λ j. (j.pushed ≡ events_of j.group (p ++ items)) × (j.items ≡ slice_index s j.group)) (IsDelivered record { queue = q; popped = p; sizes = s; joined = js })
       (λ j e. record {
         items = e.1;
-        stream = subst (λ (y : ℕ × List Event). IsStreamFront y.0 y.1) (λ i. (sym e.1 i, sym e.0 i)) (t.0 j.group);
+        stream = subst (λ (y : ℕ × List Event). IsFront y.0 y.1) (λ i. (sym e.1 i, sym e.0 i)) (t.0 j.group);
         front = (events_of j.group items, e.0 ∙ events_append j.group p items);
       }) js t.2;
 }
@@ -289,7 +290,7 @@ next q p s js x items t =
     let size : ℕ = slice_index s g in
     let e : events_of g ((p ++ x ∷ []) ++ items) ≡ events_of g p ++ x.event ∷ events_of g items =
     events_append g (p ++ x ∷ []) items ∙ ap (λ l. l ++ events_of g items) (events_append g p (x ∷ []) ∙ ap (λ l. events_of g p ++ l) (events_here x)) ∙ append_assoc (events_of g p) (x.event ∷ []) (events_of g items) in
-    let all : IsStreamFront size (events_of g p ++ x.event ∷ events_of g items) = subst (IsStreamFront size) e (t.0 g) in
+    let all : IsFront size (events_of g p ++ x.event ∷ events_of g items) = subst (IsFront size) e (t.0 g) in
     record {
       seated = λ none. not_nil (events_of g p) x.event (events_of g items) (sym e ∙ t.1 g none);
       good = next_ok size (events_of g p) x.event (events_of g items) all;

@@ -1,4 +1,3 @@
-pub mod CallerLemmas
 pub mod FrontLemmas
 pub mod GroupLemmas
 pub mod IntakeSteps

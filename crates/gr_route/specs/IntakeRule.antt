@@ -1,20 +1,16 @@
 -- What each seat of an intake queue knows, and the rule that ties this to what the queue holds.
 -- Source: docs/QUEUES.md, "The intake queue".
-use Rattle.std.specs.Prelude.{◌≡◌, ◌≢◌, ◌==◌, ℕ, true, false, List, [], ◌∷◌, ◌++◌, replicate, slice_index, slice_set, if◌then◌else◌}
+use Rattle.std.specs.Prelude.{◌≡◌, ◌≢◌, ℕ, true, false, List, [], ◌∷◌, ◌++◌, replicate, slice_index, slice_set}
 use Rattle.std.specs.List.{All}
 use mathlib.Core.Option as seat
 use lib.ListN.{get_elem?}
 use Rattle.gr_model.specs.declared.event.Event.{Event}
+use Rattle.gr_model.specs.declared.event.Sent.{Sent}
 use Rattle.gr_model.specs.declared.limits.TheConstants.{MOST_GROUPS}
-use Rattle.gr_route.specs.declared.intake.Sent.{Sent}
+use Rattle.gr_model.specs.Streams.{IsFront, events_of}
 use Rattle.gr_route.specs.declared.intake_rule.Joined.{Joined}
 use Rattle.gr_route.specs.declared.intake_rule.IntakeView.{IntakeView}
-use Rattle.gr_route.specs.Fronts.{EndsWith, IsStreamFront}
-
--- the events of a group, in order
-abbrev pub events_of : ℕ → List Sent → List Event
-events_of g [] = []
-events_of g (s ∷ ss) = if s.group == g then s.event ∷ events_of g ss else events_of g ss
+use Rattle.gr_route.specs.Fronts.{EndsWith}
 
 -- ---- the views
 
@@ -70,7 +66,7 @@ pub record SeatsAgree (items : List Sent) (views : List IntakeView) : Type 0 whe
   pub size : ℕ → ℕ
   pub popped : List Sent
   pub queued : (g : ℕ) → events_of g (popped ++ items) ≡ sent g
-  pub fronts : (g : ℕ) → IsStreamFront (size g) (sent g)
+  pub fronts : (g : ℕ) → IsFront (size g) (sent g)
   pub unseated : (g : ℕ) → size g ≡ 0 → (holder g ≡ seat.none) × (sent g ≡ [])
   pub fits : (pass : ℕ) (v : IntakeView) → get_elem? views pass ≡ seat.some v → FitsSeat holder sent size pass v × FitsTaker holder sent size taker popped pass v
 
@@ -87,7 +83,7 @@ SeatLearns v items = EndsWith v.pushed (events_of v.group items)
 -- what was popped and what is queued make the front of a stream, of each group; of one without a seat, nothing; of one whose seat was joined back, all that it pushed
 abbrev pub TakerLearns : IntakeView → List Sent → Type 0
 TakerLearns v items =
-    ((g : ℕ) → IsStreamFront (slice_index v.sizes g) (events_of g (v.popped ++ items)))
+    ((g : ℕ) → IsFront (slice_index v.sizes g) (events_of g (v.popped ++ items)))
     × ((g : ℕ) → slice_index v.sizes g ≡ 0 → events_of g (v.popped ++ items) ≡ [])
     × All (λ j. (j.pushed ≡ events_of j.group (v.popped ++ items)) × (j.items ≡ slice_index v.sizes j.group)) v.joined
 

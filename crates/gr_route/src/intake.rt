@@ -8,29 +8,22 @@ ghost use Rattle.std.specs.Prelude.{◌≡◌, ◌≢◌, ◌<◌, ◌≤◌, []
 ghost use Rattle.crossbeam_queue.specs.Fifo.{Forks, Held};
 ghost use Rattle.crossbeam_queue.specs.Passes.{view as known, IsSamePass, IsPassOf};
 ghost use Rattle.gr_model.specs.Events.{IsEventOk};
-ghost use Rattle.gr_model.specs.Streams.{is_complete};
+ghost use Rattle.gr_model.specs.Streams.{events_of, is_complete};
 ghost use Rattle.gr_route.specs.Fronts.{EndsWith};
-ghost use Rattle.gr_route.specs.IntakeRule.{SeatsAgree, after_split, events_of, no_sizes, seat_of};
+ghost use Rattle.gr_route.specs.IntakeRule.{SeatsAgree, after_split, no_sizes, seat_of};
 ghost use Rattle.gr_route.specs.IntakeSeats.{IsDelivered, IsDelivery, IsNext, IsQueued, popped_of};
 
 use crate::intake_rule::{
     IntakeRule, IntakeView, JoinStep, NamesGroup, PopStep, PushStep, SplitStep,
 };
-use crate::room::{Full, MOST_PLACES};
+use crate::room::Full;
 use crossbeam_queue::{Pass, RuledArrayQueue};
-use gr_model::event::Event;
-use gr_model::limits::{MOST_GROUPS, MOST_ITEMS_OF_A_GROUP, MOST_RECORDS};
+use gr_model::event::{Event, Sent};
+use gr_model::limits::{MOST_GROUPS, MOST_ITEMS_OF_A_GROUP, MOST_PLACES, MOST_RECORDS};
 use gr_model::memory::Memory;
 use std::alloc::{Allocator, Global};
 use std::marker::{Brand, Model};
 use std::sync::Wait;
-
-/// An event, and the work-group that sent it.
-#[derive(Clone, Copy, Debug, PartialEq, Eq)]
-pub struct Sent {
-    pub group: u16,
-    pub event: Event,
-}
 
 /// A bounded queue of events. Contracts see which queue it is, and for how many events it has room.
 #[derive(Drop)]

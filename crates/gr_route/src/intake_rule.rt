@@ -3,9 +3,8 @@
 //! Of each work-group, what was popped, followed by what is queued, is what its seat pushed. Told in words in
 //! docs/QUEUES.md, "The intake queue".
 
-use crate::intake::Sent;
 use crossbeam_queue::protocol::{Join, Lesson, Outcome, Protocol, Split};
-use gr_model::event::Event;
+use gr_model::event::{Event, Sent};
 use std::collections::LinkedList;
 use std::marker::{Brand, PhantomData};
 

@@ -10,10 +10,11 @@ ghost use Rattle.gr_route.specs.Fronts.{EndsWith, StartsWith};
 ghost use Rattle.gr_route.specs.WorkRule.{is_stopped};
 ghost use Rattle.gr_route.specs.WorkSeats.{IsDelivery, IsQueued};
 
-use crate::room::{Full, MOST_PLACES};
+use crate::room::Full;
 use crate::work_rule::{JoinStep, PopStep, PushStep, SplitStep, WorkRule, WorkView};
 use crossbeam_queue::{Pass, RuledArrayQueue};
 use gr_clocks::access::Access;
+use gr_model::limits::MOST_PLACES;
 use gr_model::memory::Memory;
 use std::alloc::{Allocator, Global};
 use std::marker::Model;

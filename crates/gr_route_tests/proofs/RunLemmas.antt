@@ -2,11 +2,10 @@
 use Rattle.std.proofs.Common.{◌≡◌, ℕ, zero, suc, arith, subst, IsTrue, ◌<◌, ◌==◌, Bool, true, false, cond, List, [], ◌∷◌, ◌++◌, sym, ap, ◌∙◌, append-nil}
 use Rattle.std.specs.Prelude.{slice_index_or}
 use Rattle.gr_model.specs.declared.event.Event.{Event}
+use Rattle.gr_model.specs.declared.event.Sent.{Sent}
 use Rattle.gr_model.specs.Events.{is_end}
-use Rattle.gr_model.specs.Streams.{is_complete}
-use Rattle.gr_route.proofs.CallerLemmas.{events_append, is_complete-push}
-use Rattle.gr_route.specs.declared.intake.Sent.{Sent}
-use Rattle.gr_route.specs.IntakeRule.{events_of}
+use Rattle.gr_model.specs.Streams.{events_of, is_complete}
+use Rattle.gr_model.proofs.Sending.{events_append, is_complete-push}
 use Rattle.gr_route.specs.IntakeSeats.{Taker, popped_of}
 
 completes : (b : Bool) (xs : List Event) (e : Event) → cond b (is_end e) (is_complete xs) ≡ is_complete (xs ++ cond b (e ∷ []) [])

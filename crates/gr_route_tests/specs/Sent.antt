@@ -1,14 +1,14 @@
 -- What each of the three senders sends.
 use Rattle.std.specs.Prelude.{◌≡◌, ℕ, zero, suc, ◌<◌, false, List, [], ◌∷◌, ◌++◌, None, Vec, IsTrue}
 use Rattle.gr_model.specs.declared.event.Event.{Event}
+use Rattle.gr_model.specs.declared.event.Sent.{Sent}
 use Rattle.gr_model.specs.declared.event.Kind.TheVariants.{Write}
 use Rattle.gr_model.specs.declared.event.Space.TheVariants.{Global}
 use Rattle.gr_model.specs.declared.limits.TheConstants.{MOST_RECORDS}
+use Rattle.gr_model.specs.Events.{end_of}
 use Rattle.gr_model.specs.Streams.{is_complete}
-use Rattle.gr_route.specs.declared.intake.Sent.{Sent}
 use Rattle.gr_route.specs.Rooms.{Room}
 use Rattle.gr_route.specs.IntakeSeats.{Seat, Taker, popped_of}
-use Rattle.gr_sender.specs.Refusals.{end_of}
 use Rattle.gr_sender.specs.Senders.{Sending}
 
 -- a plain write of a global word by item 0

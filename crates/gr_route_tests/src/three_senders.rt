@@ -4,15 +4,14 @@
 ghost use Rattle.std.specs.Prelude.{◌≡◌, ◌<◌, ◌≤◌, ◌==◌, ℕ, false, [], slice_index_or, if◌then◌else◌, IfOk, IfSome};
 ghost use Rattle.std.specs.Arc.{arc_value};
 ghost use Rattle.gr_model.specs.Events.{is_end};
-ghost use Rattle.gr_route.specs.IntakeRule.{events_of};
+ghost use Rattle.gr_model.specs.Streams.{events_of};
 ghost use Rattle.gr_route.specs.IntakeSeats.{popped_of};
 ghost use Rattle.gr_route_tests.specs.Sent.{HasAll, HasEnds, IsFreshSender, IsReceiptOf, stream_of, write_of};
 
-use gr_model::event::{Event, Kind, Space};
-use gr_model::limits::{MOST_GROUPS, MOST_RECORDS};
+use gr_model::event::{Event, Kind, Sent, Space};
+use gr_model::limits::{MOST_GROUPS, MOST_PLACES, MOST_RECORDS};
 use gr_model::memory::Memory;
-use gr_route::intake::{Intake, IntakeSeat, Sent, TakerSeat};
-use gr_route::room::MOST_PLACES;
+use gr_route::intake::{Intake, IntakeSeat, TakerSeat};
 use gr_sender::receipt::Receipt;
 use gr_sender::sender::Sender;
 use std::alloc::Global;

@@ -2,7 +2,7 @@
 use Rattle.std.proofs.Common.{◌≡◌, ℕ, ◌+◌, ◌<◌, Bool, [], ◌∷◌, ◌++◌, length, sym, ◌∙◌, subst, arith, length-append, IsFalse}
 use Rattle.gr_model.specs.declared.event.Event.{Event}
 use Rattle.gr_model.specs.Events.{is_end}
-use Rattle.gr_route.proofs.CallerLemmas.{is_complete-push}
+use Rattle.gr_model.proofs.Sending.{is_complete-push}
 use Rattle.gr_route.specs.IntakeSeats.{Seat}
 use Rattle.gr_route.specs.Rooms.{Room}
 use Rattle.gr_sender.specs.Senders.{IsSender}

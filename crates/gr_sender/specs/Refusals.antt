@@ -1,21 +1,14 @@
 -- When a sender refuses an event or an end.
 -- Source: docs/QUEUES.md, "Senders".
-use Rattle.std.specs.Prelude.{◌≡◌, ◌<◌, ◌≤◌, ◌+◌, ℕ, Bool, true, false, None, length, IsTrue, IsFalse}
+use Rattle.std.specs.Prelude.{◌≡◌, ◌<◌, ◌≤◌, ◌+◌, ℕ, Bool, true, false, length, IsTrue, IsFalse}
 use Rattle.crossbeam_queue.specs.Fifo.{Held}
 use Rattle.gr_model.specs.declared.event.Event.{Event}
-use Rattle.gr_model.specs.declared.event.Kind.TheVariants.{End}
-use Rattle.gr_model.specs.declared.event.Space.TheVariants.{Global}
-use Rattle.gr_model.specs.Events.{IsEventOk, is_end}
-use Rattle.gr_model.specs.Streams.{is_complete}
+use Rattle.gr_model.specs.Events.{IsEventOk, end_of, is_end}
+use Rattle.gr_model.specs.Streams.{events_of, is_complete}
 use Rattle.gr_route.specs.Fronts.{EndsWith}
-use Rattle.gr_route.specs.IntakeRule.{events_of}
 use Rattle.gr_sender.specs.declared.sender.SendError.{SendError}
 use Rattle.gr_sender.specs.declared.sender.SendError.TheVariants.{Closed, UnknownItem, BadEvent, StreamFull, Full}
 use Rattle.gr_sender.specs.Senders.{Sending}
-
--- the end of a stream, with the mark that it was cut
-abbrev pub end_of : Bool → Event
-end_of cut = record { item = 0; kind = End cut; space = Global; word = 0; name = None }
 
 -- a record that a group of so many items may have, and no end
 abbrev pub IsSendable : Event → ℕ → Type 0

@@ -5,13 +5,13 @@
 
 ghost use Rattle.std.specs.Prelude.{◌≡◌, ◌+◌, ◌<◌, ◌≤◌, [], ◌∷◌, ◌++◌, length, IfOk, IfErr, OnOk, OnErr, MatchOption, IsTrue, IsFalse};
 ghost use Rattle.std.specs.Arc.{arc_value};
-ghost use Rattle.gr_model.specs.Events.{IsEventOk, is_end};
+ghost use Rattle.gr_model.specs.Events.{IsEventOk, end_of, is_end};
 ghost use Rattle.gr_model.specs.Streams.{is_complete};
-ghost use Rattle.gr_sender.specs.Refusals.{IsFull, IsRefusal, IsRefusalOfEnd, MaySend, end_of, is_full};
+ghost use Rattle.gr_sender.specs.Refusals.{IsFull, IsRefusal, IsRefusalOfEnd, MaySend, is_full};
 
 use crate::receipt::Receipt;
 use crossbeam_utils::Backoff;
-use gr_model::event::{Event, Kind, Space, event_ok};
+use gr_model::event::{Event, event_ok};
 use gr_model::limits::MOST_RECORDS;
 use gr_route::intake::{Intake, IntakeSeat};
 use std::alloc::{Allocator, Global};
@@ -178,14 +178,7 @@ impl<A: Allocator> Sender<A> {
         if self.closed {
             return Err(SendError::Closed);
         }
-        let end = Event {
-            item: 0,
-            kind: Kind::End { cut },
-            space: Space::Global,
-            word: 0,
-            name: None,
-        };
-        self.push(rt, end)
+        self.push(rt, Event::end(cut))
     }
 
     /// Sends an event, and while the queue is full backs off and tries again.

@@ -17,19 +17,19 @@ use Rattle.gr_model.specs.Shapes.{HasItem}
 use Rattle.gr_model.specs.Streams.{Streams, event_at, is_of, list_of, trace_of}
 use Rattle.gr_model.specs.Waits.{for_release}
 use Rattle.gr_steps.specs.Steps.{Handles}
+use Rattle.gr_steps.proofs.EventRecords.{group_of_event, item_of_event}
 use Rattle.gr_clocks.specs.declared.clock.TheConstants.{LARGEST_COUNT}
 use Rattle.gr_clocks.specs.Counts.{Counts, IsJoin, IsTick, count_of, tick_at}
 use Rattle.gr_clocks.specs.Rows.{same_item}
 use Rattle.gr_clocks.specs.ItemClocks.{Acquires, IsSpent, ItemClocks, ReleaseClock, Ticks, clock_in, clocks_in}
-use Rattle.gr_clocks.proofs.RowLemmas.{same_items}
+use Rattle.gr_clocks.proofs.RowLemmas.{same_items, same_item_self}
 use Rattle.gr_closure.specs.Accesses.{CountsJust}
 use Rattle.gr_closure.specs.Knowledge.{Knows, Learns}
 use Rattle.gr_closure.proofs.EventKnowledge.{handled_cases, handled_knows, handled_sees, others_know_after_handle}
 use Rattle.gr_closure.proofs.HandledKnowledge.{known_handled, seen_handled}
 use Rattle.gr_closure.proofs.NextInItem.{IsNextInItem, ready_event_is_next}
-use Rattle.gr_order.proofs.ReadyLemmas.{group_of_event, item_of_event}
 use Rattle.gr_sequencer.specs.Known.{AreLeft, AreTrue, IsGathered, IsLeftBy, IsLesson, IsNext, IsUntaught, Known, Left, left_at}
-use Rattle.gr_sequencer.proofs.SeenCounts.{below_max, itself, lesson_count, own_count, seen_count}
+use Rattle.gr_sequencer.proofs.SeenCounts.{below_max, lesson_count, own_count, seen_count}
 
 -- the two memories
 same_space : Space → Space → Bool
@@ -239,7 +239,7 @@ module _ (s : Streams) (order : List EventId) (known : Known) (e : EventId) (nex
 
       by_item : (m : Space) (i : ItemId) → HasItem s.sizes i → (d : EventId) (b : Bool) → same_item i e.at ≡ b → (d.index < count_of (clock_in new m i) d.at) ↔ Knows s m longer i d
       by_item m i has d true t = subst (λ j. (d.index < count_of (clock_in new m j) d.at) ↔ Knows s m longer j d) (sym (same_items i e.at t)) (own_now m d)
-      by_item m i has d false f = other_now m i has (λ same. true≢false (sym (itself e.at) ∙ ap (λ j. same_item j e.at) (sym same) ∙ f)) d
+      by_item m i has d false f = other_now m i has (λ same. true≢false (sym (same_item_self e.at) ∙ ap (λ j. same_item j e.at) (sym same) ∙ f)) d
 
   -- ---- what is left
 

@@ -21,6 +21,7 @@ use Rattle.gr_model.specs.Shapes.{HasItem}
 use Rattle.gr_model.specs.Streams.{AreFronts, Streams, is_of, list_of, size_of, trace_of}
 use Rattle.gr_steps.specs.Steps.{Meets}
 use Rattle.gr_steps.proofs.BarrierPlaces.{barrier_of, barrier_there}
+use Rattle.gr_steps.proofs.EventRecords.{group_of_event, item_of_event}
 use Rattle.gr_clocks.specs.declared.clock.TheConstants.{LARGEST_COUNT}
 use Rattle.gr_clocks.specs.Counts.{count_of, tick_at}
 use Rattle.gr_clocks.specs.ItemClocks.{IsGroupSpent, ItemClocks, Meets as MeetsClocks, clock_in, clocks_in, orders}
@@ -29,7 +30,6 @@ use Rattle.gr_closure.specs.Accesses.{CountsJust}
 use Rattle.gr_closure.specs.Knowledge.{Knows}
 use Rattle.gr_closure.proofs.GroupKnowledge.{flagged_knows, met_cases, met_sees, others_know_after_meet, unflagged_knows}
 use Rattle.gr_closure.proofs.NextInItem.{IsNextInItem, barrier_is_next}
-use Rattle.gr_order.proofs.ReadyLemmas.{group_of_event, item_of_event}
 use Rattle.gr_sequencer.specs.Known.{AreLeft, AreTrue, Left}
 use Rattle.gr_sequencer.proofs.SeenCounts.{own_count, seen_count}
 

@@ -1,5 +1,6 @@
 -- What is kept of a release, found by its event; and what a barrier flags.
-use Rattle.std.proofs.Common.{◌≡◌, ◌≢◌, ℕ, Bool, true, false, ◌==◌, ◌&&◌, cond, Some, is_some, refl, sym, ap, ◌∙◌, eqb-true, true≢false}
+use Rattle.std.proofs.Common.{◌≡◌, ◌≢◌, ℕ, Bool, true, false, ◌==◌, ◌&&◌, cond, Some, is_some, refl, sym, ap, ◌∙◌, eqb-true}
+use Rattle.std.proofs.lemmas.Bool.{and_parts}
 use Rattle.gr_model.specs.declared.event.EventId.{EventId}
 use Rattle.gr_model.specs.declared.event.Kind.{Kind}
 use Rattle.gr_model.specs.declared.event.Kind.TheVariants.{Barrier, End, Load, Read, Rmw, Store, Write}
@@ -9,14 +10,10 @@ use Rattle.gr_model.specs.Instances.{Mark}
 use Rattle.gr_clocks.specs.ItemClocks.{ReleaseClock}
 use Rattle.gr_sequencer.specs.Known.{Left, left_at, same_event}
 
-both : (a b : Bool) → (a && b) ≡ true → (a ≡ true) × (b ≡ true)
-both true b e = (refl, e)
-both false b e = absurd (true≢false (sym e))
-
 pub event_from_equal : (d e : EventId) → same_event d e ≡ true → d ≡ e
 event_from_equal d e h =
-    let outer = both ((d.at.group == e.at.group) && (d.at.item == e.at.item)) (d.index == e.index) h in
-    let inner = both (d.at.group == e.at.group) (d.at.item == e.at.item) outer.0 in
+    let outer = and_parts ((d.at.group == e.at.group) && (d.at.item == e.at.item)) (d.index == e.index) h in
+    let inner = and_parts (d.at.group == e.at.group) (d.at.item == e.at.item) outer.0 in
     λ i. record { at = record { group = eqb-true d.at.group e.at.group inner.0 i; item = eqb-true d.at.item e.at.item inner.1 i }; index = eqb-true d.index e.index outer.1 i }
 
 pub event_itself : (e : EventId) → same_event e e ≡ true

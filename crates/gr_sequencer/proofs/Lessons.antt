@@ -12,9 +12,9 @@ use Rattle.gr_model.specs.Names.{HasName, Matches, MatchesBy, release_place}
 use Rattle.gr_model.specs.Streams.{Streams, event_at, trace_of, word_at}
 use Rattle.gr_model.specs.Waits.{for_release}
 use Rattle.gr_model.proofs.Places.{places_from-there}
+use Rattle.gr_model.proofs.Cuts.{same_event}
 use Rattle.gr_steps.specs.Steps.{IsReady}
 use Rattle.gr_steps.proofs.EventRecords.{one_release}
-use Rattle.gr_steps.proofs.Orders.{same_event}
 use Rattle.gr_clocks.specs.ItemClocks.{ReleaseClock}
 use Rattle.gr_closure.specs.Knowledge.{Learns}
 use Rattle.gr_sequencer.specs.Known.{IsLeft, IsLesson}

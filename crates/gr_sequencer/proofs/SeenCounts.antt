@@ -1,16 +1,16 @@
 -- What an event that is next in its item sees, as a count: the greater of what its item's clock and its lesson count, and one more of its item.
-use Rattle.std.proofs.Common.{◌≡◌, ◌⊎◌, ◌↔◌, ℕ, ◌+◌, ◌<◌, ◌≤◌, max, Bool, true, false, List, if◌then◌else◌, ◌==◌, refl, sym, ap, ◌∙◌, subst, inl, inr, ⊎_elim, arith, true≢false}
-use Rattle.std.proofs.lemmas.Bool.{and_from, cases_lt, eq-eqb}
+use Rattle.std.proofs.Common.{◌≡◌, ◌⊎◌, ◌↔◌, ℕ, ◌+◌, ◌<◌, ◌≤◌, max, Bool, true, false, List, if◌then◌else◌, refl, sym, ap, ◌∙◌, subst, inl, inr, ⊎_elim, arith, true≢false}
+use Rattle.std.proofs.lemmas.Bool.{cases_lt}
 use Rattle.gr_model.specs.declared.event.EventId.{EventId}
 use Rattle.gr_model.specs.declared.event.ItemId.{ItemId}
 use Rattle.gr_model.specs.declared.event.Space.{Space}
 use Rattle.gr_model.specs.Counts.{IsSeen}
 use Rattle.gr_model.specs.LawfulOrders.{IsIn, IsLawful}
 use Rattle.gr_model.specs.Streams.{Streams}
-use Rattle.gr_steps.proofs.Orders.{same_event}
+use Rattle.gr_model.proofs.Cuts.{same_event}
 use Rattle.gr_clocks.specs.Counts.{tick_at}
 use Rattle.gr_clocks.specs.Rows.{same_item}
-use Rattle.gr_clocks.proofs.RowLemmas.{same_items}
+use Rattle.gr_clocks.proofs.RowLemmas.{same_items, same_item_self}
 use Rattle.gr_closure.specs.Knowledge.{Knows}
 use Rattle.gr_closure.proofs.HandledKnowledge.{known_handled, own_known}
 use Rattle.gr_closure.proofs.NextInItem.{IsNextInItem}
@@ -26,9 +26,6 @@ same_below a b below =
     (λ (ge : a ≤ b). let same : a ≡ b = omega (arith, le, ge) in same)
     (cases_lt b a))
     (cases_lt a b)
-
-pub itself : (i : ItemId) → same_item i i ≡ true
-itself i = and_from (i.group == i.group) (i.item == i.item) (eq-eqb i.group i.group refl) (eq-eqb i.item i.item refl)
 
 -- the greater of two counts has what either has
 pub below_max : (n a b : ℕ) → n < max a b → (n < a) ⊎ (n < b)
@@ -103,4 +100,4 @@ module _ (s : Streams) (m : Space) (order : List EventId) (e : EventId) (lawful 
         where
           by_item : (b : Bool) → same_item e.at d.at ≡ b → (d.index < max (c d.at) (l d.at) + (if b then 1 else 0)) ↔ IsSeen s m e d
           by_item true t = own_cases d (sym (same_items e.at d.at t))
-          by_item false f = other_cases d (λ item. true≢false (sym (itself e.at) ∙ ap (same_item e.at) (sym item) ∙ f))
+          by_item false f = other_cases d (λ item. true≢false (sym (same_item_self e.at) ∙ ap (same_item e.at) (sym item) ∙ f))

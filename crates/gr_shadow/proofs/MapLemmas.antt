@@ -3,13 +3,14 @@ use Rattle.std.proofs.Common.{◌≡◌, ◌↔◌, Bool, true, false, cond, Lis
 use Rattle.std.specs.Prelude.{unwrap_or}
 use Rattle.std.specs.Map.{lookup, keys_of}
 use Rattle.std.specs.List.{IsDistinct}
-use Rattle.std.proofs.lemmas.Option.{slice_get-get_or, get_or_from_slice_get, slice_get_within}
+use Rattle.std.proofs.lemmas.Option.{get_or_from_slice_get, slice_get_within}
 use Rattle.std.proofs.lemmas.Map.Views.{Contains-from_lookup, lookup-from_Contains}
 use Rattle.gr_model.specs.declared.event.Word.{Word}
 use Rattle.gr_model.specs.contracts.event.WordEq.TheImpl.Laws as equal
 use Rattle.gr_model.proofs.Pairs.{SomeOf, SomeOf-at, SomeOf-place}
 use Rattle.gr_model.proofs.WordLemmas.{same_from_equal}
-use Rattle.gr_shadow.specs.Clashes.{ClockedAccess}
+use Rattle.gr_model.proofs.Places.{Contains-at}
+use Rattle.gr_clocks.specs.ClockedAccess.{ClockedAccess}
 use Rattle.gr_shadow.specs.Kept.{WordShadow, no_shadow, shadow_after, Kept, same_word, shadow_at, answered_words, IsAfter}
 
 -- a map in which the word of an access has its next shadow, and each other word what it had
@@ -38,7 +39,7 @@ after_insert entries old y t new same absent after update =
 
 Contains-some : {X : Type 0} (xs : List X) (w : X) → Contains xs w ↔ SomeOf (λ x. x ≡ w) xs
 Contains-some xs w = (
-  λ h. SomeOf-at (λ x. x ≡ w) xs h.0 w (slice_get-get_or xs h.0 w h.1 ∙ ap Some h.2) refl,
+  λ h. SomeOf-at (λ x. x ≡ w) xs h.0 w (Contains-at xs w h) refl,
   λ h. let p = SomeOf-place (λ x. x ≡ w) xs h in (p.0, slice_get_within xs p.0 p.1 p.2, get_or_from_slice_get xs p.0 p.1 w p.2 ∙ p.3),
 )
 

@@ -10,7 +10,8 @@ use Rattle.gr_model.specs.contracts.event.WordEq.TheImpl.Laws as equal
 use Rattle.gr_model.specs.Hits.{ClashesAt}
 use Rattle.gr_model.proofs.Pairs.{SomeOf, SomeOf-place}
 use Rattle.gr_model.proofs.WordLemmas.{same_from_equal}
-use Rattle.gr_shadow.specs.Clashes.{ClockedAccess, clashes, IsHitIn}
+use Rattle.gr_clocks.specs.ClockedAccess.{ClockedAccess}
+use Rattle.gr_shadow.specs.Clashes.{clashes, IsHitIn}
 use Rattle.gr_shadow.specs.Kept.{WordShadow, touch_of, touch_clashes, clashes_before, is_first_hit, shadow_after, Kept, same_word, shadow_at, IsAfter}
 use Rattle.gr_shadow.specs.StandsFor.{accesses_to, StandsFor, IsHitBy}
 use Rattle.gr_shadow.proofs.HitLemmas.{SomePair-push}

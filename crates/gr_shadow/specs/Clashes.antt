@@ -1,4 +1,4 @@
--- Accesses with their clocks, and when a later one to a word clashes with an earlier one.
+-- When a later access to a word clashes with an earlier one.
 -- Source: docs/MODEL.md, "Hits".
 use Rattle.std.specs.Prelude.{ℕ, Bool, ◌&&◌, not, nat_lt, List}
 use Rattle.gr_model.specs.declared.event.ItemId.{ItemId}
@@ -6,20 +6,9 @@ use Rattle.gr_model.specs.declared.event.Word.{Word}
 use Rattle.gr_model.specs.Hits.{IsHit}
 use Rattle.gr_scopes.specs.declared.class.Class.{Class}
 use Rattle.gr_scopes.specs.Classes.{exempt}
-use Rattle.gr_clocks.specs.declared.access.Access.{Access}
 use Rattle.gr_clocks.specs.Rows.{same_item}
-use Rattle.gr_clocks.specs.Counts.{Counts, count_of}
-
--- an access, with what its item's clock counts in the word's memory
-pub record ClockedAccess : Type 0 where
-  pub word : Word
-  pub item : ItemId
-  pub index : ℕ
-  pub class : Class
-  pub clock : Counts
-
-abbrev pub clocked : {Z : Type 0} → Access Z → ClockedAccess
-clocked x = record { word = x.word; item = x.item; index = x.index; class = x.class; clock = x.clock }
+use Rattle.gr_clocks.specs.Counts.{count_of}
+pub use Rattle.gr_clocks.specs.ClockedAccess.{ClockedAccess, clocked}
 
 -- a later access clashes with an earlier one of this item, index and class: it is of another item, the two are not exempt,
 -- and its clock does not count the earlier one

@@ -5,7 +5,8 @@ use Rattle.std.specs.Map.{lookup}
 use Rattle.gr_model.specs.declared.event.Word.{Word}
 use Rattle.gr_model.specs.contracts.event.WordPartialEq.TheImpl as equality
 use Rattle.gr_shadow.specs.declared.shadow.Touch.{Touch}
-use Rattle.gr_shadow.specs.Clashes.{ClockedAccess, clashes_with}
+use Rattle.gr_clocks.specs.ClockedAccess.{ClockedAccess}
+use Rattle.gr_shadow.specs.Clashes.{clashes_with}
 
 -- ---- of one word
 

@@ -2,7 +2,8 @@
 -- Source: docs/MODEL.md, "Hits".
 use Rattle.std.specs.Prelude.{◌≡◌, ◌↔◌, IsTrue, List, [], ◌∷◌, ◌++◌, filter, map}
 use Rattle.gr_model.specs.declared.event.Word.{Word}
-use Rattle.gr_shadow.specs.Clashes.{ClockedAccess, IsHitIn}
+use Rattle.gr_clocks.specs.ClockedAccess.{ClockedAccess}
+use Rattle.gr_shadow.specs.Clashes.{IsHitIn}
 use Rattle.gr_shadow.specs.Kept.{Kept, same_word, shadow_at, touch_of}
 
 abbrev pub accesses_to : Word → List ClockedAccess → List ClockedAccess

@@ -1,7 +1,8 @@
 //! What is kept of the accesses to one word.
 
 ghost use Rattle.std.specs.Prelude.{◌≡◌, IfOk, OnOk, OnErr};
-ghost use Rattle.gr_shadow.specs.Clashes.{clocked, clashes_with};
+ghost use Rattle.gr_clocks.specs.ClockedAccess.{clocked};
+ghost use Rattle.gr_shadow.specs.Clashes.{clashes_with};
 ghost use Rattle.gr_shadow.specs.Kept as spec;
 ghost use Rattle.gr_shadow.specs.Kept.{no_shadow, shadow_after};
 

@@ -7,7 +7,7 @@ use Rattle.gr_model.specs.Barriers.{IsConvergent, StandsIn, is_barrier, mark_of}
 use Rattle.gr_model.specs.Instances.{Mark}
 use Rattle.gr_model.specs.Streams.{Streams, event_at, place_of, places_from, size_of, trace_of}
 use Rattle.gr_model.proofs.Places.{filter_map-place, places_from-there}
-use Rattle.gr_steps.proofs.Orders.{same_event}
+use Rattle.gr_model.proofs.Cuts.{same_event}
 
 -- ---- places
 

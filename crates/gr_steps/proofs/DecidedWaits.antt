@@ -12,10 +12,11 @@ use Rattle.gr_model.specs.Streams.{AreComplete, Streams, place_of, size_of, trac
 use Rattle.gr_model.specs.Waits.{IsPrevious, Waits, for_arrival, for_meeting, for_previous, for_release}
 use Rattle.gr_model.proofs.GrowthLaws.{not_both}
 use Rattle.gr_model.proofs.Places.{place-filter_map}
+use Rattle.gr_model.proofs.Cuts.{same_event}
 use Rattle.gr_steps.proofs.BarrierPlaces.{barrier_of, moved, same_instance, standing, stands_same}
 use Rattle.gr_steps.proofs.Deciding.{IsLeastWithout, all_below, dec_map, mark_dec, option_dec, word_dec}
 use Rattle.gr_steps.proofs.EventRecords.{one_release}
-use Rattle.gr_steps.proofs.Orders.{number_before, same_event}
+use Rattle.gr_steps.proofs.Orders.{number_before}
 
 -- ---- instances
 

@@ -6,7 +6,8 @@ use Rattle.gr_model.specs.declared.event.Word.{Word}
 use Rattle.gr_model.specs.declared.event.Word.TheVariants.{Global, Local}
 use Rattle.gr_model.specs.Instances.{Mark}
 use Rattle.gr_model.specs.LawfulOrders.{IsIn}
-use Rattle.gr_steps.proofs.Orders.{in_cases, in_either, same_event}
+use Rattle.gr_model.proofs.Cuts.{same_event}
+use Rattle.gr_steps.proofs.Orders.{in_cases, in_either}
 
 pub dec_map : {P Q : Type 0} → (P → Q) → (Q → P) → Dec P → Dec Q
 dec_map to from (yes p) = yes (to p)

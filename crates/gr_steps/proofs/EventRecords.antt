@@ -1,6 +1,6 @@
 -- The record of an event stands in its group's list; a name is that of one release, and a barrier has none.
-use Rattle.std.proofs.Common.{◌≡◌, ℕ, zero, suc, ◌<◌, ◌≤◌, Bool, true, false, cond, IsTrue, List, [], ◌∷◌, length, Option, Some, None, slice_get, filter, refl, sym, ap, ◌∙◌, subst, ⊎_elim, arith, is_some}
-use Rattle.std.proofs.lemmas.Bool.{cases_lt}
+use Rattle.std.proofs.Common.{◌≡◌, ◌==◌, ℕ, zero, suc, ◌<◌, ◌≤◌, Bool, true, false, cond, IsTrue, List, [], ◌∷◌, length, Option, Some, None, slice_get, filter, refl, sym, ap, ◌∙◌, subst, ⊎_elim, arith, is_some, not}
+use Rattle.std.proofs.lemmas.Bool.{and_parts, cases_lt, eqb-true}
 use Rattle.std.proofs.lemmas.Option.{slice_get_past}
 use Rattle.std.proofs.lemmas.List.{get_or_past}
 use Rattle.gr_model.specs.declared.event.Event.{Event}
@@ -10,10 +10,10 @@ use Rattle.gr_model.specs.declared.event.Kind.TheVariants.{Barrier, End, Load, R
 use Rattle.gr_model.specs.declared.event.Name.{Name}
 use Rattle.gr_model.specs.Access.{is_acquire_kind}
 use Rattle.gr_model.specs.Barriers.{is_barrier, mark_of_kind}
-use Rattle.gr_model.specs.Events.{IsNamingOk}
+use Rattle.gr_model.specs.Events.{IsNamingOk, is_end}
 use Rattle.gr_model.specs.Names.{MatchesBy}
-use Rattle.gr_model.specs.Streams.{AreFronts, IsEvent, Streams, event_at, is_of, list_of}
-use Rattle.gr_steps.proofs.Orders.{same_event}
+use Rattle.gr_model.specs.Streams.{AreFronts, IsEvent, Streams, event_at, is_of, list_of, size_of}
+use Rattle.gr_model.proofs.Cuts.{same_event}
 
 -- what a filter keeps is there
 pub filter-there : {X : Type 0} (test : X → Bool) (xs : List X) (k : ℕ) (x : X) → slice_get (filter test xs) k ≡ Some x → (p : ℕ) × (slice_get xs p ≡ Some x) × (test x ≡ true)
@@ -43,6 +43,17 @@ group_there s e there =
     absurd (let no : None ≡ Some there.0 = sym (slice_get_past [] listed.0 (omega arith)) ∙ gone in cc))
     (cases_lt e.at.group (length s.lists))
 
+module _ (s : Streams) (fronts : AreFronts s) (e : EventId) (x : Event) (at : event_at s e ≡ Some x) where
+  -- an event is of a group and an item of the shape
+  pub group_of_event : e.at.group < length s.sizes
+  group_of_event = omega (arith, group_there s e (x, at), fronts.count)
+
+  pub item_of_event : e.at.item < size_of s e.at.group
+  item_of_event =
+      let kept = filter-there (is_of e.at.item) (list_of s e.at.group) e.index x at in
+      let ok = ((fronts.each e.at.group group_of_event).good kept.0 x kept.1).0 in
+      subst (λ n. n < size_of s e.at.group) (eqb-true x.item e.at.item (and_parts (x.item == e.at.item) (not (is_end x)) kept.2).0) ok.0
+
 -- a name is that of one release
 pub one_release : (s : Streams) (n : Name) (e d f : EventId) → MatchesBy s n e d → MatchesBy s n e f → d ≡ f
 one_release s n e d f a b =
@@ -58,7 +69,7 @@ named_acquires kind (Some m) n same ok = ok.0
 pub barriers_name_nothing : (s : Streams) → AreFronts s → (e : EventId) (x : Event) (n : Name) → event_at s e ≡ Some x → is_barrier x ≡ true → x.name ≡ Some n → ⊥
 barriers_name_nothing s fronts e x n at barrier named =
     let there = record_there s e x at in
-    let group : e.at.group < length s.sizes = let g = group_there s e (x, at) in omega (arith, fronts.count) in
+    let group = group_of_event s fronts e x at in
     let good = (fronts.each e.at.group group).good there.0 x there.1 in
     clash x.kind x.word barrier (named_acquires x.kind x.name n named good.0.1)
   where

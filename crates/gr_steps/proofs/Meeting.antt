@@ -10,10 +10,11 @@ use Rattle.gr_model.specs.Names.{HasName}
 use Rattle.gr_model.specs.Streams.{AreFronts, IsEvent, Streams}
 use Rattle.gr_model.specs.Waits.{CanGo, IsPrevious, Waits, for_arrival, for_meeting, for_previous, for_release}
 use Rattle.gr_model.proofs.Places.{slice_get-append}
+use Rattle.gr_model.proofs.Cuts.{same_event}
 use Rattle.gr_steps.specs.Steps.{AreBarriers, HasMet, IsMeeting}
 use Rattle.gr_steps.proofs.BarrierPlaces.{barrier_of, barrier_there, moved, same_instance, stands_before, stands_same}
 use Rattle.gr_steps.proofs.EventRecords.{barriers_name_nothing}
-use Rattle.gr_steps.proofs.Orders.{at_behind, handled_before, number_before, same_event, split_last, there_is}
+use Rattle.gr_steps.proofs.Orders.{at_behind, handled_before, number_before, split_last, there_is}
 
 module _ (s : Streams) (fronts : AreFronts s) (order : List EventId) (lawful : IsLawful s order) (g k : ℕ) (a : Mark) (meeting : IsMeeting s order g k a) (bs : List EventId) (are : AreBarriers s g k bs) where
   -- what stands in the longer order: what stood there, or one of the barriers

@@ -11,10 +11,11 @@ use Rattle.gr_model.specs.Names.{HasName, MatchesBy}
 use Rattle.gr_model.specs.Streams.{IsEvent, Streams}
 use Rattle.gr_model.specs.Waits.{IsPrevious, Waits, for_arrival, for_meeting, for_previous, for_release}
 use Rattle.gr_model.proofs.GrowthLaws.{not_both}
+use Rattle.gr_model.proofs.Cuts.{same_event}
 use Rattle.gr_steps.specs.Steps.{AreFirst, IsMeeting, IsReady}
 use Rattle.gr_steps.proofs.EventRecords.{one_release}
 use Rattle.gr_steps.proofs.Meeting.{meeting_of}
-use Rattle.gr_steps.proofs.Orders.{handled_before, number_before, same_event}
+use Rattle.gr_steps.proofs.Orders.{handled_before, number_before}
 
 module _ (s : Streams) (order : List EventId) (lawful : IsLawful s order) (e : EventId) (ready : IsReady s order e) (d : EventId) (item : d.at ≡ e.at) where
   handled_is_before : IsIn order d → d.index < e.index

@@ -31,9 +31,6 @@ number_before (suc m) lt = (m, refl)
 
 -- ---- events
 
-pub same_event : (d e : EventId) → d.at ≡ e.at → d.index ≡ e.index → d ≡ e
-same_event d e item index = λ i. record { at = item i; index = index i }
-
 in_cases_at : (x : EventId) (xs : List EventId) (e : EventId) (p : ℕ) → IsAt (x ∷ xs) p e → (e ≡ x) ⊎ IsIn xs e
 in_cases_at x xs e zero at = inl (let same : Some x ≡ Some e = at in cc)
 in_cases_at x xs e (suc p) at = inr (p, at)

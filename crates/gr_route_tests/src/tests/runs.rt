@@ -2,7 +2,6 @@
 
 use crate::three_senders::three_senders;
 use gr_model::event::{Event, Kind, Space};
-use gr_route::intake::Sent;
 use std::test::*;
 
 /// What a sender of a hundred writes and an end sends at a place.

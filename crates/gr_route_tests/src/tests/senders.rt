@@ -5,9 +5,8 @@ ghost use Rattle.std.specs.Arc.{arc_value};
 
 use crate::three_senders::write;
 use gr_model::event::{Event, Kind, Space};
-use gr_model::limits::MOST_RECORDS;
+use gr_model::limits::{MOST_PLACES, MOST_RECORDS};
 use gr_route::intake::{Intake, TakerSeat};
-use gr_route::room::MOST_PLACES;
 use gr_sender::sender::{SendError, Sender};
 use std::alloc::Global;
 use std::sync::Arc;

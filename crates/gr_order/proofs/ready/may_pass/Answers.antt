@@ -1,5 +1,6 @@
-use Rattle.gr_order.proofs.ReadyLemmas.{come_of, group_of_event, passes_if, passes_only}
+use Rattle.gr_order.proofs.ReadyLemmas.{come_of, passes_if, passes_only}
 use Rattle.gr_order.proofs.ready.may_pass.Goals as goal
+use Rattle.gr_steps.proofs.EventRecords.{group_of_event}
 
 pub is_divergent-requires-clause-group : goal.is_divergent-requires-clause-group
 is_divergent-requires-clause-group g c = group_of_event c.args.lanes.now c.requires.fronts c.args.event c.args.taken.now c.requires.there

@@ -3,9 +3,10 @@ use Rattle.gr_model.specs.declared.event.EventId.{EventId}
 use Rattle.gr_model.specs.Barriers.{is_barrier, mark_of}
 use Rattle.gr_model.specs.Streams.{event_at, place_of}
 use Rattle.gr_clocks.specs.Counts.{count_of}
-use Rattle.gr_order.proofs.MeetLemmas.{first_there, is_mark, item_at, mark_there, next_if, next_of, next_only}
-use Rattle.gr_order.proofs.ReadyLemmas.{item_of_event}
+use Rattle.gr_order.proofs.MeetLemmas.{first_there, is_mark, item_at, next_if, next_of, next_only}
 use Rattle.gr_order.proofs.ready.next_instance.Goals as goal
+use Rattle.gr_lanes.proofs.InstanceLemmas.{some_mark}
+use Rattle.gr_steps.proofs.EventRecords.{item_of_event}
 
 pub returns-in-None : goal.returns-in-None
 returns-in-None g c k h =
@@ -27,7 +28,7 @@ returns-then-all_stand_next g c =
     let group = c.args.group in
     let at : event_at s (next_of c.args.frontier.now (item_at group 0)) ≡ Some c.in-Some.mine = ap (λ (n : ℕ). let e : EventId = record { at = item_at group 0; index = n } in event_at s e) (sym c.get-index.ensures.count) ∙ sym c.in-Some.ensures in
     let place : place_of s is_barrier (item_at group 0) c.in-Some-barrier_number.number ≡ Some (count_of c.args.frontier.now (item_at group 0)) = c.in-Some-barrier_number.ensures ∙ ap (λ (n : ℕ). Some n) c.get-index.ensures.count in
-    let mark = mark_there (mark_of c.in-Some.mine) (is_mark s c.args.frontier.now group c.requires.fronts c.in-Some.mine at c.in-Some-barrier_number.number place) in
+    let mark = some_mark (mark_of c.in-Some.mine) (is_mark s c.args.frontier.now group c.requires.fronts c.in-Some.mine at c.in-Some-barrier_number.number place) in
     next_if s c.args.frontier.now group c.requires.fronts c.in-Some.mine at c.in-Some-barrier_number.number place mark.0 mark.1
     (item_of_event s c.requires.fronts (next_of c.args.frontier.now (item_at group 0)) c.in-Some.mine at) (c.all_stand_next.ensures.0 c.if-all_stand_next.true)
 

@@ -1,5 +1,5 @@
 use Rattle.std.proofs.Common.{rules, ◌≡◌}
-use Rattle.gr_route.specs.IntakeRule.{events_of}
+use Rattle.gr_model.specs.Streams.{events_of}
 use Rattle.gr_route_tests.specs.Sent.{stream_of}
 use Rattle.gr_route_tests.proofs.RunLemmas.{each_of_three}
 use Rattle.gr_route_tests.proofs.three_senders.three_senders.Goals as goal

@@ -4,7 +4,7 @@ use Rattle.std.specs.Map.{lookup}
 use Rattle.std.specs.Option.{option_copied_mut}
 use Rattle.std.proofs.lemmas.Result.{on_ok_weaker, on_err_weaker, IfOk-weaker}
 use Rattle.std.proofs.lemmas.Map.Steps.{set_value_same}
-use Rattle.gr_shadow.specs.Clashes.{clocked}
+use Rattle.gr_clocks.specs.ClockedAccess.{clocked}
 use Rattle.gr_shadow.specs.Kept.{no_shadow, is_first_hit, shadow_after, Kept, same_word}
 use Rattle.gr_shadow.proofs.MapLemmas.{after_write, after_insert}
 use Rattle.gr_shadow.proofs.shadows.Shadows.note.Goals as goal
