@@ -1,1 +1,7 @@
 pub mod TakenLists
+pub mod TellingLemmas
+pub mod Sets
+pub mod FollowerLemmas
+pub mod PairOrder
+pub mod Searching
+pub mod Instances

@@ -39,8 +39,7 @@ pub(crate) fn lesser(
     least: Option<(EventId, EventId)>,
     pair: (EventId, EventId),
 ) -> (EventId, EventId)
-    ensures new { ¬ PairBelow pair result }
-    ensures old { MatchOption least (result ≡ pair) (λ l. ¬ PairBelow l result × ((result ≡ pair) ⊎ (result ≡ l))) }
+    ensures { MatchOption least (result ≡ pair) (λ l. ((result ≡ pair) × PairBelow pair l) ⊎ ((result ≡ l) × ¬ PairBelow pair l)) }
 {
     match least {
         Some(least) => {

@@ -1,6 +1,6 @@
 //! The least racing pair of a word along a lawful order of all grounded events.
 
-ghost use Rattle.std.specs.Prelude.{◌≡◌, ◌<◌, Some, IfOk, length, slice_get};
+ghost use Rattle.std.specs.Prelude.{◌≡◌, ◌+◌, ◌<◌, Some, IfOk, length, slice_get};
 ghost use Rattle.gr_model.specs.Access as model;
 ghost use Rattle.gr_model.specs.LawfulOrders.{IsAt, IsLawful, IsWholeOrder};
 ghost use Rattle.gr_model.specs.Streams.{AreFronts};

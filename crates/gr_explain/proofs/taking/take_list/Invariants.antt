@@ -1,5 +1,5 @@
 use Rattle.std.proofs.Common.{◌≡◌, take}
-use Rattle.gr_explain.specs.Sequencing.{with_list}
+use Rattle.gr_explain.specs.Taking.{with_list}
 use Rattle.gr_explain.proofs.taking.take_list.Given as goal
 
 abbrev pub invariant-loop-event : goal.invariant-loop-event

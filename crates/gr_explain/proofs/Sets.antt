@@ -1,0 +1,39 @@
+-- Sets of events, as the lists of their events.
+use Rattle.std.proofs.Common.{◌≡◌, ◌⊎◌, ◌↔◌, Bool, true, false, cond, List, [], IsTrue, ◌==◌, ◌&&◌, refl, sym, ap, ◌∙◌, inl, inr, eqb-true, true≢false}
+use Rattle.std.specs.List.{list_any}
+use Rattle.gr_model.specs.declared.event.EventId.{EventId}
+use Rattle.gr_model.specs.contracts.event.EventIdEq.TheImpl.Laws as equal
+use Rattle.gr_explain.specs.Telling.{Has, same_event}
+
+both : (a b : Bool) → (a && b) ≡ true → (a ≡ true) × (b ≡ true)
+both true b e = (refl, e)
+both false b e = absurd (true≢false (sym e))
+
+pub event_from_equal : (d e : EventId) → same_event d e ≡ true → d ≡ e
+event_from_equal d e h =
+    let outer = both ((d.at.group == e.at.group) && (d.at.item == e.at.item)) (d.index == e.index) h in
+    let inner = both (d.at.group == e.at.group) (d.at.item == e.at.item) outer.0 in
+    λ i. record { at = record { group = eqb-true d.at.group e.at.group inner.0 i; item = eqb-true d.at.item e.at.item inner.1 i }; index = eqb-true d.index e.index outer.1 i }
+
+pub event_itself : (e : EventId) → same_event e e ≡ true
+event_itself e = equal.laws-law.refl e
+
+pub has_none : (events : List EventId) (e : EventId) → events ≡ [] → ¬ Has events e
+has_none events e none h = true≢false (sym h ∙ ap (list_any (same_event e)) none)
+
+-- a set with one event more
+module _ (old new : List EventId) (e : EventId) (update : (d : EventId) → list_any (same_event d) new ≡ cond (same_event e d) true (list_any (same_event d) old)) where
+  pub has_added : (d : EventId) → Has new d → (d ≡ e) ⊎ Has old d
+  has_added d h = by_test (same_event e d) refl
+    where
+      by_test : (b : Bool) → same_event e d ≡ b → (d ≡ e) ⊎ Has old d
+      by_test true t = inl (sym (event_from_equal e d t))
+      by_test false f = inr (sym (update d ∙ ap (λ b. cond b true (list_any (same_event d) old)) f) ∙ h)
+
+  pub added_has : (d : EventId) → (d ≡ e) ⊎ Has old d → Has new d
+  added_has d (inl same) = update d ∙ ap (λ b. cond b true (list_any (same_event d) old)) (ap (same_event e) same ∙ event_itself e)
+  added_has d (inr h) = by_test (same_event e d) refl
+    where
+      by_test : (b : Bool) → same_event e d ≡ b → Has new d
+      by_test true t = update d ∙ ap (λ b. cond b true (list_any (same_event d) old)) t
+      by_test false f = update d ∙ (ap (λ b. cond b true (list_any (same_event d) old)) f ∙ h)
