@@ -5,7 +5,9 @@ use Rattle.gr_model.specs.declared.event.Event.{Event}
 use Rattle.gr_model.specs.declared.event.EventId.{EventId}
 use Rattle.gr_model.specs.declared.event.Space.{Space}
 use Rattle.gr_model.specs.Barriers.{IsConvergent, IsDivergent, StandsIn, Together, arrivals, is_barrier, mark_of}
+use Rattle.gr_model.specs.HappensBefore.{IsInclusive}
 use Rattle.gr_model.specs.Instances.{Mark, flags}
+use Rattle.gr_model.specs.Names.{Matches}
 use Rattle.gr_model.specs.Streams.{AreFronts, Streams, event_at, place_of, trace_of}
 use Rattle.gr_model.specs.Waits.{CanGo, IsPrevious}
 use Rattle.gr_model.proofs.GrowthLaws.{not_both}
@@ -14,7 +16,7 @@ use Rattle.gr_order.proofs.ReadyLemmas.{stands_there}
 use Rattle.gr_steps.proofs.BarrierPlaces.{barrier_there, same_instance, stands_same}
 use Rattle.gr_steps.proofs.Orders.{same_event, split_last}
 use Rattle.gr_steps.specs.Steps.{AreBarriers}
-use Rattle.gr_explain.specs.Telling.{IsFlagged, Tells, by_instance}
+use Rattle.gr_explain.specs.Telling.{Has, IsFlagged, Tells, by_instance, by_release, in_item}
 
 -- ---- listed barriers
 
@@ -126,3 +128,18 @@ pub only_barrier : (s : Streams) (g k : ℕ) (d : EventId) (i n : ℕ) → Stand
 only_barrier s g k d i n stands_in item place =
     let index : d.index ≡ n = let same : Some d.index ≡ Some n = sym (place_is s g k d i stands_in item) ∙ place in cc in
     same_event d (record { at = record { group = g; item = i }; index = n }) (item_is s g k d i stands_in item) index
+
+-- ---- what tells an event
+
+-- a release that it matches
+abbrev pub IsReleaseIn : Streams → Space → List EventId → EventId → Type 0
+IsReleaseIn s m events f = (d : EventId) × Has events d × Matches s f d × IsInclusive s m d f
+
+-- a barrier of the flagged instance in which an event stands
+abbrev pub IsCompanionIn : Streams → Space → List EventId → EventId → Type 0
+IsCompanionIn s m events c = (d : EventId) × (k : ℕ) × Has events d × IsFlagged s m c k × StandsIn s d c.at.group k
+
+pub told_cases : (s : Streams) (m : Space) (events : List EventId) (f d : EventId) → Has events d → Tells s m d f → IsReleaseIn s m events f ⊎ ((c : EventId) × IsPrevious c f × (Has events c ⊎ IsCompanionIn s m events c))
+told_cases s m events f d has (in_item previous) = inr (d, previous, inl has)
+told_cases s m events f d has (by_release match inclusive) = inl (d, has, match, inclusive)
+told_cases s m events f d has (by_instance a c flag previous met) = let h = companion_of s m a d c flag met in inr (c, previous, inr (d, h.0, has, h.1, h.2))

@@ -5,6 +5,10 @@ use Rattle.gr_model.specs.declared.event.EventId.{EventId}
 use Rattle.gr_model.specs.contracts.event.EventIdEq.TheImpl.Laws as equal
 use Rattle.gr_explain.specs.Telling.{Has, same_event}
 
+-- the event that a loop over events names where there is none
+abbrev pub no_id : EventId
+no_id = record { at = record { group = 0; item = 0 }; index = 0 }
+
 both : (a b : Bool) → (a && b) ≡ true → (a ≡ true) × (b ≡ true)
 both true b e = (refl, e)
 both false b e = absurd (true≢false (sym e))

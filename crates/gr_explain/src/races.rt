@@ -8,7 +8,7 @@ ghost use Rattle.gr_explain.specs.LeastRaces.{IsLeastOf, IsRacePair};
 ghost use Rattle.gr_explain.specs.Searching.{IsFound};
 ghost use Rattle.gr_explain.specs.Telling.{AreFollowers};
 
-use crate::conflict::are_conflicting;
+use crate::conflict::{access_to, are_conflicting};
 use crate::followers::followers;
 use crate::pairs::{lesser, turned};
 use crate::telling::Events;
@@ -61,9 +61,12 @@ pub(crate) fn least_race<A: Allocator + Copy>(
     let mut least = None;
     for place in 0..order.len() {
         let first = order[place];
-        if lanes.word_at(first) == Some(word) {
-            let followers = followers(alloc, lanes, order, memory_of(word), first)?;
-            least = with_races_of(lanes, order, word, place, &followers, least);
+        match access_to(lanes, word, first) {
+            None => {}
+            Some(_) => {
+                let followers = followers(alloc, lanes, order, memory_of(word), first)?;
+                least = with_races_of(lanes, order, word, place, &followers, least);
+            }
         }
     }
     Ok(least)

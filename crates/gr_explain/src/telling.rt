@@ -8,14 +8,14 @@ ghost use Rattle.gr_model.specs.HappensBefore as order;
 ghost use Rattle.gr_model.specs.Instances as marks;
 ghost use Rattle.gr_model.specs.Instances.{Mark};
 ghost use Rattle.gr_model.specs.Names.{Matches};
-ghost use Rattle.gr_model.specs.Streams.{AreFronts, event_at};
+ghost use Rattle.gr_model.specs.Streams.{AreFronts};
 ghost use Rattle.gr_model.specs.Waits.{CanGo, IsPrevious};
 ghost use Rattle.gr_explain.specs.Telling.{Has, IsFlagged, IsTold};
 
 use gr_clocks::clocks::memory_of;
 use gr_lanes::instance::is_divergent;
 use gr_lanes::lanes::Lanes;
-use gr_model::event::{Event, EventId, ItemId, Kind, Space, word_of};
+use gr_model::event::{EventId, ItemId, Kind, Space};
 use gr_scopes::access::inclusive;
 use indexmap::IndexSet;
 use std::alloc::Allocator;
@@ -39,14 +39,13 @@ fn previous(event: EventId) -> Option<EventId>
 }
 
 /// The release that an event matches, if it matches one.
-fn matched<A: Allocator>(lanes: &Lanes<A>, event: EventId, taken: &Event) -> Option<EventId>
-    requires there { event_at lanes.now event ≡ Some taken.now }
+fn matched<A: Allocator>(lanes: &Lanes<A>, event: EventId) -> Option<EventId>
     ensures { MatchOption result ((d : AnyEvent) → ¬ Matches lanes.now event d) (λ d. Matches lanes.now event d) }
 {
-    let name = taken.name?;
+    let name = lanes.event_at(event)?.name?;
     let index = lanes.release_at(name)?;
     let release = EventId { at: name.at, index };
-    if lanes.word_at(release) == word_of(event.at.group, taken) {
+    if lanes.word_at(release) == lanes.word_at(event) {
         Some(release)
     } else {
         None
@@ -137,12 +136,10 @@ fn has_release<A: Allocator>(
     events: &Events<A>,
     space: Space,
     event: EventId,
-    taken: &Event,
 ) -> bool
-    requires there { event_at lanes.now event ≡ Some taken.now }
     ensures { IsTrue result ↔ ((d : AnyEvent) × Has events.now.keys d × Matches lanes.now event d × order.IsInclusive lanes.now space d event) }
 {
-    match matched(lanes, event, taken) {
+    match matched(lanes, event) {
         None => false,
         Some(release) => events.contains(&release) && is_inclusive(lanes, space, release, event),
     }
@@ -176,11 +173,7 @@ pub(crate) fn is_told<A: Allocator>(
     requires settled { (d : AnyEvent) → IsPrevious d event → CanGo lanes.now d }
     ensures { IsTrue result ↔ IsTold lanes.now space events.now.keys event }
 {
-    let by_release = match lanes.event_at(event) {
-        None => false,
-        Some(taken) => has_release(lanes, events, space, event, &taken),
-    };
-    by_release
+    has_release(lanes, events, space, event)
         || match previous(event) {
             None => false,
             Some(before) => {
