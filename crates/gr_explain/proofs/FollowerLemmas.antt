@@ -1,5 +1,5 @@
 -- The followers of an event among the first events of a lawful order.
-use Rattle.std.proofs.Common.{◌≡◌, ◌⊎◌, ◌↔◌, ℕ, ◌+◌, ◌<◌, ◌≤◌, List, Some, refl, sym, ap, ◌∙◌, subst, inl, inr, ⊎_elim, arith, eq-or-lt_of_le}
+use Rattle.std.proofs.Common.{◌≡◌, ◌⊎◌, ℕ, ◌+◌, ◌<◌, ◌≤◌, List, Some, sym, ◌∙◌, subst, inl, inr, ⊎_elim, arith, eq-or-lt_of_le}
 use Rattle.gr_model.specs.declared.event.EventId.{EventId}
 use Rattle.gr_model.specs.declared.event.Space.{Space}
 use Rattle.gr_model.specs.Counts.{IsSeen}
@@ -8,7 +8,6 @@ use Rattle.gr_model.specs.Streams.{Streams}
 use Rattle.gr_model.specs.Waits.{CanGo, IsPrevious, for_previous}
 use Rattle.gr_model.proofs.Descent.{below_by_pair, lawful_descends}
 use Rattle.gr_explain.specs.Telling.{AreFollowers, Has, IsTold}
-use Rattle.gr_explain.proofs.Sets.{has_none}
 use Rattle.gr_explain.proofs.TellingLemmas.{pair_of, seen_by_telling, seen_through}
 
 module _ (s : Streams) (m : Space) (order : List EventId) (lawful : IsLawful s order) where

@@ -1,5 +1,5 @@
 -- The barriers of an instance, listed item after item, and where an event stands in a flagged one.
-use Rattle.std.proofs.Common.{◌≡◌, ◌⊎◌, ℕ, zero, suc, ◌+◌, ◌<◌, ◌≤◌, Bool, true, false, List, [], ◌∷◌, ◌++◌, length, Option, Some, None, slice_get, is_some, IsTrue, refl, sym, ap, ◌∙◌, subst, inl, inr, ⊎_elim, arith, true≢false}
+use Rattle.std.proofs.Common.{◌≡◌, ◌⊎◌, ℕ, zero, suc, ◌+◌, Bool, true, false, List, [], ◌∷◌, ◌++◌, length, Some, None, slice_get, IsTrue, refl, sym, ap, ◌∙◌, subst, inl, inr, ⊎_elim, arith, true≢false}
 use Rattle.std.proofs.lemmas.List.{length-append}
 use Rattle.gr_model.specs.declared.event.Event.{Event}
 use Rattle.gr_model.specs.declared.event.EventId.{EventId}
@@ -100,13 +100,16 @@ companion_tells s m d c f k previous h stands = by_instance h.mark c h.flagged p
 
 pub companion_of : (s : Streams) (m : Space) (a : Mark) (d c : EventId) → IsTrue (flags a m) → Together s a d c → (k : ℕ) × IsFlagged s m c k × StandsIn s d c.at.group k
 companion_of s m a d c flag met =
-    let group = met.second.group in
-    (met.instance, record {
-      stands = subst (λ g. StandsIn s c g met.instance) (sym group) met.second;
-      mark = a;
-      convergent = subst (λ g. IsConvergent s g met.instance a) (sym group) met.convergent;
-      flagged = flag;
-    }, subst (λ g. StandsIn s d g met.instance) (sym group) met.first)
+    let group = met.second.group in (
+      met.instance,
+      record {
+        stands = subst (λ g. StandsIn s c g met.instance) (sym group) met.second;
+        mark = a;
+        convergent = subst (λ g. IsConvergent s g met.instance a) (sym group) met.convergent;
+        flagged = flag;
+      },
+      subst (λ g. StandsIn s d g met.instance) (sym group) met.first,
+    )
 
 -- the one before an event is one
 pub one_before : (c d f : EventId) → IsPrevious c f → IsPrevious d f → c ≡ d

@@ -1,5 +1,5 @@
 -- The order of events and of pairs, and the least of the pairs of which something holds.
-use Rattle.std.proofs.Common.{◌≡◌, ◌⊎◌, ◌↔◌, ℕ, ◌<◌, ◌≤◌, Option, Some, None, MatchOption, refl, sym, ap, ◌∙◌, subst, inl, inr, ⊎_elim, arith, eq-or-lt_of_le}
+use Rattle.std.proofs.Common.{◌≡◌, ◌⊎◌, ℕ, ◌<◌, ◌≤◌, Option, Some, None, MatchOption, sym, ◌∙◌, subst, inl, inr, ⊎_elim, arith, eq-or-lt_of_le}
 use Rattle.std.proofs.lemmas.Bool.{cases_lt}
 use Rattle.gr_model.specs.declared.event.EventId.{EventId}
 use Rattle.gr_model.specs.Reports.{EventBelow}
@@ -91,12 +91,16 @@ pub least_more : (C D : Pair → Type 0) (least : Option Pair) (x r : Pair) → 
 least_more C D None x r to from new is none =
     subst (IsLeast D) (sym is) (new, λ p d. ⊎_elim (λ c. absurd (none p c)) (λ (same : p ≡ x). λ below. not_below_itself x (subst (λ y. PairBelow y x) same below)) (from p d))
 least_more C D (Some l) x r to from new (inl is) least =
-    subst (IsLeast D) (sym is.0)
-    (new, λ p d. ⊎_elim
-        (λ c. λ below. least.1 p c (pair_below_trans p x l below is.1))
-        (λ (same : p ≡ x). λ below. not_below_itself x (subst (λ y. PairBelow y x) same below)) (from p d))
+    subst (IsLeast D) (sym is.0) (
+      new,
+      λ p d. ⊎_elim
+          (λ c. λ below. least.1 p c (pair_below_trans p x l below is.1))
+          (λ (same : p ≡ x). λ below. not_below_itself x (subst (λ y. PairBelow y x) same below)) (from p d),
+    )
 least_more C D (Some l) x r to from new (inr is) least =
-    subst (IsLeast D) (sym is.0)
-    (to l least.0, λ p d. ⊎_elim
-        (λ c. least.1 p c)
-        (λ (same : p ≡ x). λ below. is.1 (subst (λ y. PairBelow y l) same below)) (from p d))
+    subst (IsLeast D) (sym is.0) (
+      to l least.0,
+      λ p d. ⊎_elim
+          (λ c. least.1 p c)
+          (λ (same : p ≡ x). λ below. is.1 (subst (λ y. PairBelow y l) same below)) (from p d),
+    )

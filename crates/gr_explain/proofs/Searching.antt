@@ -1,12 +1,11 @@
 -- The racing pairs that were looked at along a lawful order.
-use Rattle.std.proofs.Common.{◌≡◌, ◌⊎◌, ◌↔◌, ℕ, ◌+◌, ◌<◌, ◌≤◌, List, length, Option, Some, None, MatchOption, slice_get, refl, sym, ap, ◌∙◌, subst, inl, inr, ⊎_elim, arith, eq-or-lt_of_le}
+use Rattle.std.proofs.Common.{◌≡◌, ◌⊎◌, ℕ, ◌+◌, ◌<◌, ◌≤◌, List, length, Option, Some, None, MatchOption, slice_get, refl, sym, ap, ◌∙◌, subst, inl, inr, ⊎_elim, arith, eq-or-lt_of_le}
 use Rattle.std.proofs.lemmas.Bool.{cases_lt}
 use Rattle.std.proofs.lemmas.Option.{slice_get_within}
 use Rattle.gr_model.specs.declared.event.EventId.{EventId}
 use Rattle.gr_model.specs.declared.event.Word.{Word}
 use Rattle.gr_model.specs.Access.{memory_of}
 use Rattle.gr_model.specs.Counts.{IsSeen}
-use Rattle.gr_model.specs.HappensBefore.{HappensBefore}
 use Rattle.gr_model.specs.LawfulOrders.{IsAt, IsLawful, IsWholeOrder}
 use Rattle.gr_model.specs.Races.{Conflicts, IsRace, IsRacy}
 use Rattle.gr_model.specs.Reports.{EventBelow}
@@ -14,11 +13,11 @@ use Rattle.gr_model.specs.Streams.{Streams, word_at}
 use Rattle.gr_model.specs.Waits.{IsGrounded}
 use Rattle.gr_model.proofs.Descent.{below_before, lawful_descends}
 use Rattle.gr_model.proofs.HitsAreRaces.{conflicts_swap}
-use Rattle.gr_explain.specs.LeastRaces.{IsLeast, IsLeastOf, IsLeastRace, IsRacePair, Pair, PairBelow}
+use Rattle.gr_explain.specs.LeastRaces.{IsLeastOf, IsLeastRace, IsRacePair, Pair}
 use Rattle.gr_explain.specs.Searching.{IsFound, StandsBefore}
 use Rattle.gr_explain.specs.Telling.{AreFollowers, Has}
 use Rattle.gr_explain.specs.Turning.{IsTurned}
-use Rattle.gr_explain.proofs.PairOrder.{either_way, least_more, least_same, one_turn}
+use Rattle.gr_explain.proofs.PairOrder.{either_way, one_turn}
 
 pub race_swap : (s : Streams) (w : Word) (e f : EventId) → IsRace s w e f → IsRace s w f e
 race_swap s w e f race = record { conflict = conflicts_swap race.conflict; not_before = race.not_after; not_after = race.not_before }
@@ -50,18 +49,20 @@ module _ (s : Streams) (w : Word) (order : List EventId) (lawful : IsLawful s or
 
   narrowed : (p q p1 q1 : ℕ) (pair : Pair) → (found : IsFound s w order p q pair) → (found.1.earlier < p1) ⊎ ((found.1.earlier ≡ p1) × (found.1.later < q1)) → IsFound s w order p1 q1 pair
   narrowed p q p1 q1 pair found within =
-      let h = found.1 in
-      (found.0, record {
-        earlier = h.earlier;
-        later = h.later;
-        forwards = h.forwards;
-        within = within;
-        first = h.first;
-        second = h.second;
-        at_first = h.at_first;
-        at_second = h.at_second;
-        turned = h.turned;
-      })
+      let h = found.1 in (
+        found.0,
+        record {
+          earlier = h.earlier;
+          later = h.later;
+          forwards = h.forwards;
+          within = within;
+          first = h.first;
+          second = h.second;
+          at_first = h.at_first;
+          at_second = h.at_second;
+          turned = h.turned;
+        },
+      )
 
   widen : (p q p1 q1 : ℕ) (pair : Pair) → IsFound s w order p q pair → ((i j : ℕ) → i < j → j < length order → (i < p) ⊎ ((i ≡ p) × (j < q)) → (i < p1) ⊎ ((i ≡ p1) × (j < q1))) → IsFound s w order p1 q1 pair
   widen p q p1 q1 pair found wider =
@@ -95,11 +96,11 @@ module _ (s : Streams) (w : Word) (order : List EventId) (lawful : IsLawful s or
     found_before pair found = ⊎_elim
         (λ (a : found.1.earlier < p). inl (narrow (inl a)))
         (λ (h : (found.1.earlier ≡ p) × (found.1.later < q + 1)). let b = h.1 in ⊎_elim
-            (λ (same : found.1.later ≡ q). inr (same_turn e f found.1.first found.1.second pair
-            (at_one p e found.1.first at_p (subst (λ k. IsAt order k found.1.first) h.0 found.1.at_first))
-            (at_one q f found.1.second at_q (subst (λ k. IsAt order k found.1.second) same found.1.at_second)) found.1.turned))
-            (λ (lt : found.1.later < q). inl (narrow (inr (h.0, lt))))
-            (eq-or-lt_of_le (let le : found.1.later ≤ q = omega arith in le)))
+        (λ (same : found.1.later ≡ q). inr (same_turn e f found.1.first found.1.second pair
+        (at_one p e found.1.first at_p (subst (λ k. IsAt order k found.1.first) h.0 found.1.at_first))
+        (at_one q f found.1.second at_q (subst (λ k. IsAt order k found.1.second) same found.1.at_second)) found.1.turned))
+        (λ (lt : found.1.later < q). inl (narrow (inr (h.0, lt))))
+        (eq-or-lt_of_le (let le : found.1.later ≤ q = omega arith in le)))
         found.1.within
       where
         narrow : (found.1.earlier < p) ⊎ ((found.1.earlier ≡ p) × (found.1.later < q)) → IsFound s w order p q pair
@@ -146,12 +147,12 @@ module _ (s : Streams) (w : Word) (order : List EventId) (lawful : IsLawful s or
       let h = found.1 in
       ⊎_elim
       (λ (a : h.earlier < p + 1). ⊎_elim
-          (λ (same : h.earlier ≡ p).
-          let is = at_one p e h.first at (subst (λ k. IsAt order k h.first) same h.at_first) in
-          let race = race_of s w h.first h.second pair h.turned found.0.race in
-          absurd (other (subst (λ x. word_at s x ≡ Some w) is race.conflict.word_first)))
-          (λ (b : h.earlier < p). narrowed (p + 1) 0 p 0 pair found (inl b))
-          (eq-or-lt_of_le (let le : h.earlier ≤ p = omega arith in le)))
+      (λ (same : h.earlier ≡ p).
+      let is = at_one p e h.first at (subst (λ k. IsAt order k h.first) same h.at_first) in
+      let race = race_of s w h.first h.second pair h.turned found.0.race in
+      absurd (other (subst (λ x. word_at s x ≡ Some w) is race.conflict.word_first)))
+      (λ (b : h.earlier < p). narrowed (p + 1) 0 p 0 pair found (inl b))
+      (eq-or-lt_of_le (let le : h.earlier ≤ p = omega arith in le)))
       (λ (a : (h.earlier ≡ p + 1) × (h.later < 0)). let b = a.1 in absurd (omega arith))
       h.within
 
@@ -165,14 +166,16 @@ all_found s w order whole n all pair is =
     let a = whole.whole pair.0 is.first in
     let b = whole.whole pair.1 is.second in
     let within_a : a.0 < length order = slice_get_within order a.0 pair.0 a.1 in
-    let within_b : b.0 < length order = slice_get_within order b.0 pair.1 b.1 in
-    (is, ⊎_elim
-    (λ (lt : a.0 < b.0). let h : StandsBefore order n 0 pair = record { earlier = a.0; later = b.0; forwards = lt; within = inl (omega arith); first = pair.0; second = pair.1; at_first = a.1; at_second = b.1; turned = inl refl } in h)
-    (λ (ge : b.0 ≤ a.0). ⊎_elim
-        (λ (same : b.0 ≡ a.0). absurd (is.race.conflict.others (let one : Some pair.0 ≡ Some pair.1 = sym a.1 ∙ (ap (slice_get order) (sym same) ∙ b.1) in let e : pair.0 ≡ pair.1 = cc in ap (λ x. x.at) e)))
-        (λ (lt : b.0 < a.0). let h : StandsBefore order n 0 pair = record { earlier = b.0; later = a.0; forwards = lt; within = inl (omega arith); first = pair.1; second = pair.0; at_first = b.1; at_second = a.1; turned = inr refl } in h)
-        (eq-or-lt_of_le ge))
-    (cases_lt a.0 b.0))
+    let within_b : b.0 < length order = slice_get_within order b.0 pair.1 b.1 in (
+      is,
+      ⊎_elim
+          (λ (lt : a.0 < b.0). let h : StandsBefore order n 0 pair = record { earlier = a.0; later = b.0; forwards = lt; within = inl (omega arith); first = pair.0; second = pair.1; at_first = a.1; at_second = b.1; turned = inl refl } in h)
+          (λ (ge : b.0 ≤ a.0). ⊎_elim
+          (λ (same : b.0 ≡ a.0). absurd (is.race.conflict.others (let one : Some pair.0 ≡ Some pair.1 = sym a.1 ∙ (ap (slice_get order) (sym same) ∙ b.1) in let e : pair.0 ≡ pair.1 = cc in ap (λ x. x.at) e)))
+          (λ (lt : b.0 < a.0). let h : StandsBefore order n 0 pair = record { earlier = b.0; later = a.0; forwards = lt; within = inl (omega arith); first = pair.1; second = pair.0; at_first = b.1; at_second = a.1; turned = inr refl } in h)
+          (eq-or-lt_of_le ge))
+          (cases_lt a.0 b.0),
+    )
 
 -- a word that has a racing pair is racy, and else it is not
 pub not_racy : (s : Streams) (w : Word) → ((pair : Pair) → ¬ IsRacePair s w pair) → ¬ IsRacy s (IsGrounded s) w

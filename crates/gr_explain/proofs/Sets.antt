@@ -1,5 +1,5 @@
 -- Sets of events, as the lists of their events.
-use Rattle.std.proofs.Common.{◌≡◌, ◌⊎◌, ◌↔◌, Bool, true, false, cond, List, [], IsTrue, ◌==◌, ◌&&◌, refl, sym, ap, ◌∙◌, inl, inr, eqb-true, true≢false}
+use Rattle.std.proofs.Common.{◌≡◌, ◌⊎◌, Bool, true, false, cond, List, [], ◌==◌, ◌&&◌, refl, sym, ap, ◌∙◌, inl, inr, eqb-true, true≢false}
 use Rattle.std.specs.List.{list_any}
 use Rattle.gr_model.specs.declared.event.EventId.{EventId}
 use Rattle.gr_model.specs.contracts.event.EventIdEq.TheImpl.Laws as equal

@@ -1,6 +1,6 @@
 -- What tells an event directly of earlier ones, and which events are told of an event.
 -- Source: docs/MODEL.md, "Happens-before": what is told along such steps is what the base pairs of the definition lead to.
-use Rattle.std.specs.Prelude.{◌≡◌, ◌↔◌, ℕ, ◌<◌, Bool, List, IsTrue}
+use Rattle.std.specs.Prelude.{◌↔◌, ℕ, ◌<◌, Bool, List, IsTrue}
 use Rattle.std.specs.List.{list_any}
 use Rattle.gr_model.specs.declared.event.EventId.{EventId}
 use Rattle.gr_model.specs.declared.event.Space.{Space}

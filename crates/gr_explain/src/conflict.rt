@@ -10,11 +10,7 @@ use gr_scopes::access::{conflicts, inclusive};
 use std::alloc::Allocator;
 
 /// The record of an event, if it is an access to a word.
-pub(crate) fn access_to<A: Allocator>(
-    lanes: &Lanes<A>,
-    word: Word,
-    event: EventId,
-) -> Option<Event>
+pub(crate) fn access_to<A: Allocator>(lanes: &Lanes<A>, word: Word, event: EventId) -> Option<Event>
     ensures { MatchOption result (model.word_at lanes.now event ≢ Some word) (λ x. (model.event_at lanes.now event ≡ Some x) × (model.word_at lanes.now event ≡ Some word)) }
 {
     let taken = lanes.event_at(event)?;

@@ -88,11 +88,7 @@ fn has_flag(kind: &Kind, space: Space) -> bool
 }
 
 /// The convergent instance in which an event stands, if it flags a memory.
-fn flagged_instance<A: Allocator>(
-    lanes: &Lanes<A>,
-    space: Space,
-    event: EventId,
-) -> Option<u32>
+fn flagged_instance<A: Allocator>(lanes: &Lanes<A>, space: Space, event: EventId) -> Option<u32>
     requires fronts { AreFronts lanes.now }
     requires settled { CanGo lanes.now event }
     ensures { MatchOption result ((k : ℕ) → ¬ IsFlagged lanes.now space event k) (λ k. IsFlagged lanes.now space event k) }

@@ -1,9 +1,9 @@
-use Rattle.std.proofs.Common.{◌≡◌, ◌∙◌, ◌++◌, ◌∷◌, [], ◌<◌, List, ℕ, None, Some, ap, append_assoc, append-nil, arith, get_or, refl, subst, sym}
+use Rattle.std.proofs.Common.{◌≡◌, ◌∙◌, ◌++◌, ◌∷◌, [], List, ℕ, None, Some, ap, append_assoc, append-nil, arith, get_or, refl, sym}
 use Rattle.gr_model.specs.declared.event.EventId.{EventId}
 use Rattle.gr_model.specs.Barriers.{StandsIn}
 use Rattle.gr_model.specs.Streams.{size_of}
 use Rattle.gr_steps.proofs.BarrierPlaces.{barrier_of}
-use Rattle.gr_explain.proofs.Instances.{AreBarriersBelow, none_below, one_below}
+use Rattle.gr_explain.proofs.Instances.{none_below, one_below}
 use Rattle.gr_explain.proofs.listing.list_instance.Goals as goal
 
 pub unreachable-requires : goal.unreachable-requires
@@ -23,9 +23,11 @@ loop-item-preserved g c =
     let before = c.loop-item.invariant in
     let b : EventId = record { at = record { group = c.args.group; item = c.loop-item.item }; index = c.in-Some.index } in
     let size : c.items-item-end.result ≡ size_of s c.args.group = c.items-item-end.ensures.size ∙ ap (λ (l : List ℕ). get_or l c.args.group 0) c.shape.ensures.sizes in
-    let stands : StandsIn s b c.args.group c.args.instance = record { group = refl; item = omega (arith, size); place = sym c.barrier_at.ensures ∙ c.in-Some.is } in
-    (before.0 ++ b ∷ [], one_below s c.args.group c.args.instance c.loop-item.item before.0 b before.1 refl stands,
-    c.in_ok-push-in-Some.ensures.items ∙ (ap (λ (xs : List EventId). xs ++ b ∷ []) before.2 ∙ append_assoc c.args.listed.now.items before.0 (b ∷ [])))
+    let stands : StandsIn s b c.args.group c.args.instance = record { group = refl; item = omega (arith, size); place = sym c.barrier_at.ensures ∙ c.in-Some.is } in (
+      before.0 ++ b ∷ [],
+      one_below s c.args.group c.args.instance c.loop-item.item before.0 b before.1 refl stands,
+      c.in_ok-push-in-Some.ensures.items ∙ (ap (λ (xs : List EventId). xs ++ b ∷ []) before.2 ∙ append_assoc c.args.listed.now.items before.0 (b ∷ [])),
+    )
 
 pub returns : goal.returns
 returns g c =

@@ -1,4 +1,4 @@
-use Rattle.std.proofs.Common.{◌≡◌, ℕ, ◌++◌, List, length, Some, slice_get}
+use Rattle.std.proofs.Common.{◌≡◌, ◌++◌, List}
 use Rattle.gr_model.specs.declared.event.EventId.{EventId}
 use Rattle.gr_explain.proofs.Instances.{AreBarriersBelow}
 use Rattle.gr_explain.proofs.listing.list_instance.Given as goal

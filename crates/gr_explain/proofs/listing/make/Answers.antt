@@ -1,11 +1,9 @@
-use Rattle.std.proofs.Common.{◌≡◌, ◌∙◌, ◌++◌, ◌<◌, List, ap, arith, length, subst, sym}
+use Rattle.std.proofs.Common.{◌∙◌, ◌++◌, ◌<◌, List, ap, arith, length, subst, sym}
 use Rattle.std.proofs.lemmas.List.{length-append}
 use Rattle.gr_model.specs.declared.event.EventId.{EventId}
 use Rattle.gr_model.specs.Streams.{Streams}
-use Rattle.gr_order.specs.Sequences.{MeetsInstance}
 use Rattle.gr_steps.specs.Steps.{AreBarriers}
 use Rattle.gr_explain.proofs.Instances.{same_barriers}
-use Rattle.gr_explain.proofs.listing.make.Given as given
 use Rattle.gr_explain.proofs.listing.make.Goals as goal
 
 pub returns-in_ok-list_instance-in-Some-meeting-clause-listed : goal.returns-in_ok-list_instance-in-Some-meeting-clause-listed

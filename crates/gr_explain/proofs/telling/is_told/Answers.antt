@@ -1,4 +1,4 @@
-use Rattle.std.proofs.Common.{◌≡◌, ◌⊎◌, ◌∙◌, subst, sym, true≢false, ⊎_elim}
+use Rattle.std.proofs.Common.{◌⊎◌, ◌∙◌, subst, sym, true≢false, ⊎_elim}
 use Rattle.gr_model.specs.declared.event.EventId.{EventId}
 use Rattle.gr_model.specs.Waits.{IsPrevious}
 use Rattle.gr_explain.specs.Telling.{Has}
@@ -12,8 +12,7 @@ pub returns-in-None : goal.returns-in-None
 returns-in-None g c =
     let s = c.args.lanes.now in
     let m = c.args.space in
-    let events = c.args.events.now.keys in
-    (
+    let events = c.args.events.now.keys in (
       λ no. absurd (true≢false (sym no)),
       λ told. ⊎_elim
           (λ (release : IsReleaseIn s m events c.args.event). absurd (true≢false (sym (c.has_release.ensures.1 release) ∙ c.if-has_release.false)))
@@ -27,8 +26,7 @@ returns-else-contains g c =
     let m = c.args.space in
     let f = c.args.event in
     let events = c.args.events.now.keys in
-    let before = c.in-Some.before in
-    (
+    let before = c.in-Some.before in (
       λ yes. let h = c.has_companion.ensures.0 yes in (h.0, h.2, companion_tells s m h.0 before f h.1 c.in-Some.ensures h.3 h.4),
       λ told. ⊎_elim
           (λ (release : IsReleaseIn s m events f). absurd (true≢false (sym (c.has_release.ensures.1 release) ∙ c.if-has_release.false)))
