@@ -4,16 +4,16 @@ use Rattle.gr_model.specs.declared.event.EventId.{EventId}
 use Rattle.gr_model.specs.declared.event.Space.{Space}
 use Rattle.gr_model.specs.Counts.{IsSeen}
 use Rattle.gr_model.specs.LawfulOrders.{IsAt, IsLawful}
-use Rattle.gr_model.specs.Streams.{Streams}
-use Rattle.gr_model.specs.Waits.{CanGo, IsPrevious, for_previous}
+use Rattle.gr_model.specs.Streams.{IsEvent, Streams}
+use Rattle.gr_model.specs.Waits.{IsPrevious, for_previous}
 use Rattle.gr_model.proofs.Descent.{below_by_pair, lawful_descends}
 use Rattle.gr_explain.specs.Telling.{AreFollowers, Has, IsTold}
 use Rattle.gr_explain.proofs.TellingLemmas.{pair_of, seen_by_telling, seen_through}
 
 module _ (s : Streams) (m : Space) (order : List EventId) (lawful : IsLawful s order) where
-  -- the event before one of the order waits for nothing that is not there
-  pub previous_goes : (n : ℕ) (f d : EventId) → IsAt order n f → IsPrevious d f → CanGo s d
-  previous_goes n f d at previous = let there = lawful.after n f d at (for_previous previous) in (lawful.event there.0 d there.2).1
+  -- the event before one of the order is there
+  pub previous_is_there : (n : ℕ) (f d : EventId) → IsAt order n f → IsPrevious d f → IsEvent s d
+  previous_is_there n f d at previous = let there = lawful.after n f d at (for_previous previous) in (lawful.event there.0 d there.2).0
 
   at_one : (n : ℕ) (f g : EventId) → IsAt order n f → IsAt order n g → g ≡ f
   at_one n f g at bt = let same : Some g ≡ Some f = sym bt ∙ at in cc

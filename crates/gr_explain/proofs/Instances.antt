@@ -1,5 +1,5 @@
 -- The barriers of an instance, listed item after item, and where an event stands in a flagged one.
-use Rattle.std.proofs.Common.{◌≡◌, ◌⊎◌, ℕ, zero, suc, ◌+◌, Bool, true, false, List, [], ◌∷◌, ◌++◌, length, Some, None, slice_get, IsTrue, refl, sym, ap, ◌∙◌, subst, inl, inr, ⊎_elim, arith, true≢false}
+use Rattle.std.proofs.Common.{◌≡◌, ◌⊎◌, ℕ, zero, suc, ◌+◌, Bool, true, false, List, [], ◌∷◌, ◌++◌, length, Some, None, slice_get, not, IsTrue, refl, sym, ap, ◌∙◌, subst, inl, inr, ⊎_elim, arith, true≢false}
 use Rattle.std.proofs.lemmas.List.{length-append}
 use Rattle.gr_model.specs.declared.event.Event.{Event}
 use Rattle.gr_model.specs.declared.event.EventId.{EventId}
@@ -13,7 +13,7 @@ use Rattle.gr_model.specs.Waits.{CanGo, IsPrevious}
 use Rattle.gr_model.proofs.GrowthLaws.{not_both}
 use Rattle.gr_lanes.proofs.InstanceLemmas.{barrier_mark}
 use Rattle.gr_order.proofs.ReadyLemmas.{stands_there}
-use Rattle.gr_steps.proofs.BarrierPlaces.{barrier_there, same_instance, stands_same}
+use Rattle.gr_steps.proofs.BarrierPlaces.{barrier_there, places_from-once, same_instance, stands_same}
 use Rattle.gr_steps.proofs.Orders.{same_event, split_last}
 use Rattle.gr_steps.specs.Steps.{AreBarriers}
 use Rattle.gr_explain.specs.Telling.{Has, IsFlagged, Tells, by_instance, by_release, in_item}
@@ -89,6 +89,15 @@ module _ (s : Streams) (fronts : AreFronts s) (m : Space) (e : EventId) (x : Eve
   pub not_divergent_too : IsDivergent s e.at.group k → (l : ℕ) → ¬ IsFlagged s m e l
   not_divergent_too divergent l h = let is = this_one l h in not_both s e.at.group k is.mark is.convergent divergent
 
+-- a test that is not set
+pub not_both_ways : (b : Bool) → (b ≡ true → ⊥) → IsTrue (not b)
+not_both_ways true unset = absurd (unset refl)
+not_both_ways false unset = refl
+
+-- an event has one number among its item's barriers
+pub number_of_flagged : (s : Streams) (m : Space) (e : EventId) (k n : ℕ) → IsFlagged s m e k → place_of s is_barrier e.at n ≡ Some e.index → n ≡ k
+number_of_flagged s m e k n h place = places_from-once is_barrier 0 (trace_of s e.at) e.index n k place h.stands.place
+
 pub flagged_is_there : (s : Streams) (m : Space) (e : EventId) (k : ℕ) → IsFlagged s m e k → (x : Event) × (event_at s e ≡ Some x)
 flagged_is_there s m e k h = let there = barrier_there s e e.at.group k h.stands in (there.0, there.1)
 
@@ -114,23 +123,6 @@ companion_of s m a d c flag met =
 -- the one before an event is one
 pub one_before : (c d f : EventId) → IsPrevious c f → IsPrevious d f → c ≡ d
 one_before c d f a b = same_event c d (a.item ∙ sym b.item) (omega (arith, a.next, b.next))
-
--- ---- a barrier that is looked for
-
-module _ (s : Streams) (g k : ℕ) (d : EventId) (i : ℕ) (stands_in : StandsIn s d g k) (item : d.at.item ≡ i) where
-  item_is : d.at ≡ record { group = g; item = i }
-  item_is = λ j. record { group = stands_in.group j; item = item j }
-
-  place_is : place_of s is_barrier (record { group = g; item = i }) k ≡ Some d.index
-  place_is = ap (λ x. place_of s is_barrier x k) (sym item_is) ∙ stands_in.place
-
-  pub no_barrier : place_of s is_barrier (record { group = g; item = i }) k ≡ None → ⊥
-  no_barrier none = let no : None ≡ Some d.index = sym none ∙ place_is in cc
-
-pub only_barrier : (s : Streams) (g k : ℕ) (d : EventId) (i n : ℕ) → StandsIn s d g k → d.at.item ≡ i → place_of s is_barrier (record { group = g; item = i }) k ≡ Some n → d ≡ record { at = record { group = g; item = i }; index = n }
-only_barrier s g k d i n stands_in item place =
-    let index : d.index ≡ n = let same : Some d.index ≡ Some n = sym (place_is s g k d i stands_in item) ∙ place in cc in
-    same_event d (record { at = record { group = g; item = i }; index = n }) (item_is s g k d i stands_in item) index
 
 -- ---- what tells an event
 

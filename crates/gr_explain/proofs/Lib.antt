@@ -5,3 +5,4 @@ pub mod FollowerLemmas
 pub mod PairOrder
 pub mod Searching
 pub mod Instances
+pub mod Passing

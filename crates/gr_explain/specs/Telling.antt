@@ -5,6 +5,8 @@ use Rattle.std.specs.List.{list_any}
 use Rattle.gr_model.specs.declared.event.EventId.{EventId}
 use Rattle.gr_model.specs.declared.event.Space.{Space}
 use Rattle.gr_model.specs.contracts.event.EventIdPartialEq.TheImpl as equality
+use Rattle.gr_explain.specs.declared.told.Instance.{Instance}
+use Rattle.gr_explain.specs.contracts.told.InstancePartialEq.TheImpl as instance_equality
 use Rattle.gr_model.specs.Barriers.{IsConvergent, StandsIn, Together}
 use Rattle.gr_model.specs.Counts.{IsSeen}
 use Rattle.gr_model.specs.HappensBefore.{IsInclusive}
@@ -30,9 +32,24 @@ pub record IsFlagged (s : Streams) (m : Space) (e : EventId) (k : ℕ) : Type 0 
 abbrev pub same_event : EventId → EventId → Bool
 same_event e f = (equality.eq-value).it e f
 
+abbrev pub same_instance : Instance → Instance → Bool
+same_instance i j = (instance_equality.eq-value).it i j
+
 -- an event is one of these
 abbrev pub Has : List EventId → EventId → Type 0
 Has events e = IsTrue (list_any (same_event e) events)
+
+-- an instance of a group is one of these
+abbrev pub HasInstance : List Instance → ℕ → ℕ → Type 0
+HasInstance instances g k = IsTrue (list_any (same_instance (record { group = g; number = k })) instances)
+
+-- some barrier of the instance is one of these events, and the instance is convergent and flags the memory
+abbrev pub IsPassed : Streams → Space → List EventId → ℕ → ℕ → Type 0
+IsPassed s m events g k = (d : EventId) × (a : Mark) × Has events d × StandsIn s d g k × IsConvergent s g k a × IsTrue (flags a m)
+
+-- the instances are all of which this is so
+abbrev pub ArePassed : Streams → Space → List EventId → List Instance → Type 0
+ArePassed s m events instances = (g k : ℕ) → HasInstance instances g k ↔ IsPassed s m events g k
 
 -- one of these events tells f
 abbrev pub IsTold : Streams → Space → List EventId → EventId → Type 0

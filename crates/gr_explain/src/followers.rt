@@ -5,11 +5,11 @@ ghost use Rattle.gr_model.specs.LawfulOrders.{IsLawful};
 ghost use Rattle.gr_model.specs.Streams.{AreFronts};
 ghost use Rattle.gr_explain.specs.Telling.{AreFollowers};
 
-use crate::telling::{Events, is_told};
+use crate::telling::is_told;
+use crate::told::Told;
 use gr_lanes::lanes::Lanes;
 use gr_model::event::{EventId, Space};
 use gr_model::memory::Memory;
-use indexmap::IndexSet;
 use std::alloc::Allocator;
 
 /// The events of a lawful order that are an event or happen after it in a memory.
@@ -22,15 +22,15 @@ pub(crate) fn followers<A: Allocator + Copy>(
     order: &[EventId],
     space: Space,
     first: EventId,
-) -> Result<Events<A>, Memory>
+) -> Result<Told<A>, Memory>
     requires fronts { AreFronts lanes.now }
     requires lawful { IsLawful lanes.now order.now }
-    ensures { IfOk result (λ followers. AreFollowers lanes.now space order.now (length order.now) first followers.keys) }
+    ensures { IfOk result (λ followers. AreFollowers lanes.now space order.now (length order.now) first followers.events.keys) }
 {
-    let mut followers = IndexSet::new(alloc);
+    let mut followers = Told::new(alloc);
     for event in order {
         if *event == first || is_told(lanes, &followers, space, *event) {
-            followers.insert(*event)?;
+            followers.add(lanes, space, *event)?;
         }
     }
     Ok(followers)

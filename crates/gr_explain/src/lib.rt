@@ -3,7 +3,7 @@
 //! Semantics: the contract of `explain` speaks of happens-before itself, and the code keeps no clocks: for one access after
 //! another it follows the order, and tells of each event whether it is the access or happens after it. So its answers are
 //! independent of the clocks and shadows of the detector. It is slow: its time grows with the accesses of the word times
-//! the events (behind a barrier, times the items of its group besides); its memory grows with the events.
+//! the events, its memory with the events.
 #![tactic(auto)]
 
 mod conflict;
@@ -14,3 +14,4 @@ mod pairs;
 mod races;
 mod taking;
 mod telling;
+mod told;

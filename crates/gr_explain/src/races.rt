@@ -11,7 +11,7 @@ ghost use Rattle.gr_explain.specs.Telling.{AreFollowers};
 use crate::conflict::{access_to, are_conflicting};
 use crate::followers::followers;
 use crate::pairs::{lesser, turned};
-use crate::telling::Events;
+use crate::told::Told;
 use gr_clocks::clocks::memory_of;
 use gr_lanes::lanes::Lanes;
 use gr_model::event::{EventId, Word};
@@ -24,12 +24,12 @@ fn with_races_of<A: Allocator>(
     order: &[EventId],
     word: Word,
     place: usize,
-    followers: &Events<A>,
+    followers: &Told<A>,
     least: Option<(EventId, EventId)>,
 ) -> Option<(EventId, EventId)>
     requires lawful { IsLawful lanes.now order.now }
     requires place { place < length order.now }
-    requires followers { (e : _) → IsAt order.now place e → AreFollowers lanes.now (model.memory_of word) order.now (length order.now) e followers.now.keys }
+    requires followers { (e : _) → IsAt order.now place e → AreFollowers lanes.now (model.memory_of word) order.now (length order.now) e followers.now.events.keys }
     requires least { IsLeastOf (IsFound lanes.now word order.now place 0) least }
     ensures { IsLeastOf (IsFound lanes.now word order.now (place + 1) 0) result }
 {
@@ -37,7 +37,7 @@ fn with_races_of<A: Allocator>(
     let first = order[place];
     for other in place + 1..order.len() {
         let second = order[other];
-        if are_conflicting(lanes, word, first, second) && !followers.contains(&second) {
+        if are_conflicting(lanes, word, first, second) && !followers.events.contains(&second) {
             least = Some(lesser(least, turned(first, second)));
         }
     }

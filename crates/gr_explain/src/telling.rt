@@ -1,28 +1,22 @@
 //! What tells an event directly of earlier ones: the event before it in its item, the release that it matches, and the
 //! barriers of the instance directly behind which it stands.
 
-ghost use Rattle.std.specs.Prelude.{◌≡◌, ◌↔◌, ◌<◌, ℕ, IsTrue, MatchOption, Some, length};
+ghost use Rattle.std.specs.Prelude.{◌≡◌, ◌↔◌, ℕ, IsTrue, MatchOption};
 ghost use Rattle.gr_model.specs.declared.event.EventId.{EventId as AnyEvent};
-ghost use Rattle.gr_model.specs.Barriers.{IsConvergent, StandsIn, mark_of_kind};
+ghost use Rattle.gr_model.specs.declared.event.Space.{Space as AnySpace};
+ghost use Rattle.gr_model.specs.Barriers.{StandsIn};
 ghost use Rattle.gr_model.specs.HappensBefore as order;
-ghost use Rattle.gr_model.specs.Instances as marks;
-ghost use Rattle.gr_model.specs.Instances.{Mark};
 ghost use Rattle.gr_model.specs.Names.{Matches};
-ghost use Rattle.gr_model.specs.Streams.{AreFronts};
-ghost use Rattle.gr_model.specs.Waits.{CanGo, IsPrevious};
-ghost use Rattle.gr_explain.specs.Telling.{Has, IsFlagged, IsTold};
+ghost use Rattle.gr_model.specs.Streams.{AreFronts, IsEvent};
+ghost use Rattle.gr_model.specs.Waits.{IsPrevious};
+ghost use Rattle.gr_explain.specs.Telling.{ArePassed, Has, IsFlagged, IsTold};
 
+use crate::told::{Instance, Told};
 use gr_clocks::clocks::memory_of;
-use gr_lanes::instance::is_divergent;
 use gr_lanes::lanes::Lanes;
-use gr_model::event::{EventId, ItemId, Kind, Space};
+use gr_model::event::{EventId, Space};
 use gr_scopes::access::inclusive;
-use indexmap::IndexSet;
 use std::alloc::Allocator;
-use std::hash::{BuildHasherDefault, FoldHasher};
-
-/// A set of events.
-pub(crate) type Events<A> = IndexSet<EventId, BuildHasherDefault<FoldHasher>, A>;
 
 /// The event directly before an event in its item, if there is one.
 fn previous(event: EventId) -> Option<EventId>
@@ -74,106 +68,47 @@ fn is_inclusive<A: Allocator>(
     }
 }
 
-/// Whether an event of this kind is a barrier that flags a memory.
-fn has_flag(kind: &Kind, space: Space) -> bool
-    ensures { (site : ℕ) (a : Mark) → mark_of_kind kind.now site ≡ Some a → result ≡ marks.flags a space }
-{
-    match kind {
-        Kind::Barrier { global, local } => match space {
-            Space::Global => *global,
-            Space::Local => *local,
-        },
-        _ => false,
-    }
-}
-
-/// The convergent instance in which an event stands, if it flags a memory.
-fn flagged_instance<A: Allocator>(lanes: &Lanes<A>, space: Space, event: EventId) -> Option<u32>
-    requires fronts { AreFronts lanes.now }
-    requires settled { CanGo lanes.now event }
-    ensures { MatchOption result ((k : ℕ) → ¬ IsFlagged lanes.now space event k) (λ k. IsFlagged lanes.now space event k) }
-{
-    let taken = lanes.event_at(event)?;
-    let number = lanes.barrier_number(event)?;
-    if has_flag(&taken.kind, space) && !is_divergent(lanes, event.at.group, number, &taken) {
-        Some(number)
-    } else {
-        None
-    }
-}
-
-/// Whether some barrier of an instance of a group is in a set.
-fn has_barrier<A: Allocator>(
-    lanes: &Lanes<A>,
-    events: &Events<A>,
-    group: u16,
-    instance: u32,
-) -> bool
-    requires group { group < length lanes.now.sizes }
-    ensures { IsTrue result ↔ ((d : AnyEvent) × Has events.now.keys d × StandsIn lanes.now d group instance) }
-{
-    for item in 0..lanes.shape().items(group) {
-        let at = ItemId { group, item };
-        match lanes.barrier_at(at, instance) {
-            None => {}
-            Some(index) => {
-                if events.contains(&EventId { at, index }) {
-                    return true;
-                }
-            }
-        }
-    }
-    false
-}
-
-/// Whether the release that an event matches with inclusive scope, on a word of a memory, is in a set.
-fn has_release<A: Allocator>(
-    lanes: &Lanes<A>,
-    events: &Events<A>,
-    space: Space,
-    event: EventId,
-) -> bool
-    ensures { IsTrue result ↔ ((d : AnyEvent) × Has events.now.keys d × Matches lanes.now event d × order.IsInclusive lanes.now space d event) }
+/// Whether the release that an event matches with inclusive scope, on a word of a memory, is told.
+fn has_release<A: Allocator>(lanes: &Lanes<A>, told: &Told<A>, space: Space, event: EventId) -> bool
+    ensures { IsTrue result ↔ ((d : AnyEvent) × Has told.now.events.keys d × Matches lanes.now event d × order.IsInclusive lanes.now space d event) }
 {
     match matched(lanes, event) {
         None => false,
-        Some(release) => events.contains(&release) && is_inclusive(lanes, space, release, event),
+        Some(release) => told.events.contains(&release)
+            && is_inclusive(lanes, space, release, event),
     }
 }
 
-/// Whether some barrier of the convergent instance in which an event stands is in a set, where it flags a memory.
-fn has_companion<A: Allocator>(
-    lanes: &Lanes<A>,
-    events: &Events<A>,
-    space: Space,
-    event: EventId,
-) -> bool
+/// Whether some barrier of the convergent instance in which an event stands is told, where it flags the memory.
+fn has_companion<A: Allocator>(lanes: &Lanes<A>, told: &Told<A>, event: EventId) -> bool
     requires fronts { AreFronts lanes.now }
-    requires settled { CanGo lanes.now event }
-    ensures { IsTrue result ↔ ((d : AnyEvent) × (k : ℕ) × Has events.now.keys d × IsFlagged lanes.now space event k × StandsIn lanes.now d event.at.group k) }
+    requires there { IsEvent lanes.now event }
+    ensures { (m : AnySpace) → ArePassed lanes.now m told.now.events.keys told.now.instances.keys → IsTrue result ↔ ((d : AnyEvent) × (k : ℕ) × Has told.now.events.keys d × IsFlagged lanes.now m event k × StandsIn lanes.now d event.at.group k) }
 {
-    match flagged_instance(lanes, space, event) {
+    match lanes.barrier_number(event) {
         None => false,
-        Some(instance) => has_barrier(lanes, events, event.at.group, instance),
+        Some(number) => told.instances.contains(&Instance {
+            group: event.at.group,
+            number,
+        }),
     }
 }
 
-/// Whether an event of a set tells an event directly.
+/// Whether one of the told events tells an event directly.
 pub(crate) fn is_told<A: Allocator>(
     lanes: &Lanes<A>,
-    events: &Events<A>,
+    told: &Told<A>,
     space: Space,
     event: EventId,
 ) -> bool
     requires fronts { AreFronts lanes.now }
-    requires settled { (d : AnyEvent) → IsPrevious d event → CanGo lanes.now d }
-    ensures { IsTrue result ↔ IsTold lanes.now space events.now.keys event }
+    requires there { (d : AnyEvent) → IsPrevious d event → IsEvent lanes.now d }
+    requires passed { ArePassed lanes.now space told.now.events.keys told.now.instances.keys }
+    ensures { IsTrue result ↔ IsTold lanes.now space told.now.events.keys event }
 {
-    has_release(lanes, events, space, event)
+    has_release(lanes, told, space, event)
         || match previous(event) {
             None => false,
-            Some(before) => {
-                events.contains(&before) || has_companion(lanes, events, space, before)
-            }
+            Some(before) => told.events.contains(&before) || has_companion(lanes, told, before),
         }
 }

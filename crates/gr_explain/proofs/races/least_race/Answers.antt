@@ -21,7 +21,7 @@ with_races_of-least-requires-clause-followers g c e at =
     let first = get_or order p no_id in
     let there : IsAt order p first = slice_get-get_or order p no_id c.loop-place-test.true in
     let same : first ≡ e = let is : Some first ≡ Some e = sym there ∙ at in cc in
-    let keys = c.in_ok-followers-in-Some.followers.keys in
+    let keys = c.in_ok-followers-in-Some.followers.events.keys in
     subst (λ (x : EventId). AreFollowers s (memory_of c.args.word) order (length order) x keys) same
     (subst (λ (m : Space). AreFollowers s m order (length order) first keys) c.memory_of.ensures c.in_ok-followers-in-Some.ensures)
 

@@ -42,7 +42,7 @@ loop-other-preserved g c =
     let forwards : p < q = omega arith in
     let at_p : IsAt order p e = slice_get-get_or order p no_id c.requires.place in
     let at_q : IsAt order q f = slice_get-get_or order q no_id c.loop-other-test.true in
-    let keys = c.args.followers.now.keys in
+    let keys = c.args.followers.now.events.keys in
     let are = c.requires.followers e at_p in
     elim c.if-are_conflicting.branch [
       | then-are_conflicting+then-not-contains w ↦
