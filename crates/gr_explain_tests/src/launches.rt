@@ -3,7 +3,9 @@
 use gr_explain::explain::explain;
 use gr_model::event::{EventId, ItemId, Word};
 use gr_model::memory::Memory;
+use gr_model::traces::Traces;
 use gr_record::fault::Fault;
+use gr_replay::detect::detect;
 use gr_replay::read_joined;
 use gr_text::packing::pack_text;
 use std::alloc::{Allocator, Global};
@@ -201,6 +203,24 @@ fn event((group, item, index): Place) -> EventId {
     }
 }
 
+/// The traces of a launch's text, or `None` where the text is no launch.
+fn traces_of<A: Allocator + Copy>(
+    alloc: A,
+    ample: Global,
+    text: &str,
+) -> Result<Option<Traces<A>>, Memory> {
+    let bytes = match pack_text(ample, text.as_bytes()) {
+        Ok(bytes) => bytes,
+        Err(_) => return Ok(None),
+    };
+    let mut reader = bytes.as_slice();
+    match read_joined(alloc, &mut reader) {
+        Ok(traces) => Ok(Some(traces)),
+        Err(Fault::Memory) => Err(Memory),
+        Err(_) => Ok(None),
+    }
+}
+
 /// Whether the least racing pair is this one. A text that is no launch has none.
 pub(crate) fn is_explained<A: Allocator + Copy>(
     alloc: A,
@@ -208,15 +228,8 @@ pub(crate) fn is_explained<A: Allocator + Copy>(
     case: &Case,
 ) -> Result<bool, Memory> {
     let (_, text, word, due) = *case;
-    let bytes = match pack_text(ample, text.as_bytes()) {
-        Ok(bytes) => bytes,
-        Err(_) => return Ok(false),
-    };
-    let mut reader = bytes.as_slice();
-    let traces = match read_joined(alloc, &mut reader) {
-        Ok(traces) => traces,
-        Err(Fault::Memory) => return Err(Memory),
-        Err(_) => return Ok(false),
+    let Some(traces) = traces_of(alloc, ample, text)? else {
+        return Ok(false);
     };
     let pair = explain(alloc, &traces, word)?;
     Ok(match (pair, due) {
@@ -226,4 +239,15 @@ pub(crate) fn is_explained<A: Allocator + Copy>(
         }
         _ => false,
     })
+}
+
+/// Whether the word is explained exactly where the detector reports it.
+pub(crate) fn is_reported_too(alloc: Global, case: &Case) -> Result<bool, Memory> {
+    let (_, text, word, _) = *case;
+    let Some(traces) = traces_of(alloc, alloc, text)? else {
+        return Ok(false);
+    };
+    let report = detect(alloc, &traces)?;
+    let pair = explain(alloc, &traces, word)?;
+    Ok(report.races.as_slice().contains(&word) == pair.is_some())
 }
