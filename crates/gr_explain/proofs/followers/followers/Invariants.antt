@@ -1,0 +1,8 @@
+use Rattle.gr_explain.specs.Telling.{AreFollowers, ArePassed}
+use Rattle.gr_explain.proofs.followers.followers.Given as goal
+
+abbrev pub invariant-loop-event : goal.invariant-loop-event
+invariant-loop-event g l = record {
+  followers : AreFollowers l.lanes l.space l.order l.event-index l.first l.followers.events.keys;
+  passed : ArePassed l.lanes l.space l.followers.events.keys l.followers.instances.keys;
+}

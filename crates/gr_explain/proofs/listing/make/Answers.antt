@@ -1,0 +1,29 @@
+use Rattle.std.proofs.Common.{◌∙◌, ◌++◌, ◌<◌, List, ap, arith, length, subst, sym}
+use Rattle.std.proofs.lemmas.List.{length-append}
+use Rattle.gr_model.specs.declared.event.EventId.{EventId}
+use Rattle.gr_model.specs.Streams.{Streams}
+use Rattle.gr_steps.specs.Steps.{AreBarriers}
+use Rattle.gr_explain.proofs.Instances.{same_barriers}
+use Rattle.gr_explain.proofs.listing.make.Goals as goal
+
+pub returns-in_ok-list_instance-in-Some-meeting-clause-listed : goal.returns-in_ok-list_instance-in-Some-meeting-clause-listed
+returns-in_ok-list_instance-in-Some-meeting-clause-listed g c =
+    let meeting = c.in-Some-meeting.ensures.meeting in
+    let met = c.pass.ensures.step c.in-Some-meeting.instance meeting.0 meeting.1 in
+    let bs = c.in_ok-list_instance-in-Some-meeting.ensures in
+    let s = c.args.order.now.taken in
+    let are = subst (λ (t : Streams). AreBarriers t c.in-Group.group c.in-Some-meeting.instance bs.0) c.lanes.ensures.taken bs.1 in
+    let same = same_barriers s c.in-Group.group c.in-Some-meeting.instance bs.0 met.meets.barriers are met.meets.are in
+    bs.2 ∙ (ap (λ (xs : List EventId). xs ++ bs.0) c.requires.listed ∙ (ap (λ (xs : List EventId). c.args.order.now.handled ++ xs) same ∙ sym met.meets.order))
+
+pub returns-in_ok-list_instance-in-Some-meeting-clause-taken : goal.returns-in_ok-list_instance-in-Some-meeting-clause-taken
+returns-in_ok-list_instance-in-Some-meeting-clause-taken g c =
+    let meeting = c.in-Some-meeting.ensures.meeting in
+    (c.pass.ensures.step c.in-Some-meeting.instance meeting.0 meeting.1).taken
+
+pub returns-in_ok-list_instance-in-Some-meeting-clause-more : goal.returns-in_ok-list_instance-in-Some-meeting-clause-more
+returns-in_ok-list_instance-in-Some-meeting-clause-more g c =
+    let meeting = c.in-Some-meeting.ensures.meeting in
+    let met = c.pass.ensures.step c.in-Some-meeting.instance meeting.0 meeting.1 in
+    let some : 0 < length met.meets.barriers = omega (arith, met.meets.are.count, met.meets.meeting.convergent.0) in
+    omega (arith, ap length met.meets.order, length-append c.args.order.now.handled met.meets.barriers, some)

@@ -1,0 +1,14 @@
+use Rattle.gr_model.specs.Streams.{size_of}
+use Rattle.gr_explain.proofs.TakenLists.{event_taken, good_at, no_event, none_yet}
+use Rattle.gr_explain.proofs.taking.take_list.Goals as goal
+
+pub take-requires-clause-good : goal.take-requires-clause-good
+take-requires-clause-good g c = good_at (size_of c.args.order.now.taken c.args.group) c.loop-event.event-index c.args.list.now no_event c.requires.accepted c.loop-event-test.true
+
+pub loop-event-init : goal.loop-event-init
+loop-event-init g c = none_yet c.args.order.now c.args.group c.requires.nothing
+
+pub loop-event-preserved : goal.loop-event-preserved
+loop-event-preserved g c =
+    event_taken c.args.order.now c.loop-event.order c.take.new.self c.args.group c.loop-event.event-index c.args.list.now no_event
+    c.requires.there c.loop-event-test.true c.loop-event.invariant c.in-Ok.ensures.ok.1

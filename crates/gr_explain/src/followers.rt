@@ -1,0 +1,37 @@
+//! The followers of an event: it, and the events before which it happens.
+
+ghost use Rattle.std.specs.Prelude.{IfOk, length};
+ghost use Rattle.gr_model.specs.LawfulOrders.{IsLawful};
+ghost use Rattle.gr_model.specs.Streams.{AreFronts};
+ghost use Rattle.gr_explain.specs.Telling.{AreFollowers};
+
+use crate::telling::is_told;
+use crate::told::Told;
+use gr_lanes::lanes::Lanes;
+use gr_model::event::{EventId, Space};
+use gr_model::memory::Memory;
+use std::alloc::Allocator;
+
+/// The events of a lawful order that are an event or happen after it in a memory.
+///
+/// # Errors
+/// `Memory`.
+pub(crate) fn followers<A: Allocator + Copy>(
+    alloc: A,
+    lanes: &Lanes<A>,
+    order: &[EventId],
+    space: Space,
+    first: EventId,
+) -> Result<Told<A>, Memory>
+    requires fronts { AreFronts lanes.now }
+    requires lawful { IsLawful lanes.now order.now }
+    ensures { IfOk result (λ followers. AreFollowers lanes.now space order.now (length order.now) first followers.events.keys) }
+{
+    let mut followers = Told::new(alloc);
+    for event in order {
+        if *event == first || is_told(lanes, &followers, space, *event) {
+            followers.add(lanes, space, *event)?;
+        }
+    }
+    Ok(followers)
+}

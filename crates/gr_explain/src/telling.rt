@@ -1,0 +1,114 @@
+//! What tells an event directly of earlier ones: the event before it in its item, the release that it matches, and the
+//! barriers of the instance directly behind which it stands.
+
+ghost use Rattle.std.specs.Prelude.{◌≡◌, ◌↔◌, ℕ, IsTrue, MatchOption};
+ghost use Rattle.gr_model.specs.declared.event.EventId.{EventId as AnyEvent};
+ghost use Rattle.gr_model.specs.declared.event.Space.{Space as AnySpace};
+ghost use Rattle.gr_model.specs.Barriers.{StandsIn};
+ghost use Rattle.gr_model.specs.HappensBefore as order;
+ghost use Rattle.gr_model.specs.Names.{Matches};
+ghost use Rattle.gr_model.specs.Streams.{AreFronts, IsEvent};
+ghost use Rattle.gr_model.specs.Waits.{IsPrevious};
+ghost use Rattle.gr_explain.specs.Telling.{ArePassed, Has, IsFlagged, IsTold};
+
+use crate::told::{Instance, Told};
+use gr_clocks::clocks::memory_of;
+use gr_lanes::lanes::Lanes;
+use gr_model::event::{EventId, Space};
+use gr_scopes::access::inclusive;
+use std::alloc::Allocator;
+
+/// The event directly before an event in its item, if there is one.
+fn previous(event: EventId) -> Option<EventId>
+    ensures { MatchOption result ((d : AnyEvent) → ¬ IsPrevious d event) (λ d. IsPrevious d event) }
+{
+    if event.index == 0 {
+        None
+    } else {
+        Some(EventId {
+            at: event.at,
+            index: event.index - 1,
+        })
+    }
+}
+
+/// The release that an event matches, if it matches one.
+fn matched<A: Allocator>(lanes: &Lanes<A>, event: EventId) -> Option<EventId>
+    ensures { MatchOption result ((d : AnyEvent) → ¬ Matches lanes.now event d) (λ d. Matches lanes.now event d) }
+{
+    let name = lanes.event_at(event)?.name?;
+    let index = lanes.release_at(name)?;
+    let release = EventId { at: name.at, index };
+    if lanes.word_at(release) == lanes.word_at(event) {
+        Some(release)
+    } else {
+        None
+    }
+}
+
+/// Whether the first of two events accesses a word of a memory, and both are atomic with inclusive scope.
+fn is_inclusive<A: Allocator>(
+    lanes: &Lanes<A>,
+    space: Space,
+    first: EventId,
+    second: EventId,
+) -> bool
+    ensures { IsTrue result ↔ order.IsInclusive lanes.now space first second }
+{
+    match (
+        lanes.event_at(first),
+        lanes.word_at(first),
+        lanes.event_at(second),
+    ) {
+        (Some(one), Some(word), Some(other)) => {
+            memory_of(word) == space
+                && inclusive(&one.kind, first.at.group, &other.kind, second.at.group)
+        }
+        _ => false,
+    }
+}
+
+/// Whether the release that an event matches with inclusive scope, on a word of a memory, is told.
+fn has_release<A: Allocator>(lanes: &Lanes<A>, told: &Told<A>, space: Space, event: EventId) -> bool
+    ensures { IsTrue result ↔ ((d : AnyEvent) × Has told.now.events.keys d × Matches lanes.now event d × order.IsInclusive lanes.now space d event) }
+{
+    match matched(lanes, event) {
+        None => false,
+        Some(release) => told.events.contains(&release)
+            && is_inclusive(lanes, space, release, event),
+    }
+}
+
+/// Whether some barrier of the convergent instance in which an event stands is told, where it flags the memory.
+fn has_companion<A: Allocator>(lanes: &Lanes<A>, told: &Told<A>, event: EventId) -> bool
+    requires fronts { AreFronts lanes.now }
+    requires there { IsEvent lanes.now event }
+    ensures { (m : AnySpace) → ArePassed lanes.now m told.now.events.keys told.now.instances.keys → IsTrue result ↔ ((d : AnyEvent) × (k : ℕ) × Has told.now.events.keys d × IsFlagged lanes.now m event k × StandsIn lanes.now d event.at.group k) }
+{
+    match lanes.barrier_number(event) {
+        None => false,
+        Some(number) => told.instances.contains(&Instance {
+            group: event.at.group,
+            number,
+        }),
+    }
+}
+
+/// Whether one of the told events tells an event directly.
+pub(crate) fn is_told<A: Allocator>(
+    lanes: &Lanes<A>,
+    told: &Told<A>,
+    space: Space,
+    event: EventId,
+) -> bool
+    requires fronts { AreFronts lanes.now }
+    requires there { (d : AnyEvent) → IsPrevious d event → IsEvent lanes.now d }
+    requires passed { ArePassed lanes.now space told.now.events.keys told.now.instances.keys }
+    ensures { IsTrue result ↔ IsTold lanes.now space told.now.events.keys event }
+{
+    has_release(lanes, told, space, event)
+        || match previous(event) {
+            None => false,
+            Some(before) => told.events.contains(&before) || has_companion(lanes, told, before),
+        }
+}
