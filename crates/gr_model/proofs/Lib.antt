@@ -14,3 +14,4 @@ pub mod HitsAreRaces
 pub mod Fronts
 pub mod WordLemmas
 pub mod Sending
+pub mod StreamFronts

@@ -4,4 +4,5 @@ pub mod Worlds
 pub mod Steps
 pub mod Putting
 pub mod Views
+pub mod Errors
 pub mod Resting

@@ -1,6 +1,12 @@
 //! The steps of a world, and why one is refused.
 
+ghost use Rattle.std.specs.Prelude.{◌≡◌};
+ghost use Rattle.gr_world.specs.Errors.{Becomes};
+ghost use Rattle.gr_world.specs.declared.step.StepError.TheVariants.{Memory as OutOfMemory};
+
 use gr_model::event::{Event, ItemId};
+use gr_model::memory::Memory;
+use gr_order::go_error::GoError;
 use thiserror::Error;
 
 /// One atomic action of a sender, of the sequencer or of a worker.
@@ -46,4 +52,23 @@ pub enum StepError {
     NotReady,
     #[error("out of memory")]
     Memory,
+}
+
+impl From<Memory> for StepError {
+    ghost from_gives = { λ _ e. e ≡ OutOfMemory };
+
+    fn from(_error: Memory) -> StepError {
+        StepError::Memory
+    }
+}
+
+impl From<GoError> for StepError {
+    ghost from_gives = { λ e f. Becomes e f };
+
+    fn from(error: GoError) -> StepError {
+        match error {
+            GoError::NotReady => StepError::NotReady,
+            GoError::Memory => StepError::Memory,
+        }
+    }
 }

@@ -30,7 +30,6 @@ use gr_model::event::{Event, ItemId, Sent, Word, event_ok};
 use gr_model::limits::MOST_RECORDS;
 use gr_model::memory::Memory;
 use gr_model::shape::Shape;
-use gr_order::go_error::GoError;
 use gr_report::report::Report;
 use gr_report::rows::Rows;
 use gr_sequencer::handled::Handled;
@@ -131,7 +130,6 @@ impl<A: Allocator + Copy> World<A> {
         ensures step { OnOk result (IsStep self.old step self.new) }
         ensures err { IfErr result (IsRefusal self.old step) }
         ensures unchanged { OnErr result (self.new ≡ self.old) }
-        ensures world { IsWorld self.new }
     {
         match step {
             Step::Send(group, event) => self.send(group, event),
@@ -162,8 +160,7 @@ impl<A: Allocator + Copy> World<A> {
     /// `Memory`.
     pub fn report(&self) -> Result<Report<A>, Memory>
         requires { IsWorldAtRest self.now }
-        ensures report { IfOk result (λ report. IsReportOf self.now.sent (whole_of report)) }
-        ensures world { IsWorld self.now }
+        ensures { IfOk result (λ report. IsReportOf self.now.sent (whole_of report)) }
     {
         let races = self.races()?;
         let divergences = self.sequencer.divergences()?;
@@ -195,18 +192,14 @@ impl<A: Allocator + Copy> World<A> {
         if self.way.is_some() {
             return Err(StepError::Busy);
         }
-        match self.sequencer.handle(item) {
-            Ok(Handled::One { event: _, access }) => {
-                self.way = access;
-                Ok(())
-            }
-            Ok(Handled::Meet {
+        match self.sequencer.handle(item)? {
+            Handled::One { event: _, access } => self.way = access,
+            Handled::Meet {
                 group: _,
                 instance: _,
-            }) => unreachable!(),
-            Err(GoError::NotReady) => Err(StepError::NotReady),
-            Err(GoError::Memory) => Err(StepError::Memory),
+            } => unreachable!(),
         }
+        Ok(())
     }
 
     /// Handles the barriers of a group's next convergent instance.
@@ -220,11 +213,8 @@ impl<A: Allocator + Copy> World<A> {
         if group >= self.sent.shape().groups() {
             return Err(StepError::BadStep);
         }
-        match self.sequencer.meet(group) {
-            Ok(_) => Ok(()),
-            Err(GoError::NotReady) => Err(StepError::NotReady),
-            Err(GoError::Memory) => Err(StepError::Memory),
-        }
+        let _met = self.sequencer.meet(group)?;
+        Ok(())
     }
 
     /// The worker receives the access at the front of its queue.
@@ -233,22 +223,21 @@ impl<A: Allocator + Copy> World<A> {
         ensures err { IfErr result (IsRefusal self.old (steps.WorkTake worker)) }
         ensures unchanged { OnErr result (self.new ≡ self.old) }
     {
-        match self.workers.get_mut(usize::from(worker)) {
-            None => Err(StepError::BadStep),
-            Some(worker) => match worker.receive() {
-                Ok(true) => Ok(()),
-                Ok(false) => Err(StepError::Empty),
-                Err(_) => Err(StepError::Memory),
-            },
+        let worker = match self.workers.get_mut(usize::from(worker)) {
+            None => return Err(StepError::BadStep),
+            Some(worker) => worker,
+        };
+        if !worker.receive()? {
+            return Err(StepError::Empty);
         }
+        Ok(())
     }
 
     /// Tries steps one after another. Tells how many were refused.
     pub fn run(&mut self, steps: &[Step]) -> u64
     where
         A: Clone,
-        ensures runs { Runs self.old steps.now self.new result }
-        ensures world { IsWorld self.new }
+        ensures { Runs self.old steps.now self.new result }
     {
         let mut refused: u64 = 0;
         for step in steps {
@@ -273,7 +262,12 @@ impl<A: Allocator> World<A> {
     fn is_idle(&self) -> bool
         ensures { IsTrue result ↔ AreIdle self.now.workers }
     {
-        self.workers.iter().all(|worker| worker.is_idle())
+        for worker in &self.workers {
+            if !worker.is_idle() {
+                return false;
+            }
+        }
+        true
     }
 
     /// Whether all streams have their ends, the queues are empty, nothing is on its way, and no step of the sequencer is
@@ -283,7 +277,16 @@ impl<A: Allocator> World<A> {
         ensures done { IsTrue result → IsDone self.now.sequence }
         ensures world { IsWorld self.now }
     {
-        self.is_drained() && self.is_idle() && self.way.is_none() && self.sequencer.at_end()
+        if self.way.is_some() {
+            return false;
+        }
+        if !self.is_drained() {
+            return false;
+        }
+        if !self.is_idle() {
+            return false;
+        }
+        self.sequencer.at_end()
     }
 
     /// How many records were sent, ends included.

@@ -1,0 +1,5 @@
+pub mod SendLemmas
+pub mod TakeLemmas
+pub mod WayLemmas
+pub mod RestLemmas
+pub mod NewLemmas
