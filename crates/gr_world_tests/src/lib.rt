@@ -15,4 +15,6 @@ mod script;
 #[cfg(test)]
 mod scripts;
 #[cfg(test)]
+mod steps;
+#[cfg(test)]
 mod told;

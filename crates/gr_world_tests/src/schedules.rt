@@ -3,13 +3,15 @@
 
 use crate::calls::{Numbers, new, shape_of, step};
 use crate::rows::{ROWS, Row};
+use crate::steps::{Way, of_sequencer, of_workers, sends_of};
 use crate::told::reported;
-use gr_model::event::{Event, ItemId};
+use gr_model::event::Event;
 use gr_model::traces::Traces;
 use gr_replay::detect::detect;
 use gr_world::step::{Step, StepError};
 use gr_world::world::World;
 use std::alloc::{AllocError, Global};
+use std::collections::VecDeque;
 use std::test::Fail;
 
 /// How many workers and queues there are, and how many places a queue has.
@@ -24,56 +26,115 @@ const ALL_NUMBERS: [Numbers; 8] = [
     (3, 2, 4),
 ];
 
-/// In which order the groups send.
-#[derive(Clone, Copy, Debug, PartialEq, Eq)]
-enum Way {
-    /// All of the greatest group first, then all of the one before it.
-    GreatestFirst,
-    /// A record of each group in turn.
-    TurnByTurn,
+/// A schedule: what is still to be sent, and what sequencer and workers try again and again.
+#[derive(Drop)]
+struct Schedule {
+    sends: VecDeque<Step>,
+    of_sequencer: Vec<Step>,
+    of_workers: Vec<Step>,
 }
 
-/// Adds the step that sends what stands at this place of a group's list, behind which stands its end.
-fn add_send(steps: &mut Vec<Step>, group: u16, list: &[Event], place: usize) -> Result<(), AllocError> {
-    if place == list.len() {
-        return steps.push(Step::Close(group, false));
-    }
-    match list.get(place) {
-        None => Ok(()),
-        Some(event) => steps.push(Step::Send(group, *event)),
+/// The schedule of a row.
+fn schedule_of(
+    alloc: Global,
+    row: &Row,
+    way: Way,
+    numbers: Numbers,
+) -> Result<Schedule, AllocError> {
+    Ok(Schedule {
+        sends: sends_of(alloc, row, way)?,
+        of_sequencer: of_sequencer(alloc, row, numbers)?,
+        of_workers: of_workers(alloc, numbers)?,
+    })
+}
+
+/// Tries a step, and tells whether it was made. `None` where no later try could do better.
+fn is_made(world: &mut World, tried: Step) -> Option<bool> {
+    match step(world, tried)? {
+        Ok(()) => Some(true),
+        Err(StepError::Full | StepError::Empty | StepError::Busy | StepError::NotReady) => {
+            Some(false)
+        }
+        Err(StepError::BadStep | StepError::NotOpen | StepError::Memory) => None,
     }
 }
 
-/// Adds the steps that send all of a group.
-fn add_all(steps: &mut Vec<Step>, group: u16, list: &[Event]) -> Result<(), AllocError> {
-    for place in 0..list.len() + 1 {
-        add_send(steps, group, list, place)?;
+/// Tries the first of the steps that are left. Where it is refused, it is left.
+fn send(world: &mut World, sends: &mut VecDeque<Step>) -> Option<()> {
+    let Some(front) = sends.front() else {
+        return Some(());
+    };
+    let tried = *front;
+    if is_made(world, tried)? {
+        let _sent = sends.pop_front();
     }
-    Ok(())
+    Some(())
 }
 
-/// Adds the steps that send what stands at this place of each group's list.
-fn add_turn(steps: &mut Vec<Step>, lists: &[&[Event]], place: usize) -> Result<(), AllocError> {
-    for (group, list) in lists.iter().enumerate() {
-        add_send(steps, group as u16, list, place)?;
+/// Tries each of the steps once.
+fn try_each(world: &mut World, steps: &[Step]) -> Option<()> {
+    for tried in steps {
+        let _made = is_made(world, *tried)?;
     }
-    Ok(())
+    Some(())
 }
 
-/// The steps that send a row's records, the groups in this order.
-fn sends_of(alloc: Global, row: &Row, way: Way) -> Result<Vec<Step>, AllocError> {
-    let mut steps = Vec::new(alloc);
-    match way {
-        Way::GreatestFirst => {
-            for (group, list) in row.lists.iter().enumerate().rev() {
-                add_all(&mut steps, group as u16, list)?;
+/// Follows a schedule to its end: three sends are tried, then each step of the sequencer, and every third time each of the
+/// workers.
+fn follow(world: &mut World, schedule: &mut Schedule) -> Option<()> {
+    for turn in 0..100_u32 {
+        send(world, &mut schedule.sends)?;
+        send(world, &mut schedule.sends)?;
+        send(world, &mut schedule.sends)?;
+        try_each(world, &schedule.of_sequencer)?;
+        if turn % 3 == 2 {
+            try_each(world, &schedule.of_workers)?;
+        }
+    }
+    Some(())
+}
+
+/// The world of a row at the end of its schedule.
+fn world_of(alloc: Global, row: &Row, way: Way, numbers: Numbers) -> Option<World> {
+    let mut schedule = schedule_of(alloc, row, way, numbers).ok()?;
+    let mut world = new(alloc, row.sizes, numbers)?;
+    follow(&mut world, &mut schedule)?;
+    Some(world)
+}
+
+/// The whole lists of a row.
+fn traces_of(alloc: Global, row: &Row) -> Result<Traces, Fail> {
+    let mut lists = Vec::new(alloc);
+    for list in row.lists {
+        let mut whole = list.to_vec(alloc)?;
+        whole.push(Event::end(false))?;
+        lists.push(whole)?;
+    }
+    let shape = shape_of(alloc, row.sizes).ok().ok_or("a shape")?;
+    Ok(Traces::new(shape, lists).ok().ok_or("traces")?)
+}
+
+/// Whether the report of a row's world, however many workers and queues there are, is the row's, and that of its lists.
+fn is_told(alloc: Global, row: &Row, way: Way, numbers: Numbers) -> Result<bool, Fail> {
+    let traces = traces_of(alloc, row)?;
+    let due = detect(alloc, &traces).ok().ok_or("a report")?;
+    let world = world_of(alloc, row, way, numbers).ok_or("a world")?;
+    if !world.at_rest() {
+        return Ok(false);
+    }
+    let report = world.report().ok().ok_or("a report")?;
+    Ok(report == due && reported(&world) == Some(row.told))
+}
+
+#[test]
+fn schedules_change_no_report(rt: HostRuntime) -> Result<(), Fail> {
+    for row in ROWS.iter() {
+        for numbers in ALL_NUMBERS {
+            for way in [Way::GreatestFirst, Way::TurnByTurn] {
+                let told = is_told(rt.alloc(), row, way, numbers)?;
+                assert!(rt; told, "{}, {way:?}, {numbers:?}", row.name);
             }
         }
-        Way::TurnByTurn => {
-            for place in 0..10 {
-                add_turn(&mut steps, row.lists, place)?;
-            }
-        }
     }
-    Ok(steps)
+    Ok(())
 }

@@ -23,7 +23,10 @@ pub(crate) struct Script {
 }
 
 /// The steps of a script.
-pub(crate) fn steps_of<A: Allocator>(alloc: A, script: &Script) -> Result<Vec<Step, A>, AllocError> {
+pub(crate) fn steps_of<A: Allocator>(
+    alloc: A,
+    script: &Script,
+) -> Result<Vec<Step, A>, AllocError> {
     let mut steps = Vec::new(alloc);
     for (step, _) in script.lines {
         steps.push(*step)?;
