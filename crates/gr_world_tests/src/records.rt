@@ -46,6 +46,18 @@ pub(crate) const ITEM_1_READ_16: Event = Event { item: 1, ..READ_16 };
 
 pub(crate) const ITEM_2_READ_16: Event = Event { item: 2, ..READ_16 };
 
+pub(crate) const ITEM_1_WRITE_24: Event = Event {
+    item: 1,
+    word: 24,
+    ..WRITE_16
+};
+
+pub(crate) const ITEM_2_READ_24: Event = Event {
+    item: 2,
+    word: 24,
+    ..READ_16
+};
+
 pub(crate) const WRITE_LOCAL_4: Event = Event {
     space: Space::Local,
     word: 4,
@@ -70,6 +82,18 @@ pub(crate) const LOAD_20: Event = Event {
     kind: Kind::Load(Scope::Device, Order::Acquire),
     name: Some(FIRST_RELEASE),
     ..STORE_20
+};
+
+/// Releases, at work-group scope.
+pub(crate) const GROUP_STORE_20: Event = Event {
+    kind: Kind::Store(Scope::Group, Order::Release),
+    ..STORE_20
+};
+
+/// Acquires from the first release of item 0 of group 0, at work-group scope.
+pub(crate) const GROUP_LOAD_20: Event = Event {
+    kind: Kind::Load(Scope::Group, Order::Acquire),
+    ..LOAD_20
 };
 
 pub(crate) const ITEM_1_LOAD_20: Event = Event { item: 1, ..LOAD_20 };
@@ -102,9 +126,19 @@ pub(crate) const ITEM_1_BARRIER_1: Event = Event {
     ..BARRIER_1
 };
 
+pub(crate) const ITEM_2_BARRIER_1: Event = Event {
+    item: 2,
+    ..BARRIER_1
+};
+
 pub(crate) const BARRIER_2: Event = Event {
     word: 2,
     ..BARRIER_1
+};
+
+pub(crate) const ITEM_1_BARRIER_2: Event = Event {
+    item: 1,
+    ..BARRIER_2
 };
 
 pub(crate) const ITEM_1_BARRIER_3: Event = Event {
