@@ -1,5 +1,5 @@
-//! Tests alone: worlds of runs, by scripts of steps with the answer to each, also with each growth refused in turn, and the
-//! worked rows of launches by schedules of steps.
+//! Tests alone: worlds of runs, by scripts of steps with the answer to each, also with each growth refused in turn, and
+//! the worked rows of launches by schedules of steps.
 #![tactic(auto)]
 
 #[cfg(test)]

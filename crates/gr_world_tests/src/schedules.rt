@@ -79,8 +79,8 @@ fn try_each(world: &mut World, steps: &[Step]) -> Option<()> {
     Some(())
 }
 
-/// Follows a schedule to its end: three sends are tried, then each step of the sequencer, and every third time each of the
-/// workers.
+/// Follows a schedule to its end: three sends are tried, then each step of the sequencer, and every third time each of
+/// the workers.
 fn follow(world: &mut World, schedule: &mut Schedule) -> Option<()> {
     for turn in 0..100_u32 {
         send(world, &mut schedule.sends)?;

@@ -44,8 +44,8 @@ fn first_wrong_line<A: Allocator + Copy>(world: &mut World<A>, lines: &[Line]) -
     None
 }
 
-/// How a script went: the place of the first line with another answer, if there is one, and what was reported at the end, if
-/// the world was at rest.
+/// How a script went: the place of the first line with another answer, if there is one, and what was reported at the
+/// end, if the world was at rest.
 pub(crate) type Outcome = (Option<usize>, Option<Told>);
 
 /// How a script went, or `None` where there is no world.

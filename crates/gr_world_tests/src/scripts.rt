@@ -198,7 +198,7 @@ const BARRIERS: Script = Script {
     }),
 };
 
-/// Group 1 sends into queue 1. Of three workers, global word 16 goes to worker 1, and local word 4 of group 1 to worker 2.
+/// Group 1 sends into queue 1. Of three workers, global word 16 goes to worker 1, local word 4 of group 1 to worker 2.
 const TWO_QUEUES: Script = Script {
     name: "two queues and three workers",
     sizes: &[1, 1],
@@ -339,7 +339,8 @@ fn run_counts_the_refused_steps(rt: HostRuntime) -> Result<(), Fail> {
     Ok(())
 }
 
-/// Refuses each growth in turn, until none is refused; the number of one where the script goes otherwise, if there is one.
+/// Refuses each growth in turn, until none is refused; the number of one where the script goes otherwise, if there is
+/// one.
 fn first_wrong_growth(alloc: Global, script: &Script) -> Option<u64> {
     for at in 0..1_000_u64 {
         let heap = Refusing::new(alloc, at);

@@ -16,6 +16,12 @@ pub(crate) enum Way {
     TurnByTurn,
 }
 
+/// No row has more groups.
+const MOST_GROUPS: u16 = 2;
+
+/// No group of a row sends more, its end included.
+const MOST_RECORDS: usize = 10;
+
 /// Adds the step that sends what stands at this place of a group's list, behind which stands its end.
 fn add_send(
     steps: &mut VecDeque<Step>,
@@ -34,7 +40,7 @@ fn add_send(
 
 /// Adds the steps that send all of a group.
 fn add_all(steps: &mut VecDeque<Step>, group: u16, list: &[Event]) -> Result<(), AllocError> {
-    for place in 0..20 {
+    for place in 0..MOST_RECORDS {
         add_send(steps, group, list, place)?;
     }
     Ok(())
@@ -46,8 +52,10 @@ fn add_turn(
     lists: &[&[Event]],
     place: usize,
 ) -> Result<(), AllocError> {
-    for (group, list) in lists.iter().enumerate() {
-        add_send(steps, group as u16, list, place)?;
+    for group in 0..MOST_GROUPS {
+        if let Some(list) = lists.get(usize::from(group)) {
+            add_send(steps, group, list, place)?;
+        }
     }
     Ok(())
 }
@@ -55,8 +63,10 @@ fn add_turn(
 /// The steps that send the greatest group first.
 fn greatest_first(alloc: Global, row: &Row) -> Result<VecDeque<Step>, AllocError> {
     let mut steps = VecDeque::new(alloc);
-    for (group, list) in row.lists.iter().enumerate().rev() {
-        add_all(&mut steps, group as u16, list)?;
+    for group in (0..MOST_GROUPS).rev() {
+        if let Some(list) = row.lists.get(usize::from(group)) {
+            add_all(&mut steps, group, list)?;
+        }
     }
     Ok(steps)
 }
@@ -64,13 +74,13 @@ fn greatest_first(alloc: Global, row: &Row) -> Result<VecDeque<Step>, AllocError
 /// The steps that send a record of each group in turn.
 fn turn_by_turn(alloc: Global, row: &Row) -> Result<VecDeque<Step>, AllocError> {
     let mut steps = VecDeque::new(alloc);
-    for place in 0..20 {
+    for place in 0..MOST_RECORDS {
         add_turn(&mut steps, row.lists, place)?;
     }
     Ok(steps)
 }
 
-/// The steps that send a row's records, at most 19 of each group.
+/// The steps that send a row's records.
 pub(crate) fn sends_of(alloc: Global, row: &Row, way: Way) -> Result<VecDeque<Step>, AllocError> {
     match way {
         Way::GreatestFirst => greatest_first(alloc, row),
@@ -90,8 +100,10 @@ fn add_group(steps: &mut Vec<Step>, group: u16, items: u16) -> Result<(), AllocE
 /// All that the sequencer may do, but taking records.
 fn goes_of(alloc: Global, row: &Row) -> Result<Vec<Step>, AllocError> {
     let mut steps = Vec::new(alloc);
-    for (group, items) in row.sizes.iter().enumerate() {
-        add_group(&mut steps, group as u16, *items)?;
+    for group in 0..MOST_GROUPS {
+        if let Some(items) = row.sizes.get(usize::from(group)) {
+            add_group(&mut steps, group, *items)?;
+        }
     }
     Ok(steps)
 }
