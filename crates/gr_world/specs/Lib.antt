@@ -5,3 +5,4 @@ pub mod Steps
 pub mod Putting
 pub mod Views
 pub mod Resting
+pub mod Laws
