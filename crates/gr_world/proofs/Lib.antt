@@ -3,3 +3,4 @@ pub mod TakeLemmas
 pub mod WayLemmas
 pub mod RestLemmas
 pub mod NewLemmas
+pub mod ReceivedHits

@@ -6,3 +6,4 @@ pub mod Putting
 pub mod Views
 pub mod Errors
 pub mod Resting
+pub mod Laws

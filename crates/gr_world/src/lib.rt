@@ -2,6 +2,7 @@
 //! them stand bounded queues. Told in words in docs/MODEL.md, "The world".
 #![tactic(auto)]
 
+pub mod laws;
 pub mod queue;
 pub mod step;
 pub mod worker;
