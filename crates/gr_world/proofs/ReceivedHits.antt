@@ -19,7 +19,7 @@ hit_in_front xs ys v (p, q, x, y, before, first, second, clash) =
     (p, q, x, y, before, slice_get-append xs ys p x first, slice_get-append xs ys q y second, clash)
 
 -- a word that is hit in the accesses that go to a worker goes to the worker
-hit_goes : (w : World) (k : ℕ) (v : Word) (accesses : List ClockedAccess) → IsHitIn (accesses_for w k accesses) v → (worker_number v w.config.workers == k) ≡ true
+pub hit_goes : (w : World) (k : ℕ) (v : Word) (accesses : List ClockedAccess) → IsHitIn (accesses_for w k accesses) v → (worker_number v w.config.workers == k) ≡ true
 hit_goes w k v accesses (p, q, x, y, before, first, second, clash) =
     let there = filter-there (λ z. worker_of w z == k) accesses p x first in
     ap (λ u. worker_number u w.config.workers == k) (sym clash.first) ∙ there.2

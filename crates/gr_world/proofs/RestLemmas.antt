@@ -1,12 +1,9 @@
 -- A world at rest: everything that was sent was taken, and everything that was passed on was received; and the hits of all workers.
-use Rattle.std.proofs.Common.{◌≡◌, ◌⊎◌, ◌↔◌, ℕ, ◌+◌, ◌<◌, ◌≤◌, ◌==◌, Bool, true, List, [], ◌∷◌, ◌++◌, length, get_or, None, Some, Option, slice_get, refl, sym, ap, ◌∙◌, subst, inl, inr, ⊎_elim, arith, append-nil, filter, IsTrue, eq-eqb, eq-or-lt_of_le}
+use Rattle.std.proofs.Common.{◌≡◌, ◌⊎◌, ◌↔◌, ℕ, ◌+◌, ◌<◌, ◌≤◌, ◌==◌, List, [], ◌++◌, length, get_or, None, Option, refl, sym, ap, ◌∙◌, subst, inl, inr, ⊎_elim, arith, append-nil, eq-eqb, eq-or-lt_of_le}
 use Rattle.std.proofs.Math.ListN.{get_or-eq_default}
 use Rattle.std.proofs.lemmas.Bool.{cases_lt, eqb-true}
 use Rattle.std.proofs.lemmas.List.{ext_get_or, get_or_default}
-use Rattle.std.proofs.lemmas.List.Elements.{filter_passes}
-use Rattle.std.proofs.lemmas.Option.{same_Some, slice_get_within, slice_get-get_or}
 use Rattle.std.specs.Prelude.{Contains}
-use Rattle.gr_model.specs.declared.event.Event.{Event}
 use Rattle.gr_model.specs.declared.event.Sent.{Sent}
 use Rattle.gr_model.specs.declared.event.Word.{Word}
 use Rattle.gr_model.specs.Configs.{worker_number}
@@ -16,6 +13,7 @@ use Rattle.gr_model.specs.Streams.{AreComplete, Streams, events_of, list_of}
 use Rattle.gr_steps.specs.Steps.{IsAtRest}
 use Rattle.gr_hits.proofs.Clashing.{whole_hits_are_races}
 use Rattle.gr_order.specs.Sequences.{IsDone}
+use Rattle.gr_world.proofs.ReceivedHits.{hit_goes}
 use Rattle.gr_world.proofs.WayLemmas.{word_below}
 use Rattle.gr_shadow.specs.Clashes.{ClockedAccess, IsHitIn, clashes}
 use Rattle.gr_world.specs.Queues.{Bounded, Work, no_work}
@@ -44,10 +42,10 @@ all_idle w idle k d lt = ap (λ (x : Work). x.queue.items) (get_or_default w.wor
 pub drained_is_sent : (w : World) → IsWorld w → ((q : ℕ) → (intake_at w q).items ≡ []) → w.sequence.taken ≡ w.sent
 drained_is_sent w world empty =
     let lists : w.sequence.taken.lists ≡ w.sent.lists = ext_get_or [] w.sequence.taken.lists w.sent.lists
-        (world.sequence.fronts.count ∙ (ap length world.sizes ∙ sym world.sent.count))
-        (λ g lt. sym (world.delivered.whole g
-        ∙ (ap (λ l. list_of w.sequence.taken g ++ events_of g l) (empty _)
-        ∙ append-nil (list_of w.sequence.taken g)))) in
+    (world.sequence.fronts.count ∙ (ap length world.sizes ∙ sym world.sent.count))
+    (λ g lt. sym (world.delivered.whole g
+    ∙ (ap (λ l. list_of w.sequence.taken g ++ events_of g l) (empty _)
+    ∙ append-nil (list_of w.sequence.taken g)))) in
     λ k. record { sizes = world.sizes k; lists = lists k }
 
 pub rests : (w : World) → IsWorld w → AreEmpty w.intakes → AreIdle w.workers → w.way ≡ None → AreComplete w.sequence.taken → IsAtRest w.sequence.taken w.sequence.handled → IsWorldAtRest w
@@ -93,13 +91,6 @@ all_below workers n words all lists = lists_as words lists (λ v. (
 
 -- ---- the races of a world at rest
 
--- each element of a list that a test lets through passes it
-passes : {X : Type 0} (test : X → Bool) (xs : List X) (p : ℕ) (x : X) → slice_get (filter test xs) p ≡ Some x → test x ≡ true
-passes test xs p x at =
-    let lt = slice_get_within (filter test xs) p x at in
-    let is : get_or (filter test xs) p x ≡ x = same_Some (get_or (filter test xs) p x) x (sym (slice_get-get_or (filter test xs) p x lt) ∙ at) in
-    sym (ap test is) ∙ filter_passes test xs p x lt
-
 module _ (w : World) (world : IsWorld w) (rest : IsWorldAtRest w) where
   -- what a worker received are the accesses to its words
   pub received_is : (k : ℕ) → k < w.config.workers → (work_at w k).received ≡ accesses_for w k world.passed.accesses
@@ -115,9 +106,7 @@ module _ (w : World) (world : IsWorld w) (rest : IsWorldAtRest w) where
   -- a word that is hit in what a worker received is one of its words
   mine_if_hit : (v : Word) (k : ℕ) → k < w.config.workers → IsHitIn (work_at w k).received v → worker_number v w.config.workers ≡ k
   mine_if_hit v k lt hit =
-      let there = subst (λ (l : List ClockedAccess). IsHitIn l v) (received_is k lt) hit in
-      sym (ap (λ u. worker_number u w.config.workers) there.7.first)
-      ∙ eqb-true (worker_number there.2.word w.config.workers) k (passes (λ (x : ClockedAccess). worker_number x.word w.config.workers == k) world.passed.accesses there.0 there.2 there.5)
+      eqb-true (worker_number v w.config.workers) k (hit_goes w k v world.passed.accesses (subst (λ (l : List ClockedAccess). IsHitIn l v) (received_is k lt) hit))
 
   hit_at_work : (v : Word) → IsHitAtWork w.workers v ↔ IsHitIn world.passed.accesses v
   hit_at_work v = (
@@ -135,5 +124,5 @@ module _ (w : World) (world : IsWorld w) (rest : IsWorldAtRest w) where
   pub races_are_told : (words : List Word) → IsDone w.sequence → Lists WordBelow (IsHitAtWork w.workers) words → AreRaces w.sent words
   races_are_told words done lists = subst (λ (s : Streams). AreRaces s words) (drained_is_sent w world rest.intakes)
       (lists_as words lists (λ v.
-          let both = whole_hits_are_races w.sequence.taken w.sequence.handled world.passed.accesses v (record { lawful = world.sequence.lawful; whole = λ e grounded. (done.grounded e).1 grounded }) world.passed.along in
-          (λ at. both.0 ((hit_at_work v).0 at), λ racy. (hit_at_work v).1 (both.1 racy))))
+      let both = whole_hits_are_races w.sequence.taken w.sequence.handled world.passed.accesses v (record { lawful = world.sequence.lawful; whole = λ e grounded. (done.grounded e).1 grounded }) world.passed.along in
+      (λ at. both.0 ((hit_at_work v).0 at), λ racy. (hit_at_work v).1 (both.1 racy))))

@@ -1,5 +1,5 @@
 -- A world in which a record was sent, or taken, is a world.
-use Rattle.std.proofs.Common.{◌≡◌, ◌≢◌, ℕ, zero, suc, ◌+◌, ◌%◌, ◌<◌, ◌≤◌, Bool, true, false, List, [], ◌∷◌, ◌++◌, length, get_or, set, Some, refl, sym, ap, ◌∙◌, subst, ⊎_elim, arith, append_assoc, append-nil, IsTrue, IsFalse}
+use Rattle.std.proofs.Common.{◌≡◌, ◌≢◌, ℕ, zero, suc, ◌+◌, ◌<◌, Bool, true, false, List, [], ◌∷◌, ◌++◌, length, set, refl, sym, ap, ◌∙◌, subst, ⊎_elim, arith, append_assoc, append-nil, IsTrue, IsFalse}
 use Rattle.std.proofs.Math.Nat.{mod-lt}
 use Rattle.std.proofs.lemmas.Bool.{cases_eq}
 use Rattle.std.proofs.lemmas.List.{get_or-set_other, get_or-set_same, length-append, length-set}
@@ -12,7 +12,7 @@ use Rattle.gr_model.specs.Events.{is_end}
 use Rattle.gr_model.specs.Streams.{AreFronts, Streams, events_of, is_complete, list_of}
 use Rattle.gr_model.proofs.Sending.{events_append, events_else, events_here, is_complete-push}
 use Rattle.gr_lanes.specs.Takes.{with_record}
-use Rattle.gr_world.specs.Queues.{Bounded, HasRoom, pushed}
+use Rattle.gr_world.specs.Queues.{Bounded, pushed}
 use Rattle.gr_world.specs.Putting.{MayPut}
 use Rattle.gr_world.specs.Worlds.{IsWorld, World, intake_at, no_queue, queue_of, sending}
 
@@ -54,10 +54,10 @@ module _ (w : World) (world : IsWorld w) (g : ℕ) (x : Event) (there : g < leng
   queued_else : (h : ℕ) → h ≢ g → events_of h (intake_at new (queue_of w h)).items ≡ events_of h (intake_at w (queue_of w h)).items
   queued_else h apart = ⊎_elim
       (λ (same : queue_of w h ≡ queue_of w g).
-          ap (λ (q : Bounded Sent). events_of h q.items) (intake_here (queue_of w h) same)
-          ∙ (events_append h (intake_at w (queue_of w g)).items (sent ∷ [])
-          ∙ (ap (λ l. events_of h (intake_at w (queue_of w g)).items ++ l) (events_else h sent (λ e. apart (sym e)))
-          ∙ (append-nil (events_of h (intake_at w (queue_of w g)).items) ∙ ap (λ q. events_of h (intake_at w q).items) (sym same)))))
+      ap (λ (q : Bounded Sent). events_of h q.items) (intake_here (queue_of w h) same)
+      ∙ (events_append h (intake_at w (queue_of w g)).items (sent ∷ [])
+      ∙ (ap (λ l. events_of h (intake_at w (queue_of w g)).items ++ l) (events_else h sent (λ e. apart (sym e)))
+      ∙ (append-nil (events_of h (intake_at w (queue_of w g)).items) ∙ ap (λ q. events_of h (intake_at w q).items) (sym same)))))
       (λ other. ap (λ (q : Bounded Sent). events_of h q.items) (intake_else (queue_of w h) other))
       (cases_eq (queue_of w h) (queue_of w g))
 
@@ -83,9 +83,9 @@ module _ (w : World) (world : IsWorld w) (g : ℕ) (x : Event) (there : g < leng
   room_left : (h : ℕ) → ¬ IsTrue (is_complete (list_of new.sent h)) → length (list_of new.sent h) < MOST_RECORDS
   room_left h unclosed = ⊎_elim
       (λ (same : h ≡ g).
-          let list : list_of new.sent h ≡ list_of w.sent g ++ x ∷ [] = ap (list_of new.sent) same ∙ list_here in
-          let no_end : ¬ IsTrue (is_end x) = λ ends. unclosed (ap is_complete list ∙ (is_complete-push (list_of w.sent g) x ∙ ends)) in
-          omega (arith, ap length list, length-append (list_of w.sent g) (x ∷ []), room (is_false (is_end x) no_end)))
+      let list : list_of new.sent h ≡ list_of w.sent g ++ x ∷ [] = ap (list_of new.sent) same ∙ list_here in
+      let no_end : ¬ IsTrue (is_end x) = λ ends. unclosed (ap is_complete list ∙ (is_complete-push (list_of w.sent g) x ∙ ends)) in
+      omega (arith, ap length list, length-append (list_of w.sent g) (x ∷ []), room (is_false (is_end x) no_end)))
       (λ apart. subst (λ (l : List Event). length l < MOST_RECORDS) (sym (list_else h apart)) (world.room h (λ c. unclosed (ap is_complete (list_else h apart) ∙ c))))
       (cases_eq h g)
     where

@@ -1,5 +1,5 @@
 -- What stands at the front of a queue may be taken, and a world in which it was is a world.
-use Rattle.std.proofs.Common.{◌≡◌, ◌≢◌, ℕ, ◌%◌, ◌<◌, ◌≤◌, Bool, List, [], ◌∷◌, ◌++◌, length, get_or, set, Option, Some, None, refl, sym, ap, ◌∙◌, subst, ⊎_elim, arith, append_assoc, append-nil, true≢false, IsTrue, IsFalse}
+use Rattle.std.proofs.Common.{◌≡◌, ◌≢◌, ℕ, ◌<◌, ◌≤◌, List, [], ◌∷◌, ◌++◌, length, get_or, set, Option, Some, None, refl, sym, ap, ◌∙◌, subst, ⊎_elim, arith, append_assoc, true≢false}
 use Rattle.std.proofs.Math.ListN.{get_or-eq_default}
 use Rattle.std.proofs.lemmas.Bool.{cases_eq, cases_lt}
 use Rattle.std.proofs.lemmas.List.{get_or-set_other, get_or-set_same, length-append, length-set}
@@ -9,11 +9,11 @@ use Rattle.gr_model.specs.declared.event.Event.{Event}
 use Rattle.gr_model.specs.declared.event.Sent.{Sent}
 use Rattle.gr_model.specs.declared.limits.TheConstants.{MOST_RECORDS}
 use Rattle.gr_model.specs.Events.{IsEventOk}
-use Rattle.gr_model.specs.Streams.{IsFront, Streams, events_of, is_complete, list_of, size_of}
+use Rattle.gr_model.specs.Streams.{IsFront, events_of, list_of, size_of}
 use Rattle.gr_model.proofs.Sending.{events_append, events_else, events_here}
 use Rattle.gr_model.proofs.StreamFronts.{next_ok, next_room, next_unended}
 use Rattle.gr_hits.proofs.Growing.{accesses_stay}
-use Rattle.gr_lanes.specs.Takes.{CanTake, IsEventButItem, with_record}
+use Rattle.gr_lanes.specs.Takes.{CanTake}
 use Rattle.gr_lanes.proofs.Growth.{record_grows}
 use Rattle.gr_order.specs.Sequences.{IsSequence, Sequence, taking}
 use Rattle.gr_world.specs.declared.step.Step.TheVariants.{Take}
@@ -83,8 +83,8 @@ module _ (w : World) (world : IsWorld w) (q : ℕ) (s : Sent) (rest : List Sent)
   queued_else : (h : ℕ) → h ≢ s.group → events_of h (intake_at new (queue_of w h)).items ≡ events_of h (intake_at w (queue_of w h)).items
   queued_else h apart = ⊎_elim
       (λ (same : queue_of w h ≡ q).
-          ap (λ (b : Bounded Sent). events_of h b.items) (intake_here (queue_of w h) same)
-          ∙ sym (ap (λ n. events_of h (intake_at w n).items) same ∙ (ap (events_of h) front ∙ (events_append h (s ∷ []) rest ∙ ap (λ (l : List Event). l ++ events_of h rest) (events_else h s (λ e. apart (sym e)))))))
+      ap (λ (b : Bounded Sent). events_of h b.items) (intake_here (queue_of w h) same)
+      ∙ sym (ap (λ n. events_of h (intake_at w n).items) same ∙ (ap (events_of h) front ∙ (events_append h (s ∷ []) rest ∙ ap (λ (l : List Event). l ++ events_of h rest) (events_else h s (λ e. apart (sym e)))))))
       (λ other. ap (λ (b : Bounded Sent). events_of h b.items) (intake_else (queue_of w h) other))
       (cases_eq (queue_of w h) q)
 
@@ -103,8 +103,8 @@ module _ (w : World) (world : IsWorld w) (q : ℕ) (s : Sent) (rest : List Sent)
   own : (p : ℕ) (t : Sent) → Contains (intake_at new p).items t → queue_of w t.group ≡ p
   own p t has = ⊎_elim
       (λ (same : p ≡ q).
-          let left : Contains rest t = subst (λ (b : Bounded Sent). Contains b.items t) (intake_here p same) has in
-          world.delivered.own q t (subst (λ (l : List Sent). Contains l t) (sym front) (Contains-append_right (s ∷ []) rest t left)) ∙ sym same)
+      let left : Contains rest t = subst (λ (b : Bounded Sent). Contains b.items t) (intake_here p same) has in
+      world.delivered.own q t (subst (λ (l : List Sent). Contains l t) (sym front) (Contains-append_right (s ∷ []) rest t left)) ∙ sym same)
       (λ apart. world.delivered.own p t (subst (λ (b : Bounded Sent). Contains b.items t) (intake_else p apart) has))
       (cases_eq p q)
 

@@ -1,6 +1,6 @@
 -- Bounded queues, and what a worker has.
 -- Source: docs/MODEL.md, "The world".
-use Rattle.std.specs.Prelude.{ℕ, ◌<◌, ◌≤◌, List, [], ◌∷◌, ◌++◌, length}
+use Rattle.std.specs.Prelude.{ℕ, ◌<◌, List, [], ◌∷◌, ◌++◌, length}
 use Rattle.gr_shadow.specs.Clashes.{ClockedAccess}
 
 -- a queue: for how many values it has room, and those that it holds, the front first

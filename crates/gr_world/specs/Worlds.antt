@@ -2,7 +2,6 @@
 -- Source: docs/MODEL.md, "The world".
 use Rattle.std.specs.Prelude.{◌≡◌, ◌==◌, ℕ, ◌<◌, ◌%◌, List, [], ◌∷◌, ◌++◌, length, filter, replicate, slice_index_or, slice_set, Option, None, Some, Contains, IsTrue}
 use Rattle.gr_model.specs.declared.event.Event.{Event}
-use Rattle.gr_model.specs.declared.event.EventId.{EventId}
 use Rattle.gr_model.specs.declared.event.Sent.{Sent}
 use Rattle.gr_model.specs.Configs.{IsConfig, Settings, worker_number}
 use Rattle.gr_model.specs.declared.limits.TheConstants.{MOST_RECORDS}

@@ -10,7 +10,7 @@ ghost use Rattle.gr_model.specs.Events.{IsEventOk, is_end};
 ghost use Rattle.std.specs.List.{sum_by};
 ghost use Rattle.gr_model.specs.Reports.{IsReportOf, Lists, WordBelow};
 ghost use Rattle.gr_model.specs.Streams.{list_of, size_of};
-ghost use Rattle.gr_order.specs.Sequences.{IsDone};
+ghost use Rattle.gr_steps.specs.Steps.{AreGrounded};
 ghost use Rattle.gr_report.specs.Whole.{whole_of};
 ghost use Rattle.gr_world.specs.declared.step.Step.TheVariants as steps;
 ghost use Rattle.gr_world.specs.Putting.{IsPutFault, Puts};
@@ -102,7 +102,8 @@ impl<A: Allocator + Copy> World<A> {
     pub fn new(alloc: A, shape: Shape<A>, config: Config) -> Result<World<A>, Memory>
     where
         A: Clone,
-        ensures { IfOk result (λ w. w ≡ new_world shape config) }
+        ensures made { IfOk result (λ w. w ≡ new_world shape config) }
+        ensures world { IfOk result (λ w. IsWorld w) }
     {
         let _groups = shape.groups();
         let intakes = queues_of(alloc, config.queues(), config.capacity())?;
@@ -274,10 +275,11 @@ impl<A: Allocator> World<A> {
     /// left. The handled events are then the grounded ones.
     pub fn at_rest(&self) -> bool
         ensures rest { IsTrue result ↔ IsWorldAtRest self.now }
-        ensures done { IsTrue result → IsDone self.now.sequence }
+        ensures done { IsTrue result → AreGrounded self.now.sent self.now.sequence.handled }
         ensures world { IsWorld self.now }
     {
-        if self.way.is_some() {
+        let on_its_way = self.way.is_some();
+        if on_its_way {
             return false;
         }
         if !self.is_drained() {

@@ -1,8 +1,7 @@
 use Rattle.std.proofs.Common.{◌≡◌, ◌∙◌, List, ◌∷◌, [], ◌++◌, ap, subst}
 use Rattle.std.proofs.lemmas.List.{map-append}
-use Rattle.gr_clocks.specs.declared.access.Access.{Access}
 use Rattle.gr_shadow.specs.Clashes.{ClockedAccess, clocked}
-use Rattle.gr_world.specs.Queues.{Bounded, Work, receiving}
+use Rattle.gr_world.specs.Queues.{Work, receiving}
 use Rattle.gr_world.specs.Workers.{all_clocked, work_of}
 use Rattle.gr_world.proofs.worker.Worker.receive.Goals as goal
 

@@ -1,8 +1,6 @@
 use Rattle.std.proofs.Common.{◌≡◌, ℕ, IsTrue, List, None, rules, subst, sym}
 use Rattle.std.specs.Option.{option_map}
 use Rattle.gr_model.specs.Shapes.{HasItem}
-use Rattle.gr_order.specs.Sequences.{HandlesEvent}
-use Rattle.gr_closure.specs.Accesses.{IsAccessOf}
 use Rattle.gr_shadow.specs.Clashes.{clocked}
 use Rattle.gr_sequencer.specs.Answers.{IsOfItem, IsStep as IsSequencerStep}
 use Rattle.gr_sequencer.specs.declared.handled.Handled.TheVariants.{One}
@@ -31,7 +29,7 @@ returns-clause-step g c =
     let has : HasItem w.sent.sizes c.args.item = subst (λ (sizes : List ℕ). HasItem sizes c.args.item) c.shape.ensures.sizes (c.has.ensures.0 found) in
     let new : World = going_on w c.handle.new.self (option_map clocked c.in-One.access) in
     let made : IsStep c.args.self.now (Handle c.args.item) new = subst (λ (v : World). IsStep v (Handle c.args.item) new) c.self.view_is
-        (handled_is_step w c.args.item c.in-One.event c.handle.new.self (option_map clocked c.in-One.access) new has free item step.0 (way_of c.handle.new.self.taken c.in-One.event c.in-One.access step.1) (λ k. new)) in
+    (handled_is_step w c.args.item c.in-One.event c.handle.new.self (option_map clocked c.in-One.access) new has free item step.0 (way_of c.handle.new.self.taken c.in-One.event c.in-One.access step.1) (λ k. new)) in
     elim c.match-self-access.branch [
       | in-Some-1 v ↦ subst (λ (n : World). IsStep c.args.self.now (Handle c.args.item) n) (sym v.self-is) made
       | in-None-1 v ↦ subst (λ (n : World). IsStep c.args.self.now (Handle c.args.item) n) (sym v.self-is) made

@@ -1,4 +1,4 @@
-use Rattle.std.proofs.Common.{◌≡◌, ◌<◌, ℕ, length, rules, subst}
+use Rattle.std.proofs.Common.{◌<◌, ℕ, length, rules, subst}
 use Rattle.std.specs.Prelude.{IfErr}
 use Rattle.gr_order.specs.Sequences.{MeetsInstance}
 use Rattle.gr_sequencer.specs.Answers.{IsOfGroup, IsStep as IsSequencerStep}

@@ -1,4 +1,4 @@
-use Rattle.std.proofs.Common.{◌≡◌, ◌∙◌, ◌⊎◌, ℕ, List, ap, arith, length, subst, sym}
+use Rattle.std.proofs.Common.{◌∙◌, ◌⊎◌, List, ap, arith, subst, sym}
 use Rattle.std.specs.Prelude.{Contains}
 use Rattle.std.proofs.lemmas.List.{get_or_default}
 use Rattle.gr_model.specs.declared.event.Word.{Word}

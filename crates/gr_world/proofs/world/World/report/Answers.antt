@@ -26,6 +26,6 @@ returns g c =
         records = c.records.ensures;
       };
       races = rw c.of.ensures (subst (λ (t : Streams). AreRaces t c.in_ok-races.races.items) sent
-      (races_are_told w c.self.invariant rest c.in_ok-races.races.items (record { rest = rest.rest; grounded = rest_grounded w.sequence.taken w.sequence.handled c.self.invariant.sequence.lawful rest.rest })
-      (subst (λ (v : World). Lists WordBelow (IsHitAtWork v.workers) c.in_ok-races.races.items) (sym c.self.view_is) c.in_ok-races.ensures)));
+          (races_are_told w c.self.invariant rest c.in_ok-races.races.items (record { rest = rest.rest; grounded = rest_grounded w.sequence.taken w.sequence.handled c.self.invariant.sequence.lawful rest.rest })
+          (subst (λ (v : World). Lists WordBelow (IsHitAtWork v.workers) c.in_ok-races.races.items) (sym c.self.view_is) c.in_ok-races.ensures)));
     }

@@ -1,6 +1,5 @@
 use Rattle.std.proofs.Common.{◌≤◌, take}
 use Rattle.gr_world.specs.Steps.{Runs}
-use Rattle.gr_world.specs.Worlds.{IsWorld}
 use Rattle.gr_world.proofs.world.World.run.Given as goal
 
 abbrev pub invariant-loop-step : goal.invariant-loop-step

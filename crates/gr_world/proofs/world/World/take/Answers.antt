@@ -1,4 +1,4 @@
-use Rattle.std.proofs.Common.{◌≡◌, ◌∙◌, ℕ, ◌<◌, ◌≤◌, List, ◌∷◌, ap, arith, length, rules, set, subst, sym}
+use Rattle.std.proofs.Common.{◌≡◌, ◌∙◌, ℕ, ◌<◌, ◌∷◌, ap, arith, length, rules, set, subst, sym}
 use Rattle.std.proofs.lemmas.List.{get_or_default}
 use Rattle.gr_model.specs.declared.event.Sent.{Sent}
 use Rattle.gr_world.specs.Queues.{Bounded, leaving}
@@ -56,8 +56,8 @@ returns-clause-step g c =
     let now : c.in-Some.intake.now ≡ intake_at w c.from.result = c.in-Some.ensures.value ∙ get_or_default c.self.inside.intakes.items c.from.result c.in-Some.intake.now no_queue there in
     let front : (intake_at w c.from.result).items ≡ c.in-Some-front.sent.now ∷ c.in-Some-front.ensures.0 = ap (λ (b : Bounded Sent). b.items) (sym now) ∙ c.in-Some-front.ensures.1 in
     let left : c.pop-taken.new.self ≡ leaving (intake_at w c.from.result) c.in-Some-front.ensures.0 =
-        popped_is c.in-Some.intake.now c.pop-taken.new.self c.pop-taken.result c.in-Some-front.sent.now c.in-Some-front.ensures.0 c.in-Some-front.ensures.1 c.pop-taken.ensures
-        ∙ ap (λ (b : Bounded Sent). leaving b c.in-Some-front.ensures.0) now in
+    popped_is c.in-Some.intake.now c.pop-taken.new.self c.pop-taken.result c.in-Some-front.sent.now c.in-Some-front.ensures.0 c.in-Some-front.ensures.1 c.pop-taken.ensures
+    ∙ ap (λ (b : Bounded Sent). leaving b c.in-Some-front.ensures.0) now in
     let new : World = world_of c.self.inside.config c.self.inside.sent (set c.self.inside.intakes.items c.from.result c.pop-taken.new.self) c.take.new.self c.self.inside.way c.self.inside.workers.items in
     let is : new ≡ taking_front w c.from.result c.in-Some-front.sent.now c.in-Some-front.ensures.0 = λ k. record {
       config = c.self.inside.config;

@@ -1,4 +1,4 @@
-use Rattle.std.proofs.Common.{◌≡◌, ◌∙◌, ℕ, ◌<◌, ◌∷◌, [], true, false, Result, Ok, Err, ap, arith, length, rules, set, subst, sym}
+use Rattle.std.proofs.Common.{◌≡◌, ◌∙◌, ℕ, ◌<◌, ◌∷◌, true, false, Result, Ok, Err, ap, arith, length, rules, set, subst, sym}
 use Rattle.std.specs.Prelude.{IfErr, OnErr}
 use Rattle.std.proofs.lemmas.List.{get_or_default, set-get_or}
 use Rattle.gr_world.specs.declared.step.Step.TheVariants.{WorkTake}
@@ -24,7 +24,7 @@ invariant_of-self-2 g c =
     let front : (work_at w c.from.result).queue.items ≡ receives.0 ∷ receives.1 = ap (λ (k : Work). k.queue.items) (sym now) ∙ receives.2 in
     let new : World = world_of c.self.inside.config c.self.inside.sent c.self.inside.intakes.items c.self.inside.sequencer c.self.inside.way (set c.self.inside.workers.items c.from.result c.receive.new.self) in
     let workers : new.workers ≡ set c.self.inside.workers.items c.from.result (receiving (work_at w c.from.result) receives.0 receives.1) =
-        ap (set c.self.inside.workers.items c.from.result) (receives.3 ∙ ap (λ (k : Work). receiving k receives.0 receives.1) now) in
+    ap (set c.self.inside.workers.items c.from.result) (receives.3 ∙ ap (λ (k : Work). receiving k receives.0 receives.1) now) in
     let is : new ≡ working w c.from.result receives.0 receives.1 = λ k. record { config = w.config; sent = w.sent; intakes = w.intakes; sequence = w.sequence; way = w.way; workers = workers k } in
     let below : c.from.result < w.config.workers = omega (arith, there, c.self.invariant.crew) in
     subst IsWorld (sym is) (receiving_is_world w c.self.invariant c.from.result receives.0 receives.1 below front)
@@ -39,7 +39,7 @@ returns-clause-step g c =
     let front : (work_at w c.from.result).queue.items ≡ receives.0 ∷ receives.1 = ap (λ (k : Work). k.queue.items) (sym now) ∙ receives.2 in
     let new : World = world_of c.self.inside.config c.self.inside.sent c.self.inside.intakes.items c.self.inside.sequencer c.self.inside.way (set c.self.inside.workers.items c.from.result c.receive.new.self) in
     let workers : new.workers ≡ set c.self.inside.workers.items c.from.result (receiving (work_at w c.from.result) receives.0 receives.1) =
-        ap (set c.self.inside.workers.items c.from.result) (receives.3 ∙ ap (λ (k : Work). receiving k receives.0 receives.1) now) in
+    ap (set c.self.inside.workers.items c.from.result) (receives.3 ∙ ap (λ (k : Work). receiving k receives.0 receives.1) now) in
     let is : new ≡ working w c.from.result receives.0 receives.1 = λ k. record { config = w.config; sent = w.sent; intakes = w.intakes; sequence = w.sequence; way = w.way; workers = workers k } in
     let below : c.from.result < w.config.workers = omega (arith, there, c.self.invariant.crew) in
     subst (λ (n : ℕ). IsStep c.args.self.now (WorkTake n) new) c.from.ensures
@@ -61,7 +61,7 @@ returns-in_err-receive-clause-unchanged g c =
     let there : c.from.result < length c.self.inside.workers.items = search rules in
     let now : c.in-Some.worker.now ≡ work_at w c.from.result = c.in-Some.ensures.value ∙ get_or_default c.self.inside.workers.items c.from.result c.in-Some.worker.now (no_work 0) there in
     let back : set c.self.inside.workers.items c.from.result c.receive.new.self ≡ c.self.inside.workers.items =
-        ap (set c.self.inside.workers.items c.from.result) (c.in_err-receive.ensures.unchanged ∙ now) ∙ set-get_or c.self.inside.workers.items c.from.result (no_work 0) in
+    ap (set c.self.inside.workers.items c.from.result) (c.in_err-receive.ensures.unchanged ∙ now) ∙ set-get_or c.self.inside.workers.items c.from.result (no_work 0) in
     on_err c.from_residual.result ((λ k. record { config = w.config; sent = w.sent; intakes = w.intakes; sequence = w.sequence; way = w.way; workers = back k }) ∙ c.self.view_is)
 
 pub invariant_of-self-then-not-branch : goal.invariant_of-self-then-not-branch
@@ -72,5 +72,5 @@ invariant_of-self-then-not-branch g c =
     let there : c.from.result < length c.self.inside.workers.items = search rules in
     let now : c.in-Some.worker.now ≡ work_at w c.from.result = c.in-Some.ensures.value ∙ get_or_default c.self.inside.workers.items c.from.result c.in-Some.worker.now (no_work 0) there in
     let back : set c.self.inside.workers.items c.from.result c.receive.new.self ≡ c.self.inside.workers.items =
-        ap (set c.self.inside.workers.items c.from.result) (receives.1 ∙ now) ∙ set-get_or c.self.inside.workers.items c.from.result (no_work 0) in
+    ap (set c.self.inside.workers.items c.from.result) (receives.1 ∙ now) ∙ set-get_or c.self.inside.workers.items c.from.result (no_work 0) in
     subst IsWorld (λ k. record { config = w.config; sent = w.sent; intakes = w.intakes; sequence = w.sequence; way = w.way; workers = sym back k }) c.self.invariant
