@@ -1,0 +1,128 @@
+-- A world at rest: everything that was sent was taken, and everything that was passed on was received; and the hits of all workers.
+use Rattle.std.proofs.Common.{◌≡◌, ◌⊎◌, ◌↔◌, ℕ, ◌+◌, ◌<◌, ◌≤◌, ◌==◌, List, [], ◌++◌, length, get_or, None, Option, refl, sym, ap, ◌∙◌, subst, inl, inr, ⊎_elim, arith, append-nil, eq-eqb, eq-or-lt_of_le}
+use Rattle.std.proofs.Math.ListN.{get_or-eq_default}
+use Rattle.std.proofs.lemmas.Bool.{cases_lt, eqb-true}
+use Rattle.std.proofs.lemmas.List.{ext_get_or, get_or_default}
+use Rattle.std.specs.Prelude.{Contains}
+use Rattle.gr_model.specs.declared.event.Sent.{Sent}
+use Rattle.gr_model.specs.declared.event.Word.{Word}
+use Rattle.gr_model.specs.Configs.{worker_number}
+use Rattle.gr_model.proofs.HitLaws.{IsHit-filter}
+use Rattle.gr_model.specs.Reports.{AreRaces, Lists, WordBelow}
+use Rattle.gr_model.specs.Streams.{AreComplete, Streams, events_of, list_of}
+use Rattle.gr_steps.specs.Steps.{IsAtRest}
+use Rattle.gr_hits.proofs.Clashing.{whole_hits_are_races}
+use Rattle.gr_order.specs.Sequences.{IsDone}
+use Rattle.gr_world.proofs.ReceivedHits.{hit_goes}
+use Rattle.gr_world.proofs.WayLemmas.{word_below}
+use Rattle.gr_shadow.specs.Clashes.{ClockedAccess, IsHitIn, clashes}
+use Rattle.gr_world.specs.Queues.{Bounded, Work, no_work}
+use Rattle.gr_world.specs.Resting.{AreEmpty, AreIdle, IsHitAtWork}
+use Rattle.gr_world.specs.Worlds.{IsWorld, IsWorldAtRest, World, accesses_for, intake_at, no_queue, way_list, work_at}
+
+-- ---- queues that hold nothing
+
+pub empty_at : (w : World) → AreEmpty w.intakes → (q : ℕ) → (intake_at w q).items ≡ []
+empty_at w empty q = ⊎_elim (λ lt. empty q no_queue lt)
+    (λ (ge : length w.intakes ≤ q). ap (λ (b : Bounded Sent). b.items) (get_or-eq_default w.intakes no_queue ge))
+    (cases_lt q (length w.intakes))
+
+pub all_empty : (w : World) → ((q : ℕ) → (intake_at w q).items ≡ []) → AreEmpty w.intakes
+all_empty w empty q d lt = ap (λ (b : Bounded Sent). b.items) (get_or_default w.intakes q d no_queue lt) ∙ empty q
+
+pub idle_at : (w : World) → AreIdle w.workers → (k : ℕ) → (work_at w k).queue.items ≡ []
+idle_at w idle k = ⊎_elim (λ lt. idle k (no_work 0) lt)
+    (λ (ge : length w.workers ≤ k). ap (λ (x : Work). x.queue.items) (get_or-eq_default w.workers (no_work 0) ge))
+    (cases_lt k (length w.workers))
+
+pub all_idle : (w : World) → ((k : ℕ) → (work_at w k).queue.items ≡ []) → AreIdle w.workers
+all_idle w idle k d lt = ap (λ (x : Work). x.queue.items) (get_or_default w.workers k d (no_work 0) lt) ∙ idle k
+
+-- all that was sent was taken
+pub drained_is_sent : (w : World) → IsWorld w → ((q : ℕ) → (intake_at w q).items ≡ []) → w.sequence.taken ≡ w.sent
+drained_is_sent w world empty =
+    let lists : w.sequence.taken.lists ≡ w.sent.lists = ext_get_or [] w.sequence.taken.lists w.sent.lists
+    (world.sequence.fronts.count ∙ (ap length world.sizes ∙ sym world.sent.count))
+    (λ g lt. sym (world.delivered.whole g
+    ∙ (ap (λ l. list_of w.sequence.taken g ++ events_of g l) (empty _)
+    ∙ append-nil (list_of w.sequence.taken g)))) in
+    λ k. record { sizes = world.sizes k; lists = lists k }
+
+pub rests : (w : World) → IsWorld w → AreEmpty w.intakes → AreIdle w.workers → w.way ≡ None → AreComplete w.sequence.taken → IsAtRest w.sequence.taken w.sequence.handled → IsWorldAtRest w
+rests w world empty idle way complete rest = record {
+  closed = subst AreComplete (drained_is_sent w world (empty_at w empty)) complete;
+  intakes = empty_at w empty;
+  way = way;
+  work = idle_at w idle;
+  rest = rest;
+}
+
+pub taken_closed : (w : World) → IsWorld w → IsWorldAtRest w → AreComplete w.sequence.taken
+taken_closed w world rest = subst AreComplete (sym (drained_is_sent w world rest.intakes)) rest.closed
+
+-- ---- hits of all workers
+
+abbrev pub IsHitBelow : List Work → ℕ → Word → Type 0
+IsHitBelow workers n v = (k : ℕ) × (k < n) × IsHitIn (get_or workers k (no_work 0)).received v
+
+pub lists_as : {X : Type 0} {Below : X → X → Type 0} {P Q : X → Type 0} (xs : List X) → Lists Below P xs → ((x : X) → P x ↔ Q x) → Lists Below Q xs
+lists_as xs lists same = record {
+  ascending = lists.ascending;
+  exact = λ x. (λ has. (same x).0 ((lists.exact x).0 has), λ holds. (lists.exact x).1 ((same x).1 holds));
+}
+
+pub none_below : (workers : List Work) → Lists WordBelow (IsHitBelow workers 0) []
+none_below workers = record { ascending = λ i j d lt below. absurd (omega (arith, below)); exact = λ v. (λ has. absurd (let lt = has.1 in omega (arith, lt)), λ hit. absurd (let lt = hit.1 in omega (arith, lt))) }
+
+pub one_below : (workers : List Work) (n : ℕ) (work : Work) (old more new : List Word) → work ≡ get_or workers n (no_work 0) → Lists WordBelow (IsHitBelow workers n) old → Lists WordBelow (IsHitIn work.received) more → Lists WordBelow (λ v. Contains old v ⊎ Contains more v) new → Lists WordBelow (IsHitBelow workers (n + 1)) new
+one_below workers n work old more new is below mine both = lists_as new both (λ v. (
+  λ has. ⊎_elim (λ earlier. let hit = (below.exact v).0 earlier in let lt = hit.1 in (hit.0, omega (arith, lt), hit.2))
+      (λ now. (n, omega arith, subst (λ (x : Work). IsHitIn x.received v) is ((mine.exact v).0 now))) has,
+  λ hit. ⊎_elim (λ (same : hit.0 ≡ n). inr ((mine.exact v).1 (subst (λ (x : Work). IsHitIn x.received v) (ap (λ k. get_or workers k (no_work 0)) same ∙ sym is) hit.2)))
+      (λ (lt : hit.0 < n). inl ((below.exact v).1 (hit.0, lt, hit.2)))
+      (eq-or-lt_of_le (let lt = hit.1 in let le : hit.0 ≤ n = omega (arith, lt) in le)),
+))
+
+pub all_below : (workers : List Work) (n : ℕ) (words : List Word) → n ≡ length workers → Lists WordBelow (IsHitBelow workers n) words → Lists WordBelow (IsHitAtWork workers) words
+all_below workers n words all lists = lists_as words lists (λ v. (
+  λ hit. let lt = hit.1 in (get_or workers hit.0 (no_work 0), (hit.0, omega (arith, lt, all), get_or_default workers hit.0 (get_or workers hit.0 (no_work 0)) (no_work 0) (omega (arith, lt, all))), hit.2),
+  λ at. let lt = at.1.1 in (at.1.0, omega (arith, lt, all), subst (λ (x : Work). IsHitIn x.received v) (sym (get_or_default workers at.1.0 (no_work 0) at.0 lt ∙ at.1.2)) at.2),
+))
+
+-- ---- the races of a world at rest
+
+module _ (w : World) (world : IsWorld w) (rest : IsWorldAtRest w) where
+  -- what a worker received are the accesses to its words
+  pub received_is : (k : ℕ) → k < w.config.workers → (work_at w k).received ≡ accesses_for w k world.passed.accesses
+  received_is k lt = sym (world.passed.each k lt
+      ∙ (ap (λ (l : List ClockedAccess). (work_at w k).received ++ l ++ accesses_for w k (way_list w.way)) (rest.work k)
+      ∙ (ap (λ (o : Option ClockedAccess). (work_at w k).received ++ [] ++ accesses_for w k (way_list o)) rest.way
+      ∙ (append-nil ((work_at w k).received ++ []) ∙ append-nil (work_at w k).received))))
+
+  hit_here : (v : Word) (k : ℕ) → k < w.config.workers → worker_number v w.config.workers ≡ k → IsHitIn world.passed.accesses v ↔ IsHitIn (work_at w k).received v
+  hit_here v k lt mine = subst (λ (l : List ClockedAccess). IsHitIn world.passed.accesses v ↔ IsHitIn l v) (sym (received_is k lt))
+      (IsHit-filter (λ (x : ClockedAccess). x.word) clashes (λ u. worker_number u w.config.workers == k) world.passed.accesses v (eq-eqb (worker_number v w.config.workers) k mine))
+
+  -- a word that is hit in what a worker received is one of its words
+  mine_if_hit : (v : Word) (k : ℕ) → k < w.config.workers → IsHitIn (work_at w k).received v → worker_number v w.config.workers ≡ k
+  mine_if_hit v k lt hit =
+      eqb-true (worker_number v w.config.workers) k (hit_goes w k v world.passed.accesses (subst (λ (l : List ClockedAccess). IsHitIn l v) (received_is k lt) hit))
+
+  hit_at_work : (v : Word) → IsHitAtWork w.workers v ↔ IsHitIn world.passed.accesses v
+  hit_at_work v = (
+    λ at.
+        let lt : at.1.0 < w.config.workers = let within = at.1.1 in omega (arith, within, world.crew) in
+        let hit : IsHitIn (work_at w at.1.0).received v = subst (λ (x : Work). IsHitIn x.received v) (sym (get_or_default w.workers at.1.0 (no_work 0) at.0 at.1.1 ∙ at.1.2)) at.2 in
+        (hit_here v at.1.0 lt (mine_if_hit v at.1.0 lt hit)).1 hit,
+    λ hit.
+        let k = worker_number v w.config.workers in
+        let lt : k < w.config.workers = word_below w world v in
+        let within : k < length w.workers = omega (arith, lt, world.crew) in
+        (work_at w k, (k, within, get_or_default w.workers k (work_at w k) (no_work 0) within), (hit_here v k lt refl).0 hit),
+  )
+
+  pub races_are_told : (words : List Word) → IsDone w.sequence → Lists WordBelow (IsHitAtWork w.workers) words → AreRaces w.sent words
+  races_are_told words done lists = subst (λ (s : Streams). AreRaces s words) (drained_is_sent w world rest.intakes)
+      (lists_as words lists (λ v.
+      let both = whole_hits_are_races w.sequence.taken w.sequence.handled world.passed.accesses v (record { lawful = world.sequence.lawful; whole = λ e grounded. (done.grounded e).1 grounded }) world.passed.along in
+      (λ at. both.0 ((hit_at_work v).0 at), λ racy. (hit_at_work v).1 (both.1 racy))))

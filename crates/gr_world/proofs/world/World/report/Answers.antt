@@ -1,0 +1,31 @@
+use Rattle.std.proofs.Common.{◌≡◌, ◌∙◌, ◌<◌, ℕ, ap, length, subst, sum, sym}
+use Rattle.gr_model.specs.Reports.{AreRaces, DivergenceBelow, IsCut, IsDivergence, IsHeld, IsUnmatchedAcquire, Lists, UnmatchedBelow, WordBelow}
+use Rattle.gr_model.specs.Streams.{Streams}
+use Rattle.gr_steps.proofs.Resting.{rest_grounded}
+use Rattle.gr_world.specs.Resting.{IsHitAtWork}
+use Rattle.gr_world.specs.Views.{world_of}
+use Rattle.gr_world.specs.Worlds.{IsWorldAtRest, World}
+use Rattle.gr_world.proofs.RestLemmas.{drained_is_sent, races_are_told}
+use Rattle.gr_world.proofs.world.World.report.Goals as goal
+
+pub returns : goal.returns
+returns g c =
+    let w : World = world_of c.self.inside.config c.self.inside.sent c.self.inside.intakes.items c.self.inside.sequencer c.self.inside.way c.self.inside.workers.items in
+    let rest : IsWorldAtRest w = subst IsWorldAtRest (sym c.self.view_is) c.requires in
+    let taken : w.sequence.taken ≡ w.sent = drained_is_sent w c.self.invariant rest.intakes in
+    let sent : w.sent ≡ c.args.self.now.sent = ap (λ (v : World). v.sent) c.self.view_is in
+    let s : w.sequence.taken ≡ c.args.self.now.sent = taken ∙ sent in
+    record {
+      rest = record {
+        divergences = rw c.of-2.ensures (subst (λ (t : Streams). Lists DivergenceBelow (IsDivergence t) c.in_ok-divergences.divergences.items) s c.in_ok-divergences.ensures);
+        unmatched = rw c.of-3.ensures (subst (λ (t : Streams). Lists UnmatchedBelow (IsUnmatchedAcquire t) c.in_ok-unmatched.unmatched.items) s c.in_ok-unmatched.ensures);
+        cut = rw c.of-4.ensures (subst (λ (t : Streams). Lists (λ (g h : ℕ). g < h) (IsCut t) c.in_ok-cut.cut.items) s c.in_ok-cut.ensures);
+        held = subst (λ (t : Streams). IsHeld t c.held.result) s (c.held.ensures.held rest.rest);
+        groups = c.groups.ensures.count ∙ (ap length c.shape.ensures.sizes ∙ ap (λ (t : Streams). length t.sizes) sent);
+        items = c.total.ensures.total ∙ (ap sum c.shape-2.ensures.sizes ∙ ap (λ (t : Streams). sum t.sizes) sent);
+        records = c.records.ensures;
+      };
+      races = rw c.of.ensures (subst (λ (t : Streams). AreRaces t c.in_ok-races.races.items) sent
+          (races_are_told w c.self.invariant rest c.in_ok-races.races.items (record { rest = rest.rest; grounded = rest_grounded w.sequence.taken w.sequence.handled c.self.invariant.sequence.lawful rest.rest })
+          (subst (λ (v : World). Lists WordBelow (IsHitAtWork v.workers) c.in_ok-races.races.items) (sym c.self.view_is) c.in_ok-races.ensures)));
+    }

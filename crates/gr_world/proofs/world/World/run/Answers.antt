@@ -1,0 +1,45 @@
+use Rattle.std.proofs.Common.{rules, ◌≡◌, ◌+◌, ◌<◌, ◌≤◌, ◌∷◌, [], ◌++◌, ℕ, slice_index_or, None, suc, List, length, subst, sym, take, arith}
+use Rattle.std.proofs.lemmas.List.{take_all, take_more}
+use Rattle.gr_model.specs.declared.event.Kind.TheVariants.{Read}
+use Rattle.gr_model.specs.declared.event.Space.TheVariants.{Global}
+use Rattle.gr_world.specs.declared.step.Step.{Step}
+use Rattle.gr_world.specs.declared.step.Step.TheVariants.{Send}
+use Rattle.gr_world.specs.Steps.{Runs, made, nothing_tried, refused_once}
+use Rattle.gr_world.specs.Worlds.{World}
+use Rattle.gr_world.proofs.world.World.run.Goals as goal
+use Rattle.gr_world.proofs.world.World.run.Goals.{in-Ok, in-Err}
+
+pub loop-step-init : goal.loop-step-init
+loop-step-init g c = record { runs = nothing_tried; few = omega arith }
+
+pub overflow_add-refused : goal.overflow_add-refused
+overflow_add-refused g c = search (rules, c.loop-step.invariant.few)
+
+-- the step that a loop over steps names where there is none
+abbrev no_step : Step
+no_step = Send 0 (record { item = 0; kind = Read; space = Global; word = 0; name = None })
+
+-- one step more was tried
+more_made : (old w new : World) (steps : List Step) (i refused now : ℕ) → i < length steps → Runs old (take i steps ++ slice_index_or steps i no_step ∷ []) new refused → now ≡ refused → Runs old (take (i + 1) steps) new now
+more_made old w new steps i refused now lt runs is =
+    subst (λ n. Runs old (take (i + 1) steps) new n) (sym is) (subst (λ (l : List Step). Runs old l new refused) (sym (take_more steps i no_step lt)) runs)
+
+pub loop-step-preserved : goal.loop-step-preserved
+loop-step-preserved g c = elim c.match-step.branch [
+  | in-Ok v ↦ record {
+    runs = more_made c.args.self.now c.loop-step.self c.step.new.self c.args.steps.now c.loop-step.step-index c.loop-step.refused c.match-step.refused c.loop-step-test.true
+        (made (slice_index_or c.args.steps.now c.loop-step.step-index no_step) c.loop-step.invariant.runs v.in-Ok.ensures.step) v.refused-is;
+    few = omega (arith, v.refused-is, c.loop-step.invariant.few);
+  }
+  | in-Err v ↦ record {
+    runs = more_made c.args.self.now c.loop-step.self c.step.new.self c.args.steps.now c.loop-step.step-index (suc c.loop-step.refused) c.match-step.refused c.loop-step-test.true
+        (subst (λ (w : World). Runs c.args.self.now (take c.loop-step.step-index c.args.steps.now ++ slice_index_or c.args.steps.now c.loop-step.step-index no_step ∷ []) w (suc c.loop-step.refused)) (sym v.in-Err.ensures.unchanged) (refused_once (slice_index_or c.args.steps.now c.loop-step.step-index no_step) v.in-Err.field-0 c.loop-step.invariant.runs v.in-Err.ensures.err))
+        (omega (arith, v.refused-is));
+    few = omega (arith, v.refused-is, c.loop-step.invariant.few);
+  }
+]
+
+pub returns : goal.returns
+returns g c =
+    let all : length c.args.steps.now ≤ c.loop-step.step-index = search rules in
+    subst (λ (l : List Step). Runs c.args.self.now l c.loop-step.self c.loop-step.refused) (take_all c.loop-step.step-index c.args.steps.now all) c.loop-step.invariant.runs

@@ -1,0 +1,38 @@
+-- Bounded queues, and what a worker has.
+-- Source: docs/MODEL.md, "The world".
+use Rattle.std.specs.Prelude.{ℕ, ◌<◌, List, [], ◌∷◌, ◌++◌, length}
+use Rattle.gr_shadow.specs.Clashes.{ClockedAccess}
+
+-- a queue: for how many values it has room, and those that it holds, the front first
+pub record Bounded (T : Type 0) : Type 0 where
+  pub places : ℕ
+  pub items : List T
+
+abbrev pub empty_queue : {T : Type 0} → ℕ → Bounded T
+empty_queue places = record { places = places; items = [] }
+
+abbrev pub HasRoom : {T : Type 0} → Bounded T → Type 0
+HasRoom q = length q.items < q.places
+
+abbrev pub pushed : {T : Type 0} → Bounded T → T → Bounded T
+pushed q x = record { places = q.places; items = q.items ++ x ∷ [] }
+
+-- the same queue without its front
+abbrev pub leaving : {T : Type 0} → Bounded T → List T → Bounded T
+leaving q rest = record { places = q.places; items = rest }
+
+-- what a worker has: the accesses that are queued for it, and those that it received, in their order
+pub record Work : Type 0 where
+  pub queue : Bounded ClockedAccess
+  pub received : List ClockedAccess
+
+abbrev pub no_work : ℕ → Work
+no_work places = record { queue = empty_queue places; received = [] }
+
+-- one access more is queued
+abbrev pub queueing : Work → ClockedAccess → Work
+queueing k x = record { queue = pushed k.queue x; received = k.received }
+
+-- the access at the front is received
+abbrev pub receiving : Work → ClockedAccess → List ClockedAccess → Work
+receiving k x rest = record { queue = leaving k.queue rest; received = k.received ++ x ∷ [] }

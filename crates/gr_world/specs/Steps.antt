@@ -1,0 +1,129 @@
+-- The steps of a world: what each does where it is allowed, and why it is refused where it is not.
+-- Source: docs/MODEL.md, "The world".
+use Rattle.std.specs.Prelude.{◌≡◌, ◌⊎◌, ℕ, suc, ◌+◌, ◌≤◌, List, [], ◌∷◌, ◌++◌, length, Option, None, Some, IsTrue, is_some}
+use Rattle.gr_model.specs.declared.event.Event.{Event}
+use Rattle.gr_model.specs.declared.event.EventId.{EventId}
+use Rattle.gr_model.specs.declared.event.Sent.{Sent}
+use Rattle.gr_model.specs.declared.limits.TheConstants.{MOST_RECORDS}
+use Rattle.gr_model.specs.Events.{IsEventOk, end_of, is_end}
+use Rattle.gr_model.specs.Shapes.{HasItem}
+use Rattle.gr_model.specs.Streams.{Streams, is_complete, list_of, size_of, word_at}
+use Rattle.gr_steps.specs.Steps.{CanHandle, CanMeet}
+use Rattle.gr_closure.specs.Accesses.{IsAccess}
+use Rattle.gr_hits.specs.Accesses.{bare}
+use Rattle.gr_order.specs.Sequences.{HandlesEvent, MeetsInstance, Sequence}
+use Rattle.gr_shadow.specs.Clashes.{ClockedAccess}
+use Rattle.gr_world.specs.declared.step.Step.{Step}
+use Rattle.gr_world.specs.declared.step.Step.TheVariants.{Send, Close, Take, Handle, Meet, Pass, WorkTake}
+use Rattle.gr_world.specs.declared.step.StepError.{StepError}
+use Rattle.gr_world.specs.declared.step.StepError.TheVariants.{BadStep, NotOpen, Full, Empty, Busy, NotReady, Memory}
+use Rattle.gr_world.specs.Queues.{HasRoom}
+use Rattle.gr_world.specs.Worlds.{World, going_on, intake_at, passing, queue_of, sending, taking_front, work_at, worker_of, working}
+
+-- ---- why a step is refused
+
+-- the event is an end, or no record that the group may have, or leaves no room for the stream's end
+abbrev pub IsBadEvent : World → ℕ → Event → Type 0
+IsBadEvent w g x = IsTrue (is_end x) ⊎ ¬ IsEventOk x (size_of w.sent g) ⊎ (MOST_RECORDS ≤ length (list_of w.sent g) + 1)
+
+-- there is no such group, item, queue or worker, or the event can't be sent
+abbrev pub IsBad : World → Step → Type 0
+IsBad w (Send g x) = (length w.sent.sizes ≤ g) ⊎ IsBadEvent w g x
+IsBad w (Close g cut) = length w.sent.sizes ≤ g
+IsBad w (Take q) = w.config.queues ≤ q
+IsBad w (Handle i) = ¬ HasItem w.sent.sizes i
+IsBad w (Meet g) = length w.sent.sizes ≤ g
+IsBad w Pass = ⊥
+IsBad w (WorkTake k) = w.config.workers ≤ k
+
+-- the group's stream has its end
+abbrev pub IsClosed : World → Step → Type 0
+IsClosed w (Send g x) = IsTrue (is_complete (list_of w.sent g))
+IsClosed w (Close g cut) = IsTrue (is_complete (list_of w.sent g))
+IsClosed w _ = ⊥
+
+-- the queue that is pushed into has no room
+abbrev pub IsWayFull : World → Option ClockedAccess → Type 0
+IsWayFull w None = ⊥
+IsWayFull w (Some x) = ¬ HasRoom (work_at w (worker_of w x)).queue
+
+abbrev pub IsFull : World → Step → Type 0
+IsFull w (Send g x) = ¬ HasRoom (intake_at w (queue_of w g))
+IsFull w (Close g cut) = ¬ HasRoom (intake_at w (queue_of w g))
+IsFull w Pass = IsWayFull w w.way
+IsFull w _ = ⊥
+
+-- there is nothing to take or to pass on
+abbrev pub IsEmpty : World → Step → Type 0
+IsEmpty w (Take q) = (intake_at w q).items ≡ []
+IsEmpty w Pass = w.way ≡ None
+IsEmpty w (WorkTake k) = (work_at w k).queue.items ≡ []
+IsEmpty w _ = ⊥
+
+-- an access is on its way, and an event is to be handled
+abbrev pub IsBusy : World → Step → Type 0
+IsBusy w (Handle i) = IsTrue (is_some w.way)
+IsBusy w _ = ⊥
+
+-- nothing of the item may be handled, or no instance of the group may meet
+abbrev pub IsNotReady : World → Step → Type 0
+IsNotReady w (Handle i) = ¬ CanHandle w.sequence.taken w.sequence.handled i
+IsNotReady w (Meet g) = ¬ CanMeet w.sequence.taken w.sequence.handled g
+IsNotReady w _ = ⊥
+
+-- none of the causes is there
+pub record IsAllowed (w : World) (step : Step) : Type 0 where
+  pub good : ¬ IsBad w step
+  pub unclosed : ¬ IsClosed w step
+  pub room : ¬ IsFull w step
+  pub some : ¬ IsEmpty w step
+  pub free : ¬ IsBusy w step
+  pub ready : ¬ IsNotReady w step
+
+-- each cause stands where none before it does; memory can be wanting for a step that is allowed
+abbrev pub IsRefusal : World → Step → StepError → Type 0
+IsRefusal w step BadStep = IsBad w step
+IsRefusal w step NotOpen = ¬ IsBad w step × IsClosed w step
+IsRefusal w step Full = ¬ IsBad w step × ¬ IsClosed w step × IsFull w step
+IsRefusal w step Empty = ¬ IsBad w step × IsEmpty w step
+IsRefusal w step Busy = ¬ IsBad w step × IsBusy w step
+IsRefusal w step NotReady = ¬ IsBad w step × ¬ IsBusy w step × IsNotReady w step
+IsRefusal w step Memory = IsAllowed w step
+
+-- ---- what a step does
+
+-- an event has this access, or none where it has no word
+abbrev pub IsWayOf : Streams → EventId → Option ClockedAccess → Type 0
+IsWayOf s e None = word_at s e ≡ None
+IsWayOf s e (Some x) = IsAccess s e (bare x)
+
+-- what the step leads to
+abbrev pub LeadsTo : World → Step → World → Type 0
+-- a record goes to the end of what its group sent, and to the end of its queue
+LeadsTo w (Send g x) new = new ≡ sending w g x
+LeadsTo w (Close g cut) new = new ≡ sending w g (end_of cut)
+-- the record at the front of the queue was taken
+LeadsTo w (Take q) new = (s : Sent) × (rest : List Sent) × ((intake_at w q).items ≡ s ∷ rest) × (new ≡ taking_front w q s rest)
+-- an event of the item was handled, and its access, if it has one, is on its way
+LeadsTo w (Handle i) new =
+    (e : EventId) × (way : Option ClockedAccess) × (sequence : Sequence)
+    × (e.at ≡ i) × HandlesEvent w.sequence e sequence × IsWayOf sequence.taken e way × (new ≡ going_on w sequence way)
+-- an instance of the group has met
+LeadsTo w (Meet g) new = (k : ℕ) × (sequence : Sequence) × MeetsInstance w.sequence g k sequence × (new ≡ going_on w sequence w.way)
+-- the access on its way was queued for its word's worker
+LeadsTo w Pass new = (x : ClockedAccess) × (w.way ≡ Some x) × (new ≡ passing w x)
+-- the worker received the access at the front of its queue
+LeadsTo w (WorkTake k) new = (x : ClockedAccess) × (rest : List ClockedAccess) × ((work_at w k).queue.items ≡ x ∷ rest) × (new ≡ working w k x rest)
+
+-- a step that is allowed was made
+pub record IsStep (old : World) (step : Step) (new : World) : Type 0 where
+  pub allowed : IsAllowed old step
+  pub leads : LeadsTo old step new
+
+-- ---- lists of steps
+
+-- the steps were tried one after another, and so many of them were refused
+pub data Runs (old : World) : List Step → World → ℕ → Type 0 where
+  nothing_tried : Runs old [] old 0
+  made : {steps : List Step} {w new : World} {refused : ℕ} (step : Step) → Runs old steps w refused → IsStep w step new → Runs old (steps ++ step ∷ []) new refused
+  refused_once : {steps : List Step} {w : World} {refused : ℕ} (step : Step) (error : StepError) → Runs old steps w refused → IsRefusal w step error → Runs old (steps ++ step ∷ []) w (suc refused)

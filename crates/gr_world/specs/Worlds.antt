@@ -1,0 +1,167 @@
+-- The world of a run: what was sent, taken, handled, passed on and received; and what is so of every world.
+-- Source: docs/MODEL.md, "The world".
+use Rattle.std.specs.Prelude.{◌≡◌, ◌==◌, ℕ, ◌<◌, ◌%◌, List, [], ◌∷◌, ◌++◌, length, filter, replicate, slice_index_or, slice_set, Option, None, Some, Contains, IsTrue}
+use Rattle.gr_model.specs.declared.event.Event.{Event}
+use Rattle.gr_model.specs.declared.event.Sent.{Sent}
+use Rattle.gr_model.specs.Configs.{IsConfig, Settings, worker_number}
+use Rattle.gr_model.specs.declared.limits.TheConstants.{MOST_RECORDS}
+use Rattle.gr_model.specs.Streams.{AreComplete, AreFronts, Streams, events_of, is_complete, list_of}
+use Rattle.gr_steps.specs.Steps.{IsAtRest}
+use Rattle.gr_lanes.specs.Takes.{nothing_taken, with_record}
+use Rattle.gr_order.specs.Sequences.{IsSequence, Sequence, nothing, taking}
+use Rattle.gr_shadow.specs.Clashes.{ClockedAccess}
+use Rattle.gr_hits.specs.Accesses.{AreAccesses}
+use Rattle.gr_world.specs.Queues.{Bounded, Work, empty_queue, leaving, no_work, pushed, queueing, receiving}
+
+pub record World : Type 0 where
+  pub config : Settings
+  -- what the groups' senders sent
+  pub sent : Streams
+  -- what waits to be taken
+  pub intakes : List (Bounded Sent)
+  -- what was taken, and what of it was handled, in which order
+  pub sequence : Sequence
+  -- the access that was handled and is in no queue yet
+  pub way : Option ClockedAccess
+  pub workers : List Work
+
+abbrev pub no_queue : Bounded Sent
+no_queue = empty_queue 0
+
+abbrev pub intake_at : World → ℕ → Bounded Sent
+intake_at w q = slice_index_or w.intakes q no_queue
+
+abbrev pub work_at : World → ℕ → Work
+work_at w k = slice_index_or w.workers k (no_work 0)
+
+-- the queue that a group's records go to, and the worker that an access goes to
+abbrev pub queue_of : World → ℕ → ℕ
+queue_of w g = g % w.config.queues
+
+abbrev pub worker_of : World → ClockedAccess → ℕ
+worker_of w x = worker_number x.word w.config.workers
+
+-- of groups of these sizes nothing was sent
+abbrev pub new_world : List ℕ → Settings → World
+new_world sizes config =
+    record {
+      config = config;
+      sent = nothing_taken sizes;
+      intakes = replicate config.queues (empty_queue config.capacity);
+      sequence = nothing sizes;
+      way = None;
+      workers = replicate config.workers (no_work config.capacity);
+    }
+
+-- ---- what a step changes
+
+-- one record more of a group was sent
+abbrev pub sending : World → ℕ → Event → World
+sending w g x =
+    record {
+      config = w.config;
+      sent = with_record w.sent g x;
+      intakes = slice_set w.intakes (queue_of w g) (pushed (intake_at w (queue_of w g)) (record { group = g; event = x }));
+      sequence = w.sequence;
+      way = w.way;
+      workers = w.workers;
+    }
+
+-- the record at the front of a queue was taken, and these are left in it
+abbrev pub taking_front : World → ℕ → Sent → List Sent → World
+taking_front w q s rest =
+    record {
+      config = w.config;
+      sent = w.sent;
+      intakes = slice_set w.intakes q (leaving (intake_at w q) rest);
+      sequence = taking w.sequence s.group s.event;
+      way = w.way;
+      workers = w.workers;
+    }
+
+-- the sequence went on, and this access is on its way
+abbrev pub going_on : World → Sequence → Option ClockedAccess → World
+going_on w sequence way =
+    record {
+      config = w.config;
+      sent = w.sent;
+      intakes = w.intakes;
+      sequence = sequence;
+      way = way;
+      workers = w.workers;
+    }
+
+-- the access on its way was queued for its word's worker
+abbrev pub passing : World → ClockedAccess → World
+passing w x =
+    record {
+      config = w.config;
+      sent = w.sent;
+      intakes = w.intakes;
+      sequence = w.sequence;
+      way = None;
+      workers = slice_set w.workers (worker_of w x) (queueing (work_at w (worker_of w x)) x);
+    }
+
+-- a worker received the access at the front of its queue, and these are left in it
+abbrev pub working : World → ℕ → ClockedAccess → List ClockedAccess → World
+working w k x rest =
+    record {
+      config = w.config;
+      sent = w.sent;
+      intakes = w.intakes;
+      sequence = w.sequence;
+      way = w.way;
+      workers = slice_set w.workers k (receiving (work_at w k) x rest);
+    }
+
+-- ---- what is so of every world
+
+-- of these accesses those that go to a worker
+abbrev pub accesses_for : World → ℕ → List ClockedAccess → List ClockedAccess
+accesses_for w k accesses = filter (λ x. worker_of w x == k) accesses
+
+-- the access on its way, as a list
+abbrev pub way_list : Option ClockedAccess → List ClockedAccess
+way_list None = []
+way_list (Some x) = x ∷ []
+
+-- what was taken of a group, followed by what is queued of it, is what was sent; and each queue has records of its groups alone
+pub record AreDelivered (w : World) : Type 0 where
+  pub whole : (g : ℕ) → list_of w.sent g ≡ list_of w.sequence.taken g ++ events_of g (intake_at w (queue_of w g)).items
+  pub own : (q : ℕ) (s : Sent) → Contains (intake_at w q).items s → queue_of w s.group ≡ q
+
+-- what a worker received, what is queued for it and what is on its way to it are, in this order, the accesses along the handled order that go to it
+abbrev pub IsPassedOn : World → List ClockedAccess → ℕ → Type 0
+IsPassedOn w accesses k = accesses_for w k accesses ≡ (work_at w k).received ++ (work_at w k).queue.items ++ accesses_for w k (way_list w.way)
+
+pub record ArePassedOn (w : World) : Type 0 where
+  pub accesses : List ClockedAccess
+  pub along : AreAccesses w.sequence.taken w.sequence.handled accesses
+  pub each : (k : ℕ) → k < w.config.workers → IsPassedOn w accesses k
+
+pub record IsWorld (w : World) : Type 0 where
+  pub config : IsConfig w.config
+  -- each list that was sent is a front of one that its group may have: an end stands last and nowhere else
+  pub sent : AreFronts w.sent
+  -- and one that has no end has room for it
+  pub room : (g : ℕ) → ¬ IsTrue (is_complete (list_of w.sent g)) → length (list_of w.sent g) < MOST_RECORDS
+  -- so is each list that was taken, and the order of the handled events is lawful
+  pub sequence : IsSequence w.sequence
+  pub sizes : w.sequence.taken.sizes ≡ w.sent.sizes
+  pub queues : length w.intakes ≡ w.config.queues
+  pub intakes : (q : ℕ) → q < w.config.queues → (intake_at w q).places ≡ w.config.capacity
+  pub crew : length w.workers ≡ w.config.workers
+  pub workers : (k : ℕ) → k < w.config.workers → (work_at w k).queue.places ≡ w.config.capacity
+  pub delivered : AreDelivered w
+  pub passed : ArePassedOn w
+
+-- ---- when nothing is left to do
+
+-- all streams have their ends, all queues are empty, no access is on its way, and no step of the sequencer is left
+pub record IsWorldAtRest (w : World) : Type 0 where
+  pub closed : AreComplete w.sent
+  pub intakes : (q : ℕ) → (intake_at w q).items ≡ []
+  pub way : w.way ≡ None
+  pub work : (k : ℕ) → (work_at w k).queue.items ≡ []
+  pub rest : IsAtRest w.sequence.taken w.sequence.handled

@@ -1,0 +1,112 @@
+//! A worker: the accesses that are queued for it, and those that it received.
+//!
+//! Invariant: its shadows stand for the accesses that it received.
+
+ghost use Rattle.std.specs.Prelude.{◌≡◌, ◌↔◌, [], IsTrue, IfOk, OnErr};
+ghost use Rattle.gr_model.specs.Reports.{Lists, WordBelow};
+ghost use Rattle.gr_shadow.specs.Clashes.{IsHitIn, clocked};
+ghost use Rattle.gr_world.specs.Queues.{HasRoom, no_work, queueing};
+ghost use Rattle.gr_world.specs.Workers.{Receives};
+
+use crate::queue::Queue;
+use gr_clocks::access::Access;
+use gr_model::event::Word;
+use gr_model::memory::Memory;
+use gr_shadow::shadows::Shadows;
+use std::alloc::{Allocator, Global};
+use std::marker::Model;
+
+/// A worker of a run. Contracts see the queue of its accesses, and those that it received.
+#[derive(Drop)]
+#[derive_where(Debug)]
+pub struct Worker<A: Allocator = Global> {
+    queue: Queue<Access<A>, A>,
+    received: Vec<Access<A>, A>,
+    shadows: Shadows<A>,
+}
+
+impl<A: Allocator> Model for Worker<A> {
+    ghost use Rattle.gr_shadow.specs.StandsFor.{StandsFor};
+    ghost use Rattle.gr_world.specs.Queues.{Work};
+    ghost use Rattle.gr_world.specs.Workers.{all_clocked, work_of};
+
+    ghost Value = { Work };
+
+    ghost view = { λ w. work_of w.queue w.received.items };
+
+    ghost invariant = { λ w. StandsFor (all_clocked w.received.items) w.shadows };
+}
+
+impl<A: Allocator + Copy> Worker<A> {
+    /// A worker that received nothing, and whose queue has room for so many accesses.
+    ///
+    /// # Errors
+    /// `Memory`.
+    pub fn new(alloc: A, places: usize) -> Result<Worker<A>, Memory>
+        ensures { IfOk result (λ w. w ≡ no_work places) }
+    {
+        let queue = Queue::new(alloc, places)?;
+        Ok(Worker {
+            queue,
+            received: Vec::new(alloc),
+            shadows: Shadows::new(alloc),
+        })
+    }
+
+    /// Receives the access at the front of its queue. Tells whether there was one.
+    ///
+    /// # Errors
+    /// `Memory`. The worker is then as it was.
+    pub fn receive(&mut self) -> Result<bool, Memory>
+        ensures ok { IfOk result (λ some. Receives self.old some self.new) }
+        ensures err { OnErr result (¬ (self.old.queue.items ≡ [])) }
+        ensures unchanged { OnErr result (self.new ≡ self.old) }
+    {
+        match self.queue.front() {
+            None => return Ok(false),
+            Some(access) => {
+                self.received.reserve(1)?;
+                self.shadows.apply(access)?;
+            }
+        }
+        match self.queue.pop() {
+            None => unreachable!(),
+            Some(access) => self.received.push_reserved(access),
+        }
+        Ok(true)
+    }
+
+    /// The words that are hit in the accesses that it received, in ascending order, each once.
+    ///
+    /// # Errors
+    /// `Memory`.
+    pub fn racy(&self) -> Result<Vec<Word, A>, Memory>
+        ensures { IfOk result (λ words. Lists WordBelow (IsHitIn self.now.received) words.items) }
+    {
+        self.shadows.racy()
+    }
+}
+
+impl<A: Allocator> Worker<A> {
+    /// Whether nothing is queued for it.
+    pub fn is_idle(&self) -> bool
+        ensures { IsTrue result ↔ (self.now.queue.items ≡ []) }
+    {
+        self.queue.is_empty()
+    }
+
+    /// Whether there is room in its queue.
+    pub fn has_room(&self) -> bool
+        ensures { IsTrue result ↔ HasRoom self.now.queue }
+    {
+        self.queue.has_room()
+    }
+
+    /// Queues an access for it, for which there is room.
+    pub fn push(&mut self, access: Access<A>)
+        requires { HasRoom self.old.queue }
+        ensures { self.new ≡ queueing self.old (clocked access) }
+    {
+        self.queue.push(access);
+    }
+}

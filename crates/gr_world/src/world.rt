@@ -1,0 +1,407 @@
+//! The world.
+//!
+//! Invariant: what was taken of each group, followed by what is queued of it, is what was sent, and the handled order is
+//! lawful; what each worker received, followed by what is queued for it and what is on its way to it, are the accesses along
+//! the handled order that go to it.
+
+ghost use Rattle.std.specs.Prelude.{◌≡◌, ◌↔◌, ◌<◌, ◌+◌, IsTrue, IsFalse, IfOk, IfErr, OnOk, OnErr, length, replicate};
+ghost use Rattle.gr_model.specs.declared.limits.TheConstants.{MOST_RECORDS};
+ghost use Rattle.gr_model.specs.Events.{IsEventOk, is_end};
+ghost use Rattle.std.specs.List.{sum_by};
+ghost use Rattle.gr_model.specs.Reports.{IsReportOf, Lists, WordBelow};
+ghost use Rattle.gr_model.specs.Streams.{list_of, size_of};
+ghost use Rattle.gr_steps.specs.Steps.{AreGrounded};
+ghost use Rattle.gr_report.specs.Whole.{whole_of};
+ghost use Rattle.gr_world.specs.declared.step.Step.TheVariants as steps;
+ghost use Rattle.gr_world.specs.Putting.{IsPutFault, Puts};
+ghost use Rattle.gr_world.specs.Queues.{empty_queue, no_work};
+ghost use Rattle.gr_world.specs.Steps.{IsBadEvent, IsRefusal, IsStep, Runs};
+ghost use Rattle.gr_world.specs.Resting.{AreEmpty, AreIdle, IsHitAtWork};
+ghost use Rattle.gr_world.specs.Worlds.{IsWorld, IsWorldAtRest, new_world};
+
+use crate::queue::Queue;
+use crate::step::{Step, StepError};
+use crate::worker::Worker;
+use gr_clocks::access::Access;
+use gr_lanes::lanes::Lanes;
+use gr_lanes::seq_error::SeqError;
+use gr_model::config::{Config, queue_of, worker_of};
+use gr_model::event::{Event, ItemId, Sent, Word, event_ok};
+use gr_model::limits::MOST_RECORDS;
+use gr_model::memory::Memory;
+use gr_model::shape::Shape;
+use gr_report::report::Report;
+use gr_report::rows::Rows;
+use gr_sequencer::handled::Handled;
+use gr_sequencer::sequencer::Sequencer;
+use gr_shadow::merge::merge;
+use std::alloc::{Allocator, Global};
+use std::marker::Model;
+
+/// The world of a run. Contracts see what was sent, what is queued for the sequencer, what was taken and in which order it
+/// was handled, what is on its way, and what each worker has.
+#[derive(Drop)]
+#[derive_where(Debug)]
+pub struct World<A: Allocator = Global> {
+    #[derive_where(skip)]
+    alloc: A,
+    config: Config,
+    sent: Lanes<A>,
+    intakes: Vec<Queue<Sent, A>, A>,
+    sequencer: Sequencer<A>,
+    way: Option<Access<A>>,
+    workers: Vec<Worker<A>, A>,
+}
+
+impl<A: Allocator> Model for World<A> {
+    ghost use Rattle.gr_world.specs.Views.{world_of};
+    ghost use Rattle.gr_world.specs.Worlds.{IsWorld, World as WorldLists};
+
+    ghost Value = { WorldLists };
+
+    ghost view = { λ w. world_of w.config w.sent w.intakes.items w.sequencer w.way w.workers.items };
+
+    ghost invariant = { λ w. IsWorld (world_of w.config w.sent w.intakes.items w.sequencer w.way w.workers.items) };
+}
+
+/// So many empty queues, each with room for so many records.
+fn queues_of<A: Allocator + Copy>(
+    alloc: A,
+    count: u16,
+    places: u32,
+) -> Result<Vec<Queue<Sent, A>, A>, Memory>
+    ensures { IfOk result (λ v. v.items ≡ replicate count (empty_queue places)) }
+{
+    let mut queues = Vec::new(alloc);
+    for _ in 0..count {
+        queues.push(Queue::new(alloc, places as usize)?)?;
+    }
+    Ok(queues)
+}
+
+/// So many workers that received nothing, each with room in its queue for so many accesses.
+fn crew_of<A: Allocator + Copy>(
+    alloc: A,
+    count: u16,
+    places: u32,
+) -> Result<Vec<Worker<A>, A>, Memory>
+    ensures { IfOk result (λ v. v.items ≡ replicate count (no_work places)) }
+{
+    let mut workers = Vec::new(alloc);
+    for _ in 0..count {
+        workers.push(Worker::new(alloc, places as usize)?)?;
+    }
+    Ok(workers)
+}
+
+impl<A: Allocator + Copy> World<A> {
+    /// The world of a launch of this shape, in which nothing was sent.
+    ///
+    /// # Errors
+    /// `Memory`.
+    pub fn new(alloc: A, shape: Shape<A>, config: Config) -> Result<World<A>, Memory>
+    where
+        A: Clone,
+        ensures made { IfOk result (λ w. w ≡ new_world shape config) }
+        ensures world { IfOk result (λ w. IsWorld w) }
+    {
+        let _groups = shape.groups();
+        let intakes = queues_of(alloc, config.queues(), config.capacity())?;
+        let workers = crew_of(alloc, config.workers(), config.capacity())?;
+        let sent = Lanes::new(alloc, shape.copy()?)?;
+        let sequencer = Sequencer::new(alloc, shape)?;
+        Ok(World {
+            alloc,
+            config,
+            sent,
+            intakes,
+            sequencer,
+            way: None,
+            workers,
+        })
+    }
+
+    /// Makes a step.
+    ///
+    /// # Errors
+    /// The first of the causes of `StepError` that is there. Nothing is then changed.
+    pub fn step(&mut self, step: Step) -> Result<(), StepError>
+    where
+        A: Clone,
+        ensures step { OnOk result (IsStep self.old step self.new) }
+        ensures err { IfErr result (IsRefusal self.old step) }
+        ensures unchanged { OnErr result (self.new ≡ self.old) }
+    {
+        match step {
+            Step::Send(group, event) => self.send(group, event),
+            Step::Close(group, cut) => self.close(group, cut),
+            Step::Take(queue) => self.take(queue),
+            Step::Handle(item) => self.handle(item),
+            Step::Meet(group) => self.meet(group),
+            Step::Pass => self.pass(),
+            Step::WorkTake(worker) => self.work_take(worker),
+        }
+    }
+
+    /// The words that are hit in what some worker received, in ascending order, each once.
+    fn races(&self) -> Result<Vec<Word, A>, Memory>
+        ensures { IfOk result (λ words. Lists WordBelow (IsHitAtWork self.now.workers) words.items) }
+    {
+        let mut races = Vec::new(self.alloc);
+        for worker in &self.workers {
+            let more = worker.racy()?;
+            races = merge(self.alloc, &races, &more)?;
+        }
+        Ok(races)
+    }
+
+    /// The report of what was sent. The world is at rest.
+    ///
+    /// # Errors
+    /// `Memory`.
+    pub fn report(&self) -> Result<Report<A>, Memory>
+        requires { IsWorldAtRest self.now }
+        ensures { IfOk result (λ report. IsReportOf self.now.sent (whole_of report)) }
+    {
+        let races = self.races()?;
+        let divergences = self.sequencer.divergences()?;
+        let unmatched = self.sequencer.unmatched()?;
+        let cut = self.sequencer.cut()?;
+        Ok(Report {
+            races: Rows::of(races),
+            divergences: Rows::of(divergences),
+            unmatched: Rows::of(unmatched),
+            cut: Rows::of(cut),
+            held: self.sequencer.held(),
+            groups: self.sent.shape().groups(),
+            items: self.sent.shape().total() as u16,
+            records: self.records(),
+        })
+    }
+
+    /// Handles an item's next event; its access, if it has one, is then on its way.
+    fn handle(&mut self, item: ItemId) -> Result<(), StepError>
+    where
+        A: Clone,
+        ensures step { OnOk result (IsStep self.old (steps.Handle item) self.new) }
+        ensures err { IfErr result (IsRefusal self.old (steps.Handle item)) }
+        ensures unchanged { OnErr result (self.new ≡ self.old) }
+    {
+        if !self.sent.shape().has(item) {
+            return Err(StepError::BadStep);
+        }
+        if self.way.is_some() {
+            return Err(StepError::Busy);
+        }
+        match self.sequencer.handle(item)? {
+            Handled::One { event: _, access } => self.way = access,
+            Handled::Meet {
+                group: _,
+                instance: _,
+            } => unreachable!(),
+        }
+        Ok(())
+    }
+
+    /// Handles the barriers of a group's next convergent instance.
+    fn meet(&mut self, group: u16) -> Result<(), StepError>
+    where
+        A: Clone,
+        ensures step { OnOk result (IsStep self.old (steps.Meet group) self.new) }
+        ensures err { IfErr result (IsRefusal self.old (steps.Meet group)) }
+        ensures unchanged { OnErr result (self.new ≡ self.old) }
+    {
+        if group >= self.sent.shape().groups() {
+            return Err(StepError::BadStep);
+        }
+        let _met = self.sequencer.meet(group)?;
+        Ok(())
+    }
+
+    /// The worker receives the access at the front of its queue.
+    fn work_take(&mut self, worker: u16) -> Result<(), StepError>
+        ensures step { OnOk result (IsStep self.old (steps.WorkTake worker) self.new) }
+        ensures err { IfErr result (IsRefusal self.old (steps.WorkTake worker)) }
+        ensures unchanged { OnErr result (self.new ≡ self.old) }
+    {
+        let worker = match self.workers.get_mut(usize::from(worker)) {
+            None => return Err(StepError::BadStep),
+            Some(worker) => worker,
+        };
+        if !worker.receive()? {
+            return Err(StepError::Empty);
+        }
+        Ok(())
+    }
+
+    /// Tries steps one after another. Tells how many were refused.
+    pub fn run(&mut self, steps: &[Step]) -> u64
+    where
+        A: Clone,
+        ensures { Runs self.old steps.now self.new result }
+    {
+        let mut refused: u64 = 0;
+        for step in steps {
+            match self.step(*step) {
+                Ok(()) => {}
+                Err(_) => refused += 1,
+            }
+        }
+        refused
+    }
+}
+
+impl<A: Allocator> World<A> {
+    /// Whether no intake queue holds anything.
+    fn is_drained(&self) -> bool
+        ensures { IsTrue result ↔ AreEmpty self.now.intakes }
+    {
+        self.intakes.iter().all(|intake| intake.is_empty())
+    }
+
+    /// Whether no worker's queue holds anything.
+    fn is_idle(&self) -> bool
+        ensures { IsTrue result ↔ AreIdle self.now.workers }
+    {
+        for worker in &self.workers {
+            if !worker.is_idle() {
+                return false;
+            }
+        }
+        true
+    }
+
+    /// Whether all streams have their ends, the queues are empty, nothing is on its way, and no step of the sequencer is
+    /// left. The handled events are then the grounded ones.
+    pub fn at_rest(&self) -> bool
+        ensures rest { IsTrue result ↔ IsWorldAtRest self.now }
+        ensures done { IsTrue result → AreGrounded self.now.sent self.now.sequence.handled }
+        ensures world { IsWorld self.now }
+    {
+        let on_its_way = self.way.is_some();
+        if on_its_way {
+            return false;
+        }
+        if !self.is_drained() {
+            return false;
+        }
+        if !self.is_idle() {
+            return false;
+        }
+        self.sequencer.at_end()
+    }
+
+    /// How many records were sent, ends included.
+    fn records(&self) -> u64
+        ensures { result ≡ sum_by length self.now.sent.lists }
+    {
+        let mut records: u64 = 0;
+        for group in 0..self.sent.shape().groups() {
+            records += u64::from(self.sent.taken(group));
+        }
+        records
+    }
+
+    /// Whether a group can't send this event: it is an end, is none that the group may have, or leaves no room for the end.
+    fn is_bad(&self, group: u16, event: &Event) -> bool
+        requires { group < length self.now.sent.sizes }
+        ensures { IsTrue result ↔ IsBadEvent self.now group event.now }
+    {
+        event.kind.is_end()
+            || !event_ok(event, self.sent.shape().items(group))
+            || self.sent.taken(group) as usize + 1 >= MOST_RECORDS
+    }
+
+    /// A group's sender sends an event.
+    fn send(&mut self, group: u16, event: Event) -> Result<(), StepError>
+        ensures step { OnOk result (IsStep self.old (steps.Send group event) self.new) }
+        ensures err { IfErr result (IsRefusal self.old (steps.Send group event)) }
+        ensures unchanged { OnErr result (self.new ≡ self.old) }
+    {
+        if group >= self.sent.shape().groups() || self.is_bad(group, &event) {
+            return Err(StepError::BadStep);
+        }
+        self.put(group, event)
+    }
+
+    /// A group's sender sends the end of its stream.
+    fn close(&mut self, group: u16, cut: bool) -> Result<(), StepError>
+        ensures step { OnOk result (IsStep self.old (steps.Close group cut) self.new) }
+        ensures err { IfErr result (IsRefusal self.old (steps.Close group cut)) }
+        ensures unchanged { OnErr result (self.new ≡ self.old) }
+    {
+        if group >= self.sent.shape().groups() {
+            return Err(StepError::BadStep);
+        }
+        self.put(group, Event::end(cut))
+    }
+
+    /// Puts a record, which the group may have, at the end of what the group sent and of its queue.
+    fn put(&mut self, group: u16, event: Event) -> Result<(), StepError>
+        requires group { group < length self.old.sent.sizes }
+        requires good { IsEventOk event (size_of self.old.sent group) }
+        requires room { IsFalse (is_end event) → length (list_of self.old.sent group) + 1 < MOST_RECORDS }
+        ensures ok { OnOk result (Puts self.old group event self.new) }
+        ensures err { IfErr result (IsPutFault self.old group) }
+        ensures unchanged { OnErr result (self.new ≡ self.old) }
+    {
+        if self.sent.is_complete(group) {
+            return Err(StepError::NotOpen);
+        }
+        let queue = usize::from(queue_of(group, self.config.queues()));
+        if !self.intakes[queue].has_room() {
+            return Err(StepError::Full);
+        }
+        match self.sent.take(group, event) {
+            Ok(()) => {}
+            Err(SeqError::Memory) => return Err(StepError::Memory),
+            Err(_) => unreachable!(),
+        }
+        self.intakes[queue].push(Sent { group, event });
+        Ok(())
+    }
+
+    /// The sequencer takes the record at the front of an intake queue.
+    fn take(&mut self, queue: u16) -> Result<(), StepError>
+        ensures step { OnOk result (IsStep self.old (steps.Take queue) self.new) }
+        ensures err { IfErr result (IsRefusal self.old (steps.Take queue)) }
+        ensures unchanged { OnErr result (self.new ≡ self.old) }
+    {
+        let intake = match self.intakes.get_mut(usize::from(queue)) {
+            None => return Err(StepError::BadStep),
+            Some(intake) => intake,
+        };
+        let front = match intake.front() {
+            None => return Err(StepError::Empty),
+            Some(sent) => *sent,
+        };
+        match self.sequencer.take(front.group, front.event) {
+            Ok(()) => {}
+            Err(SeqError::Memory) => return Err(StepError::Memory),
+            Err(_) => unreachable!(),
+        }
+        let _taken = intake.pop();
+        Ok(())
+    }
+
+    /// The access on its way goes to the queue of its word's worker.
+    fn pass(&mut self) -> Result<(), StepError>
+        ensures step { OnOk result (IsStep self.old steps.Pass self.new) }
+        ensures err { IfErr result (IsRefusal self.old steps.Pass) }
+        ensures unchanged { OnErr result (self.new ≡ self.old) }
+    {
+        let number = match &self.way {
+            None => return Err(StepError::Empty),
+            Some(access) => worker_of(&access.word, self.config.workers()),
+        };
+        let worker = &mut self.workers[usize::from(number)];
+        if !worker.has_room() {
+            return Err(StepError::Full);
+        }
+        match self.way.take() {
+            None => unreachable!(),
+            Some(access) => worker.push(access),
+        }
+        Ok(())
+    }
+}

@@ -1,0 +1,66 @@
+//! The calls of a world, each tried twice: where memory ran out, nothing is to have changed, and the second try is
+//! judged. A `None` is a call that changed something though memory ran out, or that failed for want of memory twice.
+
+use gr_model::config::Config;
+use gr_model::memory::Memory;
+use gr_model::shape::Shape;
+use gr_world::step::{Step, StepError};
+use gr_world::world::World;
+use std::alloc::Allocator;
+
+/// How many workers and intake queues a world has, and for how many values a queue has room.
+pub(crate) type Numbers = (u16, u16, u32);
+
+/// A shape of these sizes.
+pub(crate) fn shape_of<A: Allocator + Copy>(alloc: A, sizes: &[u16]) -> Result<Shape<A>, Memory> {
+    let mut copied = Vec::new(alloc);
+    for size in sizes {
+        copied.push(*size)?;
+    }
+    match Shape::new(copied) {
+        Ok(shape) => Ok(shape),
+        Err(_) => Err(Memory),
+    }
+}
+
+fn new_once<A: Allocator + Copy>(
+    alloc: A,
+    sizes: &[u16],
+    config: Config,
+) -> Result<World<A>, Memory> {
+    let shape = shape_of(alloc, sizes)?;
+    World::new(alloc, shape, config)
+}
+
+/// The world of a launch of these sizes.
+pub(crate) fn new<A: Allocator + Copy>(
+    alloc: A,
+    sizes: &[u16],
+    numbers: Numbers,
+) -> Option<World<A>> {
+    let (workers, queues, capacity) = numbers;
+    let config = Config::new(workers, queues, capacity).ok()?;
+    match new_once(alloc, sizes, config) {
+        Ok(world) => Some(world),
+        Err(_) => new_once(alloc, sizes, config).ok(),
+    }
+}
+
+/// What is answered to a step.
+pub(crate) fn step<A: Allocator + Copy>(
+    world: &mut World<A>,
+    step: Step,
+) -> Option<Result<(), StepError>> {
+    let before = world.at_rest();
+    let mut answer = world.step(step);
+    if answer == Err(StepError::Memory) {
+        if world.at_rest() != before {
+            return None;
+        }
+        answer = world.step(step);
+    }
+    if answer == Err(StepError::Memory) {
+        return None;
+    }
+    Some(answer)
+}

@@ -1,0 +1,140 @@
+//! The worked rows by schedules: whatever the workers, the queues, their places and the order in which groups send, the
+//! report is that of the whole lists. A step that is refused is tried again later.
+
+use crate::calls::{Numbers, new, shape_of, step};
+use crate::rows::{ROWS, Row};
+use crate::steps::{Way, of_sequencer, of_workers, sends_of};
+use crate::told::reported;
+use gr_model::event::Event;
+use gr_model::traces::Traces;
+use gr_replay::detect::detect;
+use gr_world::step::{Step, StepError};
+use gr_world::world::World;
+use std::alloc::{AllocError, Global};
+use std::collections::VecDeque;
+use std::test::Fail;
+
+/// How many workers and queues there are, and how many places a queue has.
+const ALL_NUMBERS: [Numbers; 8] = [
+    (1, 1, 1),
+    (1, 1, 4),
+    (3, 1, 1),
+    (3, 1, 4),
+    (1, 2, 1),
+    (1, 2, 4),
+    (3, 2, 1),
+    (3, 2, 4),
+];
+
+/// A schedule: what is still to be sent, and what sequencer and workers try again and again.
+#[derive(Drop)]
+struct Schedule {
+    sends: VecDeque<Step>,
+    of_sequencer: Vec<Step>,
+    of_workers: Vec<Step>,
+}
+
+/// The schedule of a row.
+fn schedule_of(
+    alloc: Global,
+    row: &Row,
+    way: Way,
+    numbers: Numbers,
+) -> Result<Schedule, AllocError> {
+    Ok(Schedule {
+        sends: sends_of(alloc, row, way)?,
+        of_sequencer: of_sequencer(alloc, row, numbers)?,
+        of_workers: of_workers(alloc, numbers)?,
+    })
+}
+
+/// Tries a step, and tells whether it was made. `None` where no later try could do better.
+fn is_made(world: &mut World, tried: Step) -> Option<bool> {
+    match step(world, tried)? {
+        Ok(()) => Some(true),
+        Err(StepError::Full | StepError::Empty | StepError::Busy | StepError::NotReady) => {
+            Some(false)
+        }
+        Err(StepError::BadStep | StepError::NotOpen | StepError::Memory) => None,
+    }
+}
+
+/// Tries the first of the steps that are left. Where it is refused, it is left.
+fn send(world: &mut World, sends: &mut VecDeque<Step>) -> Option<()> {
+    let Some(front) = sends.front() else {
+        return Some(());
+    };
+    let tried = *front;
+    if is_made(world, tried)? {
+        let _sent = sends.pop_front();
+    }
+    Some(())
+}
+
+/// Tries each of the steps once.
+fn try_each(world: &mut World, steps: &[Step]) -> Option<()> {
+    for tried in steps {
+        let _made = is_made(world, *tried)?;
+    }
+    Some(())
+}
+
+/// Follows a schedule to its end: three sends are tried, then each step of the sequencer, and every third time each of
+/// the workers.
+fn follow(world: &mut World, schedule: &mut Schedule) -> Option<()> {
+    for turn in 0..100_u32 {
+        send(world, &mut schedule.sends)?;
+        send(world, &mut schedule.sends)?;
+        send(world, &mut schedule.sends)?;
+        try_each(world, &schedule.of_sequencer)?;
+        if turn % 3 == 2 {
+            try_each(world, &schedule.of_workers)?;
+        }
+    }
+    Some(())
+}
+
+/// The world of a row at the end of its schedule.
+fn world_of(alloc: Global, row: &Row, way: Way, numbers: Numbers) -> Option<World> {
+    let mut schedule = schedule_of(alloc, row, way, numbers).ok()?;
+    let mut world = new(alloc, row.sizes, numbers)?;
+    follow(&mut world, &mut schedule)?;
+    Some(world)
+}
+
+/// The whole lists of a row.
+fn traces_of(alloc: Global, row: &Row) -> Result<Traces, Fail> {
+    let mut lists = Vec::new(alloc);
+    for list in row.lists {
+        let mut whole = list.to_vec(alloc)?;
+        whole.push(Event::end(false))?;
+        lists.push(whole)?;
+    }
+    let shape = shape_of(alloc, row.sizes).ok().ok_or("a shape")?;
+    Ok(Traces::new(shape, lists).ok().ok_or("traces")?)
+}
+
+/// Whether the report of a row's world, however many workers and queues there are, is the row's, and that of its lists.
+fn is_told(alloc: Global, row: &Row, way: Way, numbers: Numbers) -> Result<bool, Fail> {
+    let traces = traces_of(alloc, row)?;
+    let due = detect(alloc, &traces).ok().ok_or("a report")?;
+    let world = world_of(alloc, row, way, numbers).ok_or("a world")?;
+    if !world.at_rest() {
+        return Ok(false);
+    }
+    let report = world.report().ok().ok_or("a report")?;
+    Ok(report == due && reported(&world) == Some(row.told))
+}
+
+#[test]
+fn schedules_change_no_report(rt: HostRuntime) -> Result<(), Fail> {
+    for row in ROWS.iter() {
+        for numbers in ALL_NUMBERS {
+            for way in [Way::GreatestFirst, Way::TurnByTurn] {
+                let told = is_told(rt.alloc(), row, way, numbers)?;
+                assert!(rt; told, "{}, {way:?}, {numbers:?}", row.name);
+            }
+        }
+    }
+    Ok(())
+}

@@ -1,0 +1,363 @@
+//! What is answered to each step of a script, and what is reported at its end.
+
+use crate::calls::new;
+use crate::records::*;
+use crate::script::{Line, Script, steps_of, went};
+use crate::told::{NOTHING, Told, reported};
+use gr_model::event::{ItemId, Word};
+use gr_model::report::{Divergence, DivergenceCause};
+use gr_world::step::{Step, StepError};
+use refusing::Refusing;
+use std::alloc::Global;
+use std::test::Fail;
+
+const OK: Result<(), StepError> = Ok(());
+
+const BAD: Result<(), StepError> = Err(StepError::BadStep);
+
+const NOT_OPEN: Result<(), StepError> = Err(StepError::NotOpen);
+
+const FULL: Result<(), StepError> = Err(StepError::Full);
+
+const EMPTY: Result<(), StepError> = Err(StepError::Empty);
+
+const BUSY: Result<(), StepError> = Err(StepError::Busy);
+
+const NOT_READY: Result<(), StepError> = Err(StepError::NotReady);
+
+/// Item 0 of group 0.
+const FIRST: ItemId = ItemId { group: 0, item: 0 };
+
+/// Item 1 of group 0.
+const SECOND: ItemId = ItemId { group: 0, item: 1 };
+
+/// Item 0 of group 1.
+const OTHER: ItemId = ItemId { group: 1, item: 0 };
+
+/// One place in each queue: a write and a read of two groups.
+const ONE_PLACE: Script = Script {
+    name: "a race through queues with one place",
+    sizes: &[1, 1],
+    numbers: (1, 1, 1),
+    lines: &[
+        (Step::Send(0, WRITE_16), OK),
+        (Step::Send(1, READ_16), FULL),
+        (Step::Take(0), OK),
+        (Step::Send(1, READ_16), OK),
+        (Step::Handle(FIRST), OK),
+        (Step::Take(0), OK),
+        (Step::Handle(OTHER), BUSY),
+        (Step::Pass, OK),
+        (Step::Handle(OTHER), OK),
+        (Step::Pass, FULL),
+        (Step::WorkTake(0), OK),
+        (Step::Pass, OK),
+        (Step::WorkTake(0), OK),
+        (Step::Close(0, false), OK),
+        (Step::Close(0, false), NOT_OPEN),
+        (Step::Take(0), OK),
+        (Step::Close(1, false), OK),
+        (Step::Take(0), OK),
+    ],
+    refused: 4,
+    told: Some(Told {
+        races: [Some(Word::Global(16)), None],
+        groups: 2,
+        items: 2,
+        records: 4,
+        ..NOTHING
+    }),
+};
+
+const NEW_WORLD: Script = Script {
+    name: "a new world",
+    sizes: &[1, 1],
+    numbers: (1, 1, 1),
+    lines: &[
+        (Step::Take(0), EMPTY),
+        (Step::Take(1), BAD),
+        (Step::WorkTake(1), BAD),
+        (Step::Pass, EMPTY),
+        (Step::Handle(FIRST), NOT_READY),
+        (Step::Meet(0), NOT_READY),
+        (Step::Send(0, END), BAD),
+    ],
+    refused: 7,
+    told: None,
+};
+
+/// What is not there, and records that a group may not have: told before all else.
+const BAD_STEPS: Script = Script {
+    name: "bad steps, before and behind each other cause",
+    sizes: &[1, 1],
+    numbers: (1, 1, 1),
+    lines: &[
+        (Step::Send(2, WRITE_16), BAD),
+        (Step::Close(2, false), BAD),
+        (Step::Handle(ItemId { group: 2, item: 0 }), BAD),
+        (Step::Handle(SECOND), BAD),
+        (Step::Meet(2), BAD),
+        (Step::WorkTake(0), EMPTY),
+        (Step::Send(0, ITEM_1_READ_16), BAD),
+        (Step::Send(0, LOAD_THAT_RELEASES), BAD),
+        (Step::Send(0, RELAXED_LOAD_WITH_A_NAME), BAD),
+        (Step::Send(0, WRITE_16), OK),
+        (Step::Send(2, WRITE_16), BAD),
+        (Step::Send(0, ITEM_1_READ_16), BAD),
+        (Step::Send(1, END), BAD),
+        (Step::Send(1, READ_16), FULL),
+        (Step::Close(1, false), FULL),
+        (Step::Close(0, false), FULL),
+        (Step::Take(0), OK),
+        (Step::Close(0, false), OK),
+        (Step::Send(0, END), BAD),
+        (Step::Send(0, ITEM_1_READ_16), BAD),
+        (Step::Send(0, READ_16), NOT_OPEN),
+        (Step::Close(0, true), NOT_OPEN),
+        (Step::Send(1, READ_16), FULL),
+        (Step::Take(0), OK),
+        (Step::Take(0), EMPTY),
+        (Step::Handle(FIRST), OK),
+        (Step::Handle(SECOND), BAD),
+        (Step::Handle(FIRST), BUSY),
+        (Step::Handle(OTHER), BUSY),
+        (Step::Meet(0), NOT_READY),
+        (Step::Pass, OK),
+        (Step::Pass, EMPTY),
+        (Step::Handle(FIRST), NOT_READY),
+        (Step::Handle(OTHER), NOT_READY),
+        (Step::Close(1, true), OK),
+        (Step::Take(0), OK),
+        (Step::Handle(OTHER), NOT_READY),
+        (Step::WorkTake(0), OK),
+    ],
+    refused: 29,
+    told: Some(Told {
+        cut: [Some(1), None],
+        groups: 2,
+        items: 2,
+        records: 3,
+        ..NOTHING
+    }),
+};
+
+/// A convergent instance, which may meet while an access is on its way, and a divergent one, which has no accesses.
+const BARRIERS: Script = Script {
+    name: "an instance that meets and one that does not",
+    sizes: &[2],
+    numbers: (1, 1, 2),
+    lines: &[
+        (Step::Send(0, WRITE_16), OK),
+        (Step::Send(0, BARRIER_1), OK),
+        (Step::Send(0, ITEM_1_BARRIER_1), FULL),
+        (Step::Take(0), OK),
+        (Step::Take(0), OK),
+        (Step::Meet(0), NOT_READY),
+        (Step::Send(0, ITEM_1_BARRIER_1), OK),
+        (Step::Take(0), OK),
+        (Step::Meet(0), NOT_READY),
+        (Step::Handle(SECOND), NOT_READY),
+        (Step::Handle(FIRST), OK),
+        (Step::Handle(FIRST), BUSY),
+        (Step::Meet(0), OK),
+        (Step::Meet(0), NOT_READY),
+        (Step::Send(0, ITEM_1_READ_16), OK),
+        (Step::Take(0), OK),
+        (Step::Handle(SECOND), BUSY),
+        (Step::Pass, OK),
+        (Step::Handle(SECOND), OK),
+        (Step::Pass, OK),
+        (Step::WorkTake(0), OK),
+        (Step::WorkTake(0), OK),
+        (Step::WorkTake(0), EMPTY),
+        (Step::Send(0, BARRIER_2), OK),
+        (Step::Take(0), OK),
+        (Step::Handle(FIRST), NOT_READY),
+        (Step::Send(0, ITEM_1_BARRIER_3), OK),
+        (Step::Take(0), OK),
+        (Step::Meet(0), NOT_READY),
+        (Step::Handle(FIRST), OK),
+        (Step::Pass, EMPTY),
+        (Step::Handle(SECOND), OK),
+        (Step::Close(0, false), OK),
+        (Step::Take(0), OK),
+    ],
+    refused: 11,
+    told: Some(Told {
+        divergences: [
+            Some(Divergence {
+                group: 0,
+                instance: 1,
+                cause: DivergenceCause::Site,
+            }),
+            None,
+        ],
+        items: 2,
+        records: 7,
+        ..NOTHING
+    }),
+};
+
+/// Group 1 sends into queue 1. Of three workers, global word 16 goes to worker 1, local word 4 of group 1 to worker 2.
+const TWO_QUEUES: Script = Script {
+    name: "two queues and three workers",
+    sizes: &[1, 1],
+    numbers: (3, 2, 1),
+    lines: &[
+        (Step::Send(1, WRITE_LOCAL_4), OK),
+        (Step::Take(0), EMPTY),
+        (Step::Send(0, WRITE_16), OK),
+        (Step::Take(0), OK),
+        (Step::Take(1), OK),
+        (Step::Take(1), EMPTY),
+        (Step::Take(2), BAD),
+        (Step::Handle(OTHER), OK),
+        (Step::Pass, OK),
+        (Step::Handle(FIRST), OK),
+        (Step::Pass, OK),
+        (Step::WorkTake(0), EMPTY),
+        (Step::WorkTake(1), OK),
+        (Step::WorkTake(1), EMPTY),
+        (Step::WorkTake(2), OK),
+        (Step::WorkTake(3), BAD),
+        (Step::Close(0, true), OK),
+        (Step::Close(1, false), OK),
+        (Step::Take(1), OK),
+        (Step::Take(0), OK),
+    ],
+    refused: 6,
+    told: Some(Told {
+        cut: [Some(0), None],
+        groups: 2,
+        items: 2,
+        records: 4,
+        ..NOTHING
+    }),
+};
+
+/// All is done but that an access is on its way.
+const ON_ITS_WAY: Script = Script {
+    name: "an access on its way at the end",
+    sizes: &[1],
+    numbers: (1, 1, 2),
+    lines: &[
+        (Step::Send(0, WRITE_16), OK),
+        (Step::Close(0, false), OK),
+        (Step::Take(0), OK),
+        (Step::Take(0), OK),
+        (Step::Handle(FIRST), OK),
+    ],
+    refused: 0,
+    told: None,
+};
+
+/// All is done but that an access is queued for its worker.
+const QUEUED: Script = Script {
+    name: "an access in its worker's queue at the end",
+    sizes: &[1],
+    numbers: (1, 1, 2),
+    lines: &[
+        (Step::Send(0, WRITE_16), OK),
+        (Step::Close(0, false), OK),
+        (Step::Take(0), OK),
+        (Step::Take(0), OK),
+        (Step::Handle(FIRST), OK),
+        (Step::Pass, OK),
+    ],
+    refused: 0,
+    told: None,
+};
+
+/// All is done but that an end was not taken.
+const END_NOT_TAKEN: Script = Script {
+    name: "an end in its intake queue at the end",
+    sizes: &[1, 1],
+    numbers: (1, 1, 2),
+    lines: &[
+        (Step::Close(1, false), OK),
+        (Step::Close(0, false), OK),
+        (Step::Take(0), OK),
+    ],
+    refused: 0,
+    told: None,
+};
+
+/// All is done but that a stream has no end.
+const OPEN: Script = Script {
+    name: "a stream without its end",
+    sizes: &[1, 1],
+    numbers: (1, 1, 2),
+    lines: &[(Step::Close(1, false), OK), (Step::Take(0), OK)],
+    refused: 0,
+    told: None,
+};
+
+/// All is done but that an event may be handled.
+const NOT_HANDLED: Script = Script {
+    name: "an event that was not handled",
+    sizes: &[1],
+    numbers: (1, 1, 2),
+    lines: &[
+        (Step::Send(0, WRITE_16), OK),
+        (Step::Close(0, false), OK),
+        (Step::Take(0), OK),
+        (Step::Take(0), OK),
+    ],
+    refused: 0,
+    told: None,
+};
+
+const SCRIPTS: [Script; 10] = [
+    ONE_PLACE,
+    NEW_WORLD,
+    BAD_STEPS,
+    BARRIERS,
+    TWO_QUEUES,
+    ON_ITS_WAY,
+    QUEUED,
+    END_NOT_TAKEN,
+    OPEN,
+    NOT_HANDLED,
+];
+
+#[test]
+fn each_step_is_answered(rt: HostRuntime) {
+    for script in SCRIPTS.iter() {
+        let due = Some((None, script.told));
+        assert_eq!(rt; went(rt.alloc(), script), due, "{}", script.name);
+    }
+}
+
+#[test]
+fn run_counts_the_refused_steps(rt: HostRuntime) -> Result<(), Fail> {
+    for script in SCRIPTS.iter() {
+        let steps = steps_of(rt.alloc(), script)?;
+        let mut world = new(rt.alloc(), script.sizes, script.numbers).ok_or("a world")?;
+        assert_eq!(rt; world.run(&steps), script.refused, "{}", script.name);
+        assert_eq!(rt; reported(&world), script.told, "{}", script.name);
+    }
+    Ok(())
+}
+
+/// Refuses each growth in turn, until none is refused; the number of one where the script goes otherwise, if there is
+/// one.
+fn first_wrong_growth(alloc: Global, script: &Script) -> Option<u64> {
+    for at in 0..1_000_u64 {
+        let heap = Refusing::new(alloc, at);
+        if went(&heap, script) != Some((None, script.told)) {
+            return Some(at);
+        }
+        if !heap.refused() {
+            return if at > 4 { None } else { Some(at) };
+        }
+    }
+    Some(1_000)
+}
+
+#[test]
+fn each_step_is_answered_whatever_growth_is_refused(rt: HostRuntime) {
+    for script in SCRIPTS.iter() {
+        let wrong = first_wrong_growth(rt.alloc(), script);
+        assert_eq!(rt; wrong, None, "{}", script.name);
+    }
+}
