@@ -14,7 +14,8 @@ use Rattle.gr_model.proofs.GrowthLaws.{not_both}
 use Rattle.gr_lanes.proofs.InstanceLemmas.{barrier_mark}
 use Rattle.gr_order.proofs.ReadyLemmas.{stands_there}
 use Rattle.gr_steps.proofs.BarrierPlaces.{barrier_there, places_from-once, same_instance, stands_same}
-use Rattle.gr_steps.proofs.Orders.{same_event, split_last}
+use Rattle.gr_model.proofs.Cuts.{same_event}
+use Rattle.gr_steps.proofs.Orders.{split_last}
 use Rattle.gr_steps.specs.Steps.{AreBarriers}
 use Rattle.gr_explain.specs.Telling.{Has, IsFlagged, Tells, by_instance, by_release, in_item}
 

@@ -15,7 +15,8 @@ use Rattle.gr_model.specs.declared.event.ItemId.{ItemId}
 use Rattle.gr_model.specs.Shapes.{HasItem}
 use Rattle.gr_clocks.specs.declared.access.Access.{Access}
 use Rattle.gr_closure.specs.Accesses.{IsAccess, IsAccessOf}
-use Rattle.gr_hits.specs.Accesses.{AreAccesses, bare}
+use Rattle.gr_clocks.specs.ClockedAccess.{bare}
+use Rattle.gr_hits.specs.Accesses.{AreAccesses}
 use Rattle.gr_hits.proofs.Adding.{bare_access, handled_adds, met_add_none, others_add_none}
 use Rattle.gr_order.specs.Sequences.{HandlesEvent, IsSequence, MeetsInstance, Sequence}
 use Rattle.gr_order.specs.Answers.{IsMeetFault}

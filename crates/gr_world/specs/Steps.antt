@@ -10,7 +10,7 @@ use Rattle.gr_model.specs.Shapes.{HasItem}
 use Rattle.gr_model.specs.Streams.{Streams, is_complete, list_of, size_of, word_at}
 use Rattle.gr_steps.specs.Steps.{CanHandle, CanMeet}
 use Rattle.gr_closure.specs.Accesses.{IsAccess}
-use Rattle.gr_hits.specs.Accesses.{bare}
+use Rattle.gr_clocks.specs.ClockedAccess.{bare}
 use Rattle.gr_order.specs.Sequences.{HandlesEvent, MeetsInstance, Sequence}
 use Rattle.gr_shadow.specs.Clashes.{ClockedAccess}
 use Rattle.gr_world.specs.declared.step.Step.{Step}
