@@ -105,7 +105,6 @@ impl<A: Allocator + Copy> World<A> {
         ensures made { IfOk result (λ w. w ≡ new_world shape config) }
         ensures world { IfOk result (λ w. IsWorld w) }
     {
-        let _groups = shape.groups();
         let intakes = queues_of(alloc, config.queues(), config.capacity())?;
         let workers = crew_of(alloc, config.workers(), config.capacity())?;
         let sent = Lanes::new(alloc, shape.copy()?)?;
