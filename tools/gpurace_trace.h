@@ -1,21 +1,36 @@
 /*
- * Writing traces for gpurace, version 1 of the stream (docs/FORMATS.md, "Stream").
+ * Writing traces for gpurace, version 1 of the stream (docs/FORMATS.md, "Stream"). docs/PRODUCER.md says how a runtime makes a
+ * trace with it; tools/producer_threads.c is one that does.
  *
  * A trace of a launch is one stream for each of its work-groups: a header, the records of the group's work-items, and an
- * end. Encode each with the functions below and write the bytes to a file; gpurace joins streams with `cat`.
+ * end. Write each to a file of its own; gpurace joins streams with `cat`.
  *
- *     unsigned char header[GPURACE_HEADER_BYTES], record[GPURACE_RECORD_BYTES];
- *     gpurace_encode_header(header, 0, 2, 7);
- *     gpurace_encode_plain(record, GPURACE_WRITE, GPURACE_GLOBAL, 0, 16);
- *     gpurace_encode_end(record, 0);
+ *     struct gpurace_stream stream;
+ *     gpurace_stream_open(&stream, gpurace_write_file, file, 0, 2, 7);      group 0 has 2 items, launch 7
+ *     gpurace_plain(&stream, 0, GPURACE_WRITE, GPURACE_GLOBAL, 16);         item 0 writes word 16
+ *     gpurace_plain(&stream, 1, GPURACE_READ, GPURACE_GLOBAL, 16);
+ *     gpurace_stream_close(&stream, 0);
  *
- * The functions do not check their arguments: gpurace refuses what is out of range, and says where.
+ * Each call answers GPURACE_OK, or the first thing that is wrong with it, and has then written nothing and counted nothing.
+ * Numbers are taken as 64 bits and refused where they are out of range; none is cut to fit. A stream in which a call was
+ * refused lacks a record, so its end says that records were lost, whether the caller looked at the answers or not. After
+ * GPURACE_WRITE_FAILED a part of a record may stand there, and the stream takes nothing more.
+ *
+ * Threads: the functions have no state but the stream that they are given. Streams are independent of each other; calls on one
+ * stream must not overlap, so work-items on several threads share the stream of their group under one lock.
+ * Errors: errno is neither read nor set here; after GPURACE_WRITE_FAILED it is as the write function left it.
+ *
+ * C99 or later, C++11 or later. Nothing but the standard library is needed, and no memory is allocated.
  */
 #ifndef GPURACE_TRACE_H
 #define GPURACE_TRACE_H
 
+/* The version of this header; version 1 was the set of functions gpurace_encode_.., which did not check their arguments. */
+#define GPURACE_TRACE_VERSION 2
+
 #include <limits.h>
 #include <stdint.h>
+#include <stdio.h>
 #include <string.h>
 
 #define GPURACE_HEADER_BYTES 12
@@ -24,7 +39,11 @@
 /* Limits: groups and items are counted from 0, records include the end. */
 #define GPURACE_MOST_GROUPS 64
 #define GPURACE_MOST_ITEMS 256
+#define GPURACE_MOST_ITEMS_OF_LAUNCH 2048
 #define GPURACE_MOST_RECORDS 16777216
+
+/* How many releases one record has room for. */
+#define GPURACE_NAMES_OF_RECORD 1
 
 enum gpurace_kind {
     GPURACE_READ = 0,
@@ -41,113 +60,315 @@ enum gpurace_space { GPURACE_GLOBAL = 0, GPURACE_LOCAL = 1 };
 /* The flags of a barrier; both may be given. */
 enum gpurace_flags { GPURACE_NO_FENCE = 0, GPURACE_GLOBAL_FENCE = 1, GPURACE_LOCAL_FENCE = 2 };
 
-/* memory_scope_work_group and memory_scope_device */
+/* memory_scope_work_group and memory_scope_device. On local words write GPURACE_GROUP. */
 enum gpurace_scope { GPURACE_GROUP = 1, GPURACE_DEVICE = 2 };
 
 /* memory_order_seq_cst is written as the acquire, the release or both that the operation is. */
 enum gpurace_order { GPURACE_RELAXED = 1, GPURACE_ACQUIRE = 2, GPURACE_RELEASE = 3, GPURACE_BOTH = 4 };
 
-/*
- * The layout of a record in a file. Every field is little endian, whatever the machine is, so fields of two and four bytes
- * are bytes here; the checks below hold on every compiler that builds this header.
- */
-struct gpurace_header {
-    unsigned char magic[4];   /* 'G' 'R' 'T' '1' */
-    unsigned char group[2];
-    unsigned char items[2];
-    unsigned char launch[4];
+/* What a call answers. */
+enum gpurace_status {
+    GPURACE_OK = 0,
+    GPURACE_NOT_OPEN,
+    GPURACE_BAD_GROUP,
+    GPURACE_BAD_ITEMS,
+    GPURACE_BAD_LAUNCH,
+    GPURACE_BAD_ITEM,
+    GPURACE_BAD_KIND,
+    GPURACE_BAD_SPACE,
+    GPURACE_BAD_SCOPE,
+    GPURACE_BAD_WORD,
+    GPURACE_BAD_SITE,
+    GPURACE_BAD_FLAGS,
+    GPURACE_BAD_NAME,
+    GPURACE_TOO_MANY_RECORDS,
+    GPURACE_WRITE_FAILED
 };
 
-struct gpurace_record {
-    unsigned char kind;
-    unsigned char place;      /* the space; of a barrier its flags; of an end 1 where it was cut */
-    unsigned char scope;
-    unsigned char order;
-    unsigned char item[2];
-    unsigned char zero[2];
-    unsigned char word[4];    /* the word; of a barrier its site */
-    unsigned char name_group[2];
-    unsigned char name_item[2];
-    unsigned char name_release[4];
+/* Writes all the bytes and answers 1, or answers 0. */
+typedef int gpurace_write(void *context, const unsigned char *bytes, size_t length);
+
+/*
+ * The name of a release: the group and item that did it, and its number among that item's records with order release or both,
+ * from 0, over all words and both memories.
+ */
+struct gpurace_name {
+    uint64_t group, item, release;
 };
 
-/* Checks at compile time: an array of a negative size is refused. */
-#define GPURACE_CHECK(name, holds) typedef char gpurace_check_##name[(holds) ? 1 : -1]
-GPURACE_CHECK(bytes_have_eight_bits, CHAR_BIT == 8);
-GPURACE_CHECK(header_size, sizeof(struct gpurace_header) == GPURACE_HEADER_BYTES);
-GPURACE_CHECK(record_size, sizeof(struct gpurace_record) == GPURACE_RECORD_BYTES);
+/* The stream of one group. Its fields are to be read alone: `records` counts what was written, `releases` those of each item. */
+struct gpurace_stream {
+    gpurace_write *write;
+    void *context;
+    uint32_t group, items, records;
+    uint32_t releases[GPURACE_MOST_ITEMS];
+    unsigned char is_open, is_broken, lost;
+};
 
-static inline void gpurace_put16(unsigned char *bytes, uint16_t number) {
-    bytes[0] = (unsigned char)(number & 0xff);
-    bytes[1] = (unsigned char)(number >> 8);
+/* An access, as the checks and the spelling of a record see it. */
+struct gpurace_access {
+    enum gpurace_kind kind;
+    enum gpurace_space space;
+    unsigned scope, order;
+    uint64_t item, word;
+};
+
+/* Checked at compile time: an array of a negative size is refused. */
+typedef char gpurace_bytes_have_eight_bits[CHAR_BIT == 8 ? 1 : -1];
+
+/* What a status says, as a sentence without its full stop. */
+static inline const char *gpurace_status_text(enum gpurace_status status) {
+    switch (status) {
+    case GPURACE_OK: return "done";
+    case GPURACE_NOT_OPEN: return "the stream is not open";
+    case GPURACE_BAD_GROUP: return "the group is not 0 to 63";
+    case GPURACE_BAD_ITEMS: return "the number of items is not 1 to 256";
+    case GPURACE_BAD_LAUNCH: return "the launch is not below 2^32";
+    case GPURACE_BAD_ITEM: return "the item is not below the stream's number of items";
+    case GPURACE_BAD_KIND: return "the kind is not one that the call writes";
+    case GPURACE_BAD_SPACE: return "the space is neither global nor local";
+    case GPURACE_BAD_SCOPE: return "the scope is neither group nor device";
+    case GPURACE_BAD_WORD: return "the word is not below 2^32";
+    case GPURACE_BAD_SITE: return "the site is not below 2^32";
+    case GPURACE_BAD_FLAGS: return "the flags are not 0 to 3";
+    case GPURACE_BAD_NAME: return "a name's group is not below 64, its item not below 256, or its release not below 2^24";
+    case GPURACE_TOO_MANY_RECORDS: return "the stream has no room for the record and its end";
+    case GPURACE_WRITE_FAILED: return "the bytes could not be written";
+    }
+    return "no status of this header";
 }
 
-static inline void gpurace_put32(unsigned char *bytes, uint32_t number) {
-    gpurace_put16(bytes, (uint16_t)(number & 0xffff));
-    gpurace_put16(bytes + 2, (uint16_t)(number >> 16));
+/* A write function for streams in files: the context is the FILE. */
+static inline int gpurace_write_file(void *context, const unsigned char *bytes, size_t length) {
+    return fwrite(bytes, 1, length, (FILE *)context) == length;
 }
 
-/* The header of the stream of a group: its number, how many items it has, and the number of the launch. */
-static inline void gpurace_encode_header(unsigned char bytes[GPURACE_HEADER_BYTES], uint16_t group, uint16_t items,
-                                         uint32_t launch) {
-    struct gpurace_header header;
-    memcpy(header.magic, "GRT1", 4);
-    gpurace_put16(header.group, group);
-    gpurace_put16(header.items, items);
-    gpurace_put32(header.launch, launch);
-    memcpy(bytes, &header, GPURACE_HEADER_BYTES);
+static inline void gpurace_put(unsigned char *bytes, uint64_t number, int length) {
+    for (int at = 0; at < length; at++)
+        bytes[at] = (unsigned char)(number >> (8 * at) & 0xff);
 }
 
-/* A record without a name, from its fields. */
-static inline void gpurace_encode_fields(unsigned char bytes[GPURACE_RECORD_BYTES], unsigned kind, unsigned place,
-                                         unsigned scope, unsigned order, uint16_t item, uint32_t word) {
-    struct gpurace_record record;
-    record.kind = (unsigned char)kind;
-    record.place = (unsigned char)place;
-    record.scope = (unsigned char)scope;
-    record.order = (unsigned char)order;
-    gpurace_put16(record.item, item);
-    gpurace_put16(record.zero, 0);
-    gpurace_put32(record.word, word);
-    memset(record.name_group, 0xff, 2);
-    memset(record.name_item, 0xff, 2);
-    memset(record.name_release, 0xff, 4);
-    memcpy(bytes, &record, GPURACE_RECORD_BYTES);
+/* Remembers that the stream lacks a record. */
+static inline enum gpurace_status gpurace_refuse(struct gpurace_stream *stream, enum gpurace_status status) {
+    stream->lost = 1;
+    return status;
 }
 
-/* A plain read or write (GPURACE_READ, GPURACE_WRITE) of a 4-byte word. */
-static inline void gpurace_encode_plain(unsigned char bytes[GPURACE_RECORD_BYTES], enum gpurace_kind kind,
-                                        enum gpurace_space space, uint16_t item, uint32_t word) {
-    gpurace_encode_fields(bytes, kind, space, 0, 0, item, word);
+static inline enum gpurace_status gpurace_send(struct gpurace_stream *stream, const unsigned char *bytes, size_t length) {
+    if (stream->write(stream->context, bytes, length))
+        return GPURACE_OK;
+    stream->is_broken = 1;
+    return GPURACE_WRITE_FAILED;
 }
 
-/* An atomic load, store or read-modify-write of a 4-byte word. On local words write GPURACE_GROUP. */
-static inline void gpurace_encode_atomic(unsigned char bytes[GPURACE_RECORD_BYTES], enum gpurace_kind kind,
-                                         enum gpurace_space space, enum gpurace_scope scope, enum gpurace_order order,
-                                         uint16_t item, uint32_t word) {
-    gpurace_encode_fields(bytes, kind, space, scope, order, item, word);
+/* Whether the stream takes records of this item, and has room for so many of them and its end. */
+static inline enum gpurace_status gpurace_ready(const struct gpurace_stream *stream, uint64_t item, uint64_t records) {
+    if (!stream->is_open)
+        return GPURACE_NOT_OPEN;
+    if (stream->is_broken)
+        return GPURACE_WRITE_FAILED;
+    if (item >= stream->items)
+        return GPURACE_BAD_ITEM;
+    if (records >= (uint64_t)GPURACE_MOST_RECORDS - stream->records)
+        return GPURACE_TOO_MANY_RECORDS;
+    return GPURACE_OK;
+}
+
+/* Whether an access may be written in so many records. */
+static inline enum gpurace_status gpurace_check(const struct gpurace_stream *stream, const struct gpurace_access *access,
+                                                uint64_t records) {
+    enum gpurace_status status = gpurace_ready(stream, access->item, records);
+    if (status != GPURACE_OK)
+        return status;
+    if (access->space != GPURACE_GLOBAL && access->space != GPURACE_LOCAL)
+        return GPURACE_BAD_SPACE;
+    if (access->kind >= GPURACE_LOAD && access->scope != GPURACE_GROUP && access->scope != GPURACE_DEVICE)
+        return GPURACE_BAD_SCOPE;
+    return access->word > UINT32_MAX ? GPURACE_BAD_WORD : GPURACE_OK;
+}
+
+static inline int gpurace_is_name(const struct gpurace_name *name) {
+    return name->group < GPURACE_MOST_GROUPS && name->item < GPURACE_MOST_ITEMS && name->release < GPURACE_MOST_RECORDS;
+}
+
+/* Writes a record; `place` is its second byte, the name may be missing. */
+static inline enum gpurace_status gpurace_put_record(struct gpurace_stream *stream, const struct gpurace_access *access,
+                                                     unsigned place, const struct gpurace_name *name) {
+    unsigned char bytes[GPURACE_RECORD_BYTES];
+    bytes[0] = (unsigned char)access->kind;
+    bytes[1] = (unsigned char)place;
+    bytes[2] = (unsigned char)access->scope;
+    bytes[3] = (unsigned char)access->order;
+    gpurace_put(bytes + 4, access->item, 2);
+    gpurace_put(bytes + 6, 0, 2);
+    gpurace_put(bytes + 8, access->word, 4);
+    memset(bytes + 12, 0xff, 8);
+    if (name) {
+        gpurace_put(bytes + 12, name->group, 2);
+        gpurace_put(bytes + 14, name->item, 2);
+        gpurace_put(bytes + 16, name->release, 4);
+    }
+    stream->records++;
+    return gpurace_send(stream, bytes, sizeof bytes);
 }
 
 /*
- * Names, in an encoded acquire, the release from which its value comes: the group and item that did it, and its number
- * among that item's records with order release or both, from 0.
+ * Writes the records of an acquire, all of its names given. This is the one place that knows how many names a record has room
+ * for: those beyond that are taken by acquire loads of the same word, directly before it.
  */
-static inline void gpurace_name_release(unsigned char bytes[GPURACE_RECORD_BYTES], uint16_t group, uint16_t item,
-                                        uint32_t release) {
-    gpurace_put16(bytes + 12, group);
-    gpurace_put16(bytes + 14, item);
-    gpurace_put32(bytes + 16, release);
+static inline enum gpurace_status gpurace_put_acquire(struct gpurace_stream *stream, const struct gpurace_access *access,
+                                                      const struct gpurace_name *names, size_t count) {
+    struct gpurace_access added = *access;
+    enum gpurace_status status = GPURACE_OK;
+    added.kind = GPURACE_LOAD;
+    added.order = GPURACE_ACQUIRE;
+    for (size_t at = 0; at + GPURACE_NAMES_OF_RECORD < count && status == GPURACE_OK; at++)
+        status = gpurace_put_record(stream, &added, (unsigned)added.space, names + at);
+    if (status != GPURACE_OK)
+        return status;
+    return gpurace_put_record(stream, access, (unsigned)access->space, count ? names + count - 1 : NULL);
+}
+
+/* How many records an acquire with so many names is. */
+static inline uint64_t gpurace_records_of_acquire(size_t count) {
+    return count > GPURACE_NAMES_OF_RECORD ? count - GPURACE_NAMES_OF_RECORD + 1 : 1;
+}
+
+static inline enum gpurace_status gpurace_check_names(const struct gpurace_name *names, size_t count) {
+    for (size_t at = 0; at < count; at++)
+        if (!gpurace_is_name(names + at))
+            return GPURACE_BAD_NAME;
+    return GPURACE_OK;
+}
+
+/* Counts a release of the item, and tells its name where the caller asks for it. */
+static inline void gpurace_count_release(struct gpurace_stream *stream, uint64_t item, struct gpurace_name *name) {
+    uint32_t release = stream->releases[item]++;
+    if (name) {
+        name->group = stream->group;
+        name->item = item;
+        name->release = release;
+    }
+}
+
+/* Begins the stream of a group (0 to 63) of so many items (1 to 256) and writes its header. All streams of a launch give the
+ * same number of it. */
+static inline enum gpurace_status gpurace_stream_open(struct gpurace_stream *stream, gpurace_write *write, void *context,
+                                                      uint64_t group, uint64_t items, uint64_t launch) {
+    unsigned char bytes[GPURACE_HEADER_BYTES];
+    memset(stream, 0, sizeof *stream);
+    if (group >= GPURACE_MOST_GROUPS)
+        return GPURACE_BAD_GROUP;
+    if (items < 1 || items > GPURACE_MOST_ITEMS)
+        return GPURACE_BAD_ITEMS;
+    if (launch > UINT32_MAX)
+        return GPURACE_BAD_LAUNCH;
+    stream->write = write;
+    stream->context = context;
+    stream->group = (uint32_t)group;
+    stream->items = (uint32_t)items;
+    stream->is_open = 1;
+    memcpy(bytes, "GRT1", 4);
+    gpurace_put(bytes + 4, group, 2);
+    gpurace_put(bytes + 6, items, 2);
+    gpurace_put(bytes + 8, launch, 4);
+    return gpurace_send(stream, bytes, sizeof bytes);
+}
+
+/* A plain read or write (GPURACE_READ, GPURACE_WRITE) of a word. */
+static inline enum gpurace_status gpurace_plain(struct gpurace_stream *stream, uint64_t item, enum gpurace_kind kind,
+                                                enum gpurace_space space, uint64_t word) {
+    const struct gpurace_access access = {kind, space, 0, 0, item, word};
+    if (kind != GPURACE_READ && kind != GPURACE_WRITE)
+        return gpurace_refuse(stream, GPURACE_BAD_KIND);
+    const enum gpurace_status status = gpurace_check(stream, &access, 1);
+    return status == GPURACE_OK ? gpurace_put_record(stream, &access, (unsigned)space, NULL) : gpurace_refuse(stream, status);
+}
+
+/* A relaxed atomic load, store or read-modify-write (GPURACE_LOAD, GPURACE_STORE, GPURACE_RMW) of a word. */
+static inline enum gpurace_status gpurace_atomic(struct gpurace_stream *stream, uint64_t item, enum gpurace_kind kind,
+                                                 enum gpurace_space space, enum gpurace_scope scope, uint64_t word) {
+    const struct gpurace_access access = {kind, space, (unsigned)scope, GPURACE_RELAXED, item, word};
+    if (kind != GPURACE_LOAD && kind != GPURACE_STORE && kind != GPURACE_RMW)
+        return gpurace_refuse(stream, GPURACE_BAD_KIND);
+    const enum gpurace_status status = gpurace_check(stream, &access, 1);
+    return status == GPURACE_OK ? gpurace_put_record(stream, &access, (unsigned)space, NULL) : gpurace_refuse(stream, status);
+}
+
+/* A store or read-modify-write (GPURACE_STORE, GPURACE_RMW) with order release. Its name is told where `name` is not NULL. */
+static inline enum gpurace_status gpurace_release(struct gpurace_stream *stream, uint64_t item, enum gpurace_kind kind,
+                                                  enum gpurace_space space, enum gpurace_scope scope, uint64_t word,
+                                                  struct gpurace_name *name) {
+    const struct gpurace_access access = {kind, space, (unsigned)scope, GPURACE_RELEASE, item, word};
+    if (kind != GPURACE_STORE && kind != GPURACE_RMW)
+        return gpurace_refuse(stream, GPURACE_BAD_KIND);
+    const enum gpurace_status status = gpurace_check(stream, &access, 1);
+    if (status != GPURACE_OK)
+        return gpurace_refuse(stream, status);
+    gpurace_count_release(stream, item, name);
+    return gpurace_put_record(stream, &access, (unsigned)space, NULL);
+}
+
+/*
+ * A load or read-modify-write (GPURACE_LOAD, GPURACE_RMW) with order acquire, whose value belongs to the release sequences of
+ * the named releases; none, where it belongs to no release's.
+ */
+static inline enum gpurace_status gpurace_acquire(struct gpurace_stream *stream, uint64_t item, enum gpurace_kind kind,
+                                                  enum gpurace_space space, enum gpurace_scope scope, uint64_t word,
+                                                  const struct gpurace_name *names, size_t count) {
+    const struct gpurace_access access = {kind, space, (unsigned)scope, GPURACE_ACQUIRE, item, word};
+    if (kind != GPURACE_LOAD && kind != GPURACE_RMW)
+        return gpurace_refuse(stream, GPURACE_BAD_KIND);
+    enum gpurace_status status = gpurace_check(stream, &access, gpurace_records_of_acquire(count));
+    if (status == GPURACE_OK)
+        status = gpurace_check_names(names, count);
+    return status == GPURACE_OK ? gpurace_put_acquire(stream, &access, names, count) : gpurace_refuse(stream, status);
+}
+
+/*
+ * A read-modify-write with order acquire and release: it takes from the named releases, and is then a release itself, whose
+ * name is told where `name` is not NULL. `name` may be one of `names`.
+ */
+static inline enum gpurace_status gpurace_acquire_release(struct gpurace_stream *stream, uint64_t item,
+                                                          enum gpurace_space space, enum gpurace_scope scope, uint64_t word,
+                                                          const struct gpurace_name *names, size_t count,
+                                                          struct gpurace_name *name) {
+    const struct gpurace_access access = {GPURACE_RMW, space, (unsigned)scope, GPURACE_BOTH, item, word};
+    enum gpurace_status status = gpurace_check(stream, &access, gpurace_records_of_acquire(count));
+    if (status == GPURACE_OK)
+        status = gpurace_check_names(names, count);
+    if (status != GPURACE_OK)
+        return gpurace_refuse(stream, status);
+    status = gpurace_put_acquire(stream, &access, names, count);
+    gpurace_count_release(stream, item, name);
+    return status;
 }
 
 /* A work-group barrier. The site is any number that tells the barriers of the kernel's text apart. */
-static inline void gpurace_encode_barrier(unsigned char bytes[GPURACE_RECORD_BYTES], uint16_t item, uint32_t site,
-                                          unsigned flags) {
-    gpurace_encode_fields(bytes, GPURACE_BARRIER, flags, 0, 0, item, site);
+static inline enum gpurace_status gpurace_barrier(struct gpurace_stream *stream, uint64_t item, uint64_t site, uint64_t flags) {
+    const struct gpurace_access barrier = {GPURACE_BARRIER, GPURACE_GLOBAL, 0, 0, item, site};
+    const enum gpurace_status status = gpurace_ready(stream, item, 1);
+    if (status != GPURACE_OK)
+        return gpurace_refuse(stream, status);
+    if (site > UINT32_MAX)
+        return gpurace_refuse(stream, GPURACE_BAD_SITE);
+    if (flags > (GPURACE_GLOBAL_FENCE | GPURACE_LOCAL_FENCE))
+        return gpurace_refuse(stream, GPURACE_BAD_FLAGS);
+    return gpurace_put_record(stream, &barrier, (unsigned)flags, NULL);
 }
 
-/* The end of a stream; cut is 1 where records before it were lost. */
-static inline void gpurace_encode_end(unsigned char bytes[GPURACE_RECORD_BYTES], int cut) {
-    gpurace_encode_fields(bytes, GPURACE_END, cut ? 1 : 0, 0, 0, 0, 0);
+/*
+ * Writes the end of the stream and closes it: no record comes behind. `cut` is not 0 where records before it were lost, which
+ * is also written where a call on this stream was refused. The file under the stream is the caller's to close.
+ */
+static inline enum gpurace_status gpurace_stream_close(struct gpurace_stream *stream, int cut) {
+    const struct gpurace_access end = {GPURACE_END, GPURACE_GLOBAL, 0, 0, 0, 0};
+    if (!stream->is_open)
+        return GPURACE_NOT_OPEN;
+    stream->is_open = 0;
+    if (stream->is_broken)
+        return GPURACE_WRITE_FAILED;
+    return gpurace_put_record(stream, &end, cut || stream->lost ? 1 : 0, NULL);
 }
 
 #endif

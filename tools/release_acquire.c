@@ -3,47 +3,30 @@
  * second acquires word 20 from that release and reads word 16.
  */
 #include "gpurace_trace.h"
-#include <stdio.h>
 
-static unsigned char header[GPURACE_HEADER_BYTES];
-static unsigned char record[GPURACE_RECORD_BYTES];
-
-static int put(const unsigned char *bytes, size_t length) {
-    return fwrite(bytes, 1, length, stdout) == length;
+/* Tells what was refused. */
+static int is_done(enum gpurace_status status) {
+    if (status != GPURACE_OK)
+        fprintf(stderr, "release_acquire: %s\n", gpurace_status_text(status));
+    return status == GPURACE_OK;
 }
 
-static int put_record(void) {
-    return put(record, sizeof record);
+static int put_writer(struct gpurace_stream *stream, struct gpurace_name *name) {
+    return is_done(gpurace_stream_open(stream, gpurace_write_file, stdout, 0, 1, 7)) &&
+           is_done(gpurace_plain(stream, 0, GPURACE_WRITE, GPURACE_GLOBAL, 16)) &&
+           is_done(gpurace_release(stream, 0, GPURACE_STORE, GPURACE_GLOBAL, GPURACE_DEVICE, 20, name)) &&
+           is_done(gpurace_stream_close(stream, 0));
 }
 
-static int put_end(void) {
-    gpurace_encode_end(record, 0);
-    return put_record();
-}
-
-static int put_writer(void) {
-    gpurace_encode_header(header, 0, 1, 7);
-    if (!put(header, sizeof header))
-        return 0;
-    gpurace_encode_plain(record, GPURACE_WRITE, GPURACE_GLOBAL, 0, 16);
-    if (!put_record())
-        return 0;
-    gpurace_encode_atomic(record, GPURACE_STORE, GPURACE_GLOBAL, GPURACE_DEVICE, GPURACE_RELEASE, 0, 20);
-    return put_record() && put_end();
-}
-
-static int put_reader(void) {
-    gpurace_encode_header(header, 1, 1, 7);
-    if (!put(header, sizeof header))
-        return 0;
-    gpurace_encode_atomic(record, GPURACE_LOAD, GPURACE_GLOBAL, GPURACE_DEVICE, GPURACE_ACQUIRE, 0, 20);
-    gpurace_name_release(record, 0, 0, 0);
-    if (!put_record())
-        return 0;
-    gpurace_encode_plain(record, GPURACE_READ, GPURACE_GLOBAL, 0, 16);
-    return put_record() && put_end();
+static int put_reader(struct gpurace_stream *stream, const struct gpurace_name *name) {
+    return is_done(gpurace_stream_open(stream, gpurace_write_file, stdout, 1, 1, 7)) &&
+           is_done(gpurace_acquire(stream, 0, GPURACE_LOAD, GPURACE_GLOBAL, GPURACE_DEVICE, 20, name, 1)) &&
+           is_done(gpurace_plain(stream, 0, GPURACE_READ, GPURACE_GLOBAL, 16)) &&
+           is_done(gpurace_stream_close(stream, 0));
 }
 
 int main(void) {
-    return put_writer() && put_reader() && fflush(stdout) == 0 ? 0 : 1;
+    struct gpurace_stream stream;
+    struct gpurace_name name;
+    return put_writer(&stream, &name) && put_reader(&stream, &name) && fflush(stdout) == 0 ? 0 : 1;
 }

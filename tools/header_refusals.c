@@ -1,0 +1,167 @@
+/*
+ * What gpurace_trace.h refuses: each call with one argument out of range answers which one it is, and writes and counts
+ * nothing; and the ends of streams. Prints what is not as expected, and its status is then 1. C and C++.
+ */
+#include "gpurace_trace.h"
+
+struct sink {
+    size_t length, room;
+    unsigned char last[GPURACE_RECORD_BYTES];
+};
+
+static int failures = 0;
+
+/* Keeps the last bytes, and fails where its room is used up. */
+static int put(void *context, const unsigned char *bytes, size_t length) {
+    struct sink *sink = (struct sink *)context;
+    if (length > sink->room)
+        return 0;
+    sink->room -= length;
+    sink->length += length;
+    memcpy(sink->last, bytes, length);
+    return 1;
+}
+
+static void expect(const char *what, enum gpurace_status status, enum gpurace_status wanted) {
+    if (status == wanted)
+        return;
+    printf("%s: '%s', and not '%s'\n", what, gpurace_status_text(status), gpurace_status_text(wanted));
+    failures++;
+}
+
+static void expect_number(const char *what, uint64_t number, uint64_t wanted) {
+    if (number == wanted)
+        return;
+    printf("%s: %lu, and not %lu\n", what, (unsigned long)number, (unsigned long)wanted);
+    failures++;
+}
+
+static const uint64_t past_32_bits = 4294967296u;
+
+static void refuses_headers(void) {
+    struct sink sink = {0, 1000, {0}};
+    struct gpurace_stream stream;
+    const size_t wide_group = 65536;
+    expect("group 65536", gpurace_stream_open(&stream, put, &sink, wide_group, 1, 7), GPURACE_BAD_GROUP);
+    expect("group 64", gpurace_stream_open(&stream, put, &sink, 64, 1, 7), GPURACE_BAD_GROUP);
+    expect("group 2^32", gpurace_stream_open(&stream, put, &sink, past_32_bits, 1, 7), GPURACE_BAD_GROUP);
+    expect("no items", gpurace_stream_open(&stream, put, &sink, 0, 0, 7), GPURACE_BAD_ITEMS);
+    expect("257 items", gpurace_stream_open(&stream, put, &sink, 0, 257, 7), GPURACE_BAD_ITEMS);
+    expect("65792 items", gpurace_stream_open(&stream, put, &sink, 0, 65792, 7), GPURACE_BAD_ITEMS);
+    expect("launch 2^32", gpurace_stream_open(&stream, put, &sink, 0, 1, past_32_bits), GPURACE_BAD_LAUNCH);
+    expect("a stream that was refused", gpurace_plain(&stream, 0, GPURACE_READ, GPURACE_GLOBAL, 0), GPURACE_NOT_OPEN);
+    expect("its end", gpurace_stream_close(&stream, 0), GPURACE_NOT_OPEN);
+    expect_number("bytes of refused headers", sink.length, 0);
+    expect("the greatest header", gpurace_stream_open(&stream, put, &sink, 63, 256, past_32_bits - 1), GPURACE_OK);
+    expect_number("bytes of a header", sink.length, GPURACE_HEADER_BYTES);
+}
+
+static void refuses_accesses(struct gpurace_stream *s) {
+    const enum gpurace_space space = GPURACE_GLOBAL;
+    const enum gpurace_scope device = GPURACE_DEVICE, no_scope = (enum gpurace_scope)0;
+#ifndef __cplusplus /* where the type has no third value */
+    const enum gpurace_space no_space = (enum gpurace_space)2;
+    expect("plain space", gpurace_plain(s, 0, GPURACE_READ, no_space, 16), GPURACE_BAD_SPACE);
+    expect("atomic space", gpurace_atomic(s, 0, GPURACE_RMW, no_space, device, 16), GPURACE_BAD_SPACE);
+#endif
+    expect("plain load", gpurace_plain(s, 0, GPURACE_LOAD, space, 16), GPURACE_BAD_KIND);
+    expect("plain item 2", gpurace_plain(s, 2, GPURACE_READ, space, 16), GPURACE_BAD_ITEM);
+    expect("plain item 65536", gpurace_plain(s, 65536, GPURACE_READ, space, 16), GPURACE_BAD_ITEM);
+    expect("plain word", gpurace_plain(s, 0, GPURACE_READ, space, past_32_bits), GPURACE_BAD_WORD);
+    expect("atomic read", gpurace_atomic(s, 0, GPURACE_READ, space, device, 16), GPURACE_BAD_KIND);
+    expect("atomic item", gpurace_atomic(s, 2, GPURACE_RMW, space, device, 16), GPURACE_BAD_ITEM);
+    expect("atomic scope", gpurace_atomic(s, 0, GPURACE_RMW, space, no_scope, 16), GPURACE_BAD_SCOPE);
+    expect("atomic word", gpurace_atomic(s, 0, GPURACE_RMW, space, device, past_32_bits), GPURACE_BAD_WORD);
+    expect("barrier item", gpurace_barrier(s, 2, 1, 3), GPURACE_BAD_ITEM);
+    expect("barrier site", gpurace_barrier(s, 0, past_32_bits, 3), GPURACE_BAD_SITE);
+    expect("barrier flags", gpurace_barrier(s, 0, 1, 4), GPURACE_BAD_FLAGS);
+}
+
+static void refuses_hand_overs(struct gpurace_stream *s) {
+    const enum gpurace_space space = GPURACE_GLOBAL;
+    const enum gpurace_scope device = GPURACE_DEVICE, no_scope = (enum gpurace_scope)3;
+    const struct gpurace_name names[] = {{64, 0, 0}, {0, 256, 0}, {0, 0, 16777216}, {past_32_bits, 0, 0}};
+    const struct gpurace_name good = {63, 255, 16777215};
+    struct gpurace_name name = {1, 2, 3};
+    expect("release of a load", gpurace_release(s, 0, GPURACE_LOAD, space, device, 16, &name), GPURACE_BAD_KIND);
+    expect("release item", gpurace_release(s, 2, GPURACE_STORE, space, device, 16, &name), GPURACE_BAD_ITEM);
+    expect("release scope", gpurace_release(s, 0, GPURACE_STORE, space, no_scope, 16, &name), GPURACE_BAD_SCOPE);
+    expect("release word", gpurace_release(s, 0, GPURACE_STORE, space, device, past_32_bits, &name), GPURACE_BAD_WORD);
+    expect("acquire of a store", gpurace_acquire(s, 0, GPURACE_STORE, space, device, 16, &good, 1), GPURACE_BAD_KIND);
+    expect("acquire item", gpurace_acquire(s, 2, GPURACE_LOAD, space, device, 16, &good, 1), GPURACE_BAD_ITEM);
+    expect("both item", gpurace_acquire_release(s, 2, space, device, 16, &good, 1, &name), GPURACE_BAD_ITEM);
+    for (size_t at = 0; at < sizeof names / sizeof *names; at++) {
+        const struct gpurace_name two[] = {good, names[at]};
+        expect("acquire name", gpurace_acquire(s, 0, GPURACE_LOAD, space, device, 16, two, 2), GPURACE_BAD_NAME);
+        expect("both name", gpurace_acquire_release(s, 0, space, device, 16, two, 2, &name), GPURACE_BAD_NAME);
+    }
+    expect_number("name of a refused release", name.group * 100 + name.item * 10 + name.release, 123);
+    expect_number("releases after refused ones", s->releases[0], 0);
+}
+
+static void refuses_records(void) {
+    struct sink sink = {0, 1000, {0}};
+    struct gpurace_stream stream;
+    expect("header", gpurace_stream_open(&stream, put, &sink, 0, 2, 7), GPURACE_OK);
+    refuses_accesses(&stream);
+    refuses_hand_overs(&stream);
+    expect_number("bytes after refused records", sink.length, GPURACE_HEADER_BYTES);
+    expect_number("records after refused ones", stream.records, 0);
+    expect("end", gpurace_stream_close(&stream, 0), GPURACE_OK);
+    expect_number("the end says that records were lost", sink.last[1], 1);
+    expect("record behind the end", gpurace_plain(&stream, 0, GPURACE_READ, GPURACE_GLOBAL, 16), GPURACE_NOT_OPEN);
+    expect("second end", gpurace_stream_close(&stream, 0), GPURACE_NOT_OPEN);
+}
+
+/* A stream has room for 16,777,216 records, its end among them; what does not fit is refused whole. */
+static void keeps_room_for_the_end(void) {
+    struct sink sink = {0, 400000000, {0}};
+    struct gpurace_stream stream;
+    const struct gpurace_name names[] = {{0, 0, 0}, {0, 1, 0}};
+    const enum gpurace_scope device = GPURACE_DEVICE;
+    expect("header", gpurace_stream_open(&stream, put, &sink, 0, 2, 7), GPURACE_OK);
+    for (uint32_t at = 0; at < GPURACE_MOST_RECORDS - 2; at++)
+        expect("record", gpurace_plain(&stream, 0, GPURACE_READ, GPURACE_GLOBAL, at), GPURACE_OK);
+    expect("two records", gpurace_acquire(&stream, 1, GPURACE_LOAD, GPURACE_GLOBAL, device, 4, names, 2),
+           GPURACE_TOO_MANY_RECORDS);
+    expect("the last one", gpurace_acquire(&stream, 1, GPURACE_LOAD, GPURACE_GLOBAL, device, 4, names, 1), GPURACE_OK);
+    expect("one more", gpurace_barrier(&stream, 1, 1, 3), GPURACE_TOO_MANY_RECORDS);
+    expect("end", gpurace_stream_close(&stream, 0), GPURACE_OK);
+    expect_number("records of a full stream", stream.records, GPURACE_MOST_RECORDS);
+    expect_number("bytes of a full stream", sink.length, 12 + 20 * (uint64_t)GPURACE_MOST_RECORDS);
+    expect_number("its end says that records were lost", sink.last[1], 1);
+}
+
+static void tells_names(void) {
+    struct sink sink = {0, 1000, {0}};
+    struct gpurace_stream stream;
+    struct gpurace_name name = {9, 9, 9};
+    const enum gpurace_scope device = GPURACE_DEVICE;
+    expect("header", gpurace_stream_open(&stream, put, &sink, 5, 2, 7), GPURACE_OK);
+    expect("release", gpurace_release(&stream, 1, GPURACE_STORE, GPURACE_GLOBAL, device, 16, NULL), GPURACE_OK);
+    expect("both", gpurace_acquire_release(&stream, 1, GPURACE_LOCAL, GPURACE_GROUP, 20, NULL, 0, &name), GPURACE_OK);
+    expect_number("the second release's name", name.group * 100 + name.item * 10 + name.release, 511);
+    expect("end", gpurace_stream_close(&stream, 0), GPURACE_OK);
+    expect_number("an end without losses", sink.last[1], 0);
+}
+
+static void fails_with_the_writer(void) {
+    struct sink sink = {0, 40, {0}};
+    struct gpurace_stream stream;
+    expect("header", gpurace_stream_open(&stream, put, &sink, 0, 1, 7), GPURACE_OK);
+    expect("record", gpurace_barrier(&stream, 0, 1, 3), GPURACE_OK);
+    expect("no room", gpurace_barrier(&stream, 0, 1, 3), GPURACE_WRITE_FAILED);
+    sink.room = 1000;
+    expect("behind it", gpurace_barrier(&stream, 0, 1, 3), GPURACE_WRITE_FAILED);
+    expect("its end", gpurace_stream_close(&stream, 0), GPURACE_WRITE_FAILED);
+    expect_number("bytes of a broken stream", sink.length, 32);
+}
+
+int main(void) {
+    refuses_headers();
+    refuses_records();
+    keeps_room_for_the_end();
+    tells_names();
+    fails_with_the_writer();
+    return failures == 0 ? 0 : 1;
+}
