@@ -1,0 +1,153 @@
+// What is kept of a kernel launch while it runs. Terms are those of docs/MODEL.md: a launch has work-groups, a group has
+// work-items, and a record says what one item did.
+#ifndef GPURACE_RECORDER_LAUNCH_H
+#define GPURACE_RECORDER_LAUNCH_H
+
+#include "../gpurace_trace.h"
+
+#include <algorithm>
+#include <array>
+#include <cstdint>
+#include <map>
+#include <string>
+#include <unordered_map>
+#include <utility>
+#include <vector>
+
+namespace gpurace {
+
+// A release operation: the number counts the item's release operations, whatever number of words each has.
+struct Release {
+    uint32_t group;
+    uint16_t item;
+    uint8_t scope;
+    uint32_t number;
+};
+
+struct Record {
+    uint64_t offset;    // in the buffer; of a barrier its site
+    uint32_t buffer;    // its number in the simulator's memory
+    uint32_t place;     // an index of Launch::places
+    uint32_t size;      // in bytes; of a barrier its flags
+    int32_t names;      // an index of Launch::names, or -1
+    uint16_t item;
+    uint8_t kind, space, scope, order; // as in gpurace_trace.h
+
+    bool is_access() const { return kind <= GPURACE_RMW; }
+    bool acquires() const { return order == GPURACE_ACQUIRE || order == GPURACE_BOTH; }
+    bool releases() const { return order == GPURACE_RELEASE || order == GPURACE_BOTH; }
+};
+
+struct Group {
+    uint32_t number = 0, items = 0;
+    bool is_kept = false;            // it is in the window that is recorded
+    bool has_copies = false;         // asynchronous copies, which one more item does
+    bool is_complete = false, is_full = false;
+    std::vector<Record> records;
+    std::vector<uint32_t> releases;  // of each item, its release operations so far
+    Record last_barrier{}, scratch{};
+    bool has_barrier = false;
+
+    // Keeps a record, and answers where it is: a group that is not kept, or is full, has its last one alone.
+    Record &keep(const Record &record) {
+        is_full = is_full || records.size() >= GPURACE_MOST_RECORDS - 1;
+        if (is_kept && !is_full) return records.emplace_back(record);
+        return scratch = record;
+    }
+    uint32_t streamed_items() const { return items + (has_copies ? 1 : 0); }
+};
+
+// A buffer, by its number in the simulator's memory. `bits` joins the offsets and sizes of all accesses to it.
+struct Buffer {
+    uint64_t bytes = 0, bits = 0;
+    std::string name;
+    uint64_t first = 0;              // its first word in the trace
+    uint32_t grain = 4;              // the bytes of a word of it
+
+    uint64_t words() const { return (bytes + grain - 1) / grain; }
+};
+
+struct Size {
+    uint64_t x = 1, y = 1, z = 1;
+    uint64_t count() const { return x * y * z; }
+    uint64_t index_of(uint64_t i, uint64_t j, uint64_t k) const { return i + x * (j + y * k); }
+};
+
+// What the report of this launch does not speak of.
+struct Losses {
+    uint64_t fences = 0, out_of_bounds = 0, unknown_orders = 0, names_outside_window = 0, failed_exchanges = 0,
+             accesses_of_parts_of_words = 0;
+    uint32_t out_of_bounds_place = 0;
+};
+
+struct Launch {
+    uint32_t number = 0;
+    std::string kernel, source;
+    Size global, local, groups;
+    uint64_t window_first = 0, window_count = 0;
+    std::map<uint32_t, Group> group;            // those that have begun, by their numbers in the launch
+    std::vector<std::string> places;
+    std::unordered_map<const void *, uint32_t> place_of;  // by instruction
+    std::unordered_map<const void *, uint32_t> site_of;   // by debug location
+    std::vector<uint32_t> site_places;                    // of each site, from 1, its place
+    std::vector<std::vector<Release>> names;
+    std::array<std::map<uint32_t, Buffer>, 2> buffers;    // by space, by number
+    Losses losses;
+
+    bool is_window() const { return window_count < groups.count(); }
+    bool is_in_window(uint64_t number) const { return number >= window_first && number - window_first < window_count; }
+};
+
+// The releases whose release sequences the value of each atomic word belongs to. The simulator runs one thing at a time, so
+// the order in which it tells of accesses is the order in which values change.
+class Sequences {
+public:
+    // 0 for global memory or 1 more than the group, and the address
+    using Word = std::pair<uint64_t, uint64_t>;
+
+    std::vector<Release> heads(const Word &word) const {
+        auto found = heads_.find(word);
+        return found == heads_.end() ? std::vector<Release>() : found->second;
+    }
+    // A plain write ends all sequences.
+    void write(const Word &word) {
+        if (!heads_.empty()) heads_.erase(word);
+    }
+    // A store leaves the sequences of its own item alone, a read-modify-write leaves all.
+    void modify(const Word &word, const Record &record, const Group &group, uint32_t release) {
+        std::vector<Release> &heads = heads_[word];
+        const auto is_own = [&](const Release &head) { return head.group == group.number && head.item == record.item; };
+        // Who acquires from this operation has what it acquired, and what its item did before it: those names would say
+        // nothing more. An operation that is not recorded takes nobody's place.
+        const auto is_implied = [&](const Release &head) {
+            const bool inclusive = head.scope == record.scope && (record.scope == GPURACE_DEVICE || head.group == group.number);
+            return group.is_kept && record.releases() && inclusive && (is_own(head) || record.order == GPURACE_BOTH);
+        };
+        const auto is_over = [&](const Release &head) {
+            return is_implied(head) || (record.kind == GPURACE_STORE && !is_own(head));
+        };
+        heads.erase(std::remove_if(heads.begin(), heads.end(), is_over), heads.end());
+        if (record.releases()) heads.push_back({group.number, record.item, record.scope, release});
+        if (heads.empty()) heads_.erase(word);
+    }
+
+private:
+    std::map<Word, std::vector<Release>> heads_;
+};
+
+// The settings, from the environment (README.md has what each means).
+struct Settings {
+    std::string out, kernel;
+    long launch = -1;
+    uint64_t first = 0, count = UINT64_MAX;
+    uint32_t grain = 0; // 0: by buffer
+    bool quiet = false;
+
+    static Settings from_environment();
+};
+
+// Writes the launch's folder; where `refusal` is not empty, one that says why the launch was not recorded.
+void write_launch(Launch &launch, const Settings &settings, const std::string &refusal);
+
+} // namespace gpurace
+#endif

@@ -1,0 +1,384 @@
+// The plugin: Oclgrind tells it what the work-items of each launch do, it keeps that as records (launch.h), and at the launch's
+// end writes them as a folder of streams (write_launch.cpp). It says that it is not safe for threads, so Oclgrind runs one
+// work-item at a time, and the order in which it tells of accesses is the order in which they take place.
+#include "launch.h"
+
+#include "oclgrind/Context.h"
+#include "oclgrind/Kernel.h"
+#include "oclgrind/KernelInvocation.h"
+#include "oclgrind/Memory.h"
+#include "oclgrind/Plugin.h"
+#include "oclgrind/Program.h"
+#include "oclgrind/WorkGroup.h"
+#include "oclgrind/WorkItem.h"
+
+#include "llvm/IR/DebugInfoMetadata.h"
+#include "llvm/IR/Function.h"
+#include "llvm/IR/Instructions.h"
+
+#include <memory>
+
+namespace {
+
+using namespace gpurace;
+using namespace oclgrind;
+
+// What a call in the kernel is to the recorder.
+enum class Call { other, barrier, wait, fence, atomic, explicit_load, explicit_store, explicit_change, explicit_exchange };
+
+// An operation of opencl20_atomics.h that an item is in: the kind, order and scope that its arguments name.
+struct Explicit {
+    uint8_t kind, order, failure_order, scope;
+};
+
+Call call_of(llvm::StringRef name) {
+    const std::pair<const char *, Call> table[] = {
+        {"gpurace_atomic_load", Call::explicit_load},      {"gpurace_atomic_store", Call::explicit_store},
+        {"gpurace_atomic_compare", Call::explicit_exchange}, {"gpurace_atomic_", Call::explicit_change},
+        {"wait_group_events", Call::wait},                 {"mem_fence", Call::fence},
+        {"atomic_work_item_fence", Call::fence},           {"barrier", Call::barrier},
+        {"atom", Call::atomic}};
+    for (const auto &[part, call] : table)
+        if (name.contains(part)) return call;
+    return Call::other;
+}
+
+Size size_of(const Size3 &size) { return {size.x, size.y, size.z}; }
+
+class Recorder : public Plugin {
+public:
+    explicit Recorder(const Context *context) : Plugin(context), settings_(Settings::from_environment()) {}
+    ~Recorder() override { finish(); }
+
+    bool isThreadSafe() const override { return false; }
+
+    void kernelBegin(const KernelInvocation *invocation) override {
+        finish();
+        const uint32_t number = launches_++;
+        const Kernel *kernel = kernel_ = invocation->getKernel();
+        const bool is_wanted = (settings_.kernel.empty() || settings_.kernel == kernel->getName()) &&
+                               (settings_.launch < 0 || settings_.launch == long(number));
+        if (!is_wanted) return;
+        launch_ = std::make_unique<Launch>();
+        launch_->number = number;
+        launch_->kernel = kernel->getName();
+        launch_->source = kernel->getProgram()->getSource();
+        launch_->global = size_of(invocation->getGlobalSize());
+        launch_->local = size_of(invocation->getLocalSize());
+        launch_->groups = size_of(invocation->getNumGroups());
+        const uint64_t groups = launch_->groups.count();
+        launch_->window_first = settings_.first;
+        launch_->window_count = settings_.first < groups ? std::min(settings_.count, groups - settings_.first) : 0;
+        const std::string refusal = refusal_of(*launch_);
+        if (refusal.empty()) return name_global_buffers(kernel);
+        write_launch(*launch_, settings_, refusal);
+        launch_.reset();
+    }
+    void kernelEnd(const KernelInvocation *) override { finish(); }
+
+    void workGroupBegin(const WorkGroup *work_group) override {
+        if (!launch_) return;
+        const Size3 id = work_group->getGroupID();
+        const auto number = uint32_t(launch_->groups.index_of(id.x, id.y, id.z));
+        Group &group = launch_->group[number];
+        group.number = number;
+        group.items = uint32_t(size_of(work_group->getGroupSize()).count());
+        group.is_kept = launch_->is_in_window(number);
+        if (group.is_kept) group.releases.assign(group.items, 0);
+        current_ = nullptr;
+        name_local_buffers(work_group);
+    }
+    void workGroupComplete(const WorkGroup *work_group) override {
+        if (!launch_) return;
+        Group &group = group_of(work_group);
+        group.is_complete = true;
+        current_ = nullptr;
+        if (!group.is_kept) launch_->group.erase(group.number);
+    }
+    // The item that does the asynchronous copies passes every barrier of its group.
+    void workGroupBarrier(const WorkGroup *work_group, uint32_t) override {
+        if (!launch_) return;
+        Group &group = group_of(work_group);
+        if (!group.has_barrier) return;
+        Record record = group.last_barrier;
+        record.item = uint16_t(group.items);
+        group.keep(record);
+    }
+
+    void instructionExecuted(const WorkItem *item, const llvm::Instruction *instruction, const TypedValue &) override {
+        if (!launch_ || instruction->getOpcode() != llvm::Instruction::Call) return;
+        const auto *call = llvm::cast<llvm::CallInst>(instruction);
+        const Call kind = kind_of(call);
+        if (item->getState() == WorkItem::BARRIER)
+            barrier(item, call, kind);
+        else if (kind == Call::fence)
+            launch_->losses.fences++;
+        else if (kind >= Call::explicit_load)
+            explicit_[item] = explicit_of(item, call, kind);
+        else if (kind == Call::atomic && !explicit_.empty())
+            explicit_.erase(item); // the builtin within the operation is done
+    }
+
+    void memoryLoad(const Memory *memory, const WorkItem *item, size_t address, size_t size) override {
+        if (is_kept(memory, item->getCurrentInstruction(), address, size)) access(memory, item, GPURACE_READ, address, size);
+    }
+    void memoryStore(const Memory *memory, const WorkItem *item, size_t address, size_t size, const uint8_t *) override {
+        if (is_kept(memory, item->getCurrentInstruction(), address, size)) access(memory, item, GPURACE_WRITE, address, size);
+    }
+    void memoryLoad(const Memory *memory, const WorkGroup *group, size_t address, size_t size) override {
+        if (is_kept(memory, group->getCurrentBarrier(), address, size)) copy(memory, group, GPURACE_READ, address, size);
+    }
+    void memoryStore(const Memory *memory, const WorkGroup *group, size_t address, size_t size, const uint8_t *) override {
+        if (is_kept(memory, group->getCurrentBarrier(), address, size)) copy(memory, group, GPURACE_WRITE, address, size);
+    }
+    // An atomic is told of as a load, and as a store behind it where it modifies.
+    void memoryAtomicLoad(const Memory *memory, const WorkItem *item, AtomicOp operation, size_t address, size_t size) override {
+        changed_ = nullptr;
+        if (!is_kept(memory, item->getCurrentInstruction(), address, size)) return;
+        changed_ = &atomic_load(memory, item, address, size);
+        launch_->losses.failed_exchanges += operation == AtomicCmpXchg ? 1 : 0;
+    }
+    void memoryAtomicStore(const Memory *, const WorkItem *item, AtomicOp operation, size_t, size_t) override {
+        if (!launch_ || !changed_) return;
+        launch_->losses.failed_exchanges -= operation == AtomicCmpXchg ? 1 : 0;
+        atomic_change(item, *changed_);
+        changed_ = nullptr;
+    }
+
+private:
+    static uint32_t launches_; // of the process: a program may have several contexts
+    const Settings settings_;
+    std::unique_ptr<Launch> launch_;
+    const Kernel *kernel_ = nullptr;
+    Sequences sequences_;
+    std::unordered_map<const void *, Call> calls_;
+    std::unordered_map<const WorkItem *, Explicit> explicit_;
+    const WorkGroup *current_ = nullptr; // the group that current_group_ is
+    Group *current_group_ = nullptr;
+    Record *changed_ = nullptr;          // the record of the atomic that is under way
+
+    // Why a trace can't have the launch, or nothing.
+    static std::string refusal_of(const Launch &launch) {
+        const uint64_t items = launch.local.count(), groups = launch.groups.count();
+        const uint64_t window_items = std::min(items * launch.window_count, launch.global.count());
+        if (items > GPURACE_MOST_ITEMS)
+            return "a work-group has " + std::to_string(items) + " work-items, and a trace has room for 256";
+        if (launch.window_count == 0)
+            return "it has " + std::to_string(groups) + " work-groups, and none of the window";
+        const uint64_t room = std::min<uint64_t>(GPURACE_MOST_GROUPS, GPURACE_MOST_ITEMS_OF_LAUNCH / items);
+        if (launch.window_count > GPURACE_MOST_GROUPS || window_items > GPURACE_MOST_ITEMS_OF_LAUNCH)
+            return std::to_string(launch.window_count) + " work-groups of " + std::to_string(items) +
+                   " work-items are more than a trace has room for; --groups 0:" + std::to_string(room) +
+                   " records the first " + std::to_string(room);
+        return "";
+    }
+
+    // Writes what was recorded of the launch, if one is under way.
+    void finish() {
+        if (launch_) write_launch(*launch_, settings_, "");
+        launch_.reset();
+        sequences_ = Sequences();
+        calls_.clear();
+        explicit_.clear();
+        current_ = nullptr;
+        changed_ = nullptr;
+    }
+
+    void name_global_buffers(const Kernel *kernel) {
+        const Memory *memory = m_context->getGlobalMemory();
+        for (auto value = kernel->values_begin(); value != kernel->values_end(); ++value) {
+            const llvm::Type *type = value->first->getType();
+            const bool is_global = type->isPointerTy() && (type->getPointerAddressSpace() == AddrSpaceGlobal ||
+                                                           type->getPointerAddressSpace() == AddrSpaceConstant);
+            if (!is_global || !value->second.data || value->second.size != sizeof(size_t)) continue;
+            const auto number = uint32_t(memory->extractBuffer(value->second.getPointer()));
+            std::string &name = launch_->buffers[GPURACE_GLOBAL][number].name;
+            name += (name.empty() ? "" : "=") + value->first->getName().str();
+        }
+    }
+    void name_local_buffers(const WorkGroup *work_group) {
+        const Memory *memory = work_group->getLocalMemory();
+        for (auto value = kernel_->values_begin(); value != kernel_->values_end(); ++value) {
+            const llvm::Type *type = value->first->getType();
+            if (!type->isPointerTy() || type->getPointerAddressSpace() != AddrSpaceLocal) continue;
+            const size_t address = work_group->getLocalMemoryAddress(value->first);
+            const llvm::StringRef name = value->first->getName();
+            launch_->buffers[GPURACE_LOCAL][uint32_t(memory->extractBuffer(address))].name = name.substr(name.rfind('.') + 1).str();
+        }
+    }
+
+    Group &group_of(const WorkGroup *work_group) {
+        if (current_ != work_group) {
+            const Size3 id = work_group->getGroupID(); // getGroupIndex() is wrong in 21.10 from two dimensions on
+            current_ = work_group;
+            current_group_ = &launch_->group.at(uint32_t(launch_->groups.index_of(id.x, id.y, id.z)));
+        }
+        return *current_group_;
+    }
+    static uint16_t item_of(const WorkItem *item) {
+        const Size3 id = item->getLocalID();
+        return uint16_t(size_of(item->getWorkGroup()->getGroupSize()).index_of(id.x, id.y, id.z));
+    }
+    Call kind_of(const llvm::CallInst *call) {
+        auto [entry, is_new] = calls_.emplace(call, Call::other);
+        if (is_new && call->getCalledFunction()) entry->second = call_of(call->getCalledFunction()->getName());
+        return entry->second;
+    }
+    uint32_t place_of(const llvm::Instruction *instruction) {
+        auto [entry, is_new] = launch_->place_of.emplace(instruction, uint32_t(launch_->places.size()));
+        if (is_new) launch_->places.push_back(text_of(instruction));
+        return entry->second;
+    }
+    // FILE:LINE:COLUMN; a text never begins with a digit. Oclgrind's name of the program's own text is input.cl.
+    static std::string text_of(const llvm::Instruction *instruction) {
+        if (!instruction) return "unknown";
+        const llvm::DILocation *at = instruction->getDebugLoc().get();
+        if (!at) return "function " + instruction->getFunction()->getName().str();
+        std::string file = at->getFilename().str();
+        if (file == "input.cl") file = "kernel.cl";
+        if (file.empty() || std::isdigit(static_cast<unsigned char>(file[0]))) file = "./" + file;
+        return file + ":" + std::to_string(at->getLine()) + ":" + std::to_string(at->getColumn());
+    }
+
+    // Whether the access is one that is recorded: of global or local memory, within a buffer.
+    bool is_kept(const Memory *memory, const llvm::Instruction *at, size_t address, size_t size) {
+        if (!launch_ || size == 0 || memory->getAddressSpace() == AddrSpacePrivate) return false;
+        if (memory->isAddressValid(address, size)) return true;
+        if (launch_->losses.out_of_bounds++ == 0) launch_->losses.out_of_bounds_place = place_of(at);
+        return false;
+    }
+    static uint8_t space_of(const Memory *memory) {
+        return memory->getAddressSpace() == AddrSpaceLocal ? GPURACE_LOCAL : GPURACE_GLOBAL;
+    }
+    static Sequences::Word word_of(const Group &group, const Record &record) {
+        return {record.space == GPURACE_LOCAL ? 1 + uint64_t(group.number) : 0, uint64_t(record.buffer) << 40 | record.offset};
+    }
+    Record record_of(const Memory *memory, const llvm::Instruction *at, uint16_t item, uint8_t kind, size_t address,
+                     size_t size) {
+        const uint8_t space = space_of(memory);
+        const auto number = uint32_t(memory->extractBuffer(address));
+        const uint64_t offset = memory->extractOffset(address), bits = offset | size;
+        Buffer &buffer = launch_->buffers[space][number];
+        buffer.bytes = memory->getBuffer(address)->size;
+        buffer.bits |= bits;
+        launch_->losses.accesses_of_parts_of_words += bits % 4 != 0 ? 1 : 0;
+        return {offset, number, place_of(at), uint32_t(size), -1, item, kind, space, 0, 0};
+    }
+
+    void access(const Memory *memory, const WorkItem *item, uint8_t kind, size_t address, size_t size) {
+        Group &group = group_of(item->getWorkGroup());
+        keep(group, record_of(memory, item->getCurrentInstruction(), item_of(item), kind, address, size));
+    }
+    void copy(const Memory *memory, const WorkGroup *work_group, uint8_t kind, size_t address, size_t size) {
+        Group &group = group_of(work_group);
+        group.has_copies = true;
+        keep(group, record_of(memory, work_group->getCurrentBarrier(), uint16_t(group.items), kind, address, size));
+    }
+    void keep(Group &group, const Record &record) {
+        if (record.kind == GPURACE_WRITE) sequences_.write(word_of(group, record));
+        group.keep(record);
+    }
+
+    void barrier(const WorkItem *item, const llvm::CallInst *call, Call kind) {
+        uint32_t flags = GPURACE_GLOBAL_FENCE | GPURACE_LOCAL_FENCE; // of wait_group_events
+        if (kind == Call::barrier && call->arg_size() > 0) {
+            const uint64_t given = item->getOperand(call->getArgOperand(0)).getUInt();
+            flags = (given & CLK_GLOBAL_MEM_FENCE ? GPURACE_GLOBAL_FENCE : 0u) |
+                    (given & CLK_LOCAL_MEM_FENCE ? GPURACE_LOCAL_FENCE : 0u);
+        }
+        const void *location = call->getDebugLoc().get();
+        auto [site, is_new] = launch_->site_of.emplace(location ? location : call, uint32_t(launch_->site_of.size() + 1));
+        if (is_new) launch_->site_places.push_back(place_of(call));
+        Group &group = group_of(item->getWorkGroup());
+        group.last_barrier = {site->second, 0, place_of(call), flags, -1, item_of(item), GPURACE_BARRIER, 0, 0, 0};
+        group.has_barrier = true;
+        group.keep(group.last_barrier);
+    }
+
+    // memory_order_relaxed is 0, acquire 2, release 3, acq_rel 4, seq_cst 5
+    uint8_t order_of(const WorkItem *item, const llvm::Value *value, uint8_t kind) {
+        if (llvm::isa<llvm::UndefValue>(value)) {
+            launch_->losses.unknown_orders++;
+            return GPURACE_RELAXED;
+        }
+        switch (item->getOperand(value).getUInt()) {
+        case 0: return GPURACE_RELAXED;
+        case 1:
+        case 2: return GPURACE_ACQUIRE;
+        case 3: return GPURACE_RELEASE;
+        default: return kind == GPURACE_LOAD ? GPURACE_ACQUIRE : kind == GPURACE_STORE ? GPURACE_RELEASE : GPURACE_BOTH;
+        }
+    }
+    // The order and the scope are the last two arguments; a compare-exchange has the order of failing between them.
+    Explicit explicit_of(const WorkItem *item, const llvm::CallInst *call, Call call_kind) {
+        const unsigned count = call->arg_size();
+        const uint8_t kind = call_kind == Call::explicit_load    ? GPURACE_LOAD
+                             : call_kind == Call::explicit_store ? GPURACE_STORE
+                                                                 : GPURACE_RMW;
+        const bool can_fail = call_kind == Call::explicit_exchange;
+        const uint8_t order = order_of(item, call->getArgOperand(count - (can_fail ? 3 : 2)), kind);
+        const uint8_t failure = can_fail ? order_of(item, call->getArgOperand(count - 2), GPURACE_LOAD) : order;
+        const bool is_narrow = item->getOperand(call->getArgOperand(count - 1)).getUInt() == 1;
+        return {kind, order, failure, uint8_t(is_narrow ? GPURACE_GROUP : GPURACE_DEVICE)};
+    }
+
+    // Records an atomic as the load that it is unless a store follows. The atomics of OpenCL 1.2 are relaxed, of device scope on
+    // global memory and of group scope on local memory.
+    Record &atomic_load(const Memory *memory, const WorkItem *item, size_t address, size_t size) {
+        Group &group = group_of(item->getWorkGroup());
+        const auto given = explicit_.find(item);
+        const bool is_explicit = given != explicit_.end();
+        const bool is_inside = is_explicit && !item->getCallStack().empty();
+        const llvm::Instruction *at = is_inside ? item->getCallStack().top() : item->getCurrentInstruction();
+        Record record = record_of(memory, at, item_of(item), GPURACE_LOAD, address, size);
+        const bool acquires = is_explicit && (given->second.failure_order == GPURACE_ACQUIRE ||
+                                              given->second.failure_order == GPURACE_BOTH);
+        record.order = acquires ? GPURACE_ACQUIRE : GPURACE_RELAXED;
+        record.scope = record.space == GPURACE_LOCAL ? GPURACE_GROUP : is_explicit ? given->second.scope : GPURACE_DEVICE;
+        if (acquires) name(group, record);
+        return group.keep(record);
+    }
+    // The atomic has modified its word.
+    void atomic_change(const WorkItem *item, Record &record) {
+        Group &group = group_of(item->getWorkGroup());
+        const auto given = explicit_.find(item);
+        const bool is_explicit = given != explicit_.end();
+        if (is_explicit && given->second.kind == GPURACE_LOAD) return; // the load of opencl20_atomics.h adds 0
+        const bool is_named = record.acquires();
+        record.kind = is_explicit ? given->second.kind : uint8_t(GPURACE_RMW);
+        record.order = is_explicit ? given->second.order : uint8_t(GPURACE_RELAXED);
+        if (!record.acquires()) record.names = -1;
+        if (record.acquires() && !is_named) name(group, record);
+        const uint32_t release = record.releases() && group.is_kept ? group.releases[record.item]++ : 0;
+        sequences_.modify(word_of(group, record), record, group, release);
+    }
+    // Gives an acquire the names of the releases from which its value comes.
+    void name(const Group &group, Record &record) {
+        if (!group.is_kept) return;
+        std::vector<Release> heads = sequences_.heads(word_of(group, record));
+        const auto is_outside = [&](const Release &head) { return !launch_->is_in_window(head.group); };
+        const auto kept = std::remove_if(heads.begin(), heads.end(), is_outside);
+        launch_->losses.names_outside_window += uint64_t(heads.end() - kept);
+        heads.erase(kept, heads.end());
+        if (heads.empty()) return;
+        record.names = int32_t(launch_->names.size());
+        launch_->names.push_back(std::move(heads));
+    }
+};
+
+uint32_t Recorder::launches_ = 0;
+std::map<const Context *, std::unique_ptr<Recorder>> recorders; // of each context of the program
+
+} // namespace
+
+extern "C" void initializePlugins(Context *context) {
+    auto &recorder = recorders[context] = std::make_unique<Recorder>(context);
+    context->registerPlugin(recorder.get());
+}
+
+extern "C" void releasePlugins(Context *context) {
+    const auto found = recorders.find(context);
+    if (found == recorders.end()) return;
+    context->unregisterPlugin(found->second.get());
+    recorders.erase(found);
+}

@@ -1,0 +1,279 @@
+// Writes a launch as a folder: a stream for each work-group, the side files `places` and `buffers` (docs/FORMATS.md), the text
+// of the kernel, and at last info.txt: a folder without it is not whole.
+#include "launch.h"
+
+#include <cerrno>
+#include <cstdlib>
+#include <cstring>
+#include <fstream>
+#include <iomanip>
+#include <set>
+#include <sstream>
+#include <sys/stat.h>
+
+namespace gpurace {
+namespace {
+
+std::string variable(const char *name) {
+    const char *value = std::getenv(name);
+    return value ? value : "";
+}
+
+[[noreturn]] void refuse_setting(const char *name, const char *wanted) {
+    std::fprintf(stderr, "gpurace-recorder: %s must be %s\n", name, wanted);
+    std::exit(3);
+}
+
+// The number that the text from `at` on begins with; `at` goes behind it. Not a number: nothing is done.
+bool take_number(const std::string &text, size_t &at, uint64_t &number) {
+    const size_t start = at;
+    while (at < text.size() && text[at] >= '0' && text[at] <= '9') at++;
+    if (at == start || at - start > 9) return false;
+    number = std::stoull(text.substr(start, at - start));
+    return true;
+}
+
+std::ostream &operator<<(std::ostream &out, const Size &size) { return out << size.x << ' ' << size.y << ' ' << size.z; }
+
+int write_bytes(void *context, const unsigned char *bytes, size_t length) {
+    std::ostream &out = *static_cast<std::ostream *>(context);
+    return out.write(reinterpret_cast<const char *>(bytes), std::streamsize(length)).good();
+}
+
+class Writer {
+public:
+    Writer(Launch &launch, const Settings &settings) : launch_(launch), settings_(settings) {}
+
+    // Whether the whole folder was written.
+    bool write(const std::string &refusal) {
+        if (!make_folder()) return false;
+        if (!refusal.empty()) return write_info(refusal);
+        lay_out_buffers();
+        number_releases();
+        std::ofstream places(folder_ + "/places");
+        for (uint64_t at = 0; at < launch_.window_count; at++)
+            if (!write_stream(uint32_t(at), places)) return false;
+        for (size_t site = 0; site < launch_.site_places.size(); site++)
+            places << site + 1 << ' ' << launch_.places[launch_.site_places[site]] << '\n';
+        std::ofstream(folder_ + "/kernel.cl") << launch_.source;
+        return places.flush().good() && write_buffers() && write_info("");
+    }
+    const std::string &folder() const { return folder_; }
+    uint64_t records() const { return records_; }
+
+private:
+    Launch &launch_;
+    const Settings &settings_;
+    std::string folder_;
+    uint64_t records_ = 0, items_ = 0, added_loads_ = 0;
+    std::set<uint32_t> cut_;
+    // of each item with releases, the number of the first record of each of its release operations
+    std::map<std::pair<uint32_t, uint16_t>, std::vector<uint64_t>> first_record_;
+
+    // NUMBER-KERNEL, with .2, .3 .. behind it where another process of the program has that folder.
+    bool make_folder() {
+        if (mkdir(settings_.out.c_str(), 0777) != 0 && errno != EEXIST) return false;
+        std::ostringstream name;
+        name << settings_.out << '/' << std::setw(3) << std::setfill('0') << launch_.number << '-' << launch_.kernel;
+        folder_ = name.str();
+        for (int copy = 2; mkdir(folder_.c_str(), 0777) != 0; copy++) {
+            if (errno != EEXIST) return false;
+            folder_ = name.str() + "." + std::to_string(copy);
+        }
+        return true;
+    }
+
+    // The grain of a buffer is the greatest of 4, 2 and 1 at which every access to it is of whole words. Buffers never share a
+    // word, and stand apart by some.
+    void lay_out_buffers() {
+        for (auto &of_space : launch_.buffers) {
+            uint64_t next = 0;
+            for (auto &[number, buffer] : of_space) {
+                const uint32_t fitting = buffer.bits & 1 ? 1 : buffer.bits & 2 ? 2 : 4;
+                buffer.grain = settings_.grain ? settings_.grain : fitting;
+                buffer.first = next;
+                next = (next + buffer.words() + 127) / 64 * 64;
+            }
+        }
+    }
+    const Buffer &buffer_of(const Record &record) const { return launch_.buffers[record.space].at(record.buffer); }
+    uint64_t first_word(const Record &record) const {
+        const Buffer &buffer = buffer_of(record);
+        return buffer.first + record.offset / buffer.grain;
+    }
+    uint64_t words(const Record &record) const {
+        const Buffer &buffer = buffer_of(record);
+        return (record.offset + record.size - 1) / buffer.grain - record.offset / buffer.grain + 1;
+    }
+
+    // A release of several words is several records.
+    void number_releases() {
+        if (launch_.names.empty()) return;
+        for (const auto &[number, group] : launch_.group) {
+            std::map<uint16_t, uint64_t> next;
+            for (const Record &record : group.records) {
+                if (!record.is_access() || !record.releases()) continue;
+                first_record_[{number, record.item}].push_back(next[record.item]);
+                next[record.item] += words(record);
+            }
+        }
+    }
+    // The names of an acquire in the trace's numbers, for its word of this number.
+    std::vector<gpurace_name> names(const Record &record, uint64_t word) const {
+        std::vector<gpurace_name> names;
+        if (record.names < 0) return names;
+        for (const Release &release : launch_.names[size_t(record.names)]) {
+            const uint64_t first = first_record_.at({release.group, release.item}).at(release.number);
+            names.push_back({release.group - launch_.window_first, release.item, first + word});
+        }
+        return names;
+    }
+
+    gpurace_status put(gpurace_stream &stream, const Record &record, uint64_t at) const {
+        const auto kind = gpurace_kind(record.kind);
+        const auto space = gpurace_space(record.space);
+        const auto scope = gpurace_scope(record.scope);
+        if (kind == GPURACE_BARRIER) return gpurace_barrier(&stream, record.item, record.offset, record.size);
+        const uint64_t word = first_word(record) + at;
+        if (kind < GPURACE_LOAD) return gpurace_plain(&stream, record.item, kind, space, word);
+        const auto found = names(record, at);
+        switch (record.order) {
+        case GPURACE_RELEASE: return gpurace_release(&stream, record.item, kind, space, scope, word, nullptr);
+        case GPURACE_ACQUIRE:
+            return gpurace_acquire(&stream, record.item, kind, space, scope, word, found.data(), found.size());
+        case GPURACE_BOTH:
+            return gpurace_acquire_release(&stream, record.item, space, scope, word, found.data(), found.size(), nullptr);
+        default: return gpurace_atomic(&stream, record.item, kind, space, scope, word);
+        }
+    }
+
+    // Puts the records of a group, and for each access a line of `places`. Answers what stopped it, or GPURACE_OK.
+    gpurace_status put_records(gpurace_stream &stream, const Group &group, std::ostream &places) {
+        std::vector<uint64_t> index(group.items + 1, 0);
+        for (const Record &record : group.records) {
+            if (record.item == group.items && !group.has_copies) continue;
+            const uint64_t count = record.is_access() ? words(record) : 1;
+            for (uint64_t at = 0; at < count; at++) {
+                const uint32_t before = stream.records;
+                const gpurace_status status = put(stream, record, at);
+                if (status != GPURACE_OK) return status;
+                added_loads_ += stream.records - before - 1;
+                for (uint32_t written = before; written < stream.records; written++, index[record.item]++)
+                    if (record.is_access())
+                        places << stream.group << ' ' << record.item << ' ' << index[record.item] << ' '
+                               << launch_.places[record.place] << '\n';
+            }
+        }
+        return GPURACE_OK;
+    }
+
+    bool write_stream(uint32_t number, std::ostream &places) {
+        static const Group none; // a group that never began, since the kernel was stopped
+        const auto found = launch_.group.find(uint32_t(number + launch_.window_first));
+        const Group &group = found == launch_.group.end() ? none : found->second;
+        const uint32_t items = std::max(1u, group.streamed_items());
+        std::ostringstream name;
+        name << folder_ << "/group" << std::setw(2) << std::setfill('0') << number << ".gpurace";
+        std::ofstream out(name.str(), std::ios::binary);
+        gpurace_stream stream;
+        gpurace_status status =
+            gpurace_stream_open(&stream, write_bytes, static_cast<std::ostream *>(&out), number, items, launch_.number);
+        if (status == GPURACE_OK) status = put_records(stream, group, places);
+        const bool is_cut = !group.is_complete || group.is_full || status == GPURACE_TOO_MANY_RECORDS;
+        if (status == GPURACE_TOO_MANY_RECORDS) status = GPURACE_OK;
+        if (status == GPURACE_OK) status = gpurace_stream_close(&stream, is_cut);
+        if (status != GPURACE_OK) std::fprintf(stderr, "gpurace-recorder: %s: %s\n", name.str().c_str(), gpurace_status_text(status));
+        if (is_cut) cut_.insert(number);
+        records_ += stream.records;
+        items_ += items;
+        return status == GPURACE_OK && out.flush().good();
+    }
+
+    std::string name_of(uint32_t number, const Buffer &buffer) const {
+        const std::string name = buffer.name.empty() ? "buffer" + std::to_string(number) : buffer.name;
+        return name + (buffer.grain == 4 ? "" : buffer.grain == 2 ? ".half" : ".byte");
+    }
+    bool write_buffers() {
+        std::ofstream out(folder_ + "/buffers");
+        for (const auto &[number, buffer] : launch_.buffers[GPURACE_GLOBAL])
+            if (buffer.bytes > 0) out << "g " << buffer.first << ' ' << buffer.words() << ' ' << name_of(number, buffer) << '\n';
+        for (uint64_t group = 0; group < launch_.window_count; group++)
+            for (const auto &[number, buffer] : launch_.buffers[GPURACE_LOCAL])
+                if (buffer.bytes > 0)
+                    out << "l " << group << ' ' << buffer.first << ' ' << buffer.words() << ' ' << name_of(number, buffer) << '\n';
+        return out.flush().good();
+    }
+
+    bool write_info(const std::string &refusal) {
+        std::ofstream out(folder_ + "/info.txt");
+        out << "kernel " << launch_.kernel << "\nlaunch " << launch_.number << "\nglobal " << launch_.global << "\nlocal "
+            << launch_.local << "\ngroups " << launch_.groups.count() << '\n';
+        if (!refusal.empty()) {
+            out << "not-recorded " << refusal << '\n';
+            return out.flush().good();
+        }
+        if (launch_.is_window()) out << "window " << launch_.window_first << ' ' << launch_.window_count << '\n';
+        out << "items " << items_ << "\nrecords " << records_ << '\n';
+        for (const uint32_t group : cut_) out << "cut " << group << '\n';
+        for (const auto &[number, group] : launch_.group)
+            if (group.has_copies) out << "copying-item " << number - launch_.window_first << ' ' << group.items << '\n';
+        write_losses(out);
+        return out.flush().good();
+    }
+    void write_losses(std::ostream &out) const {
+        const Losses &losses = launch_.losses;
+        out << "fences-not-recorded " << losses.fences << "\nout-of-bounds-not-recorded " << losses.out_of_bounds;
+        if (losses.out_of_bounds > 0) out << ' ' << launch_.places[losses.out_of_bounds_place];
+        out << "\norders-not-known " << losses.unknown_orders << "\nnames-outside-window " << losses.names_outside_window
+            << "\nacquire-loads-added " << added_loads_ << "\nfailed-exchanges-as-loads " << losses.failed_exchanges
+            << "\naccesses-of-parts-of-words " << losses.accesses_of_parts_of_words << '\n';
+    }
+};
+
+} // namespace
+
+Settings Settings::from_environment() {
+    Settings settings;
+    const std::string out = variable("GPURACE_OUT"), launch = variable("GPURACE_LAUNCH"), groups = variable("GPURACE_GROUPS"),
+                      grain = variable("GPURACE_GRAIN");
+    settings.out = out.empty() ? "gpurace-out" : out;
+    settings.kernel = variable("GPURACE_KERNEL");
+    settings.quiet = variable("GPURACE_QUIET") == "1";
+    size_t at = 0;
+    uint64_t number = 0;
+    if (!launch.empty() && (!take_number(launch, at, number) || at != launch.size())) refuse_setting("GPURACE_LAUNCH", "a number");
+    if (!launch.empty()) settings.launch = long(number);
+    at = 0;
+    if (!groups.empty() && (!take_number(groups, at, settings.first) || groups[at++] != ':' ||
+                            !take_number(groups, at, settings.count) || at != groups.size() || settings.count == 0))
+        refuse_setting("GPURACE_GROUPS", "FIRST:COUNT, as 0:8");
+    if (grain == "1" || grain == "2" || grain == "4")
+        settings.grain = uint32_t(grain[0] - '0');
+    else if (!grain.empty() && grain != "auto")
+        refuse_setting("GPURACE_GRAIN", "auto, 4, 2 or 1");
+    return settings;
+}
+
+void write_launch(Launch &launch, const Settings &settings, const std::string &refusal) {
+    std::string reason = refusal;
+    uint64_t items = 0;
+    for (const auto &[number, group] : launch.group) {
+        items += group.streamed_items();
+        if (group.streamed_items() > GPURACE_MOST_ITEMS)
+            reason = "its asynchronous copies need one more work-item in a group than the 256 that a trace has room for";
+    }
+    if (reason.empty() && items > GPURACE_MOST_ITEMS_OF_LAUNCH)
+        reason = "its asynchronous copies need one more work-item in each group, which makes more than 2,048; --groups records "
+                 "fewer groups";
+    Writer writer(launch, settings);
+    if (!writer.write(reason))
+        std::fprintf(stderr, "gpurace-recorder: launch %u %s: %s could not be written: %s\n", launch.number,
+                     launch.kernel.c_str(), writer.folder().c_str(), std::strerror(errno));
+    else if (!settings.quiet && !reason.empty())
+        std::fprintf(stderr, "gpurace-recorder: launch %u %s not recorded: %s\n", launch.number, launch.kernel.c_str(), reason.c_str());
+    else if (!settings.quiet)
+        std::fprintf(stderr, "gpurace-recorder: launch %u %s: %llu records in %s\n", launch.number, launch.kernel.c_str(),
+                     static_cast<unsigned long long>(writer.records()), writer.folder().c_str());
+}
+
+} // namespace gpurace
