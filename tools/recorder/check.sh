@@ -1,0 +1,76 @@
+#!/bin/sh
+# Builds the plugin, records the kernels of tests/ with their mistakes and without, and compares what is found with what was
+# worked out by hand. Says SKIPPED, with status 0, where Oclgrind or an OpenCL loader to link with is not there.
+#
+#   check.sh      GPURACE_PROGRAM names a built gpurace; without it ./gpurace builds one, which takes minutes
+set -eu
+here=$(cd "$(dirname "$0")" && pwd)
+for needed in oclgrind oclgrind-kernel llvm-config-14 python3; do
+    if ! command -v $needed > /dev/null; then
+        echo "check.sh: SKIPPED, nothing was checked: $needed is not here (Debian: apt-get install oclgrind liboclgrind-dev" \
+            "llvm-14-dev ocl-icd-opencl-dev opencl-headers g++ make)"
+        exit 0
+    fi
+done
+work=$(mktemp -d)
+trap 'rm -rf "$work"' EXIT INT TERM
+cd "$here/tests"
+if ! "${CC:-cc}" -Wall -Wextra -o "$work/sum_tiles" sum_tiles.c -lOpenCL; then
+    echo "check.sh: SKIPPED, nothing was checked: no OpenCL program can be built (Debian: apt-get install ocl-icd-opencl-dev)"
+    exit 0
+fi
+
+failures=0
+fail() {
+    echo "FAILED: $*"
+    cat "$work/said"
+    failures=$((failures + 1))
+}
+
+# expect NAME STATUS LINE.. -- OPTION.. PROGRAM ARG..: the status, and lines that must be said (patterns of grep)
+expect() {
+    name=$1 status=$2
+    shift 2
+    : > "$work/lines"
+    while [ "$1" != -- ]; do
+        printf '%s\n' "$1" >> "$work/lines"
+        shift
+    done
+    shift
+    if "$here/../gpurace-record" "$@" > "$work/said" 2>&1; then got=0; else got=$?; fi
+    [ "$got" = "$status" ] || fail "$name: status $got, and not $status"
+    while IFS= read -r line; do
+        grep -q -e "$line" "$work/said" || fail "$name: nowhere '$line'"
+    done < "$work/lines"
+}
+
+expect "no mistake" 0 "sum 2016" "launch 0, sum_tiles: nothing found (4 groups of 16 work-items" \
+    "1 launches: 0 with findings, 1 without, 0 not judged" -- "$work/sum_tiles" sum_tiles.cl 0
+# each item writes tile[l]; items below 8 then read tile[l + 8]: eight words in each of four groups
+expect "a barrier is missing" 1 "races 32 diverge 0 unmatched 0 held 0" "race on tile\[8..15\] of 4 groups (32 words)" \
+    "kernel.cl:15:[0-9]*: write by group 0, item 8" "tile\[l\] = input\[get_global_id(0)\];" \
+    "kernel.cl:19:[0-9]*: read by group 0, item 0" "one with CLK_LOCAL_MEM_FENCE would order them" -- "$work/sum_tiles" sum_tiles.cl 1
+expect "a flag is missing" 1 "races 32 diverge 0 unmatched 0 held 0" "none that is not divergent and has CLK_LOCAL_MEM_FENCE" \
+    -- "$work/sum_tiles" sum_tiles.cl 2
+# behind the first barrier only items below 8, 4, 2 and 1 come: four divergent barriers a group, and tile[1..7] race
+expect "barriers in a branch" 1 "races 28 diverge 16 unmatched 0 held 0" "race on tile\[1..7\] of 4 groups (28 words)" \
+    "divergent barrier of group 0, number 1: some work-items never reach it" "kernel.cl:21:[0-9]*: 8 work-items, the first is 0" \
+    "no barrier: 8 work-items, the first is 8" -- "$work/sum_tiles" sum_tiles.cl 3
+expect "a window" 1 "races 16 diverge 0" "the report is of groups 1 to 2 of 4 (as 0 to 1)" \
+    -- --groups 1:2 "$work/sum_tiles" sum_tiles.cl 1
+expect "no group of the window" 2 "not recorded: it has 4 work-groups, and none of the window" \
+    -- --groups 4:2 "$work/sum_tiles" sum_tiles.cl 1
+expect "another kernel" 2 "0 launches" -- --kernel other "$work/sum_tiles" sum_tiles.cl 1
+# six groups count themselves in turn; the last reads the five other parts
+expect "a hand-over" 0 "launch 0, sum_all: nothing found" \
+    -- --opencl20 --build-options -DORDER=memory_order_acq_rel sum_all.sim
+expect "a relaxed count" 1 "races 5 diverge 0 unmatched 0 held 0" "race on parts\[0..4\]" "different work-groups, which no barrier" \
+    -- --opencl20 --build-options -DORDER=memory_order_relaxed sum_all.sim
+# a release alone: each count continues the sequences of all before it, so the last acquires from five
+expect "releases, acquired by the last" 1 "races 5 diverge 0 unmatched 0 held 0" \
+    -- --opencl20 --build-options -DORDER=memory_order_release sum_all.sim
+expect "a copy that is waited for" 0 "copy_tiles: nothing found" -- --build-options -DWAIT=1 copy_tiles.sim
+expect "a copy that is not" 1 "races 16 diverge 0" "write by group 0, asynchronous copy" -- --build-options -DWAIT=0 copy_tiles.sim
+
+[ $failures = 0 ] || exit 1
+echo "check.sh: the recorder and its reports are as expected"

@@ -1,0 +1,10 @@
+// Each work-group writes its part, and the last that counts itself sums the parts (OpenCL 2.0). ORDER is the order of the count:
+// memory_order_acq_rel hands the parts over, memory_order_relaxed does not.
+kernel void sum_all(global int *parts, global atomic_int *count, global int *sum)
+{
+    const int groups = get_num_groups(0);
+    parts[get_group_id(0)] = get_group_id(0) + 1;
+    if (atomic_fetch_add_explicit(count, 1, ORDER, memory_scope_device) == groups - 1)
+        for (int at = 0; at < groups; at++)
+            *sum += parts[at];
+}
