@@ -5,6 +5,7 @@ and records, and looks up in the streams and side files what they are. `gpurace 
 itself one day; `findings` is then the one function to change, and `Trace` goes.
 """
 import collections
+import functools
 import os
 import struct
 import subprocess
@@ -31,8 +32,7 @@ def findings(program, folder):
     if ran.returncode == 0 and not any(line.startswith("cut") for line in report):
         return 0, report, []
     trace = Trace(folder, streams, {word_of(line) for line in report if line.startswith("race")})
-    told = trace.races() + [line for found in report for line in trace.told(found.split())]
-    return ran.returncode, report, told
+    return ran.returncode, report, trace.races() + trace.others([line.split() for line in report])
 
 
 def read(folder, name):
@@ -207,7 +207,9 @@ class Trace:
                 found[wanted[" ".join(parts[:3])]] = parts[3]
         return found
 
-    def site_places(self):
+    @functools.lru_cache(maxsize=None)
+    def sites(self):
+        """The place of each site."""
         pairs = (line.rstrip("\n").split(" ", 1) for line in self.lines("places"))
         return {int(pair[0]): pair[1] for pair in pairs if len(pair) == 2 and not pair[1][:1].isdigit()}
 
@@ -234,27 +236,40 @@ class Trace:
         groups = sorted({group for space, group, _ in words if space})
         return shown + (f" of group {groups[0]}" if len(groups) == 1 else f" of {len(groups)} groups" if groups else "")
 
-    def told(self, line):
-        """What a line of the report says that names no race."""
-        if line[0] == "cut":
-            return [f"records of group {line[1]} were lost: its work-items did more than a trace has room for, or did not end"]
-        if line[0] == "diverge":
-            return self.divergence_told(int(line[1]), int(line[2]), line[3])
-        if line[0] == "unmatched":
-            place = self.places({Event(*map(int, line[1:4]))})
-            return [f"acquire without its release ({line[4]}): {next(iter(place.values()), 'unknown')} by group {line[1]}, item {line[2]}"]
-        return []
+    def others(self, lines):
+        """What the report's lines say that name no race."""
+        told, divergent = [], collections.defaultdict(list)
+        for line in lines:
+            if line[0] == "cut":
+                told.append(f"records of group {line[1]} were lost: it did more than a trace has room for, or was stopped")
+            elif line[0] == "diverge":
+                group, instance = int(line[1]), int(line[2])
+                divergent[line[3], self.came(group, instance)].append((group, instance))
+            elif line[0] == "unmatched":
+                event = Event(*map(int, line[1:4]))
+                place = self.places({event}).get(event, "unknown")
+                told.append(f"{place}: acquire by group {event.group}, item {event.item}, without its release ({line[4]})")
+        for (cause, came), instances in divergent.items():
+            told += self.divergence_told(cause, came, instances)
+        return told
 
-    def divergence_told(self, group, instance, cause):
-        causes = {"missing": "some work-items never reach it", "site": "the work-items are at different barriers",
-                  "flags": "the work-items give different flags"}
-        came, sites = collections.defaultdict(list), self.site_places()
+    def came(self, group, instance):
+        """The items of a group by the place of their barrier: the place or None, how many, and the first."""
+        came = collections.defaultdict(list)
         for item in range(self.items[group]):
             place = self.barriers[group, instance].get(item)
-            came[place and sites.get(place[1], f"site {place[1]}")].append(item)
-        told = [f"divergent barrier of group {group}, number {instance}: {causes[cause]}"]
-        for place, items in came.items():
-            told.append(f"    {place or 'no barrier'}: {len(items)} work-items, the first is {items[0]}")
+            came[place and self.sites().get(place[1], f"site {place[1]}")].append(item)
+        return tuple((place, len(items), items[0]) for place, items in came.items())
+
+    def divergence_told(self, cause, came, instances):
+        causes = {"missing": "some work-items never reach it", "site": "the work-items are at different barriers",
+                  "flags": "the work-items give different flags"}
+        group, instance = instances[0]
+        more = f", and {len(instances) - 1} more alike" if len(instances) > 1 else ""
+        told = [f"divergent barrier, number {instance} of group {group}{more}: {causes[cause]}"]
+        for place, count, first in came:
+            items = f"{count} work-items, the first is {first}" if count > 1 else f"work-item {first}"
+            told.append(f"    {place or 'no barrier'}: {items}")
             if place and self.source_line(place):
                 told.append(f"        {self.source_line(place)}")
         return told
@@ -275,5 +290,5 @@ def mend(pair, space):
         return "the two are of different work-groups, which no barrier orders"
     flag = "CLK_LOCAL_MEM_FENCE" if space else "CLK_GLOBAL_MEM_FENCE"
     if first.phase != second.phase:
-        return f"a barrier stands between the two, but none that is not divergent and has {flag}"
+        return f"the barriers between the two do not order them: they lack {flag}, or are divergent"
     return f"no barrier stands between the two; one with {flag} would order them"

@@ -120,21 +120,21 @@ public:
     }
 
     void memoryLoad(const Memory *memory, const WorkItem *item, size_t address, size_t size) override {
-        if (is_kept(memory, item->getCurrentInstruction(), address, size)) access(memory, item, GPURACE_READ, address, size);
+        access(memory, item, GPURACE_READ, address, size);
     }
     void memoryStore(const Memory *memory, const WorkItem *item, size_t address, size_t size, const uint8_t *) override {
-        if (is_kept(memory, item->getCurrentInstruction(), address, size)) access(memory, item, GPURACE_WRITE, address, size);
+        access(memory, item, GPURACE_WRITE, address, size);
     }
     void memoryLoad(const Memory *memory, const WorkGroup *group, size_t address, size_t size) override {
-        if (is_kept(memory, group->getCurrentBarrier(), address, size)) copy(memory, group, GPURACE_READ, address, size);
+        copy(memory, group, GPURACE_READ, address, size);
     }
     void memoryStore(const Memory *memory, const WorkGroup *group, size_t address, size_t size, const uint8_t *) override {
-        if (is_kept(memory, group->getCurrentBarrier(), address, size)) copy(memory, group, GPURACE_WRITE, address, size);
+        copy(memory, group, GPURACE_WRITE, address, size);
     }
     // An atomic is told of as a load, and as a store behind it where it modifies.
     void memoryAtomicLoad(const Memory *memory, const WorkItem *item, AtomicOp operation, size_t address, size_t size) override {
         changed_ = nullptr;
-        if (!is_kept(memory, item->getCurrentInstruction(), address, size)) return;
+        if (!is_recorded(memory, item->getCurrentInstruction(), address, size)) return;
         changed_ = &atomic_load(memory, item, address, size);
         launch_->losses.failed_exchanges += operation == AtomicCmpXchg ? 1 : 0;
     }
@@ -241,7 +241,7 @@ private:
     }
 
     // Whether the access is one that is recorded: of global or local memory, within a buffer.
-    bool is_kept(const Memory *memory, const llvm::Instruction *at, size_t address, size_t size) {
+    bool is_recorded(const Memory *memory, const llvm::Instruction *at, size_t address, size_t size) {
         if (!launch_ || size == 0 || memory->getAddressSpace() == AddrSpacePrivate) return false;
         if (memory->isAddressValid(address, size)) return true;
         if (launch_->losses.out_of_bounds++ == 0) launch_->losses.out_of_bounds_place = place_of(at);
@@ -266,13 +266,16 @@ private:
     }
 
     void access(const Memory *memory, const WorkItem *item, uint8_t kind, size_t address, size_t size) {
-        Group &group = group_of(item->getWorkGroup());
-        keep(group, record_of(memory, item->getCurrentInstruction(), item_of(item), kind, address, size));
+        const llvm::Instruction *at = item->getCurrentInstruction();
+        if (is_recorded(memory, at, address, size))
+            keep(group_of(item->getWorkGroup()), record_of(memory, at, item_of(item), kind, address, size));
     }
     void copy(const Memory *memory, const WorkGroup *work_group, uint8_t kind, size_t address, size_t size) {
+        const llvm::Instruction *at = work_group->getCurrentBarrier();
+        if (!is_recorded(memory, at, address, size)) return;
         Group &group = group_of(work_group);
         group.has_copies = true;
-        keep(group, record_of(memory, work_group->getCurrentBarrier(), uint16_t(group.items), kind, address, size));
+        keep(group, record_of(memory, at, uint16_t(group.items), kind, address, size));
     }
     void keep(Group &group, const Record &record) {
         if (record.kind == GPURACE_WRITE) sequences_.write(word_of(group, record));
@@ -283,8 +286,8 @@ private:
         uint32_t flags = GPURACE_GLOBAL_FENCE | GPURACE_LOCAL_FENCE; // of wait_group_events
         if (kind == Call::barrier && call->arg_size() > 0) {
             const uint64_t given = item->getOperand(call->getArgOperand(0)).getUInt();
-            flags = (given & CLK_GLOBAL_MEM_FENCE ? GPURACE_GLOBAL_FENCE : 0u) |
-                    (given & CLK_LOCAL_MEM_FENCE ? GPURACE_LOCAL_FENCE : 0u);
+            flags = (given & CLK_GLOBAL_MEM_FENCE ? GPURACE_GLOBAL_FENCE : GPURACE_NO_FENCE) |
+                    (given & CLK_LOCAL_MEM_FENCE ? GPURACE_LOCAL_FENCE : GPURACE_NO_FENCE);
         }
         const void *location = call->getDebugLoc().get();
         auto [site, is_new] = launch_->site_of.emplace(location ? location : call, uint32_t(launch_->site_of.size() + 1));
@@ -334,7 +337,8 @@ private:
         const bool acquires = is_explicit && (given->second.failure_order == GPURACE_ACQUIRE ||
                                               given->second.failure_order == GPURACE_BOTH);
         record.order = acquires ? GPURACE_ACQUIRE : GPURACE_RELAXED;
-        record.scope = record.space == GPURACE_LOCAL ? GPURACE_GROUP : is_explicit ? given->second.scope : GPURACE_DEVICE;
+        record.scope = is_explicit ? given->second.scope : uint8_t(GPURACE_DEVICE);
+        if (record.space == GPURACE_LOCAL) record.scope = GPURACE_GROUP;
         if (acquires) name(group, record);
         return group.keep(record);
     }

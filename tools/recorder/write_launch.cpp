@@ -3,6 +3,7 @@
 #include "launch.h"
 
 #include <cerrno>
+#include <cinttypes>
 #include <cstdlib>
 #include <cstring>
 #include <fstream>
@@ -22,15 +23,6 @@ std::string variable(const char *name) {
 [[noreturn]] void refuse_setting(const char *name, const char *wanted) {
     std::fprintf(stderr, "gpurace-recorder: %s must be %s\n", name, wanted);
     std::exit(3);
-}
-
-// The number that the text from `at` on begins with; `at` goes behind it. Not a number: nothing is done.
-bool take_number(const std::string &text, size_t &at, uint64_t &number) {
-    const size_t start = at;
-    while (at < text.size() && text[at] >= '0' && text[at] <= '9') at++;
-    if (at == start || at - start > 9) return false;
-    number = std::stoull(text.substr(start, at - start));
-    return true;
 }
 
 std::ostream &operator<<(std::ostream &out, const Size &size) { return out << size.x << ' ' << size.y << ' ' << size.z; }
@@ -239,13 +231,11 @@ Settings Settings::from_environment() {
     settings.out = out.empty() ? "gpurace-out" : out;
     settings.kernel = variable("GPURACE_KERNEL");
     settings.quiet = variable("GPURACE_QUIET") == "1";
-    size_t at = 0;
-    uint64_t number = 0;
-    if (!launch.empty() && (!take_number(launch, at, number) || at != launch.size())) refuse_setting("GPURACE_LAUNCH", "a number");
-    if (!launch.empty()) settings.launch = long(number);
-    at = 0;
-    if (!groups.empty() && (!take_number(groups, at, settings.first) || groups[at++] != ':' ||
-                            !take_number(groups, at, settings.count) || at != groups.size() || settings.count == 0))
+    char rest = 0;
+    if (!launch.empty() && std::sscanf(launch.c_str(), "%9ld%c", &settings.launch, &rest) != 1)
+        refuse_setting("GPURACE_LAUNCH", "a number");
+    if (!groups.empty() && (std::sscanf(groups.c_str(), "%9" SCNu64 ":%9" SCNu64 "%c", &settings.first, &settings.count, &rest) != 2 ||
+                            settings.count == 0))
         refuse_setting("GPURACE_GROUPS", "FIRST:COUNT, as 0:8");
     if (grain == "1" || grain == "2" || grain == "4")
         settings.grain = uint32_t(grain[0] - '0');
