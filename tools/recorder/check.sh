@@ -45,12 +45,12 @@ expect() {
 }
 
 expect "no mistake" 0 "sum 2016" "launch 0, sum_tiles: nothing found (4 groups of 16 work-items" \
-    "1 launches: 0 with findings, 1 without, 0 not judged" -- "$work/sum_tiles" sum_tiles.cl 0
+    "1 launch: 0 with findings, 1 without, 0 not judged" -- "$work/sum_tiles" sum_tiles.cl 0
 # each item writes tile[l]; items below 8 then read tile[l + 8]: eight words in each of four groups
 expect "a barrier is missing" 1 "races 32 diverge 0 unmatched 0 held 0" "race on tile\[8..15\] of 4 groups (32 words)" \
     "kernel.cl:15:[0-9]*: write by group 0, item 8" "tile\[l\] = input\[get_global_id(0)\];" \
     "kernel.cl:19:[0-9]*: read by group 0, item 0" "one with CLK_LOCAL_MEM_FENCE would order them" -- "$work/sum_tiles" sum_tiles.cl 1
-expect "a flag is missing" 1 "races 32 diverge 0 unmatched 0 held 0" "the barriers between the two do not order them: they lack CLK_LOCAL_MEM_FENCE" \
+expect "a flag is missing" 1 "races 32 diverge 0 unmatched 0 held 0" "the barrier between the two, kernel.cl:16:5, would order them with CLK_LOCAL_MEM_FENCE" \
     -- "$work/sum_tiles" sum_tiles.cl 2
 # behind the first barrier only items below 8, 4, 2 and 1 come: four divergent barriers a group, and tile[1..7] race
 expect "barriers in a branch" 1 "races 28 diverge 16 unmatched 0 held 0" "race on tile\[1..7\] of 4 groups (28 words)" \
@@ -69,7 +69,7 @@ expect "a relaxed count" 1 "races 5 diverge 0 unmatched 0 held 0" "race on parts
 expect "releases alone" 1 "races 5 diverge 0 unmatched 0 held 0" \
     -- --opencl20 --build-options -DORDER=memory_order_release sum_all.sim
 # each count continues the sequences of all before it: the load names six releases, five of them by loads before it
-expect "releases, and a load that acquires" 0 "sum_all: nothing found (6 groups of 1 work-items, 40 records)" \
+expect "releases, and a load that acquires" 0 "sum_all: nothing found (6 groups of 1 work-item, 42 records)" \
     -- --opencl20 --build-options "-DORDER=memory_order_release -DACQUIRES" sum_all.sim
 expect "a copy that is waited for" 0 "copy_tiles: nothing found" -- --build-options -DWAIT=1 copy_tiles.sim
 expect "a copy that is not" 1 "races 16 diverge 0" "write by group 0, asynchronous copy" -- --build-options -DWAIT=0 copy_tiles.sim

@@ -166,7 +166,7 @@ class Trace:
         places = self.places({access.event for pair in pairs.values() if pair for access in pair})
         kinds = collections.defaultdict(list)
         for word, pair in pairs.items():
-            shown = pair and tuple((places.get(access.event), access.kind) for access in pair)
+            shown = pair and tuple(sorted((places.get(access.event, ""), access.kind) for access in pair))
             kinds[word[0], self.buffer(word)[0], shown].append(word)
         told = []
         for words in list(kinds.values())[:MOST_SHOWN]:
@@ -182,7 +182,22 @@ class Trace:
             return told + ["    (no pair was found in the trace: please report this)"]
         for access in pair:
             told += self.access_told(access, places.get(access.event, "unknown"))
-        return told + ["    " + mend(pair, words[0][0])]
+        return told + ["    " + self.missing(*pair, words[0][0])]
+
+    def missing(self, first, second, space):
+        """What would have ordered the two."""
+        group = first.event.group
+        if group != second.event.group:
+            return "the two are of different work-groups, which no barrier orders"
+        flag = "CLK_LOCAL_MEM_FENCE" if space else "CLK_GLOBAL_MEM_FENCE"
+        between = range(*sorted((first.phase, second.phase)))
+        flagless = next((instance for instance in between if self.is_convergent(group, instance)), None)
+        if flagless is not None:
+            site = next(iter(self.barriers[group, flagless].values()))[1]
+            return f"the barrier between the two, {self.sites().get(site, f'site {site}')}, would order them with {flag}"
+        if between:
+            return "the barriers between the two are divergent, and order nothing"
+        return f"no barrier stands between the two; one with {flag} would order them"
 
     def access_told(self, access, place):
         group, item, _ = access.event
@@ -283,12 +298,3 @@ def conflict(first, second):
     inclusive = first.scope == second.scope and (first.scope == 2 or first.event.group == second.event.group)
     return not (both_atomic and inclusive)
 
-
-def mend(pair, space):
-    first, second = pair
-    if first.event.group != second.event.group:
-        return "the two are of different work-groups, which no barrier orders"
-    flag = "CLK_LOCAL_MEM_FENCE" if space else "CLK_GLOBAL_MEM_FENCE"
-    if first.phase != second.phase:
-        return f"the barriers between the two do not order them: they lack {flag}, or are divergent"
-    return f"no barrier stands between the two; one with {flag} would order them"
