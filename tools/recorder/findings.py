@@ -254,10 +254,12 @@ class Trace:
     def others(self, lines):
         """What the report's lines say that name no race."""
         told, divergent = [], collections.defaultdict(list)
+        cut = [line[1] for line in lines if line[0] == "cut"]
+        if cut:
+            told.append(f"records of {len(cut)} of {len(self.items)} groups were lost (the first is group {cut[0]}): a group did more "
+                        "than a trace has room for, or was stopped")
         for line in lines:
-            if line[0] == "cut":
-                told.append(f"records of group {line[1]} were lost: it did more than a trace has room for, or was stopped")
-            elif line[0] == "diverge":
+            if line[0] == "diverge":
                 group, instance = int(line[1]), int(line[2])
                 divergent[line[3], self.came(group, instance)].append((group, instance))
             elif line[0] == "unmatched":

@@ -75,7 +75,7 @@ struct Size {
 
 // What the report of this launch does not speak of.
 struct Losses {
-    uint64_t fences = 0, out_of_bounds = 0, unknown_orders = 0, names_outside_window = 0, failed_exchanges = 0,
+    uint64_t fences = 0, out_of_bounds = 0, unknown_orders = 0, names_outside_window = 0,
              accesses_of_parts_of_words = 0;
     uint32_t out_of_bounds_place = 0;
 };
@@ -140,7 +140,6 @@ struct Settings {
     std::string out, kernel;
     long launch = -1;
     uint64_t first = 0, count = UINT64_MAX;
-    uint32_t grain = 0; // 0: by buffer
     bool quiet = false;
 
     static Settings from_environment();

@@ -64,8 +64,9 @@ GPURACE_ATOMICS(local, atomic_uint, uint)
 #define atomic_compare_exchange_weak_explicit(p, e, d, o, f, s) gpurace_atomic_compare(p, e, d, o, f, s)
 #define atomic_compare_exchange_weak(p, e, d) atomic_compare_exchange_strong(p, e, d)
 
-// the scope of a barrier says nothing to a trace
+// the scope of a barrier, and the order and scope of a fence, say nothing to a trace
 #define GPURACE_FIRST(flags, ...) flags
 #define work_group_barrier(...) barrier(GPURACE_FIRST(__VA_ARGS__, 0))
+#define atomic_work_item_fence(flags, order, scope) mem_fence(flags)
 
 #endif

@@ -132,16 +132,12 @@ public:
         copy(memory, group, GPURACE_WRITE, address, size);
     }
     // An atomic is told of as a load, and as a store behind it where it modifies.
-    void memoryAtomicLoad(const Memory *memory, const WorkItem *item, AtomicOp operation, size_t address, size_t size) override {
-        changed_ = nullptr;
-        if (!is_recorded(memory, item->getCurrentInstruction(), address, size)) return;
-        changed_ = &atomic_load(memory, item, address, size);
-        launch_->losses.failed_exchanges += operation == AtomicCmpXchg ? 1 : 0;
+    void memoryAtomicLoad(const Memory *memory, const WorkItem *item, AtomicOp, size_t address, size_t size) override {
+        const bool is_kept = is_recorded(memory, item->getCurrentInstruction(), address, size);
+        changed_ = is_kept ? &atomic_load(memory, item, address, size) : nullptr;
     }
-    void memoryAtomicStore(const Memory *, const WorkItem *item, AtomicOp operation, size_t, size_t) override {
-        if (!launch_ || !changed_) return;
-        launch_->losses.failed_exchanges -= operation == AtomicCmpXchg ? 1 : 0;
-        atomic_change(item, *changed_);
+    void memoryAtomicStore(const Memory *, const WorkItem *item, AtomicOp, size_t, size_t) override {
+        if (changed_) atomic_change(item, *changed_);
         changed_ = nullptr;
     }
 

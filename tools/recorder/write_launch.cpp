@@ -81,8 +81,7 @@ private:
         for (auto &of_space : launch_.buffers) {
             uint64_t next = 0;
             for (auto &[number, buffer] : of_space) {
-                const uint32_t fitting = buffer.bits & 1 ? 1 : buffer.bits & 2 ? 2 : 4;
-                buffer.grain = settings_.grain ? settings_.grain : fitting;
+                buffer.grain = buffer.bits & 1 ? 1 : buffer.bits & 2 ? 2 : 4;
                 buffer.first = next;
                 next = (next + buffer.words() + 127) / 64 * 64;
             }
@@ -160,10 +159,9 @@ private:
     }
 
     bool write_stream(uint32_t number, std::ostream &places) {
-        static const Group none; // a group that never began, since the kernel was stopped
-        const auto found = launch_.group.find(uint32_t(number + launch_.window_first));
-        const Group &group = found == launch_.group.end() ? none : found->second;
-        const uint32_t items = std::max(1u, group.streamed_items());
+        Group &group = launch_.group[uint32_t(number + launch_.window_first)];
+        if (group.items == 0) group.items = uint32_t(launch_.local.count()); // it never began: the kernel was stopped
+        const uint32_t items = group.streamed_items();
         std::ostringstream name;
         name << folder_ << "/group" << std::setw(2) << std::setfill('0') << number << ".gpurace";
         std::ofstream out(name.str(), std::ios::binary);
@@ -217,8 +215,7 @@ private:
         out << "fences-not-recorded " << losses.fences << "\nout-of-bounds-not-recorded " << losses.out_of_bounds;
         if (losses.out_of_bounds > 0) out << ' ' << launch_.places[losses.out_of_bounds_place];
         out << "\norders-not-known " << losses.unknown_orders << "\nnames-outside-window " << losses.names_outside_window
-            << "\nacquire-loads-added " << added_loads_ << "\nfailed-exchanges-as-loads " << losses.failed_exchanges
-            << "\naccesses-of-parts-of-words " << losses.accesses_of_parts_of_words << '\n';
+            << "\nacquire-loads-added " << added_loads_ << "\naccesses-of-parts-of-words " << losses.accesses_of_parts_of_words << '\n';
     }
 };
 
@@ -226,8 +223,7 @@ private:
 
 Settings Settings::from_environment() {
     Settings settings;
-    const std::string out = variable("GPURACE_OUT"), launch = variable("GPURACE_LAUNCH"), groups = variable("GPURACE_GROUPS"),
-                      grain = variable("GPURACE_GRAIN");
+    const std::string out = variable("GPURACE_OUT"), launch = variable("GPURACE_LAUNCH"), groups = variable("GPURACE_GROUPS");
     settings.out = out.empty() ? "gpurace-out" : out;
     settings.kernel = variable("GPURACE_KERNEL");
     settings.quiet = variable("GPURACE_QUIET") == "1";
@@ -237,10 +233,6 @@ Settings Settings::from_environment() {
     if (!groups.empty() && (std::sscanf(groups.c_str(), "%9" SCNu64 ":%9" SCNu64 "%c", &settings.first, &settings.count, &rest) != 2 ||
                             settings.count == 0))
         refuse_setting("GPURACE_GROUPS", "FIRST:COUNT, as 0:8");
-    if (grain == "1" || grain == "2" || grain == "4")
-        settings.grain = uint32_t(grain[0] - '0');
-    else if (!grain.empty() && grain != "auto")
-        refuse_setting("GPURACE_GRAIN", "auto, 4, 2 or 1");
     return settings;
 }
 
