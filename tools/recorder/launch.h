@@ -109,9 +109,9 @@ public:
         auto found = heads_.find(word);
         return found == heads_.end() ? std::vector<Release>() : found->second;
     }
-    // A plain write ends all sequences.
-    void write(const Word &word) {
-        if (!heads_.empty()) heads_.erase(word);
+    // A plain write ends the sequences of all that it covers.
+    void write(const Word &word, uint64_t size) {
+        if (!heads_.empty()) heads_.erase(heads_.lower_bound(word), heads_.lower_bound({word.first, word.second + size}));
     }
     // A store leaves the sequences of its own item alone, a read-modify-write leaves all.
     void modify(const Word &word, const Record &record, const Group &group, uint32_t release) {

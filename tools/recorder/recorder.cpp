@@ -274,7 +274,7 @@ private:
         keep(group, record_of(memory, at, uint16_t(group.items), kind, address, size));
     }
     void keep(Group &group, const Record &record) {
-        if (record.kind == GPURACE_WRITE) sequences_.write(word_of(group, record));
+        if (record.kind == GPURACE_WRITE) sequences_.write(word_of(group, record), record.size);
         group.keep(record);
     }
 
@@ -294,13 +294,14 @@ private:
         group.keep(group.last_barrier);
     }
 
-    // memory_order_relaxed is 0, acquire 2, release 3, acq_rel 4, seq_cst 5
+    // memory_order_relaxed is 0, acquire 2, release 3, acq_rel 4, seq_cst 5. No store acquires, and no load releases.
     uint8_t order_of(const WorkItem *item, const llvm::Value *value, uint8_t kind) {
-        if (llvm::isa<llvm::UndefValue>(value)) {
+        const uint64_t order = llvm::isa<llvm::UndefValue>(value) ? UINT64_MAX : item->getOperand(value).getUInt();
+        if (order > 5 || (kind == GPURACE_STORE && order == 2) || (kind == GPURACE_LOAD && order == 3)) {
             launch_->losses.unknown_orders++;
             return GPURACE_RELAXED;
         }
-        switch (item->getOperand(value).getUInt()) {
+        switch (order) {
         case 0: return GPURACE_RELAXED;
         case 1:
         case 2: return GPURACE_ACQUIRE;
@@ -330,8 +331,8 @@ private:
         const bool is_inside = is_explicit && !item->getCallStack().empty();
         const llvm::Instruction *at = is_inside ? item->getCallStack().top() : item->getCurrentInstruction();
         Record record = record_of(memory, at, item_of(item), GPURACE_LOAD, address, size);
-        const bool acquires = is_explicit && (given->second.failure_order == GPURACE_ACQUIRE ||
-                                              given->second.failure_order == GPURACE_BOTH);
+        const uint8_t failure = is_explicit ? given->second.failure_order : uint8_t(GPURACE_RELAXED);
+        const bool acquires = failure == GPURACE_ACQUIRE || failure == GPURACE_BOTH;
         record.order = acquires ? GPURACE_ACQUIRE : GPURACE_RELAXED;
         record.scope = is_explicit ? given->second.scope : uint8_t(GPURACE_DEVICE);
         if (record.space == GPURACE_LOCAL) record.scope = GPURACE_GROUP;

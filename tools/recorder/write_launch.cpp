@@ -109,13 +109,15 @@ private:
             }
         }
     }
-    // The names of an acquire in the trace's numbers, for its word of this number.
+    // The names of an acquire in the trace's numbers, for its word of this number. A release that a full group has lost is not
+    // named.
     std::vector<gpurace_name> names(const Record &record, uint64_t word) const {
         std::vector<gpurace_name> names;
         if (record.names < 0) return names;
         for (const Release &release : launch_.names[size_t(record.names)]) {
-            const uint64_t first = first_record_.at({release.group, release.item}).at(release.number);
-            names.push_back({release.group - launch_.window_first, release.item, first + word});
+            const auto found = first_record_.find({release.group, release.item});
+            if (found != first_record_.end() && release.number < found->second.size())
+                names.push_back({release.group - launch_.window_first, release.item, found->second[release.number] + word});
         }
         return names;
     }
@@ -240,7 +242,7 @@ void write_launch(Launch &launch, const Settings &settings, const std::string &r
     std::string reason = refusal;
     uint64_t items = 0;
     for (const auto &[number, group] : launch.group) {
-        items += group.streamed_items();
+        items += group.is_kept ? group.streamed_items() : 0;
         if (group.streamed_items() > GPURACE_MOST_ITEMS)
             reason = "its asynchronous copies need one more work-item in a group than the 256 that a trace has room for";
     }
