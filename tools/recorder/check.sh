@@ -1,6 +1,7 @@
 #!/bin/sh
 # Builds the plugin, records the kernels of tests/ with their mistakes and without, and compares what is found with what was
-# worked out by hand. Says SKIPPED, with status 0, where Oclgrind or an OpenCL loader to link with is not there.
+# worked out by hand; and compares findings.py with gpurace on the examples. Says SKIPPED, with status 0, where Oclgrind or an
+# OpenCL loader to link with is not there.
 #
 #   check.sh      GPURACE_PROGRAM names a built gpurace; without it ./gpurace builds one, which takes minutes
 set -eu
@@ -79,6 +80,7 @@ expect "parts of words" 1 "races 2 diverge 0 unmatched 0 held 0" "race on bytes.
 # group 2 is stopped, and group 3 never begins
 expect "a kernel that is stopped" 2 "nothing found in what was recorded (4 groups of 2 work-items, 15 records)" \
     "records of 2 of 4 groups were lost (the first is group 2)" -- stopped.sim
+python3 pairs.py "${GPURACE_PROGRAM:-$here/../../gpurace}" || failures=$((failures + 1))
 
 [ $failures = 0 ] || exit 1
 echo "check.sh: the recorder and its reports are as expected"

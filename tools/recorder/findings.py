@@ -267,7 +267,8 @@ class Trace:
                 place = self.places({event}).get(event, "unknown")
                 told.append(f"{place}: acquire by group {event.group}, item {event.item}, without its release ({line[4]})")
         for (cause, came), instances in divergent.items():
-            told += self.divergence_told(cause, came, instances)
+            is_cut = str(instances[0][0]) in cut and cause == "missing"
+            told += self.divergence_told(cause, came, instances, ", or theirs is among the records that were lost" if is_cut else "")
         return told
 
     def came(self, group, instance):
@@ -278,12 +279,12 @@ class Trace:
             came[place and self.sites().get(place[1], f"site {place[1]}")].append(item)
         return tuple((place, len(items), items[0]) for place, items in came.items())
 
-    def divergence_told(self, cause, came, instances):
+    def divergence_told(self, cause, came, instances, doubt):
         causes = {"missing": "some work-items never reach it", "site": "the work-items are at different barriers",
                   "flags": "the work-items give different flags"}
         group, instance = instances[0]
         more = f", and {len(instances) - 1} more alike" if len(instances) > 1 else ""
-        told = [f"divergent barrier, number {instance} of group {group}{more}: {causes[cause]}"]
+        told = [f"divergent barrier, number {instance} of group {group}{more}: {causes[cause]}{doubt}"]
         for place, count, first in came:
             items = f"{count} work-items, the first is {first}" if count > 1 else f"work-item {first}"
             told.append(f"    {place or 'no barrier'}: {items}")
