@@ -14,7 +14,8 @@ READ, WRITE, LOAD, STORE, RMW, BARRIER, END = range(7)
 KINDS = ["read", "write", "atomic load", "atomic store", "atomic read-modify-write"]
 SCOPES = ["", "work-group scope", "device scope"]
 ORDERS = ["", "relaxed", "acquire", "release", "acquire and release"]
-MOST_SHOWN = 20
+MOST_SHOWN = 20      # kinds of races
+MOST_COLUMNS = 160   # of a line of source
 
 Event = collections.namedtuple("Event", "group item index")
 Access = collections.namedtuple("Access", "event kind scope order phase segment")
@@ -210,7 +211,8 @@ class Trace:
         file, _, at = place.partition(":")
         line = at.split(":")[0]
         known = file == "kernel.cl" and line.isdigit() and 0 < int(line) <= len(self.source)
-        return self.source[int(line) - 1].strip() if known else ""
+        text = self.source[int(line) - 1].strip() if known else ""
+        return text if len(text) <= MOST_COLUMNS else text[:MOST_COLUMNS] + " .."
 
     def places(self, events):
         """The places of the events, from the side file, which is gone through once."""
