@@ -14,9 +14,9 @@ use gr_model::memory::Memory;
 use std::alloc::{Allocator, Global};
 use std::marker::Model;
 
-/// What is kept of the accesses to one word: of each item and class the touch with the greatest index, and whether the word was
-/// answered; then nothing else is kept. The first few items and classes have their touch in the shadow itself, for good, so
-/// nothing is moved when more come; the others have it in lists, one for each class.
+/// What is kept of the accesses to one word: whether the word was answered, and where it was not, of each item and class the
+/// touch with the greatest index. The first few items and classes have theirs in the shadow itself, for good, so nothing is
+/// moved when more come; the others have theirs in lists, one for each class.
 #[derive(Drop)]
 #[derive_where(Debug)]
 pub(crate) struct Shadow<A: Allocator = Global> {
@@ -62,7 +62,7 @@ impl<A: Allocator + Copy> Shadow<A> {
     }
 
     /// Keeps a touch.
-    fn keep(&mut self, alloc: A, touch: Touch) -> Result<(), Memory>
+    fn keep(&mut self, touch: Touch) -> Result<(), Memory>
         ensures answered { OnOk result (self.new.answered ≡ self.old.answered) }
         ensures kept { OnOk result (Keeps self.new.touches (self.old.touches ++ touch ∷ [])) }
         ensures err { OnErr result (self.new ≡ self.old) }
@@ -74,14 +74,14 @@ impl<A: Allocator + Copy> Shadow<A> {
             self.few.push(touch);
             return Ok(());
         }
-        put(&mut self.lists, alloc, touch)
+        put(&mut self.lists, touch)
     }
 
     /// Adds an access to the word, and tells whether the word becomes hit by it.
     ///
     /// # Errors
     /// `Memory`. The shadow is then as it was.
-    pub(crate) fn add(&mut self, alloc: A, access: &Access<A>) -> Result<bool, Memory>
+    pub(crate) fn add(&mut self, access: &Access<A>) -> Result<bool, Memory>
         ensures shadow { OnOk result (IsShadowAfter self.old (clocked access.now) self.new) }
         ensures hit { IfOk result (λ hit. hit ≡ spec.is_first_hit self.old (clocked access.now)) }
         ensures err { OnErr result (self.new ≡ self.old) }
@@ -90,10 +90,10 @@ impl<A: Allocator + Copy> Shadow<A> {
             return Ok(false);
         }
         if self.clashes(access) {
-            *self = Shadow::answered(alloc);
+            *self = Shadow::answered(*self.lists.allocator());
             return Ok(true);
         }
-        self.keep(alloc, Touch::of(access))?;
+        self.keep(Touch::of(access))?;
         Ok(false)
     }
 

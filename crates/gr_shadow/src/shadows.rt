@@ -59,10 +59,10 @@ impl<A: Allocator + Copy> Shadows<A> {
         ensures err { OnErr result (self.new ≡ self.old) }
     {
         match self.words.get_mut(&access.word) {
-            Some(shadow) => shadow.add(self.alloc, access),
+            Some(shadow) => shadow.add(access),
             None => {
                 let mut shadow = Shadow::new(self.alloc);
-                let hit = shadow.add(self.alloc, access)?;
+                let hit = shadow.add(access)?;
                 self.words.insert(access.word, shadow)?;
                 Ok(hit)
             }

@@ -1,6 +1,6 @@
 //! What is kept of an access.
 
-ghost use Rattle.std.specs.Prelude.{◌≡◌, true, false, ◌++◌, ◌∷◌, []};
+ghost use Rattle.std.specs.Prelude.{◌≡◌, ◌↔◌, IsTrue, true, false, ◌++◌, ◌∷◌, []};
 ghost use Rattle.std.specs.List.{list_any};
 ghost use Rattle.gr_clocks.specs.ClockedAccess.{clocked};
 ghost use Rattle.gr_shadow.specs.Clashes.{clashes_with};
@@ -62,12 +62,19 @@ impl Touch {
             && !access.clock.covers(self.item, self.index)
     }
 
+    /// Whether another touch is of the same item and class, so that the later of the two may stand for both.
+    fn is_like(&self, other: &Touch) -> bool
+        ensures { IsTrue result ↔ ((self.now.item ≡ other.now.item) × (self.now.class ≡ other.now.class)) }
+    {
+        self.item == other.item && self.class == other.class
+    }
+
     /// Becomes the later of two touches, where the other is of its item and class. It tells whether it is.
     pub(crate) fn takes(&mut self, other: &Touch) -> bool
         ensures kept { result ≡ true → Keeps (self.new ∷ []) (self.old ∷ other.now ∷ []) }
         ensures other { result ≡ false → self.new ≡ self.old }
     {
-        if self.item != other.item || self.class != other.class {
+        if !self.is_like(other) {
             return false;
         }
         if self.index < other.index {
@@ -89,9 +96,7 @@ pub(crate) fn keep_among(touches: &mut ArrayVec<Touch, PLACES>, touch: &Touch) -
     ensures kept { result ≡ true → Keeps touches.new.items (touches.old.items ++ touch.now ∷ []) }
     ensures other { result ≡ false → touches.new ≡ touches.old }
 {
-    let place = touches
-        .iter()
-        .position(|kept| kept.item == touch.item && kept.class == touch.class);
+    let place = touches.iter().position(|kept| kept.is_like(touch));
     match place {
         Some(place) => match touches.get_mut(place) {
             Some(kept) => kept.takes(touch),

@@ -12,7 +12,7 @@ use gr_scopes::class::{Class, exempt};
 use std::alloc::{Allocator, Global};
 use std::marker::Model;
 
-/// The group by which accesses of a class are kept apart: that of their item where the class has group scope, and 0 else.
+/// The group by which touches of a class are kept apart: that of their item where the class has group scope, and 0 else.
 fn kept_group(class: Class, group: u16) -> u16
     ensures { result ≡ kept_group class group }
 {
@@ -25,7 +25,7 @@ fn kept_group(class: Class, group: u16) -> u16
 /// How many touches a list may have before it is compacted for the first time.
 const FEW: usize = 16;
 
-/// Leaves of the touches of an item and class the latest.
+/// Leaves one touch of each item and class, that with the greatest index.
 fn compact<A: Allocator>(touches: &mut Vec<Touch, A>)
     ensures { Keeps touches.new.items touches.old.items }
 {
@@ -115,9 +115,8 @@ pub(crate) fn clashes_in_lists<A: Allocator>(lists: &[Touches<A>], access: &Acce
 }
 
 /// Keeps a touch in the list to which it belongs.
-pub(crate) fn put<A: Allocator>(
+pub(crate) fn put<A: Allocator + Copy>(
     lists: &mut Vec<Touches<A>, A>,
-    alloc: A,
     touch: Touch,
 ) -> Result<(), Memory>
     ensures kept { OnOk result (Keeps (all_touches lists.new.items) (all_touches lists.old.items ++ touch ∷ [])) }
@@ -126,7 +125,7 @@ pub(crate) fn put<A: Allocator>(
     match lists.iter().position(|list| list.has(&touch)) {
         Some(place) => lists[place].add(touch),
         None => {
-            let mut list = Touches::new(alloc, &touch);
+            let mut list = Touches::new(*lists.allocator(), &touch);
             list.add(touch)?;
             lists.push(list)?;
             Ok(())
