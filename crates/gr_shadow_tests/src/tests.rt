@@ -1,9 +1,10 @@
 //! Worked rows of accesses. A call to which a growth was refused leaves the hit words as they were, and then gives the
 //! row's answer.
 
-ghost use Rattle.std.specs.Prelude.{◌≡◌};
+ghost use Rattle.std.specs.Prelude.{◌≡◌, ◌<◌};
 ghost use Rattle.gr_clocks.specs.Counts.{sizes_of};
 
+use crate::slow::Slow;
 use gr_clocks::access::Access;
 use gr_clocks::clock::{Clock, ClockError};
 use gr_model::event::{ItemId, Word};
@@ -198,19 +199,32 @@ fn tick<A: Allocator>(
     Ok(())
 }
 
-/// A clock of these counts.
+/// The item with a number, where each group has so many.
+fn item_at(number: u16, width: u16) -> ItemId
+    requires { 0 < width }
+{
+    ItemId {
+        group: number / width,
+        item: number % width,
+    }
+}
+
+/// A clock of these counts, of groups of so many items.
 fn clock_of<A: Allocator + Copy>(
     alloc: A,
     shape: &Shape<A>,
+    width: u16,
     counts: [u32; 6],
-) -> Result<Clock<A>, ClockError> {
+) -> Result<Clock<A>, ClockError>
+    requires { 0 < width }
+{
     let mut clock = Clock::new(alloc, shape)?;
-    for item in 0..6_u16 {
+    for number in 0..6_u16 {
         tick(
             &mut clock,
             shape,
-            ItemId { group: 0, item },
-            counts[item as usize],
+            item_at(number, width),
+            counts[number as usize],
         )?;
     }
     Ok(clock)
@@ -219,9 +233,9 @@ fn clock_of<A: Allocator + Copy>(
 /// The access of a step, tried twice.
 fn access_of<A: Allocator + Copy>(alloc: A, shape: &Shape<A>, step: Step) -> Option<Access<A>> {
     let (word, place, index, class, counts) = step;
-    let clock = match clock_of(alloc, shape, counts) {
+    let clock = match clock_of(alloc, shape, 6, counts) {
         Ok(clock) => clock,
-        Err(_) => clock_of(alloc, shape, counts).ok()?,
+        Err(_) => clock_of(alloc, shape, 6, counts).ok()?,
     };
     let item = ItemId {
         group: 0,
@@ -293,6 +307,102 @@ fn a_word_is_answered_where_it_becomes_hit(rt: HostRuntime) -> Result<(), Fail> 
         assert_eq!(rt; all, *wanted, "{name}");
         assert_eq!(rt; words.as_slice(), *hits, "{name}");
     }
+    Ok(())
+}
+
+#[test]
+fn each_refused_growth_in_a_row_leaves_the_hit_words(rt: HostRuntime) -> Result<(), Fail> {
+    for (name, items, steps, wanted, hits) in &ROWS {
+        for at in 0..1_000_u64 {
+            let heap = Refusing::new(rt.alloc(), at);
+            let (all, words) = answers(&heap, *items, steps).ok_or("a refusal changed the words")?;
+            assert_eq!(rt; all, *wanted, "{name}, growth {at}");
+            assert_eq!(rt; words.as_slice(), *hits, "{name}, growth {at}");
+            if !heap.refused() {
+                break;
+            }
+        }
+    }
+    Ok(())
+}
+
+#[test]
+fn the_slow_body_answers_the_same_on_each_row(rt: HostRuntime) -> Result<(), Fail> {
+    for (name, items, steps, wanted, _hits) in &ROWS {
+        let shape = one_group(rt.alloc(), *items).ok_or("memory")?;
+        let mut slow = Slow::new(rt.alloc());
+        for place in 0..7_usize {
+            if let Some(step) = steps[place] {
+                let access = access_of(rt.alloc(), &shape, step).ok_or("memory")?;
+                assert_eq!(rt; slow.apply(&access)?, wanted[place], "{name}");
+            }
+        }
+    }
+    Ok(())
+}
+
+const CLASSES: [Class; 6] = [
+    Class::PlainRead,
+    Class::PlainWrite,
+    Class::GroupRead,
+    Class::GroupModify,
+    Class::DeviceRead,
+    Class::DeviceModify,
+];
+
+/// The next number below this one.
+fn draw(seed: &mut u64, below: u64) -> u64
+    requires { 0 < below }
+    ensures { result < below }
+{
+    *seed = seed
+        .wrapping_mul(6_364_136_223_846_793_005)
+        .wrapping_add(1_442_695_040_888_963_407);
+    (*seed >> 33) % below
+}
+
+/// A drawn access of one of six items in three groups. Few clocks lack what other items did.
+fn drawn<A: Allocator + Copy>(
+    alloc: A,
+    shape: &Shape<A>,
+    seed: &mut u64,
+) -> Result<Access<A>, ClockError> {
+    let mut counts = [8; 6];
+    if draw(seed, 300) == 0 {
+        counts[draw(seed, 6) as usize] = draw(seed, 9) as u32;
+    }
+    let number = draw(seed, 6) as u16;
+    Ok(Access {
+        word: Word::Global(draw(seed, 2) as u32),
+        item: item_at(number, 2),
+        index: draw(seed, 8) as u32,
+        class: CLASSES[draw(seed, 6) as usize],
+        clock: clock_of(alloc, shape, 2, counts)?,
+    })
+}
+
+#[test]
+fn the_slow_body_answers_the_same_on_drawn_accesses(rt: HostRuntime) -> Result<(), Fail> {
+    let shape = Shape::new(vec![in rt.alloc(); 2, 2, 2]?).map_err(|_| "shape")?;
+    let mut seed = 1;
+    let mut hits: u64 = 0;
+    for round in 0..40_u64 {
+        let mut shadows = Shadows::new(rt.alloc());
+        let mut slow = Slow::new(rt.alloc());
+        for place in 0..400_u64 {
+            let access = drawn(rt.alloc(), &shape, &mut seed).map_err(|_| "clock")?;
+            let answer = shadows.apply(&access).map_err(|_| "memory")?;
+            assert_eq!(rt;
+                answer,
+                slow.apply(&access)?,
+                "round {round}, access {place}"
+            );
+            if answer.is_some() {
+                hits = hits.wrapping_add(1);
+            }
+        }
+    }
+    assert!(rt; hits > 10, "{hits} hits");
     Ok(())
 }
 
