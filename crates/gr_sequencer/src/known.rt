@@ -1,6 +1,6 @@
 //! What the work-items know of the events that were handled: their clocks, and what each handled release left.
 
-ghost use Rattle.std.specs.Prelude.{◌≡◌, ◌≢◌, ◌<◌, ◌++◌, ◌∷◌, [], Some, IfOk, OnOk, IsTrue, MatchOption, is_some, length};
+ghost use Rattle.std.specs.Prelude.{◌≡◌, ◌≢◌, ◌<◌, ◌++◌, ◌∷◌, [], Some, IfOk, OnErr, OnOk, IsTrue, MatchOption, is_some, length};
 ghost use Rattle.gr_model.specs.declared.event.EventId.{EventId as AnyEvent};
 ghost use Rattle.gr_model.specs.Access as model;
 ghost use Rattle.gr_model.specs.Barriers.{IsConvergent};
@@ -120,7 +120,7 @@ impl<A: Allocator> Known<A> {
         ensures shape { IfOk result (λ c. sizes_of c ≡ order.now.taken.sizes) }
         ensures counts { IfOk result (λ c. CountsJust c (IsGathered order.now.taken order.now.handled (model.memory_of word) event)) }
     {
-        let mut clock = match self.clocks.clock_of(event.at, memory_of(word)).copy() {
+        let mut clock = match self.clocks.clock_of(event.at, memory_of(word)) {
             Ok(clock) => clock,
             Err(_) => return Err(Memory),
         };
@@ -152,7 +152,7 @@ impl<A: Allocator> Known<A> {
         let mut clock = self.gathered(order, event, taken, word)?;
         match clock.tick(event.at) {
             Ok(()) => Ok(clock),
-            Err(_) => unreachable!(),
+            Err(_) => Err(Memory),
         }
     }
 
@@ -221,19 +221,30 @@ impl<A: Allocator> Known<A> {
     }
 
     /// Gives an event's item the clocks that it has behind the event, which may be handled next.
-    pub(crate) fn advance(&mut self, order: &Order<A>, event: EventId, taken: &Event)
+    ///
+    /// # Errors
+    /// `Memory`. What is known is then as before.
+    pub(crate) fn advance(
+        &mut self,
+        order: &Order<A>,
+        event: EventId,
+        taken: &Event,
+    ) -> Result<(), Memory>
+    where
+        A: Clone,
         requires next { IsNext order.now.taken order.now.handled self.old event }
         requires there { event_at order.now.taken event ≡ Some taken.now }
         ensures left { self.new.left ≡ self.old.left }
-        ensures clocks { AreTrue order.now.taken (order.now.handled ++ event ∷ []) self.new.clocks }
+        ensures clocks { OnOk result (AreTrue order.now.taken (order.now.handled ++ event ∷ []) self.new.clocks) }
+        ensures err { OnErr result (self.new.clocks ≡ self.old.clocks) }
     {
         let answer = match lesson(order, &self.left, event, taken) {
             None => self.clocks.access(event.at),
             Some(lesson) => self.clocks.acquire(event.at, lesson),
         };
         match answer {
-            Ok(()) => {}
-            Err(_) => unreachable!(),
+            Ok(()) => Ok(()),
+            Err(_) => Err(Memory),
         }
     }
 

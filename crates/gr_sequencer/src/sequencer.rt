@@ -147,7 +147,7 @@ impl<A: Allocator> Sequencer<A> {
         };
         let access = self.known.access_of(&self.order, event, &taken)?;
         self.known.keep(&self.order, event, &taken, &access)?;
-        self.known.advance(&self.order, event, &taken);
+        self.known.advance(&self.order, event, &taken)?;
         self.order.add(event);
         Ok(Handled::One { event, access })
     }
