@@ -170,9 +170,8 @@ impl<A: Allocator> Sequencer<A> {
             None => return Err(GoError::NotReady),
             Some(instance) => instance,
         };
-        let room = self.known.room(&self.order, group, instance)?;
+        self.known.meet(&self.order, group, instance)?;
         self.order.pass(group);
-        self.known.meet(group, room);
         Ok(Handled::Meet { group, instance })
     }
 

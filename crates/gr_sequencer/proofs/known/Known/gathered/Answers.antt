@@ -28,7 +28,7 @@ returns-in-None-clause-counts g c =
     let known : Known = record { clocks = c.self.inside.clocks; left = c.self.inside.left.entries } in
     let next = subst (λ k. IsNext s order k e) (sym c.self.view_is) c.requires.next in
     let m = memory_of c.args.word in
-    let same = c.in-Ok.ensures.clock ∙ ap (λ n. clock_in known.clocks n e.at) c.memory_of.ensures in
+    let same = c.in-Ok.ensures.copy ∙ c.clock_of.ensures.clock ∙ ap (λ n. clock_in known.clocks n e.at) c.memory_of.ensures in
     gathered_alone s order known e next m c.in-Ok.clock same c.in-None.ensures
 
 pub returns-in-Ok-join-clause-counts : goal.returns-in-Ok-join-clause-counts
@@ -40,7 +40,7 @@ returns-in-Ok-join-clause-counts g c =
     let next = subst (λ k. IsNext s order k e) (sym c.self.view_is) c.requires.next in
     let m = memory_of c.args.word in
     let left = c.in-Some.lesson.now in
-    let same = c.in-Ok.ensures.clock ∙ ap (λ n. clock_in known.clocks n e.at) c.memory_of.ensures in
+    let same = c.in-Ok.ensures.copy ∙ c.clock_of.ensures.clock ∙ ap (λ n. clock_in known.clocks n e.at) c.memory_of.ensures in
     let is = c.in-Some.ensures in
     let word : c.args.word ≡ left.word = let both : Some c.args.word ≡ Some left.word = sym c.requires.word ∙ is.word in cc in
     let join = subst (λ k. IsJoin c.in-Ok.clock k c.join.new.self) c.clock.ensures c.in-Ok-join.ensures.ok in
