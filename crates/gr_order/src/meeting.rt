@@ -6,14 +6,14 @@ ghost use Rattle.gr_clocks.specs.Counts.{count_of, sizes_of};
 ghost use Rattle.gr_clocks.specs.Tables.{item_of};
 ghost use Rattle.gr_order.specs.States.{TicksItems, next_events};
 
-use gr_clocks::clock::Clock;
+use gr_clocks::tally::Tally;
 use gr_model::event::{EventId, ItemId};
 use std::alloc::Allocator;
 
 /// Adds the next event of each item of a group to the order, which has room for them.
 pub(crate) fn add_next_events<A: Allocator>(
     handled: &mut Vec<EventId, A>,
-    frontier: &Clock<A>,
+    frontier: &Tally<A>,
     group: u16,
     size: u16,
 )
@@ -29,7 +29,7 @@ pub(crate) fn add_next_events<A: Allocator>(
 }
 
 /// Counts the next event of each of so many items of a group.
-pub(crate) fn count_next_events<A: Allocator>(frontier: &mut Clock<A>, group: u16, items: u16)
+pub(crate) fn count_next_events<A: Allocator>(frontier: &mut Tally<A>, group: u16, items: u16)
     requires group { group < length (sizes_of frontier.old) }
     requires items { items ≤ slice_index (sizes_of frontier.old) group }
     requires room { (k : ℕ) → k < items → count_of frontier.old (item_of group k) < LARGEST_COUNT }

@@ -21,7 +21,7 @@ use crate::go_error::GoError;
 use crate::meeting::{add_next_events, count_next_events};
 use crate::ready::{is_ready, next_instance};
 use crate::steps::Ready;
-use gr_clocks::clock::Clock;
+use gr_clocks::tally::Tally;
 use gr_lanes::lanes::Lanes;
 use gr_lanes::seq_error::SeqError;
 use gr_model::event::{Event, EventId, ItemId};
@@ -37,7 +37,7 @@ use std::marker::Model;
 pub struct Order<A: Allocator = Global> {
     lanes: Lanes<A>,
     handled: Vec<EventId, A>,
-    frontier: Clock<A>,
+    frontier: Tally<A>,
     held: u32,
 }
 
@@ -68,7 +68,7 @@ impl<A: Allocator + Copy> Order<A> {
     pub fn new(alloc: A, shape: Shape<A>) -> Result<Order<A>, Memory>
         ensures { IfOk result (λ o. o ≡ nothing shape) }
     {
-        let frontier = match Clock::new(alloc, &shape) {
+        let frontier = match Tally::new(alloc, &shape) {
             Ok(clock) => clock,
             Err(_) => return Err(Memory),
         };
@@ -93,7 +93,7 @@ impl<A: Allocator> Order<A> {
     }
 
     /// How many events of each item were handled: these are its first ones.
-    pub fn frontier(&self) -> &Clock<A>
+    pub fn frontier(&self) -> &Tally<A>
         ensures shape { sizes_of result.now ≡ self.now.taken.sizes }
         ensures first { AreFirst self.now.handled result.now }
     {

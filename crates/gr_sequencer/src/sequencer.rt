@@ -147,7 +147,7 @@ impl<A: Allocator> Sequencer<A> {
         };
         let access = self.known.access_of(&self.order, event, &taken)?;
         self.known.keep(&self.order, event, &taken, &access)?;
-        self.known.advance(&self.order, event, &taken);
+        self.known.advance(&self.order, event, &taken)?;
         self.order.add(event);
         Ok(Handled::One { event, access })
     }
@@ -170,9 +170,8 @@ impl<A: Allocator> Sequencer<A> {
             None => return Err(GoError::NotReady),
             Some(instance) => instance,
         };
-        let room = self.known.room(&self.order, group, instance)?;
+        self.known.meet(&self.order, group, instance)?;
         self.order.pass(group);
-        self.known.meet(group, room);
         Ok(Handled::Meet { group, instance })
     }
 

@@ -28,4 +28,4 @@ invariant_of-self-2 g c =
     c.in_ok-keep.ensures.kept (subst (λ y. IsTrue (is_release y)) same releases) in
     let left = subst (AreLeft s longer) (sym c.advance.ensures.left) (left_longer s q.handled known e next kept.left c.keep.ensures.others own) in
     let step = c.add.ensures.step in
-    subst (λ t. IsKnown t c.add.new.self.handled now) (sym step.taken) (subst (λ l. IsKnown s l now) (sym step.handles.order) (record { clocks = c.advance.ensures.clocks; left = left }))
+    subst (λ t. IsKnown t c.add.new.self.handled now) (sym step.taken) (subst (λ l. IsKnown s l now) (sym step.handles.order) (record { clocks = c.in_ok-advance.ensures.clocks; left = left }))
