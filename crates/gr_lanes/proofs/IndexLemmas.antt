@@ -193,10 +193,17 @@ module _ (lanes : List Index) (list : List Event) (are : AreIndices lanes list) 
         let within : i < length lanes = omega (arith, ap length same) in
         get_or_read lanes i lane within (reads ∙ (ap (λ l. get_or l j lane) same ∙ ap (λ n. get_or lanes n lane) here)) no_index ∙ are.each i within
 
+    few_that : (test : Event → Bool) → length (places_from test 0 (filter (is_of i) list)) < 4_294_967_296
+    few_that test = omega (arith, few-places test 0 (filter (is_of i) list), length-places (is_of i) 0 list, few-places (is_of i) 0 list, are.front.few)
+
+    pub few_releases : length lane.releases < 4_294_967_296
+    few_releases = subst (λ (l : Index). length l.releases < 4_294_967_296) (sym lane_is) (few_that is_release)
+
+    pub releases_rise : AreRising lane.releases
+    releases_rise = subst (λ (l : Index). AreRising l.releases) (sym lane_is) (places_rise is_release 0 (filter (is_of i) list))
+
     pub few_barriers : length lane.barriers < 4_294_967_296
-    few_barriers =
-        let count : length lane.barriers ≡ length (places_from is_barrier 0 (filter (is_of i) list)) = ap (λ (l : Index). length l.barriers) lane_is in
-        omega (arith, few-places is_barrier 0 (filter (is_of i) list), length-places (is_of i) 0 list, few-places (is_of i) 0 list, are.front.few)
+    few_barriers = subst (λ (l : Index). length l.barriers < 4_294_967_296) (sym lane_is) (few_that is_barrier)
 
     pub barriers_rise : AreRising lane.barriers
     barriers_rise = subst (λ (l : Index). AreRising l.barriers) (sym lane_is) (places_rise is_barrier 0 (filter (is_of i) list))

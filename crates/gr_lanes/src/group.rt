@@ -179,6 +179,16 @@ impl<A: Allocator> Group<A> {
         }
     }
 
+    /// The number among an item's releases of the event with this index, or `None` where that is no release.
+    pub(crate) fn release_number(&self, item: u16, index: u32) -> Option<u32>
+        ensures { MatchOption result ((k : ℕ) → slice_get (places_from model.is_release 0 (filter (is_of item) self.now.list)) k ≢ Some index) (λ k. slice_get (places_from model.is_release 0 (filter (is_of item) self.now.list)) k ≡ Some index) }
+    {
+        match self.lanes.get(usize::from(item)) {
+            None => None,
+            Some(lane) => lane.release_number(index),
+        }
+    }
+
     /// The number among an item's barriers of the event with this index, or `None` where that is no barrier.
     pub(crate) fn barrier_number(&self, item: u16, index: u32) -> Option<u32>
         ensures { MatchOption result ((k : ℕ) → slice_get (places_from model_barriers.is_barrier 0 (filter (is_of item) self.now.list)) k ≢ Some index) (λ k. slice_get (places_from model_barriers.is_barrier 0 (filter (is_of item) self.now.list)) k ≡ Some index) }

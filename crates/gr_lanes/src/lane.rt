@@ -27,6 +27,18 @@ impl<A: Allocator> Model for Lane<A> {
     ghost view = { λ l. record { trace = l.trace.items; releases = l.releases.items; barriers = l.barriers.items } };
 }
 
+/// The place of an index in a rising list of indices.
+fn number_of(places: &[u32], index: u32) -> Option<u32>
+    requires few { length places.now < 4_294_967_296 }
+    requires rise { AreRising places.now }
+    ensures { MatchOption result ((k : ℕ) → slice_get places.now k ≢ Some index) (λ k. slice_get places.now k ≡ Some index) }
+{
+    match places.binary_search(&index) {
+        Ok(number) => Some(number as u32),
+        Err(_) => None,
+    }
+}
+
 impl<A: Allocator + Copy> Lane<A> {
     /// The lane of an item without events.
     pub(crate) fn new(alloc: A) -> Lane<A>
@@ -62,16 +74,22 @@ impl<A: Allocator> Lane<A> {
         self.barriers.get(number as usize).copied()
     }
 
+    /// The number among the item's releases of the one with this index.
+    pub(crate) fn release_number(&self, index: u32) -> Option<u32>
+        requires few { length self.now.releases < 4_294_967_296 }
+        requires rise { AreRising self.now.releases }
+        ensures { MatchOption result ((k : ℕ) → slice_get self.now.releases k ≢ Some index) (λ k. slice_get self.now.releases k ≡ Some index) }
+    {
+        number_of(&self.releases, index)
+    }
+
     /// The number among the item's barriers of the one with this index.
     pub(crate) fn barrier_number(&self, index: u32) -> Option<u32>
         requires few { length self.now.barriers < 4_294_967_296 }
         requires rise { AreRising self.now.barriers }
         ensures { MatchOption result ((k : ℕ) → slice_get self.now.barriers k ≢ Some index) (λ k. slice_get self.now.barriers k ≡ Some index) }
     {
-        match self.barriers.binary_search(&index) {
-            Ok(number) => Some(number as u32),
-            Err(_) => None,
-        }
+        number_of(&self.barriers, index)
     }
 
     /// Adds the item's next event.
