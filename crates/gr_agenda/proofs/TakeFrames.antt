@@ -127,7 +127,7 @@ module _ (s : Streams) (g : ℕ) (x : Event) (fronts : AreFronts s) (can : CanTa
   other_trace : (i : ItemId) → (i.group ≡ g → ⊥) → trace_of more i ≡ trace_of s i
   other_trace i apart = ap (λ (l : List Event). filter (is_of i.item) l) (other i.group apart)
 
-  other_divergent : (k n : ℕ) → (k ≡ g → ⊥) → IsDivergent more k n → IsDivergent s k n
+  pub other_divergent : (k n : ℕ) → (k ≡ g → ⊥) → IsDivergent more k n → IsDivergent s k n
   other_divergent k n apart = subst (λ (l : List Event). IsDivergentOf (is_complete l) (size_of s k) (λ i. slice_get (filter_map mark_of (filter (is_of i) l)) n)) (other k apart)
 
   -- it touches at most the items of its group
@@ -169,7 +169,7 @@ module _ (s : Streams) (g : ℕ) (x : Event) (fronts : AreFronts s) (can : CanTa
     same_divergent n (inl (i, j, a, b, ha, hb, differ)) = inl (i, j, a, b, (ha.0, sym (same_arrival n i) ∙ ha.1), (hb.0, sym (same_arrival n j) ∙ hb.1), differ)
     same_divergent n (inr missing) = absurd (true≢false (sym missing.0 ∙ not_complete))
 
-    divergent_was : (k n : ℕ) → IsDivergent more k n → IsDivergent s k n
+    pub divergent_was : (k n : ℕ) → IsDivergent more k n → IsDivergent s k n
     divergent_was k n divergent = ⊎_elim
         (λ (same : k ≡ g). subst (λ m. IsDivergent s m n) (sym same) (same_divergent n (subst (λ m. IsDivergent more m n) same divergent)))
         (λ apart. other_divergent k n apart divergent)

@@ -1,9 +1,10 @@
 //! An order of events with the list of the steps that may have become ready.
 //!
-//! Invariant: each step that can be made stands in the list, or memory was too short for one; and each item whose next event
-//! names a release that was not handled stands in the list or among those that wait for that release.
+//! Invariant: each step that can be made stands in the list, or memory was too short for one; each item whose next event
+//! names a release that was not handled stands in the list or among those that wait for that release; and the instances that
+//! are called calm are not divergent.
 
-ghost use Rattle.std.specs.Prelude.{◌≡◌, false, ◌↔◌, ◌<◌, ◌⊎◌, IfOk, IfErr, IfSome, OnOk, OnErr, IsTrue, MatchOption, Some, length, ℕ};
+ghost use Rattle.std.specs.Prelude.{◌≡◌, false, ◌↔◌, ◌<◌, ◌⊎◌, IfOk, IfErr, IfSome, OnOk, OnErr, IsTrue, MatchOption, Some, length, slice_get, ℕ};
 ghost use Rattle.gr_model.specs.declared.event.EventId.{EventId as AnyEvent};
 ghost use Rattle.gr_model.specs.declared.event.ItemId.{ItemId as AnyItem};
 ghost use Rattle.gr_model.specs.declared.event.Name.{Name as AnyName};
@@ -14,10 +15,10 @@ ghost use Rattle.gr_model.specs.Names.{release_place};
 ghost use Rattle.gr_model.specs.Streams.{list_of, size_of};
 ghost use Rattle.gr_order.specs.declared.steps.Ready.TheVariants.{Group, Item};
 ghost use Rattle.gr_lanes.specs.Takes.{CanTake, IsEventButItem, IsTakeFault};
-ghost use Rattle.gr_steps.specs.Steps.{CanMeet, IsReady};
+ghost use Rattle.gr_steps.specs.Steps.{CanHandle, CanMeet, IsReady};
 ghost use Rattle.gr_order.specs.Answers.{CanMake};
 ghost use Rattle.gr_order.specs.Sequences.{HandlesEvent, IsDone, IsSequence, MeetsNext, nothing, taking};
-ghost use Rattle.gr_agenda.specs.Kept.{IsHeldUp};
+ghost use Rattle.gr_agenda.specs.Kept.{AreCalm, IsHeldUp, IsNextBarrier, IsUnsettled};
 ghost use Rattle.gr_agenda.specs.Lists.{Has, IsWaiting, KeepsSteps};
 
 use crate::todo::Todo;
@@ -31,6 +32,9 @@ use gr_order::steps::Ready;
 use std::alloc::{Allocator, Global};
 use std::marker::Model;
 
+/// How many groups there may be.
+const GROUPS: usize = 64;
+
 /// An order of events with the list of the steps that may have become ready. Contracts see the lists and the order.
 #[derive(Drop)]
 #[derive_where(Debug)]
@@ -38,17 +42,19 @@ pub struct Agenda<A: Allocator = Global> {
     order: Order<A>,
     todo: Todo<A>,
     waiting: Vec<Vec<ItemId, A>, A>,
+    /// Of each group an instance that is known not to be divergent, if one is.
+    calm: Vec<Option<u32>, A>,
 }
 
 impl<A: Allocator> Model for Agenda<A> {
     ghost use Rattle.gr_order.specs.Sequences.{Sequence};
-    ghost use Rattle.gr_agenda.specs.Kept.{IsKept};
+    ghost use Rattle.gr_agenda.specs.Kept.{AreCalm, IsKept};
 
     ghost Value = { Sequence };
 
     ghost view = { λ a. a.order };
 
-    ghost invariant = { λ a. IsKept a.order a.todo a.waiting.items };
+    ghost invariant = { λ a. IsKept a.order a.todo a.waiting.items × AreCalm a.order.taken a.calm.items };
 }
 
 /// Whether a record changes what the other items of its group wait for: a barrier or an end.
@@ -162,6 +168,63 @@ fn note<A: Allocator>(
     }
 }
 
+/// The number among its barriers of an item's next event, if it is one.
+fn next_barrier<A: Allocator>(order: &Order<A>, item: ItemId) -> Option<u32>
+    ensures { IfSome result (λ k. IsNextBarrier order.now item k) }
+{
+    let index = order.frontier().get(item);
+    order.lanes().barrier_number(EventId { at: item, index })
+}
+
+/// Whether a number is there and is this one.
+fn is_number(told: Option<u32>, number: u32) -> bool
+    ensures { IsTrue result → told ≡ Some number }
+{
+    told == Some(number)
+}
+
+/// The instance of a group that is called calm, if there is one.
+fn calm_of(calm: &[Option<u32>], group: u16) -> Option<u32>
+    ensures { IfSome result (λ k. slice_get calm.now group ≡ Some (Some k)) }
+{
+    match calm.get(usize::from(group)) {
+        None => None,
+        Some(told) => *told,
+    }
+}
+
+/// Calls the instance calm at whose barrier an item stands that can't go on.
+fn calm_down<A: Allocator>(order: &Order<A>, calm: &mut Vec<Option<u32>, A>, step: Ready)
+    requires { ¬ CanMake order.now step }
+    ensures { AreCalm order.now.taken calm.old.items → AreCalm order.now.taken calm.new.items }
+{
+    let _taken = order.lanes();
+    match step {
+        Ready::Group(_) => {}
+        Ready::Item(item) => {
+            let place = usize::from(item.group);
+            match next_barrier(order, item) {
+                None => {}
+                Some(instance) => {
+                    if place < calm.len() {
+                        calm[place] = Some(instance);
+                    }
+                }
+            }
+        }
+    }
+}
+
+/// Calls no instance of a group calm.
+fn unsettle<A: Allocator>(calm: &mut Vec<Option<u32>, A>, group: u16)
+    ensures { IsUnsettled calm.old.items group calm.new.items }
+{
+    let place = usize::from(group);
+    if place < calm.len() {
+        calm[place] = None;
+    }
+}
+
 impl<A: Allocator + Copy> Agenda<A> {
     /// The agenda of a launch of this shape, of which nothing was taken.
     ///
@@ -172,11 +235,14 @@ impl<A: Allocator + Copy> Agenda<A> {
     {
         let todo = Todo::new(alloc)?;
         let waiting = no_lists(alloc)?;
+        let mut calm = Vec::with_capacity(alloc, GROUPS)?;
+        calm.resize(GROUPS, None)?;
         let order = Order::new(alloc, shape)?;
         Ok(Agenda {
             order,
             todo,
             waiting,
+            calm,
         })
     }
 }
@@ -212,6 +278,7 @@ impl<A: Allocator> Agenda<A> {
         let _taken = self.order.lanes();
         self.order.take(group, event)?;
         if wide {
+            unsettle(&mut self.calm, group);
             self.todo.put(Ready::Group(group));
             put_items(
                 &mut self.todo,
@@ -257,12 +324,23 @@ impl<A: Allocator> Agenda<A> {
         );
     }
 
+    /// Whether an item stands at a barrier of an instance that is calm.
+    fn is_calm_at(&self, item: ItemId) -> bool
+        ensures { IsTrue result → ¬ CanHandle self.now.taken self.now.handled item }
+    {
+        let _taken = self.order.lanes();
+        match calm_of(&self.calm, item.group) {
+            None => false,
+            Some(instance) => is_number(next_barrier(&self.order, item), instance),
+        }
+    }
+
     /// Whether a step can be made.
     fn can_make(&self, step: Ready) -> bool
         ensures { IsTrue result ↔ CanMake self.now step }
     {
         match step {
-            Ready::Item(item) => self.order.next(item).is_some(),
+            Ready::Item(item) => !self.is_calm_at(item) && self.order.next(item).is_some(),
             Ready::Group(group) => self.order.meeting(group).is_some(),
         }
     }
@@ -279,6 +357,7 @@ impl<A: Allocator> Agenda<A> {
         if self.can_make(step) {
             return Some(step);
         }
+        calm_down(&self.order, &mut self.calm, step);
         match note(&self.order, &mut self.waiting, step) {
             Ok(()) => self.todo.drop_last(),
             Err(_) => self.todo.miss(),

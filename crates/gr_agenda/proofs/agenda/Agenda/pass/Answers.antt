@@ -4,6 +4,7 @@ use Rattle.gr_model.specs.Streams.{Streams, size_of}
 use Rattle.gr_order.specs.Sequences.{MeetsInstance, Sequence}
 use Rattle.gr_steps.specs.Steps.{CanMeet, IsMeeting}
 use Rattle.gr_order.proofs.MeetLemmas.{no_group_meets}
+use Rattle.gr_agenda.specs.Kept.{AreCalm}
 use Rattle.gr_agenda.proofs.KeptLemmas.{kept_met}
 use Rattle.gr_agenda.proofs.agenda.Agenda.pass.Goals as goal
 
@@ -24,12 +25,14 @@ invariant_of-self g c =
     let lists = c.self.inside.waiting.items in
     let can = subst {A = Sequence} (λ p. CanMeet p.taken p.handled c.args.group) (sym c.self.view_is) c.requires in
     let met = c.pass.ensures.step can.0 can.1 can.2 in
-    let size : c.items.result ≡ size_of q.taken c.args.group = c.items.ensures.size ∙ ap (λ (l : List ℕ). get_or l c.args.group 0) (c.shape.ensures.sizes ∙ ap (λ (s : Streams). s.sizes) (c.lanes.ensures.taken ∙ met.taken)) in
-    kept_met q c.lanes-taken.ensures.sequence c.self.inside.todo c.put_items.new.todo lists lists c.self.invariant
-    (λ r has. c.put_items.ensures.keeps r (c.put.ensures.keeps r has))
-    c.args.group can.0 c.pass.new.self met
-    (c.put_items.ensures.keeps _ c.put.ensures.there)
-    (λ i lt. c.put_items.ensures.there i (omega (arith, lt, size)))
+    let size : c.items.result ≡ size_of q.taken c.args.group = c.items.ensures.size ∙ ap (λ (l : List ℕ). get_or l c.args.group 0) (c.shape.ensures.sizes ∙ ap (λ (s : Streams). s.sizes) (c.lanes.ensures.taken ∙ met.taken)) in (
+      kept_met q c.lanes-taken.ensures.sequence c.self.inside.todo c.put_items.new.todo lists lists c.self.invariant.0
+          (λ r has. c.put_items.ensures.keeps r (c.put.ensures.keeps r has))
+          c.args.group can.0 c.pass.new.self met
+          (c.put_items.ensures.keeps _ c.put.ensures.there)
+          (λ i lt. c.put_items.ensures.there i (omega (arith, lt, size))),
+      subst (λ (s : Streams). AreCalm s c.self.inside.calm.items) (sym met.taken) c.self.invariant.1,
+    )
 
 pub returns-clause-step : goal.returns-clause-step
 returns-clause-step g c k a meeting =
