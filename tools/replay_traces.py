@@ -2,7 +2,8 @@
 """Writes a trace for tools/replay_rate.sh: SHAPE RECORDS ITEMS, the bytes on standard output.
 
 SHAPE is `barriers` (items write and read words between barriers), `atomics` (atomic adds on 64 words, and plain reads of
-words that nobody writes) or `messages` (each item hands a word to the next by a release and an acquire with a name).
+words that nobody writes), `messages` (each item hands a word to the next by a release and an acquire with a name), or one
+word for all: `writers` (plain writes, a race but for one item), `readers` (plain reads) or `adders` (device atomics).
 Items are in work-groups of at most 256. RECORDS counts the records of all streams, ends included, and is met nearly.
 """
 import struct
@@ -58,9 +59,22 @@ def messages(group, size, count):
         yield record(READ, GLOBAL, 0, 0, after, word)
 
 
+def one_word(kind, scope, order):
+    def accesses(group, size, count):
+        for turn in range(count):
+            yield record(kind, GLOBAL, scope, order, turn % size, 0)
+    return accesses
+
+
+SHAPES = {
+    "barriers": barriers, "atomics": atomics, "messages": messages,
+    "writers": one_word(WRITE, 0, 0), "readers": one_word(READ, 0, 0), "adders": one_word(RMW, DEVICE, RELAXED),
+}
+
+
 def main():
     shape, records, items = sys.argv[1], int(sys.argv[2]), int(sys.argv[3])
-    make = {"barriers": barriers, "atomics": atomics, "messages": messages}[shape]
+    make = SHAPES[shape]
     sizes = groups_of(items)
     out = sys.stdout.buffer
     for group, size in enumerate(sizes):

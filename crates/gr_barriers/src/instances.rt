@@ -4,7 +4,7 @@
 //! divergent once two that came differ, or the group's stream has ended and an item is missing (docs/MODEL.md,
 //! "Barriers"). A call that is refused changes nothing.
 
-ghost use Rattle.std.specs.Prelude.{◌≡◌, ◌≢◌, ◌↔◌, ◌<◌, ◌≤◌, ◌+◌, ℕ, IsTrue, IfOk, OnOk, OnErr, length, map};
+ghost use Rattle.std.specs.Prelude.{◌≡◌, ◌≢◌, ◌↔◌, ◌<◌, ◌≤◌, ◌+◌, ℕ, IsOkUnless, IsTrue, IfOk, OnOk, OnErr, length, map};
 ghost use Rattle.gr_model.specs.Shapes.{HasItem};
 ghost use Rattle.gr_model.specs.Reports.{Lists, DivergenceBelow};
 ghost use Rattle.gr_barriers.specs.declared.instances.BarrierError.TheVariants.{Memory as OutOfMemory};
@@ -166,12 +166,12 @@ impl<A: Allocator> Instances<A> {
     /// Ends the stream of a group.
     ///
     /// # Errors
-    /// `Ended` where it has ended already, `Memory`.
+    /// `Ended` where it has ended already. It takes no memory.
     pub fn end_group(&mut self, group: u16) -> Result<(), BarrierError>
         requires { group < length self.old }
         ensures ok { OnOk result (Ends self.old group self.new) }
         ensures ended { (g : ℕ) → (result ≡ Err (BarrierError.Ended g)) ↔ (IsTrue (group_of self.old group).ended × (g ≡ group)) }
-        ensures known { result ≢ Err BarrierError.UnknownItem }
+        ensures only { IsOkUnless result (BarrierError.Ended group) }
         ensures err { OnErr result (self.new ≡ self.old) }
     {
         if self.has_ended(group) {

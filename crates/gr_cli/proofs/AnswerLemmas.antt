@@ -9,7 +9,7 @@ use Rattle.gr_report.specs.Putting.{AppendsFront}
 use Rattle.gr_report.specs.ReportText.{report_text}
 use Rattle.gr_report.specs.FaultText.{fault_line}
 use Rattle.gr_report.specs.Whole.{whole_of}
-use Rattle.gr_replay.specs.Replays.{IsReplayReport, IsReplayFault, WritesFront}
+use Rattle.gr_replay.specs.Replays.{IsExact, IsReplayFault, WritesFront}
 use Rattle.clap.specs.Words.{FailsBy, HasKind, IsAmong, Kinds}
 use Rattle.clap.specs.declared.error.Error.{Error}
 use Rattle.gr_input.specs.Faults.{Fails}
@@ -27,7 +27,7 @@ use Rattle.clap.specs.declared.error.kind.ErrorKind.{ErrorKind}
 use Rattle.clap.specs.declared.error.kind.ErrorKind.TheVariants.{OutOfMemory}
 
 pub answer_of : {Z : Type 0} (outcome : Result (Report Z) Fault) (input old new old_errors new_errors : Option (List ℕ)) (status : ℕ)
-    → IfOk outcome (λ r. IfSome input (λ bytes. IsReplayReport bytes (whole_of r)))
+    → IfOk outcome (λ r. IfSome input (λ bytes. IsExact bytes (whole_of r)))
     → IfOk outcome (λ r. Appends old new (report_text (whole_of r)))
     → IfErr outcome (λ f. IfSome input (λ bytes. IsReplayFault bytes f))
     → IfErr outcome (λ f. f ≢ Write → Keeps old new)

@@ -8,7 +8,7 @@ use Rattle.gr_record.specs.declared.fault.Fault.TheVariants.{Write}
 use Rattle.gr_report.specs.Putting.{AppendsFront}
 use Rattle.gr_report.specs.ReportText.{report_text}
 use Rattle.gr_report.specs.FaultText.{fault_line}
-use Rattle.gr_replay.specs.Replays.{IsReplayReport, IsReplayFault, WritesFront}
+use Rattle.gr_replay.specs.Replays.{IsExact, IsReplayFault, WritesFront}
 use Rattle.gr_input.specs.Faults.{Fails}
 use Rattle.gr_text.specs.Texts.{packed}
 use Rattle.gr_text.specs.Dumps.{dumped}
@@ -20,7 +20,7 @@ use Rattle.gr_cli.specs.Statuses.{fault_status, IsReportStatus}
 
 -- r is the report of the input; its whole text is written, nothing is told on standard error, and the status is that of r
 pub record IsReported (input old new old_errors new_errors : Option (List ℕ)) (status : ℕ) (r : WholeReport) : Type 0 where
-  pub report : IfSome input (λ bytes. IsReplayReport bytes r)
+  pub report : IfSome input (λ bytes. IsExact bytes r)
   pub text : Appends old new (report_text r)
   pub silent : Keeps old_errors new_errors
   pub ends : IsReportStatus r status

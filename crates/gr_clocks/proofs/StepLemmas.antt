@@ -1,5 +1,5 @@
 -- A snapshot's clock is the clock that its item then has: two clocks of one shape with the same counts are the same.
-use Rattle.std.proofs.Common.{◌≡◌, ◌≢◌, ℕ, suc, List, [], ◌∷◌, length, refl, sym, ◌∙◌, ap, subst}
+use Rattle.std.proofs.Common.{◌≡◌, ◌≢◌, ℕ, suc, Bool, map, List, [], ◌∷◌, length, refl, sym, ◌∙◌, ap, subst}
 use Rattle.std.proofs.lemmas.List.{ext_get_or}
 use Rattle.gr_model.specs.declared.event.Space.{Space}
 use Rattle.gr_model.specs.declared.event.Space.TheVariants.{Global, Local}
@@ -8,9 +8,9 @@ use Rattle.gr_model.specs.declared.event.ItemId.{ItemId}
 use Rattle.gr_model.specs.declared.event.Word.{Word}
 use Rattle.gr_model.specs.Access.{memory_of}
 use Rattle.gr_clocks.specs.Counts.{Counts, count_of, sizes_of, IsTick, IsJoin}
-use Rattle.gr_clocks.specs.Tables.{ClockTable, item_of, AreZero, IsTickOfJoin}
-use Rattle.gr_clocks.specs.ItemClocks.{ItemClocks, clocks_in, clock_in, AreNew, Ticks, ReleaseClock, release_of, Acquires, clocks_of}
-use Rattle.gr_clocks.proofs.TableLemmas.{tick_of_join}
+use Rattle.gr_clocks.specs.Tables.{item_of, ClockTable, AreZero, IsTickOfJoin, AreBehind, GivesGroup, MeetsGroup}
+use Rattle.gr_clocks.specs.ItemClocks.{ItemClocks, clocks_in, clock_in, AreNew, Ticks, ReleaseClock, release_of, Acquires, Meets, clocks_of, orders}
+use Rattle.gr_clocks.proofs.TableLemmas.{tick_of_join, meets_group}
 
 same_counts : (c d : Counts) → sizes_of c ≡ sizes_of d → ((j : ItemId) → count_of c j ≡ count_of d j) → c ≡ d
 same_counts [] [] sizes counts = refl
@@ -56,4 +56,14 @@ pub are_new : (sizes : List ℕ) (global local : ClockTable) → AreZero sizes g
 are_new sizes global local g l = record {
   shape = g.shape;
   clocks = λ m. elim m as (λ n. AreZero sizes (clocks_in (clocks_of global local) n)) [ Global ↦ g | Local ↦ l ];
+}
+
+-- a barrier, from what it does in each memory
+pub meets : (group : ℕ) (global local : Bool) (old_global old_local new_global new_local : ClockTable) (for_global for_local : List Counts) → AreBehind old_global group global for_global → GivesGroup old_global group for_global new_global → AreBehind old_local group local for_local → GivesGroup old_local group for_local new_local → Meets (clocks_of old_global old_local) group global local (clocks_of new_global new_local)
+meets group global local old_global old_local new_global new_local for_global for_local behind_global gives_global behind_local gives_local = record {
+  shape = gives_global.shape;
+  groups = λ m. elim m as (λ n. MeetsGroup (clocks_in (clocks_of old_global old_local) n) group (orders global local n) (clocks_in (clocks_of new_global new_local) n)) [
+      | Global ↦ meets_group group global old_global new_global for_global behind_global gives_global
+      | Local ↦ meets_group group local old_local new_local for_local behind_local gives_local
+    ];
 }

@@ -1,14 +1,18 @@
 -- The clocks of items in a list: what is read, and what is written at an item.
-use Rattle.std.proofs.Common.{◌≡◌, ◌≢◌, ◌⊎◌, inl, inr, ℕ, zero, suc, ◌+◌, ◌<◌, ◌≤◌, max, true, false, List, [], ◌∷◌, ◌++◌, map, length, sum, slice_index, get_or, set, Option, Some, None, IsSome, if◌then◌else◌, refl, sym, ◌∙◌, ap, subst, arith, ⊎_elim}
+use Rattle.std.proofs.Common.{◌≡◌, ◌≢◌, ◌⊎◌, inl, inr, ℕ, zero, suc, ◌+◌, ◌<◌, ◌≤◌, max, Bool, true, false, List, [], ◌∷◌, ◌++◌, map, length, sum, slice_index, get_or, set, Option, Some, None, IsSome, if◌then◌else◌, refl, sym, ◌∙◌, ap, subst, arith, ⊎_elim}
 use Rattle.std.proofs.lemmas.Bool.{cases_eq, cases_lt}
-use Rattle.std.proofs.lemmas.List.{get_or_push, get_or_append_left, length-set, get_or-set_same, get_or-set_other, get_or_read}
+use Rattle.std.proofs.lemmas.List.{get_or_push, get_or_append_left, length_push, length-set, length-map, get_or-set_same, get_or-set_other, get_or_read, set-get_or}
 use Rattle.gr_model.specs.declared.event.ItemId.{ItemId}
 use Rattle.gr_model.specs.Shapes.{HasItem}
 use Rattle.gr_clocks.specs.declared.clock.TheConstants.{LARGEST_COUNT}
 use Rattle.gr_clocks.specs.Rows.{entry_of, same_item, rows_of, AreStarts, starts_of, place_of}
 use Rattle.gr_clocks.specs.Counts.{Counts, count_of, sizes_of, tick_at, IsZero, IsTick, IsJoin}
-use Rattle.gr_clocks.specs.Tables.{ClockTable, clock_at, item_of, IsFull, IsGroupFull, IsBeyond, TickFirst, LearnFirst, JoinsFirst, IsRoom, TicksGroup, JoinsGroup, greatest, joined_count, AreZero, TicksItem, LearnsItem, IsTickOfJoin, LearnsAndTicks, AreClocks}
+use Rattle.gr_clocks.specs.Owned.{OwnCounts, counts_of, nobody, IsOwn}
+use Rattle.gr_clocks.specs.Groups.{item_of, greatest, clock_in_group, group_sizes, IsGroupClock, IsGroup, IsMetBase, AreJoined}
+use Rattle.gr_clocks.specs.Tables.{ClockTable, clock_at, IsGroupFull, IsBeyond, MeetsGroup, joined_count, AreZero, TicksItem, IsTickOfJoin, LearnsAndTicks, AreClocks, IsApart, AreApart, IsTicked, AreTicked, IsMet, AreMet, AreBehind, AreOfGroup, GivesItem, GivesFirst, GivesGroup}
 use Rattle.gr_clocks.proofs.RowLemmas.{same_items, cell, entry_at, entry_set, place_within, sizes_same, has_place, starts_of_sizes, sizes_of_starts}
+use Rattle.gr_clocks.proofs.OwnLemmas.{own_count, own_sizes}
+use Rattle.gr_clocks.proofs.GroupLemmas.{greatest_same}
 
 -- an item of a table in a list has a place, also in what was read of the starts
 pub item_has_place : (starts : List ℕ) (clocks : List Counts) (t : ClockTable) (read : List ℕ) (i : ItemId) → AreClocks starts clocks → rows_of starts clocks ≡ t → read ≡ starts → HasItem (map length t) i → IsSome (place_of read i)
@@ -41,6 +45,10 @@ module _ {starts : List ℕ} {clocks : List Counts} {t : ClockTable} {i : ItemId
 
     pub read_item : HasItem (map length t) i → HasItem (sizes_of x) i
     read_item has = subst (λ (sizes : List ℕ). HasItem sizes i) (sym read_shape) has
+
+    -- and what is written again changes nothing
+    pub set_again : (y : Counts) → y ≡ x → rows_of starts (set clocks p y) ≡ t
+    set_again y same = ap (λ (z : Counts). rows_of starts (set clocks p z)) (same ∙ reads) ∙ ap (rows_of starts) (set-get_or clocks p x) ∙ at.is
 
   -- another clock of the shape is written there
   module _ (x : Counts) (shape : sizes_of x ≡ map length t) where
@@ -76,21 +84,14 @@ module _ {starts : List ℕ} {clocks : List Counts} {t : ClockTable} {i : ItemId
     pub set_ticks : IsTick (clock_at t i) i x → TicksItem t i (rows_of starts (set clocks p x))
     set_ticks tick = record { shape = sizes; item = subst (IsTick (clock_at t i) i) (sym set_item) tick; others = set_others }
 
-    pub set_learned : (theirs : Counts) → IsJoin (clock_at t i) theirs x → LearnsItem t i theirs (rows_of starts (set clocks p x))
-    set_learned theirs join = record { shape = sizes; item = subst (IsJoin (clock_at t i) theirs) (sym set_item) join; others = set_others }
+    pub set_given : GivesItem t i x (rows_of starts (set clocks p x))
+    set_given = record { shape = sizes; item = set_item; others = set_others }
 
 -- a tick after a join
 pub tick_of_join : (mine theirs joined : Counts) (i : ItemId) (after : Counts) → IsJoin mine theirs joined → IsTick joined i after → IsTickOfJoin mine theirs i after
 tick_of_join mine theirs joined i after join tick = record {
   shape = tick.shape ∙ join.shape;
   counts = λ j. tick.counts j ∙ ap (λ (n : ℕ). n + tick_at i j) (join.counts j);
-}
-
-pub learns_and_ticks : (old : ClockTable) (i : ItemId) (theirs : Counts) (mid new : ClockTable) → LearnsItem old i theirs mid → TicksItem mid i new → LearnsAndTicks old i theirs new
-learns_and_ticks old i theirs mid new learns ticks = record {
-  shape = ticks.shape ∙ learns.shape;
-  item = tick_of_join (clock_at old i) theirs (clock_at mid i) i (clock_at new i) learns.item ticks.item;
-  others = λ j other. ticks.others j other ∙ learns.others j other;
 }
 
 max_cases : (m n x : ℕ) → x ≡ max m n → (x ≡ m) ⊎ (x ≡ n)
@@ -118,35 +119,11 @@ beyond_less : (group n : ℕ) (j : ItemId) → IsBeyond group (n + 1) j → IsBe
 beyond_less group n j (inl other) = inl other
 beyond_less group n j (inr past) = inr (let le : n ≤ j.item = omega arith in le)
 
--- the first n and one more
-module _ (group n : ℕ) (old mid new : ClockTable) (R : ItemId → Counts → Counts → Type 0) where
-  abbrev First : ℕ → ClockTable → Type 0
-  First m t = ((k : ℕ) → k < m → R (item_of group k) (clock_at old (item_of group k)) (clock_at t (item_of group k))) × ((j : ItemId) → IsBeyond group m j → clock_at t j ≡ clock_at old j)
+pub ticks_item : (old : ClockTable) (i : ItemId) (clock : Counts) (new : ClockTable) → IsTick (clock_at old i) i clock → GivesItem old i clock new → TicksItem old i new
+ticks_item old i clock new tick given = record { shape = given.shape; item = subst (IsTick (clock_at old i) i) (sym given.item) tick; others = given.others }
 
-  first_more : First n mid → R (item_of group n) (clock_at mid (item_of group n)) (clock_at new (item_of group n)) → ((j : ItemId) → j ≢ item_of group n → clock_at new j ≡ clock_at mid j) → First (n + 1) new
-  first_more (items, others) step stay = (
-    λ k below. ⊎_elim
-        (λ (same : k ≡ n). subst (λ (m : ℕ). R (item_of group m) (clock_at old (item_of group m)) (clock_at new (item_of group m))) (sym same)
-        (subst (λ (x : Counts). R (item_of group n) x (clock_at new (item_of group n))) (others (item_of group n) (inr (let le : n ≤ n = omega arith in le))) step))
-        (λ (apart : k ≡ n → ⊥). subst (R (item_of group k) (clock_at old (item_of group k))) (sym (stay (item_of group k) (λ same. apart (ap (λ (x : ItemId). x.item) same)))) (items k (omega arith)))
-        (cases_eq k n),
-    λ j beyond. stay j (others_apart group n j beyond) ∙ others j (beyond_less group n j beyond),
-  )
-
-pub tick_more : (group n : ℕ) (old mid new : ClockTable) → TickFirst old group n mid → TicksItem mid (item_of group n) new → TickFirst old group (n + 1) new
-tick_more group n old mid new first step =
-    let more = first_more group n old mid new (λ i x y. IsTick x i y) (first.items, first.others) step.item step.others in
-    record { shape = step.shape ∙ first.shape; items = more.0; others = more.1 }
-
-pub learn_more : (group n : ℕ) (theirs : Counts) (old mid new : ClockTable) → LearnFirst old group n theirs mid → LearnsItem mid (item_of group n) theirs new → LearnFirst old group (n + 1) theirs new
-learn_more group n theirs old mid new first step =
-    let more = first_more group n old mid new (λ i x y. IsJoin x theirs y) (first.items, first.others) step.item step.others in
-    record { shape = step.shape ∙ first.shape; items = more.0; others = more.1 }
-
--- an item that did not tick yet is full if it was
-pub still_room : (group n size : ℕ) (old mid : ClockTable) → TickFirst old group n mid → size ≡ slice_index (map length old) group → n < size → ¬ IsGroupFull old group → ¬ IsFull mid (item_of group n)
-still_room group n size old mid first is_size below room full =
-    room (n, subst (λ (m : ℕ). n < m) is_size below, ap (λ (x : Counts). count_of x (item_of group n)) (sym (first.others (item_of group n) (inr (let le : n ≤ n = omega arith in le)))) ∙ full)
+pub learns_and_ticks : (old : ClockTable) (i : ItemId) (theirs clock : Counts) (new : ClockTable) → IsTickOfJoin (clock_at old i) theirs i clock → GivesItem old i clock new → LearnsAndTicks old i theirs new
+learns_and_ticks old i theirs clock new tick given = record { shape = given.shape; item = subst (IsTickOfJoin (clock_at old i) theirs i) (sym given.item) tick; others = given.others }
 
 -- ---- new clocks
 
@@ -182,42 +159,111 @@ module _ (sizes starts : List ℕ) (clocks : List Counts) (is_starts : starts �
 
 -- ---- a barrier from its parts
 
-greatest_above : (n : ℕ) (f : ℕ → ℕ) (k : ℕ) → k < n → f k ≤ greatest n f
-greatest_above zero f k below = absurd (omega arith)
-greatest_above (suc n) f k below =
-    ⊎_elim
-    (λ (same : k ≡ n). let here : f k ≡ f n = ap f same in omega arith)
-    (λ (apart : k ≡ n → ⊥). let rest : f k ≤ greatest n f = greatest_above n f k (omega arith) in omega arith)
-    (cases_eq k n)
+pub gives_none : (group : ℕ) (old : ClockTable) (clocks : List Counts) → GivesFirst old group 0 clocks clocks old
+gives_none group old clocks = record { shape = refl; size = refl; rest = λ k from. refl; items = λ k below. absurd (omega arith); others = λ j beyond. refl }
 
-greatest_same : (n : ℕ) (f h : ℕ → ℕ) → ((k : ℕ) → k < n → f k ≡ h k) → greatest n f ≡ greatest n h
-greatest_same zero f h same = refl
-greatest_same (suc n) f h same = let last : f n ≡ h n = same n (omega arith) in let rest : greatest n f ≡ greatest n h = greatest_same n f h (λ k below. same k (omega arith)) in cc
+pub gives_more : (group n : ℕ) (old mid new : ClockTable) (clocks left : List Counts) (x y : Counts) → n < length left → GivesFirst old group n clocks left mid → x ≡ get_or left n x → GivesItem mid (item_of group n) x new → GivesFirst old group (n + 1) clocks (set left n y) new
+gives_more group n old mid new clocks left x y there first reads given =
+    let is : x ≡ get_or clocks n [] = get_or_read left n x there reads [] ∙ first.rest n (omega arith) in
+    let here : clock_at new (item_of group n) ≡ get_or clocks n [] = given.item ∙ is in
+    record {
+      shape = given.shape ∙ first.shape;
+      size = length-set left n y ∙ first.size;
+      rest = λ k from. get_or-set_other left n k y [] (λ (same : k ≡ n). omega arith) ∙ first.rest k (omega arith);
+      items = λ k below. ⊎_elim
+          (λ (same : k ≡ n). subst (λ (m : ℕ). clock_at new (item_of group m) ≡ get_or clocks m []) (sym same) here)
+          (λ (apart : k ≡ n → ⊥). given.others (item_of group k) (λ (same : item_of group k ≡ item_of group n). apart (ap (λ (j : ItemId). j.item) same)) ∙ first.items k (omega arith))
+          (cases_eq k n);
+      others = λ j beyond. given.others j (others_apart group n j beyond) ∙ first.others j (beyond_less group n j beyond);
+    }
 
-pub ticks_group : (group : ℕ) (old new : ClockTable) → TickFirst old group (slice_index (map length old) group) new → TicksGroup old group new
-ticks_group group old new first = record { shape = first.shape; items = first.items; others = λ j other. first.others j (inl other) }
+pub gives_group : (group : ℕ) (old new : ClockTable) (clocks left : List Counts) (n : ℕ) → n ≡ slice_index (map length old) group → GivesFirst old group n clocks left new → GivesGroup old group clocks new
+gives_group group old new clocks left n is_n gives = record {
+  shape = gives.shape;
+  items = λ k below. gives.items k (subst (λ (m : ℕ). k < m) (sym is_n) below);
+  others = λ j other. gives.others j (inl other);
+}
 
-module _ (group : ℕ) (old mid new : ClockTable) (room joined : Counts) (is_room : IsRoom old group (Some room)) (some : 0 < slice_index (map length old) group) (ticked : TickFirst old group (slice_index (map length old) group) mid) (gathered : JoinsFirst mid group (slice_index (map length mid) group) room joined) (spread : LearnFirst mid group (slice_index (map length mid) group) joined new) where
-  size_stays : slice_index (map length mid) group ≡ slice_index (map length old) group
-  size_stays = ap (λ (sizes : List ℕ). slice_index sizes group) ticked.shape
+pub are_of_group : (group : ℕ) (orders : Bool) (t : ClockTable) (clocks : List Counts) → AreBehind t group orders clocks → AreOfGroup t group clocks
+are_of_group group true t clocks met = record { size = met.size; shapes = λ k below. (met.each k (subst (λ (m : ℕ). k < m) met.size below)).shape }
+are_of_group group false t clocks ticked = record { size = ticked.size; shapes = λ k below. (ticked.each k (subst (λ (m : ℕ). k < m) ticked.size below)).shape }
 
-  group_count : (k : ℕ) (j : ItemId) → k < slice_index (map length old) group → count_of (clock_at new (item_of group k)) j ≡ joined_count old group j
-  group_count k j below =
-      let n = slice_index (map length old) group in
-      let f = λ (m : ℕ). count_of (clock_at mid (item_of group m)) j in
-      let all : greatest (slice_index (map length mid) group) f ≡ joined_count old group j =
-      ap (λ (m : ℕ). greatest m f) size_stays ∙ greatest_same n f (λ m. count_of (clock_at old (item_of group m)) j + tick_at (item_of group m) j) (λ m within. (ticked.items m within).counts j) in
-      let learned : count_of (clock_at new (item_of group k)) j ≡ max (f k) (count_of joined j) = (spread.items k (subst (λ (m : ℕ). k < m) (sym size_stays) below)).counts j in
-      let mine : f k ≤ greatest (slice_index (map length mid) group) f = greatest_above (slice_index (map length mid) group) f k (subst (λ (m : ℕ). k < m) (sym size_stays) below) in
-      let first : f 0 ≤ greatest (slice_index (map length mid) group) f = greatest_above (slice_index (map length mid) group) f 0 (subst (λ (m : ℕ). 0 < m) (sym size_stays) some) in
-      let start : f 0 ≡ count_of room j + tick_at (item_of group 0) j = (ticked.items 0 some).counts j ∙ ap (λ (x : Counts). count_of x j + tick_at (item_of group 0) j) (sym is_room.0) in
-      let whole : count_of joined j ≡ max (count_of room j) (greatest (slice_index (map length mid) group) f) = gathered.counts j in
-      omega arith
+pub meets_group : (group : ℕ) (orders : Bool) (old new : ClockTable) (clocks : List Counts) → AreBehind old group orders clocks → GivesGroup old group clocks new → MeetsGroup old group orders new
+meets_group group true old new clocks met gives = record {
+  shape = gives.shape;
+  shapes = λ k below. ap sizes_of (gives.items k below) ∙ (met.each k below).same;
+  counts = λ k j below. ap (λ (c : Counts). count_of c j) (gives.items k below) ∙ (met.each k below).counts j;
+  others = gives.others;
+}
+meets_group group false old new clocks ticked gives = record {
+  shape = gives.shape;
+  items = λ k below. subst (IsTick (clock_at old (item_of group k)) (item_of group k)) (sym (gives.items k below)) (ticked.each k below).tick;
+  others = gives.others;
+}
 
-  pub joins_group : JoinsGroup old group new
-  joins_group = record {
-    shape = spread.shape ∙ ticked.shape;
-    shapes = λ k below. (spread.items k (subst (λ (m : ℕ). k < m) (sym size_stays) below)).shape ∙ (ticked.items k below).shape;
-    counts = group_count;
-    others = λ j other. spread.others j (inl other) ∙ ticked.others j (inl other);
+-- ---- the clocks of a group, one after another
+
+pub apart_more : (t : ClockTable) (group n : ℕ) (clocks more : List OwnCounts) (o : OwnCounts) → AreApart t group n clocks → IsApart t group n o → more ≡ clocks ++ o ∷ [] → AreApart t group (n + 1) more
+apart_more t group n clocks more o first last is = record {
+  size = ap length is ∙ length_push clocks o ∙ ap (λ (m : ℕ). m + 1) first.size;
+  each = λ k below. subst (λ (xs : List OwnCounts). IsApart t group k (get_or xs k nobody)) (sym is)
+      (⊎_elim
+      (λ (same : k ≡ n). subst (IsApart t group k) (sym (get_or_push clocks o nobody k (first.size ∙ sym same))) (subst (λ (m : ℕ). IsApart t group m o) (sym same) last))
+      (λ (apart : k ≡ n → ⊥). subst (IsApart t group k) (sym (get_or_append_left clocks (o ∷ []) nobody k (let size = first.size in omega arith))) (first.each k (omega arith)))
+      (cases_eq k n));
+}
+
+pub ticked_more : (t : ClockTable) (group n : ℕ) (clocks more : List Counts) (c : Counts) → AreTicked t group n clocks → IsTicked t group n c → more ≡ clocks ++ c ∷ [] → AreTicked t group (n + 1) more
+ticked_more t group n clocks more c first last is = record {
+  size = ap length is ∙ length_push clocks c ∙ ap (λ (m : ℕ). m + 1) first.size;
+  each = λ k below. subst (λ (xs : List Counts). IsTicked t group k (get_or xs k [])) (sym is)
+      (⊎_elim
+      (λ (same : k ≡ n). subst (IsTicked t group k) (sym (get_or_push clocks c [] k (first.size ∙ sym same))) (subst (λ (m : ℕ). IsTicked t group m c) (sym same) last))
+      (λ (apart : k ≡ n → ⊥). subst (IsTicked t group k) (sym (get_or_append_left clocks (c ∷ []) [] k (let size = first.size in omega arith))) (first.each k (omega arith)))
+      (cases_eq k n));
+}
+
+-- clocks of a group's items, apart or joined
+module _ (t : ClockTable) (group : ℕ) (there : group < length t) (some : 0 < slice_index (map length t) group) (xs : List OwnCounts) (apart : AreApart t group (slice_index (map length t) group) xs) where
+  base_shape : (k : ℕ) → k < slice_index (map length t) group → sizes_of (clock_in_group xs k).base ≡ map length t
+  base_shape k below = sym (own_sizes (clock_in_group xs k)) ∙ (apart.each k below).shape
+
+  sizes_are : group_sizes xs ≡ map length t
+  sizes_are = base_shape 0 some
+
+  group_clock : ¬ IsGroupFull t group → (k : ℕ) → k < slice_index (map length t) group → IsGroupClock group k (group_sizes xs) (clock_in_group xs k)
+  group_clock free k below =
+      let is = apart.each k below in
+      record {
+        item = is.item;
+        shape = base_shape k below ∙ sym sizes_are;
+        own = is.own;
+        free = λ full. free (k, below, ap (λ (c : Counts). count_of c (item_of group k)) (sym is.counts) ∙ ap (count_of (counts_of (clock_in_group xs k))) (sym is.item) ∙ own_count (clock_in_group xs k) is.own ∙ full);
+      }
+
+  pub is_group : ¬ IsGroupFull t group → IsGroup group xs
+  is_group free = record {
+    some = subst (λ (m : ℕ). 0 < m) (sym apart.size) some;
+    there = subst (λ (sizes : List ℕ). group < length sizes) (sym sizes_are) (subst (λ (m : ℕ). group < m) (sym (length-map t length)) there);
+    size = apart.size ∙ ap (λ (sizes : List ℕ). slice_index sizes group) (sym sizes_are);
+    each = λ k below. group_clock free k (subst (λ (m : ℕ). k < m) apart.size below);
+  }
+
+  is_met : (base : Counts) → IsMetBase group xs base → (k : ℕ) → k < slice_index (map length t) group → IsMet t group k base
+  is_met base met k below =
+      let shape : sizes_of base ≡ map length t = met.shape ∙ sizes_are in
+      record {
+        shape = shape;
+        same = shape ∙ sym (apart.each k below).shape ∙ ap sizes_of (apart.each k below).counts;
+        counts = λ j.
+            let f = λ (m : ℕ). count_of (counts_of (clock_in_group xs m)) j + tick_at (item_of group m) j in
+            let h = λ (m : ℕ). count_of (clock_at t (item_of group m)) j + tick_at (item_of group m) j in
+            met.counts j ∙ ap (λ (m : ℕ). greatest m f) apart.size ∙
+            greatest_same (slice_index (map length t) group) f h (λ m within. ap (λ (c : Counts). count_of c j + tick_at (item_of group m) j) (apart.each m within).counts);
+      }
+
+  pub are_met : (behind : List Counts) → AreJoined group xs behind → AreMet t group (slice_index (map length t) group) behind
+  are_met behind joined = record {
+    size = joined.size ∙ apart.size;
+    each = λ k below. is_met (get_or behind k []) (joined.each k (subst (λ (m : ℕ). k < m) (sym apart.size) below)) k below;
   }

@@ -9,8 +9,7 @@ use Rattle.gr_model.specs.declared.event.Word.{Word}
 use Rattle.gr_model.specs.Access.{memory_of}
 use Rattle.gr_model.specs.Shapes.{IsShape}
 use Rattle.gr_clocks.specs.Counts.{Counts}
-use Rattle.gr_clocks.specs.declared.clocks.MeetRoom.{MeetRoom}
-use Rattle.gr_clocks.specs.Tables.{ClockTable, clock_at, AreZero, IsFull, IsRoom, TicksItem, IsGroupFull, LearnsAndTicks, MeetsGroup}
+use Rattle.gr_clocks.specs.Tables.{ClockTable, clock_at, AreZero, IsFull, TicksItem, IsGroupFull, LearnsAndTicks, MeetsGroup}
 
 -- the sizes of the groups, and the clocks of their items in each memory
 pub record ItemClocks : Type 0 where
@@ -73,11 +72,6 @@ orders global local Local = local
 pub record Meets (old : ItemClocks) (group : ℕ) (global local : Bool) (new : ItemClocks) : Type 0 where
   pub shape : new.sizes ≡ old.sizes
   pub groups : (m : Space) → MeetsGroup (clocks_in old m) group (orders global local m) (clocks_in new m)
-
--- room for a barrier of a group: for each memory that it flags, of which there is a clock, one that can hold what is learned
-pub record IsMeetRoom {Z : Type 0} (v : ItemClocks) (group : ℕ) (room : MeetRoom Z) : Type 0 where
-  pub global : IsRoom v.global group room.global
-  pub local : IsRoom v.local group room.local
 
 -- ---- two tables
 

@@ -1,11 +1,14 @@
 -- The clocks of a launch's work-items in one memory, and what an event does to them.
 -- Source: docs/MODEL.md, "Clocks".
-use Rattle.std.specs.Prelude.{◌≡◌, ◌≢◌, ◌⊎◌, ℕ, zero, suc, ◌+◌, ◌<◌, ◌≤◌, max, ⊤, Bool, true, false, Option, Some, None, List, [], map, length, slice_index, slice_index_or}
+use Rattle.std.specs.Prelude.{◌≡◌, ◌≢◌, ◌⊎◌, ℕ, ◌+◌, ◌<◌, ◌≤◌, max, Bool, true, false, List, [], map, length, slice_index, slice_index_or}
 use Rattle.gr_model.specs.declared.event.ItemId.{ItemId}
 use Rattle.gr_model.specs.Shapes.{HasItem}
 use Rattle.gr_clocks.specs.declared.clock.TheConstants.{LARGEST_COUNT}
 use Rattle.gr_clocks.specs.Rows.{entry_of, rows_of, AreStarts}
 use Rattle.gr_clocks.specs.Counts.{Counts, count_of, sizes_of, tick_at, IsZero, IsTick, IsJoin}
+use Rattle.gr_clocks.specs.Owned.{OwnCounts, counts_of, IsOwn}
+use Rattle.gr_clocks.specs.Groups.{clock_in_group}
+pub use Rattle.gr_clocks.specs.Groups.{item_of, greatest}
 
 -- for each group, the clocks of its items
 abbrev pub ClockTable : Type 0
@@ -14,10 +17,6 @@ ClockTable = List (List Counts)
 -- the clock of an item
 abbrev pub clock_at : ClockTable → ItemId → Counts
 clock_at t i = entry_of [] t i
-
--- the item of a group at a place
-abbrev pub item_of : ℕ → ℕ → ItemId
-item_of group item = record { group = group; item = item }
 
 -- new clocks of a shape, which have counted nothing
 pub record AreZero (sizes : List ℕ) (t : ClockTable) : Type 0 where
@@ -39,12 +38,6 @@ pub record TicksItem (old : ClockTable) (i : ItemId) (new : ClockTable) : Type 0
   pub item : IsTick (clock_at old i) i (clock_at new i)
   pub others : (j : ItemId) → j ≢ i → clock_at new j ≡ clock_at old j
 
--- the item learns what another clock counts
-pub record LearnsItem (old : ClockTable) (i : ItemId) (theirs : Counts) (new : ClockTable) : Type 0 where
-  pub shape : map length new ≡ map length old
-  pub item : IsJoin (clock_at old i) theirs (clock_at new i)
-  pub others : (j : ItemId) → j ≢ i → clock_at new j ≡ clock_at old j
-
 -- after counts all that mine and theirs count, and one more event of item i
 pub record IsTickOfJoin (mine theirs : Counts) (i : ItemId) (after : Counts) : Type 0 where
   pub shape : sizes_of after ≡ sizes_of mine
@@ -64,11 +57,6 @@ pub record TicksGroup (old : ClockTable) (group : ℕ) (new : ClockTable) : Type
   pub items : (k : ℕ) → k < slice_index (map length old) group → IsTick (clock_at old (item_of group k)) (item_of group k) (clock_at new (item_of group k))
   pub others : (j : ItemId) → j.group ≢ group → clock_at new j ≡ clock_at old j
 
--- the greatest of the first n numbers
-abbrev pub greatest : ℕ → (ℕ → ℕ) → ℕ
-greatest zero f = 0
-greatest (suc n) f = max (f n) (greatest n f)
-
 -- the count of item j in the join of the clocks of a group's items, each with one more event of its item
 abbrev pub joined_count : ClockTable → ℕ → ItemId → ℕ
 joined_count t group j = greatest (slice_index (map length t) group) (λ k. count_of (clock_at t (item_of group k)) j + tick_at (item_of group k) j)
@@ -85,33 +73,74 @@ abbrev pub MeetsGroup : ClockTable → ℕ → Bool → ClockTable → Type 0
 MeetsGroup old group true new = JoinsGroup old group new
 MeetsGroup old group false new = TicksGroup old group new
 
--- ---- parts of a barrier: what the first n items of the group did
+-- ---- parts of a barrier
 
 -- the item is of another group, or none of the first n of this one
 abbrev pub IsBeyond : ℕ → ℕ → ItemId → Type 0
 IsBeyond group n j = (j.group ≢ group) ⊎ (n ≤ j.item)
 
--- the first n items ticked
-pub record TickFirst (old : ClockTable) (group n : ℕ) (new : ClockTable) : Type 0 where
+-- the clock of an item of a group, with the item's count apart
+pub record IsApart (t : ClockTable) (group k : ℕ) (o : OwnCounts) : Type 0 where
+  pub item : o.item ≡ item_of group k
+  pub counts : counts_of o ≡ clock_at t (item_of group k)
+  pub shape : sizes_of (counts_of o) ≡ map length t
+  pub own : IsOwn o
+
+-- those of the first n items of a group
+pub record AreApart (t : ClockTable) (group n : ℕ) (clocks : List OwnCounts) : Type 0 where
+  pub size : length clocks ≡ n
+  pub each : (k : ℕ) → k < n → IsApart t group k (clock_in_group clocks k)
+
+-- the clock of an item of a group with one more event of the item
+pub record IsTicked (t : ClockTable) (group k : ℕ) (c : Counts) : Type 0 where
+  pub tick : IsTick (clock_at t (item_of group k)) (item_of group k) c
+  pub shape : sizes_of c ≡ map length t
+
+-- those of the first n items of a group
+pub record AreTicked (t : ClockTable) (group n : ℕ) (clocks : List Counts) : Type 0 where
+  pub size : length clocks ≡ n
+  pub each : (k : ℕ) → k < n → IsTicked t group k (slice_index_or clocks k [])
+
+-- a clock of an item of a group that counts what all of them will have counted behind a barrier
+pub record IsMet (t : ClockTable) (group k : ℕ) (c : Counts) : Type 0 where
+  pub shape : sizes_of c ≡ map length t
+  pub same : sizes_of c ≡ sizes_of (clock_at t (item_of group k))
+  pub counts : (j : ItemId) → count_of c j ≡ joined_count t group j
+
+-- those of the first n items of a group
+pub record AreMet (t : ClockTable) (group n : ℕ) (clocks : List Counts) : Type 0 where
+  pub size : length clocks ≡ n
+  pub each : (k : ℕ) → k < n → IsMet t group k (slice_index_or clocks k [])
+
+-- the clocks of a group's items behind a barrier that orders the memory, or does not
+abbrev pub AreBehind : ClockTable → ℕ → Bool → List Counts → Type 0
+AreBehind t group true clocks = AreMet t group (slice_index (map length t) group) clocks
+AreBehind t group false clocks = AreTicked t group (slice_index (map length t) group) clocks
+
+-- a clock for each item of a group, of the table's shape
+pub record AreOfGroup (t : ClockTable) (group : ℕ) (clocks : List Counts) : Type 0 where
+  pub size : length clocks ≡ slice_index (map length t) group
+  pub shapes : (k : ℕ) → k < length clocks → sizes_of (slice_index_or clocks k []) ≡ map length t
+
+-- the item has this clock
+pub record GivesItem (old : ClockTable) (i : ItemId) (clock : Counts) (new : ClockTable) : Type 0 where
   pub shape : map length new ≡ map length old
-  pub items : (k : ℕ) → k < n → IsTick (clock_at old (item_of group k)) (item_of group k) (clock_at new (item_of group k))
+  pub item : clock_at new i ≡ clock
+  pub others : (j : ItemId) → j ≢ i → clock_at new j ≡ clock_at old j
+
+-- the first n items of a group have these clocks, and the others are still left
+pub record GivesFirst (old : ClockTable) (group n : ℕ) (clocks left : List Counts) (new : ClockTable) : Type 0 where
+  pub shape : map length new ≡ map length old
+  pub size : length left ≡ length clocks
+  pub rest : (k : ℕ) → n ≤ k → slice_index_or left k [] ≡ slice_index_or clocks k []
+  pub items : (k : ℕ) → k < n → clock_at new (item_of group k) ≡ slice_index_or clocks k []
   pub others : (j : ItemId) → IsBeyond group n j → clock_at new j ≡ clock_at old j
 
--- the first n items learned what a clock counts
-pub record LearnFirst (old : ClockTable) (group n : ℕ) (theirs : Counts) (new : ClockTable) : Type 0 where
+-- the items of a group have these clocks
+pub record GivesGroup (old : ClockTable) (group : ℕ) (clocks : List Counts) (new : ClockTable) : Type 0 where
   pub shape : map length new ≡ map length old
-  pub items : (k : ℕ) → k < n → IsJoin (clock_at old (item_of group k)) theirs (clock_at new (item_of group k))
-  pub others : (j : ItemId) → IsBeyond group n j → clock_at new j ≡ clock_at old j
-
--- joined counts what before counts, and the first n items of the group
-pub record JoinsFirst (t : ClockTable) (group n : ℕ) (before joined : Counts) : Type 0 where
-  pub shape : sizes_of joined ≡ sizes_of before
-  pub counts : (j : ItemId) → count_of joined j ≡ max (count_of before j) (greatest n (λ k. count_of (clock_at t (item_of group k)) j))
-
--- room for the join of a group's clocks holds the first item's, of the table's shape
-abbrev pub IsRoom : ClockTable → ℕ → Option Counts → Type 0
-IsRoom t group None = ⊤
-IsRoom t group (Some room) = (room ≡ clock_at t (item_of group 0)) × (sizes_of room ≡ map length t)
+  pub items : (k : ℕ) → k < slice_index (map length old) group → clock_at new (item_of group k) ≡ slice_index_or clocks k []
+  pub others : (j : ItemId) → j.group ≢ group → clock_at new j ≡ clock_at old j
 
 -- ---- clocks in a list
 

@@ -1,19 +1,22 @@
-//! One vector clock, as a count for each work-item.
+//! One vector clock: a count for each work-item, which clocks share, but one item's, which stands apart.
 //!
-//! Invariant: the counts stand group by group, and none is above `LARGEST_COUNT`. Semantics: a tick adds one to one item's
-//! count, and a join takes the greater count of each item (docs/MODEL.md, "Clocks").
+//! Semantics: a tick adds one to one item's count, and a join takes the greater count of each item (docs/MODEL.md, "Clocks").
+//! No count is above `LARGEST_COUNT`. To tick the item whose count stands apart takes no memory, and a copy shares all counts.
 
 ghost use Rattle.std.specs.Prelude.{◌≡◌, ◌↔◌, ◌<◌, ◌≤◌, ◌≢◌, IsTrue, IfOk, IfErr, OnOk, OnErr, IsOkUnless};
 ghost use Rattle.gr_clocks.specs.declared.clock.ClockError.TheVariants.{Memory as OutOfMemory};
 ghost use Rattle.gr_model.specs.Shapes.{HasItem};
 ghost use Rattle.gr_clocks.specs.Counts.{count_of, sizes_of, IsZero, IsTick, IsJoin};
+ghost use Rattle.gr_clocks.specs.Owned.{counts_of, IsOwn};
 
-use crate::rows::{place_of, starts_of};
+use crate::base::Base;
+use crate::own::OwnClock;
 use gr_model::event::ItemId;
 use gr_model::memory::Memory;
 use gr_model::shape::Shape;
 use std::alloc::{AllocError, AllocFailed, Allocator, Global};
 use std::marker::Model;
+use std::sync::Arc;
 use thiserror::Error;
 
 /// The greatest count of an item: that of a stream whose every record is its own.
@@ -57,19 +60,16 @@ impl<T: Drop> From<AllocFailed<T>> for ClockError {
 #[derive(Drop)]
 #[derive_where(Debug)]
 pub struct Clock<A: Allocator = Global> {
-    starts: Vec<u16, A>,
-    counts: Vec<u32, A>,
+    own: OwnClock<A>,
 }
 
 impl<A: Allocator> Model for Clock<A> {
-    ghost use Rattle.gr_clocks.specs.Rows.{rows_of};
-    ghost use Rattle.gr_clocks.specs.Counts.{Counts, AreCounts};
+    ghost use Rattle.gr_clocks.specs.Counts.{Counts};
+    ghost use Rattle.gr_clocks.specs.Owned.{counts_of};
 
     ghost Value = { Counts };
 
-    ghost view = { λ c. rows_of c.starts.items c.counts.items };
-
-    ghost invariant = { λ c. AreCounts c.starts.items c.counts.items };
+    ghost view = { λ c. counts_of c.own };
 }
 
 impl<A: Allocator + Copy> Clock<A> {
@@ -81,22 +81,42 @@ impl<A: Allocator + Copy> Clock<A> {
         ensures zero { IfOk result (λ c. IsZero shape.now c) }
         ensures memory { IsOkUnless result ClockError.Memory }
     {
-        let starts = starts_of(alloc, shape)?;
-        let counts = vec![in alloc; 0; shape.total() as usize]?;
-        Ok(Clock { starts, counts })
+        let _groups = shape.groups();
+        let base = Arc::new(alloc, Base::zero(alloc, shape)?)?;
+        Clock::sharing(&base, ItemId { group: 0, item: 0 })
     }
 }
 
 impl<A: Allocator> Clock<A> {
+    /// A clock that counts what is counted here and shares it, with the count of this item apart.
+    pub(crate) fn sharing(base: &Arc<Base<A>, A>, item: ItemId) -> Result<Clock<A>, ClockError>
+        requires { HasItem (sizes_of base.now.value) item }
+        ensures counts { IfOk result (λ c. c ≡ base.now.value) }
+        ensures memory { IsOkUnless result ClockError.Memory }
+    {
+        let own = OwnClock::new(base, item)?;
+        Ok(Clock { own })
+    }
+
+    /// The same counts, with the count of this item apart.
+    pub(crate) fn apart(&self, item: ItemId) -> Result<OwnClock<A>, ClockError>
+    where
+        A: Clone,
+        requires { HasItem (sizes_of self.now) item }
+        ensures counts { IfOk result (λ o. counts_of o ≡ self.now) }
+        ensures item { IfOk result (λ o. o.item ≡ item) }
+        ensures own { IfOk result (λ o. IsOwn o) }
+        ensures memory { IsOkUnless result ClockError.Memory }
+    {
+        self.own.of(item)
+    }
+
     /// How many events of the item are counted; 0 where the clock lacks the item.
     pub fn get(&self, item: ItemId) -> u32
         ensures count { result ≡ count_of self.now item }
         ensures limit { result ≤ LARGEST_COUNT }
     {
-        match place_of(&self.starts, item) {
-            None => 0,
-            Some(place) => self.counts[place],
-        }
+        self.own.get(item)
     }
 
     /// Whether the item's event with this index is counted.
@@ -113,44 +133,46 @@ impl<A: Allocator> Clock<A> {
         self.get(item) == LARGEST_COUNT
     }
 
-    /// Counts one more event of an item whose count can grow.
-    pub fn raise(&mut self, item: ItemId)
+    /// Counts one more event of an item whose count can grow. It takes no memory where that count stands apart.
+    ///
+    /// # Errors
+    /// `Memory`. The clock is then as it was.
+    pub(crate) fn raise(&mut self, item: ItemId) -> Result<(), ClockError>
+    where
+        A: Clone,
         requires item { HasItem (sizes_of self.old) item }
         requires room { count_of self.old item ≢ LARGEST_COUNT }
-        ensures { IsTick self.old item self.new }
+        ensures ok { OnOk result (IsTick self.old item self.new) }
+        ensures memory { IsOkUnless result ClockError.Memory }
+        ensures err { OnErr result (self.new ≡ self.old) }
     {
-        if let Some(place) = place_of(&self.starts, item) {
-            self.counts[place] += 1;
+        if self.own.item() == item {
+            self.own.raise();
+            return Ok(());
         }
-    }
-
-    /// Takes the greater count of each item.
-    pub(crate) fn learn(&mut self, other: &Clock<A>)
-        requires { sizes_of other.now ≡ sizes_of self.old }
-        ensures { IsJoin self.old other.now self.new }
-    {
-        for place in 0..self.counts.len() {
-            let theirs = other.counts[place];
-            self.counts[place] = self.counts[place].max(theirs);
-        }
+        let mut turned = self.own.of(item)?;
+        turned.raise();
+        self.own = turned;
+        Ok(())
     }
 
     /// Counts one more event of the item.
     ///
     /// # Errors
-    /// `Spent` where its count is `LARGEST_COUNT`. The clock is then as it was.
+    /// `Spent` where its count is `LARGEST_COUNT`; `Memory`, where the item's count does not stand apart yet. The clock is
+    /// then as it was.
     pub fn tick(&mut self, item: ItemId) -> Result<(), ClockError>
+    where
+        A: Clone,
         requires { HasItem (sizes_of self.old) item }
         ensures ok { OnOk result (IsTick self.old item self.new) }
-        ensures only { IsOkUnless result ClockError.Spent }
         ensures spent { (result ≡ Err ClockError.Spent) ↔ (count_of self.old item ≡ LARGEST_COUNT) }
         ensures err { OnErr result (self.new ≡ self.old) }
     {
         if self.is_spent(item) {
             return Err(ClockError::Spent);
         }
-        self.raise(item);
-        Ok(())
+        self.raise(item)
     }
 
     /// Learns all that another clock of the same shape counts: the greater count of each item.
@@ -158,12 +180,15 @@ impl<A: Allocator> Clock<A> {
     /// # Errors
     /// `Memory`. The clock is then as it was.
     pub fn join(&mut self, other: &Clock<A>) -> Result<(), ClockError>
+    where
+        A: Clone,
         requires { sizes_of other.now ≡ sizes_of self.old }
         ensures ok { OnOk result (IsJoin self.old other.now self.new) }
         ensures memory { IsOkUnless result ClockError.Memory }
         ensures err { OnErr result (self.new ≡ self.old) }
     {
-        self.learn(other);
+        let joined = self.own.join(&other.own)?;
+        self.own = joined;
         Ok(())
     }
 
@@ -177,8 +202,38 @@ impl<A: Allocator> Clock<A> {
         ensures copy { IfOk result (λ c. c ≡ self.now) }
         ensures memory { IsOkUnless result ClockError.Memory }
     {
-        let starts = self.starts.clone()?;
-        let counts = self.counts.clone()?;
-        Ok(Clock { starts, counts })
+        let own = self.own.copy()?;
+        Ok(Clock { own })
     }
+}
+
+/// Counts one more event of an item in two clocks, in both of which its count can grow. It takes no memory where that count
+/// stands apart in both.
+///
+/// # Errors
+/// `Memory`. The clocks are then as they were.
+pub(crate) fn raise_both<A: Allocator + Clone>(
+    one: &mut Clock<A>,
+    other: &mut Clock<A>,
+    item: ItemId,
+) -> Result<(), ClockError>
+    requires items { HasItem (sizes_of one.old) item × HasItem (sizes_of other.old) item }
+    requires room { (count_of one.old item ≢ LARGEST_COUNT) × (count_of other.old item ≢ LARGEST_COUNT) }
+    ensures ok { OnOk result (IsTick one.old item one.new × IsTick other.old item other.new) }
+    ensures shapes { (sizes_of one.new ≡ sizes_of one.old) × (sizes_of other.new ≡ sizes_of other.old) }
+    ensures memory { IsOkUnless result ClockError.Memory }
+    ensures err { OnErr result ((one.new ≡ one.old) × (other.new ≡ other.old)) }
+{
+    if one.own.item() == item && other.own.item() == item {
+        one.own.raise();
+        other.own.raise();
+        return Ok(());
+    }
+    let mut first = one.own.of(item)?;
+    let mut second = other.own.of(item)?;
+    first.raise();
+    second.raise();
+    one.own = first;
+    other.own = second;
+    Ok(())
 }

@@ -4,16 +4,16 @@
 //! left, in the memory of the release's word alone. A barrier gives each item of its group what all of them count, in
 //! the memories that it flags (docs/MODEL.md, "Clocks"). A call that is refused changes no clock.
 
-ghost use Rattle.std.specs.Prelude.{◌≡◌, ◌↔◌, ◌<◌, ◌⊎◌, ◌≢◌, IsTrue, IfOk, OnOk, OnErr, IsOkUnless, is_some, length};
+ghost use Rattle.std.specs.Prelude.{◌≡◌, ◌↔◌, ◌<◌, ◌⊎◌, ◌≢◌, IsTrue, IfOk, OnOk, OnErr, IsOkUnless, length};
 ghost use Rattle.gr_clocks.specs.declared.clock.ClockError.TheVariants.{Memory as OutOfMemory};
 ghost use Rattle.gr_model.specs.Access as model;
 ghost use Rattle.gr_model.specs.Shapes.{HasItem, IsShape};
 ghost use Rattle.gr_clocks.specs.Counts.{count_of, sizes_of};
-ghost use Rattle.gr_clocks.specs.ItemClocks.{clock_in, AreNew, IsMeetRoom, IsSpent, IsGroupSpent, Ticks, release_of, Acquires, Meets};
+ghost use Rattle.gr_clocks.specs.ItemClocks.{clock_in, AreNew, IsSpent, IsGroupSpent, Ticks, release_of, Acquires, Meets};
 
 use crate::clock::{Clock, ClockError, LARGEST_COUNT};
 use crate::snapshot::Snapshot;
-use crate::table::Table;
+use crate::table::{Table, tick_both};
 use gr_model::event::{ItemId, Scope, Space, Word};
 use gr_model::shape::Shape;
 use std::alloc::{Allocator, Global};
@@ -36,14 +36,6 @@ impl<A: Allocator> Model for Clocks<A> {
     ghost view = { λ c. clocks_of c.global c.local };
 
     ghost invariant = { λ c. AreOfOneShape c.global c.local };
-}
-
-/// Room for a barrier of a group: a clock for each memory that it flags.
-#[derive(Drop)]
-#[derive_where(Debug)]
-pub struct MeetRoom<A: Allocator = Global> {
-    pub global: Option<Clock<A>>,
-    pub local: Option<Clock<A>>,
 }
 
 /// The memory of a word.
@@ -101,32 +93,49 @@ impl<A: Allocator> Clocks<A> {
     }
 
     /// Counts one more event of an item whose counts can grow.
-    fn tick(&mut self, item: ItemId)
+    ///
+    /// # Errors
+    /// `Memory`. The clocks are then as they were.
+    fn tick(&mut self, item: ItemId) -> Result<(), ClockError>
+    where
+        A: Clone,
         requires item { HasItem self.old.sizes item }
         requires room { ¬ IsSpent self.old item }
-        ensures { Ticks self.old item self.new }
+        ensures ok { OnOk result (Ticks self.old item self.new) }
+        ensures memory { IsOkUnless result ClockError.Memory }
+        ensures err { OnErr result (self.new ≡ self.old) }
     {
-        self.global.tick(item);
-        self.local.tick(item);
+        tick_both(&mut self.global, &mut self.local, item)
     }
 
     /// Gives an item in the memory of a release's word what the release left, and counts one more event of it, where
     /// there is room.
-    fn learn_and_tick(&mut self, item: ItemId, snapshot: &Snapshot<A>)
+    ///
+    /// # Errors
+    /// `Memory`. The clocks are then as they were.
+    fn learn_and_tick(&mut self, item: ItemId, snapshot: &Snapshot<A>) -> Result<(), ClockError>
+    where
+        A: Clone,
         requires item { HasItem self.old.sizes item }
         requires shape { sizes_of snapshot.now.clock ≡ self.old.sizes }
         requires room { ¬ IsSpent self.old item }
         requires their_room { count_of snapshot.now.clock item ≢ LARGEST_COUNT }
-        ensures { Acquires self.old item snapshot.now self.new }
+        ensures ok { OnOk result (Acquires self.old item snapshot.now self.new) }
+        ensures memory { IsOkUnless result ClockError.Memory }
+        ensures err { OnErr result (self.new ≡ self.old) }
     {
         match memory_of(snapshot.word()) {
             Space::Global => {
-                self.global.learn_and_tick(item, snapshot.clock());
-                self.local.tick(item);
+                let ticked = self.local.ticked(item)?;
+                self.global.learn_and_tick(item, snapshot.clock())?;
+                self.local.put_ticked(item, ticked);
+                Ok(())
             }
             Space::Local => {
-                self.local.learn_and_tick(item, snapshot.clock());
-                self.global.tick(item);
+                let ticked = self.global.ticked(item)?;
+                self.local.learn_and_tick(item, snapshot.clock())?;
+                self.global.put_ticked(item, ticked);
+                Ok(())
             }
         }
     }
@@ -134,19 +143,19 @@ impl<A: Allocator> Clocks<A> {
     /// Counts an event of the item that neither releases nor acquires.
     ///
     /// # Errors
-    /// `Spent` where the item has too many events. It takes no memory.
+    /// `Spent` where the item has too many events, `Memory`.
     pub fn access(&mut self, item: ItemId) -> Result<(), ClockError>
+    where
+        A: Clone,
         requires { HasItem self.old.sizes item }
         ensures ok { OnOk result (Ticks self.old item self.new) }
         ensures spent { (result ≡ Err ClockError.Spent) ↔ IsSpent self.old item }
-        ensures only { IsOkUnless result ClockError.Spent }
         ensures err { OnErr result (self.new ≡ self.old) }
     {
         if self.is_spent(item) {
             return Err(ClockError::Spent);
         }
-        self.tick(item);
-        Ok(())
+        self.tick(item)
     }
 
     /// Counts a release of the item on this word with this scope, and takes its snapshot, the release itself counted.
@@ -172,28 +181,28 @@ impl<A: Allocator> Clocks<A> {
             return Err(ClockError::Spent);
         }
         let mut clock = self.clock_of(item, memory_of(word)).copy()?;
-        clock.raise(item);
-        self.tick(item);
+        clock.raise(item)?;
+        self.tick(item)?;
         Ok(Snapshot::new(word, scope, clock))
     }
 
     /// Counts an acquire of the item, which takes its value from the release of this snapshot.
     ///
     /// # Errors
-    /// `Spent` where the item has too many events, or the snapshot counts too many of it. It takes no memory.
+    /// `Spent` where the item has too many events, or the snapshot counts too many of it; `Memory`.
     pub fn acquire(&mut self, item: ItemId, snapshot: &Snapshot<A>) -> Result<(), ClockError>
+    where
+        A: Clone,
         requires item { HasItem self.old.sizes item }
         requires shape { sizes_of snapshot.now.clock ≡ self.old.sizes }
         ensures ok { OnOk result (Acquires self.old item snapshot.now self.new) }
         ensures spent { (result ≡ Err ClockError.Spent) ↔ (IsSpent self.old item ⊎ (count_of snapshot.now.clock item ≡ LARGEST_COUNT)) }
-        ensures only { IsOkUnless result ClockError.Spent }
         ensures err { OnErr result (self.new ≡ self.old) }
     {
         if self.is_spent(item) || snapshot.clock().is_spent(item) {
             return Err(ClockError::Spent);
         }
-        self.learn_and_tick(item, snapshot);
-        Ok(())
+        self.learn_and_tick(item, snapshot)
     }
 
     /// Counts an acquire of the item that is a release too: it takes its value from the release of this snapshot, and
@@ -224,10 +233,10 @@ impl<A: Allocator> Clocks<A> {
         let memory = memory_of(word);
         let mut joined = self.clock_of(item, memory).copy()?;
         if is_in(snapshot.word(), memory) {
-            joined.learn(snapshot.clock());
+            joined.join(snapshot.clock())?;
         }
-        joined.raise(item);
-        self.learn_and_tick(item, snapshot);
+        joined.raise(item)?;
+        self.learn_and_tick(item, snapshot)?;
         Ok(Snapshot::new(word, scope, joined))
     }
 
@@ -237,35 +246,6 @@ impl<A: Allocator> Clocks<A> {
         ensures { IsTrue result ↔ IsGroupSpent self.now group }
     {
         self.global.is_group_spent(group) || self.local.is_group_spent(group)
-    }
-
-    /// Room for a barrier of a group, with the memories that its flags name.
-    ///
-    /// # Errors
-    /// `Memory`.
-    pub fn room(&self, group: u16, global: bool, local: bool) -> Result<MeetRoom<A>, ClockError>
-    where
-        A: Clone,
-        requires { group < length self.now.sizes }
-        ensures room { IfOk result (λ r. IsMeetRoom self.now group r) }
-        ensures flags { IfOk result (λ r. (is_some r.global ≡ global) × (is_some r.local ≡ local)) }
-        ensures memory { IsOkUnless result ClockError.Memory }
-    {
-        let global = self.global.room(group, global)?;
-        let local = self.local.room(group, local)?;
-        Ok(MeetRoom { global, local })
-    }
-
-    /// Counts a barrier that all items of the group meet, none of which has too many events, with the memories for which
-    /// there is room.
-    pub fn meet_in(&mut self, group: u16, room: MeetRoom<A>)
-        requires group { group < length self.old.sizes }
-        requires free { ¬ IsGroupSpent self.old group }
-        requires room { IsMeetRoom self.old group room }
-        ensures { Meets self.old group (is_some room.global) (is_some room.local) self.new }
-    {
-        self.global.meet(group, room.global);
-        self.local.meet(group, room.local);
     }
 
     /// Counts a barrier that all items of the group meet, with the memories that its flags name.
@@ -283,8 +263,10 @@ impl<A: Allocator> Clocks<A> {
         if self.is_group_spent(group) {
             return Err(ClockError::Spent);
         }
-        let room = self.room(group, global, local)?;
-        self.meet_in(group, room);
+        let global_clocks = self.global.behind(group, global)?;
+        let local_clocks = self.local.behind(group, local)?;
+        self.global.give(group, global_clocks);
+        self.local.give(group, local_clocks);
         Ok(())
     }
 }

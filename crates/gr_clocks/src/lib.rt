@@ -3,8 +3,13 @@
 #![tactic(auto)]
 
 pub mod access;
+mod base;
+mod block;
 pub mod clock;
 pub mod clocks;
+mod group;
+mod own;
 mod rows;
 pub mod snapshot;
 mod table;
+pub mod tally;

@@ -28,7 +28,7 @@ module _ (s : Streams) (m : Space) (old new : List EventId) (g k : ℕ) (fronts 
 
   pub met_sees : (b d : EventId) → StandsIn s b g k → IsSeen s m b d ↔ ((d ≡ b) ⊎ Knows s m old b.at d)
   met_sees b d stands =
-      let sees = next_sees s m old b (event_of b stands) (barrier_is_next s old lawful g k new met b stands) d in (
+      let sees = next_sees s m old b (event_of b stands) (barrier_is_next s old lawful g k met.mark met.meeting b stands) d in (
         λ seen. ⊎_elim (λ same. inl same) (λ h. ⊎_elim (λ known. inr known) (λ l. absurd (learns_nothing b d stands l)) h) (sees.0 seen),
         ⊎_elim (λ same. inl same) (λ known. sees.1 (inr (inl known))),
       )
@@ -50,7 +50,7 @@ module _ (s : Streams) (m : Space) (old new : List EventId) (g k : ℕ) (fronts 
 
   -- what a barrier's item knew, the barrier sees
   known_seen : (b d : EventId) → StandsIn s b g k → Knows s m old b.at d → IsSeen s m b d
-  known_seen b d stands known = inr (known_before s m old b (event_of b stands) (barrier_is_next s old lawful g k new met b stands) d known)
+  known_seen b d stands known = inr (known_before s m old b (event_of b stands) (barrier_is_next s old lawful g k met.mark met.meeting b stands) d known)
 
   -- of an instance that a barrier stands in, this is the number
   here : (a : Mark) (c b : EventId) → StandsIn s b g k → Together s a c b → StandsIn s c g k × IsConvergent s g k a

@@ -5,3 +5,4 @@ pub mod EventKnowledge
 pub mod GroupKnowledge
 pub mod HandledKnowledge
 pub mod KnowledgeGrowth
+pub mod ClockCounts

@@ -5,11 +5,12 @@ use Rattle.gr_model.specs.declared.event.EventId.{EventId}
 use Rattle.gr_model.specs.declared.event.Space.{Space}
 use Rattle.gr_model.specs.Barriers.{StandsIn}
 use Rattle.gr_model.specs.Counts.{IsSeen}
+use Rattle.gr_model.specs.Instances.{Mark}
 use Rattle.gr_model.specs.HappensBefore.{BasePair, HappensBefore, behind_barrier, sequenced, synchronized}
 use Rattle.gr_model.specs.LawfulOrders.{IsIn, IsLawful}
 use Rattle.gr_model.specs.Streams.{IsEvent, Streams}
 use Rattle.gr_model.proofs.Cuts.{same_event}
-use Rattle.gr_steps.specs.Steps.{IsReady, Meets}
+use Rattle.gr_steps.specs.Steps.{IsMeeting, IsReady}
 use Rattle.gr_steps.proofs.NextEvents.{next_of_item}
 use Rattle.gr_steps.proofs.Orders.{handled_before, number_before}
 use Rattle.gr_closure.specs.Knowledge.{Knows, Learns, by_event, by_instance}
@@ -23,12 +24,12 @@ module _ (s : Streams) (order : List EventId) (lawful : IsLawful s order) where
   pub ready_event_is_next : (e : EventId) → IsReady s order e → IsNextInItem order e
   ready_event_is_next e ready d item = next_of_item s order lawful e ready d item
 
-  module _ (g k : ℕ) (new : List EventId) (met : Meets s order g k new) (b : EventId) (stands : StandsIn s b g k) (d : EventId) (item : d.at ≡ b.at) where
+  module _ (g k : ℕ) (a : Mark) (meeting : IsMeeting s order g k a) (b : EventId) (stands : StandsIn s b g k) (d : EventId) (item : d.at ≡ b.at) where
     handled_is_before : IsIn order d → d.index < b.index
     handled_is_before h =
         ⊎_elim
         (λ (lt : d.index < b.index). lt)
-        (λ (ge : b.index ≤ d.index). absurd (met.meeting.fresh (
+        (λ (ge : b.index ≤ d.index). absurd (meeting.fresh (
           b,
           stands,
           ⊎_elim
@@ -42,7 +43,7 @@ module _ (s : Streams) (order : List EventId) (lawful : IsLawful s order) where
     before_is_handled lt =
         let n = number_before b.index (omega (arith, lt)) in
         let p : EventId = record { at = b.at; index = n.0 } in
-        let there = met.meeting.before b p stands (record { item = refl; next = n.1 }) in
+        let there = meeting.before b p stands (record { item = refl; next = n.1 }) in
         ⊎_elim
         (λ (same : d.index ≡ n.0). subst (λ x. IsIn order x) (sym (same_event d p item same)) there)
         (λ (less : d.index < n.0). handled_before s order lawful d p item less there)
@@ -51,9 +52,9 @@ module _ (s : Streams) (order : List EventId) (lawful : IsLawful s order) where
     meeting_next : IsIn order d ↔ (d.index < b.index)
     meeting_next = (handled_is_before, before_is_handled)
 
-  -- the barriers of an instance that meets are next
-  pub barrier_is_next : (g k : ℕ) (new : List EventId) → Meets s order g k new → (b : EventId) → StandsIn s b g k → IsNextInItem order b
-  barrier_is_next g k new met b stands d item = meeting_next g k new met b stands d item
+  -- the barriers of an instance that may meet are next
+  pub barrier_is_next : (g k : ℕ) (a : Mark) → IsMeeting s order g k a → (b : EventId) → StandsIn s b g k → IsNextInItem order b
+  barrier_is_next g k a meeting b stands d item = meeting_next g k a meeting b stands d item
 
 -- ---- what it sees
 

@@ -8,8 +8,10 @@ use Rattle.gr_model.specs.Instances.{flags}
 use Rattle.gr_model.specs.Streams.{Streams, AreFronts, Grows, size_of}
 use Rattle.gr_model.specs.Barriers.{StandsIn}
 use Rattle.gr_model.specs.LawfulOrders.{IsLawful, IsIn}
-use Rattle.gr_model.specs.Counts.{IsSeen}
+use Rattle.gr_model.specs.Counts.{IsCount, IsSeen}
 use Rattle.gr_steps.specs.Steps.{Handles, Meets}
+use Rattle.gr_clocks.specs.Counts.{Counts, count_of}
+use Rattle.gr_closure.specs.Accesses.{CountsJust}
 use Rattle.gr_closure.specs.Knowledge.{Knows, Learns}
 
 -- ---- what is known was handled
@@ -62,3 +64,9 @@ KnowledgeStays = (s t : Streams) (m : Space) (order : List EventId) (i : ItemId)
 
 abbrev pub SeenStay : Type 0
 SeenStay = (s t : Streams) (m : Space) (order : List EventId) (e d : EventId) → Grows s t → IsLawful s order → IsIn order e → IsSeen s m e d ↔ IsSeen t m e d
+
+-- ---- clocks
+
+-- a clock that counts just what an event of the order sees has of each item the number of its events that are the event or happen before it
+abbrev pub ClocksCount : Type 0
+ClocksCount = (s : Streams) (m : Space) (order : List EventId) (e : EventId) (c : Counts) (j : ItemId) → IsLawful s order → IsIn order e → CountsJust c (IsSeen s m e) → IsCount s m e j (count_of c j)

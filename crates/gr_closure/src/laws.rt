@@ -1,6 +1,6 @@
 //! Laws of what is known. Each is the contract of a function that does nothing, told in words in docs/MODEL.md, "Clocks".
 
-ghost use Rattle.gr_closure.specs.Laws.{KnownAreHandled, SeenAreHandled, OwnAreKnown, HandledSees, HandledKnows, OthersKnowAfterHandle, MetSees, FlaggedKnows, UnflaggedKnows, OthersKnowAfterMeet, KnowledgeStays, SeenStay};
+ghost use Rattle.gr_closure.specs.Laws.{ClocksCount, KnownAreHandled, SeenAreHandled, OwnAreKnown, HandledSees, HandledKnows, OthersKnowAfterHandle, MetSees, FlaggedKnows, UnflaggedKnows, OthersKnowAfterMeet, KnowledgeStays, SeenStay};
 
 /// What an item knows, and what a handled event sees, was handled; and an item knows of its own handled events.
 pub fn knowledge_is_of_the_handled()
@@ -30,4 +30,10 @@ pub fn a_barrier_tells_its_group()
 pub fn knowledge_stays()
     ensures known { KnowledgeStays }
     ensures seen { SeenStay }
+{}
+
+/// A clock that counts just what a handled event sees has of each item the number of its events that are the event or
+/// happen before it.
+pub fn clocks_count()
+    ensures { ClocksCount }
 {}

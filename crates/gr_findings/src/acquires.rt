@@ -9,7 +9,7 @@ ghost use Rattle.gr_model.specs.Names.{HasAcquireCause, HasName};
 ghost use Rattle.gr_model.specs.Reports.{IsUnmatchedAcquire, Lists, UnmatchedBelow};
 ghost use Rattle.gr_findings.specs.Acquires.{AreUnmatchedBefore, IsGroundedFront};
 
-use gr_clocks::clock::Clock;
+use gr_clocks::tally::Tally;
 use gr_lanes::lanes::Lanes;
 use gr_model::event::{EventId, ItemId, Name};
 use gr_model::memory::Memory;
@@ -37,7 +37,7 @@ fn cause<B: Allocator>(lanes: &Lanes<B>, acquire: EventId, name: Name) -> Acquir
 /// The unmatched acquire of an item, if it has one: it has one at most.
 fn unmatched_of<B: Allocator>(
     lanes: &Lanes<B>,
-    frontier: &Clock<B>,
+    frontier: &Tally<B>,
     item: ItemId,
 ) -> Option<Unmatched>
     requires grounded { IsGroundedFront lanes.now frontier.now }
@@ -58,7 +58,7 @@ fn unmatched_of<B: Allocator>(
 /// Adds the unmatched acquires of a group to those of the groups before it.
 fn add_group<A: Allocator, B: Allocator>(
     lanes: &Lanes<B>,
-    frontier: &Clock<B>,
+    frontier: &Tally<B>,
     group: u16,
     list: &mut Vec<Unmatched, A>,
 ) -> Result<(), Memory>
@@ -83,7 +83,7 @@ fn add_group<A: Allocator, B: Allocator>(
 pub fn unmatched<A: Allocator, B: Allocator>(
     alloc: A,
     lanes: &Lanes<B>,
-    frontier: &Clock<B>,
+    frontier: &Tally<B>,
 ) -> Result<Vec<Unmatched, A>, Memory>
     requires grounded { IsGroundedFront lanes.now frontier.now }
     ensures { IfOk result (λ v. Lists UnmatchedBelow (IsUnmatchedAcquire lanes.now) v.items) }

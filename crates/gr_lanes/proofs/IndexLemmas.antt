@@ -1,9 +1,9 @@
 -- What one record more makes of the index of each item.
 use Rattle.std.proofs.Common.{◌≡◌, ℕ, zero, suc, ◌+◌, ◌-◌, ◌<◌, ◌≤◌, Bool, true, false, not, ◌&&◌, ◌==◌, cond, List, [], ◌∷◌, ◌++◌, length, filter, Some, None, Err, nat_cmp, slice_get, get_or, set, take, refl, sym, ap, ◌∙◌, subst, ⊎_elim, arith, append-nil, IsTrue, ltb}
 use Rattle.std.proofs.lemmas.Bool.{cases_lt, cases_eq, eq-eqb, ltb-false, ltb-true, ne_eqb, false_from_ne_true}
-use Rattle.std.proofs.lemmas.List.{length-set, get_or-set_same, get_or-set_other, get_or_read, get_or_push, get_or_append_left}
+use Rattle.std.proofs.lemmas.List.{length-set, get_or-set_same, get_or-set_other, get_or_read, get_or_push, get_or_append_left, length_push}
 use Rattle.std.proofs.lemmas.List.Elements.{filter-append}
-use Rattle.std.proofs.lemmas.Option.{get_or_from_slice_get, slice_get_past, slice_get_within}
+use Rattle.std.proofs.lemmas.Option.{get_or_from_slice_get, slice_get-get_or, slice_get_past, slice_get_within}
 use Rattle.std.proofs.lemmas.List.Sorted.{searched}
 use Rattle.std.specs.List.Sorted.{IsBinarySearchResult}
 use Rattle.std.proofs.Math.Seq.{take-append_seam}
@@ -49,21 +49,19 @@ few-places test n (x ∷ xs) =
 -- the record is none of the item's
 pub index_other : (list : List Event) (x : Event) (i : ℕ) → is_of i x ≡ false → index_of (list ++ x ∷ []) i ≡ index_of list i
 index_other list x i other =
-    let places : places_from (is_of i) 0 (list ++ x ∷ []) ≡ places_from (is_of i) 0 list = places_more (is_of i) list x ∙ ap (λ b. with_if b (places_from (is_of i) 0 list) (length list)) other in
     let trace : filter (is_of i) (list ++ x ∷ []) ≡ filter (is_of i) list = trace_more list x i ∙ (ap (λ b. filter (is_of i) list ++ cond b (x ∷ []) []) other ∙ append-nil (filter (is_of i) list)) in
-    λ d. record { places = places d; releases = places_from is_release 0 (trace d); barriers = places_from is_barrier 0 (trace d) }
+    λ d. record { trace = trace d; releases = places_from is_release 0 (trace d); barriers = places_from is_barrier 0 (trace d) }
 
 -- the record is one of the item's
-pub index_here : (list : List Event) (x : Event) (i : ℕ) → is_of i x ≡ true → index_of (list ++ x ∷ []) i ≡ with_event (index_of list i) (length list) (is_release x) (is_barrier x)
+pub index_here : (list : List Event) (x : Event) (i : ℕ) → is_of i x ≡ true → index_of (list ++ x ∷ []) i ≡ with_event (index_of list i) x (is_release x) (is_barrier x)
 index_here list x i mine =
-    let places : places_from (is_of i) 0 (list ++ x ∷ []) ≡ places_from (is_of i) 0 list ++ length list ∷ [] = places_more (is_of i) list x ∙ ap (λ b. with_if b (places_from (is_of i) 0 list) (length list)) mine in
     let trace : filter (is_of i) (list ++ x ∷ []) ≡ filter (is_of i) list ++ x ∷ [] = trace_more list x i ∙ ap (λ b. filter (is_of i) list ++ cond b (x ∷ []) []) mine in
     let releases = marked is_release trace in
     let barriers = marked is_barrier trace in
-    λ d. record { places = places d; releases = releases d; barriers = barriers d }
+    λ d. record { trace = trace d; releases = releases d; barriers = barriers d }
   where
-    marked : (test : Event → Bool) → filter (is_of i) (list ++ x ∷ []) ≡ filter (is_of i) list ++ x ∷ [] → places_from test 0 (filter (is_of i) (list ++ x ∷ [])) ≡ with_if (test x) (places_from test 0 (filter (is_of i) list)) (length (places_from (is_of i) 0 list))
-    marked test trace = ap (places_from test 0) trace ∙ (places_more test (filter (is_of i) list) x ∙ ap (with_if (test x) (places_from test 0 (filter (is_of i) list))) (sym (length-places (is_of i) 0 list)))
+    marked : (test : Event → Bool) → filter (is_of i) (list ++ x ∷ []) ≡ filter (is_of i) list ++ x ∷ [] → places_from test 0 (filter (is_of i) (list ++ x ∷ [])) ≡ with_if (test x) (places_from test 0 (filter (is_of i) list)) (length (filter (is_of i) list))
+    marked test trace = ap (places_from test 0) trace ∙ places_more test (filter (is_of i) list) x
 
 -- ---- the lanes of a group
 
@@ -75,15 +73,15 @@ is_of_item : (x : Event) (i : ℕ) → is_end x ≡ false → is_of i x ≡ (x.i
 is_of_item x i on = elim (x.item == i) as (λ b. (b && not (is_end x)) ≡ b) [ true ↦ ap not on | false ↦ refl ]
 
 module _ (lanes : List Index) (list : List Event) (x : Event) (are : AreIndices lanes list) (ok : IsEventOk x (length lanes)) where
-  pub few_events : length (get_or lanes x.item no_index).places < 4_294_967_296
+  pub few_events : length (get_or lanes x.item no_index).trace < 4_294_967_296
   few_events =
-      let same : length (get_or lanes x.item no_index).places ≡ length (places_from (is_of x.item) 0 list) = ap (λ l. length l.places) (are.each x.item ok.0) in
-      omega (arith, few-places (is_of x.item) 0 list, are.front.few)
+      let same : length (get_or lanes x.item no_index).trace ≡ length (filter (is_of x.item) list) = ap (λ l. length l.trace) (are.each x.item ok.0) in
+      omega (arith, few-places (is_of x.item) 0 list, length-places (is_of x.item) 0 list, are.front.few)
 
   abbrev event : Index
-  event = with_event (get_or lanes x.item no_index) (length list) (is_release x) (is_barrier x)
+  event = with_event (get_or lanes x.item no_index) x (is_release x) (is_barrier x)
 
-  pub indices_more : ¬ IsTrue (is_complete list) → length list < MOST_RECORDS → AreIndices (indexed lanes x (length list)) (list ++ x ∷ [])
+  pub indices_more : ¬ IsTrue (is_complete list) → length list < MOST_RECORDS → AreIndices (indexed lanes x) (list ++ x ∷ [])
   indices_more open_list room = by_end (is_end x) refl
     where
       front : IsFront (length lanes) (list ++ x ∷ [])
@@ -91,7 +89,7 @@ module _ (lanes : List Index) (list : List Event) (x : Event) (are : AreIndices 
 
       here : is_end x ≡ false → get_or (set lanes x.item event) x.item no_index ≡ index_of (list ++ x ∷ []) x.item
       here on =
-          get_or-set_same lanes x.item event no_index ok.0 ∙ (ap (λ l. with_event l (length list) (is_release x) (is_barrier x)) (are.each x.item ok.0)
+          get_or-set_same lanes x.item event no_index ok.0 ∙ (ap (λ l. with_event l x (is_release x) (is_barrier x)) (are.each x.item ok.0)
           ∙ sym (index_here list x x.item (is_of_item x x.item on ∙ eq-eqb x.item x.item refl)))
 
       other : is_end x ≡ false → (i : ℕ) → (i ≡ x.item → ⊥) → i < length lanes → get_or (set lanes x.item event) i no_index ≡ index_of (list ++ x ∷ []) i
@@ -108,10 +106,10 @@ module _ (lanes : List Index) (list : List Event) (x : Event) (are : AreIndices 
                 (cases_eq i x.item);
           }
 
-  pub size_more : (n : ℕ) → length (indexed lanes x n) ≡ length lanes
-  size_more n = elim (is_end x) as (λ b. length (cond b lanes (set lanes x.item (with_event (get_or lanes x.item no_index) n (is_release x) (is_barrier x)))) ≡ length lanes) [
+  pub size_more : length (indexed lanes x) ≡ length lanes
+  size_more = elim (is_end x) as (λ b. length (cond b lanes (set lanes x.item (with_event (get_or lanes x.item no_index) x (is_release x) (is_barrier x)))) ≡ length lanes) [
     | true ↦ refl
-    | false ↦ length-set lanes x.item (with_event (get_or lanes x.item no_index) n (is_release x) (is_barrier x))
+    | false ↦ length-set lanes x.item (with_event (get_or lanes x.item no_index) x (is_release x) (is_barrier x))
   ]
 
 -- lanes of items without events
@@ -130,31 +128,6 @@ pub whole_slice : {X : Type 0} (n : ℕ) (new rest : List X) → length new ≡ 
 whole_slice n new rest size = ap (λ k. take k (new ++ rest)) (sym size) ∙ take-append_seam new rest
 
 -- ---- what is read by an index
-
--- an event that passes a test is found by its place
-abbrev pub StandsAt : {X : Type 0} → (X → Bool) → ℕ → List X → ℕ → ℕ → Type 0
-StandsAt test i xs k n = (j : ℕ) × (n ≡ i + j) × (slice_get (filter test xs) k ≡ slice_get xs j)
-
-first-place : {X : Type 0} (test : X → Bool) (i : ℕ) (x : X) (xs : List X) (n : ℕ) → ((k : ℕ) → slice_get (places_from test (suc i) xs) k ≡ Some n → StandsAt test (suc i) xs k n) → (k : ℕ) → slice_get (i ∷ places_from test (suc i) xs) k ≡ Some n → (j : ℕ) × (n ≡ i + j) × (slice_get (x ∷ filter test xs) k ≡ slice_get (x ∷ xs) j)
-first-place test i x xs n rest zero e = let same : i ≡ n = cc in (0, omega arith, refl)
-first-place test i x xs n rest (suc k) e = let r = rest k e in (suc r.0, omega (arith, r.1), r.2)
-
-pub filter-place : {X : Type 0} (test : X → Bool) (i : ℕ) (xs : List X) (k n : ℕ) → slice_get (places_from test i xs) k ≡ Some n → StandsAt test i xs k n
-filter-place test i [] k n at = cc
-filter-place {X} test i (x ∷ xs) k n at =
-    let rest : (k : ℕ) → slice_get (places_from test (suc i) xs) k ≡ Some n → StandsAt test (suc i) xs k n = λ k e. filter-place test (suc i) xs k n e in
-    elim (test x) as (λ b. slice_get (cond b (i ∷ places_from test (suc i) xs) (places_from test (suc i) xs)) k ≡ Some n → (j : ℕ) × (n ≡ i + j) × (slice_get (cond b (x ∷ filter test xs) (filter test xs)) k ≡ slice_get (x ∷ xs) j)) [
-      | true ↦ λ e. first-place test i x xs n rest k e
-      | false ↦ λ e. let r = rest k e in (suc r.0, omega (arith, r.1), r.2)
-    ] at
-
-past : (l : List ℕ) (m : ℕ) → slice_get l m ≡ None → length l ≤ m
-past [] m e = omega arith
-past (x ∷ l) zero e = cc
-past (x ∷ l) (suc m) e = let rest = past l m e in omega arith
-
-pub filter-none : {X : Type 0} (test : X → Bool) (xs : List X) (k : ℕ) → slice_get (places_from test 0 xs) k ≡ None → slice_get (filter test xs) k ≡ None
-filter-none test xs k none = slice_get_past (filter test xs) k (omega (arith, length-places test 0 xs, past (places_from test 0 xs) k none))
 
 -- an item that the group lacks has no events
 none_of : (i : ℕ) (l : List Event) → ((p : ℕ) (x : Event) → slice_get l p ≡ Some x → x.item < i) → filter (is_of i) l ≡ []
@@ -220,22 +193,23 @@ module _ (lanes : List Index) (list : List Event) (are : AreIndices lanes list) 
         let within : i < length lanes = omega (arith, ap length same) in
         get_or_read lanes i lane within (reads ∙ (ap (λ l. get_or l j lane) same ∙ ap (λ n. get_or lanes n lane) here)) no_index ∙ are.each i within
 
+    few_that : (test : Event → Bool) → length (places_from test 0 (filter (is_of i) list)) < 4_294_967_296
+    few_that test = omega (arith, few-places test 0 (filter (is_of i) list), length-places (is_of i) 0 list, few-places (is_of i) 0 list, are.front.few)
+
+    pub few_releases : length lane.releases < 4_294_967_296
+    few_releases = subst (λ (l : Index). length l.releases < 4_294_967_296) (sym lane_is) (few_that is_release)
+
+    pub releases_rise : AreRising lane.releases
+    releases_rise = subst (λ (l : Index). AreRising l.releases) (sym lane_is) (places_rise is_release 0 (filter (is_of i) list))
+
     pub few_barriers : length lane.barriers < 4_294_967_296
-    few_barriers =
-        let count : length lane.barriers ≡ length (places_from is_barrier 0 (filter (is_of i) list)) = ap (λ (l : Index). length l.barriers) lane_is in
-        omega (arith, few-places is_barrier 0 (filter (is_of i) list), length-places (is_of i) 0 list, few-places (is_of i) 0 list, are.front.few)
+    few_barriers = subst (λ (l : Index). length l.barriers < 4_294_967_296) (sym lane_is) (few_that is_barrier)
 
     pub barriers_rise : AreRising lane.barriers
     barriers_rise = subst (λ (l : Index). AreRising l.barriers) (sym lane_is) (places_rise is_barrier 0 (filter (is_of i) list))
 
-    pub event_by_place : (k n : ℕ) → Some n ≡ slice_get lane.places k → slice_get list n ≡ slice_get (filter (is_of i) list) k
-    event_by_place k n at =
-        let found = filter-place (is_of i) 0 list k n (ap (λ (l : Index). slice_get l.places k) (sym lane_is) ∙ sym at) in
-        let place : n ≡ found.0 = omega (arith, found.1) in
-        ap (slice_get list) place ∙ sym found.2
-
-    pub no_event : (k : ℕ) → None ≡ slice_get lane.places k → None ≡ slice_get (filter (is_of i) list) k
-    no_event k none = sym (filter-none (is_of i) list k (ap (λ (l : Index). slice_get l.places k) (sym lane_is) ∙ sym none))
+    pub event_of : (k : ℕ) → slice_get lane.trace k ≡ slice_get (filter (is_of i) list) k
+    event_of k = ap (λ (l : Index). slice_get l.trace k) lane_is
 
 -- ---- cut streams
 
@@ -250,3 +224,19 @@ last_if_cut list good x last (p, y, at, kind) =
     let same : Some y ≡ Some x = sym at ∙ (ap (slice_get list) (let q : p ≡ length list - 1 = omega arith in q) ∙ last) in
     let one : y ≡ x = cc in
     subst (λ (z : Event). z.kind ≡ End true) one kind
+
+-- a list without a last record has none
+pub none_last : (list : List Event) → slice_get list (length list - 1) ≡ None → list ≡ []
+none_last [] none = refl
+none_last (x ∷ xs) none =
+    let place : length (x ∷ xs) - 1 ≡ length xs = omega arith in
+    let here : slice_get (x ∷ xs) (length xs) ≡ None = ap (slice_get (x ∷ xs)) (sym place) ∙ none in
+    let there : slice_get (x ∷ xs) (length xs) ≡ Some (get_or (x ∷ xs) (length xs) x) = slice_get-get_or (x ∷ xs) (length xs) x (omega arith) in cc
+
+pub last_pushed : (list : List Event) (x : Event) → slice_get (list ++ x ∷ []) (length (list ++ x ∷ []) - 1) ≡ Some x
+last_pushed list x =
+    let place : length (list ++ x ∷ []) - 1 ≡ length list = omega (arith, length_push list x) in
+    ap (slice_get (list ++ x ∷ [])) place ∙ (slice_get-get_or (list ++ x ∷ []) (length list) x (omega (arith, length_push list x)) ∙ ap (λ (y : Event). Some y) (get_or_push list x x (length list) refl))
+
+pub no_cut : EndsCut [] → ⊥
+no_cut (p, x, at, kind) = cc

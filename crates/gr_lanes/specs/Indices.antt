@@ -1,5 +1,5 @@
 -- An index of each item's events in its group's list, and of its releases and barriers among its events.
-use Rattle.std.specs.Prelude.{◌≡◌, ℕ, ◌<◌, ◌≤◌, Bool, List, [], ◌∷◌, ◌++◌, length, map, filter, true, Some, slice_get, slice_index, slice_index_or, slice_set, if◌then◌else◌}
+use Rattle.std.specs.Prelude.{◌≡◌, ℕ, ◌<◌, ◌≤◌, ◌-◌, Option, Bool, List, [], ◌∷◌, ◌++◌, length, map, filter, true, Some, slice_get, slice_index, slice_index_or, slice_set, if◌then◌else◌}
 use Rattle.gr_model.specs.declared.event.Event.{Event}
 use Rattle.gr_model.specs.declared.event.Kind.TheVariants.{End}
 use Rattle.gr_model.specs.Access.{is_release}
@@ -7,9 +7,9 @@ use Rattle.gr_model.specs.Barriers.{is_barrier}
 use Rattle.gr_model.specs.Events.{is_end}
 use Rattle.gr_model.specs.Streams.{Streams, AreFronts, IsFront, is_of, places_from}
 
--- the places of an item's events in its group's list, and of its releases and its barriers in its trace
+-- an item's events, and the places of its releases and its barriers among them
 pub record Index : Type 0 where
-  pub places : List ℕ
+  pub trace : List Event
   pub releases : List ℕ
   pub barriers : List ℕ
 
@@ -20,30 +20,30 @@ AreRising places = (i j : ℕ) → i ≤ j → j < length places → slice_index
 -- the index of an item of a group that has this list
 abbrev pub index_of : List Event → ℕ → Index
 index_of list item = record {
-  places = places_from (is_of item) 0 list;
+  trace = filter (is_of item) list;
   releases = places_from is_release 0 (filter (is_of item) list);
   barriers = places_from is_barrier 0 (filter (is_of item) list);
 }
 
 -- the index of an item without events
 abbrev pub no_index : Index
-no_index = record { places = []; releases = []; barriers = [] }
+no_index = record { trace = []; releases = []; barriers = [] }
 
 -- the list with one place more, if so told
 abbrev pub with_if : Bool → List ℕ → ℕ → List ℕ
 with_if told places n = if told then places ++ n ∷ [] else places
 
--- the index with one event more, at this place of the list, which is a release or a barrier if so told
-abbrev pub with_event : Index → ℕ → Bool → Bool → Index
-with_event i place release barrier = record {
-  places = i.places ++ place ∷ [];
-  releases = with_if release i.releases (length i.places);
-  barriers = with_if barrier i.barriers (length i.places);
+-- the index with one event more, which is a release or a barrier if so told
+abbrev pub with_event : Index → Event → Bool → Bool → Index
+with_event i x release barrier = record {
+  trace = i.trace ++ x ∷ [];
+  releases = with_if release i.releases (length i.trace);
+  barriers = with_if barrier i.barriers (length i.trace);
 }
 
--- the indices of a group's items with a record more at this place of the list: an end is no item's event
-abbrev pub indexed : List Index → Event → ℕ → List Index
-indexed lanes x place = if is_end x then lanes else slice_set lanes x.item (with_event (slice_index_or lanes x.item no_index) place (is_release x) (is_barrier x))
+-- the indices of a group's items with a record more: an end is no item's event
+abbrev pub indexed : List Index → Event → List Index
+indexed lanes x = if is_end x then lanes else slice_set lanes x.item (with_event (slice_index_or lanes x.item no_index) x (is_release x) (is_barrier x))
 
 -- what was taken of a group of so many items
 pub record GroupList : Type 0 where
@@ -54,6 +54,12 @@ pub record GroupList : Type 0 where
 pub record AreIndices (lanes : List Index) (list : List Event) : Type 0 where
   pub front : IsFront (length lanes) list
   pub each : (i : ℕ) → i < length lanes → slice_index_or lanes i no_index ≡ index_of list i
+
+-- what is kept of a group: the indices of its items, how many records were taken, and the last of them
+pub record IsKept (lanes : List Index) (list : List Event) (taken : ℕ) (last : Option Event) : Type 0 where
+  pub indices : AreIndices lanes list
+  pub count : taken ≡ length list
+  pub ending : last ≡ slice_get list (length list - 1)
 
 -- some record of a list is an end that says that its stream was cut
 abbrev pub EndsCut : List Event → Type 0

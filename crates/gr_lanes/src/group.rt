@@ -1,7 +1,7 @@
-//! What was taken of one work-group: its records in their order, and a lane for each of its items.
+//! What was taken of one work-group: how many records, the last of them, and a lane for each of its items.
 //!
 //! Invariant: the records are a front of a list that the group may have, and each lane is the index of its item's events
-//! in it.
+//! in it. The list itself exists in proofs alone.
 
 ghost use Rattle.std.specs.Prelude.{◌≡◌, ◌≢◌, ◌↔◌, ◌∷◌, ◌++◌, ◌<◌, ℕ, [], true, IsTrue, IfOk, MatchOption, OnOk, OnErr, filter, length, slice_get, slice_index_or};
 ghost use Rattle.gr_model.specs.declared.limits.TheConstants.{MOST_RECORDS};
@@ -13,6 +13,7 @@ ghost use Rattle.gr_model.specs.Streams.{is_complete, is_of, places_from};
 ghost use Rattle.gr_lanes.specs.Indices.{EndsCut, no_index, indexed};
 
 use crate::lane::Lane;
+use gr_history::history::History;
 use gr_model::event::{Event, Kind};
 use gr_model::memory::Memory;
 use std::alloc::{Allocator, Global};
@@ -22,19 +23,21 @@ use std::marker::Model;
 #[derive(Drop)]
 #[derive_where(Debug)]
 pub(crate) struct Group<A: Allocator = Global> {
-    list: Vec<Event, A>,
+    list: History<Event>,
+    taken: u32,
+    last: Option<Event>,
     lanes: Vec<Lane<A>, A>,
 }
 
 impl<A: Allocator> Model for Group<A> {
     ghost use Rattle.std.specs.Prelude.{length};
-    ghost use Rattle.gr_lanes.specs.Indices.{GroupList, AreIndices};
+    ghost use Rattle.gr_lanes.specs.Indices.{GroupList, IsKept};
 
     ghost Value = { GroupList };
 
-    ghost view = { λ g. record { size = length g.lanes.items; list = g.list.items } };
+    ghost view = { λ g. record { size = length g.lanes.items; list = g.list } };
 
-    ghost invariant = { λ g. AreIndices g.lanes.items g.list.items };
+    ghost invariant = { λ g. IsKept g.lanes.items g.list g.taken g.last };
 }
 
 /// Whether an event is a release.
@@ -73,20 +76,20 @@ fn is_cut(event: &Event) -> bool
     event.kind == Kind::End { cut: true }
 }
 
-/// Adds the group's next record, which stands at this place, to the lane of its item; an end is no item's event.
+/// Adds the group's next record to the lane of its item; an end is no item's event.
 ///
 /// # Errors
 /// `Memory`. The lanes are then as they were.
-fn index<A: Allocator>(lanes: &mut [Lane<A>], event: &Event, place: u32) -> Result<(), Memory>
+fn index<A: Allocator>(lanes: &mut [Lane<A>], event: &Event) -> Result<(), Memory>
     requires item { event.now.item < length lanes.old }
-    requires few { length (slice_index_or lanes.old event.now.item no_index).places < 4_294_967_296 }
-    ensures ok { OnOk result (lanes.new ≡ indexed lanes.old event.now place) }
+    requires few { length (slice_index_or lanes.old event.now.item no_index).trace < 4_294_967_296 }
+    ensures ok { OnOk result (lanes.new ≡ indexed lanes.old event.now) }
     ensures err { OnErr result (lanes.new ≡ lanes.old) }
 {
     if event.kind.is_end() {
         return Ok(());
     }
-    lanes[usize::from(event.item)].add(place, is_release(event), is_barrier(event))
+    lanes[usize::from(event.item)].add(*event, is_release(event), is_barrier(event))
 }
 
 impl<A: Allocator + Copy> Group<A> {
@@ -101,8 +104,13 @@ impl<A: Allocator + Copy> Group<A> {
         for _item in 0..items {
             lanes.push(Lane::new(alloc))?;
         }
-        let list = Vec::new(alloc);
-        Ok(Group { list, lanes })
+        let list = History::new();
+        Ok(Group {
+            list,
+            taken: 0,
+            last: None,
+            lanes,
+        })
     }
 }
 
@@ -118,14 +126,14 @@ impl<A: Allocator> Group<A> {
     pub(crate) fn taken(&self) -> u32
         ensures { result ≡ length self.now.list }
     {
-        self.list.len() as u32
+        self.taken
     }
 
     /// Whether its end was taken.
     pub(crate) fn is_complete(&self) -> bool
         ensures { result ≡ is_complete self.now.list }
     {
-        match self.list.last() {
+        match &self.last {
             None => false,
             Some(event) => event.kind.is_end(),
         }
@@ -135,17 +143,10 @@ impl<A: Allocator> Group<A> {
     pub(crate) fn is_cut(&self) -> bool
         ensures { IsTrue result ↔ EndsCut self.now.list }
     {
-        match self.list.last() {
+        match &self.last {
             None => false,
             Some(event) => is_cut(event),
         }
-    }
-
-    /// The record at a place of the group's list.
-    fn record(&self, place: u32) -> Option<Event>
-        ensures { result ≡ slice_get self.now.list place }
-    {
-        self.list.get(place as usize).copied()
     }
 
     /// The event of an item with this index.
@@ -154,10 +155,7 @@ impl<A: Allocator> Group<A> {
     {
         match self.lanes.get(usize::from(item)) {
             None => None,
-            Some(lane) => match lane.place(index) {
-                None => None,
-                Some(place) => self.record(place),
-            },
+            Some(lane) => lane.event(index),
         }
     }
 
@@ -178,6 +176,16 @@ impl<A: Allocator> Group<A> {
         match self.lanes.get(usize::from(item)) {
             None => None,
             Some(lane) => lane.barrier(number),
+        }
+    }
+
+    /// The number among an item's releases of the event with this index, or `None` where that is no release.
+    pub(crate) fn release_number(&self, item: u16, index: u32) -> Option<u32>
+        ensures { MatchOption result ((k : ℕ) → slice_get (places_from model.is_release 0 (filter (is_of item) self.now.list)) k ≢ Some index) (λ k. slice_get (places_from model.is_release 0 (filter (is_of item) self.now.list)) k ≡ Some index) }
+    {
+        match self.lanes.get(usize::from(item)) {
+            None => None,
+            Some(lane) => lane.release_number(index),
         }
     }
 
@@ -202,10 +210,10 @@ impl<A: Allocator> Group<A> {
         ensures ok { OnOk result (self.new ≡ record { size = self.old.size; list = self.old.list ++ event ∷ [] }) }
         ensures err { OnErr result (self.new ≡ self.old) }
     {
-        self.list.reserve(1)?;
-        let place = self.list.len() as u32;
-        index(&mut self.lanes, &event, place)?;
-        self.list.push_reserved(event);
+        index(&mut self.lanes, &event)?;
+        self.list.push(&event);
+        self.taken += 1;
+        self.last = Some(event);
         Ok(())
     }
 }

@@ -1,20 +1,20 @@
 //! The index of one work-item's events.
 //!
-//! A lane knows where an item's events stand in its group's list, and which of them are releases and barriers. It stores
-//! no event.
+//! A lane has an item's events in their order, and knows which of them are releases and barriers.
 
 ghost use Rattle.std.specs.Prelude.{◌≡◌, ◌≢◌, ◌<◌, ℕ, MatchOption, OnOk, OnErr, length, slice_get};
 ghost use Rattle.gr_lanes.specs.Indices.{AreRising, no_index, with_event};
 
+use gr_model::event::Event;
 use gr_model::memory::Memory;
 use std::alloc::{Allocator, Global};
 use std::marker::Model;
 
-/// Where an item's events stand in its group's list, and its releases and its barriers among its events.
+/// An item's events, and its releases and its barriers among them.
 #[derive(Drop)]
 #[derive_where(Debug)]
 pub(crate) struct Lane<A: Allocator = Global> {
-    places: Vec<u32, A>,
+    trace: Vec<Event, A>,
     releases: Vec<u32, A>,
     barriers: Vec<u32, A>,
 }
@@ -24,7 +24,19 @@ impl<A: Allocator> Model for Lane<A> {
 
     ghost Value = { Index };
 
-    ghost view = { λ l. record { places = l.places.items; releases = l.releases.items; barriers = l.barriers.items } };
+    ghost view = { λ l. record { trace = l.trace.items; releases = l.releases.items; barriers = l.barriers.items } };
+}
+
+/// The place of an index in a rising list of indices.
+fn number_of(places: &[u32], index: u32) -> Option<u32>
+    requires few { length places.now < 4_294_967_296 }
+    requires rise { AreRising places.now }
+    ensures { MatchOption result ((k : ℕ) → slice_get places.now k ≢ Some index) (λ k. slice_get places.now k ≡ Some index) }
+{
+    match places.binary_search(&index) {
+        Ok(number) => Some(number as u32),
+        Err(_) => None,
+    }
 }
 
 impl<A: Allocator + Copy> Lane<A> {
@@ -33,7 +45,7 @@ impl<A: Allocator + Copy> Lane<A> {
         ensures { result ≡ no_index }
     {
         Lane {
-            places: Vec::new(alloc),
+            trace: Vec::new(alloc),
             releases: Vec::new(alloc),
             barriers: Vec::new(alloc),
         }
@@ -41,11 +53,11 @@ impl<A: Allocator + Copy> Lane<A> {
 }
 
 impl<A: Allocator> Lane<A> {
-    /// The place in its group's list of the item's event with this index.
-    pub(crate) fn place(&self, index: u32) -> Option<u32>
-        ensures { result ≡ slice_get self.now.places index }
+    /// The item's event with this index.
+    pub(crate) fn event(&self, index: u32) -> Option<Event>
+        ensures { result ≡ slice_get self.now.trace index }
     {
-        self.places.get(index as usize).copied()
+        self.trace.get(index as usize).copied()
     }
 
     /// The index of the item's release with this number.
@@ -62,32 +74,38 @@ impl<A: Allocator> Lane<A> {
         self.barriers.get(number as usize).copied()
     }
 
+    /// The number among the item's releases of the one with this index.
+    pub(crate) fn release_number(&self, index: u32) -> Option<u32>
+        requires few { length self.now.releases < 4_294_967_296 }
+        requires rise { AreRising self.now.releases }
+        ensures { MatchOption result ((k : ℕ) → slice_get self.now.releases k ≢ Some index) (λ k. slice_get self.now.releases k ≡ Some index) }
+    {
+        number_of(&self.releases, index)
+    }
+
     /// The number among the item's barriers of the one with this index.
     pub(crate) fn barrier_number(&self, index: u32) -> Option<u32>
         requires few { length self.now.barriers < 4_294_967_296 }
         requires rise { AreRising self.now.barriers }
         ensures { MatchOption result ((k : ℕ) → slice_get self.now.barriers k ≢ Some index) (λ k. slice_get self.now.barriers k ≡ Some index) }
     {
-        match self.barriers.binary_search(&index) {
-            Ok(number) => Some(number as u32),
-            Err(_) => None,
-        }
+        number_of(&self.barriers, index)
     }
 
-    /// Adds the item's next event, which stands at this place of its group's list.
+    /// Adds the item's next event.
     ///
     /// # Errors
     /// `Memory`. The lane is then as it was.
-    pub(crate) fn add(&mut self, place: u32, release: bool, barrier: bool) -> Result<(), Memory>
-        requires { length self.old.places < 4_294_967_296 }
-        ensures ok { OnOk result (self.new ≡ with_event self.old place release barrier) }
+    pub(crate) fn add(&mut self, event: Event, release: bool, barrier: bool) -> Result<(), Memory>
+        requires { length self.old.trace < 4_294_967_296 }
+        ensures ok { OnOk result (self.new ≡ with_event self.old event release barrier) }
         ensures err { OnErr result (self.new ≡ self.old) }
     {
-        self.places.reserve(1)?;
+        self.trace.reserve(1)?;
         self.releases.reserve(usize::from(release))?;
         self.barriers.reserve(usize::from(barrier))?;
-        let index = self.places.len() as u32;
-        self.places.push_reserved(place);
+        let index = self.trace.len() as u32;
+        self.trace.push_reserved(event);
         if release {
             self.releases.push_reserved(index);
         }

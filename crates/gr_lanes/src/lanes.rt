@@ -5,6 +5,7 @@
 ghost use Rattle.std.specs.Prelude.{◌≡◌, ◌≢◌, ◌↔◌, ◌<◌, ℕ, Some, IsTrue, IfOk, IfErr, MatchOption, OnOk, OnErr, length};
 ghost use Rattle.gr_model.specs.declared.limits.TheConstants.{MOST_RECORDS};
 ghost use Rattle.gr_model.specs.Streams.{AreFronts, event_at, is_complete, list_of, place_of};
+ghost use Rattle.gr_model.specs.Access.{is_release};
 ghost use Rattle.gr_model.specs.Barriers.{is_barrier};
 ghost use Rattle.gr_model.specs.Reports.{IsCut};
 ghost use Rattle.gr_model.specs.Streams as model;
@@ -134,6 +135,16 @@ impl<A: Allocator> Lanes<A> {
         match self.groups.get(usize::from(item.group)) {
             None => None,
             Some(group) => group.barrier_at(item.item, number),
+        }
+    }
+
+    /// The number among its item's releases of an event, or `None` where it is no release.
+    pub fn release_number(&self, event: EventId) -> Option<u32>
+        ensures { MatchOption result ((k : ℕ) → place_of self.now is_release event.at k ≢ Some event.index) (λ k. place_of self.now is_release event.at k ≡ Some event.index) }
+    {
+        match self.groups.get(usize::from(event.at.group)) {
+            None => None,
+            Some(group) => group.release_number(event.at.item, event.index),
         }
     }
 

@@ -10,21 +10,21 @@ ghost use Rattle.gr_model.specs.Events.{IsNameInRange, IsNamingOk, IsKindOk, IsE
 use crate::limits::{MOST_GROUPS, MOST_ITEMS_OF_A_GROUP, MOST_RECORDS};
 
 /// One of the two memories that work-items share: the launch's global memory, or the local memory of each work-group.
-#[derive(Clone, Copy, Debug, PartialEq, Eq, PartialOrd, Ord, Hash)]
+#[derive(Clone, Copy, Debug, PartialEq, Eq)]
 pub enum Space {
     Global,
     Local,
 }
 
 /// The memory scope of an atomic operation: `memory_scope_work_group` or `memory_scope_device`.
-#[derive(Clone, Copy, Debug, PartialEq, Eq, PartialOrd, Ord)]
+#[derive(Clone, Copy, Debug, PartialEq, Eq)]
 pub enum Scope {
     Group,
     Device,
 }
 
 /// The memory order of an atomic operation; `Both` is acquire and release.
-#[derive(Clone, Copy, Debug, PartialEq, Eq, PartialOrd, Ord)]
+#[derive(Clone, Copy, Debug, PartialEq, Eq)]
 pub enum Order {
     Relaxed,
     Acquire,

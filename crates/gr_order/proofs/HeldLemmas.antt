@@ -22,7 +22,7 @@ use Rattle.gr_order.proofs.StateLemmas.{item_cases, item_there, tick_here, tick_
 use Rattle.gr_order.proofs.SumLemmas.{group_more, item_more, items_at_most}
 use Rattle.gr_order.proofs.TakenLemmas.{events_most, taken_events, trace_most}
 
-module _ (q : Sequence) (frontier : Counts) (held room : ℕ) (state : IsState q frontier held room) where
+module _ (q : Sequence) (frontier : Counts) (held : ℕ) (state : IsState q frontier held) where
   abbrev traces : ItemId → ℕ
   traces i = length (trace_of q.taken i)
 
@@ -56,13 +56,12 @@ module _ (q : Sequence) (frontier : Counts) (held room : ℕ) (state : IsState q
   held_at rest = subst (IsHeld q.taken) (sym held_sum) (held_at_rest q.taken q.handled state.sequence.lawful (rest_grounded q.taken q.handled state.sequence.lawful rest) counts state.first)
 
   -- n events more that were taken are held
-  are_held : (more : ItemId → ℕ) (n : ℕ) → ((i : ItemId) → HasItem q.taken.sizes i → more i ≤ traces i) → sum_by more (items_of q.taken.sizes) ≡ sum_by counts (items_of q.taken.sizes) + n → (n ≤ held) × (length q.handled + n ≤ room)
+  are_held : (more : ItemId → ℕ) (n : ℕ) → ((i : ItemId) → HasItem q.taken.sizes i → more i ≤ traces i) → sum_by more (items_of q.taken.sizes) ≡ sum_by counts (items_of q.taken.sizes) + n → n ≤ held
   are_held more n within sum =
       let most = items_at_most more traces q.taken.sizes within in
       let taken = taken_events q.taken state.sequence.fronts in
       let handled = state.counts in
-      let rest = state.rest in
-      let all = state.fits in (omega arith, omega arith)
+      let rest = state.rest in omega arith
 
   -- an event that is ready
   module _ (e : EventId) (ready : IsReady q.taken q.handled e) where
@@ -73,7 +72,7 @@ module _ (q : Sequence) (frontier : Counts) (held room : ℕ) (state : IsState q
     is_taken = slice_get_within (trace_of q.taken e.at) e.index ready.event.0 ready.event.1
 
     ready_item : HasItem q.taken.sizes e.at
-    ready_item = item_there q frontier held room state e ready
+    ready_item = item_there q frontier held state e ready
 
     pub ready_can_count : count_of frontier e.at ≢ LARGEST_COUNT
     ready_can_count full =
@@ -81,7 +80,7 @@ module _ (q : Sequence) (frontier : Counts) (held room : ℕ) (state : IsState q
         let index = index_is in
         let taken = is_taken in omega arith
 
-    pub ready_is_held : (1 ≤ held) × (length q.handled + 1 ≤ room)
+    pub ready_is_held : 1 ≤ held
     ready_is_held =
         are_held (λ j. counts j + tick_at e.at j) 1
         (λ j has. ⊎_elim
@@ -108,7 +107,7 @@ module _ (q : Sequence) (frontier : Counts) (held room : ℕ) (state : IsState q
         let same : item_of g j.item ≡ j = λ d. record { group = sym here d; item = j.item } in
         subst (λ (i : ItemId). counts i < traces i) same (next j.item (subst (λ (n : ℕ). j.item < size_of q.taken n) here has.1))
 
-    pub group_is_held : (size_of q.taken g ≤ held) × (length q.handled + size_of q.taken g ≤ room)
+    pub group_is_held : size_of q.taken g ≤ held
     group_is_held =
         are_held (λ j. counts j + one_of j) (size_of q.taken g)
         (λ j has. ⊎_elim

@@ -137,7 +137,7 @@ module _ (frontier : Counts) (g n : ℕ) where
 
 -- ---- an instance meets
 
-module _ (q : Sequence) (frontier : Counts) (held room : ℕ) (state : IsState q frontier held room) (g k : ℕ) (a : Mark) (meeting : IsMeeting q.taken q.handled g k a) where
+module _ (q : Sequence) (frontier : Counts) (held : ℕ) (state : IsState q frontier held) (g k : ℕ) (a : Mark) (meeting : IsMeeting q.taken q.handled g k a) where
   next : IsNextInstance q.taken frontier g k
   next = meets_next q.taken q.handled frontier state.first g k a meeting
 
@@ -153,8 +153,8 @@ module _ (q : Sequence) (frontier : Counts) (held room : ℕ) (state : IsState q
   pub below_largest : (i : ℕ) → i < size_of q.taken g → count_of frontier (item_of g i) < LARGEST_COUNT
   below_largest i lt = let below = below_trace i lt in let most = trace_most q.taken state.sequence.fronts (item_of g i) group_there in omega arith
 
-  pub barriers_are_held : (size_of q.taken g ≤ held) × (length q.handled + size_of q.taken g ≤ room)
-  barriers_are_held = group_is_held q frontier held room state g group_there below_trace
+  pub barriers_are_held : size_of q.taken g ≤ held
+  barriers_are_held = group_is_held q frontier held state g group_there below_trace
 
   are_barriers : AreBarriers q.taken g k (next_events frontier g (size_of q.taken g))
   are_barriers = record {
@@ -168,7 +168,7 @@ module _ (q : Sequence) (frontier : Counts) (held room : ℕ) (state : IsState q
   pub passes : (new : Counts) (items : List EventId) → TicksItems frontier g (size_of q.taken g) new → items ≡ q.handled ++ next_events frontier g (size_of q.taken g) → MeetsInstance q g k (record { taken = q.taken; handled = items })
   passes new items ticks is = record { taken = refl; meets = record { mark = a; meeting = meeting; barriers = next_events frontier g (size_of q.taken g); are = are_barriers; order = is } }
 
-  pub after_pass : (new : Counts) (items : List EventId) (less : ℕ) → TicksItems frontier g (size_of q.taken g) new → items ≡ q.handled ++ next_events frontier g (size_of q.taken g) → less + size_of q.taken g ≡ held → IsState (record { taken = q.taken; handled = items }) new less room
+  pub after_pass : (new : Counts) (items : List EventId) (less : ℕ) → TicksItems frontier g (size_of q.taken g) new → items ≡ q.handled ++ next_events frontier g (size_of q.taken g) → less + size_of q.taken g ≡ held → IsState (record { taken = q.taken; handled = items }) new less
   after_pass new items less ticks is rest =
       let size : length items ≡ length q.handled + length (next_events frontier g (size_of q.taken g)) = ap (λ (l : List EventId). length l) is ∙ length-append q.handled (next_events frontier g (size_of q.taken g)) in
       let each = next_count frontier g (size_of q.taken g) in
@@ -184,28 +184,27 @@ module _ (q : Sequence) (frontier : Counts) (held room : ℕ) (state : IsState q
         first = subst (λ (l : List EventId). AreFirst l new) (sym is) (first_behind frontier g (size_of q.taken g) q.handled state.first new ticks);
         counts = omega arith;
         rest = omega arith;
-        fits = state.fits;
       }
 
 -- what was done to the order and the clock of a state, of which the group could meet
-pub record Passing (q : Sequence) (frontier : Counts) (held room g n : ℕ) (items : List EventId) (new : Counts) (less : ℕ) : Type 0 where
-  pub state : IsState q frontier held room
+pub record Passing (q : Sequence) (frontier : Counts) (held g n : ℕ) (items : List EventId) (new : Counts) (less : ℕ) : Type 0 where
+  pub state : IsState q frontier held
   pub can : CanMeet q.taken q.handled g
   pub size : n ≡ size_of q.taken g
   pub added : items ≡ q.handled ++ next_events frontier g n
   pub ticks : TicksItems frontier g n new
   pub rest : less + n ≡ held
 
-module _ {q : Sequence} {frontier : Counts} {held room g n : ℕ} {items : List EventId} {new : Counts} {less : ℕ} (p : Passing q frontier held room g n items new less) where
+module _ {q : Sequence} {frontier : Counts} {held g n : ℕ} {items : List EventId} {new : Counts} {less : ℕ} (p : Passing q frontier held g n items new less) where
   order : items ≡ q.handled ++ next_events frontier g (size_of q.taken g)
   order = p.added ∙ ap (λ (m : ℕ). q.handled ++ next_events frontier g m) p.size
 
   ticked : TicksItems frontier g (size_of q.taken g) new
   ticked = subst (λ (m : ℕ). TicksItems frontier g m new) p.size p.ticks
 
-  pub state_behind : IsState (record { taken = q.taken; handled = items }) new less room
-  state_behind = after_pass q frontier held room p.state g p.can.0 p.can.1 p.can.2 new items less ticked order (let size = p.size in let rest = p.rest in omega arith)
+  pub state_behind : IsState (record { taken = q.taken; handled = items }) new less
+  state_behind = after_pass q frontier held p.state g p.can.0 p.can.1 p.can.2 new items less ticked order (let size = p.size in let rest = p.rest in omega arith)
 
   -- the same of the sequence by another name
   pub meets_behind : (old : Sequence) → q ≡ old → MeetsNext old g (record { taken = q.taken; handled = items })
-  meets_behind old is = subst (λ (v : Sequence). MeetsNext v g (record { taken = q.taken; handled = items })) is (λ k a meeting. passes q frontier held room p.state g k a meeting new items ticked order)
+  meets_behind old is = subst (λ (v : Sequence). MeetsNext v g (record { taken = q.taken; handled = items })) is (λ k a meeting. passes q frontier held p.state g k a meeting new items ticked order)

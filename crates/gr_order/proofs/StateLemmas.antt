@@ -29,8 +29,8 @@ use Rattle.gr_order.proofs.SumLemmas.{item_more, sum_none}
 use Rattle.gr_order.proofs.TakenLemmas.{events_more, no_events, one_at_most, one_if}
 
 -- nothing was taken
-pub new_state : (sizes : List ℕ) (taken : Streams) → taken ≡ nothing_taken sizes → AreFronts taken → (frontier : Counts) → IsZero sizes frontier → (items : List EventId) → items ≡ [] → (room : ℕ) → IsState (record { taken = taken; handled = items }) frontier 0 room
-new_state sizes taken is fronts frontier clock items none room =
+pub new_state : (sizes : List ℕ) (taken : Streams) → taken ≡ nothing_taken sizes → AreFronts taken → (frontier : Counts) → IsZero sizes frontier → (items : List EventId) → items ≡ [] → IsState (record { taken = taken; handled = items }) frontier 0
+new_state sizes taken is fronts frontier clock items none =
     let events : events_of taken ≡ 0 = ap (λ (s : Streams). events_of s) is ∙ no_events sizes in
     let size : length items ≡ 0 = ap (λ (l : List EventId). length l) none in record {
       sequence = record { fronts = fronts; lawful = subst (IsLawful taken) (sym none) (lawful_empty taken) };
@@ -41,16 +41,15 @@ new_state sizes taken is fronts frontier clock items none room =
       );
       counts = sum_none (λ i. count_of frontier i) (items_of taken.sizes) clock.zero ∙ sym size;
       rest = omega arith;
-      fits = omega arith;
     }
   where
     nowhere : {e : EventId} → IsIn [] e → ⊥
     nowhere there = let at = there.1 in cc
 
 -- a record is taken
-module _ (q : Sequence) (frontier : Counts) (held room : ℕ) (state : IsState q frontier held room) where
-  pub took : (g : ℕ) (x : Event) (new : Streams) → AreFronts new → CanTake q.taken g x → new ≡ with_record q.taken g x → (more wide : ℕ) → more ≡ held + one_if (not (is_end x)) → room ≤ wide → length q.handled + (held + 1) ≤ wide → IsState (record { taken = new; handled = q.handled }) frontier more wide
-  took g x new fronts can is more wide counts grows wider =
+module _ (q : Sequence) (frontier : Counts) (held : ℕ) (state : IsState q frontier held) where
+  pub took : (g : ℕ) (x : Event) (new : Streams) → AreFronts new → CanTake q.taken g x → new ≡ with_record q.taken g x → (more : ℕ) → more ≡ held + one_if (not (is_end x)) → IsState (record { taken = new; handled = q.handled }) frontier more
+  took g x new fronts can is more counts =
       let events : events_of new ≡ events_of q.taken + one_if (not (is_end x)) = ap (λ (s : Streams). events_of s) is ∙ events_more q.taken g x state.sequence.fronts can in
       let rest = state.rest in
       let one = one_at_most (not (is_end x)) in record {
@@ -62,7 +61,6 @@ module _ (q : Sequence) (frontier : Counts) (held room : ℕ) (state : IsState q
         first = state.first;
         counts = ap (λ (s : Streams). counted_in frontier s.sizes) is ∙ state.counts;
         rest = omega arith;
-        fits = omega arith;
       }
 
 -- ---- an event is handled
@@ -100,7 +98,7 @@ item_cases i j = elim (same_item i j) as (λ b. same_item i j ≡ b → (i ≡ j
   | false ↦ λ f. inr (λ same. true≢false (sym (same_true i j same) ∙ f))
 ] refl
 
-module _ (q : Sequence) (frontier : Counts) (held room : ℕ) (state : IsState q frontier held room) (e : EventId) (ready : IsReady q.taken q.handled e) where
+module _ (q : Sequence) (frontier : Counts) (held : ℕ) (state : IsState q frontier held) (e : EventId) (ready : IsReady q.taken q.handled e) where
   abbrev counts : ItemId → ℕ
   counts i = count_of frontier i
 
@@ -125,7 +123,7 @@ module _ (q : Sequence) (frontier : Counts) (held room : ℕ) (state : IsState q
   pub item_there : HasItem q.taken.sizes e.at
   item_there = (group_of_event q.taken state.sequence.fronts e ready.event.0 ready.event.1, item_of_event q.taken state.sequence.fronts e ready.event.0 ready.event.1)
 
-  pub after_handle : (new : Counts) (items : List EventId) (less : ℕ) → IsTick frontier e.at new → items ≡ q.handled ++ e ∷ [] → less + 1 ≡ held → IsState (record { taken = q.taken; handled = items }) new less room
+  pub after_handle : (new : Counts) (items : List EventId) (less : ℕ) → IsTick frontier e.at new → items ≡ q.handled ++ e ∷ [] → less + 1 ≡ held → IsState (record { taken = q.taken; handled = items }) new less
   after_handle new items less tick is one =
       let size : length items ≡ length q.handled + 1 = ap (λ (l : List EventId). length l) is ∙ length_push q.handled e in
       let rest = state.rest in
@@ -139,5 +137,4 @@ module _ (q : Sequence) (frontier : Counts) (held room : ℕ) (state : IsState q
         first = subst (λ l. AreFirst l new) (sym is) (first_more new tick);
         counts = omega arith;
         rest = omega arith;
-        fits = state.fits;
       }

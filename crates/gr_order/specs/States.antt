@@ -1,5 +1,5 @@
 -- How an order knows which events were handled: by how many of each item.
-use Rattle.std.specs.Prelude.{◌≡◌, ◌↔◌, ℕ, ◌+◌, ◌<◌, ◌≤◌, List, length, map}
+use Rattle.std.specs.Prelude.{◌≡◌, ◌↔◌, ℕ, ◌+◌, ◌<◌, List, length, map}
 use Rattle.std.specs.List.{range_with_len, sum_by}
 use Rattle.gr_model.specs.declared.event.EventId.{EventId}
 use Rattle.gr_model.specs.declared.event.ItemId.{ItemId}
@@ -17,14 +17,13 @@ counted_in frontier sizes = sum_by (λ i. count_of frontier i) (items_of sizes)
 abbrev pub AreFirst : List EventId → Counts → Type 0
 AreFirst handled frontier = (e : EventId) → IsIn handled e ↔ (e.index < count_of frontier e.at)
 
--- the clock counts the handled events, held is how many were taken besides, and there is room for all that were taken
-pub record IsState (q : Sequence) (frontier : Counts) (held room : ℕ) : Type 0 where
+-- the clock counts the handled events, and held is how many were taken besides
+pub record IsState (q : Sequence) (frontier : Counts) (held : ℕ) : Type 0 where
   pub sequence : IsSequence q
   pub shape : sizes_of frontier ≡ q.taken.sizes
   pub first : AreFirst q.handled frontier
   pub counts : counted_in frontier q.taken.sizes ≡ length q.handled
   pub rest : held + length q.handled ≡ events_of q.taken
-  pub fits : events_of q.taken ≤ room
 
 -- ---- the next events of a group
 

@@ -1,35 +1,34 @@
 //! What is done where an instance meets: the next event of each item of its group is handled.
 
-ghost use Rattle.std.specs.Prelude.{◌≡◌, ◌+◌, ◌++◌, ◌<◌, ◌≤◌, ℕ, length, slice_index, vec_len, vec_capacity};
+ghost use Rattle.std.specs.Prelude.{◌≡◌, ◌+◌, ◌++◌, ◌<◌, ◌≤◌, ℕ, length, slice_index};
 ghost use Rattle.gr_clocks.specs.declared.clock.TheConstants.{LARGEST_COUNT};
 ghost use Rattle.gr_clocks.specs.Counts.{count_of, sizes_of};
 ghost use Rattle.gr_clocks.specs.Tables.{item_of};
 ghost use Rattle.gr_order.specs.States.{TicksItems, next_events};
 
-use gr_clocks::clock::Clock;
+use gr_clocks::tally::Tally;
+use gr_history::history::History;
 use gr_model::event::{EventId, ItemId};
 use std::alloc::Allocator;
 
-/// Adds the next event of each item of a group to the order, which has room for them.
+/// Adds the next event of each item of a group to the order.
 pub(crate) fn add_next_events<A: Allocator>(
-    handled: &mut Vec<EventId, A>,
-    frontier: &Clock<A>,
+    handled: &mut History<EventId>,
+    frontier: &Tally<A>,
     group: u16,
     size: u16,
 )
-    requires { vec_len handled.old + size ≤ vec_capacity handled.old }
-    ensures items { handled.new.items ≡ handled.old.items ++ next_events frontier.now group size }
-    ensures room { vec_capacity handled.new ≡ vec_capacity handled.old }
+    ensures { handled.new ≡ handled.old ++ next_events frontier.now group size }
 {
     for item in 0..size {
         let at = ItemId { group, item };
         let index = frontier.get(at);
-        handled.push_reserved(EventId { at, index });
+        handled.push(&EventId { at, index });
     }
 }
 
 /// Counts the next event of each of so many items of a group.
-pub(crate) fn count_next_events<A: Allocator>(frontier: &mut Clock<A>, group: u16, items: u16)
+pub(crate) fn count_next_events<A: Allocator>(frontier: &mut Tally<A>, group: u16, items: u16)
     requires group { group < length (sizes_of frontier.old) }
     requires items { items ≤ slice_index (sizes_of frontier.old) group }
     requires room { (k : ℕ) → k < items → count_of frontier.old (item_of group k) < LARGEST_COUNT }

@@ -1,7 +1,7 @@
 //! What was taken of a launch's streams, and the order in which its events were handled.
 //!
 //! Invariant: the order is lawful, and the handled events of each item are its first ones. How many they are is counted by
-//! a vector clock, the frontier. There is room to handle every event that was taken, so that no step wants for memory.
+//! a vector clock, the frontier. The order itself exists in proofs alone: no memory holds it, and no step wants for any.
 
 ghost use Rattle.std.specs.Prelude.{◌≡◌, ◌+◌, ◌<◌, IsOkUnless, IfOk, IfErr, OnOk, MatchOption, OnErr, length, IsTrue, not, ◌↔◌};
 ghost use Rattle.gr_model.specs.declared.limits.TheConstants.{MOST_RECORDS};
@@ -21,7 +21,8 @@ use crate::go_error::GoError;
 use crate::meeting::{add_next_events, count_next_events};
 use crate::ready::{is_ready, next_instance};
 use crate::steps::Ready;
-use gr_clocks::clock::Clock;
+use gr_clocks::tally::Tally;
+use gr_history::history::History;
 use gr_lanes::lanes::Lanes;
 use gr_lanes::seq_error::SeqError;
 use gr_model::event::{Event, EventId, ItemId};
@@ -36,21 +37,20 @@ use std::marker::Model;
 #[derive_where(Debug)]
 pub struct Order<A: Allocator = Global> {
     lanes: Lanes<A>,
-    handled: Vec<EventId, A>,
-    frontier: Clock<A>,
+    handled: History<EventId>,
+    frontier: Tally<A>,
     held: u32,
 }
 
 impl<A: Allocator> Model for Order<A> {
     ghost use Rattle.gr_order.specs.Sequences.{Sequence};
-    ghost use Rattle.std.specs.Prelude.{vec_capacity};
     ghost use Rattle.gr_order.specs.States.{IsState};
 
     ghost Value = { Sequence };
 
-    ghost view = { λ o. record { taken = o.lanes; handled = o.handled.items } };
+    ghost view = { λ o. record { taken = o.lanes; handled = o.handled } };
 
-    ghost invariant = { λ o. IsState (record { taken = o.lanes; handled = o.handled.items }) o.frontier o.held (vec_capacity o.handled) };
+    ghost invariant = { λ o. IsState (record { taken = o.lanes; handled = o.handled }) o.frontier o.held };
 }
 
 /// Whether a record is an event of its item, and not the end of its stream.
@@ -68,12 +68,12 @@ impl<A: Allocator + Copy> Order<A> {
     pub fn new(alloc: A, shape: Shape<A>) -> Result<Order<A>, Memory>
         ensures { IfOk result (λ o. o ≡ nothing shape) }
     {
-        let frontier = match Clock::new(alloc, &shape) {
+        let frontier = match Tally::new(alloc, &shape) {
             Ok(clock) => clock,
             Err(_) => return Err(Memory),
         };
         let lanes = Lanes::new(alloc, shape)?;
-        let handled = Vec::new(alloc);
+        let handled = History::new();
         Ok(Order {
             lanes,
             handled,
@@ -93,7 +93,7 @@ impl<A: Allocator> Order<A> {
     }
 
     /// How many events of each item were handled: these are its first ones.
-    pub fn frontier(&self) -> &Clock<A>
+    pub fn frontier(&self) -> &Tally<A>
         ensures shape { sizes_of result.now ≡ self.now.taken.sizes }
         ensures first { AreFirst self.now.handled result.now }
     {
@@ -154,7 +154,6 @@ impl<A: Allocator> Order<A> {
             None => {}
             Some(refusal) => return Err(refusal),
         }
-        self.handled.reserve(self.held as usize + 1)?;
         let more = is_event(&event);
         self.lanes.take(group, event)?;
         self.held += u32::from(more);
@@ -188,7 +187,7 @@ impl<A: Allocator> Order<A> {
         ensures step { HandlesEvent self.old event self.new }
         ensures sequence { IsSequence self.new }
     {
-        self.handled.push_reserved(event);
+        self.handled.push(&event);
         self.frontier.raise(event.at);
         self.held -= 1;
     }

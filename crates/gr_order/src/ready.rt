@@ -6,7 +6,7 @@ ghost use Rattle.gr_model.specs.Barriers.{arrivals, mark_of};
 ghost use Rattle.gr_model.specs.Streams as model;
 ghost use Rattle.gr_order.specs.Readiness.{AreReleased, IsNextInstance, IsReleased, MayPass, StandsNext};
 
-use gr_clocks::clock::Clock;
+use gr_clocks::tally::Tally;
 use gr_lanes::instance::{barrier, has_mark_of, is_divergent};
 use gr_lanes::lanes::Lanes;
 use gr_model::event::{Event, EventId, ItemId, Name, Word, word_of};
@@ -22,7 +22,7 @@ fn is_same(mine: Option<Word>, other: Option<Word>) -> bool
 /// Whether the release of a name was handled and has the word of the event that has the name.
 fn is_released<A: Allocator>(
     lanes: &Lanes<A>,
-    frontier: &Clock<A>,
+    frontier: &Tally<A>,
     group: u16,
     acquire: &Event,
     name: Name,
@@ -42,7 +42,7 @@ fn is_released<A: Allocator>(
 /// Whether the release that an event of a group names, if it names one, was handled and has its word.
 fn has_its_release<A: Allocator>(
     lanes: &Lanes<A>,
-    frontier: &Clock<A>,
+    frontier: &Tally<A>,
     group: u16,
     acquire: &Event,
 ) -> bool
@@ -69,7 +69,7 @@ fn may_pass<A: Allocator>(lanes: &Lanes<A>, event: EventId, taken: &Event) -> bo
 /// Whether an item's next event waits for nothing that was not handled.
 pub(crate) fn is_ready<A: Allocator>(
     lanes: &Lanes<A>,
-    frontier: &Clock<A>,
+    frontier: &Tally<A>,
     event: EventId,
     taken: &Event,
 ) -> bool
@@ -94,7 +94,7 @@ fn came_with<A: Allocator>(lanes: &Lanes<A>, item: ItemId, number: u32, mine: &E
 /// Whether an item's next event is its barrier of this number, and has the mark of another.
 fn stands_next<A: Allocator>(
     lanes: &Lanes<A>,
-    frontier: &Clock<A>,
+    frontier: &Tally<A>,
     item: ItemId,
     number: u32,
     mine: &Event,
@@ -111,7 +111,7 @@ fn stands_next<A: Allocator>(
 /// Whether the next event of each item of a group is its barrier of this number, and has the mark of one of them.
 fn all_stand_next<A: Allocator>(
     lanes: &Lanes<A>,
-    frontier: &Clock<A>,
+    frontier: &Tally<A>,
     group: u16,
     number: u32,
     mine: &Event,
@@ -131,7 +131,7 @@ fn all_stand_next<A: Allocator>(
 /// The instance of a group whose barriers are the next events of all its items, with one mark, if there is one.
 pub(crate) fn next_instance<A: Allocator>(
     lanes: &Lanes<A>,
-    frontier: &Clock<A>,
+    frontier: &Tally<A>,
     group: u16,
 ) -> Option<u32>
     requires group { group < length lanes.now.sizes }

@@ -294,8 +294,10 @@ impl Decoder {
         ensures fault { HasMemory result → result ≡ answer self.new.stop }
         ensures limit { self.new.limit ≡ self.old.limit }
         ensures memory { result ≡ Err OutOfMemory → (self.new ≡ self.old) × (parts.new.items ≡ parts.old.items) }
-        // A decoder that has failed, or has met the end, grows nothing.
+        // A decoder that has failed, or has met the end, grows nothing; nor does one whose list has room for all that the
+        // piece may complete.
         ensures over { self.old.stop ≢ Inside → HasMemory result }
+        ensures room { vec_len parts.old + units_in self.old.items (length self.old.held + length piece.now) ≤ vec_capacity parts.old → HasMemory result }
     {
         if self.is_inside() {
             parts.reserve(self.units_in(piece.len()))?;
@@ -312,9 +314,10 @@ impl Decoder {
     /// Says that no bytes follow.
     ///
     /// # Errors
-    /// The stream's first fault; `Truncated` where there is none and the end did not come.
+    /// The stream's first fault; `Truncated` where there is none and the end did not come. It takes no memory.
     pub fn finish(&self) -> Result<(), RecordError>
-        ensures { result ≡ last_answer self.now.stop }
+        ensures exact { result ≡ last_answer self.now.stop }
+        ensures memory { result ≢ Err OutOfMemory }
     {
         match self.stop {
             Stop::Inside => Err(RecordError::Truncated),

@@ -2,7 +2,7 @@
 
 ghost use Rattle.std.specs.Prelude.{◌≡◌};
 ghost use Rattle.gr_record.specs.declared.fault.Fault.TheVariants.{Memory as OutOfMemory};
-ghost use Rattle.gr_record.specs.Faults.{stream_fault};
+ghost use Rattle.gr_record.specs.Faults.{IsOfValues, stream_fault};
 
 use crate::error::RecordError;
 use gr_model::memory::Memory;
@@ -40,7 +40,8 @@ pub enum Fault {
 impl Fault {
     /// The fault of a stream that is refused at this place. Want of memory is no stream's.
     pub fn of_stream(place: u64, error: RecordError) -> Fault
-        ensures { result ≡ stream_fault place error }
+        ensures exact { result ≡ stream_fault place error }
+        ensures values { IsOfValues result }
     {
         match error {
             RecordError::Memory => Fault::Memory,

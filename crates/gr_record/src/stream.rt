@@ -1,6 +1,7 @@
 //! Reading what stands at the front of a list of bytes: a header, or the records of a stream up to its end.
 
-ghost use Rattle.std.specs.Prelude.{◌≡◌, ◌≤◌, length, Ok};
+ghost use Rattle.std.specs.Prelude.{◌≡◌, ◌≢◌, ◌≤◌, length, Ok, IfErr};
+ghost use Rattle.gr_record.specs.declared.error.RecordError.TheVariants as errors;
 ghost use Rattle.gr_record.specs.Fronts.{records_at};
 ghost use Rattle.gr_record.specs.WholeStreams.{Gives, front_header_at, front_records_at};
 
@@ -15,10 +16,11 @@ use std::alloc::Allocator;
 /// The header at the front of the bytes, and the bytes after it.
 ///
 /// # Errors
-/// `Truncated` where there are fewer bytes than a header has; else `BadMagic`, else `BadHeader`.
+/// `Truncated` where there are fewer bytes than a header has; else `BadMagic`, else `BadHeader`. It takes no memory.
 #[tactic(auto, unfolding(crate::specs::WholeStreams::front_header_at))]
 pub fn read_front_header(bytes: &[u8]) -> Result<(Header, &[u8]), RecordError>
-    ensures { Gives (λ x. (x.0, x.1.now)) result (front_header_at bytes.now) }
+    ensures exact { Gives (λ x. (x.0, x.1.now)) result (front_header_at bytes.now) }
+    ensures memory { IfErr result (λ e. e ≢ errors.Memory) }
 {
     if bytes.len() < HEADER_LENGTH {
         return Err(RecordError::Truncated);

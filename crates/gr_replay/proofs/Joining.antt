@@ -87,8 +87,3 @@ module _ (seen : List Flat) (stop i : ℕ) (bytes : List ℕ) (total : Result (L
         sym one ∙ so_far
 
 -- ---- from a list of bytes to a reader
-
--- a fault of a stream is none of the writer
-pub stream_fault_reads : (place : ℕ) (e : RecordError) → stream_fault place e ≡ faults.Write → ⊥
-stream_fault_reads place errors.Memory h = cc
-stream_fault_reads place e h = cc

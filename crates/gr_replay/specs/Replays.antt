@@ -9,9 +9,11 @@ use Rattle.gr_report.specs.Putting.{AppendsFront}
 use Rattle.gr_report.specs.ReportText.{report_text}
 use Rattle.gr_replay.specs.Launch.{Reads, IsReadFault}
 
--- the bytes are streams of a launch that has this report
-abbrev pub IsReplayReport : List ℕ → WholeReport → Type 0
-IsReplayReport bytes r = (s : Streams) × Reads bytes s × IsReportOf s r
+-- the report is exact: the bytes are the streams of a launch, and it is the report of the definitions on that launch
+pub record IsExact (bytes : List ℕ) (report : WholeReport) : Type 0 where
+  pub launch : Streams
+  pub spelled : Reads bytes launch
+  pub exact : IsReportOf launch report
 
 -- why bytes are not replayed: they are no launch, or else the writer failed
 abbrev pub IsReplayFault : List ℕ → Fault → Type 0
@@ -19,4 +21,4 @@ IsReplayFault bytes f = IsReadFault bytes f ⊎ (f ≡ faults.Write)
 
 -- a front of the text of the report was written
 abbrev pub WritesFront : List ℕ → Option (List ℕ) → Option (List ℕ) → Type 0
-WritesFront bytes old new = (r : WholeReport) × IsReplayReport bytes r × AppendsFront old new (report_text r)
+WritesFront bytes old new = (r : WholeReport) × IsExact bytes r × AppendsFront old new (report_text r)

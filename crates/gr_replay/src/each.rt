@@ -1,7 +1,7 @@
 //! The streams of a launch that come from a reader each.
 
-ghost use Rattle.std.specs.Prelude.{◌≡◌, ◌≢◌, ◌++◌, ◌∷◌, [], IfErr, IfOk, IfSome, OnOk, map};
-ghost use Rattle.gr_record.specs.declared.fault.Fault.TheVariants as faults;
+ghost use Rattle.std.specs.Prelude.{◌≡◌, ◌++◌, ◌∷◌, [], IfErr, IfOk, IfSome, OnOk, map};
+ghost use Rattle.gr_record.specs.Faults.{IsOfReading, IsOfValues};
 ghost use Rattle.gr_replay.specs.Each.{AreRead, IsEachFault, ReadsEach, all_known, each_of, inputs_of, only_stream_at};
 ghost use Rattle.gr_input.specs.Faults.{Gives, IsOutside};
 ghost use Rattle.gr_replay.specs.Joined.{flat, flats};
@@ -56,7 +56,7 @@ fn read_only_stream<A: Allocator>(
 ) -> Result<Stream<A>, Fault>
     ensures exact { Gives flat result (only_stream_at (flats streams.now) bytes.now) }
     ensures good { AreStreams (flats streams.now) → IfOk result (λ s. AreStreams (flats streams.now ++ flat s ∷ [])) }
-    ensures reading { IfErr result (λ f. f ≢ faults.Write) }
+    ensures values { IfErr result IsOfValues }
 {
     let (stream, rest) = read_stream(alloc, streams, bytes)?;
     if rest.is_empty() {
@@ -73,7 +73,7 @@ fn read_only_streams<A: Allocator + Copy>(
 ) -> Result<Vec<Stream<A>, A>, Fault>
     ensures exact { Gives (λ v. flats v.items) result (each_of (inputs_of inputs.now)) }
     ensures good { IfOk result (λ v. AreStreams (flats v.items)) }
-    ensures reading { IfErr result (λ f. f ≢ faults.Write) }
+    ensures values { IfErr result IsOfValues }
 {
     let mut streams = Vec::new(alloc);
     for input in inputs {
@@ -95,6 +95,7 @@ pub fn read_each<A: Allocator + Copy, T: Read + Drop>(
 ) -> Result<Traces<A>, Fault>
     ensures launch { IfOk result (λ t. IfSome (all_known (map T.remaining readers.items)) (λ inputs. ReadsEach inputs t)) }
     ensures fault { IfErr result (λ f. IfSome (all_known (map T.remaining readers.items)) (λ inputs. IsEachFault inputs f)) }
+    ensures reading { IfErr result IsOfReading }
 {
     let inputs = read_inputs(alloc, readers)?;
     let streams = read_only_streams(alloc, inputs.as_slice())?;

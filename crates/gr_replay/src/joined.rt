@@ -1,8 +1,8 @@
 //! Streams that stand one after another in a list of bytes.
 
-ghost use Rattle.std.specs.Prelude.{◌≡◌, ◌≢◌, ◌==◌, ◌++◌, ◌∷◌, [], not, length, IfErr, IfOk, OnOk, Ok};
+ghost use Rattle.std.specs.Prelude.{◌≡◌, ◌==◌, ◌++◌, ◌∷◌, [], not, length, IfErr, IfOk, OnOk, Ok};
 ghost use Rattle.std.specs.List.{list_any};
-ghost use Rattle.gr_record.specs.declared.fault.Fault.TheVariants as faults;
+ghost use Rattle.gr_record.specs.Faults.{IsOfValues};
 ghost use Rattle.gr_input.specs.Faults.{Gives};
 ghost use Rattle.gr_replay.specs.Laws.{AreStreams};
 ghost use Rattle.gr_replay.specs.Joined.{flat, flats, stream_at, joined_of};
@@ -42,7 +42,7 @@ pub(crate) fn read_stream<'a, A: Allocator>(
     bytes: &'a [u8],
 ) -> Result<(Stream<A>, &'a [u8]), Fault>
     ensures exact { Gives (λ x. (flat x.0, x.1.now)) result (stream_at (flats streams.now) bytes.now) }
-    ensures reading { IfErr result (λ f. f ≢ faults.Write) }
+    ensures values { IfErr result IsOfValues }
 {
     let place = streams.len() as u64;
     let (header, rest) = match read_front_header(bytes) {
@@ -83,7 +83,7 @@ pub(crate) fn keep<A: Allocator>(
 pub fn read_streams<A: Allocator + Copy>(alloc: A, bytes: &[u8]) -> Result<Vec<Stream<A>, A>, Fault>
     ensures exact { Gives (λ v. flats v.items) result (joined_of bytes.now) }
     ensures good { IfOk result (λ v. AreStreams (flats v.items)) }
-    ensures reading { IfErr result (λ f. f ≢ faults.Write) }
+    ensures values { IfErr result IsOfValues }
 {
     let mut streams = Vec::new(alloc);
     let mut rest = bytes;

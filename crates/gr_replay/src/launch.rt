@@ -1,7 +1,7 @@
 //! The launch that streams are of.
 
-ghost use Rattle.std.specs.Prelude.{◌≡◌, ◌≢◌, IfOk, IfErr, IfSome, MatchOption, IsPermutation, map};
-ghost use Rattle.gr_record.specs.declared.fault.Fault.TheVariants as faults;
+ghost use Rattle.std.specs.Prelude.{◌≡◌, IfOk, IfErr, IfSome, MatchOption, IsPermutation, map};
+ghost use Rattle.gr_record.specs.Faults.{IsOfReading};
 ghost use Rattle.gr_replay.specs.Joined.{flats};
 ghost use Rattle.gr_replay.specs.Laws.{AreStreams};
 ghost use Rattle.gr_replay.specs.Launch.{AreApart, AreRising, ArePlaced, IsLeastMissing, IsLaunchOf, IsLaunchFault, Reads, IsReadFault};
@@ -104,7 +104,7 @@ pub fn read_joined<A: Allocator + Copy, T: Read>(
 ) -> Result<Traces<A>, Fault>
     ensures launch { IfOk result (λ t. IfSome (T.remaining reader.old) (λ bytes. Reads bytes t)) }
     ensures fault { IfErr result (λ f. IfSome (T.remaining reader.old) (λ bytes. IsReadFault bytes f)) }
-    ensures reading { IfErr result (λ f. f ≢ faults.Write) }
+    ensures reading { IfErr result IsOfReading }
 {
     let bytes = read_all(alloc, reader)?;
     let streams = read_streams(alloc, bytes.as_slice())?;

@@ -3,7 +3,7 @@
 ghost use Rattle.std.specs.Prelude.{◌≡◌, ◌≢◌, IfOk, IfErr, IfSome};
 ghost use Rattle.std.specs.Io.KnownBytes.{Appends, Keeps};
 ghost use Rattle.gr_record.specs.declared.fault.Fault.TheVariants as faults;
-ghost use Rattle.gr_replay.specs.Replays.{IsReplayReport, IsReplayFault, WritesFront};
+ghost use Rattle.gr_replay.specs.Replays.{IsExact, IsReplayFault, WritesFront};
 ghost use Rattle.gr_report.specs.ReportText.{report_text};
 ghost use Rattle.gr_report.specs.Whole.{whole_of};
 
@@ -25,7 +25,7 @@ pub fn replay<A: Allocator + Copy, T: Read, W: Write>(
     reader: &mut T,
     writer: &mut W,
 ) -> Result<Report<A>, Fault>
-    ensures report { IfOk result (λ r. IfSome (T.remaining reader.old) (λ bytes. IsReplayReport bytes (whole_of r))) }
+    ensures report { IfOk result (λ r. IfSome (T.remaining reader.old) (λ bytes. IsExact bytes (whole_of r))) }
     ensures text { IfOk result (λ r. Appends (W.contents writer.old) (W.contents writer.new) (report_text (whole_of r))) }
     ensures fault { IfErr result (λ f. IfSome (T.remaining reader.old) (λ bytes. IsReplayFault bytes f)) }
 

@@ -12,6 +12,8 @@ mod failures;
 #[cfg(test)]
 mod faults;
 #[cfg(test)]
+mod large;
+#[cfg(test)]
 mod orders;
 #[cfg(test)]
 mod reports;

@@ -2,6 +2,7 @@
 //!
 //! Whatever happens, what was written is a front of the text that was due, and all of it where no fault is answered.
 
+ghost use Rattle.std.specs.Prelude.{◌≢◌, [], OnErr};
 ghost use Rattle.std.specs.Io.KnownBytes.{Keeps};
 ghost use Rattle.gr_report.specs.Putting.{Puts, field, line};
 
@@ -14,9 +15,10 @@ use thiserror::Error;
 #[error("write fault")]
 pub struct WriteFault;
 
-/// Writes the bytes.
+/// Writes the bytes. Where there are none, it does not fail.
 pub fn put<W: Write>(writer: &mut W, bytes: &[u8]) -> Result<(), WriteFault>
-    ensures { Puts (W.contents writer.old) (W.contents writer.new) result bytes.now }
+    ensures puts { Puts (W.contents writer.old) (W.contents writer.new) result bytes.now }
+    ensures some { OnErr result (bytes.now ≢ []) }
 {
     let mut rest = bytes;
     while !rest.is_empty() {

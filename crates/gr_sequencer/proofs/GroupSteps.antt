@@ -1,5 +1,5 @@
 -- What is known where an instance meets.
-use Rattle.std.proofs.Common.{◌≡◌, ◌≢◌, ◌⊎◌, ◌↔◌, ℕ, zero, suc, ◌+◌, ◌<◌, ◌≤◌, max, Bool, true, false, List, IsTrue, IsFalse, Some, is_some, map, length, refl, sym, ap, ◌∙◌, subst, inl, inr, ⊎_elim, arith}
+use Rattle.std.proofs.Common.{◌≡◌, ◌≢◌, ◌⊎◌, ◌↔◌, ℕ, zero, suc, ◌+◌, ◌<◌, ◌≤◌, max, Bool, true, false, List, ◌++◌, IsTrue, IsFalse, Some, is_some, map, length, refl, sym, ap, ◌∙◌, subst, inl, inr, ⊎_elim, arith}
 use Rattle.std.proofs.lemmas.Bool.{cases_lt}
 use Rattle.std.proofs.lemmas.List.Sums.{count_by-le-length, length-filter}
 use Rattle.std.proofs.lemmas.Option.{slice_get_within}
@@ -15,11 +15,11 @@ use Rattle.gr_model.specs.declared.event.Kind.TheVariants.{Barrier, End, Load, R
 use Rattle.gr_model.specs.Access.{is_release_kind}
 use Rattle.gr_model.specs.Barriers.{StandsIn, is_barrier, mark_of_kind}
 use Rattle.gr_model.specs.Counts.{IsSeen}
-use Rattle.gr_model.specs.Instances.{flags}
+use Rattle.gr_model.specs.Instances.{Mark, flags}
 use Rattle.gr_model.specs.LawfulOrders.{IsLawful}
 use Rattle.gr_model.specs.Shapes.{HasItem}
 use Rattle.gr_model.specs.Streams.{AreFronts, Streams, is_of, list_of, size_of, trace_of}
-use Rattle.gr_steps.specs.Steps.{Meets}
+use Rattle.gr_steps.specs.Steps.{AreBarriers, IsMeeting, Meets}
 use Rattle.gr_steps.proofs.BarrierPlaces.{barrier_of, barrier_there}
 use Rattle.gr_steps.proofs.EventRecords.{group_of_event, item_of_event}
 use Rattle.gr_clocks.specs.declared.clock.TheConstants.{LARGEST_COUNT}
@@ -57,13 +57,13 @@ below_greatest (suc n) f x =
           (number_cases h.0 n),
     )
 
-module _ (s : Streams) (order new : List EventId) (g k : ℕ) (clocks : ItemClocks) (fronts : AreFronts s) (lawful : IsLawful s order) (are : AreTrue s order clocks) (met : Meets s order g k new) where
+module _ (s : Streams) (order : List EventId) (g k : ℕ) (clocks : ItemClocks) (fronts : AreFronts s) (lawful : IsLawful s order) (are : AreTrue s order clocks) (a : Mark) (meeting : IsMeeting s order g k a) where
   -- the barrier of each item of the group
   abbrev barrier : (i : ℕ) → i < size_of s g → EventId
-  barrier i within = record { at = item_of g i; index = (barrier_of s g k met.mark met.meeting.convergent i within).0 }
+  barrier i within = record { at = item_of g i; index = (barrier_of s g k a meeting.convergent i within).0 }
 
   stands : (i : ℕ) (within : i < size_of s g) → StandsIn s (barrier i within) g k
-  stands i within = (barrier_of s g k met.mark met.meeting.convergent i within).1
+  stands i within = (barrier_of s g k a meeting.convergent i within).1
 
   has_item : (b : EventId) → StandsIn s b g k → HasItem s.sizes b.at
   has_item b h =
@@ -71,30 +71,13 @@ module _ (s : Streams) (order new : List EventId) (g k : ℕ) (clocks : ItemCloc
       (group_of_event s fronts b there.0 there.1, item_of_event s fronts b there.0 there.1)
 
   is_next : (b : EventId) → StandsIn s b g k → IsNextInItem order b
-  is_next b h = barrier_is_next s order lawful g k new met b h
+  is_next b h = barrier_is_next s order lawful g k a meeting b h
 
   counts : (m : Space) (b : EventId) → StandsIn s b g k → CountsJust (clock_in clocks m b.at) (Knows s m order b.at)
   counts m b h = are.counts m b.at (has_item b h)
 
   own : (m : Space) (b : EventId) → StandsIn s b g k → count_of (clock_in clocks m b.at) b.at ≡ b.index
   own m b h = own_count s m order b lawful (is_next b h) (count_of (clock_in clocks m b.at)) (counts m b h)
-
-  -- what a barrier sees, as a count
-  barrier_sees : (m : Space) (b : EventId) → StandsIn s b g k → (n : ItemId → ℕ) → ((j : ItemId) → n j ≡ count_of (clock_in clocks m b.at) j + tick_at b.at j) → (d : EventId) → (d.index < n d.at) ↔ IsSeen s m b d
-  barrier_sees m b h n behind =
-      seen_count s m order b lawful (is_next b h) (count_of (clock_in clocks m b.at)) (counts m b h) (λ d. ⊥) (λ d none. absurd none) (λ j. 0) (λ d. (λ lt. omega (arith, lt), λ none. absurd none)) sees n (λ j.
-      let c : ℕ = count_of (clock_in clocks m b.at) j in
-      let t : ℕ = tick_at b.at j in
-      let is : n j ≡ c + t = behind j in
-      let same : n j ≡ max c 0 + t = omega arith in
-      same)
-    where
-      sees : (d : EventId) → IsSeen s m b d ↔ ((d ≡ b) ⊎ Knows s m order b.at d ⊎ ⊥)
-      sees d =
-          let h = met_sees s m order new g k fronts lawful met b d h in (
-            λ seen. ⊎_elim (λ same. inl same) (λ known. inr (inl known)) (h.0 seen),
-            ⊎_elim (λ same. h.1 (inl same)) (λ rest. ⊎_elim (λ known. h.1 (inr known)) (λ none. absurd none) rest),
-          )
 
   -- ---- there is room
 
@@ -108,7 +91,7 @@ module _ (s : Streams) (order new : List EventId) (g k : ℕ) (clocks : ItemCloc
       omega arith
 
   pub group_has_clocks : g < length clocks.sizes
-  group_has_clocks = subst (λ sizes. g < length sizes) (sym are.shape) (has_item (barrier 0 met.meeting.convergent.0) (stands 0 met.meeting.convergent.0)).0
+  group_has_clocks = subst (λ sizes. g < length sizes) (sym are.shape) (has_item (barrier 0 meeting.convergent.0) (stands 0 meeting.convergent.0)).0
 
   size_here : (m : Space) → slice_index (map length (clocks_in clocks m)) g ≡ size_of s g
   size_here m = ap (λ sizes. slice_index sizes g) (are.tables m)
@@ -123,106 +106,129 @@ module _ (s : Streams) (order new : List EventId) (g k : ℕ) (clocks : ItemCloc
       let small = index_small b (stands i within) in
       omega (arith, full, small)
 
-  -- ---- what is known behind the meeting
+  -- ---- the instance meets
 
-  module _ (new_clocks : ItemClocks) (global local : Bool) (flags_global : global ≡ met.mark.global) (flags_local : local ≡ met.mark.local) (meets : MeetsClocks clocks g global local new_clocks) where
-    flags_told : (m : Space) → orders global local m ≡ flags met.mark m
-    flags_told Global = flags_global
-    flags_told Local = flags_local
+  module _ (new barriers : List EventId) (are_barriers : AreBarriers s g k barriers) (is_order : new ≡ order ++ barriers) where
+    abbrev met : Meets s order g k new
+    met = record { mark = a; meeting = meeting; barriers = barriers; are = are_barriers; order = is_order }
 
-    table_shape : (m : Space) → map length (clocks_in new_clocks m) ≡ map length (clocks_in clocks m)
-    table_shape m = by_flag (orders global local m) (meets.groups m)
+    -- what a barrier sees, as a count
+    barrier_sees : (m : Space) (b : EventId) → StandsIn s b g k → (n : ItemId → ℕ) → ((j : ItemId) → n j ≡ count_of (clock_in clocks m b.at) j + tick_at b.at j) → (d : EventId) → (d.index < n d.at) ↔ IsSeen s m b d
+    barrier_sees m b h n behind =
+        seen_count s m order b lawful (is_next b h) (count_of (clock_in clocks m b.at)) (counts m b h) (λ d. ⊥) (λ d none. absurd none) (λ j. 0) (λ d. (λ lt. omega (arith, lt), λ none. absurd none)) sees n (λ j.
+        let c : ℕ = count_of (clock_in clocks m b.at) j in
+        let t : ℕ = tick_at b.at j in
+        let is : n j ≡ c + t = behind j in
+        let same : n j ≡ max c 0 + t = omega arith in
+        same)
       where
-        by_flag : (b : Bool) → MeetsGroup (clocks_in clocks m) g b (clocks_in new_clocks m) → map length (clocks_in new_clocks m) ≡ map length (clocks_in clocks m)
-        by_flag true joins = joins.shape
-        by_flag false ticks = ticks.shape
+        sees : (d : EventId) → IsSeen s m b d ↔ ((d ≡ b) ⊎ Knows s m order b.at d ⊎ ⊥)
+        sees d =
+            let h = met_sees s m order new g k fronts lawful met b d h in (
+              λ seen. ⊎_elim (λ same. inl same) (λ known. inr (inl known)) (h.0 seen),
+              ⊎_elim (λ same. h.1 (inl same)) (λ rest. ⊎_elim (λ known. h.1 (inr known)) (λ none. absurd none) rest),
+            )
 
-    -- in a memory that is flagged, all that the barriers see
-    all_seen : (m : Space) (i : ItemId) (d : EventId) → i.group ≡ g → i.item < size_of s g → JoinsGroup (clocks_in clocks m) g (clocks_in new_clocks m) → (d.index < count_of (clock_in new_clocks m i) d.at) ↔ ((b : EventId) × StandsIn s b g k × IsSeen s m b d)
-    all_seen m i d group within joins =
-        let size = slice_index (map length (clocks_in clocks m)) g in
-        let f : ℕ → ℕ = λ n. count_of (clock_at (clocks_in clocks m) (item_of g n)) d.at + tick_at (item_of g n) d.at in
-        let here : i.item < size = subst (λ n. i.item < n) (sym (size_here m)) within in
-        let same : item_of g i.item ≡ i = λ t. record { group = sym group t; item = i.item } in
-        let count : count_of (clock_in new_clocks m i) d.at ≡ greatest size f = ap (λ j. count_of (clock_in new_clocks m j) d.at) (sym same) ∙ joins.counts i.item d.at here in
-        let greatest = below_greatest size f d.index in
-        subst (λ n. (d.index < n) ↔ ((b : EventId) × StandsIn s b g k × IsSeen s m b d)) (sym count) (
-          λ below.
-              let h = greatest.0 below in
-              let there : h.0 < size_of s g = subst (λ n. h.0 < n) (size_here m) h.1 in
-              (barrier h.0 there, stands h.0 there, (barrier_sees m (barrier h.0 there) (stands h.0 there) (λ j. count_of (clock_at (clocks_in clocks m) (item_of g h.0)) j + tick_at (item_of g h.0) j) (λ j. refl) d).0 h.2),
-          λ h.
-              let b = h.0 in
-              let item : b.at.item < size_of s g = h.1.item in
-              let at : item_of g b.at.item ≡ b.at = λ t. record { group = sym h.1.group t; item = b.at.item } in
-              let below : d.index < count_of (clock_in clocks m b.at) d.at + tick_at b.at d.at = (barrier_sees m b h.1 (λ j. count_of (clock_in clocks m b.at) j + tick_at b.at j) (λ j. refl) d).1 h.2 in
-              greatest.1 (b.at.item, subst (λ n. b.at.item < n) (sym (size_here m)) item, subst (λ j. d.index < count_of (clock_in clocks m j) d.at + tick_at j d.at) (sym at) below),
-        )
+    -- ---- what is known behind the meeting
 
-    flagged_now : (m : Space) (i : ItemId) (d : EventId) → i.group ≡ g → i.item < size_of s g → IsTrue (flags met.mark m) → JoinsGroup (clocks_in clocks m) g (clocks_in new_clocks m) → (d.index < count_of (clock_in new_clocks m i) d.at) ↔ Knows s m new i d
-    flagged_now m i d group within flagged joins =
-        let seen = all_seen m i d group within joins in
-        let knows = flagged_knows s m order new g k fronts lawful met i d flagged group within in
-        (λ below. knows.1 (seen.0 below), λ known. seen.1 (knows.0 known))
+    module _ (new_clocks : ItemClocks) (global local : Bool) (flags_global : global ≡ a.global) (flags_local : local ≡ a.local) (meets : MeetsClocks clocks g global local new_clocks) where
+      flags_told : (m : Space) → orders global local m ≡ flags a m
+      flags_told Global = flags_global
+      flags_told Local = flags_local
 
-    unflagged_now : (m : Space) (i : ItemId) (d : EventId) → i.group ≡ g → i.item < size_of s g → IsFalse (flags met.mark m) → TicksGroup (clocks_in clocks m) g (clocks_in new_clocks m) → (d.index < count_of (clock_in new_clocks m i) d.at) ↔ Knows s m new i d
-    unflagged_now m i d group within apart ticks =
-        let b = barrier i.item within in
-        let own = stands i.item within in
-        let here : i.item < slice_index (map length (clocks_in clocks m)) g = subst (λ n. i.item < n) (sym (size_here m)) within in
-        let same : item_of g i.item ≡ i = λ t. record { group = sym group t; item = i.item } in
-        let seen = barrier_sees m b own (count_of (clock_in new_clocks m b.at)) (λ j. (ticks.items i.item here).counts j) d in
-        let knows = unflagged_knows s m order new g k fronts lawful met b d apart own in
-        subst (λ j. (d.index < count_of (clock_in new_clocks m j) d.at) ↔ Knows s m new j d) same (λ below. knows.1 (seen.0 below), λ known. seen.1 (knows.0 known))
+      table_shape : (m : Space) → map length (clocks_in new_clocks m) ≡ map length (clocks_in clocks m)
+      table_shape m = by_flag (orders global local m) (meets.groups m)
+        where
+          by_flag : (b : Bool) → MeetsGroup (clocks_in clocks m) g b (clocks_in new_clocks m) → map length (clocks_in new_clocks m) ≡ map length (clocks_in clocks m)
+          by_flag true joins = joins.shape
+          by_flag false ticks = ticks.shape
 
-    group_now : (m : Space) (i : ItemId) (d : EventId) → i.group ≡ g → i.item < size_of s g → (d.index < count_of (clock_in new_clocks m i) d.at) ↔ Knows s m new i d
-    group_now m i d group within = by_flag (orders global local m) (meets.groups m) (sym (flags_told m))
-      where
-        by_flag : (b : Bool) → MeetsGroup (clocks_in clocks m) g b (clocks_in new_clocks m) → flags met.mark m ≡ b → (d.index < count_of (clock_in new_clocks m i) d.at) ↔ Knows s m new i d
-        by_flag true joins t = flagged_now m i d group within t joins
-        by_flag false ticks f = unflagged_now m i d group within f ticks
+      -- in a memory that is flagged, all that the barriers see
+      all_seen : (m : Space) (i : ItemId) (d : EventId) → i.group ≡ g → i.item < size_of s g → JoinsGroup (clocks_in clocks m) g (clocks_in new_clocks m) → (d.index < count_of (clock_in new_clocks m i) d.at) ↔ ((b : EventId) × StandsIn s b g k × IsSeen s m b d)
+      all_seen m i d group within joins =
+          let size = slice_index (map length (clocks_in clocks m)) g in
+          let f : ℕ → ℕ = λ n. count_of (clock_at (clocks_in clocks m) (item_of g n)) d.at + tick_at (item_of g n) d.at in
+          let here : i.item < size = subst (λ n. i.item < n) (sym (size_here m)) within in
+          let same : item_of g i.item ≡ i = λ t. record { group = sym group t; item = i.item } in
+          let count : count_of (clock_in new_clocks m i) d.at ≡ greatest size f = ap (λ j. count_of (clock_in new_clocks m j) d.at) (sym same) ∙ joins.counts i.item d.at here in
+          let greatest = below_greatest size f d.index in
+          subst (λ n. (d.index < n) ↔ ((b : EventId) × StandsIn s b g k × IsSeen s m b d)) (sym count) (
+            λ below.
+                let h = greatest.0 below in
+                let there : h.0 < size_of s g = subst (λ n. h.0 < n) (size_here m) h.1 in
+                (barrier h.0 there, stands h.0 there, (barrier_sees m (barrier h.0 there) (stands h.0 there) (λ j. count_of (clock_at (clocks_in clocks m) (item_of g h.0)) j + tick_at (item_of g h.0) j) (λ j. refl) d).0 h.2),
+            λ h.
+                let b = h.0 in
+                let item : b.at.item < size_of s g = h.1.item in
+                let at : item_of g b.at.item ≡ b.at = λ t. record { group = sym h.1.group t; item = b.at.item } in
+                let below : d.index < count_of (clock_in clocks m b.at) d.at + tick_at b.at d.at = (barrier_sees m b h.1 (λ j. count_of (clock_in clocks m b.at) j + tick_at b.at j) (λ j. refl) d).1 h.2 in
+                greatest.1 (b.at.item, subst (λ n. b.at.item < n) (sym (size_here m)) item, subst (λ j. d.index < count_of (clock_in clocks m j) d.at + tick_at j d.at) (sym at) below),
+          )
 
-    other_clock : (m : Space) (i : ItemId) → i.group ≢ g → clock_in new_clocks m i ≡ clock_in clocks m i
-    other_clock m i other = by_flag (orders global local m) (meets.groups m)
-      where
-        by_flag : (b : Bool) → MeetsGroup (clocks_in clocks m) g b (clocks_in new_clocks m) → clock_in new_clocks m i ≡ clock_in clocks m i
-        by_flag true joins = joins.others i other
-        by_flag false ticks = ticks.others i other
+      flagged_now : (m : Space) (i : ItemId) (d : EventId) → i.group ≡ g → i.item < size_of s g → IsTrue (flags a m) → JoinsGroup (clocks_in clocks m) g (clocks_in new_clocks m) → (d.index < count_of (clock_in new_clocks m i) d.at) ↔ Knows s m new i d
+      flagged_now m i d group within flagged joins =
+          let seen = all_seen m i d group within joins in
+          let knows = flagged_knows s m order new g k fronts lawful met i d flagged group within in
+          (λ below. knows.1 (seen.0 below), λ known. seen.1 (knows.0 known))
 
-    other_now : (m : Space) (i : ItemId) (d : EventId) → HasItem s.sizes i → i.group ≢ g → (d.index < count_of (clock_in new_clocks m i) d.at) ↔ Knows s m new i d
-    other_now m i d has other =
-        let was = are.counts m i has d in
-        let knows = others_know_after_meet s m order new g k fronts lawful met i d other in
-        subst (λ c. (d.index < count_of c d.at) ↔ Knows s m new i d) (sym (other_clock m i other)) (λ below. knows.1 (was.0 below), λ known. was.1 (knows.0 known))
+      unflagged_now : (m : Space) (i : ItemId) (d : EventId) → i.group ≡ g → i.item < size_of s g → IsFalse (flags a m) → TicksGroup (clocks_in clocks m) g (clocks_in new_clocks m) → (d.index < count_of (clock_in new_clocks m i) d.at) ↔ Knows s m new i d
+      unflagged_now m i d group within apart ticks =
+          let b = barrier i.item within in
+          let own = stands i.item within in
+          let here : i.item < slice_index (map length (clocks_in clocks m)) g = subst (λ n. i.item < n) (sym (size_here m)) within in
+          let same : item_of g i.item ≡ i = λ t. record { group = sym group t; item = i.item } in
+          let seen = barrier_sees m b own (count_of (clock_in new_clocks m b.at)) (λ j. (ticks.items i.item here).counts j) d in
+          let knows = unflagged_knows s m order new g k fronts lawful met b d apart own in
+          subst (λ j. (d.index < count_of (clock_in new_clocks m j) d.at) ↔ Knows s m new j d) same (λ below. knows.1 (seen.0 below), λ known. seen.1 (knows.0 known))
 
-    pub meets_true : AreTrue s new new_clocks
-    meets_true = record {
-      shape = meets.shape ∙ are.shape;
-      tables = λ m. table_shape m ∙ are.tables m;
-      counts = λ m i has d.
-          ⊎_elim
-          (λ group. group_now m i d group (subst (λ h. i.item < size_of s h) group has.1))
-          (λ other. other_now m i d has other)
-          (number_cases i.group g);
-    }
+      group_now : (m : Space) (i : ItemId) (d : EventId) → i.group ≡ g → i.item < size_of s g → (d.index < count_of (clock_in new_clocks m i) d.at) ↔ Knows s m new i d
+      group_now m i d group within = by_flag (orders global local m) (meets.groups m) (sym (flags_told m))
+        where
+          by_flag : (b : Bool) → MeetsGroup (clocks_in clocks m) g b (clocks_in new_clocks m) → flags a m ≡ b → (d.index < count_of (clock_in new_clocks m i) d.at) ↔ Knows s m new i d
+          by_flag true joins t = flagged_now m i d group within t joins
+          by_flag false ticks f = unflagged_now m i d group within f ticks
 
-  -- ---- what is left: a barrier is no release
+      other_clock : (m : Space) (i : ItemId) → i.group ≢ g → clock_in new_clocks m i ≡ clock_in clocks m i
+      other_clock m i other = by_flag (orders global local m) (meets.groups m)
+        where
+          by_flag : (b : Bool) → MeetsGroup (clocks_in clocks m) g b (clocks_in new_clocks m) → clock_in new_clocks m i ≡ clock_in clocks m i
+          by_flag true joins = joins.others i other
+          by_flag false ticks = ticks.others i other
 
-  no_release : (kind : Kind) (word : ℕ) → is_some (mark_of_kind kind word) ≡ true → IsTrue (is_release_kind kind) → ⊥
-  no_release Read word b r = cc
-  no_release Write word b r = cc
-  no_release (Load scope order) word b r = cc
-  no_release (Store scope order) word b r = cc
-  no_release (Rmw scope order) word b r = cc
-  no_release (Barrier x y) word b r = cc
-  no_release (End cut) word b r = cc
+      other_now : (m : Space) (i : ItemId) (d : EventId) → HasItem s.sizes i → i.group ≢ g → (d.index < count_of (clock_in new_clocks m i) d.at) ↔ Knows s m new i d
+      other_now m i d has other =
+          let was = are.counts m i has d in
+          let knows = others_know_after_meet s m order new g k fronts lawful met i d other in
+          subst (λ c. (d.index < count_of c d.at) ↔ Knows s m new i d) (sym (other_clock m i other)) (λ below. knows.1 (was.0 below), λ known. was.1 (knows.0 known))
 
-  pub left_behind : (left : Left) → AreLeft s order left → AreLeft s new left
-  left_behind left was r x h at releases =
-      ⊎_elim
-      (λ old. was r x old at releases)
-      (λ (now : StandsIn s r g k).
-      let there = barrier_there s r g k now in
-      let same : there.0 ≡ x = let e : Some there.0 ≡ Some x = sym there.1 ∙ at in cc in
-      absurd (no_release x.kind x.word (subst (λ y. is_barrier y ≡ true) same there.2) releases))
-      (met_cases s Global order new g k fronts lawful met r h)
+      pub meets_true : AreTrue s new new_clocks
+      meets_true = record {
+        shape = meets.shape ∙ are.shape;
+        tables = λ m. table_shape m ∙ are.tables m;
+        counts = λ m i has d.
+            ⊎_elim
+            (λ group. group_now m i d group (subst (λ h. i.item < size_of s h) group has.1))
+            (λ other. other_now m i d has other)
+            (number_cases i.group g);
+      }
+
+    -- ---- what is left: a barrier is no release
+
+    no_release : (kind : Kind) (word : ℕ) → is_some (mark_of_kind kind word) ≡ true → IsTrue (is_release_kind kind) → ⊥
+    no_release Read word b r = cc
+    no_release Write word b r = cc
+    no_release (Load scope order) word b r = cc
+    no_release (Store scope order) word b r = cc
+    no_release (Rmw scope order) word b r = cc
+    no_release (Barrier x y) word b r = cc
+    no_release (End cut) word b r = cc
+
+    pub left_behind : (left : Left) → AreLeft s order left → AreLeft s new left
+    left_behind left was r x h at releases =
+        ⊎_elim
+        (λ old. was r x old at releases)
+        (λ (now : StandsIn s r g k).
+        let there = barrier_there s r g k now in
+        let same : there.0 ≡ x = let e : Some there.0 ≡ Some x = sym there.1 ∙ at in cc in
+        absurd (no_release x.kind x.word (subst (λ y. is_barrier y ≡ true) same there.2) releases))
+        (met_cases s Global order new g k fronts lawful met r h)

@@ -1,6 +1,6 @@
 //! What the work-items know of the events that were handled: their clocks, and what each handled release left.
 
-ghost use Rattle.std.specs.Prelude.{◌≡◌, ◌≢◌, ◌<◌, ◌++◌, ◌∷◌, [], Some, IfOk, OnOk, IsTrue, MatchOption, is_some, length};
+ghost use Rattle.std.specs.Prelude.{◌≡◌, ◌≢◌, ◌<◌, ◌++◌, ◌∷◌, [], Some, IfOk, OnErr, OnOk, IsTrue, MatchOption, length};
 ghost use Rattle.gr_model.specs.declared.event.EventId.{EventId as AnyEvent};
 ghost use Rattle.gr_model.specs.Access as model;
 ghost use Rattle.gr_model.specs.Barriers.{IsConvergent};
@@ -9,14 +9,14 @@ ghost use Rattle.gr_model.specs.Streams.{event_at, word_at};
 ghost use Rattle.gr_model.specs.Counts.{IsSeen};
 ghost use Rattle.gr_steps.specs.Steps.{IsReady};
 ghost use Rattle.gr_clocks.specs.Counts.{sizes_of};
-ghost use Rattle.gr_clocks.specs.ItemClocks.{IsGroupSpent, IsMeetRoom, Meets};
+ghost use Rattle.gr_clocks.specs.ItemClocks.{IsGroupSpent, Meets};
 ghost use Rattle.gr_closure.specs.Accesses.{CountsJust, IsAccessOf};
 ghost use Rattle.gr_lanes.specs.Takes.{nothing_taken};
 ghost use Rattle.gr_sequencer.specs.Known.{AreLeft, AreTrue, IsGathered, IsKnown, IsLeftBy, IsLesson, IsNext, IsUntaught, left_at};
 
 use gr_clocks::access::Access;
-use gr_clocks::clock::Clock;
-use gr_clocks::clocks::{Clocks, MeetRoom, memory_of};
+use gr_clocks::clock::{Clock, ClockError};
+use gr_clocks::clocks::{Clocks, memory_of};
 use gr_clocks::snapshot::Snapshot;
 use gr_lanes::instance::barrier;
 use gr_model::event::{Event, EventId, ItemId, Kind, Word, word_of};
@@ -152,7 +152,10 @@ impl<A: Allocator> Known<A> {
         let mut clock = self.gathered(order, event, taken, word)?;
         match clock.tick(event.at) {
             Ok(()) => Ok(clock),
-            Err(_) => unreachable!(),
+            Err(error) => match error {
+                ClockError::Memory => Err(Memory),
+                ClockError::Spent => unreachable!(),
+            },
         }
     }
 
@@ -221,55 +224,64 @@ impl<A: Allocator> Known<A> {
     }
 
     /// Gives an event's item the clocks that it has behind the event, which may be handled next.
-    pub(crate) fn advance(&mut self, order: &Order<A>, event: EventId, taken: &Event)
+    ///
+    /// # Errors
+    /// `Memory`. What is known is then as before.
+    pub(crate) fn advance(
+        &mut self,
+        order: &Order<A>,
+        event: EventId,
+        taken: &Event,
+    ) -> Result<(), Memory>
+    where
+        A: Clone,
         requires next { IsNext order.now.taken order.now.handled self.old event }
         requires there { event_at order.now.taken event ≡ Some taken.now }
         ensures left { self.new.left ≡ self.old.left }
-        ensures clocks { AreTrue order.now.taken (order.now.handled ++ event ∷ []) self.new.clocks }
+        ensures clocks { OnOk result (AreTrue order.now.taken (order.now.handled ++ event ∷ []) self.new.clocks) }
+        ensures err { OnErr result (self.new.clocks ≡ self.old.clocks) }
     {
         let answer = match lesson(order, &self.left, event, taken) {
             None => self.clocks.access(event.at),
             Some(lesson) => self.clocks.acquire(event.at, lesson),
         };
         match answer {
-            Ok(()) => {}
-            Err(_) => unreachable!(),
+            Ok(()) => Ok(()),
+            Err(error) => match error {
+                ClockError::Memory => Err(Memory),
+                ClockError::Spent => unreachable!(),
+            },
         }
     }
 
-    /// Room for a meeting of a convergent instance of a group.
+    /// Gives the items of a group the clocks that they have behind a meeting of a convergent instance, none of whose clocks
+    /// is spent.
     ///
     /// # Errors
-    /// `Memory`.
-    pub(crate) fn room(
-        &self,
+    /// `Memory`. What is known is then as before.
+    pub(crate) fn meet(
+        &mut self,
         order: &Order<A>,
         group: u16,
         instance: u32,
-    ) -> Result<MeetRoom<A>, Memory>
+    ) -> Result<(), Memory>
     where
         A: Clone,
-        requires shape { self.now.clocks.sizes ≡ order.now.taken.sizes }
+        requires shape { self.old.clocks.sizes ≡ order.now.taken.sizes }
         requires group { group < length order.now.taken.sizes }
+        requires free { ¬ IsGroupSpent self.old.clocks group }
         requires convergent { (a : Mark) × IsConvergent order.now.taken group instance a }
-        ensures room { IfOk result (λ r. IsMeetRoom self.now.clocks group r) }
-        ensures flags { IfOk result (λ r. (a : Mark) → IsConvergent order.now.taken group instance a → (is_some r.global ≡ a.global) × (is_some r.local ≡ a.local)) }
+        ensures meets { OnOk result ((a : Mark) → IsConvergent order.now.taken group instance a → Meets self.old.clocks group a.global a.local self.new.clocks) }
+        ensures left { self.new.left ≡ self.old.left }
+        ensures err { OnErr result (self.new.clocks ≡ self.old.clocks) }
     {
         let (global, local) = flags_of(order, group, instance);
-        match self.clocks.room(group, global, local) {
-            Ok(room) => Ok(room),
-            Err(_) => Err(Memory),
+        match self.clocks.meet(group, global, local) {
+            Ok(()) => Ok(()),
+            Err(error) => match error {
+                ClockError::Memory => Err(Memory),
+                ClockError::Spent => unreachable!(),
+            },
         }
-    }
-
-    /// Gives the items of a group the clocks that they have behind a meeting, for which there is room.
-    pub(crate) fn meet(&mut self, group: u16, room: MeetRoom<A>)
-        requires group { group < length self.old.clocks.sizes }
-        requires free { ¬ IsGroupSpent self.old.clocks group }
-        requires room { IsMeetRoom self.old.clocks group room }
-        ensures meets { Meets self.old.clocks group (is_some room.global) (is_some room.local) self.new.clocks }
-        ensures left { self.new.left ≡ self.old.left }
-    {
-        self.clocks.meet_in(group, room);
     }
 }

@@ -15,6 +15,7 @@ ghost use Rattle.gr_sequencer.specs.Answers.{IsOfGroup, IsOfItem, IsStep};
 
 use crate::handled::Handled;
 use crate::known::Known;
+use gr_agenda::agenda::Agenda;
 use gr_findings::{acquires, groups, instances};
 use gr_lanes::seq_error::SeqError;
 use gr_model::event::{Event, EventId, ItemId};
@@ -22,7 +23,6 @@ use gr_model::memory::Memory;
 use gr_model::report::{Divergence, Unmatched};
 use gr_model::shape::Shape;
 use gr_order::go_error::GoError;
-use gr_order::order::Order;
 use gr_order::steps::Ready;
 use std::alloc::{Allocator, Global};
 use std::marker::Model;
@@ -34,7 +34,7 @@ use std::marker::Model;
 pub struct Sequencer<A: Allocator = Global> {
     #[derive_where(skip)]
     alloc: A,
-    order: Order<A>,
+    agenda: Agenda<A>,
     known: Known<A>,
 }
 
@@ -44,9 +44,9 @@ impl<A: Allocator> Model for Sequencer<A> {
 
     ghost Value = { Sequence };
 
-    ghost view = { λ s. s.order };
+    ghost view = { λ s. s.agenda };
 
-    ghost invariant = { λ s. IsKnown s.order.taken s.order.handled s.known };
+    ghost invariant = { λ s. IsKnown s.agenda.taken s.agenda.handled s.known };
 }
 
 impl<A: Allocator + Copy> Sequencer<A> {
@@ -58,10 +58,10 @@ impl<A: Allocator + Copy> Sequencer<A> {
         ensures { IfOk result (λ s. s ≡ nothing shape) }
     {
         let known = Known::new(alloc, &shape)?;
-        let order = Order::new(alloc, shape)?;
+        let agenda = Agenda::new(alloc, shape)?;
         Ok(Sequencer {
             alloc,
-            order,
+            agenda,
             known,
         })
     }
@@ -73,7 +73,7 @@ impl<A: Allocator + Copy> Sequencer<A> {
     pub fn divergences(&self) -> Result<Vec<Divergence, A>, Memory>
         ensures { IfOk result (λ v. Lists DivergenceBelow (IsDivergence self.now.taken) v.items) }
     {
-        instances::divergences(self.alloc, self.order.lanes())
+        instances::divergences(self.alloc, self.agenda.order().lanes())
     }
 
     /// The groups whose streams were cut, ascending.
@@ -83,7 +83,7 @@ impl<A: Allocator + Copy> Sequencer<A> {
     pub fn cut(&self) -> Result<Vec<u16, A>, Memory>
         ensures { IfOk result (λ v. Lists (λ (g h : ℕ). g < h) (IsCut self.now.taken) v.items) }
     {
-        groups::cut(self.alloc, self.order.lanes())
+        groups::cut(self.alloc, self.agenda.order().lanes())
     }
 
     /// The unmatched acquires with their causes, by item and then by index. The sequencer is at its end.
@@ -94,7 +94,8 @@ impl<A: Allocator + Copy> Sequencer<A> {
         requires rest { IsAtRest self.now.taken self.now.handled }
         ensures { IfOk result (λ v. Lists UnmatchedBelow (IsUnmatchedAcquire self.now.taken) v.items) }
     {
-        acquires::unmatched(self.alloc, self.order.lanes(), self.order.frontier())
+        let order = self.agenda.order();
+        acquires::unmatched(self.alloc, order.lanes(), order.frontier())
     }
 }
 
@@ -112,15 +113,15 @@ impl<A: Allocator> Sequencer<A> {
         ensures unchanged { OnErr result (self.new ≡ self.old) }
         ensures sequence { IsSequence self.new }
     {
-        let _taken = self.order.lanes();
-        self.order.take(group, event)
+        let _taken = self.agenda.order();
+        self.agenda.take(group, event)
     }
 
     /// How many records were taken of a group; 0 of one that is not there.
     pub fn taken(&self, group: u16) -> u32
         ensures { result ≡ length (list_of self.now.taken group) }
     {
-        self.order.taken(group)
+        self.agenda.order().taken(group)
     }
 
     /// Handles an item's next event, where all that it waits for was handled and it is no barrier of a convergent or
@@ -137,18 +138,19 @@ impl<A: Allocator> Sequencer<A> {
         ensures unchanged { OnErr result (self.new ≡ self.old) }
         ensures sequence { IsSequence self.new }
     {
-        let event = match self.order.next(item) {
+        let order = self.agenda.order();
+        let event = match order.next(item) {
             None => return Err(GoError::NotReady),
             Some(event) => event,
         };
-        let taken = match self.order.lanes().event_at(event) {
+        let taken = match order.lanes().event_at(event) {
             None => unreachable!(),
             Some(taken) => taken,
         };
-        let access = self.known.access_of(&self.order, event, &taken)?;
-        self.known.keep(&self.order, event, &taken, &access)?;
-        self.known.advance(&self.order, event, &taken);
-        self.order.add(event);
+        let access = self.known.access_of(order, event, &taken)?;
+        self.known.keep(order, event, &taken, &access)?;
+        self.known.advance(order, event, &taken)?;
+        self.agenda.add(event);
         Ok(Handled::One { event, access })
     }
 
@@ -166,13 +168,13 @@ impl<A: Allocator> Sequencer<A> {
         ensures unchanged { OnErr result (self.new ≡ self.old) }
         ensures sequence { IsSequence self.new }
     {
-        let instance = match self.order.meeting(group) {
+        let order = self.agenda.order();
+        let instance = match order.meeting(group) {
             None => return Err(GoError::NotReady),
             Some(instance) => instance,
         };
-        let room = self.known.room(&self.order, group, instance)?;
-        self.order.pass(group);
-        self.known.meet(group, room);
+        self.known.meet(order, group, instance)?;
+        self.agenda.pass(group);
         Ok(Handled::Meet { group, instance })
     }
 
@@ -189,7 +191,7 @@ impl<A: Allocator> Sequencer<A> {
         ensures unchanged { OnErr result (self.new ≡ self.old) }
         ensures sequence { IsSequence self.new }
     {
-        let made = match self.order.ready() {
+        let made = match self.agenda.ready() {
             None => return Ok(None),
             Some(Ready::Item(item)) => self.handle(item),
             Some(Ready::Group(group)) => self.meet(group),
@@ -209,7 +211,7 @@ impl<A: Allocator> Sequencer<A> {
         ensures done { IsTrue result → IsDone self.now }
         ensures sequence { IsSequence self.now }
     {
-        self.order.is_at_end()
+        self.agenda.order().is_at_end()
     }
 
     /// How many events were taken and not handled. Where no step is left, these are the events that are not grounded.
@@ -217,6 +219,6 @@ impl<A: Allocator> Sequencer<A> {
         ensures count { result + length self.now.handled ≡ events_of self.now.taken }
         ensures held { IsAtRest self.now.taken self.now.handled → IsHeld self.now.taken result }
     {
-        self.order.held()
+        self.agenda.order().held()
     }
 }

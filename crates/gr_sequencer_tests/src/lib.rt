@@ -14,3 +14,5 @@ mod sequencers;
 mod told;
 #[cfg(test)]
 mod waits;
+#[cfg(test)]
+mod woken;

@@ -24,7 +24,7 @@ fn end() -> Event {
 }
 
 /// The event that was handled, if one was.
-fn handled<A: Allocator>(step: &Option<Handled<A>>) -> Option<EventId> {
+pub(crate) fn handled<A: Allocator>(step: &Option<Handled<A>>) -> Option<EventId> {
     match step {
         Some(Handled::One { event, access: _ }) => Some(*event),
         _ => None,

@@ -1,3 +1,4 @@
+pub mod KeepsLemmas
 pub mod HitLemmas
 pub mod ShadowLemmas
 pub mod MapLemmas

@@ -11,29 +11,30 @@ use Rattle.gr_model.proofs.Pairs.{SomeOf, SomeOf-at, SomeOf-place}
 use Rattle.gr_model.proofs.WordLemmas.{same_from_equal}
 use Rattle.gr_model.proofs.Places.{Contains-at}
 use Rattle.gr_clocks.specs.ClockedAccess.{ClockedAccess}
-use Rattle.gr_shadow.specs.Kept.{WordShadow, no_shadow, shadow_after, Kept, same_word, shadow_at, answered_words, IsAfter}
-
--- a map in which the word of an access has its next shadow, and each other word what it had
-pub after_from_update : (old : Kept) (y : ClockedAccess) (new : Kept) → ((w : Word) → lookup (same_word w) new ≡ cond (same_word y.word w) (Some (shadow_after (shadow_at old y.word) y)) (lookup (same_word w) old)) → IsAfter old y new
-after_from_update old y new update w = ap (λ o. unwrap_or o no_shadow) (update w) ∙ by (same_word y.word w) refl
-  where
-    by : (b : Bool) → same_word y.word w ≡ b → unwrap_or (cond b (Some (shadow_after (shadow_at old y.word) y)) (lookup (same_word w) old)) no_shadow ≡ cond b (shadow_after (shadow_at old w) y) (shadow_at old w)
-    by true t = ap (λ v. shadow_after (shadow_at old v) y) (same_from_equal y.word w t)
-    by false f = refl
+use Rattle.gr_shadow.specs.Kept.{WordShadow, no_shadow, IsShadowAfter, Kept, same_word, shadow_at, answered_words, IsAfter}
 
 -- what an update leaves in a map
 abbrev pub HasUpdate : Kept → Word → WordShadow → Kept → Type 0
 HasUpdate old v s new = (w : Word) → lookup (same_word w) new ≡ cond (same_word v w) (Some s) (lookup (same_word w) old)
 
-pub after_write : (entries old : Kept) (y : ClockedAccess) (s t : WordShadow) (new : Kept) → entries ≡ old → lookup (same_word y.word) entries ≡ Some s → t ≡ shadow_after s y → HasUpdate entries y.word t new → IsAfter old y new
-after_write entries old y s t new same found after update =
-    let next : t ≡ shadow_after (shadow_at entries y.word) y = after ∙ ap (λ o. shadow_after (unwrap_or o no_shadow) y) (sym found) in
-    subst (λ (k : Kept). IsAfter k y new) same (after_from_update entries y new (λ w. update w ∙ ap (λ u. cond (same_word y.word w) (Some u) (lookup (same_word w) entries)) next))
+-- a map in which the word of an access has its next shadow, and each other word what it had
+after_from_update : (old : Kept) (y : ClockedAccess) (s : WordShadow) (new : Kept) → IsShadowAfter (shadow_at old y.word) y s → HasUpdate old y.word s new → IsAfter old y new
+after_from_update old y s new after update =
+    let value : (w : Word) (b : Bool) → same_word y.word w ≡ b → shadow_at new w ≡ unwrap_or (cond b (Some s) (lookup (same_word w) old)) no_shadow = λ w b e. ap (λ o. unwrap_or o no_shadow) (update w ∙ ap (λ b. cond b (Some s) (lookup (same_word w) old)) e) in
+    record {
+      word = subst (λ (t : WordShadow). IsShadowAfter (shadow_at old y.word) y t) (sym (value y.word true (equal.laws-law.refl y.word))) after;
+      others = λ w f. value w false f;
+    }
 
-pub after_insert : (entries old : Kept) (y : ClockedAccess) (t : WordShadow) (new : Kept) → entries ≡ old → lookup (same_word y.word) entries ≡ None → t ≡ shadow_after no_shadow y → HasUpdate entries y.word t new → IsAfter old y new
+pub after_write : (entries old : Kept) (y : ClockedAccess) (s t : WordShadow) (new : Kept) → entries ≡ old → lookup (same_word y.word) entries ≡ Some s → IsShadowAfter s y t → HasUpdate entries y.word t new → IsAfter old y new
+after_write entries old y s t new same found after update =
+    let next = subst (λ (u : WordShadow). IsShadowAfter u y t) (sym (ap (λ o. unwrap_or o no_shadow) found)) after in
+    subst (λ (k : Kept). IsAfter k y new) same (after_from_update entries y t new next update)
+
+pub after_insert : (entries old : Kept) (y : ClockedAccess) (t : WordShadow) (new : Kept) → entries ≡ old → lookup (same_word y.word) entries ≡ None → IsShadowAfter no_shadow y t → HasUpdate entries y.word t new → IsAfter old y new
 after_insert entries old y t new same absent after update =
-    let next : t ≡ shadow_after (shadow_at entries y.word) y = after ∙ ap (λ o. shadow_after (unwrap_or o no_shadow) y) (sym absent) in
-    subst (λ (k : Kept). IsAfter k y new) same (after_from_update entries y new (λ w. update w ∙ ap (λ u. cond (same_word y.word w) (Some u) (lookup (same_word w) entries)) next))
+    let next = subst (λ (u : WordShadow). IsShadowAfter u y t) (sym (ap (λ o. unwrap_or o no_shadow) absent)) after in
+    subst (λ (k : Kept). IsAfter k y new) same (after_from_update entries y t new next update)
 
 -- ---- the words that were answered
 

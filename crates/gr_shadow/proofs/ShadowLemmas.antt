@@ -1,6 +1,7 @@
 -- What shadows tell of the accesses that they stand for.
 use Rattle.std.proofs.Common.{◌≡◌, ◌⊎◌, ◌↔◌, Bool, true, false, cond, ◌&&◌, ◌||◌, List, [], ◌∷◌, ◌++◌, map, IsTrue, Some, refl, sym, ap, ◌∙◌, subst, inl, inr, ⊎_elim, true≢false}
 use Rattle.std.specs.Prelude.{not}
+use Rattle.std.proofs.lemmas.Bool.{false_from_ne_true}
 use Rattle.std.specs.Bool.{then_some}
 use Rattle.std.specs.List.{list_any}
 use Rattle.std.proofs.lemmas.List.{append-nil, map-append}
@@ -12,9 +13,11 @@ use Rattle.gr_model.proofs.Pairs.{SomeOf, SomeOf-place}
 use Rattle.gr_model.proofs.WordLemmas.{same_from_equal}
 use Rattle.gr_clocks.specs.ClockedAccess.{ClockedAccess}
 use Rattle.gr_shadow.specs.Clashes.{clashes, IsHitIn}
-use Rattle.gr_shadow.specs.Kept.{WordShadow, touch_of, touch_clashes, clashes_before, is_first_hit, shadow_after, Kept, same_word, shadow_at, IsAfter}
+use Rattle.gr_shadow.specs.Keeps.{Keeps, touch_of, touch_clashes}
+use Rattle.gr_shadow.specs.Kept.{WordShadow, clashes_before, is_first_hit, IsShadowAfter, Kept, same_word, shadow_at, IsAfter}
 use Rattle.gr_shadow.specs.StandsFor.{accesses_to, StandsFor, IsHitBy}
 use Rattle.gr_shadow.proofs.HitLemmas.{SomePair-push}
+use Rattle.gr_shadow.proofs.KeepsLemmas.{clashes_kept, Keeps-self, Keeps-trans, Keeps-append}
 
 -- an access before y clashes with it, at the word w
 abbrev pub ClashesBefore : List ClockedAccess → ClockedAccess → Word → Type 0
@@ -41,35 +44,37 @@ clash_told (x ∷ xs) y w at =
     here rest true c first = (λ _. inl (record { first = first; second = at; clashes = c }), λ _. refl)
     here rest false c first = (λ h. inr (rest.0 h), ⊎_elim (λ k. absurd (true≢false (sym k.clashes ∙ c))) (λ s. rest.1 s))
 
-pub clashes_before_told : (xs : List ClockedAccess) (kept : Kept) (y : ClockedAccess) (w : Word) → StandsFor xs kept → y.word ≡ w → IsTrue (clashes_before (shadow_at kept w) y) ↔ ClashesBefore xs y w
-clashes_before_told xs kept y w stands at =
-    let same : clashes_before (shadow_at kept w) y ≡ list_any (touch_clashes y) (map touch_of (accesses_to w xs)) = ap (λ ts. list_any (touch_clashes y) ts) (stands.touches w) in
+pub clashes_before_told : (xs : List ClockedAccess) (kept : Kept) (y : ClockedAccess) (w : Word) → StandsFor xs kept → (shadow_at kept w).answered ≡ false → y.word ≡ w → IsTrue (clashes_before (shadow_at kept w) y) ↔ ClashesBefore xs y w
+clashes_before_told xs kept y w stands not_yet at =
+    let same : clashes_before (shadow_at kept w) y ≡ list_any (touch_clashes y) (map touch_of (accesses_to w xs)) = clashes_kept y _ _ (stands.touches w not_yet) in
     let told = clash_told xs y w at in
     (λ h. told.0 (sym same ∙ h), λ h. same ∙ told.1 h)
 
-first_from : (a c : Bool) → (a ≡ true → ⊥) → c ≡ true → (not a && c) ≡ true
-first_from true c never h = absurd (never refl)
-first_from false c never h = h
+first_from : (a c : Bool) → a ≡ false → c ≡ true → (not a && c) ≡ true
+first_from true c f h = absurd (true≢false f)
+first_from false c f h = h
 
-first_parts : (a c : Bool) → (not a && c) ≡ true → (a ≡ true → ⊥) × (c ≡ true)
+first_parts : (a c : Bool) → (not a && c) ≡ true → (a ≡ false) × (c ≡ true)
 first_parts true c h = absurd (true≢false (sym h))
-first_parts false c h = (λ e. true≢false (sym e), h)
+first_parts false c h = (refl, h)
 
 -- shadows tell which word becomes hit by one more access
 pub answer_told : (xs : List ClockedAccess) (kept : Kept) (y : ClockedAccess) → StandsFor xs kept → (w : Word) → IsHitBy xs y w ↔ ((y.word ≡ w) × IsTrue (is_first_hit (shadow_at kept y.word) y))
 answer_told xs kept y stands w = (to, from)
   where
     to : IsHitBy xs y w → (y.word ≡ w) × IsTrue (is_first_hit (shadow_at kept y.word) y)
-    to h = ⊎_elim (λ old. absurd (h.before old)) (λ clash.
+    to h =
+        let not_yet = false_from_ne_true _ (λ a. h.before ((stands.answered w).0 a)) in
+        ⊎_elim (λ old. absurd (h.before old)) (λ clash.
         let at = word_of_clash xs y w clash in
-        (at, subst (λ v. IsTrue (is_first_hit (shadow_at kept v) y)) (sym at) (first_from _ _ (λ a. h.before ((stands.answered w).0 a)) ((clashes_before_told xs kept y w stands at).1 clash)))) ((hit_by_push xs y w).0 h.now)
+        (at, subst (λ v. IsTrue (is_first_hit (shadow_at kept v) y)) (sym at) (first_from _ _ not_yet ((clashes_before_told xs kept y w stands not_yet at).1 clash)))) ((hit_by_push xs y w).0 h.now)
 
     from : (y.word ≡ w) × IsTrue (is_first_hit (shadow_at kept y.word) y) → IsHitBy xs y w
     from h =
         let parts = first_parts _ _ (subst (λ v. IsTrue (is_first_hit (shadow_at kept v) y)) h.0 h.1) in
         record {
-          now = (hit_by_push xs y w).1 (inr ((clashes_before_told xs kept y w stands h.0).0 parts.1));
-          before = λ old. parts.0 ((stands.answered w).1 old);
+          now = (hit_by_push xs y w).1 (inr ((clashes_before_told xs kept y w stands parts.0 h.0).0 parts.1));
+          before = λ old. true≢false (sym ((stands.answered w).1 old) ∙ parts.0);
         }
 
 -- a word is answered where its test holds
@@ -89,30 +94,47 @@ right : (a c : Bool) → c ≡ true → (a || c) ≡ true
 right true c h = refl
 right false c h = h
 
+none : (a c : Bool) → (a || c) ≡ false → a ≡ false
+none true c h = absurd (true≢false h)
+none false c h = refl
+
 -- what is kept after one more access stands for the list with it
 pub stands_after : (xs : List ClockedAccess) (old : Kept) (y : ClockedAccess) (new : Kept) → StandsFor xs old → IsAfter old y new → StandsFor (xs ++ y ∷ []) new
-stands_after xs old y new stands after = record { touches = touches; answered = answered }
+stands_after xs old y new stands after = record { touches = λ w. touched w (same_word y.word w) refl; answered = λ w. told w (same_word y.word w) refl }
   where
-    listed : (w : Word) → map touch_of (accesses_to w (xs ++ y ∷ [])) ≡ map touch_of (accesses_to w xs) ++ map touch_of (accesses_to w (y ∷ []))
-    listed w = ap (map touch_of) (filter-append (λ x. same_word x.word w) xs (y ∷ [])) ∙ map-append touch_of (accesses_to w xs) (accesses_to w (y ∷ []))
+    listed : (w : Word) (b : Bool) → same_word y.word w ≡ b → map touch_of (accesses_to w (xs ++ y ∷ [])) ≡ map touch_of (accesses_to w xs) ++ map touch_of (cond b (y ∷ []) [])
+    listed w b e = ap (map touch_of) (filter-append (λ x. same_word x.word w) xs (y ∷ [])) ∙ map-append touch_of (accesses_to w xs) (accesses_to w (y ∷ [])) ∙ ap (λ b. map touch_of (accesses_to w xs) ++ map touch_of (cond b (y ∷ []) [])) e
 
-    touched : (w : Word) (b : Bool) → (cond b (shadow_after (shadow_at old w) y) (shadow_at old w)).touches ≡ map touch_of (accesses_to w xs) ++ map touch_of (cond b (y ∷ []) [])
-    touched w true = ap (λ ts. ts ++ touch_of y ∷ []) (stands.touches w)
-    touched w false = stands.touches w ∙ sym (append-nil (map touch_of (accesses_to w xs)))
+    here : (w : Word) → same_word y.word w ≡ true → IsShadowAfter (shadow_at old w) y (shadow_at new w)
+    here w t = subst (λ (v : Word). IsShadowAfter (shadow_at old v) y (shadow_at new v)) (same_from_equal y.word w t) after.word
 
-    touches : (w : Word) → (shadow_at new w).touches ≡ map touch_of (accesses_to w (xs ++ y ∷ []))
-    touches w = ap (λ s. s.touches) (after w) ∙ touched w (same_word y.word w) ∙ sym (listed w)
+    touched : (w : Word) (b : Bool) → same_word y.word w ≡ b → (shadow_at new w).answered ≡ false → Keeps (shadow_at new w).touches (map touch_of (accesses_to w (xs ++ y ∷ [])))
+    touched w true t not_yet =
+        let step = here w t in
+        let was = none _ _ (sym step.answered ∙ not_yet) in
+        subst (λ ts. Keeps (shadow_at new w).touches ts) (sym (listed w true t)) (Keeps-trans _ _ _ (step.touches not_yet) (Keeps-append _ _ _ _ (stands.touches w was) (Keeps-self (touch_of y ∷ []))))
+    touched w false f not_yet =
+        let same = after.others w f in
+        let was = sym (ap (λ s. s.answered) same) ∙ not_yet in
+        subst (λ ts. Keeps (shadow_at new w).touches ts) (sym (listed w false f ∙ append-nil (map touch_of (accesses_to w xs)))) (subst (λ (s : WordShadow). Keeps s.touches (map touch_of (accesses_to w xs))) (sym same) (stands.touches w was))
 
-    told : (w : Word) (b : Bool) → same_word y.word w ≡ b → IsTrue (cond b (shadow_after (shadow_at old w) y) (shadow_at old w)).answered ↔ IsHitIn (xs ++ y ∷ []) w
-    told w true t =
-        let before = clashes_before_told xs old y w stands (same_from_equal y.word w t) in (
-          λ h. (hit_by_push xs y w).1 (⊎_elim (λ a. inl ((stands.answered w).0 a)) (λ c. inr (before.0 c)) (either _ _ h)),
-          λ h. ⊎_elim (λ a. left _ _ ((stands.answered w).1 a)) (λ c. right _ _ (before.1 c)) ((hit_by_push xs y w).0 h),
+    became : (w : Word) (b : Bool) → (shadow_at old w).answered ≡ b → same_word y.word w ≡ true → IsTrue (shadow_at new w).answered ↔ IsHitIn (xs ++ y ∷ []) w
+    became w true a t =
+        let step = here w t in (
+          λ _. (hit_by_push xs y w).1 (inl ((stands.answered w).0 a)),
+          λ _. step.answered ∙ left _ _ a,
         )
-    told w false f = (
-      λ h. (hit_by_push xs y w).1 (inl ((stands.answered w).0 h)),
-      λ h. ⊎_elim (λ a. (stands.answered w).1 a) (λ c. absurd (true≢false (sym (subst (λ v. same_word v w ≡ true) (sym (word_of_clash xs y w c)) (equal.laws-law.refl w)) ∙ f))) ((hit_by_push xs y w).0 h),
-    )
+    became w false a t =
+        let step = here w t in
+        let before = clashes_before_told xs old y w stands a (same_from_equal y.word w t) in (
+          λ h. (hit_by_push xs y w).1 (inr (before.0 (⊎_elim (λ b. absurd (true≢false (sym b ∙ a))) (λ c. c) (either _ _ (sym step.answered ∙ h))))),
+          λ h. step.answered ∙ ⊎_elim (λ b. left _ _ ((stands.answered w).1 b)) (λ c. right _ _ (before.1 c)) ((hit_by_push xs y w).0 h),
+        )
 
-    answered : (w : Word) → IsTrue (shadow_at new w).answered ↔ IsHitIn (xs ++ y ∷ []) w
-    answered w = subst (λ (s : WordShadow). IsTrue s.answered ↔ IsHitIn (xs ++ y ∷ []) w) (sym (after w)) (told w (same_word y.word w) refl)
+    told : (w : Word) (b : Bool) → same_word y.word w ≡ b → IsTrue (shadow_at new w).answered ↔ IsHitIn (xs ++ y ∷ []) w
+    told w true t = became w (shadow_at old w).answered refl t
+    told w false f =
+        let same = ap (λ s. s.answered) (after.others w f) in (
+          λ h. (hit_by_push xs y w).1 (inl ((stands.answered w).0 (sym same ∙ h))),
+          λ h. same ∙ ⊎_elim (λ a. (stands.answered w).1 a) (λ c. absurd (true≢false (sym (subst (λ v. same_word v w ≡ true) (sym (word_of_clash xs y w c)) (equal.laws-law.refl w)) ∙ f))) ((hit_by_push xs y w).0 h),
+        )

@@ -1,4 +1,5 @@
 pub mod Clashes
+pub mod Keeps
 pub mod Kept
 pub mod StandsFor
 pub mod Laws

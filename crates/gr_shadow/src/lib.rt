@@ -6,3 +6,5 @@ pub mod laws;
 pub mod merge;
 mod shadow;
 pub mod shadows;
+mod touch;
+mod touches;

@@ -1,71 +1,48 @@
 //! What is kept of the accesses to one word.
 
-ghost use Rattle.std.specs.Prelude.{◌≡◌, IfOk, OnOk, OnErr};
+ghost use Rattle.std.specs.Prelude.{◌≡◌, IfOk, OnOk, OnErr, false, ◌++◌, ◌∷◌, []};
 ghost use Rattle.gr_clocks.specs.ClockedAccess.{clocked};
-ghost use Rattle.gr_shadow.specs.Clashes.{clashes_with};
+ghost use Rattle.gr_shadow.specs.Keeps.{Keeps};
 ghost use Rattle.gr_shadow.specs.Kept as spec;
-ghost use Rattle.gr_shadow.specs.Kept.{no_shadow, shadow_after};
+ghost use Rattle.gr_shadow.specs.Kept.{no_shadow, IsShadowAfter};
 
+use crate::touch::{PLACES, Touch, clashes_in, keep_among};
+use crate::touches::{Touches, clashes_in_lists, put};
+use arrayvec::ArrayVec;
 use gr_clocks::access::Access;
-use gr_model::event::ItemId;
 use gr_model::memory::Memory;
-use gr_scopes::class::{Class, exempt};
 use std::alloc::{Allocator, Global};
 use std::marker::Model;
 
-/// What is kept of an access: its work-item, its index there, and its class.
-#[derive(Clone, Copy, Debug)]
-pub(crate) struct Touch {
-    pub item: ItemId,
-    pub index: u32,
-    pub class: Class,
-}
-
-impl Touch {
-    /// What is kept of this access.
-    fn of<A: Allocator>(access: &Access<A>) -> Touch
-        ensures { result ≡ spec.touch_of (clocked access.now) }
-    {
-        Touch {
-            item: access.item,
-            index: access.index,
-            class: access.class,
-        }
-    }
-
-    /// Whether a later access to the same word clashes with this one.
-    fn clashes<A: Allocator>(&self, access: &Access<A>) -> bool
-        ensures { result ≡ clashes_with self.now.item self.now.index self.now.class (clocked access.now) }
-    {
-        self.item != access.item
-            && !exempt(self.class, self.item.group, access.class, access.item.group)
-            && !access.clock.covers(self.item, self.index)
-    }
-}
-
-/// What is kept of the accesses to one word: each of them, and whether the word was answered.
+/// What is kept of the accesses to one word: whether the word was answered, and where it was not, of each item and class the
+/// touch with the greatest index. The first few items and classes have theirs in the shadow itself, for good, so nothing is
+/// moved when more come; the others have theirs in lists, one for each class.
 #[derive(Drop)]
 #[derive_where(Debug)]
 pub(crate) struct Shadow<A: Allocator = Global> {
-    touches: Vec<Touch, A>,
+    few: ArrayVec<Touch, PLACES>,
+    lists: Vec<Touches<A>, A>,
     answered: bool,
 }
 
 impl<A: Allocator> Model for Shadow<A> {
+    ghost use Rattle.std.specs.Prelude.{◌++◌};
+    ghost use Rattle.gr_shadow.specs.Keeps.{all_touches};
     ghost use Rattle.gr_shadow.specs.Kept.{WordShadow};
 
     ghost Value = { WordShadow };
 
-    ghost view = { λ s. record { touches = s.touches.items; answered = s.answered } };
+    ghost view = { λ s. record { touches = s.few.items ++ all_touches s.lists.items; answered = s.answered } };
 }
 
-impl<A: Allocator> Shadow<A> {
+impl<A: Allocator + Copy> Shadow<A> {
     /// The shadow of a word without accesses.
     pub(crate) fn new(alloc: A) -> Shadow<A>
         ensures { result ≡ no_shadow }
     {
         Shadow {
-            touches: Vec::new(alloc),
+            few: ArrayVec::new(),
+            lists: Vec::new(alloc),
             answered: false,
         }
     }
@@ -81,7 +58,23 @@ impl<A: Allocator> Shadow<A> {
     fn clashes(&self, access: &Access<A>) -> bool
         ensures { result ≡ spec.clashes_before self.now (clocked access.now) }
     {
-        self.touches.iter().any(|touch| touch.clashes(access))
+        clashes_in(self.few.as_slice(), access) || clashes_in_lists(&self.lists, access)
+    }
+
+    /// Keeps a touch.
+    fn keep(&mut self, touch: Touch) -> Result<(), Memory>
+        ensures answered { OnOk result (self.new.answered ≡ self.old.answered) }
+        ensures kept { OnOk result (Keeps self.new.touches (self.old.touches ++ touch ∷ [])) }
+        ensures err { OnErr result (self.new ≡ self.old) }
+    {
+        if keep_among(&mut self.few, &touch) {
+            return Ok(());
+        }
+        if !self.few.is_full() {
+            self.few.push(touch);
+            return Ok(());
+        }
+        put(&mut self.lists, touch)
     }
 
     /// Adds an access to the word, and tells whether the word becomes hit by it.
@@ -89,13 +82,29 @@ impl<A: Allocator> Shadow<A> {
     /// # Errors
     /// `Memory`. The shadow is then as it was.
     pub(crate) fn add(&mut self, access: &Access<A>) -> Result<bool, Memory>
-        ensures shadow { OnOk result (self.new ≡ shadow_after self.old (clocked access.now)) }
+        ensures shadow { OnOk result (IsShadowAfter self.old (clocked access.now) self.new) }
         ensures hit { IfOk result (λ hit. hit ≡ spec.is_first_hit self.old (clocked access.now)) }
         ensures err { OnErr result (self.new ≡ self.old) }
     {
-        let hit = !self.answered && self.clashes(access);
-        self.touches.push(Touch::of(access))?;
-        self.answered = self.answered || hit;
-        Ok(hit)
+        if self.answered {
+            return Ok(false);
+        }
+        if self.clashes(access) {
+            *self = Shadow::answered(*self.lists.allocator());
+            return Ok(true);
+        }
+        self.keep(Touch::of(access))?;
+        Ok(false)
+    }
+
+    /// The shadow of a word that was answered.
+    fn answered(alloc: A) -> Shadow<A>
+        ensures { result ≡ spec.answered_shadow }
+    {
+        Shadow {
+            few: ArrayVec::new(),
+            lists: Vec::new(alloc),
+            answered: true,
+        }
     }
 }

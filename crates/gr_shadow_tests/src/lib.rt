@@ -2,4 +2,6 @@
 #![tactic(auto)]
 
 #[cfg(test)]
+mod slow;
+#[cfg(test)]
 mod tests;

@@ -1,9 +1,10 @@
 //! Worked rows of accesses. A call to which a growth was refused leaves the hit words as they were, and then gives the
 //! row's answer.
 
-ghost use Rattle.std.specs.Prelude.{◌≡◌};
+ghost use Rattle.std.specs.Prelude.{◌≡◌, ◌<◌};
 ghost use Rattle.gr_clocks.specs.Counts.{sizes_of};
 
+use crate::slow::Slow;
 use gr_clocks::access::Access;
 use gr_clocks::clock::{Clock, ClockError};
 use gr_model::event::{ItemId, Word};
@@ -16,12 +17,14 @@ use refusing::Refusing;
 use std::alloc::Allocator;
 use std::test::Fail;
 
-/// An access of group 0: its word, item, index and class, and the counts of its clock by items.
+/// An access: its word, the number of its item in the launch, its index and class, and the counts of its clock by items.
 type Step = (Word, u16, u32, Class, [u32; 6]);
 
-/// A row: its name, how many items there are, its accesses, the answer to each, and the hit words at its end.
+/// A row: its name, how many groups there are and items in each, its accesses, the answer to each, and the hit words at its
+/// end.
 type Row = (
     &'static str,
+    u16,
     u16,
     [Option<Step>; 7],
     [Option<Word>; 7],
@@ -44,9 +47,20 @@ const ANSWERED_ONCE: [Option<Step>; 7] = [
     None,
 ];
 
-const ROWS: [Row; 9] = [
+const SIX_ATOMICS: [Option<Step>; 7] = [
+    Some((FOUR, 0, 0, Class::DeviceModify, [1, 0, 0, 0, 0, 0])),
+    Some((FOUR, 1, 0, Class::DeviceModify, [0, 1, 0, 0, 0, 0])),
+    Some((FOUR, 2, 0, Class::DeviceModify, [0, 0, 1, 0, 0, 0])),
+    Some((FOUR, 3, 0, Class::DeviceModify, [0, 0, 0, 1, 0, 0])),
+    Some((FOUR, 4, 0, Class::DeviceModify, [0, 0, 0, 0, 1, 0])),
+    Some((FOUR, 5, 0, Class::DeviceModify, [0, 0, 0, 0, 0, 1])),
+    Some((FOUR, 0, 1, Class::PlainRead, [2, 0, 0, 0, 0, 0])),
+];
+
+const ROWS: [Row; 13] = [
     (
         "a word is answered once",
+        1,
         2,
         ANSWERED_ONCE,
         [None, Some(SIXTEEN), None, None, None, None, None],
@@ -54,6 +68,7 @@ const ROWS: [Row; 9] = [
     ),
     (
         "an ordered read does not hide one that is not",
+        1,
         3,
         [
             Some((SIXTEEN, 0, 0, Class::PlainRead, [1, 0, 0, 0, 0, 0])),
@@ -69,6 +84,7 @@ const ROWS: [Row; 9] = [
     ),
     (
         "both reads are ordered",
+        1,
         3,
         [
             Some((SIXTEEN, 0, 0, Class::PlainRead, [1, 0, 0, 0, 0, 0])),
@@ -84,6 +100,7 @@ const ROWS: [Row; 9] = [
     ),
     (
         "the greatest index decides, not the latest",
+        1,
         2,
         [
             Some((EIGHT, 0, 5, Class::PlainWrite, [6, 0, 0, 0, 0, 0])),
@@ -99,6 +116,7 @@ const ROWS: [Row; 9] = [
     ),
     (
         "the greatest index is ordered",
+        1,
         2,
         [
             Some((EIGHT, 0, 5, Class::PlainWrite, [6, 0, 0, 0, 0, 0])),
@@ -114,21 +132,15 @@ const ROWS: [Row; 9] = [
     ),
     (
         "six items modify by device atomics, and one reads",
+        1,
         6,
-        [
-            Some((FOUR, 0, 0, Class::DeviceModify, [1, 0, 0, 0, 0, 0])),
-            Some((FOUR, 1, 0, Class::DeviceModify, [0, 1, 0, 0, 0, 0])),
-            Some((FOUR, 2, 0, Class::DeviceModify, [0, 0, 1, 0, 0, 0])),
-            Some((FOUR, 3, 0, Class::DeviceModify, [0, 0, 0, 1, 0, 0])),
-            Some((FOUR, 4, 0, Class::DeviceModify, [0, 0, 0, 0, 1, 0])),
-            Some((FOUR, 5, 0, Class::DeviceModify, [0, 0, 0, 0, 0, 1])),
-            Some((FOUR, 0, 1, Class::PlainRead, [2, 0, 0, 0, 0, 0])),
-        ],
+        SIX_ATOMICS,
         [None, None, None, None, None, None, Some(FOUR)],
         &[FOUR],
     ),
     (
         "six items modify by device atomics, and one reads behind all",
+        1,
         6,
         [
             Some((FOUR, 0, 0, Class::DeviceModify, [1, 0, 0, 0, 0, 0])),
@@ -144,6 +156,7 @@ const ROWS: [Row; 9] = [
     ),
     (
         "hit words are told in ascending order",
+        1,
         2,
         [
             Some((EIGHT, 0, 0, Class::PlainWrite, [1, 0, 0, 0, 0, 0])),
@@ -159,6 +172,7 @@ const ROWS: [Row; 9] = [
     ),
     (
         "words of two memories are two words",
+        1,
         2,
         [
             Some((EIGHT, 0, 0, Class::PlainWrite, [1, 0, 0, 0, 0, 0])),
@@ -177,6 +191,70 @@ const ROWS: [Row; 9] = [
         ],
         [None; 7],
         &[],
+    ),
+    (
+        "a group-scope and a device-scope atomic of one group",
+        1,
+        2,
+        [
+            Some((SIXTEEN, 0, 0, Class::GroupModify, [1, 0, 0, 0, 0, 0])),
+            Some((SIXTEEN, 1, 0, Class::DeviceModify, [0, 1, 0, 0, 0, 0])),
+            None,
+            None,
+            None,
+            None,
+            None,
+        ],
+        [None, Some(SIXTEEN), None, None, None, None, None],
+        &[SIXTEEN],
+    ),
+    (
+        "device-scope atomics of two groups",
+        2,
+        1,
+        [
+            Some((SIXTEEN, 0, 0, Class::DeviceModify, [1, 0, 0, 0, 0, 0])),
+            Some((SIXTEEN, 1, 0, Class::DeviceModify, [0, 1, 0, 0, 0, 0])),
+            None,
+            None,
+            None,
+            None,
+            None,
+        ],
+        [None; 7],
+        &[],
+    ),
+    (
+        "group-scope atomics of two groups of three items",
+        2,
+        3,
+        [
+            Some((FOUR, 0, 0, Class::GroupModify, [1, 0, 0, 0, 0, 0])),
+            Some((FOUR, 1, 0, Class::GroupModify, [0, 1, 0, 0, 0, 0])),
+            Some((FOUR, 2, 0, Class::GroupModify, [0, 0, 1, 0, 0, 0])),
+            Some((FOUR, 0, 1, Class::GroupRead, [2, 0, 0, 0, 0, 0])),
+            Some((FOUR, 1, 1, Class::GroupRead, [0, 2, 0, 0, 0, 0])),
+            Some((FOUR, 3, 0, Class::GroupModify, [2, 2, 1, 1, 0, 0])),
+            Some((FOUR, 4, 0, Class::GroupModify, [2, 1, 1, 0, 1, 0])),
+        ],
+        [None, None, None, None, None, None, Some(FOUR)],
+        &[FOUR],
+    ),
+    (
+        "a write that knows of one of two reads",
+        1,
+        3,
+        [
+            Some((SIXTEEN, 0, 0, Class::PlainWrite, [1, 0, 0, 0, 0, 0])),
+            Some((EIGHT, 0, 1, Class::DeviceModify, [2, 0, 0, 0, 0, 0])),
+            Some((EIGHT, 1, 0, Class::DeviceRead, [2, 1, 0, 0, 0, 0])),
+            Some((SIXTEEN, 1, 1, Class::PlainRead, [2, 2, 0, 0, 0, 0])),
+            Some((EIGHT, 2, 0, Class::DeviceRead, [2, 0, 1, 0, 0, 0])),
+            Some((SIXTEEN, 2, 1, Class::PlainRead, [2, 0, 2, 0, 0, 0])),
+            Some((SIXTEEN, 0, 3, Class::PlainWrite, [4, 0, 3, 0, 0, 0])),
+        ],
+        [None, None, None, None, None, None, Some(SIXTEEN)],
+        &[SIXTEEN],
     ),
 ];
 
@@ -198,49 +276,75 @@ fn tick<A: Allocator>(
     Ok(())
 }
 
-/// A clock of these counts.
+/// The item with a number, where each group has so many.
+fn item_at(number: u16, width: u16) -> ItemId
+    requires { 0 < width }
+{
+    ItemId {
+        group: number / width,
+        item: number % width,
+    }
+}
+
+/// A clock of these counts, of groups of so many items.
 fn clock_of<A: Allocator + Copy>(
     alloc: A,
     shape: &Shape<A>,
+    width: u16,
     counts: [u32; 6],
-) -> Result<Clock<A>, ClockError> {
+) -> Result<Clock<A>, ClockError>
+    requires { 0 < width }
+{
     let mut clock = Clock::new(alloc, shape)?;
-    for item in 0..6_u16 {
+    for number in 0..6_u16 {
         tick(
             &mut clock,
             shape,
-            ItemId { group: 0, item },
-            counts[item as usize],
+            item_at(number, width),
+            counts[number as usize],
         )?;
     }
     Ok(clock)
 }
 
-/// The access of a step, tried twice.
-fn access_of<A: Allocator + Copy>(alloc: A, shape: &Shape<A>, step: Step) -> Option<Access<A>> {
-    let (word, place, index, class, counts) = step;
-    let clock = match clock_of(alloc, shape, counts) {
+/// The access of a step in groups of so many items, tried twice.
+fn access_of<A: Allocator + Copy>(
+    alloc: A,
+    shape: &Shape<A>,
+    width: u16,
+    step: Step,
+) -> Option<Access<A>> {
+    if width == 0 {
+        return None;
+    }
+    let (word, number, index, class, counts) = step;
+    let clock = match clock_of(alloc, shape, width, counts) {
         Ok(clock) => clock,
-        Err(_) => clock_of(alloc, shape, counts).ok()?,
-    };
-    let item = ItemId {
-        group: 0,
-        item: place,
+        Err(_) => clock_of(alloc, shape, width, counts).ok()?,
     };
     Some(Access {
         word,
-        item,
+        item: item_at(number, width),
         index,
         class,
         clock,
     })
 }
 
-/// The shape of one group, tried twice.
-fn one_group<A: Allocator + Copy>(alloc: A, items: u16) -> Option<Shape<A>> {
-    let sizes = match vec![in alloc; items] {
-        Ok(sizes) => sizes,
-        Err(_) => vec![in alloc; items].ok()?,
+/// The sizes of so many groups of so many items.
+fn sizes_of_groups<A: Allocator>(alloc: A, groups: u16, items: u16) -> Option<Vec<u16, A>> {
+    let mut sizes = Vec::new(alloc);
+    for _group in 0..groups {
+        sizes.push(items).ok()?;
+    }
+    Some(sizes)
+}
+
+/// The shape of so many groups of so many items, tried twice.
+fn shape_of<A: Allocator + Copy>(alloc: A, groups: u16, items: u16) -> Option<Shape<A>> {
+    let sizes = match sizes_of_groups(alloc, groups, items) {
+        Some(sizes) => sizes,
+        None => sizes_of_groups(alloc, groups, items)?,
     };
     Shape::new(sizes).ok()
 }
@@ -271,27 +375,90 @@ fn answer<A: Allocator + Copy>(
 /// The answers to the accesses of a row, and the hit words at its end.
 fn answers<A: Allocator + Copy>(
     alloc: A,
+    groups: u16,
     items: u16,
     steps: &[Option<Step>; 7],
 ) -> Option<([Option<Word>; 7], Vec<Word, A>)> {
-    let shape = one_group(alloc, items)?;
+    let shape = shape_of(alloc, groups, items)?;
     let mut shadows = Shadows::new(alloc);
     let mut all = [None; 7];
     for place in 0..7_usize {
         if let Some(step) = steps[place] {
-            let access = access_of(alloc, &shape, step)?;
+            let access = access_of(alloc, &shape, items, step)?;
             all[place] = answer(&mut shadows, &access)?;
         }
     }
     Some((all, racy(&shadows)?))
 }
 
+/// What the slow body answers to the accesses of a row.
+fn slow_answers<A: Allocator + Copy>(
+    alloc: A,
+    groups: u16,
+    items: u16,
+    steps: &[Option<Step>; 7],
+) -> Option<[Option<Word>; 7]> {
+    let shape = shape_of(alloc, groups, items)?;
+    let mut slow = Slow::new(alloc);
+    let mut all = [None; 7];
+    for place in 0..7_usize {
+        if let Some(step) = steps[place] {
+            let access = access_of(alloc, &shape, items, step)?;
+            all[place] = slow.apply(&access).ok()?;
+        }
+    }
+    Some(all)
+}
+
 #[test]
 fn a_word_is_answered_where_it_becomes_hit(rt: HostRuntime) -> Result<(), Fail> {
-    for (name, items, steps, wanted, hits) in &ROWS {
-        let (all, words) = answers(rt.alloc(), *items, steps).ok_or("memory")?;
+    for (name, groups, items, steps, wanted, hits) in &ROWS {
+        let (all, words) = answers(rt.alloc(), *groups, *items, steps).ok_or("memory")?;
+        let slow = slow_answers(rt.alloc(), *groups, *items, steps).ok_or("memory")?;
         assert_eq!(rt; all, *wanted, "{name}");
+        assert_eq!(rt; slow, *wanted, "{name}, the slow body");
         assert_eq!(rt; words.as_slice(), *hits, "{name}");
+    }
+    Ok(())
+}
+
+/// The access of a read by an item of one group of six, which knows of nothing else.
+fn read_of<A: Allocator + Copy>(
+    alloc: A,
+    shape: &Shape<A>,
+    item: u16,
+    index: u32,
+) -> Option<Access<A>> {
+    access_of(alloc, shape, 6, (FOUR, item, index, Class::PlainRead, [0; 6]))
+}
+
+/// What a write of item 0 answers that knows of all ten reads of each of six items but for the last of one of them.
+fn answer_to_a_write<A: Allocator + Copy>(alloc: A, lacking: usize) -> Option<[Option<Word>; 2]> {
+    let shape = shape_of(alloc, 1, 6)?;
+    let mut shadows = Shadows::new(alloc);
+    let mut slow = Slow::new(alloc);
+    for index in 0..10_u32 {
+        for item in 0..6_u16 {
+            let read = read_of(alloc, &shape, item, index)?;
+            if shadows.apply(&read).ok()?.is_some() || slow.apply(&read).ok()?.is_some() {
+                return None;
+            }
+        }
+    }
+    let mut counts = [10; 6];
+    if lacking < 6 {
+        counts[lacking] = 9;
+    }
+    let write = access_of(alloc, &shape, 6, (FOUR, 0, 10, Class::PlainWrite, counts))?;
+    Some([shadows.apply(&write).ok()?, slow.apply(&write).ok()?])
+}
+
+#[test]
+fn the_last_read_of_each_item_is_kept_beside_many(rt: HostRuntime) -> Result<(), Fail> {
+    for lacking in 0..7_usize {
+        let wanted = (lacking != 0 && lacking != 6).then_some(FOUR);
+        let answers = answer_to_a_write(rt.alloc(), lacking).ok_or("memory")?;
+        assert_eq!(rt; answers, [wanted; 2], "item {lacking}");
     }
     Ok(())
 }
@@ -308,13 +475,19 @@ fn union<A: Allocator + Copy>(alloc: A, first: &[Word], second: &[Word]) -> Opti
 fn each_refused_growth_leaves_the_hit_words(rt: HostRuntime) -> Result<(), Fail> {
     for at in 0..1_000_u64 {
         let heap = Refusing::new(rt.alloc(), at);
-        let (all, words) = answers(&heap, 2, &ANSWERED_ONCE).ok_or("a refusal changed the words")?;
+        let (all, words) = answers(&heap, 1, 2, &ANSWERED_ONCE).ok_or("a refusal changed the words")?;
         assert_eq!(rt;
             all,
             [None, Some(SIXTEEN), None, None, None, None, None],
             "growth {at}"
         );
         assert_eq!(rt; words.as_slice(), [SIXTEEN].as_slice(), "growth {at}");
+        let (all, _four) = answers(&heap, 1, 6, &SIX_ATOMICS).ok_or("a refusal changed the words")?;
+        assert_eq!(rt;
+            all,
+            [None, None, None, None, None, None, Some(FOUR)],
+            "growth {at}"
+        );
         let merged = union(&heap, &words, &[Word::Global(3), Word::Local(0, 1)]).ok_or("memory")?;
         assert_eq!(rt;
             merged.as_slice(),

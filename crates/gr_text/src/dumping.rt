@@ -1,12 +1,12 @@
 //! From the bytes of streams to their text.
 
-ghost use Rattle.std.specs.Prelude.{◌≡◌, ◌≢◌, ◌++◌, All, IfErr, OnOk, map};
+ghost use Rattle.std.specs.Prelude.{◌≡◌, ◌++◌, All, IfErr, OnOk, map};
 ghost use Rattle.std.specs.List.{flat_map};
 ghost use Rattle.gr_input.specs.Faults.{Gives};
 ghost use Rattle.gr_model.specs.Events.{IsEventOk};
 ghost use Rattle.gr_model.specs.declared.limits.TheConstants.{MOST_ITEMS_OF_A_GROUP};
+ghost use Rattle.gr_record.specs.Faults.{IsOfValues};
 ghost use Rattle.gr_record.specs.LineText.{IsLine};
-ghost use Rattle.gr_record.specs.declared.fault.Fault.TheVariants as faults;
 ghost use Rattle.gr_record.specs.declared.line.Line.TheVariants as lines;
 ghost use Rattle.gr_text.specs.Texts.{whole_line};
 ghost use Rattle.gr_text.specs.Dumps.{dumped, stream_at, with_text};
@@ -58,7 +58,7 @@ fn dump_stream<'a, A: Allocator + Copy>(
     bytes: &'a [u8],
 ) -> Result<&'a [u8], Fault>
     ensures exact { Gives (λ rest. (text.new.items, rest.now)) result (with_text text.old.items (stream_at place bytes.now)) }
-    ensures reading { IfErr result (λ f. f ≢ faults.Write) }
+    ensures values { IfErr result IsOfValues }
 {
     let (header, rest) = match read_front_header(bytes) {
         Ok(found) => found,
@@ -79,7 +79,7 @@ fn dump_stream<'a, A: Allocator + Copy>(
 /// `Stream` with the first fault from the left; `Memory` where the text can't be kept.
 pub fn dump_bytes<A: Allocator + Copy>(alloc: A, bytes: &[u8]) -> Result<Vec<u8, A>, Fault>
     ensures exact { Gives (λ v. v.items) result (dumped bytes.now) }
-    ensures reading { IfErr result (λ f. f ≢ faults.Write) }
+    ensures values { IfErr result IsOfValues }
 {
     let mut text = Vec::new(alloc);
     let mut rest = bytes;

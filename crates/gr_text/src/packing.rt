@@ -1,9 +1,9 @@
 //! From a text to the bytes of its streams.
 
-ghost use Rattle.std.specs.Prelude.{◌≡◌, ◌≢◌, ◌++◌, IfErr, OnOk};
+ghost use Rattle.std.specs.Prelude.{◌≡◌, ◌++◌, IfErr, OnOk};
 ghost use Rattle.gr_input.specs.Faults.{Gives};
+ghost use Rattle.gr_record.specs.Faults.{IsOfValues};
 ghost use Rattle.gr_record.specs.LineLaws.{IsSaid};
-ghost use Rattle.gr_record.specs.declared.fault.Fault.TheVariants as faults;
 ghost use Rattle.gr_text.specs.Texts.{line_bytes, packed};
 
 use crate::lines::split_line;
@@ -42,7 +42,7 @@ fn push_bytes<A: Allocator>(bytes: &mut Vec<u8, A>, line: &Line) -> Result<(), M
 /// than a stream may have; `NoEnd` where the text is over inside a stream; `Memory` where the bytes can't be kept.
 pub fn pack_text<A: Allocator>(alloc: A, text: &[u8]) -> Result<Vec<u8, A>, Fault>
     ensures exact { Gives (λ v. v.items) result (packed text.now) }
-    ensures reading { IfErr result (λ f. f ≢ faults.Write) }
+    ensures values { IfErr result IsOfValues }
 {
     let mut bytes = Vec::new(alloc);
     let mut place = Place::Outside;

@@ -2,5 +2,6 @@
 
 mod ends;
 mod growths;
+mod large;
 mod pairs;
 mod refused;

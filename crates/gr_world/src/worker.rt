@@ -1,4 +1,4 @@
-//! A worker: the accesses that are queued for it, and those that it received.
+//! A worker: the accesses that are queued for it, and those that it received, which exist in proofs alone.
 //!
 //! Invariant: its shadows stand for the accesses that it received.
 
@@ -10,6 +10,7 @@ ghost use Rattle.gr_world.specs.Workers.{Receives};
 
 use crate::queue::Queue;
 use gr_clocks::access::Access;
+use gr_history::history::History;
 use gr_model::event::Word;
 use gr_model::memory::Memory;
 use gr_shadow::shadows::Shadows;
@@ -21,7 +22,7 @@ use std::marker::Model;
 #[derive_where(Debug)]
 pub struct Worker<A: Allocator = Global> {
     queue: Queue<Access<A>, A>,
-    received: Vec<Access<A>, A>,
+    received: History<Access<A>>,
     shadows: Shadows<A>,
 }
 
@@ -32,9 +33,9 @@ impl<A: Allocator> Model for Worker<A> {
 
     ghost Value = { Work };
 
-    ghost view = { λ w. work_of w.queue w.received.items };
+    ghost view = { λ w. work_of w.queue w.received };
 
-    ghost invariant = { λ w. StandsFor (all_clocked w.received.items) w.shadows };
+    ghost invariant = { λ w. StandsFor (all_clocked w.received) w.shadows };
 }
 
 impl<A: Allocator + Copy> Worker<A> {
@@ -46,9 +47,10 @@ impl<A: Allocator + Copy> Worker<A> {
         ensures { IfOk result (λ w. w ≡ no_work places) }
     {
         let queue = Queue::new(alloc, places)?;
+        let received = History::new();
         Ok(Worker {
             queue,
-            received: Vec::new(alloc),
+            received,
             shadows: Shadows::new(alloc),
         })
     }
@@ -65,13 +67,12 @@ impl<A: Allocator + Copy> Worker<A> {
         match self.queue.front() {
             None => return Ok(false),
             Some(access) => {
-                self.received.reserve(1)?;
                 self.shadows.apply(access)?;
             }
         }
         match self.queue.pop() {
             None => unreachable!(),
-            Some(access) => self.received.push_reserved(access),
+            Some(access) => self.received.push(&access),
         }
         Ok(true)
     }

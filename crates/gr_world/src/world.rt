@@ -4,7 +4,7 @@
 //! lawful; what each worker received, followed by what is queued for it and what is on its way to it, are the accesses along
 //! the handled order that go to it.
 
-ghost use Rattle.std.specs.Prelude.{◌≡◌, ◌↔◌, ◌<◌, ◌+◌, IsTrue, IsFalse, IfOk, IfErr, OnOk, OnErr, length, replicate};
+ghost use Rattle.std.specs.Prelude.{◌≡◌, ◌≢◌, ◌↔◌, ◌<◌, ◌+◌, IsTrue, IsFalse, IfOk, IfErr, OnOk, OnErr, length, replicate};
 ghost use Rattle.gr_model.specs.declared.limits.TheConstants.{MOST_RECORDS};
 ghost use Rattle.gr_model.specs.Events.{IsEventOk, is_end};
 ghost use Rattle.std.specs.List.{sum_by};
@@ -123,12 +123,13 @@ impl<A: Allocator + Copy> World<A> {
     /// Makes a step.
     ///
     /// # Errors
-    /// The first of the causes of `StepError` that is there. Nothing is then changed.
+    /// The first of the causes of `StepError` that is there; a `Pass` takes no memory. Nothing is then changed.
     pub fn step(&mut self, step: Step) -> Result<(), StepError>
     where
         A: Clone,
         ensures step { OnOk result (IsStep self.old step self.new) }
         ensures err { IfErr result (IsRefusal self.old step) }
+        ensures pass { result ≡ Err StepError.Memory → step ≢ steps.Pass }
         ensures unchanged { OnErr result (self.new ≡ self.old) }
     {
         match step {
@@ -383,10 +384,11 @@ impl<A: Allocator> World<A> {
         Ok(())
     }
 
-    /// The access on its way goes to the queue of its word's worker.
+    /// The access on its way goes to the queue of its word's worker. It takes no memory.
     fn pass(&mut self) -> Result<(), StepError>
         ensures step { OnOk result (IsStep self.old steps.Pass self.new) }
         ensures err { IfErr result (IsRefusal self.old steps.Pass) }
+        ensures memory { result ≢ Err StepError.Memory }
         ensures unchanged { OnErr result (self.new ≡ self.old) }
     {
         let number = match &self.way {

@@ -1,28 +1,22 @@
 use Rattle.std.proofs.Common.{sym, ◌∙◌}
-use Rattle.gr_replay.proofs.Joining.{header_fails, same_group, other_launch, records_fail, one_stream, stream_fault_reads}
+use Rattle.gr_replay.proofs.Joining.{header_fails, same_group, other_launch, records_fail, one_stream}
 use Rattle.gr_replay.proofs.joined.read_stream.Goals as goal
 
 pub returns-in-Err-clause-exact : goal.returns-in-Err-clause-exact
-returns-in-Err-clause-exact g c = rw c.of_stream.ensures (header_fails c.args.streams.now c.args.bytes.now _ c.in-Err.ensures)
+returns-in-Err-clause-exact g c = rw c.of_stream.ensures.exact (header_fails c.args.streams.now c.args.bytes.now _ c.in-Err.ensures.exact)
 
 pub returns-then-has_group-clause-exact : goal.returns-then-has_group-clause-exact
-returns-then-has_group-clause-exact g c = same_group c.args.streams.now c.args.bytes.now _ _ c.in-Ok.ensures (sym c.has_group.ensures ∙ c.if-has_group.true)
+returns-then-has_group-clause-exact g c = same_group c.args.streams.now c.args.bytes.now _ _ c.in-Ok.ensures.exact (sym c.has_group.ensures ∙ c.if-has_group.true)
 
 pub returns-then-has_other_launch-clause-exact : goal.returns-then-has_other_launch-clause-exact
 returns-then-has_other_launch-clause-exact g c =
-    other_launch c.args.streams.now c.args.bytes.now _ _ c.in-Ok.ensures (sym c.has_group.ensures ∙ c.if-has_group.false) (sym c.has_other_launch.ensures ∙ c.if-has_other_launch.true)
+    other_launch c.args.streams.now c.args.bytes.now _ _ c.in-Ok.ensures.exact (sym c.has_group.ensures ∙ c.if-has_group.false) (sym c.has_other_launch.ensures ∙ c.if-has_other_launch.true)
 
 pub returns-in-Ok-read_front_records-clause-exact : goal.returns-in-Ok-read_front_records-clause-exact
 returns-in-Ok-read_front_records-clause-exact g c =
-    one_stream c.args.streams.now c.args.bytes.now _ _ c.in-Ok.ensures (sym c.has_group.ensures ∙ c.if-has_group.false) (sym c.has_other_launch.ensures ∙ c.if-has_other_launch.false) _ _ c.in-Ok-read_front_records.ensures
+    one_stream c.args.streams.now c.args.bytes.now _ _ c.in-Ok.ensures.exact (sym c.has_group.ensures ∙ c.if-has_group.false) (sym c.has_other_launch.ensures ∙ c.if-has_other_launch.false) _ _ c.in-Ok-read_front_records.ensures
 
 pub returns-in-Err-read_front_records-clause-exact : goal.returns-in-Err-read_front_records-clause-exact
 returns-in-Err-read_front_records-clause-exact g c =
-    rw c.of_stream-in-Err-read_front_records.ensures
-    (records_fail c.args.streams.now c.args.bytes.now _ _ c.in-Ok.ensures (sym c.has_group.ensures ∙ c.if-has_group.false) (sym c.has_other_launch.ensures ∙ c.if-has_other_launch.false) _ c.in-Err-read_front_records.ensures)
-
-pub returns-in-Err-clause-reading : goal.returns-in-Err-clause-reading
-returns-in-Err-clause-reading g c = rw c.of_stream.ensures (stream_fault_reads _ _)
-
-pub returns-in-Err-read_front_records-clause-reading : goal.returns-in-Err-read_front_records-clause-reading
-returns-in-Err-read_front_records-clause-reading g c = rw c.of_stream-in-Err-read_front_records.ensures (stream_fault_reads _ _)
+    rw c.of_stream-in-Err-read_front_records.ensures.exact
+    (records_fail c.args.streams.now c.args.bytes.now _ _ c.in-Ok.ensures.exact (sym c.has_group.ensures ∙ c.if-has_group.false) (sym c.has_other_launch.ensures ∙ c.if-has_other_launch.false) _ c.in-Err-read_front_records.ensures)

@@ -14,7 +14,7 @@ pub returns-in_err-stream : goal.returns-in_err-stream
 returns-in_err-stream g c =
     let p = err_from_is_err_and c.from_residual.result c.from_residual.ensures.1 in
     let h = rw c.as_slice.ensures.value at c.in_err-stream.ensures.exact in
-    rw (p.1, p.2) (record { exact = stream_fails (flats c.loop.streams.items) (length c.args.bytes.now) c.loop.counter c.loop.rest.now _ c.loop.invariant c.loop-test.true (sym c.is_empty.ensures ∙ c.if-is_empty.false) _ h; good = tt; reading = c.in_err-stream.ensures.reading })
+    rw (p.1, p.2) (record { exact = stream_fails (flats c.loop.streams.items) (length c.args.bytes.now) c.loop.counter c.loop.rest.now _ c.loop.invariant c.loop-test.true (sym c.is_empty.ensures ∙ c.if-is_empty.false) _ h; good = tt; values = c.in_err-stream.ensures.values })
 
 pub loop-preserved : goal.loop-preserved
 loop-preserved g c =

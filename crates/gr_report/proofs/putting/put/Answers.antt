@@ -6,11 +6,11 @@ use Rattle.gr_report.proofs.putting.put.Goals as goal
 pub loop-rest-preserved : goal.loop-rest-preserved
 loop-rest-preserved g c = Front-more _ _ _ _ c.loop-rest.rest.now c.in-Ok.n c.loop-rest.invariant c.in-Ok.ensures.bytes
 
-pub returns-in-Err : goal.returns-in-Err
-returns-in-Err g c = puts_failed _ _ _ _ c.loop-rest.rest.now c.loop-rest.invariant c.in-Err.ensures.bytes
+pub returns-in-Err-clause-puts : goal.returns-in-Err-clause-puts
+returns-in-Err-clause-puts g c = puts_failed _ _ _ _ c.loop-rest.rest.now c.loop-rest.invariant c.in-Err.ensures.bytes
 
-pub returns-in-Ok-eq0 : goal.returns-in-Ok-eq0
-returns-in-Ok-eq0 g c = puts_some _ _ _ _ c.loop-rest.rest.now _ c.loop-rest.invariant c.in-Ok-eq0.ensures.bytes
+pub returns-in-Ok-eq0-clause-puts : goal.returns-in-Ok-eq0-clause-puts
+returns-in-Ok-eq0-clause-puts g c = puts_some _ _ _ _ c.loop-rest.rest.now _ c.loop-rest.invariant c.in-Ok-eq0.ensures.bytes
 
-pub returns : goal.returns
-returns g c = puts_whole _ _ _ c.loop-rest.rest.now (eqb-true _ _ (sym c.loop-rest-test.ensures)) c.loop-rest.invariant
+pub returns-clause-puts : goal.returns-clause-puts
+returns-clause-puts g c = puts_whole _ _ _ c.loop-rest.rest.now (eqb-true _ _ (sym c.loop-rest-test.ensures)) c.loop-rest.invariant

@@ -5,4 +5,4 @@ pub returns-in_err-put_field : goal.returns-in_err-put_field
 returns-in_err-put_field g c = puts_err _ c.from_residual.ensures.0 (puts_more _ c.in_err-put_field.ensures)
 
 pub returns : goal.returns
-returns g c = puts_then c.in_ok-put_field.ensures c.put.ensures
+returns g c = puts_then c.in_ok-put_field.ensures c.put.ensures.puts

@@ -11,4 +11,4 @@ pub returns-in_err-put_field-3 : goal.returns-in_err-put_field-3
 returns-in_err-put_field-3 g c = puts_err _ c.from_residual-in_err-put_field-3.ensures.0 (puts_more _ (puts_then (puts_then c.in_ok-put_field.ensures c.in_ok-put_field-2.ensures) c.in_err-put_field-3.ensures))
 
 pub returns : goal.returns
-returns g c = puts_then (puts_then (puts_then c.in_ok-put_field.ensures c.in_ok-put_field-2.ensures) c.in_ok-put_field-3.ensures) (rw c.end_of_unmatched.ensures at c.put.ensures)
+returns g c = puts_then (puts_then (puts_then c.in_ok-put_field.ensures c.in_ok-put_field-2.ensures) c.in_ok-put_field-3.ensures) (rw c.end_of_unmatched.ensures at c.put.ensures.puts)

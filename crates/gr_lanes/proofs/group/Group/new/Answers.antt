@@ -1,12 +1,13 @@
-use Rattle.std.proofs.Common.{◌∙◌, ◌+◌, ◌++◌, ◌∷◌, ℕ, length, ap, arith, sym, subst, []}
+use Rattle.std.proofs.Common.{◌∙◌, ◌+◌, ◌++◌, ◌∷◌, ℕ, length, ap, arith, sym, subst, refl, None, []}
 use Rattle.std.proofs.lemmas.List.{length_push}
-use Rattle.gr_lanes.specs.Indices.{AreIndices}
+use Rattle.gr_lanes.specs.Indices.{IsKept}
 use Rattle.gr_lanes.proofs.IndexLemmas.{no_events, one_lane_more}
 use Rattle.gr_lanes.proofs.group.Group.new.Goals as goal
 
 pub invariant_of-result : goal.invariant_of-result
 invariant_of-result g c =
-    subst (AreIndices c.loop-item.lanes.items) (sym c.new-list.ensures.items) (no_events c.loop-item.lanes.items (λ i within. c.loop-item.invariant.none i (omega arith)))
+    let indices = no_events c.loop-item.lanes.items (λ i within. c.loop-item.invariant.none i (omega arith)) in
+    subst (λ l. IsKept c.loop-item.lanes.items l 0 None) (sym c.new-list.ensures) (record { indices = indices; count = refl; ending = refl })
 
 pub loop-item-preserved : goal.loop-item-preserved
 loop-item-preserved g c =

@@ -8,5 +8,5 @@ use Rattle.gr_lanes.proofs.group.Group.release_at.Goals as goal
 
 pub returns-in-None : goal.returns-in-None
 returns-in-None g c =
-    lacks_places c.self.inside.lanes.items c.self.inside.list.items c.self.invariant c.deref.result.now c.deref.ensures.value c.args.item c.from.result c.from.ensures c.in-None.ensures.lookup.0 is_release c.args.number
+    lacks_places c.self.inside.lanes.items c.self.inside.list c.self.invariant.indices c.deref.result.now c.deref.ensures.value c.args.item c.from.result c.from.ensures c.in-None.ensures.lookup.0 is_release c.args.number
     ∙ ap (λ (v : GroupList). slice_get (places_from is_release 0 (filter (is_of c.args.item) v.list)) c.args.number) c.self.view_is

@@ -2,43 +2,34 @@ use Rattle.std.proofs.Common.{◌-◌, arith, subst, sym}
 use Rattle.gr_model.specs.Shapes.{HasItem}
 use Rattle.gr_steps.specs.Steps.{IsReady}
 use Rattle.gr_order.specs.Sequences.{Sequence}
-use Rattle.gr_order.specs.States.{IsState}
 use Rattle.gr_order.proofs.HeldLemmas.{ready_can_count, ready_is_held}
 use Rattle.gr_order.proofs.StateLemmas.{after_handle, item_there}
 use Rattle.gr_order.proofs.order.Order.add.Goals as goal
 
-pub push_reserved-requires : goal.push_reserved-requires
-push_reserved-requires g c =
-    let q : Sequence = record { taken = c.self.inside.lanes; handled = c.self.inside.handled.items } in
-    let ready = subst (λ (v : Sequence). IsReady v.taken v.handled c.args.event) (sym c.self.view_is) c.requires in
-    let held = ready_is_held q c.self.inside.frontier c.self.inside.held _ c.self.invariant c.args.event ready in
-    omega (arith, held.1, c.self.inside.handled.ok.0)
-
 pub raise-requires-clause-item : goal.raise-requires-clause-item
 raise-requires-clause-item g c =
-    let q : Sequence = record { taken = c.self.inside.lanes; handled = c.self.inside.handled.items } in
+    let q : Sequence = record { taken = c.self.inside.lanes; handled = c.self.inside.handled } in
     let ready = subst (λ (v : Sequence). IsReady v.taken v.handled c.args.event) (sym c.self.view_is) c.requires in
-    subst (λ sizes. HasItem sizes c.args.event.at) (sym c.self.invariant.shape) (item_there q c.self.inside.frontier c.self.inside.held _ c.self.invariant c.args.event ready)
+    subst (λ sizes. HasItem sizes c.args.event.at) (sym c.self.invariant.shape) (item_there q c.self.inside.frontier c.self.inside.held c.self.invariant c.args.event ready)
 
 pub raise-requires-clause-room : goal.raise-requires-clause-room
 raise-requires-clause-room g c =
-    let q : Sequence = record { taken = c.self.inside.lanes; handled = c.self.inside.handled.items } in
+    let q : Sequence = record { taken = c.self.inside.lanes; handled = c.self.inside.handled } in
     let ready = subst (λ (v : Sequence). IsReady v.taken v.handled c.args.event) (sym c.self.view_is) c.requires in
-    ready_can_count q c.self.inside.frontier c.self.inside.held _ c.self.invariant c.args.event ready
+    ready_can_count q c.self.inside.frontier c.self.inside.held c.self.invariant c.args.event ready
 
 pub overflow_sub-self : goal.overflow_sub-self
 overflow_sub-self g c =
-    let q : Sequence = record { taken = c.self.inside.lanes; handled = c.self.inside.handled.items } in
+    let q : Sequence = record { taken = c.self.inside.lanes; handled = c.self.inside.handled } in
     let ready = subst (λ (v : Sequence). IsReady v.taken v.handled c.args.event) (sym c.self.view_is) c.requires in
-    (ready_is_held q c.self.inside.frontier c.self.inside.held _ c.self.invariant c.args.event ready).0
+    ready_is_held q c.self.inside.frontier c.self.inside.held c.self.invariant c.args.event ready
 
 pub invariant_of-self : goal.invariant_of-self
 invariant_of-self g c =
-    let q : Sequence = record { taken = c.self.inside.lanes; handled = c.self.inside.handled.items } in
+    let q : Sequence = record { taken = c.self.inside.lanes; handled = c.self.inside.handled } in
     let ready = subst (λ (v : Sequence). IsReady v.taken v.handled c.args.event) (sym c.self.view_is) c.requires in
-    let held = (ready_is_held q c.self.inside.frontier c.self.inside.held _ c.self.invariant c.args.event ready).0 in
-    subst (λ n. IsState (record { taken = c.self.inside.lanes; handled = c.push_reserved.new.self.items }) c.raise.new.self (c.self.inside.held - 1) n) (sym c.push_reserved.ensures.capacity)
-    (after_handle q c.self.inside.frontier c.self.inside.held _ c.self.invariant c.args.event ready c.raise.new.self c.push_reserved.new.self.items (c.self.inside.held - 1) c.raise.ensures c.push_reserved.ensures.items (omega (arith, held)))
+    let held = ready_is_held q c.self.inside.frontier c.self.inside.held c.self.invariant c.args.event ready in
+    after_handle q c.self.inside.frontier c.self.inside.held c.self.invariant c.args.event ready c.raise.new.self c.push.new.self (c.self.inside.held - 1) c.raise.ensures c.push.ensures (omega (arith, held))
 
 pub returns-clause-sequence : goal.returns-clause-sequence
 returns-clause-sequence g c = (invariant_of-self g c).sequence

@@ -2,4 +2,4 @@ use Rattle.gr_order.proofs.StateLemmas.{new_state}
 use Rattle.gr_order.proofs.order.Order.new.Goals as goal
 
 pub invariant_of-result : goal.invariant_of-result
-invariant_of-result g c = new_state c.args.shape c.in_ok-lanes.lanes c.in_ok-lanes.ensures.nothing c.in_ok-lanes.ensures.fronts c.in-Ok.clock c.in-Ok.ensures.zero c.new-handled.result.items c.new-handled.ensures.items _
+invariant_of-result g c = new_state c.args.shape c.in_ok-lanes.lanes c.in_ok-lanes.ensures.nothing c.in_ok-lanes.ensures.fronts c.in-Ok.clock c.in-Ok.ensures.zero c.new-handled.result c.new-handled.ensures

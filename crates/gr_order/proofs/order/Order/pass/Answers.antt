@@ -1,53 +1,43 @@
 use Rattle.std.proofs.Common.{◌≡◌, ◌∙◌, ◌-◌, ℕ, List, ap, arith, get_or, subst, sym}
-use Rattle.std.specs.Prelude.{vec_capacity}
 use Rattle.gr_model.specs.Streams.{size_of}
 use Rattle.gr_steps.specs.Steps.{CanMeet}
 use Rattle.gr_order.specs.Sequences.{Sequence}
-use Rattle.gr_order.specs.States.{IsState}
 use Rattle.gr_order.proofs.PassLemmas.{Passing, barriers_are_held, below_largest, meets_behind, state_behind}
 use Rattle.gr_order.proofs.order.Order.pass.Given as given
 use Rattle.gr_order.proofs.order.Order.pass.Goals as goal
 
-pub add_next_events-requires : goal.add_next_events-requires
-add_next_events-requires g c =
-    let q : Sequence = record { taken = c.self.inside.lanes; handled = c.self.inside.handled.items } in
-    let can = subst (λ (v : Sequence). CanMeet v.taken v.handled c.args.group) (sym c.self.view_is) c.requires in
-    let size : c.items-size.result ≡ size_of c.self.inside.lanes c.args.group = c.items-size.ensures.size ∙ ap (λ (l : List ℕ). get_or l c.args.group 0) c.shape.ensures.sizes in
-    let held = barriers_are_held q c.self.inside.frontier c.self.inside.held _ c.self.invariant c.args.group can.0 can.1 can.2 in
-    omega (arith, size, held.1, c.self.inside.handled.ok.0)
-
 pub count_next_events-requires-clause-room : goal.count_next_events-requires-clause-room
 count_next_events-requires-clause-room g c =
-    let q : Sequence = record { taken = c.self.inside.lanes; handled = c.self.inside.handled.items } in
+    let q : Sequence = record { taken = c.self.inside.lanes; handled = c.self.inside.handled } in
     let can = subst (λ (v : Sequence). CanMeet v.taken v.handled c.args.group) (sym c.self.view_is) c.requires in
     let size : c.items-size.result ≡ size_of c.self.inside.lanes c.args.group = c.items-size.ensures.size ∙ ap (λ (l : List ℕ). get_or l c.args.group 0) c.shape.ensures.sizes in
-    λ k lt. below_largest q c.self.inside.frontier c.self.inside.held _ c.self.invariant c.args.group can.0 can.1 can.2 k (omega (arith, size, lt))
+    λ k lt. below_largest q c.self.inside.frontier c.self.inside.held c.self.invariant c.args.group can.0 can.1 can.2 k (omega (arith, size, lt))
 
 pub overflow_sub-self : goal.overflow_sub-self
 overflow_sub-self g c =
-    let q : Sequence = record { taken = c.self.inside.lanes; handled = c.self.inside.handled.items } in
+    let q : Sequence = record { taken = c.self.inside.lanes; handled = c.self.inside.handled } in
     let can = subst (λ (v : Sequence). CanMeet v.taken v.handled c.args.group) (sym c.self.view_is) c.requires in
     let size : c.items-size.result ≡ size_of c.self.inside.lanes c.args.group = c.items-size.ensures.size ∙ ap (λ (l : List ℕ). get_or l c.args.group 0) c.shape.ensures.sizes in
-    let held = barriers_are_held q c.self.inside.frontier c.self.inside.held _ c.self.invariant c.args.group can.0 can.1 can.2 in
-    omega (arith, size, held.0, c.from.ensures)
+    let held = barriers_are_held q c.self.inside.frontier c.self.inside.held c.self.invariant c.args.group can.0 can.1 can.2 in
+    omega (arith, size, held, c.from.ensures)
 
 -- the order and the clock at hand
-at_hand : (g : given.Over) (c : goal.After-self-1 g) → Passing (record { taken = c.self.inside.lanes; handled = c.self.inside.handled.items }) c.self.inside.frontier c.self.inside.held (vec_capacity c.self.inside.handled) c.args.group c.items-size.result c.add_next_events.new.handled.items c.count_next_events.new.frontier (c.self.inside.held - c.from.result)
+at_hand : (g : given.Over) (c : goal.After-self-1 g) → Passing (record { taken = c.self.inside.lanes; handled = c.self.inside.handled }) c.self.inside.frontier c.self.inside.held c.args.group c.items-size.result c.add_next_events.new.handled c.count_next_events.new.frontier (c.self.inside.held - c.from.result)
 at_hand g c =
-    let q : Sequence = record { taken = c.self.inside.lanes; handled = c.self.inside.handled.items } in
+    let q : Sequence = record { taken = c.self.inside.lanes; handled = c.self.inside.handled } in
     let can = subst (λ (v : Sequence). CanMeet v.taken v.handled c.args.group) (sym c.self.view_is) c.requires in
     let size : c.items-size.result ≡ size_of c.self.inside.lanes c.args.group = c.items-size.ensures.size ∙ ap (λ (l : List ℕ). get_or l c.args.group 0) c.shape.ensures.sizes in
-    let held = barriers_are_held q c.self.inside.frontier c.self.inside.held _ c.self.invariant c.args.group can.0 can.1 can.2 in record {
+    let held = barriers_are_held q c.self.inside.frontier c.self.inside.held c.self.invariant c.args.group can.0 can.1 can.2 in record {
       state = c.self.invariant;
       can = can;
       size = size;
-      added = c.add_next_events.ensures.items;
+      added = c.add_next_events.ensures;
       ticks = c.count_next_events.ensures;
-      rest = omega (arith, size, held.0, c.from.ensures);
+      rest = omega (arith, size, held, c.from.ensures);
     }
 
 pub invariant_of-self : goal.invariant_of-self
-invariant_of-self g c = subst (λ n. IsState (record { taken = c.self.inside.lanes; handled = c.add_next_events.new.handled.items }) c.count_next_events.new.frontier (c.self.inside.held - c.from.result) n) (sym c.add_next_events.ensures.room) (state_behind (at_hand g c))
+invariant_of-self g c = state_behind (at_hand g c)
 
 pub returns-clause-step : goal.returns-clause-step
 returns-clause-step g c = meets_behind (at_hand g c) c.args.self.now c.self.view_is

@@ -8,11 +8,11 @@ pub tick-requires : goal.tick-requires
 tick-requires g c =
     subst (λ sizes. HasItem sizes c.args.event.at) (sym c.in_ok-clock.ensures.shape) (has_item c.args.order.now.taken c.args.order.now.handled c.args.self.now c.args.event c.requires.next)
 
+pub returns-in-Ok-clause-counts : goal.returns-in-Ok-clause-counts
+returns-in-Ok-clause-counts g c =
+    gathered_sees c.args.order.now.taken c.args.order.now.handled c.args.self.now c.args.event c.requires.next (memory_of c.args.word) c.in_ok-clock.clock c.tick.new.self c.in_ok-clock.ensures.counts c.in-Ok.ensures.ok
+
 pub unreachable-requires : goal.unreachable-requires
 unreachable-requires g c =
-    let full = c.tick.ensures.spent.0 (c.in-Err.is ∙ ap Err c.in-Err.ensures.only) in
+    let full = c.tick.ensures.spent.0 (c.in-Err.is ∙ ap Err c.in-Spent.is) in
     gathered_room c.args.order.now.taken c.args.order.now.handled c.args.self.now c.args.event c.requires.next (memory_of c.args.word) c.in_ok-clock.clock c.in_ok-clock.ensures.counts full
-
-pub returns-clause-counts : goal.returns-clause-counts
-returns-clause-counts g c =
-    gathered_sees c.args.order.now.taken c.args.order.now.handled c.args.self.now c.args.event c.requires.next (memory_of c.args.word) c.in_ok-clock.clock c.tick.new.self c.in_ok-clock.ensures.counts c.in-Ok.ensures.ok

@@ -3,13 +3,14 @@ use Rattle.gr_model.specs.declared.event.Event.{Event}
 use Rattle.gr_model.specs.declared.event.EventId.{EventId}
 use Rattle.gr_model.specs.Access.{is_release}
 use Rattle.gr_model.specs.Streams.{event_at}
+use Rattle.gr_order.specs.Sequences.{HandlesEvent, Sequence}
 use Rattle.gr_sequencer.specs.Known.{AreLeft, IsKnown, IsLeftBy, IsNext, left_at}
 use Rattle.gr_sequencer.proofs.EventSteps.{left_longer}
 use Rattle.gr_sequencer.proofs.sequencer.Sequencer.handle.Goals as goal
 
 pub invariant_of-self-2 : goal.invariant_of-self-2
 invariant_of-self-2 g c =
-    let q = c.self.inside.order in
+    let q = c.order-order.result.now in
     let s = q.taken in
     let e = c.in-Some.event in
     let known = c.self.inside.known in
@@ -19,7 +20,7 @@ invariant_of-self-2 g c =
     let next : IsNext s q.handled known e = record {
       fronts = c.in-Some.ensures.sequence.fronts;
       lawful = c.in-Some.ensures.sequence.lawful;
-      follows = c.self.invariant;
+      follows = subst {A = Sequence} (λ p. IsKnown p.taken p.handled known) (sym c.order-order.ensures.order) c.self.invariant;
       ready = c.in-Some.ensures.next.1;
     } in
     let there : event_at s e ≡ Some c.in-Some-event_at.taken = ap (λ t. event_at t e) (sym c.lanes.ensures.taken) ∙ sym c.event_at.ensures ∙ c.in-Some-event_at.is in
@@ -27,5 +28,5 @@ invariant_of-self-2 g c =
     let same : x ≡ c.in-Some-event_at.taken = let both : Some x ≡ Some c.in-Some-event_at.taken = sym at ∙ there in cc in
     c.in_ok-keep.ensures.kept (subst (λ y. IsTrue (is_release y)) same releases) in
     let left = subst (AreLeft s longer) (sym c.advance.ensures.left) (left_longer s q.handled known e next kept.left c.keep.ensures.others own) in
-    let step = c.add.ensures.step in
-    subst (λ t. IsKnown t c.add.new.self.handled now) (sym step.taken) (subst (λ l. IsKnown s l now) (sym step.handles.order) (record { clocks = c.advance.ensures.clocks; left = left }))
+    let step = subst {A = Sequence} (λ p. HandlesEvent p e c.add.new.self) (sym c.order-order.ensures.order) c.add.ensures.step in
+    subst (λ t. IsKnown t c.add.new.self.handled now) (sym step.taken) (subst (λ l. IsKnown s l now) (sym step.handles.order) (record { clocks = c.in_ok-advance.ensures.clocks; left = left }))

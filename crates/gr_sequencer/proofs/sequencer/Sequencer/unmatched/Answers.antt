@@ -1,14 +1,15 @@
-use Rattle.std.proofs.Common.{◌↔◌, ◌<◌, sym, subst}
+use Rattle.std.proofs.Common.{◌↔◌, ◌<◌, ◌∙◌, sym, subst}
 use Rattle.gr_model.specs.Waits.{IsGrounded}
 use Rattle.gr_clocks.specs.Counts.{count_of}
+use Rattle.gr_order.specs.Sequences.{Sequence}
 use Rattle.gr_steps.proofs.Resting.{rest_grounded}
 use Rattle.gr_steps.specs.Steps.{IsAtRest}
 use Rattle.gr_sequencer.proofs.sequencer.Sequencer.unmatched.Goals as goal
 
 pub unmatched-requires : goal.unmatched-requires
 unmatched-requires g c =
-    let q = c.self.inside.order in
-    let rest = subst (λ p. IsAtRest p.taken p.handled) (sym c.self.view_is) c.requires.rest in
+    let q = c.order-order.result.now in
+    let rest = subst {A = Sequence} (λ p. IsAtRest p.taken p.handled) (sym (c.order-order.ensures.order ∙ c.self.view_is)) c.requires.rest in
     let grounded = rest_grounded q.taken q.handled c.lanes.ensures.sequence.lawful rest in
     record {
       grounded = λ e.

@@ -1,11 +1,11 @@
-use Rattle.std.proofs.Common.{Some, cond, sym, ap, ◌∙◌}
+use Rattle.std.proofs.Common.{Some, cond, sym, ap, ◌∙◌, subst}
 use Rattle.std.specs.Prelude.{is_some, unwrap_or}
 use Rattle.std.specs.Map.{lookup}
 use Rattle.std.specs.Option.{option_copied_mut}
 use Rattle.std.proofs.lemmas.Result.{on_ok_weaker, on_err_weaker, IfOk-weaker}
 use Rattle.std.proofs.lemmas.Map.Steps.{set_value_same}
 use Rattle.gr_clocks.specs.ClockedAccess.{clocked}
-use Rattle.gr_shadow.specs.Kept.{no_shadow, is_first_hit, shadow_after, Kept, same_word}
+use Rattle.gr_shadow.specs.Kept.{WordShadow, no_shadow, is_first_hit, IsShadowAfter, Kept, same_word}
 use Rattle.gr_shadow.proofs.MapLemmas.{after_write, after_insert}
 use Rattle.gr_shadow.proofs.shadows.Shadows.note.Goals as goal
 
@@ -33,5 +33,5 @@ pub returns-in_ok-insert-in-None-clause-kept : goal.returns-in_ok-insert-in-None
 returns-in_ok-insert-in-None-clause-kept g c =
     let y = clocked c.args.access.now in
     let absent = sym c.get_mut.ensures.value ∙ ap option_copied_mut c.in-None.is in
-    let after = c.in_ok-hit-in-None.ensures.shadow ∙ ap (λ s. shadow_after s y) c.new-shadow.ensures in
+    let after = subst (λ (s : WordShadow). IsShadowAfter s y c.add-in-None.new.self) c.new-shadow.ensures c.in_ok-hit-in-None.ensures.shadow in
     after_insert c.self.inside.words.entries _ y _ c.insert.new.self.entries c.self.view_is absent after (λ w. c.in_ok-insert-in-None.ensures.updates.0 w ∙ ap (λ m. cond (same_word y.word w) (Some c.add-in-None.new.self) (lookup (same_word w) m.entries)) c.get_mut.follows.holds-at-none)

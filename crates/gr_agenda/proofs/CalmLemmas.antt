@@ -1,0 +1,81 @@
+-- An item that stands at a barrier can go on exactly where the barrier's instance is divergent; and which instances stay as they are.
+use Rattle.std.proofs.Common.{◌≡◌, ◌<◌, ℕ, List, Bool, true, false, None, Some, Option, length, slice_get, refl, sym, ap, ◌∙◌, subst, ⊎_elim}
+use Rattle.std.specs.Prelude.{slice_index_or, slice_set}
+use Rattle.std.proofs.lemmas.Bool.{cases_eq}
+use Rattle.std.proofs.lemmas.List.{get_or-set_same, get_or-set_other, length-set}
+use Rattle.std.proofs.lemmas.Option.{get_or_from_slice_get, slice_get-get_or, slice_get_within}
+use Rattle.gr_model.specs.declared.event.Event.{Event}
+use Rattle.gr_model.specs.declared.event.EventId.{EventId}
+use Rattle.gr_model.specs.declared.event.ItemId.{ItemId}
+use Rattle.gr_model.specs.Barriers.{IsDivergent, is_barrier}
+use Rattle.gr_model.specs.Events.{is_end}
+use Rattle.gr_model.specs.Streams.{Streams, event_at, place_of}
+use Rattle.gr_clocks.specs.Counts.{count_of}
+use Rattle.gr_lanes.specs.Takes.{CanTake, with_record}
+use Rattle.gr_steps.specs.Steps.{CanHandle}
+use Rattle.gr_steps.proofs.EventRecords.{barriers_name_nothing}
+use Rattle.gr_order.specs.Sequences.{IsSequence, Sequence, taking}
+use Rattle.gr_order.proofs.ReadyLemmas.{only_next, passes_if, ready_if, stands_there}
+use Rattle.gr_agenda.specs.Kept.{AreCalm, IsNextBarrier, IsUnsettled}
+use Rattle.gr_agenda.proofs.KeptLemmas.{passes_there}
+use Rattle.gr_agenda.proofs.TakeFrames.{divergent_was, other_divergent}
+
+module _ (q : Sequence) (is : IsSequence q) (i : ItemId) (k : ℕ) (next : IsNextBarrier q i k) where
+  abbrev e : EventId
+  e = record { at = i; index = count_of next.0 i }
+
+  there : (x : Event) × (event_at q.taken e ≡ Some x) × (is_barrier x ≡ true)
+  there = passes_there q.taken is_barrier e k next.2
+
+  pub calm_if : ¬ CanHandle q.taken q.handled i → ¬ IsDivergent q.taken i.group k
+  calm_if stuck divergent = stuck (
+    e,
+    refl,
+    ready_if q.taken q.handled is.lawful next.0 next.1 e refl there.0 there.1
+        (λ n named. absurd (barriers_name_nothing q.taken is.fronts e there.0 n there.1 there.2 named))
+        (passes_if q.taken is.fronts e there.0 there.1 k next.2 divergent),
+  )
+
+  pub calm_only : ¬ IsDivergent q.taken i.group k → ¬ CanHandle q.taken q.handled i
+  calm_only calm can = calm ((only_next q.taken q.handled is.lawful next.0 next.1 e refl can).instance i.group k (stands_there q.taken is.fronts e there.0 there.1 k next.2))
+
+-- ---- a record is taken
+
+module _ (q q2 : Sequence) (is : IsSequence q) (g : ℕ) (x : Event) (can : CanTake q.taken g x) (took : q2 ≡ taking q g x) (calm : List (Option ℕ)) (are : AreCalm q.taken calm) where
+  pub calm_wide : (new : List (Option ℕ)) → IsUnsettled calm g new → AreCalm q2.taken new
+  calm_wide new unsettled h k told divergent = ⊎_elim
+      (λ (same : h ≡ g). unsettled.none k (ap (slice_get new) (sym same) ∙ told))
+      (λ (apart : h ≡ g → ⊥). are h k (unsettled.others h k told) (other_divergent q.taken g x is.fronts can h k apart (subst (λ (p : Sequence). IsDivergent p.taken h k) took divergent)))
+      (cases_eq h g)
+
+  pub calm_own : is_barrier x ≡ false → is_end x ≡ false → AreCalm q2.taken calm
+  calm_own plain ends h k told divergent = are h k told (divergent_was q.taken g x is.fronts can plain ends h k (subst (λ (p : Sequence). IsDivergent p.taken h k) took divergent))
+
+-- ---- which are told
+
+module _ {X : Type 0} (xs : List X) (n : ℕ) (v : X) where
+  set_here : n < length xs → slice_get (slice_set xs n v) n ≡ Some v
+  set_here lt = slice_get-get_or (slice_set xs n v) n v (subst (λ m. n < m) (sym (length-set xs n v)) lt) ∙ ap Some (get_or-set_same xs n v v lt)
+
+  set_else : (h : ℕ) (y : X) → (h ≡ n → ⊥) → slice_get (slice_set xs n v) h ≡ Some y → slice_get xs h ≡ Some y
+  set_else h y apart at =
+      let within : h < length (slice_set xs n v) = slice_get_within (slice_set xs n v) h y at in
+      slice_get-get_or xs h y (subst (λ m. h < m) (length-set xs n v) within)
+      ∙ (ap Some (sym (get_or-set_other xs n h v y apart)) ∙ (sym (slice_get-get_or (slice_set xs n v) h y within) ∙ at))
+
+-- one more is told
+pub calm_set : (s : Streams) (calm : List (Option ℕ)) (g n : ℕ) → AreCalm s calm → g < length calm → ¬ IsDivergent s g n → AreCalm s (slice_set calm g (Some n))
+calm_set s calm g n are lt not_divergent h k told = ⊎_elim
+    (λ (same : h ≡ g).
+    let both : Some (Some n) ≡ Some (Some k) = sym (set_here calm g (Some n) lt) ∙ (ap (slice_get (slice_set calm g (Some n))) (sym same) ∙ told) in
+    let is : n ≡ k = cc in
+    λ (divergent : IsDivergent s h k). not_divergent (subst (λ m. IsDivergent s g m) (sym is) (subst (λ m. IsDivergent s m k) same divergent)))
+    (λ (apart : h ≡ g → ⊥). are h k (set_else calm g (Some n) h (Some k) apart told))
+    (cases_eq h g)
+
+-- none is told
+pub calm_none : (s : Streams) (calm : List (Option ℕ)) (n : ℕ) → length calm ≡ n → ((h : ℕ) (o : Option ℕ) → h < n → slice_index_or calm h o ≡ None) → AreCalm s calm
+calm_none s calm n count none h k told divergent =
+    let within : h < length calm = slice_get_within calm h (Some k) told in
+    let here : slice_index_or calm h (Some k) ≡ Some k = get_or_from_slice_get calm h (Some k) (Some k) told in
+    let clash : None ≡ Some k = sym (none h (Some k) (subst (λ m. h < m) count within)) ∙ here in cc

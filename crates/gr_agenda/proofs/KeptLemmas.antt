@@ -1,0 +1,277 @@
+-- The list of steps has all that is ready, behind each step and each record.
+use Rattle.std.proofs.Common.{option_and_then, filter, ◌≡◌, ◌⊎◌, ◌+◌, ◌<◌, ℕ, List, [], ◌∷◌, ◌++◌, Bool, true, false, Some, None, Vec, slice_get, zero, suc, length, refl, sym, ap, ◌∙◌, subst, inl, inr, ⊎_elim, arith, is_some}
+use Rattle.std.proofs.lemmas.Bool.{cases_eq}
+use Rattle.gr_model.specs.declared.event.Event.{Event}
+use Rattle.gr_model.specs.declared.event.EventId.{EventId}
+use Rattle.gr_model.specs.declared.event.ItemId.{ItemId}
+use Rattle.gr_model.specs.declared.event.Kind.{Kind}
+use Rattle.gr_model.specs.declared.event.Kind.TheVariants.{Read, Write, Load, Store, Rmw, Barrier, End}
+use Rattle.gr_model.specs.declared.event.Name.{Name}
+use Rattle.gr_model.specs.Access.{is_release, is_release_kind}
+use Rattle.gr_model.specs.Barriers.{StandsIn, is_barrier, mark_of_kind}
+use Rattle.gr_model.specs.LawfulOrders.{IsIn}
+use Rattle.gr_model.specs.Names.{HasName, release_place}
+use Rattle.gr_lanes.specs.Takes.{CanTake, nothing_taken, with_record}
+use Rattle.gr_model.specs.Streams.{AreFronts, IsEvent, Streams, event_at, is_of, list_of, place_of, size_of, trace_of}
+use Rattle.gr_model.proofs.Places.{places_from-there, slice_get-append}
+use Rattle.gr_steps.specs.Steps.{CanMeet, IsReady}
+use Rattle.gr_steps.proofs.BarrierPlaces.{barrier_of, barrier_there}
+use Rattle.gr_steps.proofs.EventRecords.{item_of_event}
+use Rattle.gr_steps.proofs.Orders.{split_last}
+use Rattle.gr_order.proofs.StateLemmas.{item_cases}
+use Rattle.gr_order.specs.declared.steps.Ready.{Ready}
+use Rattle.gr_order.specs.declared.steps.Ready.TheVariants.{Item, Group}
+use Rattle.gr_order.specs.Answers.{CanMake}
+use Rattle.gr_order.specs.Sequences.{HandlesEvent, IsSequence, MeetsInstance, Sequence, nothing, taking}
+use Rattle.gr_agenda.specs.Kept.{IsHeldUp, IsKept}
+use Rattle.gr_agenda.specs.Lists.{Has, IsWaiting, KeepsSteps, Steps}
+use Rattle.gr_model.specs.Events.{is_end}
+use Rattle.gr_agenda.proofs.TakeFrames.{Takes, ready_was, held_was as held_before, meets_was as meets_before, own_meets, takes_own, takes_wide}
+use Rattle.gr_agenda.proofs.Frames.{Adds, IsWoken, held_was, meets_was, ready_or_woken}
+
+-- the place of an event that passes a test is that of such an event
+pub passes_there : (s : Streams) (test : Event → Bool) (e : EventId) (k : ℕ) → place_of s test e.at k ≡ Some e.index → (x : Event) × (event_at s e ≡ Some x) × (test x ≡ true)
+passes_there s test e k place =
+    let h = places_from-there test 0 (trace_of s e.at) k e.index place in
+    (h.1, (let same : e.index ≡ h.0 = omega (arith, h.2) in ap (slice_get (trace_of s e.at)) same ∙ h.3), h.4)
+
+-- an event that has a name is there
+named_there : (s : Streams) (d : EventId) (n : Name) → HasName s d n → IsEvent s d
+named_there s d n named = elim (event_at s d) as (λ o. (event_at s d ≡ o) → IsEvent s d) [
+  | None ↦ λ none. absurd (let clash : None ≡ Some n = sym (ap (option_and_then (λ (x : Event). x.name)) none) ∙ named in cc)
+  | Some x ↦ λ at. (x, at)
+] refl
+
+-- a barrier is no release
+not_both : (kind : Kind) (word : ℕ) → is_some (mark_of_kind kind word) ≡ true → is_release_kind kind ≡ true → ⊥
+not_both Read word b r = cc
+not_both Write word b r = cc
+not_both (Load scope order) word b r = cc
+not_both (Store scope order) word b r = cc
+not_both (Rmw scope order) word b r = cc
+not_both (Barrier global local) word b r = cc
+not_both (End cut) word b r = cc
+
+-- ---- an event is handled
+
+module _ {Z : Type 0} (q : Sequence) (is : IsSequence q) (t t2 : Steps) (lists lists2 : List (Vec ItemId Z)) (kept : IsKept q t lists) (keeps : KeepsSteps t t2) where
+  abbrev s : Streams
+  s = q.taken
+
+  abbrev h : List EventId
+  h = q.handled
+
+  module _ (e : EventId) (ready : IsReady q.taken q.handled e) where
+    abbrev h2 : List EventId
+    h2 = h ++ e ∷ []
+
+    adds_event : Adds s h h2 (λ x. x ≡ e) (λ i. i ≡ e.at)
+    adds_event = record {
+      lawful = is.lawful;
+      old = λ x there. (there.0, slice_get-append h (e ∷ []) there.0 x there.1);
+      split = λ x there. ⊎_elim (λ was. inl (there.0, was)) (λ (last : (i : ℕ) × (there.0 ≡ length h + i) × (slice_get (e ∷ []) i ≡ Some x)). inr (only x last.0 last.2)) (split_last h (e ∷ []) there.0 x there.1);
+      fresh = λ x same there. ready.fresh (subst (IsIn h) same there);
+      touched = λ x same. ap (λ (y : EventId). y.at) same;
+    }
+      where
+        only : (x : EventId) (i : ℕ) → slice_get (e ∷ []) i ≡ Some x → x ≡ e
+        only x zero at = let same : e ≡ x = cc in sym same
+        only x (suc i) at = cc
+
+    module _ (item : Has t2 (Item e.at)) (group : CanMeet s h2 e.at.group → Has t2 (Group e.at.group))
+        (others : (n : Name) (i : ItemId) → IsWaiting lists n i → Has t2 (Item i) ⊎ IsWaiting lists2 n i)
+        (woken : (n : Name) → n.at ≡ e.at → release_place s n ≡ Some e.index → (i : ItemId) → IsWaiting lists n i → Has t2 (Item i)) where
+      event_woken : (d : EventId) → IsWoken s h (λ x. x ≡ e) d → Has t2 (Item d.at)
+      event_woken d w =
+          let at : w.name.at ≡ e.at = sym w.by.item ∙ ap (λ (y : EventId). y.at) w.new in
+          ⊎_elim
+          (λ (has : Has t (Item d.at)). keeps (Item d.at) has)
+          (λ (waits : IsWaiting lists w.name d.at). woken w.name at (w.by.place ∙ ap (λ (y : EventId). Some y.index) w.new) d.at waits)
+          (kept.waits d w.name w.held)
+
+      handled_ready : (r : Ready) → CanMake (record { taken = s; handled = h2 }) r → Has t2 r
+      handled_ready (Item i) (d, at, now) = ⊎_elim
+          (λ (same : i ≡ e.at). subst (λ j. Has t2 (Item j)) (sym same) item)
+          (λ (apart : i ≡ e.at → ⊥). ⊎_elim
+          (λ (was : IsReady s h d). keeps (Item i) (kept.ready (Item i) (d, at, was)))
+          (λ (w : IsWoken s h (λ x. x ≡ e) d). subst (λ j. Has t2 (Item j)) at (event_woken d w))
+          (ready_or_woken s h h2 (λ x. x ≡ e) (λ j. j ≡ e.at) adds_event d (λ same. apart (sym at ∙ same)) now))
+          (item_cases i e.at)
+      handled_ready (Group g) can = ⊎_elim
+          (λ (same : g ≡ e.at.group). subst (λ n. Has t2 (Group n)) (sym same) (group (subst (λ n. CanMeet s h2 n) same can)))
+          (λ (apart : g ≡ e.at.group → ⊥). keeps (Group g) (kept.ready (Group g) (meets_was s h h2 (λ x. x ≡ e) (λ j. j ≡ e.at) adds_event g (λ i own same. apart (sym own ∙ ap (λ (j : ItemId). j.group) same)) can)))
+          (cases_eq g e.at.group)
+
+      handled_waits : (d : EventId) (n : Name) → IsHeldUp s h2 d n → Has t2 (Item d.at) ⊎ IsWaiting lists2 n d.at
+      handled_waits d n held = ⊎_elim
+          (λ (same : d.at ≡ e.at). inl (subst (λ j. Has t2 (Item j)) (sym same) item))
+          (λ (apart : d.at ≡ e.at → ⊥). ⊎_elim
+          (λ (has : Has t (Item d.at)). inl (keeps (Item d.at) has))
+          (λ (waits : IsWaiting lists n d.at). others n d.at waits)
+          (kept.waits d n (held_was s h h2 (λ x. x ≡ e) (λ j. j ≡ e.at) adds_event d n apart held)))
+          (item_cases d.at e.at)
+
+      pub kept_handled : (q2 : Sequence) → HandlesEvent q e q2 → IsKept q2 t2 lists2
+      kept_handled q2 step =
+          let path : q2 ≡ record { taken = s; handled = h2 } = λ i. record { taken = step.taken i; handled = step.handles.order i } in
+          subst {A = Sequence} (λ p. IsKept p t2 lists2) (sym path) (record { ready = handled_ready; waits = handled_waits })
+
+  -- ---- an instance meets
+
+  module _ (g k : ℕ) (q2 : Sequence) (met : MeetsInstance q g k q2) (group : Has t2 (Group g)) (items : (i : ℕ) → i < size_of q.taken g → Has t2 (Item (record { group = g; item = i }))) where
+    abbrev met_list : List EventId
+    met_list = h ++ met.meets.barriers
+
+    abbrev New : EventId → Type 0
+    New x = IsIn met.meets.barriers x
+
+    new_stands : (x : EventId) → New x → StandsIn s x g k
+    new_stands x there = (met.meets.are.each there.0 x there.1).1
+
+    adds_barriers : Adds s h met_list New (λ i. i.group ≡ g)
+    adds_barriers = record {
+      lawful = is.lawful;
+      old = λ x there. (there.0, slice_get-append h met.meets.barriers there.0 x there.1);
+      split = λ x there. ⊎_elim (λ was. inl (there.0, was)) (λ (last : (i : ℕ) × (there.0 ≡ length h + i) × (slice_get met.meets.barriers i ≡ Some x)). inr (last.0, last.2)) (split_last h met.meets.barriers there.0 x there.1);
+      fresh = λ x new there. met.meets.meeting.fresh (x, new_stands x new, there);
+      touched = λ x new. (new_stands x new).group;
+    }
+
+    none_woken : (d : EventId) → IsWoken s h New d → ⊥
+    none_woken d w =
+        let barrier = barrier_there s w.release g k (new_stands w.release w.new) in
+        let release = passes_there s is_release w.release w.name.release (ap (λ i. place_of s is_release i w.name.release) w.by.item ∙ w.by.place) in
+        let same : release.0 ≡ barrier.0 = let both : Some release.0 ≡ Some barrier.0 = sym release.1 ∙ barrier.1 in cc in
+        not_both barrier.0.kind barrier.0.word barrier.2 (ap is_release (sym same) ∙ release.2)
+
+    own_item : (d : EventId) → IsEvent s d → d.at.group ≡ g → Has t2 (Item d.at)
+    own_item d there own =
+        let within : d.at.item < size_of s g = subst (λ n. d.at.item < size_of s n) own (item_of_event s is.fronts d there.0 there.1) in
+        let here : record { group = g; item = d.at.item } ≡ d.at = λ i. record { group = sym own i; item = d.at.item } in
+        subst (λ j. Has t2 (Item j)) here (items d.at.item within)
+
+    met_ready : (r : Ready) → CanMake (record { taken = s; handled = met_list }) r → Has t2 r
+    met_ready (Item i) (d, at, now) = ⊎_elim
+        (λ (own : d.at.group ≡ g). subst (λ j. Has t2 (Item j)) at (own_item d now.event own))
+        (λ (apart : d.at.group ≡ g → ⊥). ⊎_elim
+        (λ (was : IsReady s h d). keeps (Item i) (kept.ready (Item i) (d, at, was)))
+        (λ (w : IsWoken s h New d). absurd (none_woken d w))
+        (ready_or_woken s h met_list New (λ i. i.group ≡ g) adds_barriers d apart now))
+        (cases_eq d.at.group g)
+    met_ready (Group n) can = ⊎_elim
+        (λ (same : n ≡ g). subst (λ m. Has t2 (Group m)) (sym same) group)
+        (λ (apart : n ≡ g → ⊥). keeps (Group n) (kept.ready (Group n) (meets_was s h met_list New (λ i. i.group ≡ g) adds_barriers n (λ i own same. apart (sym own ∙ same)) can)))
+        (cases_eq n g)
+
+    met_waits : (d : EventId) (n : Name) → IsHeldUp s met_list d n → Has t2 (Item d.at) ⊎ IsWaiting lists n d.at
+    met_waits d n held = ⊎_elim
+        (λ (own : d.at.group ≡ g). inl (own_item d (named_there s d n held.named) own))
+        (λ (apart : d.at.group ≡ g → ⊥). ⊎_elim
+        (λ (has : Has t (Item d.at)). inl (keeps (Item d.at) has))
+        (λ (waits : IsWaiting lists n d.at). inr waits)
+        (kept.waits d n (held_was s h met_list New (λ i. i.group ≡ g) adds_barriers d n apart held)))
+        (cases_eq d.at.group g)
+
+    pub kept_met : IsKept q2 t2 lists
+    kept_met =
+        let path : q2 ≡ record { taken = s; handled = met_list } = λ i. record { taken = met.taken i; handled = met.meets.order i } in
+        subst {A = Sequence} (λ p. IsKept p t2 lists) (sym path) (record { ready = met_ready; waits = met_waits })
+
+-- a group that may meet behind an event of an item is put into the list
+pub meet_behind : (q : Sequence) → IsSequence q → (e : EventId) → IsReady q.taken q.handled e → (q2 : Sequence) → HandlesEvent q e q2 → (t : Steps)
+    → (CanMeet q2.taken q2.handled e.at.group → e.at.item < size_of q2.taken e.at.group → Has t (Group e.at.group))
+    → CanMeet q.taken (q.handled ++ e ∷ []) e.at.group → Has t (Group e.at.group)
+meet_behind q is e ready q2 step t there can =
+    let path : q2 ≡ record { taken = q.taken; handled = q.handled ++ e ∷ [] } = λ i. record { taken = step.taken i; handled = step.handles.order i } in
+    there
+    (subst {A = Sequence} (λ p. CanMeet p.taken p.handled e.at.group) (sym path) can)
+    (subst (λ (s : Streams). e.at.item < size_of s e.at.group) (sym step.taken) (item_of_event q.taken is.fronts e ready.event.0 ready.event.1))
+
+-- ---- a step is looked at that can't be made
+
+pub kept_looked : {Z : Type 0} (q : Sequence) (t t2 : Steps) (lists lists2 : List (Vec ItemId Z)) (step : Ready) → IsKept q t lists → ¬ CanMake q step
+    → ((r : Ready) → Has t r → (r ≡ step → ⊥) → Has t2 r)
+    → ((n : Name) (i : ItemId) → IsWaiting lists n i → IsWaiting lists2 n i)
+    → ((d : EventId) (n : Name) → IsHeldUp q.taken q.handled d n → Item d.at ≡ step → Has t2 (Item d.at) ⊎ IsWaiting lists2 n d.at)
+    → IsKept q t2 lists2
+kept_looked {Z} q t t2 lists lists2 step kept can't less more noted = record {
+  ready = λ r can. less r (kept.ready r can) (λ same. can't (subst (CanMake q) same can));
+  waits = λ d n held. ⊎_elim
+      (λ (same : Item d.at ≡ step). noted d n held same)
+      (λ apart. ⊎_elim
+      (λ (has : Has t (Item d.at)). inl (less (Item d.at) has apart))
+      (λ (waits : IsWaiting lists n d.at). inr (more n d.at waits))
+      (kept.waits d n held))
+      (step_cases d.at step);
+}
+  where
+    step_cases : (i : ItemId) (r : Ready) → (Item i ≡ r) ⊎ (Item i ≡ r → ⊥)
+    step_cases i (Item j) = ⊎_elim (λ (same : i ≡ j). inl (ap Item same)) (λ (apart : i ≡ j → ⊥). inr (λ same. apart (let is : i ≡ j = cc in is))) (item_cases i j)
+    step_cases i (Group g) = inr (λ same. cc)
+
+-- ---- nothing was taken
+
+none_listed : (sizes : List ℕ) (g : ℕ) → list_of (nothing_taken sizes) g ≡ []
+none_listed [] g = refl
+none_listed (n ∷ sizes) zero = refl
+none_listed (n ∷ sizes) (suc g) = none_listed sizes g
+
+none_there : (sizes : List ℕ) (e : EventId) → IsEvent (nothing_taken sizes) e → ⊥
+none_there sizes e there =
+    let none : event_at (nothing_taken sizes) e ≡ None = ap (λ (l : List Event). slice_get (filter (is_of e.at.item) l) e.index) (none_listed sizes e.at.group) in
+    let clash : None ≡ Some there.0 = sym none ∙ there.1 in cc
+
+pub kept_nothing : {Z : Type 0} (sizes : List ℕ) (q : Sequence) → q ≡ nothing sizes → (t : Steps) (lists : List (Vec ItemId Z)) → IsKept q t lists
+kept_nothing {Z} sizes q is t lists = subst {A = Sequence} (λ p. IsKept p t lists) (sym is) (record { ready = none_ready; waits = λ d n held. absurd (none_there sizes d (named_there (nothing_taken sizes) d n held.named)) })
+  where
+    none_ready : (r : Ready) → CanMake (nothing sizes) r → Has t r
+    none_ready (Item i) can = absurd (none_there sizes can.0 can.2.event)
+    none_ready (Group g) can =
+        let b = barrier_of (nothing_taken sizes) g can.0 can.1 can.2.convergent 0 can.2.convergent.0 in
+        let there = barrier_there (nothing_taken sizes) (record { at = record { group = g; item = 0 }; index = b.0 }) g can.0 b.1 in
+        absurd (none_there sizes (record { at = record { group = g; item = 0 }; index = b.0 }) (there.0, there.1))
+
+-- ---- a record is taken
+
+module _ {Z : Type 0} (q : Sequence) (t t2 : Steps) (lists : List (Vec ItemId Z)) (kept : IsKept q t lists) (keeps : KeepsSteps t t2) (g : ℕ) (x : Event) where
+  abbrev longer : Streams
+  longer = with_record q.taken g x
+
+  module _ (T : ItemId → Type 0) (takes : Takes q.taken longer q.handled T) (decided : (i : ItemId) → T i ⊎ (T i → ⊥)) (own_group : (i : ItemId) → T i → i.group ≡ g)
+      (items : (d : EventId) → IsEvent longer d → T d.at → Has t2 (Item d.at)) (group : CanMeet longer q.handled g → Has t2 (Group g)) where
+    taken_ready : (r : Ready) → CanMake (taking q g x) r → Has t2 r
+    taken_ready (Item i) (d, at, now) = ⊎_elim
+        (λ (own : T d.at). subst (λ j. Has t2 (Item j)) at (items d now.event own))
+        (λ (apart : T d.at → ⊥). keeps (Item i) (kept.ready (Item i) (d, at, ready_was q.taken longer q.handled T takes d apart now)))
+        (decided d.at)
+    taken_ready (Group n) can = ⊎_elim
+        (λ (same : n ≡ g). subst (λ m. Has t2 (Group m)) (sym same) (group (subst (λ m. CanMeet longer q.handled m) same can)))
+        (λ (apart : n ≡ g → ⊥). keeps (Group n) (kept.ready (Group n) (meets_before q.taken longer q.handled T takes n (λ i own there. apart (sym own ∙ own_group i there)) can)))
+        (cases_eq n g)
+
+    taken_waits : (d : EventId) (n : Name) → IsHeldUp longer q.handled d n → Has t2 (Item d.at) ⊎ IsWaiting lists n d.at
+    taken_waits d n held = ⊎_elim
+        (λ (own : T d.at). inl (items d (named_there longer d n held.named) own))
+        (λ (apart : T d.at → ⊥). ⊎_elim
+        (λ (has : Has t (Item d.at)). inl (keeps (Item d.at) has))
+        (λ (waits : IsWaiting lists n d.at). inr waits)
+        (kept.waits d n (held_before q.taken longer q.handled T takes d n apart held)))
+        (decided d.at)
+
+    kept_took : (q2 : Sequence) → q2 ≡ taking q g x → IsKept q2 t2 lists
+    kept_took q2 took = subst {A = Sequence} (λ p. IsKept p t2 lists) (sym took) (record { ready = taken_ready; waits = taken_waits })
+
+  module _ (is : IsSequence q) (can : CanTake q.taken g x) (q2 : Sequence) (took : q2 ≡ taking q g x) where
+    pub took_wide : Has t2 (Group g) → AreFronts q2.taken → ((i : ℕ) → i < size_of q2.taken g → Has t2 (Item (record { group = g; item = i }))) → IsKept q2 t2 lists
+    took_wide group fronts items = kept_took (λ i. i.group ≡ g) (takes_wide q.taken g x is.fronts can q.handled is.lawful) (λ i. cases_eq i.group g) (λ i own. own) each (λ can. group) q2 took
+      where
+        each : (d : EventId) → IsEvent longer d → d.at.group ≡ g → Has t2 (Item d.at)
+        each d there own =
+            let new : IsEvent q2.taken d = subst (λ (p : Sequence). IsEvent p.taken d) (sym took) there in
+            let within : d.at.item < size_of q2.taken g = subst (λ n. d.at.item < size_of q2.taken n) own (item_of_event q2.taken fronts d new.0 new.1) in
+            let here : record { group = g; item = d.at.item } ≡ d.at = λ i. record { group = sym own i; item = d.at.item } in
+            subst (λ j. Has t2 (Item j)) here (items d.at.item within)
+
+    pub took_own : is_barrier x ≡ false → is_end x ≡ false → Has t2 (Item (record { group = g; item = x.item })) → IsKept q2 t2 lists
+    took_own plain ends item = kept_took (λ i. i ≡ record { group = g; item = x.item }) (takes_own q.taken g x is.fronts can plain ends q.handled is.lawful) (λ i. item_cases i (record { group = g; item = x.item })) (λ i own. ap (λ (j : ItemId). j.group) own) (λ d there own. subst (λ j. Has t2 (Item j)) (sym own) item)
+        (λ meets. keeps (Group g) (kept.ready (Group g) (own_meets q.taken g x is.fronts can plain ends q.handled is.lawful meets))) q2 took

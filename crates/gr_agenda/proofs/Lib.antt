@@ -1,0 +1,6 @@
+pub mod Frames
+pub mod TakeFrames
+pub mod Named
+pub mod ListLemmas
+pub mod KeptLemmas
+pub mod CalmLemmas

@@ -1,0 +1,121 @@
+-- Elements of lists that grow and shrink at their end, and the lists of those that wait.
+use Rattle.std.proofs.Common.{◌≡◌, ◌⊎◌, ◌+◌, ◌<◌, ℕ, List, [], ◌∷◌, ◌++◌, Bool, true, Some, Vec, slice_get, zero, suc, length, refl, sym, ap, ◌∙◌, subst, inl, inr, ⊎_elim, arith}
+use Rattle.std.specs.Prelude.{slice_index_or, slice_set}
+use Rattle.std.proofs.lemmas.Bool.{cases_eq}
+use Rattle.std.proofs.lemmas.List.{get_or-set_same, get_or-set_other, length-set, length_push}
+use Rattle.std.proofs.lemmas.Option.{slice_get-get_or, slice_get_within}
+use Rattle.gr_model.specs.declared.event.ItemId.{ItemId}
+use Rattle.gr_model.specs.declared.event.Name.{Name}
+use Rattle.gr_model.proofs.Places.{slice_get-append}
+use Rattle.gr_steps.proofs.Orders.{at_behind, split_last}
+use Rattle.gr_order.specs.declared.steps.Ready.{Ready}
+use Rattle.gr_order.specs.declared.steps.Ready.TheVariants.{Item, Group}
+use Rattle.gr_agenda.specs.Lists.{AreMarked, Has, IsAmong, IsLast, IsPlace, IsWaiting, KeepsSteps, Steps, bucket_of}
+
+module _ {X : Type 0} (xs : List X) (x : X) where
+  pub among_more : (y : X) → IsAmong xs y → IsAmong (xs ++ x ∷ []) y
+  among_more y there = (there.0, slice_get-append xs (x ∷ []) there.0 y there.1)
+
+  pub among_last : IsAmong (xs ++ x ∷ []) x
+  among_last = (length xs + 0, at_behind xs (x ∷ []) 0 x refl)
+
+  pub among_cases : (y : X) → IsAmong (xs ++ x ∷ []) y → IsAmong xs y ⊎ (y ≡ x)
+  among_cases y there = ⊎_elim (λ was. inl (there.0, was)) (λ (last : (i : ℕ) × (there.0 ≡ length xs + i) × (slice_get (x ∷ []) i ≡ Some y)). inr (only last.0 last.2)) (split_last xs (x ∷ []) there.0 y there.1)
+    where
+      only : (i : ℕ) → slice_get (x ∷ []) i ≡ Some y → y ≡ x
+      only zero at = let same : x ≡ y = cc in sym same
+      only (suc i) at = cc
+
+pub at_index : {X : Type 0} (list : List X) (n p : ℕ) (d x : X) → n < length list → p ≡ n → slice_get list p ≡ Some x → slice_index_or list n d ≡ x
+at_index list n p d x lt same at = let both : Some (slice_index_or list n d) ≡ Some x = sym (slice_get-get_or list n d lt) ∙ (ap (slice_get list) (sym same) ∙ at) in cc
+
+-- ---- marks
+
+-- a step has one place, and at a place there is one step
+pub one_place : (r : Ready) (p n : ℕ) → IsPlace r p → IsPlace r n → p ≡ n
+one_place (Item i) p n a b = omega (arith, a.1, b.1)
+one_place (Group g) p n a b = omega (arith, a, b)
+
+pub one_step : (r o : Ready) (p : ℕ) → IsPlace r p → IsPlace o p → r ≡ o
+one_step (Item i) (Item j) p a b =
+    let groups : i.group ≡ j.group = omega (arith, a.0, a.1, b.0, b.1) in
+    let items : i.item ≡ j.item = omega (arith, a.0, a.1, b.0, b.1) in
+    λ k. Item (record { group = groups k; item = items k })
+one_step (Item i) (Group h) p a b = absurd (omega (arith, a.0, a.1, b))
+one_step (Group g) (Item j) p a b = absurd (omega (arith, b.0, b.1, a))
+one_step (Group g) (Group h) p a b = ap Group (let same : g ≡ h = omega (arith, a, b) in same)
+
+-- a step is put at the end and marked
+pub marked_more : (marks new : List Bool) (steps after : List Ready) (step : Ready) → AreMarked marks steps → after ≡ steps ++ step ∷ [] → ((p : ℕ) → slice_get new p ≡ Some true → IsPlace step p ⊎ (slice_get marks p ≡ Some true)) → AreMarked new after
+marked_more marks new steps after step are is each r p place at = ⊎_elim
+    (λ (here : IsPlace step p). let same : r ≡ step = one_step r step p place here in subst (λ l. IsAmong l r) (sym is) (subst (IsAmong (steps ++ step ∷ [])) (sym same) (among_last steps step)))
+    (λ (was : slice_get marks p ≡ Some true). subst (λ l. IsAmong l r) (sym is) (among_more steps step r (are r p place was)))
+    (each p at)
+
+-- the last step is taken away with its mark
+pub marked_less : (marks new : List Bool) (steps after : List Ready) (step : Ready) → AreMarked marks steps → steps ≡ after ++ step ∷ [] → ((p : ℕ) → IsPlace step p → slice_get new p ≡ Some true → ⊥) → ((p : ℕ) → slice_get new p ≡ Some true → slice_get marks p ≡ Some true) → AreMarked new after
+marked_less marks new steps after step are is here others r p place at = ⊎_elim
+    (λ (there : IsAmong after r). there)
+    (λ (same : r ≡ step). absurd (here p (subst (λ o. IsPlace o p) same place) at))
+    (among_cases after step r (subst (λ l. IsAmong l r) is (are r p place (others p at))))
+
+-- what stood there and is not the last one stands there still
+pub has_less : (t : Steps) (after : List Ready) (step : Ready) → t.steps ≡ after ++ step ∷ [] → (r : Ready) → Has t r → (IsLast t r → ⊥) → Has (record { steps = after; short = t.short }) r
+has_less t after step is r (inl short) apart = inl short
+has_less t after step is r (inr there) apart = ⊎_elim
+    (λ (still : IsAmong after r). inr still)
+    (λ (same : r ≡ step). absurd (apart (after, is ∙ ap (λ o. after ++ o ∷ []) (sym same))))
+    (among_cases after step r (subst (λ l. IsAmong l r) is there))
+
+pub has_more : (t : Steps) (after : List Ready) (step : Ready) → after ≡ t.steps ++ step ∷ [] → KeepsSteps t (record { steps = after; short = t.short })
+has_more t after step is r (inl short) = inl short
+has_more t after step is r (inr there) = inr (subst (λ l. IsAmong l r) (sym is) (among_more t.steps step r there))
+
+pub has_last : (t : Steps) (after : List Ready) (step : Ready) → after ≡ t.steps ++ step ∷ [] → Has (record { steps = after; short = t.short }) step
+has_last t after step is = inr (subst (λ l. IsAmong l step) (sym is) (among_last t.steps step))
+
+-- there is one last step
+pub one_last : (t : Steps) (r o : Ready) → IsLast t r → IsLast t o → r ≡ o
+one_last t r o a b =
+    let here : slice_get t.steps (length a.0 + 0) ≡ Some r = subst (λ (l : List Ready). slice_get l (length a.0 + 0) ≡ Some r) (sym a.1) (at_behind a.0 (r ∷ []) 0 r refl) in
+    let there : slice_get t.steps (length b.0 + 0) ≡ Some o = subst (λ (l : List Ready). slice_get l (length b.0 + 0) ≡ Some o) (sym b.1) (at_behind b.0 (o ∷ []) 0 o refl) in
+    let lengths : length a.0 + 1 ≡ length b.0 + 1 = sym (length_push a.0 r) ∙ (ap length (sym a.1 ∙ b.1) ∙ length_push b.0 o) in
+    let same : length a.0 + 0 ≡ length b.0 + 0 = omega (arith, lengths) in
+    let both : Some r ≡ Some o = sym here ∙ (ap (slice_get t.steps) same ∙ there) in cc
+
+-- ---- items that wait
+
+module _ {Z : Type 0} (lists : List (Vec ItemId Z)) (b : ℕ) (old new : Vec ItemId Z) (lt : b < length lists) (value : old ≡ slice_index_or lists b old) where
+  at_b : slice_get lists b ≡ Some old
+  at_b = slice_get-get_or lists b old lt ∙ ap Some (sym value)
+
+  longer : length (slice_set lists b new) ≡ length lists
+  longer = length-set lists b new
+
+  at_new : slice_get (slice_set lists b new) b ≡ Some new
+  at_new = slice_get-get_or (slice_set lists b new) b old (subst (λ n. b < n) (sym longer) lt) ∙ ap Some (get_or-set_same lists b new old lt)
+
+  at_other : (c : ℕ) (list : Vec ItemId Z) → (c ≡ b → ⊥) → slice_get lists c ≡ Some list → slice_get (slice_set lists b new) c ≡ Some list
+  at_other c list apart at =
+      let within : c < length lists = slice_get_within lists c list at in
+      let was : Some (slice_index_or lists c old) ≡ Some list = sym (slice_get-get_or lists c old within) ∙ at in
+      slice_get-get_or (slice_set lists b new) c old (subst (λ n. c < n) (sym longer) within) ∙ (ap Some (get_or-set_other lists b c new old apart) ∙ was)
+
+  pub waiting_new : (n : Name) (i : ItemId) → bucket_of n ≡ b → IsAmong new.items i → IsWaiting (slice_set lists b new) n i
+  waiting_new n i here among = (new, ap (slice_get (slice_set lists b new)) here ∙ at_new, among)
+
+  pub waiting_cases : (n : Name) (i : ItemId) → IsWaiting lists n i → ((bucket_of n ≡ b) × IsAmong old.items i) ⊎ IsWaiting (slice_set lists b new) n i
+  waiting_cases n i (list, at, among) = ⊎_elim
+      (λ (here : bucket_of n ≡ b).
+      let same : list ≡ old = let both : Some list ≡ Some old = sym at ∙ (ap (slice_get lists) here ∙ at_b) in cc in
+      inl (here, subst (λ (l : Vec ItemId Z). IsAmong l.items i) same among))
+      (λ apart. inr (list, at_other (bucket_of n) list apart at, among))
+      (cases_eq (bucket_of n) b)
+
+  pub waiting_kept : ((i : ItemId) → IsAmong old.items i → IsAmong new.items i) → (n : Name) (i : ItemId) → IsWaiting lists n i → IsWaiting (slice_set lists b new) n i
+  waiting_kept more n i waits = ⊎_elim (λ (here : (bucket_of n ≡ b) × IsAmong old.items i). waiting_new n i here.0 (more i here.1)) (λ still. still) (waiting_cases n i waits)
+
+  pub waiting_in : (n : Name) (i : ItemId) → bucket_of n ≡ b → IsWaiting lists n i → IsAmong old.items i
+  waiting_in n i here (list, at, among) =
+      let same : list ≡ old = let both : Some list ≡ Some old = sym at ∙ (ap (slice_get lists) here ∙ at_b) in cc in
+      subst (λ (l : Vec ItemId Z). IsAmong l.items i) same among

@@ -1,0 +1,25 @@
+use Rattle.std.proofs.Common.{◌∙◌, inl, inr, subst, sym, true≢false}
+use Rattle.gr_order.specs.declared.steps.Ready.TheVariants.{Item}
+use Rattle.gr_order.specs.Answers.{CanMake}
+use Rattle.gr_agenda.proofs.KeptLemmas.{kept_looked}
+use Rattle.gr_agenda.proofs.ListLemmas.{one_last}
+use Rattle.gr_agenda.proofs.agenda.Agenda.look.Goals as goal
+
+pub invariant_of-self : goal.invariant_of-self
+invariant_of-self g c =
+    let q = c.self.inside.order in
+    let t = c.self.inside.todo in
+    let step = c.in-Some.step in (
+      kept_looked q t c.drop_last.new.self c.self.inside.waiting.items c.note.new.lists.items step c.self.invariant.0
+          (λ can. true≢false (sym (c.can_make.ensures.1 (subst (λ p. CanMake p step) c.self.view_is can)) ∙ c.if-can_make.false))
+          (λ r has apart. c.drop_last.ensures r has (λ last. apart (one_last t r step last c.in-Some.ensures)))
+          c.note.ensures.keeps
+          (λ d n held same. inr (c.in-Ok.ensures.noted d n held same)),
+      c.calm_down.ensures c.self.invariant.1,
+    )
+
+pub invariant_of-self-in-Err : goal.invariant_of-self-in-Err
+invariant_of-self-in-Err g c = (record { ready = λ r can. c.miss.ensures r; waits = λ d n held. inl (c.miss.ensures (Item d.at)) }, c.calm_down.ensures c.self.invariant.1)
+
+pub calm_down-requires : goal.calm_down-requires
+calm_down-requires g c can = true≢false (sym (c.can_make.ensures.1 (subst (λ p. CanMake p c.in-Some.step) c.self.view_is can)) ∙ c.if-can_make.false)

@@ -1,0 +1,7 @@
+use Rattle.std.proofs.Common.{◌<◌, ℕ}
+use Rattle.gr_order.specs.declared.steps.Ready.TheVariants.{Item}
+use Rattle.gr_agenda.specs.Lists.{Has, KeepsSteps}
+use Rattle.gr_agenda.proofs.agenda.put_items.Given as goal
+
+abbrev pub invariant-loop-item : goal.invariant-loop-item
+invariant-loop-item g l = ((k : ℕ) → k < l.item → Has l.todo (Item (record { group = l.group; item = k }))) × KeepsSteps l.fn.todo l.todo

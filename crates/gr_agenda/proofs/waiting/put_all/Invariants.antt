@@ -1,0 +1,8 @@
+use Rattle.std.proofs.Common.{◌≡◌, ◌<◌, ℕ, Some, slice_get}
+use Rattle.gr_model.specs.declared.event.ItemId.{ItemId}
+use Rattle.gr_order.specs.declared.steps.Ready.TheVariants.{Item}
+use Rattle.gr_agenda.specs.Lists.{Has, KeepsSteps}
+use Rattle.gr_agenda.proofs.waiting.put_all.Given as goal
+
+abbrev pub invariant-loop-item : goal.invariant-loop-item
+invariant-loop-item g l = ((p : ℕ) (i : ItemId) → p < l.item-index → slice_get l.list p ≡ Some i → Has l.todo (Item i)) × KeepsSteps l.fn.todo l.todo

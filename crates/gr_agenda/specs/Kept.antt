@@ -1,0 +1,44 @@
+-- What is so of the list of steps and the lists of those that wait: nothing that is ready is missing.
+use Rattle.std.specs.Prelude.{◌≡◌, ◌≢◌, ◌⊎◌, ℕ, List, Option, Some, Vec, slice_get}
+use Rattle.gr_model.specs.declared.event.EventId.{EventId}
+use Rattle.gr_model.specs.declared.event.ItemId.{ItemId}
+use Rattle.gr_model.specs.declared.event.Name.{Name}
+use Rattle.gr_model.specs.Barriers.{IsDivergent, is_barrier}
+use Rattle.gr_model.specs.LawfulOrders.{IsIn}
+use Rattle.gr_model.specs.Names.{HasName, release_place}
+use Rattle.gr_model.specs.Streams.{Streams, place_of}
+use Rattle.gr_model.specs.Waits.{IsPrevious}
+use Rattle.gr_clocks.specs.Counts.{Counts, count_of}
+use Rattle.gr_order.specs.declared.steps.Ready.{Ready}
+use Rattle.gr_order.specs.declared.steps.Ready.TheVariants.{Item}
+use Rattle.gr_order.specs.Answers.{CanMake}
+use Rattle.gr_order.specs.Sequences.{Sequence}
+use Rattle.gr_order.specs.States.{AreFirst}
+use Rattle.gr_agenda.specs.Lists.{Has, IsWaiting, Steps}
+
+-- an event is the next of its item, and names a release that was not handled
+pub record IsHeldUp (s : Streams) (handled : List EventId) (d : EventId) (n : Name) : Type 0 where
+  pub named : HasName s d n
+  pub fresh : ¬ IsIn handled d
+  pub previous : (p : EventId) → IsPrevious p d → IsIn handled p
+  pub free : (x : EventId) → x.at ≡ n.at → release_place s n ≡ Some x.index → ¬ IsIn handled x
+
+-- each step that can be made stands in the list, and each item that is held up there or among those that wait for its release
+pub record IsKept {Z : Type 0} (q : Sequence) (t : Steps) (lists : List (Vec ItemId Z)) : Type 0 where
+  pub ready : (r : Ready) → CanMake q r → Has t r
+  pub waits : (d : EventId) (n : Name) → IsHeldUp q.taken q.handled d n → Has t (Item d.at) ⊎ IsWaiting lists n d.at
+
+-- ---- instances that are known not to be divergent
+
+-- the next event of an item is its barrier of this number
+abbrev pub IsNextBarrier : Sequence → ItemId → ℕ → Type 0
+IsNextBarrier q i k = (frontier : Counts) × AreFirst q.handled frontier × (place_of q.taken is_barrier i k ≡ Some (count_of frontier i))
+
+-- of each group an instance that is not divergent, if one is told
+abbrev pub AreCalm : Streams → List (Option ℕ) → Type 0
+AreCalm s calm = (g k : ℕ) → slice_get calm g ≡ Some (Some k) → ¬ IsDivergent s g k
+
+-- none is told of a group, and of the others none that was not
+pub record IsUnsettled (old : List (Option ℕ)) (g : ℕ) (new : List (Option ℕ)) : Type 0 where
+  pub none : (k : ℕ) → slice_get new g ≢ Some (Some k)
+  pub others : (h k : ℕ) → slice_get new h ≡ Some (Some k) → slice_get old h ≡ Some (Some k)

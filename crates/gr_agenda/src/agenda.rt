@@ -1,0 +1,386 @@
+//! An order of events with the list of the steps that may have become ready.
+//!
+//! Invariant: each step that can be made stands in the list, or memory was too short for one; each item whose next event
+//! names a release that was not handled stands in the list or among those that wait for that release; and the instances that
+//! are called calm are not divergent.
+
+ghost use Rattle.std.specs.Prelude.{◌≡◌, false, ◌↔◌, ◌<◌, ◌⊎◌, IfOk, IfErr, IfSome, OnOk, OnErr, IsTrue, MatchOption, Some, length, slice_get, ℕ};
+ghost use Rattle.gr_model.specs.declared.event.EventId.{EventId as AnyEvent};
+ghost use Rattle.gr_model.specs.declared.event.ItemId.{ItemId as AnyItem};
+ghost use Rattle.gr_model.specs.declared.event.Name.{Name as AnyName};
+ghost use Rattle.gr_model.specs.declared.limits.TheConstants.{MOST_RECORDS};
+ghost use Rattle.gr_model.specs.Barriers.{is_barrier};
+ghost use Rattle.gr_model.specs.Events.{is_end};
+ghost use Rattle.gr_model.specs.Names.{release_place};
+ghost use Rattle.gr_model.specs.Streams.{list_of, size_of};
+ghost use Rattle.gr_order.specs.declared.steps.Ready.TheVariants.{Group, Item};
+ghost use Rattle.gr_lanes.specs.Takes.{CanTake, IsEventButItem, IsTakeFault};
+ghost use Rattle.gr_steps.specs.Steps.{CanHandle, CanMeet, IsReady};
+ghost use Rattle.gr_order.specs.Answers.{CanMake};
+ghost use Rattle.gr_order.specs.Sequences.{HandlesEvent, IsDone, IsSequence, MeetsNext, nothing, taking};
+ghost use Rattle.gr_agenda.specs.Kept.{AreCalm, IsHeldUp, IsNextBarrier, IsUnsettled};
+ghost use Rattle.gr_agenda.specs.Lists.{Has, IsWaiting, KeepsSteps};
+
+use crate::todo::Todo;
+use crate::waiting::{LISTS, wait, wake};
+use gr_lanes::seq_error::SeqError;
+use gr_model::event::{Event, EventId, ItemId, Kind, Name};
+use gr_model::memory::Memory;
+use gr_model::shape::Shape;
+use gr_order::order::Order;
+use gr_order::steps::Ready;
+use std::alloc::{Allocator, Global};
+use std::marker::Model;
+
+/// How many groups there may be.
+const GROUPS: usize = 64;
+
+/// An order of events with the list of the steps that may have become ready. Contracts see the lists and the order.
+#[derive(Drop)]
+#[derive_where(Debug)]
+pub struct Agenda<A: Allocator = Global> {
+    order: Order<A>,
+    todo: Todo<A>,
+    waiting: Vec<Vec<ItemId, A>, A>,
+    /// Of each group an instance that is known not to be divergent, if one is.
+    calm: Vec<Option<u32>, A>,
+}
+
+impl<A: Allocator> Model for Agenda<A> {
+    ghost use Rattle.gr_order.specs.Sequences.{Sequence};
+    ghost use Rattle.gr_agenda.specs.Kept.{AreCalm, IsKept};
+
+    ghost Value = { Sequence };
+
+    ghost view = { λ a. a.order };
+
+    ghost invariant = { λ a. IsKept a.order a.todo a.waiting.items × AreCalm a.order.taken a.calm.items };
+}
+
+/// Whether a record changes what the other items of its group wait for: a barrier or an end.
+fn is_wide(event: &Event) -> bool
+    ensures { IsTrue result ⊎ ((is_barrier event.now ≡ false) × (is_end event.now ≡ false)) }
+{
+    matches!(
+        event.kind,
+        Kind::Barrier {
+            global: _,
+            local: _
+        } | Kind::End { cut: _ }
+    )
+}
+
+/// The name of an event, if it is a release.
+fn name_of<A: Allocator>(order: &Order<A>, event: EventId) -> Option<Name>
+    ensures { (n : AnyName) → n.at ≡ event.at → release_place order.now.taken n ≡ Some event.index → result ≡ Some n }
+{
+    match order.lanes().release_number(event) {
+        None => None,
+        Some(release) => Some(Name {
+            at: event.at,
+            release,
+        }),
+    }
+}
+
+/// Lists for those that wait.
+fn no_lists<A: Allocator + Copy>(alloc: A) -> Result<Vec<Vec<ItemId, A>, A>, Memory> {
+    let mut lists = Vec::with_capacity(alloc, LISTS)?;
+    for _ in 0..LISTS {
+        lists.push(Vec::new(alloc))?;
+    }
+    Ok(lists)
+}
+
+/// The first items of a group may be ready.
+fn put_items<A: Allocator>(todo: &mut Todo<A>, group: u16, items: u16)
+    ensures there { (k : ℕ) → k < items → Has todo.new (Item (record { group = group; item = k })) }
+    ensures keeps { KeepsSteps todo.old todo.new }
+{
+    for item in 0..items {
+        todo.put(Ready::Item(ItemId { group, item }));
+    }
+}
+
+/// Whether a record is a barrier.
+fn is_barrier(event: &Event) -> bool
+    ensures { result ≡ is_barrier event.now }
+{
+    matches!(
+        event.kind,
+        Kind::Barrier {
+            global: _,
+            local: _
+        }
+    )
+}
+
+/// Whether an item's next event is a barrier, as it is where an instance of its group may meet.
+fn is_at_barrier<A: Allocator>(order: &Order<A>, item: ItemId) -> bool
+    ensures { CanMeet order.now.taken order.now.handled item.group → item.item < size_of order.now.taken item.group → IsTrue result }
+{
+    let index = order.frontier().get(item);
+    match order.lanes().event_at(EventId { at: item, index }) {
+        None => false,
+        Some(event) => is_barrier(&event),
+    }
+}
+
+/// The group of an item may meet, if the item's next event is a barrier.
+fn put_group<A: Allocator>(order: &Order<A>, todo: &mut Todo<A>, item: ItemId)
+    ensures there { CanMeet order.now.taken order.now.handled item.group → item.item < size_of order.now.taken item.group → Has todo.new (Group item.group) }
+    ensures keeps { KeepsSteps todo.old todo.new }
+{
+    if is_at_barrier(order, item) {
+        todo.put(Ready::Group(item.group));
+    }
+}
+
+/// The name that an item's next event has, if it has one.
+fn named_by<A: Allocator>(order: &Order<A>, item: ItemId) -> Option<Name>
+    ensures { (d : AnyEvent) (n : AnyName) → IsHeldUp order.now.taken order.now.handled d n → d.at ≡ item → result ≡ Some n }
+{
+    let index = order.frontier().get(item);
+    match order.lanes().event_at(EventId { at: item, index }) {
+        None => None,
+        Some(event) => event.name,
+    }
+}
+
+/// Notes for which release an item waits, where its next event is not ready.
+///
+/// # Errors
+/// `Memory`.
+fn note<A: Allocator>(
+    order: &Order<A>,
+    lists: &mut Vec<Vec<ItemId, A>, A>,
+    step: Ready,
+) -> Result<(), Memory>
+    ensures noted { OnOk result ((d : AnyEvent) (n : AnyName) → IsHeldUp order.now.taken order.now.handled d n → Item d.at ≡ step → IsWaiting lists.new.items n d.at) }
+    ensures keeps { (n : AnyName) (i : AnyItem) → IsWaiting lists.old.items n i → IsWaiting lists.new.items n i }
+{
+    match step {
+        Ready::Group(_) => Ok(()),
+        Ready::Item(item) => match named_by(order, item) {
+            None => Ok(()),
+            Some(named) => wait(lists, named, item),
+        },
+    }
+}
+
+/// The number among its barriers of an item's next event, if it is one.
+fn next_barrier<A: Allocator>(order: &Order<A>, item: ItemId) -> Option<u32>
+    ensures { IfSome result (λ k. IsNextBarrier order.now item k) }
+{
+    let index = order.frontier().get(item);
+    order.lanes().barrier_number(EventId { at: item, index })
+}
+
+/// Whether a number is there and is this one.
+fn is_number(told: Option<u32>, number: u32) -> bool
+    ensures { IsTrue result → told ≡ Some number }
+{
+    told == Some(number)
+}
+
+/// The instance of a group that is called calm, if there is one.
+fn calm_of(calm: &[Option<u32>], group: u16) -> Option<u32>
+    ensures { IfSome result (λ k. slice_get calm.now group ≡ Some (Some k)) }
+{
+    match calm.get(usize::from(group)) {
+        None => None,
+        Some(told) => *told,
+    }
+}
+
+/// Calls the instance calm at whose barrier an item stands that can't go on.
+fn calm_down<A: Allocator>(order: &Order<A>, calm: &mut Vec<Option<u32>, A>, step: Ready)
+    requires { ¬ CanMake order.now step }
+    ensures { AreCalm order.now.taken calm.old.items → AreCalm order.now.taken calm.new.items }
+{
+    let _taken = order.lanes();
+    match step {
+        Ready::Group(_) => {}
+        Ready::Item(item) => {
+            let place = usize::from(item.group);
+            match next_barrier(order, item) {
+                None => {}
+                Some(instance) => {
+                    if place < calm.len() {
+                        calm[place] = Some(instance);
+                    }
+                }
+            }
+        }
+    }
+}
+
+/// Calls no instance of a group calm.
+fn unsettle<A: Allocator>(calm: &mut Vec<Option<u32>, A>, group: u16)
+    ensures { IsUnsettled calm.old.items group calm.new.items }
+{
+    let place = usize::from(group);
+    if place < calm.len() {
+        calm[place] = None;
+    }
+}
+
+impl<A: Allocator + Copy> Agenda<A> {
+    /// The agenda of a launch of this shape, of which nothing was taken.
+    ///
+    /// # Errors
+    /// `Memory`.
+    pub fn new(alloc: A, shape: Shape<A>) -> Result<Agenda<A>, Memory>
+        ensures { IfOk result (λ a. a ≡ nothing shape) }
+    {
+        let todo = Todo::new(alloc)?;
+        let waiting = no_lists(alloc)?;
+        let mut calm = Vec::with_capacity(alloc, GROUPS)?;
+        calm.resize(GROUPS, None)?;
+        let order = Order::new(alloc, shape)?;
+        Ok(Agenda {
+            order,
+            todo,
+            waiting,
+            calm,
+        })
+    }
+}
+
+impl<A: Allocator> Agenda<A> {
+    /// What was taken of the launch's streams, and the order in which its events were handled.
+    pub fn order(&self) -> &Order<A>
+        ensures order { result.now ≡ self.now }
+        ensures sequence { IsSequence self.now }
+    {
+        let _taken = self.order.lanes();
+        &self.order
+    }
+
+    /// Takes the next record of a group. It is one that some group may have, whatever its item.
+    ///
+    /// # Errors
+    /// The first of `UnknownGroup`, `AfterEnd` with the group, `UnknownItem` and `Memory` that is there. Nothing is then
+    /// taken.
+    pub fn take(&mut self, group: u16, event: Event) -> Result<(), SeqError>
+        requires good { IsEventButItem event }
+        requires room { length (list_of self.old.taken group) < MOST_RECORDS }
+        ensures ok { OnOk result (CanTake self.old.taken group event × (self.new ≡ taking self.old group event)) }
+        ensures err { IfErr result (λ e. IsTakeFault self.old.taken group event e) }
+        ensures unchanged { OnErr result (self.new ≡ self.old) }
+        ensures sequence { IsSequence self.new }
+    {
+        let at = ItemId {
+            group,
+            item: event.item,
+        };
+        let wide = is_wide(&event);
+        let _taken = self.order.lanes();
+        self.order.take(group, event)?;
+        if wide {
+            unsettle(&mut self.calm, group);
+            self.todo.put(Ready::Group(group));
+            put_items(
+                &mut self.todo,
+                group,
+                self.order.lanes().shape().items(group),
+            );
+        } else {
+            self.todo.put(Ready::Item(at));
+        }
+        Ok(())
+    }
+
+    /// Handles an event that may be handled.
+    pub fn add(&mut self, event: EventId)
+        requires { IsReady self.old.taken self.old.handled event }
+        ensures step { HandlesEvent self.old event self.new }
+        ensures sequence { IsSequence self.new }
+    {
+        let _taken = self.order.lanes();
+        let released = name_of(&self.order, event);
+        self.order.add(event);
+        self.todo.put(Ready::Item(event.at));
+        put_group(&self.order, &mut self.todo, event.at);
+        match released {
+            None => {}
+            Some(name) => wake(&mut self.waiting, name, &mut self.todo),
+        }
+    }
+
+    /// Handles the barriers of a group's instance that may meet.
+    pub fn pass(&mut self, group: u16)
+        requires { CanMeet self.old.taken self.old.handled group }
+        ensures step { MeetsNext self.old group self.new }
+        ensures sequence { IsSequence self.new }
+    {
+        let _taken = self.order.lanes();
+        self.order.pass(group);
+        self.todo.put(Ready::Group(group));
+        put_items(
+            &mut self.todo,
+            group,
+            self.order.lanes().shape().items(group),
+        );
+    }
+
+    /// Whether an item stands at a barrier of an instance that is calm.
+    fn is_calm_at(&self, item: ItemId) -> bool
+        ensures { IsTrue result → ¬ CanHandle self.now.taken self.now.handled item }
+    {
+        let _taken = self.order.lanes();
+        match calm_of(&self.calm, item.group) {
+            None => false,
+            Some(instance) => is_number(next_barrier(&self.order, item), instance),
+        }
+    }
+
+    /// Whether a step can be made.
+    fn can_make(&self, step: Ready) -> bool
+        ensures { IsTrue result ↔ CanMake self.now step }
+    {
+        match step {
+            Ready::Item(item) => !self.is_calm_at(item) && self.order.next(item).is_some(),
+            Ready::Group(group) => self.order.meeting(group).is_some(),
+        }
+    }
+
+    /// The last step of the list, if it can be made; otherwise it leaves the list.
+    fn look(&mut self) -> Option<Ready>
+        ensures found { IfSome result (λ r. CanMake self.old r) }
+        ensures unchanged { self.new ≡ self.old }
+    {
+        let step = match self.todo.last() {
+            None => return None,
+            Some(step) => step,
+        };
+        if self.can_make(step) {
+            return Some(step);
+        }
+        calm_down(&self.order, &mut self.calm, step);
+        match note(&self.order, &mut self.waiting, step) {
+            Ok(()) => self.todo.drop_last(),
+            Err(_) => self.todo.miss(),
+        }
+        None
+    }
+
+    /// Any one step that is ready, or none where none is: the handled events are then the grounded ones.
+    pub fn ready(&mut self) -> Option<Ready>
+        ensures ready { MatchOption result (IsDone self.old) (λ r. CanMake self.old r) }
+        ensures unchanged { self.new ≡ self.old }
+        ensures sequence { IsSequence self.new }
+    {
+        let _taken = self.order.lanes();
+        for _ in 0..self.todo.len() {
+            match self.look() {
+                None => {}
+                Some(step) => return Some(step),
+            }
+        }
+        if self.todo.is_done() {
+            return None;
+        }
+        self.order.ready()
+    }
+}

@@ -1,0 +1,157 @@
+//! The list of the steps that may have become ready.
+//!
+//! Invariant: a step that is marked stands in the list. It may stand there more than once, and without a mark.
+
+ghost use Rattle.std.specs.Prelude.{◌≡◌, [], ◌⊎◌, ◌≢◌, ℕ, true, Some, IsTrue, IfOk, MatchOption, slice_get};
+ghost use Rattle.gr_order.specs.declared.steps.Ready.{Ready as AnyStep};
+ghost use Rattle.gr_agenda.specs.Lists.{Has, HasNone, IsLast, IsPlace, KeepsSteps};
+
+use gr_model::memory::Memory;
+use gr_order::steps::Ready;
+use std::alloc::{Allocator, Global};
+use std::marker::Model;
+
+/// How many places there are for marks: for each group one of its own and one for each item that it may have.
+const PLACES: usize = 64 * 257;
+
+/// The steps that may have become ready, and whether memory was too short for one of them.
+#[derive(Drop)]
+#[derive_where(Debug)]
+pub(crate) struct Todo<A: Allocator = Global> {
+    steps: Vec<Ready, A>,
+    marks: Vec<bool, A>,
+    short: bool,
+}
+
+impl<A: Allocator> Model for Todo<A> {
+    ghost use Rattle.gr_agenda.specs.Lists.{AreMarked, Steps};
+
+    ghost Value = { Steps };
+
+    ghost view = { λ t. record { steps = t.steps.items; short = t.short } };
+
+    ghost invariant = { λ t. AreMarked t.marks.items t.steps.items };
+}
+
+/// The place of a step's mark, if it has one.
+fn place_of(step: Ready) -> Option<usize>
+    ensures { MatchOption result ((p : ℕ) → ¬ IsPlace step p) (λ p. IsPlace step p) }
+{
+    match step {
+        Ready::Group(group) => Some(usize::from(group) * 257),
+        Ready::Item(at) => {
+            if at.item < 256 {
+                Some(usize::from(at.group) * 257 + 1 + usize::from(at.item))
+            } else {
+                None
+            }
+        }
+    }
+}
+
+/// Whether a step is marked.
+fn is_marked(marks: &[bool], step: Ready) -> bool
+    ensures { IsTrue result → (p : ℕ) × IsPlace step p × (slice_get marks.now p ≡ Some true) }
+{
+    match place_of(step) {
+        None => false,
+        Some(place) => match marks.get(place) {
+            None => false,
+            Some(mark) => *mark,
+        },
+    }
+}
+
+/// Marks a step, if there is a place for its mark.
+fn mark<A: Allocator>(marks: &mut Vec<bool, A>, step: Ready)
+    ensures { (p : ℕ) → slice_get marks.new.items p ≡ Some true → IsPlace step p ⊎ (slice_get marks.old.items p ≡ Some true) }
+{
+    match place_of(step) {
+        None => {}
+        Some(place) => {
+            if place < marks.len() {
+                marks[place] = true;
+            }
+        }
+    }
+}
+
+/// Takes a step's mark away.
+fn unmark<A: Allocator>(marks: &mut Vec<bool, A>, step: Ready)
+    ensures here { (p : ℕ) → IsPlace step p → slice_get marks.new.items p ≢ Some true }
+    ensures others { (p : ℕ) → slice_get marks.new.items p ≡ Some true → slice_get marks.old.items p ≡ Some true }
+{
+    match place_of(step) {
+        None => {}
+        Some(place) => {
+            if place < marks.len() {
+                marks[place] = false;
+            }
+        }
+    }
+}
+
+impl<A: Allocator + Copy> Todo<A> {
+    /// The empty list.
+    pub(crate) fn new(alloc: A) -> Result<Todo<A>, Memory> {
+        let mut marks = Vec::with_capacity(alloc, PLACES)?;
+        marks.resize(PLACES, false)?;
+        Ok(Todo {
+            steps: Vec::new(alloc),
+            marks,
+            short: false,
+        })
+    }
+}
+
+impl<A: Allocator> Todo<A> {
+    /// How many steps stand in the list.
+    pub(crate) fn len(&self) -> usize {
+        self.steps.len()
+    }
+
+    /// Whether no step stands in the list, and none is missing.
+    pub(crate) fn is_done(&self) -> bool
+        ensures { IsTrue result → HasNone self.now }
+    {
+        self.steps.is_empty() && !self.short
+    }
+
+    /// The last step.
+    pub(crate) fn last(&self) -> Option<Ready>
+        ensures { MatchOption result (self.now.steps ≡ []) (λ r. IsLast self.now r) }
+    {
+        self.steps.last().copied()
+    }
+
+    /// Says that a step is missing.
+    pub(crate) fn miss(&mut self)
+        ensures { (r : AnyStep) → Has self.new r }
+    {
+        self.short = true;
+    }
+
+    /// Puts a step into the list.
+    pub(crate) fn put(&mut self, step: Ready)
+        ensures there { Has self.new step }
+        ensures keeps { KeepsSteps self.old self.new }
+    {
+        if is_marked(&self.marks, step) {
+            return;
+        }
+        match self.steps.push(step) {
+            Ok(()) => mark(&mut self.marks, step),
+            Err(_) => self.short = true,
+        }
+    }
+
+    /// Takes the last step out of the list.
+    pub(crate) fn drop_last(&mut self)
+        ensures { (r : AnyStep) → Has self.old r → ¬ IsLast self.old r → Has self.new r }
+    {
+        match self.steps.pop() {
+            None => {}
+            Some(step) => unmark(&mut self.marks, step),
+        }
+    }
+}

@@ -1,0 +1,74 @@
+//! The lists of the items that wait for releases, by the releases' names.
+
+ghost use Rattle.std.specs.Prelude.{◌≡◌, ◌⊎◌, OnOk};
+ghost use Rattle.gr_model.specs.declared.event.ItemId.{ItemId as AnyItem};
+ghost use Rattle.gr_model.specs.declared.event.Name.{Name as AnyName};
+ghost use Rattle.gr_order.specs.declared.steps.Ready.TheVariants.{Item};
+ghost use Rattle.gr_agenda.specs.Lists.{Has, IsAmong, IsWaiting, KeepsSteps, bucket_of};
+
+use crate::todo::Todo;
+use gr_model::event::{ItemId, Name};
+use gr_model::memory::Memory;
+use gr_order::steps::Ready;
+use std::alloc::Allocator;
+
+/// How many lists there are.
+pub(crate) const LISTS: usize = 2048;
+
+/// The list for those that wait for the release of this name. Others may share it.
+fn bucket_of(named: Name) -> usize
+    ensures { result ≡ bucket_of named }
+{
+    let item = usize::from(named.at.group) * 256 + usize::from(named.at.item);
+    (item + named.release as usize * 257) % LISTS
+}
+
+/// An item waits for the release of this name.
+///
+/// # Errors
+/// `Memory`.
+pub(crate) fn wait<A: Allocator>(
+    lists: &mut Vec<Vec<ItemId, A>, A>,
+    named: Name,
+    item: ItemId,
+) -> Result<(), Memory>
+    ensures there { OnOk result (IsWaiting lists.new.items named item) }
+    ensures keeps { (n : AnyName) (i : AnyItem) → IsWaiting lists.old.items n i → IsWaiting lists.new.items n i }
+{
+    match lists.get_mut(bucket_of(named)) {
+        None => Err(Memory),
+        Some(list) => {
+            list.push(item)?;
+            Ok(())
+        }
+    }
+}
+
+/// Puts each item of a list among those that may be ready.
+fn put_all<A: Allocator>(list: &[ItemId], todo: &mut Todo<A>)
+    ensures there { (i : AnyItem) → IsAmong list.now i → Has todo.new (Item i) }
+    ensures keeps { KeepsSteps todo.old todo.new }
+{
+    for item in list {
+        todo.put(Ready::Item(*item));
+    }
+}
+
+/// Those that wait for the release of this name may be ready.
+pub(crate) fn wake<A: Allocator>(
+    lists: &mut Vec<Vec<ItemId, A>, A>,
+    named: Name,
+    todo: &mut Todo<A>,
+)
+    ensures woken { (i : AnyItem) → IsWaiting lists.old.items named i → Has todo.new (Item i) }
+    ensures others { (n : AnyName) (i : AnyItem) → IsWaiting lists.old.items n i → Has todo.new (Item i) ⊎ IsWaiting lists.new.items n i }
+    ensures keeps { KeepsSteps todo.old todo.new }
+{
+    match lists.get_mut(bucket_of(named)) {
+        None => {}
+        Some(list) => {
+            put_all(list, todo);
+            list.clear();
+        }
+    }
+}

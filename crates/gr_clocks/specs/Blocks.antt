@@ -1,0 +1,24 @@
+-- The counts of one work-group's items.
+-- Source: docs/MODEL.md, "Clocks".
+use Rattle.std.specs.Prelude.{◌≡◌, ℕ, ◌<◌, ◌≤◌, max, slice_index, All, List, length}
+use Rattle.gr_clocks.specs.declared.clock.TheConstants.{LARGEST_COUNT}
+
+-- counts with a limit of their own
+pub record IsBlock (counts : List ℕ) (most : ℕ) : Type 0 where
+  pub below : All (λ n. n ≤ most) counts
+  pub limit : most ≤ LARGEST_COUNT
+
+-- no count is above theirs
+abbrev pub IsRowWithin : List ℕ → List ℕ → Type 0
+IsRowWithin mine theirs = (p : ℕ) → slice_index mine p ≤ slice_index theirs p
+
+-- joined has the greater count at each place
+pub record IsRowJoin (mine theirs joined : List ℕ) : Type 0 where
+  pub size : length joined ≡ length mine
+  pub counts : (p : ℕ) → slice_index joined p ≡ max (slice_index mine p) (slice_index theirs p)
+
+-- now has the greater count at each place below this one, and mine from it on
+pub record IsRowJoinBelow (below : ℕ) (mine theirs now : List ℕ) : Type 0 where
+  pub size : length now ≡ length mine
+  pub greater : (p : ℕ) → p < below → slice_index now p ≡ max (slice_index mine p) (slice_index theirs p)
+  pub same : (p : ℕ) → below ≤ p → slice_index now p ≡ slice_index mine p

@@ -1,0 +1,178 @@
+//! The counts of one work-group's items, which clocks share.
+//!
+//! Invariant: none is above `most`, and that is not above `LARGEST_COUNT`. So where `most` is 0 nothing is counted.
+
+ghost use Rattle.std.specs.Prelude.{◌≡◌, ◌<◌, ◌≤◌, ℕ, IsTrue, All, IfOk, OnOk, IsOkUnless, length, slice_index, set, replicate};
+ghost use Rattle.gr_clocks.specs.declared.clock.ClockError.TheVariants.{Memory as OutOfMemory};
+ghost use Rattle.gr_clocks.specs.Blocks.{IsRowWithin, IsRowJoin};
+
+use crate::clock::{ClockError, LARGEST_COUNT};
+use std::alloc::{Allocator, Global};
+use std::marker::Model;
+use std::sync::Arc;
+
+/// The counts of one work-group's items. Contracts see the list of them.
+#[derive(Drop)]
+#[derive_where(Debug)]
+pub(crate) struct Block<A: Allocator = Global> {
+    counts: Arc<Vec<u32, A>, A>,
+    most: u32,
+}
+
+impl<A: Allocator> Model for Block<A> {
+    ghost use Rattle.std.specs.Prelude.{List, ℕ};
+    ghost use Rattle.gr_clocks.specs.Blocks.{IsBlock};
+
+    ghost Value = { List ℕ };
+
+    ghost view = { λ b. b.counts.value.items };
+
+    ghost invariant = { λ b. IsBlock b.counts.value.items b.most };
+}
+
+/// Whether no count is above the other's.
+fn are_within(mine: &[u32], theirs: &[u32]) -> bool
+    requires { length theirs.now ≡ length mine.now }
+    ensures { IsTrue result → IsRowWithin mine.now theirs.now }
+{
+    for place in 0..mine.len() {
+        if mine[place] > theirs[place] {
+            return false;
+        }
+    }
+    true
+}
+
+/// Takes the greater count of each item.
+fn learn(mine: &mut [u32], theirs: &[u32])
+    requires { length theirs.now ≡ length mine.old }
+    ensures { IsRowJoin mine.old theirs.now mine.new }
+{
+    for place in 0..mine.len() {
+        let their_count = theirs[place];
+        mine[place] = mine[place].max(their_count);
+    }
+}
+
+impl<A: Allocator + Copy> Block<A> {
+    /// The counts of so many items of which nothing is counted.
+    pub(crate) fn zero(alloc: A, size: u16) -> Result<Block<A>, ClockError>
+        ensures zero { IfOk result (λ b. b ≡ replicate size 0) }
+        ensures memory { IsOkUnless result ClockError.Memory }
+    {
+        let zeros = vec![in alloc; 0; size as usize]?;
+        let counts = Arc::new(alloc, zeros)?;
+        Ok(Block { counts, most: 0 })
+    }
+}
+
+impl<A: Allocator> Block<A> {
+    /// These counts.
+    pub(crate) fn of(alloc: A, counts: Vec<u32, A>) -> Result<Block<A>, ClockError>
+        requires { All (λ n. n ≤ LARGEST_COUNT) counts.items }
+        ensures counts { IfOk result (λ b. b ≡ counts.items) }
+        ensures memory { IsOkUnless result ClockError.Memory }
+    {
+        let counts = Arc::new(alloc, counts)?;
+        Ok(Block {
+            counts,
+            most: LARGEST_COUNT,
+        })
+    }
+
+    /// How many events of an item are counted; 0 where there is no such item.
+    pub(crate) fn get(&self, item: u16) -> u32
+        ensures count { result ≡ slice_index self.now item }
+        ensures limit { result ≤ LARGEST_COUNT }
+    {
+        let counts: &Vec<u32, A> = &self.counts;
+        match counts.get(item as usize) {
+            None => 0,
+            Some(count) => *count,
+        }
+    }
+
+    /// The same counts once more, shared.
+    pub(crate) fn copy(&self) -> Result<Block<A>, ClockError>
+        ensures copy { IfOk result (λ b. b ≡ self.now) }
+        ensures memory { IsOkUnless result ClockError.Memory }
+    {
+        let counts = Arc::try_clone(&self.counts)?;
+        Ok(Block {
+            counts,
+            most: self.most,
+        })
+    }
+
+    /// Whether it is sure that no count is above the other's.
+    fn is_within(&self, other: &Block<A>) -> bool
+        requires { length other.now ≡ length self.now }
+        ensures { IsTrue result → IsRowWithin self.now other.now }
+    {
+        let mine: &Vec<u32, A> = &self.counts;
+        let theirs: &Vec<u32, A> = &other.counts;
+        self.most == 0 || are_within(mine, theirs)
+    }
+
+    /// The greater count of each item. It is one of the two, shared, where that one is within no count less.
+    pub(crate) fn join(&self, other: &Block<A>) -> Result<Block<A>, ClockError>
+    where
+        A: Clone,
+        requires { length other.now ≡ length self.now }
+        ensures join { IfOk result (λ b. IsRowJoin self.now other.now b) }
+        ensures memory { IsOkUnless result ClockError.Memory }
+    {
+        if other.is_within(self) {
+            return self.copy();
+        }
+        if self.is_within(other) {
+            return other.copy();
+        }
+        let mine: &Vec<u32, A> = &self.counts;
+        let theirs: &Vec<u32, A> = &other.counts;
+        let alloc = mine.allocator().clone()?;
+        let mut joined = mine.clone()?;
+        learn(&mut joined, theirs);
+        let counts = Arc::new(alloc, joined)?;
+        Ok(Block {
+            counts,
+            most: self.most.max(other.most),
+        })
+    }
+
+    /// Takes the greater count of each item.
+    pub(crate) fn learn(&mut self, other: &Block<A>) -> Result<(), ClockError>
+    where
+        A: Clone,
+        requires { length other.now ≡ length self.old }
+        ensures join { OnOk result (IsRowJoin self.old other.now self.new) }
+        ensures memory { IsOkUnless result ClockError.Memory }
+    {
+        if other.is_within(self) {
+            return Ok(());
+        }
+        let joined = self.join(other)?;
+        *self = joined;
+        Ok(())
+    }
+
+    /// The same counts, but this one of an item.
+    pub(crate) fn with(&self, item: u16, count: u32) -> Result<Block<A>, ClockError>
+    where
+        A: Clone,
+        requires item { item < length self.now }
+        requires limit { count ≤ LARGEST_COUNT }
+        ensures with { IfOk result (λ b. b ≡ set self.now item count) }
+        ensures memory { IsOkUnless result ClockError.Memory }
+    {
+        let mine: &Vec<u32, A> = &self.counts;
+        let alloc = mine.allocator().clone()?;
+        let mut changed = mine.clone()?;
+        changed[item as usize] = count;
+        let counts = Arc::new(alloc, changed)?;
+        Ok(Block {
+            counts,
+            most: self.most.max(count),
+        })
+    }
+}

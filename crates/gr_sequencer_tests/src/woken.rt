@@ -1,0 +1,57 @@
+//! One release wakes all who wait for it.
+
+use crate::calls::{new, step, take};
+use crate::rows::{ACQUIRE, FIRST_0_0, RELEASE, event_of};
+use crate::waits::handled;
+use gr_model::event::{EventId, ItemId, Space};
+use gr_sequencer::sequencer::Sequencer;
+use refusing::Refusing;
+use std::alloc::Allocator;
+use std::test::Fail;
+
+/// What the row shows: whether no step was made behind the acquires, the event that the first step behind the release
+/// handled, of which groups the next three steps handled the acquire, and whether no step was made behind them.
+type Seen = (bool, Option<EventId>, [bool; 4], bool);
+
+/// Of which groups the next three steps handle the first event.
+fn three_groups<A: Allocator + Copy>(sequencer: &mut Sequencer<A>) -> Option<[bool; 4]> {
+    let mut groups = [false; 4];
+    for _time in 0..3_u32 {
+        let event = handled(&step(sequencer)?)?;
+        let group = groups.get_mut(usize::from(event.at.group))?;
+        *group = event.index == 0;
+    }
+    Some(groups)
+}
+
+fn seen<A: Allocator + Copy>(alloc: A) -> Option<Seen> {
+    let mut sequencer = new(alloc, &[1, 1, 1, 1])?;
+    for group in 1..4_u16 {
+        let acquire = event_of(&(group, 0, ACQUIRE, Space::Global, 20, FIRST_0_0));
+        let _taken = take(&mut sequencer, group, acquire)?.ok()?;
+    }
+    let before = step(&mut sequencer)?.is_none();
+    let release = event_of(&(0, 0, RELEASE, Space::Global, 20, None));
+    let _released = take(&mut sequencer, 0, release)?.ok()?;
+    let first = handled(&step(&mut sequencer)?);
+    let groups = three_groups(&mut sequencer)?;
+    Some((before, first, groups, step(&mut sequencer)?.is_none()))
+}
+
+#[test]
+fn a_release_wakes_all_who_wait_for_it(rt: HostRuntime) -> Result<(), Fail> {
+    let release = EventId {
+        at: ItemId { group: 0, item: 0 },
+        index: 0,
+    };
+    for at in 0..1_000_u64 {
+        let heap = Refusing::new(rt.alloc(), at);
+        let want = (true, Some(release), [false, true, true, true], true);
+        assert_eq!(rt; seen(&heap), Some(want), "growth {at} refused");
+        if !heap.refused() {
+            assert!(rt; at > 4, "few growths were refused");
+            return Ok(());
+        }
+    }
+    Err("a growth was refused each time")?
+}

@@ -1,0 +1,230 @@
+-- What is kept of a list of touches tells the same clashes.
+use Rattle.std.proofs.Common.{◌≡◌, ◌⊎◌, ℕ, zero, suc, ◌<◌, ◌≤◌, Bool, true, false, ◌&&◌, ◌||◌, List, [], ◌∷◌, ◌++◌, Contains, length, get_or, slice_set, refl, sym, ap, ◌∙◌, subst, inl, inr, ⊎_elim, true≢false, append_assoc, arith}
+use Rattle.std.specs.Prelude.{not, nat_lt}
+use Rattle.std.specs.List.{list_any, All}
+use Rattle.std.specs.Bool.{MatchBool}
+use Rattle.std.specs.List.Retain.{DedupsFrom, IsDeduped}
+use Rattle.std.specs.List.Sorted.{IsPermutation}
+use Rattle.std.proofs.lemmas.Bool.{and_parts, and_from}
+use Rattle.std.proofs.lemmas.List.Sorted.{Contains-permutation, IsPermutation-sym}
+use Rattle.std.proofs.lemmas.Bool.Decides.{nat_tests}
+use Rattle.std.proofs.lemmas.List.{append-nil}
+use Rattle.std.proofs.lemmas.List.Folds.{list_any-append, list_any_at}
+use Rattle.std.proofs.lemmas.List.Elements.{All-contains, All-contains_itself, All-weaker, Contains-append_left, Contains-append_right, Contains-append_cases, Contains-push, Contains-push_cases}
+use Rattle.gr_scopes.specs.declared.class.Class.{Class}
+use Rattle.gr_scopes.specs.declared.class.Class.TheVariants.{PlainRead, PlainWrite, GroupRead, GroupModify, DeviceRead, DeviceModify}
+use Rattle.gr_scopes.specs.Classes.{exempt}
+use Rattle.gr_clocks.specs.ClockedAccess.{ClockedAccess}
+use Rattle.gr_clocks.specs.Rows.{same_item}
+use Rattle.gr_clocks.specs.Counts.{count_of}
+use Rattle.gr_shadow.specs.declared.touch.Touch.{Touch}
+use Rattle.gr_shadow.specs.Keeps.{touch_clashes, is_unseen, IsInPlaceOf, Keeps, kept_group, TouchList, IsOfClass, all_touches}
+
+-- ---- elements of which a test holds
+
+Contains-first : {X : Type 0} (x : X) (xs : List X) → Contains (x ∷ xs) x
+Contains-first x xs = Contains-append_left (x ∷ []) xs x (Contains-push [] x)
+
+found : {X : Type 0} (f : X → Bool) (xs : List X) → list_any f xs ≡ true → (x : X) × Contains xs x × (f x ≡ true)
+found f [] h = absurd (true≢false (sym h))
+found {X} f (x ∷ xs) h = here (f x) refl (found f xs) h
+  where
+    here : (b : Bool) → f x ≡ b → (list_any f xs ≡ true → (z : X) × Contains xs z × (f z ≡ true)) → (b || list_any f xs) ≡ true → (z : X) × Contains (x ∷ xs) z × (f z ≡ true)
+    here true e later h = (x, Contains-first x xs, e)
+    here false e later h = let rest = later h in (rest.0, Contains-append_right (x ∷ []) xs rest.0 rest.1, rest.2)
+
+finds : {X : Type 0} (f : X → Bool) (xs : List X) (x : X) → Contains xs x → f x ≡ true → list_any f xs ≡ true
+finds f xs x there h = list_any_at f xs there.0 x there.1 (ap f there.2 ∙ h)
+
+same_answer : (b c : Bool) → (b ≡ true → c ≡ true) → (c ≡ true → b ≡ true) → b ≡ c
+same_answer true c to from = sym (to refl)
+same_answer false true to from = from refl
+same_answer false false to from = refl
+
+-- ---- what is kept tells the same clashes
+
+still_unseen : (i j n : ℕ) → i ≤ j → not (nat_lt i n) ≡ true → not (nat_lt j n) ≡ true
+still_unseen i j n le h = grind (arith, nat_tests)
+
+-- where an access clashes with a touch, it does with one that stands for it
+later_clashes : (y : ClockedAccess) (t u : Touch) → IsInPlaceOf t u → touch_clashes y u ≡ true → touch_clashes y t ≡ true
+later_clashes y t u p h =
+    let other = and_parts _ _ h in
+    let apart = and_parts _ _ other.1 in
+    let still = still_unseen u.index t.index (count_of y.clock u.item) p.index apart.1 in
+    rw (p.item, p.class) (and_from _ _ other.0 (and_from _ _ apart.0 still))
+
+pub clashes_kept : (y : ClockedAccess) (kept all : List Touch) → Keeps kept all → list_any (touch_clashes y) kept ≡ list_any (touch_clashes y) all
+clashes_kept y kept all k = same_answer _ _ to from
+  where
+    to : list_any (touch_clashes y) kept ≡ true → list_any (touch_clashes y) all ≡ true
+    to h = let t = found (touch_clashes y) kept h in finds (touch_clashes y) all t.0 (k.each t.0 t.1) t.2
+
+    from : list_any (touch_clashes y) all ≡ true → list_any (touch_clashes y) kept ≡ true
+    from h =
+        let u = found (touch_clashes y) all h in
+        let t = k.some u.0 u.1 in
+        finds (touch_clashes y) kept t.0 t.1 (later_clashes y t.0 u.0 t.2 u.2)
+
+-- ---- lists that are kept
+
+in_place_of_itself : (t : Touch) → IsInPlaceOf t t
+in_place_of_itself t = record { item = refl; class = refl; index = omega arith }
+
+in_place_of_both : (t u v : Touch) → IsInPlaceOf t u → IsInPlaceOf u v → IsInPlaceOf t v
+in_place_of_both t u v p q =
+    let first = p.index in
+    let second = q.index in
+    record { item = p.item ∙ q.item; class = p.class ∙ q.class; index = omega arith }
+
+pub Keeps-same : (a b : List Touch) → ((t : Touch) → Contains a t → Contains b t) → ((t : Touch) → Contains b t → Contains a t) → Keeps a b
+Keeps-same a b to from = record { each = to; some = λ u h. (u, from u h, in_place_of_itself u) }
+
+pub Keeps-self : (a : List Touch) → Keeps a a
+Keeps-self a = Keeps-same a a (λ t h. h) (λ t h. h)
+
+pub Keeps-trans : (a b c : List Touch) → Keeps a b → Keeps b c → Keeps a c
+Keeps-trans a b c k l = record {
+  each = λ t h. l.each t (k.each t h);
+  some = λ v h.
+      let u = l.some v h in
+      let t = k.some u.0 u.1 in
+      (t.0, t.1, in_place_of_both t.0 u.0 v t.2 u.2);
+}
+
+pub Keeps-append : (a b c d : List Touch) → Keeps a b → Keeps c d → Keeps (a ++ c) (b ++ d)
+Keeps-append a b c d k l = record {
+  each = λ t h. ⊎_elim (λ p. Contains-append_left b d t (k.each t p)) (λ p. Contains-append_right b d t (l.each t p)) (Contains-append_cases a c t h);
+  some = λ u h. ⊎_elim (λ p. let t = k.some u p in (t.0, Contains-append_left a c t.0 t.1, t.2)) (λ p. let t = l.some u p in (t.0, Contains-append_right a c t.0 t.1, t.2)) (Contains-append_cases b d u h);
+}
+
+swapped : (a b c : List Touch) (t : Touch) → Contains ((a ++ b) ++ c) t → Contains ((a ++ c) ++ b) t
+swapped a b c t h = ⊎_elim (λ p. ⊎_elim (λ q. Contains-append_left (a ++ c) b t (Contains-append_left a c t q)) (λ q. Contains-append_right (a ++ c) b t q) (Contains-append_cases a b t p)) (λ p. Contains-append_left (a ++ c) b t (Contains-append_right a c t p)) (Contains-append_cases (a ++ b) c t h)
+
+-- one more touch, kept in the first or in the second of two lists
+pub Keeps-first : (a b x r : List Touch) → Keeps a (b ++ x) → Keeps (a ++ r) ((b ++ r) ++ x)
+Keeps-first a b x r k =
+    Keeps-trans (a ++ r) ((b ++ x) ++ r) ((b ++ r) ++ x) (Keeps-append a (b ++ x) r r k (Keeps-self r)) (Keeps-same _ _ (swapped b x r) (swapped b r x))
+
+pub Keeps-second : (a r s x : List Touch) → Keeps r (s ++ x) → Keeps (a ++ r) ((a ++ s) ++ x)
+Keeps-second a r s x k = rw append_assoc (Keeps-append a a r (s ++ x) (Keeps-self a) k)
+
+-- the same at a place of a list
+pub Keeps-at : (ts : List Touch) (p : ℕ) (old new x : Touch) → p < length ts → old ≡ get_or ts p old → Keeps (new ∷ []) (old ∷ x ∷ []) → Keeps (slice_set ts p new) (ts ++ x ∷ [])
+Keeps-at [] p old new x within at k = absurd (omega arith)
+Keeps-at (t ∷ ts) zero old new x within at k = rw (sym at) (Keeps-first (new ∷ []) (old ∷ []) (x ∷ []) ts k)
+Keeps-at (t ∷ ts) (suc p) old new x within at k = Keeps-second (t ∷ []) _ ts (x ∷ []) (Keeps-at ts p old new x (omega arith) at k)
+
+-- of two touches the one that stands for the other
+only : (t u : Touch) → Contains (t ∷ []) u → t ≡ u
+only t u h = ⊎_elim (λ none. absurd (omega (arith, none.1))) (λ same. same) (Contains-push_cases [] t u h)
+
+stands_for_two : (t u x : Touch) → IsInPlaceOf t u → Contains (u ∷ []) x ⊎ Contains (t ∷ []) x → IsInPlaceOf t x
+stands_for_two t u x stands h = ⊎_elim (λ p. subst (λ (v : Touch). IsInPlaceOf t v) (only u x p) stands) (λ p. subst (λ (v : Touch). IsInPlaceOf t v) (only t x p) (in_place_of_itself t)) h
+
+pub Keeps-other : (t u : Touch) → IsInPlaceOf t u → Keeps (t ∷ []) (u ∷ t ∷ [])
+Keeps-other t u stands = record {
+  each = λ x h. Contains-append_right (u ∷ []) (t ∷ []) x h;
+  some = λ x h. (t, Contains-first t [], stands_for_two t u x stands (Contains-append_cases (u ∷ []) (t ∷ []) x h));
+}
+
+pub Keeps-one : (t u : Touch) → IsInPlaceOf t u → Keeps (t ∷ []) (t ∷ u ∷ [])
+Keeps-one t u stands = record {
+  each = λ x h. Contains-append_left (t ∷ []) (u ∷ []) x h;
+  some = λ x h. (t, Contains-first t [], stands_for_two t u x stands (⊎_elim (λ p. inr p) (λ p. inl p) (Contains-append_cases (t ∷ []) (u ∷ []) x h)));
+}
+
+-- what holds of all touches holds of those that are kept
+pub All-kept : (P : Touch → Type 0) (kept all : List Touch) → Keeps kept all → All P all → All P kept
+All-kept P kept all k of = All-weaker (Contains kept) P (λ t there. All-contains P all t of (k.each t there)) kept (All-contains_itself kept)
+
+pub Keeps-permutation : (kept all : List Touch) → IsPermutation all kept → Keeps kept all
+Keeps-permutation kept all moved = Keeps-same kept all (λ t h. Contains-permutation kept all t (IsPermutation-sym all kept moved) h) (λ t h. Contains-permutation all kept t moved h)
+
+-- a step of a `dedup_by`: the touch that is kept takes the next one's part, or neither changes
+abbrev pub IsTaking : Touch → Touch → Bool → Touch → Touch → Type 0
+IsTaking next kept b next_after kept_after = MatchBool b (Keeps (kept_after ∷ []) (kept ∷ next ∷ [])) ((kept_after ≡ kept) × (next_after ≡ next))
+
+pub taking : (next kept : Touch) (b : Bool) (next_after kept_after : Touch) → (b ≡ true → Keeps (kept_after ∷ []) (kept ∷ next ∷ [])) → (b ≡ false → kept_after ≡ kept) → next_after ≡ next → IsTaking next kept b next_after kept_after
+taking next kept true next_after kept_after took other same = took refl
+taking next kept false next_after kept_after took other same = (other refl, same)
+
+module _ {S : Type 0} (R : S → Touch → Touch → Bool → S → Touch → Touch → Type 0) (takes : (s : S) (x k : Touch) (b : Bool) (t : S) (x' k' : Touch) → R s x k b t x' k' → IsTaking x k b x' k') where
+  deduped : (s : S) (k : Touch) (xs ys : List Touch) → DedupsFrom R s k xs ys → Keeps ys (k ∷ xs)
+  deduped s k [] ys is = rw is (Keeps-self (k ∷ []))
+  deduped s k (x ∷ xs) ys (b, t, x', k', r, rest) = step b (takes s x k b t x' k' r) rest (deduped t k' xs ys) (λ zs. deduped t x' xs zs)
+    where
+      step : (b : Bool) → IsTaking x k b x' k' → MatchBool b (DedupsFrom R t k' xs ys) ((zs : List Touch) × DedupsFrom R t x' xs zs × (ys ≡ k' ∷ zs)) → (DedupsFrom R t k' xs ys → Keeps ys (k' ∷ xs)) → ((zs : List Touch) → DedupsFrom R t x' xs zs → Keeps zs (x' ∷ xs)) → Keeps ys (k ∷ x ∷ xs)
+      step true took rest taken others = Keeps-trans ys (k' ∷ xs) (k ∷ x ∷ xs) (taken rest) (Keeps-append (k' ∷ []) (k ∷ x ∷ []) xs xs took (Keeps-self xs))
+      step false same (zs, more, is) taken others =
+          let kept : Keeps (k ∷ zs) (k ∷ x ∷ xs) = Keeps-append (k ∷ []) (k ∷ []) zs (x ∷ xs) (Keeps-self (k ∷ [])) (subst (λ (z : Touch). Keeps zs (z ∷ xs)) same.1 (others zs more)) in
+          rw (is, same.0) kept
+
+  pub Keeps-deduped : (s : S) (xs ys : List Touch) → IsDeduped R s xs ys → Keeps ys xs
+  Keeps-deduped s [] ys is = let none : ys ≡ [] = is.told in rw none (Keeps-self [])
+  Keeps-deduped s (x ∷ xs) ys is = deduped s x xs ys is.told
+
+-- ---- lists of lists
+
+pub Keeps-set : (lists : List TouchList) (p : ℕ) (old new : TouchList) (x : List Touch) → p < length lists → old ≡ get_or lists p old → Keeps new.touches (old.touches ++ x) → Keeps (all_touches (slice_set lists p new)) (all_touches lists ++ x)
+Keeps-set [] p old new x within at k = absurd (omega arith)
+Keeps-set (l ∷ lists) zero old new x within at k = rw (sym at) (Keeps-first new.touches old.touches x (all_touches lists) k)
+Keeps-set (l ∷ lists) (suc p) old new x within at k = Keeps-second l.touches _ (all_touches lists) x (Keeps-set lists p old new x (omega arith) at k)
+
+pub Keeps-push : (lists : List TouchList) (new : TouchList) (x : List Touch) → Keeps new.touches x → Keeps (all_touches (lists ++ new ∷ [])) (all_touches lists ++ x)
+Keeps-push [] new x k = rw append-nil k
+Keeps-push (l ∷ lists) new x k = Keeps-second l.touches _ (all_touches lists) x (Keeps-push lists new x k)
+
+pub any_of_lists : (f : Touch → Bool) (lists : List TouchList) → list_any (λ l. list_any f l.touches) lists ≡ list_any f (all_touches lists)
+any_of_lists f [] = refl
+any_of_lists f (l ∷ lists) = ap (λ b. list_any f l.touches || b) (any_of_lists f lists) ∙ sym (list_any-append f l.touches (all_touches lists))
+
+pub any_of_both : (f : Touch → Bool) (few : List Touch) (lists : List TouchList) → list_any f (few ++ all_touches lists) ≡ (list_any f few || list_any (λ l. list_any f l.touches) lists)
+any_of_both f few lists = rw (list_any-append f few (all_touches lists), any_of_lists f lists) refl
+
+-- ---- touches of one class
+
+exempt_by_kept_group : (c : Class) (g : ℕ) (d : Class) (h : ℕ) → exempt c g d h ≡ exempt c (kept_group c g) d h
+exempt_by_kept_group PlainRead g d h = refl
+exempt_by_kept_group PlainWrite g d h = refl
+exempt_by_kept_group GroupRead g d h = refl
+exempt_by_kept_group GroupModify g d h = refl
+exempt_by_kept_group DeviceRead g PlainRead h = refl
+exempt_by_kept_group DeviceRead g PlainWrite h = refl
+exempt_by_kept_group DeviceRead g GroupRead h = refl
+exempt_by_kept_group DeviceRead g GroupModify h = refl
+exempt_by_kept_group DeviceRead g DeviceRead h = refl
+exempt_by_kept_group DeviceRead g DeviceModify h = refl
+exempt_by_kept_group DeviceModify g PlainRead h = refl
+exempt_by_kept_group DeviceModify g PlainWrite h = refl
+exempt_by_kept_group DeviceModify g GroupRead h = refl
+exempt_by_kept_group DeviceModify g GroupModify h = refl
+exempt_by_kept_group DeviceModify g DeviceRead h = refl
+exempt_by_kept_group DeviceModify g DeviceModify h = refl
+
+regrouped : (s e n : Bool) → (not s && (not e && not n)) ≡ (not e && (not s && not n))
+regrouped s e n = grind arith
+
+touch_told : (y : ClockedAccess) (c : Class) (g : ℕ) (t : Touch) → IsOfClass c g t → touch_clashes y t ≡ (not (exempt c g y.class y.item.group) && is_unseen y t)
+touch_told y c g t of =
+    let same : exempt t.class t.item.group y.class y.item.group ≡ exempt c g y.class y.item.group = exempt_by_kept_group t.class t.item.group y.class y.item.group ∙ ap (λ h. exempt t.class h y.class y.item.group) of.apart ∙ ap (λ d. exempt d g y.class y.item.group) of.same in
+    regrouped (same_item t.item y.item) (exempt t.class t.item.group y.class y.item.group) (nat_lt t.index (count_of y.clock t.item)) ∙ ap (λ e. not e && is_unseen y t) same
+
+-- an access clashes with touches of one class where it is not exempt with them, and has not seen one of them
+pub class_told : (y : ClockedAccess) (c : Class) (g : ℕ) (ts : List Touch) → All (IsOfClass c g) ts → (not (exempt c g y.class y.item.group) && list_any (is_unseen y) ts) ≡ list_any (touch_clashes y) ts
+class_told y c g ts of = same_answer _ _ to from
+  where
+    each : (t : Touch) → Contains ts t → touch_clashes y t ≡ (not (exempt c g y.class y.item.group) && is_unseen y t)
+    each t there = touch_told y c g t (All-contains (IsOfClass c g) ts t of there)
+
+    to : (not (exempt c g y.class y.item.group) && list_any (is_unseen y) ts) ≡ true → list_any (touch_clashes y) ts ≡ true
+    to h =
+        let parts = and_parts (not (exempt c g y.class y.item.group)) (list_any (is_unseen y) ts) h in
+        let t = found (is_unseen y) ts parts.1 in
+        finds (touch_clashes y) ts t.0 t.1 (each t.0 t.1 ∙ and_from _ _ parts.0 t.2)
+
+    from : list_any (touch_clashes y) ts ≡ true → (not (exempt c g y.class y.item.group) && list_any (is_unseen y) ts) ≡ true
+    from h =
+        let t = found (touch_clashes y) ts h in
+        let parts = and_parts (not (exempt c g y.class y.item.group)) (is_unseen y t.0) (sym (each t.0 t.1) ∙ t.2) in
+        and_from _ _ parts.0 (finds (is_unseen y) ts t.0 t.1 parts.1)

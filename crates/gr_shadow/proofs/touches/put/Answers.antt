@@ -1,0 +1,19 @@
+use Rattle.std.proofs.Common.{◌∷◌, [], ◌++◌, List, ap, ◌∙◌, subst, slice_set, rules}
+use Rattle.std.proofs.lemmas.List.{set-get_or}
+use Rattle.std.proofs.lemmas.Result.{on_ok_weaker, on_err_weaker}
+use Rattle.gr_shadow.specs.declared.touch.Touch.{Touch}
+use Rattle.gr_shadow.specs.Keeps.{Keeps}
+use Rattle.gr_shadow.proofs.KeepsLemmas.{Keeps-set, Keeps-push}
+use Rattle.gr_shadow.proofs.touches.put.Goals as goal
+
+pub returns-in-Some-clause-kept : goal.returns-in-Some-clause-kept
+returns-in-Some-clause-kept g c =
+    on_ok_weaker c.add.result (λ kept. Keeps-set c.args.lists.now.items c.in-Some.place c.index_mut.result.now c.add.new.self (c.args.touch ∷ []) (search rules) c.index_mut.ensures.value kept) c.add.ensures.kept
+
+pub returns-in-Some-clause-err : goal.returns-in-Some-clause-err
+returns-in-Some-clause-err g c =
+    on_err_weaker c.add.result (λ same. ap (slice_set c.args.lists.now.items c.in-Some.place) (same ∙ c.index_mut.ensures.value) ∙ set-get_or c.args.lists.now.items c.in-Some.place c.index_mut.result.now) c.add.ensures.err
+
+pub returns-in_ok-push-in-None-clause-kept : goal.returns-in_ok-push-in-None-clause-kept
+returns-in_ok-push-in-None-clause-kept g c =
+    rw c.in_ok-push-in-None.ensures.items (Keeps-push c.args.lists.now.items _ (c.args.touch ∷ []) (subst (λ (l : List Touch). Keeps c.add-in-None.new.self.touches (l ++ c.args.touch ∷ [])) c.new-list.ensures.touches c.in_ok-add-in-None.ensures.kept))
