@@ -1,7 +1,7 @@
 #!/bin/sh
 # How many instructions a record takes in `gpurace replay`, and how many of them in the shadows (docs/SPEED.md):
 #
-#   shadow_share.sh [RECORDS]    by default 100,000; needs valgrind, and python3 for the traces
+#   shadow_share.sh [RECORDS [TRACE..]]    by default 100,000, and all traces; needs valgrind, and python3 for the traces
 #
 # For each trace one line: its name, its records, instructions per record, those of the shadows with all that they call, and
 # the share. The traces are the kernels of tools/kernel_traces.py, of 16 groups of 32 items, and one word that one item
@@ -10,6 +10,8 @@
 set -eu
 top=$(cd "$(dirname "$0")/.." && pwd)
 records=${1:-100000}
+[ $# -eq 0 ] || shift
+[ $# -gt 0 ] || set -- matmul histogram reduction messages sparse writer readers adders
 room=$(mktemp -d)
 trap 'rm -rf "$room"' EXIT
 program=${PROGRAM:-$top/gpurace}
@@ -24,7 +26,7 @@ python3 "$top/tools/replay_traces.py" writers "$records" 1 > "$room/writer.trace
 python3 "$top/tools/replay_traces.py" readers "$records" 2048 > "$room/readers.trace"
 python3 "$top/tools/replay_traces.py" adders "$records" 2048 > "$room/adders.trace"
 
-for name in matmul histogram reduction messages sparse writer readers adders; do
+for name in "$@"; do
     status=0
     valgrind --tool=callgrind --callgrind-out-file="$room/calls" "$program" replay < "$room/$name.trace" > "$room/report" 2> "$room/log" || status=$?
     [ "$status" -le 1 ] || { cat "$room/log"; exit "$status"; }
