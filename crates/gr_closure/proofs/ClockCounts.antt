@@ -20,9 +20,9 @@ clocks_count s m order e c j lawful there just =
     let within : count_of c j ≤ size =
     ⊎_elim
     (λ (more : size < count_of c j). let stands = seen_handled s m order lawful e (at size) there ((just (at size)).0 more) in
-      let event = (lawful.event stands.0 (at size) stands.1).0 in
-      let below : size < size = slice_get_within (trace_of s j) size event.0 event.1 in
-      absurd (omega arith))
+    let event = (lawful.event stands.0 (at size) stands.1).0 in
+    let below : size < size = slice_get_within (trace_of s j) size event.0 event.1 in
+    absurd (omega arith))
     (λ (le : count_of c j ≤ size). le)
     (cases_lt size (count_of c j)) in
     number_of_front (λ k. IsSeen s m e (at k)) size (count_of c j) within (λ k _. ((just (at k)).1, (just (at k)).0))
