@@ -410,14 +410,19 @@ fn slow_answers<A: Allocator + Copy>(
     Some(all)
 }
 
+/// Whether the shadows and the slow body answer as a row wants, and the hit words at its end are those of the row.
+fn is_as_wanted<A: Allocator + Copy>(alloc: A, row: &Row) -> Option<bool> {
+    let (_name, groups, items, steps, wanted, hits) = row;
+    let (all, words) = answers(alloc, *groups, *items, steps)?;
+    let slow = slow_answers(alloc, *groups, *items, steps)?;
+    Some(all == *wanted && slow == *wanted && words.as_slice() == *hits)
+}
+
 #[test]
 fn a_word_is_answered_where_it_becomes_hit(rt: HostRuntime) -> Result<(), Fail> {
-    for (name, groups, items, steps, wanted, hits) in &ROWS {
-        let (all, words) = answers(rt.alloc(), *groups, *items, steps).ok_or("memory")?;
-        let slow = slow_answers(rt.alloc(), *groups, *items, steps).ok_or("memory")?;
-        assert_eq!(rt; all, *wanted, "{name}");
-        assert_eq!(rt; slow, *wanted, "{name}, the slow body");
-        assert_eq!(rt; words.as_slice(), *hits, "{name}");
+    for row in &ROWS {
+        let name = row.0;
+        assert!(rt; is_as_wanted(rt.alloc(), row) == Some(true), "{name}");
     }
     Ok(())
 }
@@ -429,7 +434,12 @@ fn read_of<A: Allocator + Copy>(
     item: u16,
     index: u32,
 ) -> Option<Access<A>> {
-    access_of(alloc, shape, 6, (FOUR, item, index, Class::PlainRead, [0; 6]))
+    access_of(
+        alloc,
+        shape,
+        6,
+        (FOUR, item, index, Class::PlainRead, [0; 6]),
+    )
 }
 
 /// What a write of item 0 answers that knows of all ten reads of each of six items but for the last of one of them.
@@ -475,7 +485,9 @@ fn union<A: Allocator + Copy>(alloc: A, first: &[Word], second: &[Word]) -> Opti
 fn each_refused_growth_leaves_the_hit_words(rt: HostRuntime) -> Result<(), Fail> {
     for at in 0..1_000_u64 {
         let heap = Refusing::new(rt.alloc(), at);
-        let (all, words) = answers(&heap, 1, 2, &ANSWERED_ONCE).ok_or("a refusal changed the words")?;
+        let (all, words) = answers(&heap, 1, 2, &ANSWERED_ONCE).ok_or(
+            "a refusal changed the words",
+        )?;
         assert_eq!(rt;
             all,
             [None, Some(SIXTEEN), None, None, None, None, None],
