@@ -29,7 +29,7 @@ fn counts<A: Allocator>(clock: &Clock<A>) -> [u32; 2] {
     [clock.get(item(0)), clock.get(item(1))]
 }
 
-fn tick<A: Allocator>(clock: &mut Clock<A>, place: u16) -> bool
+fn tick<A: Allocator + Copy>(clock: &mut Clock<A>, place: u16) -> bool
     requires sizes { sizes_of clock.old ≡ 2 ∷ [] }
     requires place { place < 2 }
     ensures { sizes_of clock.new ≡ 2 ∷ [] }
@@ -42,7 +42,7 @@ fn tick<A: Allocator>(clock: &mut Clock<A>, place: u16) -> bool
     clock.tick(item(place)).is_ok() && stays
 }
 
-fn join<A: Allocator>(clock: &mut Clock<A>, other: &Clock<A>) -> bool
+fn join<A: Allocator + Copy>(clock: &mut Clock<A>, other: &Clock<A>) -> bool
     requires sizes { sizes_of clock.old ≡ 2 ∷ [] }
     requires others { sizes_of other.now ≡ 2 ∷ [] }
     ensures { sizes_of clock.new ≡ 2 ∷ [] }
@@ -96,7 +96,7 @@ fn a_clock_ticks_joins_and_covers(rt: HostRuntime) -> Result<(), Fail> {
 }
 
 /// Ticks an item so often, and tells how often it went well from the start on.
-fn tick_times<A: Allocator>(clock: &mut Clock<A>, place: u16, times: u32) -> u32
+fn tick_times<A: Allocator + Copy>(clock: &mut Clock<A>, place: u16, times: u32) -> u32
     requires sizes { sizes_of clock.old ≡ 2 ∷ [] }
     requires place { place < 2 }
     ensures { sizes_of clock.new ≡ 2 ∷ [] }
@@ -150,7 +150,7 @@ fn all_known<A: Allocator>(clocks: &Clocks<A>) -> [[u32; 2]; 4]
     ]
 }
 
-fn access<A: Allocator>(clocks: &mut Clocks<A>, place: u16) -> bool
+fn access<A: Allocator + Copy>(clocks: &mut Clocks<A>, place: u16) -> bool
     requires sizes { clocks.old.sizes ≡ 2 ∷ [] }
     requires place { place < 2 }
     ensures { clocks.new.sizes ≡ 2 ∷ [] }
@@ -183,7 +183,11 @@ fn release<A: Allocator + Copy>(
     clocks.release(item(place), word, Scope::Device).ok()
 }
 
-fn acquire<A: Allocator>(clocks: &mut Clocks<A>, place: u16, snapshot: &Snapshot<A>) -> bool
+fn acquire<A: Allocator + Copy>(
+    clocks: &mut Clocks<A>,
+    place: u16,
+    snapshot: &Snapshot<A>,
+) -> bool
     requires sizes { clocks.old.sizes ≡ 2 ∷ [] }
     requires snapshot { sizes_of snapshot.now.clock ≡ 2 ∷ [] }
     requires place { place < 2 }

@@ -9,3 +9,5 @@ mod clock_rows;
 mod launch;
 #[cfg(test)]
 mod scope_rows;
+#[cfg(test)]
+mod sharing_rows;

@@ -259,7 +259,7 @@ const ROWS: [Row; 13] = [
 ];
 
 /// Ticks an item of the shape so often.
-fn tick<A: Allocator>(
+fn tick<A: Allocator + Copy>(
     clock: &mut Clock<A>,
     shape: &Shape<A>,
     item: ItemId,

@@ -1,0 +1,94 @@
+//! The worked row of clocks that share their counts: what one of them counts from then on, its copy does not.
+
+ghost use Rattle.std.specs.Prelude.{◌≡◌, ◌∷◌, [], IfSome};
+ghost use Rattle.gr_model.specs.Shapes.{HasItem};
+ghost use Rattle.gr_clocks.specs.Counts.{sizes_of};
+
+use gr_clocks::clock::Clock;
+use gr_model::event::ItemId;
+use gr_model::shape::Shape;
+use refusing::Refusing;
+use std::alloc::Allocator;
+use std::test::Fail;
+
+/// The counts of three groups of two items.
+type Counts = [[u32; 2]; 3];
+
+fn at(group: u16, item: u16) -> ItemId
+    ensures { result ≡ record { group = group; item = item } }
+{
+    ItemId { group, item }
+}
+
+fn counts<A: Allocator>(clock: &Clock<A>) -> Counts {
+    [
+        [clock.get(at(0, 0)), clock.get(at(0, 1))],
+        [clock.get(at(1, 0)), clock.get(at(1, 1))],
+        [clock.get(at(2, 0)), clock.get(at(2, 1))],
+    ]
+}
+
+fn new_clock<A: Allocator + Copy>(alloc: A) -> Option<Clock<A>>
+    ensures { IfSome result (λ c. sizes_of c ≡ 2 ∷ 2 ∷ 2 ∷ []) }
+{
+    let sizes = vec![in alloc; 2_u16, 2, 2].ok()?;
+    let shape = Shape::new(sizes).ok()?;
+    Clock::new(alloc, &shape).ok()
+}
+
+/// Ticks an item, again where a growth was refused, which changes nothing.
+fn tick<A: Allocator + Copy>(clock: &mut Clock<A>, item: ItemId) -> bool
+    requires sizes { sizes_of clock.old ≡ 2 ∷ 2 ∷ 2 ∷ [] }
+    requires item { HasItem (2 ∷ 2 ∷ 2 ∷ []) item }
+    ensures { sizes_of clock.new ≡ 2 ∷ 2 ∷ 2 ∷ [] }
+{
+    let before = counts(clock);
+    if clock.tick(item).is_ok() {
+        return true;
+    }
+    let stays = counts(clock) == before;
+    clock.tick(item).is_ok() && stays
+}
+
+/// Joins a clock, again where a growth was refused, which changes nothing.
+fn join<A: Allocator + Copy>(clock: &mut Clock<A>, other: &Clock<A>) -> bool
+    requires sizes { sizes_of clock.old ≡ 2 ∷ 2 ∷ 2 ∷ [] }
+    requires others { sizes_of other.now ≡ 2 ∷ 2 ∷ 2 ∷ [] }
+    ensures { sizes_of clock.new ≡ 2 ∷ 2 ∷ 2 ∷ [] }
+{
+    let before = counts(clock);
+    if clock.join(other).is_ok() {
+        return true;
+    }
+    let stays = counts(clock) == before;
+    clock.join(other).is_ok() && stays
+}
+
+/// Three ticks, a copy, a tick of each, and a join of the first into the copy: what both count then.
+fn ticks_behind_a_copy<A: Allocator + Copy>(alloc: A) -> Option<(Counts, Counts)> {
+    let mut first = new_clock(alloc)?;
+    if !(tick(&mut first, at(1, 1)) && tick(&mut first, at(1, 1)) && tick(&mut first, at(1, 1))) {
+        return None;
+    }
+    let mut copied = first.copy().ok()?;
+    let ticked = tick(&mut copied, at(1, 1)) && tick(&mut first, at(0, 0));
+    if !ticked || !join(&mut copied, &first) {
+        return None;
+    }
+    Some((counts(&first), counts(&copied)))
+}
+
+#[test]
+fn a_copy_does_not_count_what_the_other_does(rt: HostRuntime) -> Result<(), Fail> {
+    let want = Some(([[1, 0], [0, 3], [0, 0]], [[1, 0], [0, 4], [0, 0]]));
+    for growth in 0..1_000_u64 {
+        let heap = Refusing::new(rt.alloc(), growth);
+        let answer = ticks_behind_a_copy(&heap);
+        assert!(rt; answer == want || (answer.is_none() && heap.refused()), "growth {growth} refused");
+        if !heap.refused() {
+            assert!(rt; growth > 0, "no growth was refused");
+            return Ok(());
+        }
+    }
+    Err("no end")?
+}
