@@ -64,7 +64,8 @@ private:
 
     // NUMBER-KERNEL, with .2, .3 .. behind it where another process of the program has that folder.
     bool make_folder() {
-        if (mkdir(settings_.out.c_str(), 0777) != 0 && errno != EEXIST) return false;
+        folder_ = settings_.out;
+        if (mkdir(folder_.c_str(), 0777) != 0 && errno != EEXIST) return false;
         std::ostringstream name;
         name << settings_.out << '/' << std::setw(3) << std::setfill('0') << launch_.number << '-' << launch_.kernel;
         folder_ = name.str();
