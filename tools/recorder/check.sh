@@ -61,7 +61,7 @@ expect "a window" 1 "races 16 diverge 0" "the report is of groups 1 to 2 of 4 (a
     -- --groups 1:2 "$work/sum_tiles" sum_tiles.cl 1
 expect "no group of the window" 2 "not recorded: it has 4 work-groups, and none of the window" \
     -- --groups 4:2 "$work/sum_tiles" sum_tiles.cl 1
-expect "another kernel" 2 "0 launches" -- --kernel other "$work/sum_tiles" sum_tiles.cl 1
+expect "another kernel" 2 "no launch was recorded" -- --kernel other "$work/sum_tiles" sum_tiles.cl 1
 # six groups count themselves in turn; the last reads the five other parts
 expect "a hand-over" 0 "launch 0, sum_all: nothing found" \
     -- --opencl20 --build-options -DORDER=memory_order_acq_rel sum_all.sim
@@ -72,6 +72,13 @@ expect "releases alone" 1 "races 5 diverge 0 unmatched 0 held 0" \
 # each count continues the sequences of all before it: the load names six releases, five of them by loads before it
 expect "releases, and a load that acquires" 0 "sum_all: nothing found (6 groups of 1 work-item, 42 records)" \
     -- --opencl20 --build-options "-DORDER=memory_order_release -DACQUIRES" sum_all.sim
+# of the six releases that the load is to name, four are of groups that are not recorded
+expect "a window of hand-overs" 0 "sum_all: nothing found (2 groups" "4 hand-overs from groups outside the window were not recorded" \
+    -- --opencl20 --groups 4:2 --build-options "-DORDER=memory_order_release -DACQUIRES" sum_all.sim
+expect "a large launch" 2 "not recorded: 128 work-groups of 64 work-items are more than a trace has room for; --groups 0:32" \
+    -- large.sim
+expect "a window of it" 0 "large: nothing found (32 groups of 64 work-items, 2080 records)" "groups 96 to 127 of 128" \
+    -- --groups 96:32 large.sim
 expect "a copy that is waited for" 0 "copy_tiles: nothing found" -- --build-options -DWAIT=1 copy_tiles.sim
 expect "a copy that is not" 1 "races 16 diverge 0" "write by group 0, asynchronous copy" -- --build-options -DWAIT=0 copy_tiles.sim
 # twelve bytes and shorts lie side by side; the thirteenth of each is written by several

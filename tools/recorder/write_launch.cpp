@@ -64,7 +64,8 @@ private:
 
     // NUMBER-KERNEL, with .2, .3 .. behind it where another process of the program has that folder.
     bool make_folder() {
-        if (mkdir(settings_.out.c_str(), 0777) != 0 && errno != EEXIST) return false;
+        folder_ = settings_.out;
+        if (mkdir(folder_.c_str(), 0777) != 0 && errno != EEXIST) return false;
         std::ostringstream name;
         name << settings_.out << '/' << std::setw(3) << std::setfill('0') << launch_.number << '-' << launch_.kernel;
         folder_ = name.str();
@@ -208,7 +209,7 @@ private:
         out << "items " << items_ << "\nrecords " << records_ << '\n';
         for (const uint32_t group : cut_) out << "cut " << group << '\n';
         for (const auto &[number, group] : launch_.group)
-            if (group.has_copies) out << "copying-item " << number - launch_.window_first << ' ' << group.items << '\n';
+            if (group.is_kept && group.has_copies) out << "copying-item " << number - launch_.window_first << ' ' << group.items << '\n';
         write_losses(out);
         return out.flush().good();
     }
@@ -250,14 +251,12 @@ void write_launch(Launch &launch, const Settings &settings, const std::string &r
         reason = "its asynchronous copies need one more work-item in each group, which makes more than 2,048; --groups records "
                  "fewer groups";
     Writer writer(launch, settings);
-    if (!writer.write(reason))
-        std::fprintf(stderr, "gpurace-recorder: launch %u %s: %s could not be written: %s\n", launch.number,
-                     launch.kernel.c_str(), writer.folder().c_str(), std::strerror(errno));
-    else if (!settings.quiet && !reason.empty())
-        std::fprintf(stderr, "gpurace-recorder: launch %u %s not recorded: %s\n", launch.number, launch.kernel.c_str(), reason.c_str());
-    else if (!settings.quiet)
-        std::fprintf(stderr, "gpurace-recorder: launch %u %s: %llu records in %s\n", launch.number, launch.kernel.c_str(),
-                     static_cast<unsigned long long>(writer.records()), writer.folder().c_str());
+    const bool is_written = writer.write(reason);
+    const std::string told = !is_written        ? writer.folder() + " could not be written: " + std::strerror(errno)
+                             : !reason.empty() ? "not recorded: " + reason
+                                               : std::to_string(writer.records()) + " records in " + writer.folder();
+    if (!is_written || !settings.quiet)
+        std::fprintf(stderr, "gpurace-recorder: launch %u %s: %s\n", launch.number, launch.kernel.c_str(), told.c_str());
 }
 
 } // namespace gpurace
