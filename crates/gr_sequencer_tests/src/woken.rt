@@ -24,18 +24,28 @@ fn three_groups<A: Allocator + Copy>(sequencer: &mut Sequencer<A>) -> Option<[bo
     Some(groups)
 }
 
-fn seen<A: Allocator + Copy>(alloc: A) -> Option<Seen> {
-    let mut sequencer = new(alloc, &[1, 1, 1, 1])?;
+/// Takes the acquires of the last three of four groups.
+fn take_acquires<A: Allocator + Copy>(sequencer: &mut Sequencer<A>) -> Option<()> {
     for group in 1..4_u16 {
         let acquire = event_of(&(group, 0, ACQUIRE, Space::Global, 20, FIRST_0_0));
-        let _taken = take(&mut sequencer, group, acquire)?.ok()?;
+        let _taken = take(sequencer, group, acquire)?.ok()?;
     }
-    let before = step(&mut sequencer)?.is_none();
+    Some(())
+}
+
+fn one_release<A: Allocator + Copy>(sequencer: &mut Sequencer<A>) -> Option<Seen> {
+    take_acquires(sequencer)?;
+    let before = step(sequencer)?.is_none();
     let release = event_of(&(0, 0, RELEASE, Space::Global, 20, None));
-    let _released = take(&mut sequencer, 0, release)?.ok()?;
-    let first = handled(&step(&mut sequencer)?);
-    let groups = three_groups(&mut sequencer)?;
-    Some((before, first, groups, step(&mut sequencer)?.is_none()))
+    let _released = take(sequencer, 0, release)?.ok()?;
+    let first = handled(&step(sequencer)?);
+    let groups = three_groups(sequencer)?;
+    Some((before, first, groups, step(sequencer)?.is_none()))
+}
+
+fn seen<A: Allocator + Copy>(alloc: A) -> Option<Seen> {
+    let mut sequencer = new(alloc, &[1, 1, 1, 1])?;
+    one_release(&mut sequencer)
 }
 
 #[test]
