@@ -24,29 +24,28 @@ fn three_groups<A: Allocator + Copy>(sequencer: &mut Sequencer<A>) -> Option<[bo
     Some(groups)
 }
 
-/// Takes an acquire of each of the groups 1 to 3.
-fn take_acquires<A: Allocator>(sequencer: &mut Sequencer<A>) -> Option<()> {
+/// Takes the acquires of the last three of four groups.
+fn take_acquires<A: Allocator + Copy>(sequencer: &mut Sequencer<A>) -> Option<()> {
     for group in 1..4_u16 {
         let acquire = event_of(&(group, 0, ACQUIRE, Space::Global, 20, FIRST_0_0));
-        take(sequencer, group, acquire)?.ok()?;
+        let _taken = take(sequencer, group, acquire)?.ok()?;
     }
     Some(())
 }
 
-fn release_after_acquires<A: Allocator + Copy>(sequencer: &mut Sequencer<A>) -> Option<Seen> {
+fn one_release<A: Allocator + Copy>(sequencer: &mut Sequencer<A>) -> Option<Seen> {
     take_acquires(sequencer)?;
     let before = step(sequencer)?.is_none();
     let release = event_of(&(0, 0, RELEASE, Space::Global, 20, None));
-    take(sequencer, 0, release)?.ok()?;
+    let _released = take(sequencer, 0, release)?.ok()?;
     let first = handled(&step(sequencer)?);
     let groups = three_groups(sequencer)?;
-    let after = step(sequencer)?.is_none();
-    Some((before, first, groups, after))
+    Some((before, first, groups, step(sequencer)?.is_none()))
 }
 
 fn seen<A: Allocator + Copy>(alloc: A) -> Option<Seen> {
     let mut sequencer = new(alloc, &[1, 1, 1, 1])?;
-    release_after_acquires(&mut sequencer)
+    one_release(&mut sequencer)
 }
 
 #[test]
