@@ -4,9 +4,26 @@ use Rattle.gr_model.specs.declared.event.EventId.{EventId}
 use Rattle.gr_model.specs.Access.{is_release}
 use Rattle.gr_model.specs.Streams.{event_at}
 use Rattle.gr_order.specs.Sequences.{HandlesEvent, Sequence}
-use Rattle.gr_sequencer.specs.Known.{AreLeft, IsKnown, IsLeftBy, IsNext, left_at}
-use Rattle.gr_sequencer.proofs.EventSteps.{left_longer}
+use Rattle.gr_sequencer.specs.Known.{AreLeft, AreTrue, IsKnown, IsLeftBy, IsNext, left_at}
+use Rattle.gr_sequencer.proofs.EventSteps.{left_early, left_longer}
 use Rattle.gr_sequencer.proofs.sequencer.Sequencer.handle.Goals as goal
+
+pub advance-requires-clause-next : goal.advance-requires-clause-next
+advance-requires-clause-next g c =
+    let q = c.order-order.result.now in
+    let s = q.taken in
+    let e = c.in-Some.event in
+    let known = c.self.inside.known in
+    let kept = c.keep.new.self in
+    let next : IsNext s q.handled known e = record {
+      fronts = c.in-Some.ensures.sequence.fronts;
+      lawful = c.in-Some.ensures.sequence.lawful;
+      follows = subst {A = Sequence} (λ p. IsKnown p.taken p.handled known) (sym c.order-order.ensures.order) c.self.invariant;
+      ready = c.in-Some.ensures.next.1;
+    } in
+    let clocks = subst (AreTrue s q.handled) (sym c.keep.ensures.clocks) next.follows.clocks in
+    let left = left_early s q.handled known e next kept.left c.keep.ensures.others in
+    record { fronts = next.fronts; lawful = next.lawful; follows = record { clocks = clocks; left = left }; ready = next.ready }
 
 pub invariant_of-self-2 : goal.invariant_of-self-2
 invariant_of-self-2 g c =
