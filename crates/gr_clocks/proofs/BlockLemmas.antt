@@ -1,16 +1,14 @@
 -- The counts of all items, as rows of one group each: what is joined and written.
-use Rattle.std.proofs.Common.{◌≡◌, ◌≢◌, ◌⊎◌, ℕ, zero, suc, ◌+◌, ◌<◌, ◌≤◌, max, true, false, List, [], ◌∷◌, ◌++◌, map, length, slice_index, get_or, set, replicate, ◌==◌, refl, sym, ◌∙◌, ap, subst, arith, ⊎_elim}
+use Rattle.std.proofs.Common.{◌≡◌, ◌≢◌, ℕ, ◌+◌, ◌<◌, ◌≤◌, List, [], ◌∷◌, ◌++◌, length, slice_index, get_or, set, replicate, ◌==◌, sym, ◌∙◌, ap, subst, arith, ⊎_elim}
 use Rattle.std.proofs.lemmas.Bool.{and_from, cases_eq, cases_lt, eq-eqb}
-use Rattle.std.proofs.lemmas.List.{get_or_past, get_or_push, get_or_append_left, length-set, length-map, length-replicate, get_or-replicate, get_or-set_same, get_or-set_other, set-get_or, ext_get_or, map-set}
+use Rattle.std.proofs.lemmas.List.{get_or_past, get_or_push, get_or_append_left, length-set, length-map, length-replicate, get_or-replicate, get_or-set_same, get_or-set_other, set-get_or, ext_get_or}
 use Rattle.std.proofs.Math.ListN.{get_or-map}
 use Rattle.std.proofs.Math.Seq.{map-set_same}
 use Rattle.gr_model.specs.declared.event.ItemId.{ItemId}
 use Rattle.gr_model.specs.Shapes.{HasItem}
-use Rattle.gr_clocks.specs.declared.clock.TheConstants.{LARGEST_COUNT}
-use Rattle.gr_clocks.specs.Rows.{same_item}
 use Rattle.gr_clocks.specs.Blocks.{IsRowWithin, IsRowJoin}
 use Rattle.gr_clocks.specs.Counts.{Counts, count_of, sizes_of, IsZero, IsJoin}
-use Rattle.gr_clocks.specs.Owned.{with_count, OwnCounts, counts_of, IsOwn}
+use Rattle.gr_clocks.specs.Owned.{with_count}
 use Rattle.gr_clocks.proofs.RowLemmas.{same_items}
 
 -- ---- rows

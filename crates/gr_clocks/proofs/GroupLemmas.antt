@@ -1,17 +1,16 @@
 -- The clocks of one work-group: what all of them count behind a barrier.
-use Rattle.std.proofs.Common.{◌≡◌, ◌≢◌, ◌⊎◌, inl, inr, ℕ, zero, suc, ◌+◌, ◌<◌, ◌≤◌, max, All, Bool, List, [], ◌∷◌, ◌++◌, length, slice_index, get_or, set, if◌then◌else◌, refl, sym, ◌∙◌, ap, subst, arith, add-one, ⊎_elim}
+use Rattle.std.proofs.Common.{◌≡◌, ◌≢◌, ℕ, zero, suc, ◌+◌, ◌<◌, ◌≤◌, max, All, Bool, List, [], ◌∷◌, ◌++◌, length, slice_index, get_or, set, if◌then◌else◌, refl, sym, ◌∙◌, ap, subst, arith, add-one, ⊎_elim}
 use Rattle.std.proofs.lemmas.Bool.{cases_eq, cases_lt}
-use Rattle.std.proofs.lemmas.List.{get_or_past, get_or_push, get_or_append_left, length_push, length-set, get_or-set_same, get_or-set_other}
+use Rattle.std.proofs.lemmas.List.{get_or_past, get_or_push, get_or_append_left, length_push, get_or-set_same, get_or-set_other}
 use Rattle.std.proofs.Math.Seq.{map-set_same}
 use Rattle.gr_model.specs.declared.event.ItemId.{ItemId}
-use Rattle.gr_model.specs.Shapes.{HasItem}
 use Rattle.gr_clocks.specs.declared.clock.TheConstants.{LARGEST_COUNT}
 use Rattle.gr_clocks.specs.Counts.{Counts, count_of, sizes_of, tick_at, IsJoin}
-use Rattle.gr_clocks.specs.Owned.{OwnCounts, counts_of, nobody, IsOwn}
-use Rattle.gr_clocks.specs.Groups.{item_of, greatest, clock_in_group, group_sizes, IsGroupClock, IsGroup, GathersFirst, raised_count, AreRaisedFirst, AreRaised, IsMetBase}
+use Rattle.gr_clocks.specs.Owned.{OwnCounts, counts_of}
+use Rattle.gr_clocks.specs.Groups.{item_of, greatest, clock_in_group, group_sizes, IsGroup, GathersFirst, raised_count, AreRaisedFirst, AreRaised, IsMetBase}
 use Rattle.gr_clocks.proofs.RowLemmas.{same_item_self}
 use Rattle.gr_clocks.proofs.BlockLemmas.{length_sizes, size_at}
-use Rattle.gr_clocks.proofs.OwnLemmas.{cases_item, not_ticked, own_count, other_count, own_sizes}
+use Rattle.gr_clocks.proofs.OwnLemmas.{not_ticked, own_count, other_count}
 
 -- ---- the greatest of some numbers
 

@@ -1,6 +1,5 @@
 -- Clocks with one item's count apart: what a join of two of them counts.
-use Rattle.std.proofs.Common.{◌≡◌, ◌≢◌, ◌⊎◌, inl, inr, ℕ, ◌+◌, ◌<◌, ◌≤◌, max, Bool, true, false, List, if◌then◌else◌, refl, sym, ◌∙◌, ap, subst, arith, ⊎_elim}
-use Rattle.std.proofs.lemmas.Bool.{cases_eq}
+use Rattle.std.proofs.Common.{◌≡◌, ◌≢◌, ◌⊎◌, inl, inr, ℕ, ◌+◌, ◌≤◌, max, Bool, true, false, List, if◌then◌else◌, refl, sym, ◌∙◌, ap, subst, arith, ⊎_elim}
 use Rattle.gr_model.specs.declared.event.ItemId.{ItemId}
 use Rattle.gr_model.specs.Shapes.{HasItem}
 use Rattle.gr_clocks.specs.declared.clock.TheConstants.{LARGEST_COUNT}

@@ -1,5 +1,5 @@
 -- A snapshot's clock is the clock that its item then has: two clocks of one shape with the same counts are the same.
-use Rattle.std.proofs.Common.{◌≡◌, ◌≢◌, ℕ, suc, Bool, map, List, [], ◌∷◌, length, refl, sym, ◌∙◌, ap, subst}
+use Rattle.std.proofs.Common.{◌≡◌, ◌≢◌, ℕ, suc, Bool, List, [], ◌∷◌, length, refl, sym, ◌∙◌, ap, subst}
 use Rattle.std.proofs.lemmas.List.{ext_get_or}
 use Rattle.gr_model.specs.declared.event.Space.{Space}
 use Rattle.gr_model.specs.declared.event.Space.TheVariants.{Global, Local}
@@ -63,7 +63,7 @@ pub meets : (group : ℕ) (global local : Bool) (old_global old_local new_global
 meets group global local old_global old_local new_global new_local for_global for_local behind_global gives_global behind_local gives_local = record {
   shape = gives_global.shape;
   groups = λ m. elim m as (λ n. MeetsGroup (clocks_in (clocks_of old_global old_local) n) group (orders global local n) (clocks_in (clocks_of new_global new_local) n)) [
-      | Global ↦ meets_group group global old_global new_global for_global behind_global gives_global
-      | Local ↦ meets_group group local old_local new_local for_local behind_local gives_local
-    ];
+    | Global ↦ meets_group group global old_global new_global for_global behind_global gives_global
+    | Local ↦ meets_group group local old_local new_local for_local behind_local gives_local
+  ];
 }

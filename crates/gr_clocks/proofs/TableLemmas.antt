@@ -1,5 +1,5 @@
 -- The clocks of items in a list: what is read, and what is written at an item.
-use Rattle.std.proofs.Common.{◌≡◌, ◌≢◌, ◌⊎◌, inl, inr, ℕ, zero, suc, ◌+◌, ◌<◌, ◌≤◌, max, Bool, true, false, List, [], ◌∷◌, ◌++◌, map, length, sum, slice_index, get_or, set, Option, Some, None, IsSome, if◌then◌else◌, refl, sym, ◌∙◌, ap, subst, arith, ⊎_elim}
+use Rattle.std.proofs.Common.{◌≡◌, ◌≢◌, ◌⊎◌, inl, inr, ℕ, ◌+◌, ◌<◌, ◌≤◌, max, Bool, true, false, List, [], ◌∷◌, ◌++◌, map, length, sum, slice_index, get_or, set, Option, Some, None, IsSome, if◌then◌else◌, refl, sym, ◌∙◌, ap, subst, arith, ⊎_elim}
 use Rattle.std.proofs.lemmas.Bool.{cases_eq, cases_lt}
 use Rattle.std.proofs.lemmas.List.{get_or_push, get_or_append_left, length_push, length-set, length-map, get_or-set_same, get_or-set_other, get_or_read, set-get_or}
 use Rattle.gr_model.specs.declared.event.ItemId.{ItemId}
@@ -7,9 +7,9 @@ use Rattle.gr_model.specs.Shapes.{HasItem}
 use Rattle.gr_clocks.specs.declared.clock.TheConstants.{LARGEST_COUNT}
 use Rattle.gr_clocks.specs.Rows.{entry_of, same_item, rows_of, AreStarts, starts_of, place_of}
 use Rattle.gr_clocks.specs.Counts.{Counts, count_of, sizes_of, tick_at, IsZero, IsTick, IsJoin}
-use Rattle.gr_clocks.specs.Owned.{OwnCounts, counts_of, nobody, IsOwn}
+use Rattle.gr_clocks.specs.Owned.{OwnCounts, counts_of, nobody}
 use Rattle.gr_clocks.specs.Groups.{item_of, greatest, clock_in_group, group_sizes, IsGroupClock, IsGroup, IsMetBase, AreJoined}
-use Rattle.gr_clocks.specs.Tables.{ClockTable, clock_at, IsGroupFull, IsBeyond, MeetsGroup, joined_count, AreZero, TicksItem, IsTickOfJoin, LearnsAndTicks, AreClocks, IsApart, AreApart, IsTicked, AreTicked, IsMet, AreMet, AreBehind, AreOfGroup, GivesItem, GivesFirst, GivesGroup}
+use Rattle.gr_clocks.specs.Tables.{ClockTable, clock_at, IsGroupFull, IsBeyond, MeetsGroup, AreZero, TicksItem, IsTickOfJoin, LearnsAndTicks, AreClocks, IsApart, AreApart, IsTicked, AreTicked, IsMet, AreMet, AreBehind, AreOfGroup, GivesItem, GivesFirst, GivesGroup}
 use Rattle.gr_clocks.proofs.RowLemmas.{same_items, cell, entry_at, entry_set, place_within, sizes_same, has_place, starts_of_sizes, sizes_of_starts}
 use Rattle.gr_clocks.proofs.OwnLemmas.{own_count, own_sizes}
 use Rattle.gr_clocks.proofs.GroupLemmas.{greatest_same}

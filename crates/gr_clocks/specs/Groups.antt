@@ -1,10 +1,10 @@
 -- The clocks of one work-group's items, and what a barrier makes of them.
 -- Source: docs/MODEL.md, "Clocks".
-use Rattle.std.specs.Prelude.{◌≡◌, ◌≢◌, ℕ, zero, suc, ◌+◌, ◌<◌, ◌≤◌, max, All, List, [], map, length, slice_index, slice_index_or}
+use Rattle.std.specs.Prelude.{◌≡◌, ◌≢◌, ℕ, zero, suc, ◌+◌, ◌<◌, ◌≤◌, max, All, List, [], length, slice_index, slice_index_or}
 use Rattle.gr_model.specs.declared.event.ItemId.{ItemId}
 use Rattle.gr_clocks.specs.declared.clock.TheConstants.{LARGEST_COUNT}
 use Rattle.gr_clocks.specs.Counts.{Counts, count_of, sizes_of, tick_at}
-use Rattle.gr_clocks.specs.Owned.{OwnCounts, counts_of, own_of, nobody, IsOwn}
+use Rattle.gr_clocks.specs.Owned.{OwnCounts, counts_of, nobody, IsOwn}
 
 -- the item of a group at a place
 abbrev pub item_of : ℕ → ℕ → ItemId

@@ -1,6 +1,6 @@
 -- A clock as the counts of all items, and one item's count that stands in place of the one there.
 -- Source: docs/MODEL.md, "Clocks".
-use Rattle.std.specs.Prelude.{◌≡◌, ℕ, ◌≤◌, max, List, [], slice_index_or, set}
+use Rattle.std.specs.Prelude.{ℕ, ◌≤◌, [], slice_index_or, set}
 use Rattle.gr_model.specs.declared.event.ItemId.{ItemId}
 use Rattle.gr_model.specs.Shapes.{HasItem}
 use Rattle.gr_clocks.specs.declared.clock.TheConstants.{LARGEST_COUNT}

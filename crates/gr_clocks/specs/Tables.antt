@@ -5,7 +5,7 @@ use Rattle.gr_model.specs.declared.event.ItemId.{ItemId}
 use Rattle.gr_model.specs.Shapes.{HasItem}
 use Rattle.gr_clocks.specs.declared.clock.TheConstants.{LARGEST_COUNT}
 use Rattle.gr_clocks.specs.Rows.{entry_of, rows_of, AreStarts}
-use Rattle.gr_clocks.specs.Counts.{Counts, count_of, sizes_of, tick_at, IsZero, IsTick, IsJoin}
+use Rattle.gr_clocks.specs.Counts.{Counts, count_of, sizes_of, tick_at, IsZero, IsTick}
 use Rattle.gr_clocks.specs.Owned.{OwnCounts, counts_of, IsOwn}
 use Rattle.gr_clocks.specs.Groups.{clock_in_group}
 pub use Rattle.gr_clocks.specs.Groups.{item_of, greatest}

@@ -1,4 +1,3 @@
-use Rattle.std.proofs.Common.{◌≡◌}
 use Rattle.gr_clocks.proofs.GroupLemmas.{same_more}
 use Rattle.gr_clocks.proofs.group.joined.Goals as goal
 

@@ -1,7 +1,6 @@
-use Rattle.std.proofs.Common.{◌≡◌, ◌∙◌, ap, arith}
+use Rattle.std.proofs.Common.{◌∙◌, ap, arith}
 use Rattle.std.proofs.lemmas.List.{get_or_read}
 use Rattle.gr_clocks.specs.Owned.{OwnCounts, nobody}
-use Rattle.gr_clocks.specs.Groups.{clock_in_group}
 use Rattle.gr_clocks.proofs.GroupLemmas.{gathers_more}
 use Rattle.gr_clocks.proofs.group.shared.Goals as goal
 

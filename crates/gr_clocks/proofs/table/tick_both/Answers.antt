@@ -1,10 +1,8 @@
-use Rattle.std.proofs.Common.{◌≡◌, ◌≢◌, ◌∙◌, ℕ, List, map, length, set, ap, sym, subst, arith}
+use Rattle.std.proofs.Common.{◌∙◌, ℕ, List, ap, sym, subst, arith}
 use Rattle.std.proofs.lemmas.Result.{on_ok_weaker, on_err_weaker}
 use Rattle.gr_model.specs.Shapes.{HasItem}
-use Rattle.gr_clocks.specs.Counts.{Counts, count_of, sizes_of, IsTick}
-use Rattle.gr_clocks.specs.Rows.{rows_of}
-use Rattle.gr_clocks.specs.Tables.{TicksItem}
-use Rattle.gr_clocks.proofs.TableLemmas.{StandsAt, item_has_place, stands_at, in_range, read_clock, read_shape, read_item, set_again, set_clocks, set_ticks}
+use Rattle.gr_clocks.specs.Counts.{Counts, count_of, IsTick}
+use Rattle.gr_clocks.proofs.TableLemmas.{item_has_place, stands_at, in_range, read_clock, read_shape, read_item, set_again, set_clocks, set_ticks}
 use Rattle.gr_clocks.proofs.table.tick_both.Goals as goal
 
 pub index_of-place-requires : goal.index_of-place-requires
@@ -26,8 +24,7 @@ index_mut-requires-2 g c =
 pub raise_both-requires-clause-items : goal.raise_both-requires-clause-items
 raise_both-requires-clause-items g c =
     let at = stands_at c.one.inside.starts.items c.one.inside.clocks.items c.args.one.now c.deref.result.now c.args.item c.index_of-place.result c.one.invariant c.one.view_is c.deref.ensures.value c.index_of-place.ensures in
-    let other_at = stands_at c.other.inside.starts.items c.other.inside.clocks.items c.args.other.now c.deref-2.result.now c.args.item c.index_of-other_place.result c.other.invariant c.other.view_is c.deref-2.ensures.value c.index_of-other_place.ensures in
-    (
+    let other_at = stands_at c.other.inside.starts.items c.other.inside.clocks.items c.args.other.now c.deref-2.result.now c.args.item c.index_of-other_place.result c.other.invariant c.other.view_is c.deref-2.ensures.value c.index_of-other_place.ensures in (
       read_item at c.index_mut.result.now c.index_mut.ensures.value c.requires.item,
       read_item other_at c.index_mut-2.result.now c.index_mut-2.ensures.value (subst (λ (sizes : List ℕ). HasItem sizes c.args.item) (sym c.requires.same) c.requires.item),
     )
@@ -35,8 +32,7 @@ raise_both-requires-clause-items g c =
 pub raise_both-requires-clause-room : goal.raise_both-requires-clause-room
 raise_both-requires-clause-room g c =
     let at = stands_at c.one.inside.starts.items c.one.inside.clocks.items c.args.one.now c.deref.result.now c.args.item c.index_of-place.result c.one.invariant c.one.view_is c.deref.ensures.value c.index_of-place.ensures in
-    let other_at = stands_at c.other.inside.starts.items c.other.inside.clocks.items c.args.other.now c.deref-2.result.now c.args.item c.index_of-other_place.result c.other.invariant c.other.view_is c.deref-2.ensures.value c.index_of-other_place.ensures in
-    (
+    let other_at = stands_at c.other.inside.starts.items c.other.inside.clocks.items c.args.other.now c.deref-2.result.now c.args.item c.index_of-other_place.result c.other.invariant c.other.view_is c.deref-2.ensures.value c.index_of-other_place.ensures in (
       λ full. c.requires.room (ap (λ (x : Counts). count_of x c.args.item) (sym (read_clock at c.index_mut.result.now c.index_mut.ensures.value)) ∙ full),
       λ full. c.requires.other_room (ap (λ (x : Counts). count_of x c.args.item) (sym (read_clock other_at c.index_mut-2.result.now c.index_mut-2.ensures.value)) ∙ full),
     )

@@ -1,7 +1,7 @@
-use Rattle.std.proofs.Common.{◌≡◌, ◌∙◌, ◌+◌, ◌<◌, ℕ, List, [], length, get_or, ap, arith}
+use Rattle.std.proofs.Common.{◌≡◌, ◌∙◌, ◌+◌, ◌<◌, ℕ, [], length, get_or, ap, arith}
 use Rattle.std.proofs.lemmas.List.{get_or_read, length_push}
 use Rattle.gr_clocks.specs.Blocks.{IsRowJoin}
-use Rattle.gr_clocks.specs.Counts.{Counts, sizes_of}
+use Rattle.gr_clocks.specs.Counts.{sizes_of}
 use Rattle.gr_clocks.proofs.BlockLemmas.{same_count, same_length, join_more, join_rows}
 use Rattle.gr_clocks.proofs.base.Base.join.Goals as goal
 

@@ -1,6 +1,6 @@
-use Rattle.std.proofs.Common.{◌≡◌, ◌∙◌, ◌<◌, ℕ, List, [], length, get_or, sym, ap, arith}
+use Rattle.std.proofs.Common.{◌≡◌, ◌<◌, [], length, arith}
 use Rattle.std.proofs.lemmas.List.{get_or_read}
-use Rattle.gr_clocks.specs.Counts.{Counts, sizes_of, IsJoin}
+use Rattle.gr_clocks.specs.Counts.{sizes_of, IsJoin}
 use Rattle.gr_clocks.proofs.BlockLemmas.{same_count, same_length, join_rows}
 use Rattle.gr_clocks.proofs.base.Base.learn.Goals as goal
 

@@ -1,6 +1,6 @@
 use Rattle.std.proofs.Common.{◌≡◌, ◌≤◌, ◌∙◌, ℕ, max, ap, sym, arith}
 use Rattle.gr_clocks.specs.declared.clock.TheConstants.{LARGEST_COUNT}
-use Rattle.gr_clocks.specs.Counts.{Counts, count_of, sizes_of, IsJoin}
+use Rattle.gr_clocks.specs.Counts.{count_of, sizes_of, IsJoin}
 use Rattle.gr_clocks.specs.Owned.{OwnCounts, counts_of, with_count}
 use Rattle.gr_clocks.proofs.OwnLemmas.{own_join, join_own}
 use Rattle.gr_clocks.proofs.own.OwnClock.join.Goals as goal

@@ -1,4 +1,4 @@
-use Rattle.std.proofs.Common.{◌≡◌, set, arith}
+use Rattle.std.proofs.Common.{set, arith}
 use Rattle.gr_clocks.specs.Tables.{AreClocks, GivesItem}
 use Rattle.gr_clocks.specs.Rows.{rows_of}
 use Rattle.gr_clocks.proofs.TableLemmas.{item_has_place, stands_at, in_range, set_clocks, set_given}
