@@ -183,11 +183,7 @@ fn release<A: Allocator + Copy>(
     clocks.release(item(place), word, Scope::Device).ok()
 }
 
-fn acquire<A: Allocator + Copy>(
-    clocks: &mut Clocks<A>,
-    place: u16,
-    snapshot: &Snapshot<A>,
-) -> bool
+fn acquire<A: Allocator + Copy>(clocks: &mut Clocks<A>, place: u16, snapshot: &Snapshot<A>) -> bool
     requires sizes { clocks.old.sizes ≡ 2 ∷ [] }
     requires snapshot { sizes_of snapshot.now.clock ≡ 2 ∷ [] }
     requires place { place < 2 }

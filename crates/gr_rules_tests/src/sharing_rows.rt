@@ -84,7 +84,10 @@ fn a_copy_does_not_count_what_the_other_does(rt: HostRuntime) -> Result<(), Fail
     for growth in 0..1_000_u64 {
         let heap = Refusing::new(rt.alloc(), growth);
         let answer = ticks_behind_a_copy(&heap);
-        assert!(rt; answer == want || (answer.is_none() && heap.refused()), "growth {growth} refused");
+        assert!(rt;
+            answer == want || (answer.is_none() && heap.refused()),
+            "growth {growth} refused"
+        );
         if !heap.refused() {
             assert!(rt; growth > 0, "no growth was refused");
             return Ok(());

@@ -259,12 +259,7 @@ impl<A: Allocator> Known<A> {
     ///
     /// # Errors
     /// `Memory`. What is known is then as before.
-    pub(crate) fn meet(
-        &mut self,
-        order: &Order<A>,
-        group: u16,
-        instance: u32,
-    ) -> Result<(), Memory>
+    pub(crate) fn meet(&mut self, order: &Order<A>, group: u16, instance: u32) -> Result<(), Memory>
     where
         A: Clone,
         requires shape { self.old.clocks.sizes ≡ order.now.taken.sizes }
