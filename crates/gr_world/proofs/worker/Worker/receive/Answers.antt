@@ -1,9 +1,20 @@
-use Rattle.std.proofs.Common.{◌≡◌, ◌∙◌, List, ◌∷◌, [], ◌++◌, ap, subst}
+use Rattle.std.proofs.Common.{◌≡◌, ◌∙◌, List, ◌∷◌, [], ◌++◌, ap, subst, sym}
 use Rattle.std.proofs.lemmas.List.{map-append}
 use Rattle.gr_shadow.specs.Clashes.{ClockedAccess, clocked}
+use Rattle.gr_shadow.specs.StandsFor.{StandsFor}
 use Rattle.gr_world.specs.Queues.{Work, receiving}
 use Rattle.gr_world.specs.Workers.{all_clocked, work_of}
 use Rattle.gr_world.proofs.worker.Worker.receive.Goals as goal
+
+pub invariant_of-self-in-Some-pop : goal.invariant_of-self-in-Some-pop
+invariant_of-self-in-Some-pop g c =
+    let received = c.self.inside.received in
+    let popped = c.in-Some-pop.access in
+    let front = c.in-Some.ensures in
+    let same : c.in-Some.access.now ≡ popped = let both : c.in-Some.access.now ∷ front.0 ≡ popped ∷ c.pop.new.self.items = sym front.1 ∙ c.in-Some-pop.ensures.0 in cc in
+    let stands : StandsFor (all_clocked received ++ clocked c.in-Some.access.now ∷ []) c.apply.new.self = c.in_ok-apply-in-Some.ensures.stands (all_clocked received) c.self.invariant in
+    let is : all_clocked c.push.new.self ≡ all_clocked received ++ clocked popped ∷ [] = ap all_clocked c.push.ensures ∙ map-append clocked received (popped ∷ []) in
+    subst (λ l. StandsFor l c.apply.new.self) (sym is) (subst (λ x. StandsFor (all_clocked received ++ clocked x ∷ []) c.apply.new.self) same stands)
 
 pub returns-clause-ok : goal.returns-clause-ok
 returns-clause-ok g c =
