@@ -1,6 +1,6 @@
 //! Queues of one place, and a seat for each work-group.
 
-ghost use Rattle.std.specs.Prelude.{◌≡◌, OnOk, IfOk, IsFalse};
+ghost use Rattle.std.specs.Prelude.{◌≡◌, [], OnOk, IfOk, IsFalse};
 ghost use Rattle.gr_route.specs.WorkRule.{is_stop};
 
 use crate::three_senders::write;
@@ -10,9 +10,10 @@ use gr_model::event::{ItemId, Sent, Word};
 use gr_model::limits::MOST_GROUPS;
 use gr_model::shape::Shape;
 use gr_route::intake::{Intake, IntakeSeat, TakerSeat};
-use gr_route::work::{Work, WorkQueue};
+use gr_route::work::{GiverSeat, Work, WorkQueue, WorkerSeat};
 use gr_scopes::class::Class;
 use std::alloc::Global;
+use std::sync::Wait;
 use std::test::*;
 
 #[test]
@@ -88,30 +89,63 @@ fn word_of(work: &Work) -> Option<Word> {
     }
 }
 
+/// Pops, and tells the word of what was popped.
+fn pop_word<R: Wait>(rt: &R, queue: &WorkQueue, worker: &mut WorkerSeat) -> Option<Option<Word>>
+    requires { worker.old.queue ≡ queue.now.queue }
+    ensures { worker.new.queue ≡ queue.now.queue }
+{
+    match queue.pop(rt, worker) {
+        None => None,
+        Some(work) => Some(word_of(&work)),
+    }
+}
+
+/// Pushes an access and, into the full queue, the word that there are no more, and pops twice; then pushes that word again,
+/// and pops it. Tells the words of what was popped, or `None` where a push was not answered as it is due.
+fn through_one_place<R: Wait>(
+    rt: &R,
+    queue: &WorkQueue,
+    giver: &mut GiverSeat,
+    worker: &mut WorkerSeat,
+    access: Work,
+) -> Option<[Option<Option<Word>>; 3]>
+    requires worker { worker.old.queue ≡ queue.now.queue }
+    requires giver { giver.old ≡ record { queue = queue.now.queue; pushed = [] } }
+    requires access { IsFalse (is_stop access) }
+    ensures worker { worker.new.queue ≡ queue.now.queue }
+    ensures giver { giver.new.queue ≡ queue.now.queue }
+{
+    if queue.push(rt, giver, access).is_err() {
+        return None;
+    }
+    match queue.push(rt, giver, Work::Stop) {
+        Ok(()) => return None,
+        Err(full) => {
+            if word_of(&full.0).is_some() {
+                return None;
+            }
+        }
+    }
+    let first = pop_word(rt, queue, worker);
+    let second = pop_word(rt, queue, worker);
+    if queue.push(rt, giver, Work::Stop).is_err() {
+        return None;
+    }
+    let last = pop_word(rt, queue, worker);
+    Some([first, second, last])
+}
+
 #[test]
 fn a_work_queue_of_one_place(rt: HostRuntime) -> Result<(), Fail> {
-    let alloc = rt.alloc();
-    let (queue, mut worker) = WorkQueue::new(alloc, 1)?;
+    let access = write_by_one(rt.alloc(), 7)?;
+    let (queue, mut worker) = WorkQueue::new(rt.alloc(), 1)?;
     let mut giver = queue.split(&mut worker).ok_or("the first split")?;
     assert!(rt; queue.split(&mut worker).is_none(), "a second split");
-    if queue
-        .push(&rt, &mut giver, write_by_one(alloc, 7)?)
-        .is_err()
-    {
-        return Err("a push into an empty queue")?;
-    }
-    match queue.push(&rt, &mut giver, write_by_one(alloc, 8)?) {
-        Ok(()) => assert!(rt; false, "a push into a full queue"),
-        Err(full) => assert_eq!(rt; word_of(&full.0), Some(Word::Global(8))),
-    }
-    let first = queue.pop(&rt, &mut worker).ok_or("what was pushed first")?;
-    assert_eq!(rt; word_of(&first), Some(Word::Global(7)));
-    assert!(rt; queue.pop(&rt, &mut worker).is_none());
-    if queue.push(&rt, &mut giver, Work::Stop).is_err() {
-        return Err("the word that there are no more")?;
-    }
-    let last = queue.pop(&rt, &mut worker).ok_or("that word")?;
-    assert_eq!(rt; word_of(&last), None);
+    let popped = through_one_place(&rt, &queue, &mut giver, &mut worker, access);
+    assert_eq!(rt;
+        popped,
+        Some([Some(Some(Word::Global(7))), None, Some(None)])
+    );
     queue.join_back(&mut worker, giver);
     assert!(rt;
         queue.split(&mut worker).is_none(),
