@@ -1,7 +1,7 @@
 //! What was taken of a launch's streams, and the order in which its events were handled.
 //!
 //! Invariant: the order is lawful, and the handled events of each item are its first ones. How many they are is counted by
-//! a vector clock, the frontier. The order itself exists in proofs alone: no memory holds it, and no step wants for any.
+//! a tally, the frontier. The order itself exists in proofs alone: no memory holds it, and no step wants for any.
 
 ghost use Rattle.std.specs.Prelude.{◌≡◌, ◌+◌, ◌<◌, IsOkUnless, IfOk, IfErr, OnOk, MatchOption, OnErr, length, IsTrue, not, ◌↔◌};
 ghost use Rattle.gr_model.specs.declared.limits.TheConstants.{MOST_RECORDS};
