@@ -236,31 +236,44 @@ fn meet<A: Allocator + Copy>(clocks: &mut Clocks<A>, global: bool, local: bool) 
 /// clocks after the barrier.
 type Seen = ([u32; 2], [[u32; 2]; 2], [u32; 2], [[u32; 2]; 4]);
 
-/// An access and a release of item 0, an acquire of item 1, one that releases too, and a barrier for global memory.
-fn release_acquire_and_a_barrier<A: Allocator + Copy>(alloc: A) -> Option<Seen> {
-    let shape = two_items(alloc)?;
-    let mut clocks = new_clocks(alloc, &shape)?;
-    if !access(&mut clocks, 0) {
-        return None;
-    }
-    let first = release(&mut clocks, 0, Word::Global(20))?;
-    if !acquire(&mut clocks, 1, &first) {
+/// Of an acquire of item 1 from a release of item 0: the counts behind it; and, behind an acquire that releases too and a
+/// barrier for global memory, those of the second release.
+fn acquire_twice_and_meet<A: Allocator + Copy>(
+    clocks: &mut Clocks<A>,
+    first: &Snapshot<A>,
+) -> Option<([[u32; 2]; 2], [u32; 2])>
+    requires sizes { clocks.old.sizes ≡ 2 ∷ [] }
+    requires snapshot { sizes_of first.now.clock ≡ 2 ∷ [] }
+    ensures { clocks.new.sizes ≡ 2 ∷ [] }
+{
+    if !acquire(clocks, 1, first) {
         return None;
     }
     let acquired = [
-        known(&clocks, 1, Space::Global),
-        known(&clocks, 1, Space::Local),
+        known(clocks, 1, Space::Global),
+        known(clocks, 1, Space::Local),
     ];
-    let second = acquire_release(&mut clocks, 1, &first, Word::Global(24))?;
-    if !meet(&mut clocks, true, false) {
+    let second = counts(acquire_release(clocks, 1, first, Word::Global(24))?.clock());
+    meet(clocks, true, false).then_some((acquired, second))
+}
+
+/// An access and a release of item 0, an acquire of item 1, one that releases too, and a barrier for global memory.
+fn steps_of_two_items<A: Allocator + Copy>(clocks: &mut Clocks<A>) -> Option<Seen>
+    requires { clocks.old.sizes ≡ 2 ∷ [] }
+{
+    if !access(clocks, 0) {
         return None;
     }
-    Some((
-        counts(first.clock()),
-        acquired,
-        counts(second.clock()),
-        all_known(&clocks),
-    ))
+    let first = release(clocks, 0, Word::Global(20))?;
+    let (acquired, second) = acquire_twice_and_meet(clocks, &first)?;
+    Some((counts(first.clock()), acquired, second, all_known(clocks)))
+}
+
+/// The same with clocks of their own.
+fn release_acquire_and_a_barrier<A: Allocator + Copy>(alloc: A) -> Option<Seen> {
+    let shape = two_items(alloc)?;
+    let mut clocks = new_clocks(alloc, &shape)?;
+    steps_of_two_items(&mut clocks)
 }
 
 #[test]

@@ -149,9 +149,17 @@ fn first_wrong_growth(alloc: Global, row: &Row) -> Option<u64> {
     Some(1_000)
 }
 
+/// The first row where an answer is wrong, and the number of the growth that was refused, if there is one.
+fn first_wrong_row(alloc: Global, rows: &[Row]) -> Option<(&'static str, u64)> {
+    for row in rows {
+        if let Some(growth) = first_wrong_growth(alloc, row) {
+            return Some((row.0, growth));
+        }
+    }
+    None
+}
+
 #[test]
 fn rows_are_taken_and_ordered_whatever_growth_is_refused(rt: HostRuntime) {
-    for row in ROWS.iter() {
-        assert_eq!(rt; first_wrong_growth(rt.alloc(), row), None, "{}", row.0);
-    }
+    assert_eq!(rt; first_wrong_row(rt.alloc(), &ROWS), None);
 }

@@ -62,17 +62,18 @@ fn acquire_before_its_release<A: Allocator + Copy>(sequencer: &mut Sequencer<A>)
 /// What is answered to a record of an item that is not there, to one behind an end, and to one of a group that is not there.
 type Refusals = [Result<(), SeqError>; 3];
 
+fn seen_and_refused<A: Allocator + Copy>(sequencer: &mut Sequencer<A>) -> Option<(Seen, Refusals)> {
+    let of_nobody = event_of(&(1, 1, READ, Space::Global, 16, None));
+    let nobody = take(sequencer, 1, of_nobody)?;
+    let seen = acquire_before_its_release(sequencer)?;
+    let behind = take(sequencer, 0, release())?;
+    let nowhere = take(sequencer, 2, release())?;
+    Some((seen, [nobody, behind, nowhere]))
+}
+
 fn seen<A: Allocator + Copy>(alloc: A) -> Option<(Seen, Refusals)> {
     let mut sequencer = new(alloc, &[1, 1])?;
-    let nobody = take(
-        &mut sequencer,
-        1,
-        event_of(&(1, 1, READ, Space::Global, 16, None)),
-    )?;
-    let seen = acquire_before_its_release(&mut sequencer)?;
-    let behind = take(&mut sequencer, 0, release())?;
-    let nowhere = take(&mut sequencer, 2, release())?;
-    Some((seen, [nobody, behind, nowhere]))
+    seen_and_refused(&mut sequencer)
 }
 
 fn first_of(group: u16) -> Option<EventId> {

@@ -9,7 +9,6 @@ use gr_model::report::{Divergence, DivergenceCause};
 use gr_world::step::{Step, StepError};
 use refusing::Refusing;
 use std::alloc::Global;
-use std::test::Fail;
 
 const OK: Result<(), StepError> = Ok(());
 
@@ -320,23 +319,27 @@ const SCRIPTS: [Script; 10] = [
     NOT_HANDLED,
 ];
 
-#[test]
-fn each_step_is_answered(rt: HostRuntime) {
-    for script in SCRIPTS.iter() {
-        let due = Some((None, script.told));
-        assert_eq!(rt; went(rt.alloc(), script), due, "{}", script.name);
+/// How many steps of a script `run` refuses, and what is reported at the end; `None` for want of memory.
+fn ran(alloc: Global, script: &Script) -> Option<(u64, Option<Told>)> {
+    let steps = steps_of(alloc, script).ok()?;
+    let mut world = new(alloc, script.sizes, script.numbers)?;
+    Some((world.run(&steps), reported(&world)))
+}
+
+/// The name of the first script that goes otherwise, step by step or by `run`, if there is one.
+fn first_wrong_script(alloc: Global, scripts: &[Script]) -> Option<&'static str> {
+    for script in scripts {
+        let went_well = went(alloc, script) == Some((None, script.told));
+        if !went_well || ran(alloc, script) != Some((script.refused, script.told)) {
+            return Some(script.name);
+        }
     }
+    None
 }
 
 #[test]
-fn run_counts_the_refused_steps(rt: HostRuntime) -> Result<(), Fail> {
-    for script in SCRIPTS.iter() {
-        let steps = steps_of(rt.alloc(), script)?;
-        let mut world = new(rt.alloc(), script.sizes, script.numbers).ok_or("a world")?;
-        assert_eq!(rt; world.run(&steps), script.refused, "{}", script.name);
-        assert_eq!(rt; reported(&world), script.told, "{}", script.name);
-    }
-    Ok(())
+fn each_step_is_answered_and_run_counts_the_refused(rt: HostRuntime) {
+    assert_eq!(rt; first_wrong_script(rt.alloc(), &SCRIPTS), None);
 }
 
 /// Refuses each growth in turn, until none is refused; the number of one where the script goes otherwise, if there is
@@ -354,10 +357,17 @@ fn first_wrong_growth(alloc: Global, script: &Script) -> Option<u64> {
     Some(1_000)
 }
 
+/// The first script that goes otherwise where a growth is refused, and the growth's number, if there is one.
+fn first_wrong_refusal(alloc: Global, scripts: &[Script]) -> Option<(&'static str, u64)> {
+    for script in scripts {
+        if let Some(growth) = first_wrong_growth(alloc, script) {
+            return Some((script.name, growth));
+        }
+    }
+    None
+}
+
 #[test]
 fn each_step_is_answered_whatever_growth_is_refused(rt: HostRuntime) {
-    for script in SCRIPTS.iter() {
-        let wrong = first_wrong_growth(rt.alloc(), script);
-        assert_eq!(rt; wrong, None, "{}", script.name);
-    }
+    assert_eq!(rt; first_wrong_refusal(rt.alloc(), &SCRIPTS), None);
 }

@@ -1,7 +1,7 @@
 //! Texts and the bytes that they stand for.
 
 use gr_text::{dump, pack};
-use std::test::Fail;
+use std::alloc::Global;
 
 /// The first race.
 pub(super) const RACE: Pair = (
@@ -53,34 +53,32 @@ pub(super) const PAIRS: [Pair; 4] = [
     ),
 ];
 
-#[test]
-fn text_and_bytes_give_each_other(rt: HostRuntime) -> Result<(), Fail> {
-    for (name, text, bytes) in PAIRS {
-        let mut packed = Vec::new(rt.alloc());
-        let mut lines = text.as_bytes();
-        assert!(rt;
-            pack(rt.alloc(), &mut lines, &mut packed) == Ok(()),
-            "packing {name}"
-        );
-        assert!(rt; packed.as_slice() == bytes, "bytes of {name}");
-        let mut dumped = Vec::new(rt.alloc());
-        let mut streams = bytes;
-        assert!(rt;
-            dump(rt.alloc(), &mut streams, &mut dumped) == Ok(()),
-            "dumping {name}"
-        );
-        assert!(rt; dumped.as_slice() == text.as_bytes(), "text of {name}");
-    }
-    Ok(())
+/// Whether a text is packed into these bytes.
+fn is_packed(alloc: Global, text: &str, bytes: &[u8]) -> bool {
+    let mut packed = Vec::new(alloc);
+    let mut lines = text.as_bytes();
+    pack(alloc, &mut lines, &mut packed) == Ok(()) && packed.as_slice() == bytes
+}
+
+/// Whether bytes are dumped as this text.
+fn is_dumped(alloc: Global, bytes: &[u8], text: &str) -> bool {
+    let mut dumped = Vec::new(alloc);
+    let mut streams = bytes;
+    dump(alloc, &mut streams, &mut dumped) == Ok(()) && dumped.as_slice() == text.as_bytes()
 }
 
 #[test]
-fn the_last_line_feed_may_be_missing(rt: HostRuntime) -> Result<(), Fail> {
+fn text_and_bytes_give_each_other(rt: HostRuntime) {
+    for (name, text, bytes) in PAIRS {
+        assert!(rt; is_packed(rt.alloc(), text, bytes), "bytes of {name}");
+        assert!(rt; is_dumped(rt.alloc(), bytes, text), "text of {name}");
+    }
+}
+
+#[test]
+fn the_last_line_feed_may_be_missing(rt: HostRuntime) {
     let (_, text, bytes) = RACE;
-    let mut packed = Vec::new(rt.alloc());
-    let mut lines = text.trim_end().as_bytes();
-    assert_eq!(rt; lines.len() + 1, text.len());
-    assert!(rt; pack(rt.alloc(), &mut lines, &mut packed) == Ok(()));
-    assert!(rt; packed.as_slice() == bytes);
-    Ok(())
+    let line = text.trim_end();
+    assert_eq!(rt; line.len() + 1, text.len());
+    assert!(rt; is_packed(rt.alloc(), line, bytes));
 }

@@ -3,6 +3,7 @@
 use gr_record::error::RecordError;
 use gr_record::fault::Fault;
 use gr_text::{dump, pack};
+use std::alloc::{AllocError, Global};
 use std::test::Fail;
 
 const TEXTS: [(&str, Fault); 19] = [
@@ -54,18 +55,18 @@ const TEXTS: [(&str, Fault); 19] = [
     ("group 0 items 2 launch 7\n\nend\n", Fault::BadLine(2)),
 ];
 
+/// Whether a text is refused with this fault, and nothing is written.
+fn is_no_text(alloc: Global, text: &str, fault: Fault) -> bool {
+    let mut packed = Vec::new(alloc);
+    let mut lines = text.as_bytes();
+    pack(alloc, &mut lines, &mut packed) == Err(fault) && packed.is_empty()
+}
+
 #[test]
-fn each_bad_text_is_refused_with_its_fault(rt: HostRuntime) -> Result<(), Fail> {
+fn each_bad_text_is_refused_with_its_fault(rt: HostRuntime) {
     for (text, fault) in TEXTS {
-        let mut packed = Vec::new(rt.alloc());
-        let mut lines = text.as_bytes();
-        assert!(rt;
-            pack(rt.alloc(), &mut lines, &mut packed) == Err(fault),
-            "{text}"
-        );
-        assert!(rt; packed.is_empty(), "{text}");
+        assert!(rt; is_no_text(rt.alloc(), text, fault), "{text}");
     }
-    Ok(())
 }
 
 /// The header `group 0 items 2 launch 7`, the write `0 w g 16`, an end and one byte more.
@@ -109,21 +110,29 @@ const CHANGES: [(usize, u8, RecordError); 7] = [
     (16, 2, RecordError::UnknownItem),
 ];
 
+/// The stream, and behind it the stream with another byte at this place.
+fn stream_and_changed(alloc: Global, at: usize, byte: u8) -> Result<Vec<u8>, AllocError> {
+    let mut two = STREAM[..52].to_vec(alloc)?;
+    two.extend_from_slice(&STREAM[..52])?;
+    if let Some(changed) = two[52..].get_mut(at) {
+        *changed = byte;
+    }
+    Ok(two)
+}
+
+/// Whether bytes are refused with this fault, and nothing is written.
+fn are_no_streams(alloc: Global, bytes: &[u8], fault: Fault) -> bool {
+    let mut dumped = Vec::new(alloc);
+    let mut reader = bytes;
+    dump(alloc, &mut reader, &mut dumped) == Err(fault) && dumped.is_empty()
+}
+
 #[test]
 fn each_bad_stream_is_refused_at_its_place(rt: HostRuntime) -> Result<(), Fail> {
     for (at, byte, fault) in CHANGES {
-        let mut two = Vec::new(rt.alloc());
-        two.extend_from_slice(&STREAM[..52])?;
-        two.extend_from_slice(&STREAM[..at])?;
-        two.push(byte)?;
-        two.extend_from_slice(&STREAM[at + 1..52])?;
-        let mut bytes = two.as_slice();
-        let mut dumped = Vec::new(rt.alloc());
-        assert!(rt;
-            dump(rt.alloc(), &mut bytes, &mut dumped) == Err(Fault::Stream(1, fault)),
-            "byte {at}"
-        );
-        assert!(rt; dumped.is_empty(), "byte {at}");
+        let two = stream_and_changed(rt.alloc(), at, byte)?;
+        let fault = Fault::Stream(1, fault);
+        assert!(rt; are_no_streams(rt.alloc(), &two, fault), "byte {at}");
     }
     Ok(())
 }
