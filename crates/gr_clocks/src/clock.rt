@@ -98,17 +98,15 @@ impl<A: Allocator> Clock<A> {
         Ok(Clock { own })
     }
 
-    /// The same counts, with the count of this item apart.
-    pub(crate) fn apart(&self, item: ItemId) -> Result<OwnClock<A>, ClockError>
+    /// Lets counts of the same shape take the greater one of each item.
+    pub(crate) fn teach(&self, base: &mut Base<A>) -> Result<(), ClockError>
     where
         A: Clone,
-        requires { HasItem (sizes_of self.now) item }
-        ensures counts { IfOk result (λ o. counts_of o ≡ self.now) }
-        ensures item { IfOk result (λ o. o.item ≡ item) }
-        ensures own { IfOk result (λ o. IsOwn o) }
+        requires { sizes_of self.now ≡ sizes_of base.old }
+        ensures join { OnOk result (IsJoin base.old self.now base.new) }
         ensures memory { IsOkUnless result ClockError.Memory }
     {
-        self.own.of(item)
+        self.own.teach(base)
     }
 
     /// How many events of the item are counted; 0 where the clock lacks the item.

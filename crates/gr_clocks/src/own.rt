@@ -3,7 +3,7 @@
 //! Invariant: the item is there, and its count is not above `LARGEST_COUNT` and not below the one that is shared. So the
 //! item's own events take no memory, and change nothing that is shared.
 
-ghost use Rattle.std.specs.Prelude.{◌≡◌, ◌↔◌, ◌≤◌, ◌≢◌, ℕ, IsTrue, IfOk, IsOkUnless};
+ghost use Rattle.std.specs.Prelude.{◌≡◌, ◌↔◌, ◌≤◌, ◌≢◌, ℕ, IsTrue, IfOk, OnOk, IsOkUnless};
 ghost use Rattle.gr_clocks.specs.declared.clock.ClockError.TheVariants.{Memory as OutOfMemory};
 ghost use Rattle.gr_model.specs.Shapes.{HasItem};
 ghost use Rattle.gr_clocks.specs.Counts.{count_of, sizes_of, IsTick, IsJoin};
@@ -54,22 +54,6 @@ impl<A: Allocator> OwnClock<A> {
         ensures own { IsOwn self.now }
     {
         self.item
-    }
-
-    /// The own count.
-    pub(crate) fn count(&self) -> u32
-        ensures count { result ≡ self.now.count }
-        ensures own { IsOwn self.now }
-    {
-        self.count
-    }
-
-    /// The counts that are shared.
-    pub(crate) fn base(&self) -> &Base<A>
-        ensures base { result.now ≡ self.now.base }
-        ensures own { IsOwn self.now }
-    {
-        &self.base
     }
 
     /// Whether the own count can't grow.
@@ -151,6 +135,20 @@ impl<A: Allocator> OwnClock<A> {
         OwnClock::new(&whole, item)
     }
 
+    /// Lets counts take the greater one of each item.
+    pub(crate) fn teach(&self, base: &mut Base<A>) -> Result<(), ClockError>
+    where
+        A: Clone,
+        requires { sizes_of self.now.base ≡ sizes_of base.old }
+        ensures join { OnOk result (IsJoin base.old (counts_of self.now) base.new) }
+        ensures memory { IsOkUnless result ClockError.Memory }
+    {
+        base.learn(&self.base)?;
+        let count = self.count.max(base.get(self.item));
+        base.set(self.item, count)?;
+        Ok(())
+    }
+
     /// The clock of the same item that has the greater count of each item.
     pub(crate) fn join(&self, other: &OwnClock<A>) -> Result<OwnClock<A>, ClockError>
     where
@@ -160,12 +158,10 @@ impl<A: Allocator> OwnClock<A> {
         ensures item { IfOk result (λ o. o.item ≡ self.now.item) }
         ensures memory { IsOkUnless result ClockError.Memory }
     {
-        let count = self.count.max(other.get(self.item));
-        let theirs = other.count.max(self.get(other.item));
-        let mut base = self.base.join(&other.base)?;
-        base.set(other.item, theirs)?;
-        let alloc = base.alloc()?;
-        let base = Arc::new(alloc, base)?;
+        let mut base = self.base.copy()?;
+        other.teach(&mut base)?;
+        let count = self.count.max(base.get(self.item));
+        let base = Arc::new(base.alloc()?, base)?;
         Ok(OwnClock {
             base,
             item: self.item,

@@ -1,0 +1,13 @@
+use Rattle.std.proofs.Common.{◌≡◌, ◌∙◌, ℕ, max, ap}
+use Rattle.gr_clocks.specs.Counts.{count_of, sizes_of, IsJoin}
+use Rattle.gr_clocks.specs.Owned.{OwnCounts}
+use Rattle.gr_clocks.proofs.OwnLemmas.{own_taught}
+use Rattle.gr_clocks.proofs.own.OwnClock.teach.Goals as goal
+
+pub returns-clause-join : goal.returns-clause-join
+returns-clause-join g c =
+    let p : OwnCounts = record { base = c.self.inside.base.value; item = c.self.inside.item; count = c.self.inside.count } in
+    let same : sizes_of p.base ≡ sizes_of c.args.base.now = ap (λ (x : OwnCounts). sizes_of x.base) c.self.view_is ∙ c.requires in
+    let join : IsJoin c.args.base.now p.base c.learn.new.self = rw (← c.deref.ensures) c.in_ok-learn.ensures.join in
+    let is_count : c.max-count.result ≡ max p.count (count_of c.learn.new.self p.item) = c.max-count.ensures ∙ ap (λ (n : ℕ). max p.count n) c.get.ensures.count in
+    rw (← c.self.view_is) (own_taught p c.self.invariant c.args.base.now c.learn.new.self c.set.new.self c.max-count.result same join is_count c.in_ok-set.ensures.ok)
