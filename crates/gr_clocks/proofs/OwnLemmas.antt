@@ -52,6 +52,27 @@ own_tick o own n is = record {
       (cases_item o.item j);
 }
 
+-- one more event than counts that are shared
+pub shared_tick : (mine base : Counts) (i : ItemId) (n : ℕ) → HasItem (sizes_of mine) i → base ≡ mine → n ≡ count_of base i + 1 → IsTick mine i (with_count base i n)
+shared_tick mine base i n has is count =
+    let there : HasItem (sizes_of base) i = subst (λ (c : Counts). HasItem (sizes_of c) i) (sym is) has in
+    record {
+      shape = with_sizes base i n ∙ ap sizes_of is;
+      counts = λ j.
+          let was : count_of base j ≡ count_of mine j = ap (λ (c : Counts). count_of c j) is in
+          ⊎_elim
+          (λ (here : i ≡ j).
+          let at : count_of (with_count base i n) j ≡ n = subst (λ (k : ItemId). count_of (with_count base i n) k ≡ n) here (with_same base i n there) in
+          let one : tick_at i j ≡ 1 = ap (λ (b : Bool). if b then 1 else 0) (ap (same_item i) (sym here) ∙ same_item_self i) in
+          let before : count_of base i ≡ count_of base j = ap (count_of base) here in
+          omega arith)
+          (λ (other : i ≢ j).
+          let at : count_of (with_count base i n) j ≡ count_of base j = with_other base i n j there other in
+          let none : tick_at i j ≡ 0 = not_ticked i j other in
+          omega arith)
+          (cases_item i j);
+    }
+
 -- counts that learn what a clock counts: first those that it shares, and then its own
 module _ (p : OwnCounts) (own_p : IsOwn p) (mine joined taught : Counts) (count : ℕ) (same : sizes_of p.base ≡ sizes_of mine) (join : IsJoin mine p.base joined) (is_count : count ≡ max p.count (count_of joined p.item)) (is_taught : taught ≡ with_count joined p.item count) where
   their_item : HasItem (sizes_of joined) p.item
