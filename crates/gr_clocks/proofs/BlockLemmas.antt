@@ -1,7 +1,7 @@
 -- The counts of all items, as rows of one group each: what is joined and written.
 use Rattle.std.proofs.Common.{◌≡◌, ◌≢◌, ℕ, ◌<◌, ◌≤◌, List, [], length, slice_index, get_or, set, replicate, sym, ◌∙◌, ap, subst, arith, ⊎_elim}
 use Rattle.std.proofs.lemmas.Bool.{cases_lt}
-use Rattle.std.proofs.lemmas.List.{get_or_past, length-set, length-map, length-replicate, get_or-replicate, set-get_or, ext_get_or}
+use Rattle.std.proofs.lemmas.List.{get_or_past, length-set, length-map, length-replicate, get_or-replicate, ext_get_or}
 use Rattle.std.proofs.Math.ListN.{get_or-map}
 use Rattle.std.proofs.Math.Seq.{map-set_same}
 use Rattle.gr_model.specs.declared.event.ItemId.{ItemId}
@@ -82,7 +82,3 @@ with_same c i n has = let there = row_of_item c i has in entry_same 0 c i n ther
 
 pub with_other : (c : Counts) (i : ItemId) (n : ℕ) (j : ItemId) → HasItem (sizes_of c) i → i ≢ j → count_of (with_count c i n) j ≡ count_of c j
 with_other c i n j has other = let there = row_of_item c i has in entry_other 0 c i n j there.0 other
-
--- the count that is there changes nothing
-pub with_own : (c : Counts) (i : ItemId) → with_count c i (count_of c i) ≡ c
-with_own c i = ap (set c i.group) (set-get_or (get_or c i.group []) i.item 0) ∙ set-get_or c i.group []

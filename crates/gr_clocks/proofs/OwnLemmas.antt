@@ -2,7 +2,6 @@
 use Rattle.std.proofs.Common.{◌≡◌, ◌≢◌, ◌⊎◌, inl, inr, ℕ, ◌+◌, ◌≤◌, max, Bool, true, false, List, if◌then◌else◌, refl, sym, ◌∙◌, ap, subst, arith, ⊎_elim}
 use Rattle.gr_model.specs.declared.event.ItemId.{ItemId}
 use Rattle.gr_model.specs.Shapes.{HasItem}
-use Rattle.gr_clocks.specs.declared.clock.TheConstants.{LARGEST_COUNT}
 use Rattle.gr_clocks.specs.Rows.{same_item}
 use Rattle.gr_clocks.specs.Counts.{Counts, count_of, sizes_of, tick_at, IsTick, IsJoin}
 use Rattle.gr_clocks.specs.Owned.{with_count, OwnCounts, counts_of, IsOwn}
@@ -125,6 +124,3 @@ module _ (o : OwnCounts) (own : IsOwn o) (theirs base : Counts) (count : ℕ) (j
 
   pub own_join : IsJoin (counts_of o) theirs Joined
   own_join = record { shape = with_sizes base o.item count ∙ join.shape ∙ sym (own_sizes o); counts = joined_at }
-
-  pub join_own : count_of base o.item ≤ LARGEST_COUNT → IsOwn (record { base = base; item = o.item; count = count })
-  join_own small = record { item = base_item; above = omega arith; limit = let limit = own.limit in omega arith }

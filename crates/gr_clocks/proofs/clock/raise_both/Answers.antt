@@ -1,6 +1,6 @@
 use Rattle.std.proofs.Common.{◌≡◌, ◌+◌, refl, subst, rules}
 use Rattle.gr_model.specs.declared.event.ItemId.{ItemId}
-use Rattle.gr_clocks.specs.Counts.{Counts, IsTick}
+use Rattle.gr_clocks.specs.Counts.{IsTick}
 use Rattle.gr_clocks.specs.Owned.{OwnCounts, with_count}
 use Rattle.gr_clocks.proofs.OwnLemmas.{own_tick}
 use Rattle.gr_clocks.proofs.clock.raise_both.Goals as goal

@@ -1,5 +1,5 @@
 use Rattle.std.proofs.Common.{◌≡◌, ◌∙◌, ℕ, max, ap, sym}
-use Rattle.gr_clocks.specs.Counts.{Counts, count_of, sizes_of, IsJoin}
+use Rattle.gr_clocks.specs.Counts.{count_of, sizes_of, IsJoin}
 use Rattle.gr_clocks.specs.Owned.{OwnCounts, counts_of, with_count}
 use Rattle.gr_clocks.proofs.OwnLemmas.{own_sizes, own_join}
 use Rattle.gr_clocks.proofs.clock.Clock.join.Goals as goal

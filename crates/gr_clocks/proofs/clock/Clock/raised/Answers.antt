@@ -1,4 +1,4 @@
-use Rattle.std.proofs.Common.{◌≡◌, ◌+◌, ap, sym}
+use Rattle.std.proofs.Common.{◌+◌, ap}
 use Rattle.gr_clocks.proofs.OwnLemmas.{shared_tick}
 use Rattle.gr_clocks.proofs.clock.Clock.raised.Goals as goal
 

@@ -21,5 +21,5 @@ returns-clause-join g c =
     let p : OwnCounts = record { base = c.self.inside.base.value; item = c.self.inside.item; count = c.self.inside.count } in
     let same : sizes_of p.base ≡ sizes_of c.args.base.now = sym (own_sizes p) ∙ ap sizes_of c.self.view_is ∙ c.requires in
     let join : IsJoin c.args.base.now p.base c.learn.new.self = rw (← c.deref.ensures) c.in_ok-learn.ensures.join in
-    let is_count : c.max-count.result ≡ max p.count (count_of c.learn.new.self p.item) = c.max-count.ensures ∙ ap (λ (n : ℕ). max p.count n) c.get.ensures.count in
+    let is_count : c.max-count.result ≡ max p.count (count_of c.learn.new.self p.item) = cc (c.max-count.ensures, c.get.ensures.count) in
     rw (← c.self.view_is) (own_taught p c.self.invariant c.args.base.now c.learn.new.self c.set.new.self c.max-count.result same join is_count c.in_ok-set.ensures.ok)
