@@ -28,7 +28,8 @@ try:
     with open(trace, "rb") as given:
         told = subprocess.run([*valgrind, program, "replay"], stdin=given, stdout=subprocess.DEVNULL,
                               stderr=subprocess.PIPE, timeout=float(limit)).stderr.decode()
-    each = f"{int(re.search(r'Collected : (\d+)', told).group(1)) / records:9,.0f}"
+    counted = int(re.search(r"Collected : (\d+)", told).group(1))
+    each = f"{counted / records:9,.0f}"
 except subprocess.TimeoutExpired:
     each = f"more than {limit} s"
 print(f"{kernel:9} records {records:>8}: {each} instructions a record, busy {busy:6.2f} s, {peak:5.0f} MiB", flush=True)

@@ -1,7 +1,7 @@
 -- The counts of all items, as rows of one group each: what is joined and written.
-use Rattle.std.proofs.Common.{◌≡◌, ◌≢◌, ℕ, ◌+◌, ◌<◌, ◌≤◌, List, [], ◌∷◌, ◌++◌, length, slice_index, get_or, set, replicate, ◌==◌, sym, ◌∙◌, ap, subst, arith, ⊎_elim}
-use Rattle.std.proofs.lemmas.Bool.{and_from, cases_eq, cases_lt, eq-eqb}
-use Rattle.std.proofs.lemmas.List.{get_or_past, get_or_push, get_or_append_left, length-set, length-map, length-replicate, get_or-replicate, get_or-set_same, get_or-set_other, set-get_or, ext_get_or}
+use Rattle.std.proofs.Common.{◌≡◌, ◌≢◌, ℕ, ◌<◌, ◌≤◌, List, [], length, slice_index, get_or, set, replicate, sym, ◌∙◌, ap, subst, arith, ⊎_elim}
+use Rattle.std.proofs.lemmas.Bool.{cases_lt}
+use Rattle.std.proofs.lemmas.List.{get_or_past, length-set, length-map, length-replicate, get_or-replicate, ext_get_or}
 use Rattle.std.proofs.Math.ListN.{get_or-map}
 use Rattle.std.proofs.Math.Seq.{map-set_same}
 use Rattle.gr_model.specs.declared.event.ItemId.{ItemId}
@@ -9,7 +9,7 @@ use Rattle.gr_model.specs.Shapes.{HasItem}
 use Rattle.gr_clocks.specs.Blocks.{IsRowWithin, IsRowJoin}
 use Rattle.gr_clocks.specs.Counts.{Counts, count_of, sizes_of, IsZero, IsJoin}
 use Rattle.gr_clocks.specs.Owned.{with_count}
-use Rattle.gr_clocks.proofs.RowLemmas.{same_items}
+use Rattle.gr_clocks.proofs.RowLemmas.{row_of_item, entry_same, entry_other}
 
 -- ---- rows
 
@@ -48,15 +48,6 @@ zero_base sizes c size rows =
 
 -- ---- joins
 
--- rows are joined one after another
-pub join_more : (mine theirs rows more : Counts) (x : List ℕ) (n : ℕ) → length rows ≡ n → ((p : ℕ) → p < n → IsRowJoin (get_or mine p []) (get_or theirs p []) (get_or rows p [])) → IsRowJoin (get_or mine n []) (get_or theirs n []) x → more ≡ rows ++ x ∷ [] → (p : ℕ) → p < n + 1 → IsRowJoin (get_or mine p []) (get_or theirs p []) (get_or more p [])
-join_more mine theirs rows more x n count all last is p below =
-    subst (λ (c : Counts). IsRowJoin (get_or mine p []) (get_or theirs p []) (get_or c p [])) (sym is)
-    (⊎_elim
-    (λ (same : p ≡ n). subst (IsRowJoin (get_or mine p []) (get_or theirs p [])) (sym (get_or_push rows x [] p (count ∙ sym same))) (subst (λ (m : ℕ). IsRowJoin (get_or mine m []) (get_or theirs m []) x) (sym same) last))
-    (λ (apart : p ≡ n → ⊥). subst (IsRowJoin (get_or mine p []) (get_or theirs p [])) (sym (get_or_append_left rows (x ∷ []) [] p (omega arith))) (all p (omega arith)))
-    (cases_eq p n))
-
 pub join_rows : (mine theirs joined : Counts) (n : ℕ) → sizes_of theirs ≡ sizes_of mine → length mine ≤ n → n ≤ length mine → length joined ≡ n → ((p : ℕ) → p < n → IsRowJoin (get_or mine p []) (get_or theirs p []) (get_or joined p [])) → IsJoin mine theirs joined
 join_rows mine theirs joined n same upper lower size rows =
     let count : length joined ≡ length mine = omega arith in
@@ -86,25 +77,8 @@ join_to_within mine theirs joined size within is = record { size = ap length is 
 pub with_sizes : (c : Counts) (i : ItemId) (n : ℕ) → sizes_of (with_count c i n) ≡ sizes_of c
 with_sizes c i n = map-set_same length c i.group (set (get_or c i.group []) i.item n) [] (length-set (get_or c i.group []) i.item n)
 
-row_of_item : (c : Counts) (i : ItemId) → HasItem (sizes_of c) i → (i.group < length c) × (i.item < length (get_or c i.group []))
-row_of_item c i has = (subst (λ (n : ℕ). i.group < n) (length-map c length) has.0, subst (λ (n : ℕ). i.item < n) (size_at c i.group) has.1)
-
 pub with_same : (c : Counts) (i : ItemId) (n : ℕ) → HasItem (sizes_of c) i → count_of (with_count c i n) i ≡ n
-with_same c i n has =
-    let there = row_of_item c i has in
-    ap (λ (row : List ℕ). slice_index row i.item) (get_or-set_same c i.group (set (get_or c i.group []) i.item n) [] there.0) ∙ get_or-set_same (get_or c i.group []) i.item n 0 there.1
+with_same c i n has = let there = row_of_item c i has in entry_same 0 c i n there.0 there.1
 
 pub with_other : (c : Counts) (i : ItemId) (n : ℕ) (j : ItemId) → HasItem (sizes_of c) i → i ≢ j → count_of (with_count c i n) j ≡ count_of c j
-with_other c i n j has other =
-    let there = row_of_item c i has in
-    ⊎_elim
-    (λ (here : j.group ≡ i.group).
-    let at_row : get_or (with_count c i n) j.group [] ≡ set (get_or c i.group []) i.item n = ap (λ (g : ℕ). get_or (with_count c i n) g []) here ∙ get_or-set_same c i.group (set (get_or c i.group []) i.item n) [] there.0 in
-    let apart : j.item ≢ i.item = λ (same : j.item ≡ i.item). other (same_items i j (and_from (i.group == j.group) (i.item == j.item) (eq-eqb i.group j.group (sym here)) (eq-eqb i.item j.item (sym same)))) in
-    ap (λ (row : List ℕ). slice_index row j.item) at_row ∙ get_or-set_other (get_or c i.group []) i.item j.item n 0 apart ∙ ap (λ (g : ℕ). slice_index (get_or c g []) j.item) (sym here))
-    (λ (apart : j.group ≡ i.group → ⊥). ap (λ (row : List ℕ). slice_index row j.item) (get_or-set_other c i.group j.group (set (get_or c i.group []) i.item n) [] apart))
-    (cases_eq j.group i.group)
-
--- the count that is there changes nothing
-pub with_own : (c : Counts) (i : ItemId) → with_count c i (count_of c i) ≡ c
-with_own c i = ap (set c i.group) (set-get_or (get_or c i.group []) i.item 0) ∙ set-get_or c i.group []
+with_other c i n j has other = let there = row_of_item c i has in entry_other 0 c i n j there.0 other

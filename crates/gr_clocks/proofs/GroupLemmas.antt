@@ -1,16 +1,15 @@
--- The clocks of one work-group: what all of them count behind a barrier.
-use Rattle.std.proofs.Common.{◌≡◌, ◌≢◌, ℕ, zero, suc, ◌+◌, ◌<◌, ◌≤◌, max, All, Bool, List, [], ◌∷◌, ◌++◌, length, slice_index, get_or, set, if◌then◌else◌, refl, sym, ◌∙◌, ap, subst, arith, add-one, ⊎_elim}
-use Rattle.std.proofs.lemmas.Bool.{cases_eq, cases_lt}
-use Rattle.std.proofs.lemmas.List.{get_or_past, get_or_push, get_or_append_left, length_push, get_or-set_same, get_or-set_other}
+-- The clocks of one work-group: what its items keep, and what all of them count behind a barrier.
+use Rattle.std.proofs.Common.{◌≡◌, ◌≢◌, ℕ, zero, suc, ◌+◌, ◌<◌, ◌≤◌, ◌^◌, max, All, Bool, true, false, List, [], ◌∷◌, ◌++◌, length, slice_index, get_or, set, if◌then◌else◌, refl, sym, ◌∙◌, ap, subst, arith, ⊎_elim}
+use Rattle.std.proofs.lemmas.Bool.{cases_eq, cases_lt, false≢true}
+use Rattle.std.proofs.lemmas.List.{get_or_past, get_or_push, get_or_append_left, length_push, length-set, get_or-set_same, get_or-set_other}
 use Rattle.std.proofs.Math.Seq.{map-set_same}
 use Rattle.gr_model.specs.declared.event.ItemId.{ItemId}
 use Rattle.gr_clocks.specs.declared.clock.TheConstants.{LARGEST_COUNT}
-use Rattle.gr_clocks.specs.Counts.{Counts, count_of, sizes_of, tick_at, IsJoin}
-use Rattle.gr_clocks.specs.Owned.{OwnCounts, counts_of}
-use Rattle.gr_clocks.specs.Groups.{item_of, greatest, clock_in_group, group_sizes, IsGroup, GathersFirst, raised_count, AreRaisedFirst, AreRaised, IsMetBase}
+use Rattle.gr_clocks.specs.Counts.{Counts, count_of, sizes_of, tick_at, IsTick, IsJoin}
+use Rattle.gr_clocks.specs.Groups.{item_of, greatest, GroupClocks, clock_in_group, Keeps, IsGroup, IsShared, IsGrown, GathersFirst, Gathers, raised_count, AreRaised, met_count, IsMetBase, TickFirst, MeetsEach}
 use Rattle.gr_clocks.proofs.RowLemmas.{same_item_self}
 use Rattle.gr_clocks.proofs.BlockLemmas.{length_sizes, size_at}
-use Rattle.gr_clocks.proofs.OwnLemmas.{not_ticked, own_count, other_count}
+use Rattle.gr_clocks.proofs.OwnLemmas.{not_ticked}
 
 -- ---- the greatest of some numbers
 
@@ -30,34 +29,151 @@ pub greatest_least : (n : ℕ) (f : ℕ → ℕ) (x : ℕ) → ((k : ℕ) → k 
 greatest_least zero f x all = omega arith
 greatest_least (suc n) f x all = let last : f n ≤ x = all n (omega arith) in let rest : greatest n f ≤ x = greatest_least n f x (λ k below. all k (omega arith)) in omega arith
 
--- ---- what is shared, one clock after another
+-- ---- what a group keeps
 
-pub gathers_none : (clocks : List OwnCounts) (base : Counts) → base ≡ (clock_in_group clocks 0).base → GathersFirst clocks 0 base
-gathers_none clocks base is = record {
+pub keeps_met : (met : Counts) (i : ItemId) (learned : Bool) (c : Counts) → c ≡ met → Keeps met i learned c
+keeps_met met i learned c is = record {
   shape = ap sizes_of is;
-  counts = λ j. let same : count_of base j ≡ count_of (clock_in_group clocks 0).base j = ap (λ (c : Counts). count_of c j) is in omega arith;
+  least = λ j. let same : count_of c j ≡ count_of met j = ap (λ (x : Counts). count_of x j) is in omega arith;
+  most = λ off j other. let same : count_of c j ≡ count_of met j = ap (λ (x : Counts). count_of x j) is in omega arith;
 }
 
-pub gathers_more : (clocks : List OwnCounts) (n : ℕ) (base x more : Counts) → GathersFirst clocks n base → IsJoin base x more → x ≡ (clock_in_group clocks n).base → GathersFirst clocks (n + 1) more
-gathers_more clocks n base x more first join is = record {
-  shape = join.shape ∙ first.shape;
-  counts = λ j.
-      let f = λ (k : ℕ). count_of (clock_in_group clocks k).base j in
-      let last : count_of x j ≡ f n = ap (λ (c : Counts). count_of c j) is in
-      let step : greatest (n + 1) f ≡ max (f n) (greatest n f) = ap (λ (m : ℕ). greatest m f) (add-one n) in
-      let before : count_of base j ≡ max (f 0) (greatest n f) = first.counts j in
-      let now : count_of more j ≡ max (count_of base j) (count_of x j) = join.counts j in
-      omega arith;
+pub keeps_tick : (met : Counts) (i : ItemId) (learned : Bool) (c after : Counts) → Keeps met i learned c → IsTick c i after → Keeps met i learned after
+keeps_tick met i learned c after keeps tick = record {
+  shape = tick.shape ∙ keeps.shape;
+  least = λ j. let was = keeps.least j in let now = tick.counts j in omega arith;
+  most = λ off j other. let was = keeps.most off j other in let now = tick.counts j in let none : tick_at i j ≡ 0 = not_ticked i j other in omega arith;
 }
+
+keeps_grown : (met : Counts) (i : ItemId) (learned : Bool) (c after : Counts) → Keeps met i learned c → IsGrown c after → Keeps met i true after
+keeps_grown met i learned c after keeps grown = record {
+  shape = grown.shape ∙ keeps.shape;
+  least = λ j. let was = keeps.least j in let now = grown.counts j in omega arith;
+  most = λ off j other. absurd (false≢true (sym off));
+}
+
+pub shared_group : (met : Counts) (number : ℕ) (clocks : List Counts) (learned : List Bool) → number < length (sizes_of met) → slice_index (sizes_of met) number ≡ length clocks → length clocks < 2 ^ 16 → length learned ≡ length clocks → ((k : ℕ) → k < length clocks → get_or clocks k [] ≡ met) → IsGroup number met clocks learned
+shared_group met number clocks learned there size few marks all = record {
+  there = there;
+  size = size;
+  few = few;
+  marks = marks;
+  each = λ k below. keeps_met met (item_of number k) (get_or learned k false) (get_or clocks k []) (all k below);
+}
+
+module _ (number : ℕ) (met : Counts) (clocks : List Counts) (learned : List Bool) (are : IsGroup number met clocks learned) where
+  -- an item has another clock, and its mark may have changed
+  group_with : (k : ℕ) (c : Counts) (marks : List Bool) → length marks ≡ length learned → ((m : ℕ) → m ≢ k → get_or marks m false ≡ get_or learned m false) → k < length clocks → Keeps met (item_of number k) (get_or marks k false) c → IsGroup number met (set clocks k c) marks
+  group_with k c marks count others there keeps =
+      let size : length (set clocks k c) ≡ length clocks = length-set clocks k c in
+      record {
+        there = are.there;
+        size = are.size ∙ sym size;
+        few = let few = are.few in omega arith;
+        marks = count ∙ are.marks ∙ sym size;
+        each = λ m below.
+            ⊎_elim
+            (λ (same : m ≡ k).
+            subst (λ (x : ℕ). Keeps met (item_of number x) (get_or marks x false) (get_or (set clocks k c) x [])) (sym same)
+            (subst (Keeps met (item_of number k) (get_or marks k false)) (sym (get_or-set_same clocks k c [] there)) keeps))
+            (λ (apart : m ≡ k → ⊥).
+            subst (Keeps met (item_of number m) (get_or marks m false)) (sym (get_or-set_other clocks k m c [] apart))
+            (subst (λ (b : Bool). Keeps met (item_of number m) b (get_or clocks m [])) (sym (others m apart)) (are.each m (subst (λ (x : ℕ). m < x) size below))))
+            (cases_eq m k);
+      }
+
+  pub group_ticked : (k : ℕ) (c : Counts) → k < length clocks → IsTick (get_or clocks k []) (item_of number k) c → IsGroup number met (set clocks k c) learned
+  group_ticked k c there tick = group_with k c learned refl (λ m apart. refl) there (keeps_tick met (item_of number k) (get_or learned k false) (get_or clocks k []) c (are.each k there) tick)
+
+  -- what is written again changes nothing
+  pub group_again : (k : ℕ) (c : Counts) → k < length clocks → c ≡ get_or clocks k [] → IsGroup number met (set clocks k c) learned
+  group_again k c there same = group_with k c learned refl (λ m apart. refl) there (subst (Keeps met (item_of number k) (get_or learned k false)) (sym same) (are.each k there))
+
+  pub group_learned : (k : ℕ) (c : Counts) → k < length clocks → IsGrown (get_or clocks k []) c → IsGroup number met (set clocks k c) (set learned k true)
+  group_learned k c there grown =
+      let marked : get_or (set learned k true) k false ≡ true = get_or-set_same learned k true false (let marks = are.marks in omega arith) in
+      group_with k c (set learned k true) (length-set learned k true) (λ m apart. get_or-set_other learned k m true false apart) there
+      (subst (λ (b : Bool). Keeps met (item_of number k) b c) (sym marked) (keeps_grown met (item_of number k) (get_or learned k false) (get_or clocks k []) c (are.each k there) grown))
+
+  abbrev Whole : GroupClocks
+  Whole = record { number = number; sizes = sizes_of met; clocks = clocks }
+
+  pub clock_sizes : (k : ℕ) → k < length clocks → sizes_of (get_or clocks k []) ≡ sizes_of met
+  clock_sizes k below = (are.each k below).shape
+
+  -- all clocks have ticked
+  pub all_ticked : (after : List Counts) (marks : List Bool) (n : ℕ) → n ≡ length clocks → length after ≡ n → marks ≡ learned → TickFirst Whole n after → IsGroup number met after marks
+  all_ticked after marks n is_n count is_marks ticks =
+      let size : length after ≡ length clocks = count ∙ is_n in
+      record {
+        there = are.there;
+        size = are.size ∙ sym size;
+        few = let few = are.few in omega arith;
+        marks = ap length is_marks ∙ are.marks ∙ sym size;
+        each = λ k below.
+            let within : k < length clocks = omega arith in
+            let here : k < n = omega arith in
+            subst (λ (bs : List Bool). Keeps met (item_of number k) (get_or bs k false) (get_or after k [])) (sym is_marks)
+            (keeps_tick met (item_of number k) (get_or learned k false) (get_or clocks k []) (get_or after k []) (are.each k within) (ticks k here));
+      }
+
+  -- ---- what was met, and what items have learned since
+
+  pub gathers_none : (base : Counts) → base ≡ met → GathersFirst met Whole 0 base
+  gathers_none base is = record {
+    shape = ap sizes_of is;
+    above = λ j. let same : count_of base j ≡ count_of met j = ap (λ (c : Counts). count_of c j) is in omega arith;
+    least = λ k j below other. absurd (omega arith);
+    most = λ j some.
+        let f = λ (k : ℕ). count_of (get_or clocks k []) j in
+        let same : count_of base j ≡ count_of met j = ap (λ (c : Counts). count_of c j) is in
+        let first : count_of met j ≤ f 0 = (are.each 0 some).least j in
+        let top : f 0 ≤ greatest (length clocks) f = greatest_above (length clocks) f 0 some in
+        omega arith;
+  }
+
+  gathers_step : (n : ℕ) (base more : Counts) → GathersFirst met Whole n base → sizes_of more ≡ sizes_of base → ((j : ItemId) → count_of base j ≤ count_of more j) → ((j : ItemId) → item_of number n ≢ j → count_of (get_or clocks n []) j ≤ count_of more j) → ((j : ItemId) → 0 < length clocks → count_of more j ≤ greatest (length clocks) (λ k. count_of (get_or clocks k []) j)) → GathersFirst met Whole (n + 1) more
+  gathers_step n base more first shape grows last most = record {
+    shape = shape ∙ first.shape;
+    above = λ j. let was = first.above j in let now = grows j in omega arith;
+    least = λ k j below other.
+        ⊎_elim
+        (λ (same : k ≡ n). subst (λ (m : ℕ). count_of (get_or clocks m []) j ≤ count_of more j) (sym same) (last j (subst (λ (m : ℕ). item_of number m ≢ j) same other)))
+        (λ (apart : k ≡ n → ⊥). let was = first.least k j (omega arith) other in let now = grows j in omega arith)
+        (cases_eq k n);
+    most = most;
+  }
+
+  pub gathers_kept : (n : ℕ) (base : Counts) → n < length clocks → get_or learned n false ≡ false → GathersFirst met Whole n base → GathersFirst met Whole (n + 1) base
+  gathers_kept n base there off first =
+      gathers_step n base base first refl (λ j. omega arith)
+      (λ j other. let kept = (are.each n there).most off j other in let was = first.above j in omega arith)
+      first.most
+
+  pub gathers_more : (n : ℕ) (base x more : Counts) → n < length clocks → GathersFirst met Whole n base → IsJoin base x more → x ≡ get_or clocks n [] → GathersFirst met Whole (n + 1) more
+  gathers_more n base x more there first join is =
+      let joined : (j : ItemId) → count_of more j ≡ max (count_of base j) (count_of (get_or clocks n []) j) = λ j. join.counts j ∙ ap (λ (c : Counts). max (count_of base j) (count_of c j)) is in
+      gathers_step n base more first join.shape
+      (λ j. let at = joined j in omega arith)
+      (λ j other. let at = joined j in omega arith)
+      (λ j some.
+      let f = λ (k : ℕ). count_of (get_or clocks k []) j in
+      let at : count_of more j ≡ max (count_of base j) (f n) = joined j in
+      let was : count_of base j ≤ greatest (length clocks) f = first.most j some in
+      let top : f n ≤ greatest (length clocks) f = greatest_above (length clocks) f n there in
+      omega arith)
+
+  pub gathers_all : (n : ℕ) (base : Counts) → n ≡ length clocks → GathersFirst met Whole n base → Gathers Whole base
+  gathers_all n base is first = record { shape = first.shape; least = λ k j below other. first.least k j (omega arith) other; most = first.most }
 
 -- ---- the counts behind the barrier
 
-pub raised_more : (group : ℕ) (clocks : List OwnCounts) (base : Counts) (n : ℕ) (counts more : List ℕ) (x : ℕ) → AreRaisedFirst group clocks base n counts → x ≡ raised_count group clocks base n → x ≤ LARGEST_COUNT → more ≡ counts ++ x ∷ [] → All (λ m. m ≤ LARGEST_COUNT) more → AreRaisedFirst group clocks base (n + 1) more
-raised_more group clocks base n counts more x first is small more_is limit = record {
+pub raised_more : (g : GroupClocks) (base : Counts) (n : ℕ) (counts more : List ℕ) (x : ℕ) → AreRaised g base n counts → x ≡ raised_count g base n → more ≡ counts ++ x ∷ [] → All (λ m. m ≤ LARGEST_COUNT) more → AreRaised g base (n + 1) more
+raised_more g base n counts more x first is more_is limit = record {
   size = ap length more_is ∙ length_push counts x ∙ ap (λ (m : ℕ). m + 1) first.size;
-  each = λ k below. subst (λ (xs : List ℕ). slice_index xs k ≡ raised_count group clocks base k) (sym more_is)
+  each = λ k below. subst (λ (xs : List ℕ). slice_index xs k ≡ raised_count g base k) (sym more_is)
       (⊎_elim
-      (λ (same : k ≡ n). get_or_push counts x 0 k (first.size ∙ sym same) ∙ is ∙ ap (raised_count group clocks base) (sym same))
+      (λ (same : k ≡ n). get_or_push counts x 0 k (first.size ∙ sym same) ∙ is ∙ ap (raised_count g base) (sym same))
       (λ (apart : k ≡ n → ⊥). get_or_append_left counts (x ∷ []) 0 k (let size = first.size in omega arith) ∙ first.each k (omega arith))
       (cases_eq k n));
   limit = limit;
@@ -67,112 +183,124 @@ raised_more group clocks base n counts more x first is small more_is limit = rec
 pub count_past : (c : Counts) (j : ItemId) → slice_index (sizes_of c) j.group ≤ j.item → count_of c j ≡ 0
 count_past c j past = get_or_past (get_or c j.group []) j.item 0 (let size = size_at c j.group in omega arith)
 
-module _ (group : ℕ) (clocks : List OwnCounts) (are : IsGroup group clocks) (base : Counts) (gathered : GathersFirst clocks (length clocks) base) (counts : List ℕ) (raised : AreRaised group clocks base counts) where
-  abbrev Shared : ItemId → ℕ → ℕ
-  Shared j k = count_of (clock_in_group clocks k).base j
+-- base has learned all that the clocks count, and then gets the raised counts of the group's own items
+module _ (g : GroupClocks) (some : 0 < length g.clocks) (there : g.number < length g.sizes) (group_size : slice_index g.sizes g.number ≡ length g.clocks) (shapes : (k : ℕ) → k < length g.clocks → sizes_of (clock_in_group g k) ≡ g.sizes) (base : Counts) (gathered : Gathers g base) (counts : List ℕ) (raised : AreRaised g base (length g.clocks) counts) where
+  abbrev Known : ItemId → ℕ → ℕ
+  Known j k = count_of (clock_in_group g k) j
 
   abbrev Counted : ItemId → ℕ → ℕ
-  Counted j k = count_of (counts_of (clock_in_group clocks k)) j + tick_at (item_of group k) j
+  Counted j k = count_of (clock_in_group g k) j + tick_at (item_of g.number k) j
 
-  shared_all : (j : ItemId) → count_of base j ≡ greatest (length clocks) (Shared j)
-  shared_all j =
-      let first : Shared j 0 ≤ greatest (length clocks) (Shared j) = greatest_above (length clocks) (Shared j) 0 are.some in
-      let all : count_of base j ≡ max (Shared j 0) (greatest (length clocks) (Shared j)) = gathered.counts j in
+  counted_other : (j : ItemId) (k : ℕ) → item_of g.number k ≢ j → Counted j k ≡ Known j k
+  counted_other j k other = let none : tick_at (item_of g.number k) j ≡ 0 = not_ticked (item_of g.number k) j other in omega arith
+
+  counted_own : (k : ℕ) → Counted (item_of g.number k) k ≡ Known (item_of g.number k) k + 1
+  counted_own k = let one : tick_at (item_of g.number k) (item_of g.number k) ≡ 1 = ap (λ (b : Bool). if b then 1 else 0) (same_item_self (item_of g.number k)) in omega arith
+
+  base_small : (j : ItemId) → count_of base j ≤ met_count g j
+  base_small j =
+      let n = length g.clocks in
+      let was : count_of base j ≤ greatest n (Known j) = gathered.most j some in
+      let up : greatest n (Known j) ≤ greatest n (Counted j) = greatest_least n (Known j) (greatest n (Counted j)) (λ k within. let top : Counted j k ≤ greatest n (Counted j) = greatest_above n (Counted j) k within in omega arith) in
+      let is : met_count g j ≡ greatest n (Counted j) = refl in
       omega arith
-
-  counted_other : (j : ItemId) (k : ℕ) → k < length clocks → item_of group k ≢ j → Counted j k ≡ Shared j k
-  counted_other j k below other =
-      let o = are.each k below in
-      let mine : count_of (counts_of (clock_in_group clocks k)) j ≡ Shared j k = other_count (clock_in_group clocks k) o.own j (λ (is : (clock_in_group clocks k).item ≡ j). other (sym o.item ∙ is)) in
-      let none : tick_at (item_of group k) j ≡ 0 = not_ticked (item_of group k) j other in
-      omega arith
-
-  counted_own : (k : ℕ) → k < length clocks → Counted (item_of group k) k ≡ (clock_in_group clocks k).count + 1
-  counted_own k below =
-      let o = are.each k below in
-      let mine : count_of (counts_of (clock_in_group clocks k)) (item_of group k) ≡ (clock_in_group clocks k).count = ap (count_of (counts_of (clock_in_group clocks k))) (sym o.item) ∙ own_count (clock_in_group clocks k) o.own in
-      let one : tick_at (item_of group k) (item_of group k) ≡ 1 = ap (λ (b : Bool). if b then 1 else 0) (same_item_self (item_of group k)) in
-      omega arith
-
-  above_shared : (k : ℕ) → k < length clocks → Shared (item_of group k) k ≤ (clock_in_group clocks k).count
-  above_shared k below = let o = are.each k below in subst (λ (i : ItemId). count_of (clock_in_group clocks k).base i ≤ (clock_in_group clocks k).count) o.item o.own.above
-
-  item_apart : (k m : ℕ) → (k ≡ m → ⊥) → item_of group k ≢ item_of group m
-  item_apart k m apart same = apart (ap (λ (i : ItemId). i.item) same)
 
   -- the count of an item of the group
-  raised_all : (m : ℕ) → m < length clocks → raised_count group clocks base m ≡ greatest (length clocks) (Counted (item_of group m))
+  raised_all : (m : ℕ) → m < length g.clocks → raised_count g base m ≡ met_count g (item_of g.number m)
   raised_all m below =
-      let n = length clocks in
-      let j = item_of group m in
-      let own : Counted j m ≡ (clock_in_group clocks m).count + 1 = counted_own m below in
-      let own_above : Shared j m ≤ (clock_in_group clocks m).count = above_shared m below in
+      let n = length g.clocks in
+      let j = item_of g.number m in
+      let own : Counted j m ≡ Known j m + 1 = counted_own m in
       let top : Counted j m ≤ greatest n (Counted j) = greatest_above n (Counted j) m below in
-      let shared_is : count_of base j ≡ greatest n (Shared j) = shared_all j in
-      let up : greatest n (Shared j) ≤ greatest n (Counted j) = greatest_least n (Shared j) (greatest n (Counted j)) (λ k within. ⊎_elim
-      (λ (same : k ≡ m). subst (λ (x : ℕ). Shared j x ≤ greatest n (Counted j)) (sym same) (omega arith))
-      (λ (apart : k ≡ m → ⊥). let here : Counted j k ≡ Shared j k = counted_other j k within (item_apart k m apart) in let most : Counted j k ≤ greatest n (Counted j) = greatest_above n (Counted j) k within in omega arith)
-      (cases_eq k m)) in
-      let x = raised_count group clocks base m in
-      let is_x : x ≡ max (count_of base j) ((clock_in_group clocks m).count + 1) = refl in
+      let small : count_of base j ≤ greatest n (Counted j) = base_small j in
+      let x = raised_count g base m in
+      let is_x : x ≡ max (count_of base j) (Known j m + 1) = refl in
       let down : greatest n (Counted j) ≤ x = greatest_least n (Counted j) x (λ k within. ⊎_elim
       (λ (same : k ≡ m). subst (λ (y : ℕ). Counted j y ≤ x) (sym same) (omega arith))
-      (λ (apart : k ≡ m → ⊥). let here : Counted j k ≡ Shared j k = counted_other j k within (item_apart k m apart) in let most : Shared j k ≤ greatest n (Shared j) = greatest_above n (Shared j) k within in omega arith)
+      (λ (apart : k ≡ m → ⊥).
+      let other : item_of g.number k ≢ j = λ (same : item_of g.number k ≡ j). apart (ap (λ (i : ItemId). i.item) same) in
+      let here : Counted j k ≡ Known j k = counted_other j k other in
+      let known : Known j k ≤ count_of base j = gathered.least k j within other in
+      omega arith)
       (cases_eq k m)) in
+      omega arith
+
+  -- the count of any other item
+  known_all : (j : ItemId) → ((k : ℕ) → k < length g.clocks → item_of g.number k ≢ j) → count_of base j ≡ met_count g j
+  known_all j other =
+      let n = length g.clocks in
+      let small : count_of base j ≤ greatest n (Counted j) = base_small j in
+      let down : greatest n (Counted j) ≤ count_of base j = greatest_least n (Counted j) (count_of base j) (λ k within.
+      let here : Counted j k ≡ Known j k = counted_other j k (other k within) in
+      let known : Known j k ≤ count_of base j = gathered.least k j within (other k within) in
+      omega arith) in
       omega arith
 
   abbrev Met : Counts
-  Met = set base group counts
+  Met = set base g.number counts
 
-  in_base : group < length base
-  in_base = let there = are.there in let same : length (sizes_of base) ≡ length (group_sizes clocks) = ap length gathered.shape in omega (arith, length_sizes base)
+  in_base : g.number < length base
+  in_base = let same : length (sizes_of base) ≡ length g.sizes = ap length gathered.shape in omega (arith, length_sizes base)
 
-  row_size : length counts ≡ length (get_or base group [])
-  row_size = raised.size ∙ are.size ∙ ap (λ (sizes : List ℕ). slice_index sizes group) (sym gathered.shape) ∙ size_at base group
+  row_count : length counts ≡ length (get_or base g.number [])
+  row_count = raised.size ∙ sym group_size ∙ ap (λ (sizes : List ℕ). slice_index sizes g.number) (sym gathered.shape) ∙ size_at base g.number
 
-  met_here : (j : ItemId) → j.group ≡ group → count_of Met j ≡ slice_index counts j.item
-  met_here j here = ap (λ (row : List ℕ). slice_index row j.item) (ap (λ (g : ℕ). get_or Met g []) here ∙ get_or-set_same base group counts [] in_base)
+  met_here : (j : ItemId) → j.group ≡ g.number → count_of Met j ≡ slice_index counts j.item
+  met_here j here = ap (λ (row : List ℕ). slice_index row j.item) (ap (λ (n : ℕ). get_or Met n []) here ∙ get_or-set_same base g.number counts [] in_base)
 
-  counted_here : (j : ItemId) → j.group ≡ group → slice_index counts j.item ≡ greatest (length clocks) (Counted j)
+  counted_here : (j : ItemId) → j.group ≡ g.number → slice_index counts j.item ≡ met_count g j
   counted_here j here =
-      let is : item_of group j.item ≡ j = ap (λ (g : ℕ). item_of g j.item) (sym here) in
+      let is : item_of g.number j.item ≡ j = ap (λ (n : ℕ). item_of n j.item) (sym here) in
       ⊎_elim
-      (λ (within : j.item < length clocks). raised.each j.item within ∙ raised_all j.item within ∙ ap (λ (i : ItemId). greatest (length clocks) (Counted i)) is)
-      (λ (past : length clocks ≤ j.item).
+      (λ (within : j.item < length g.clocks). raised.each j.item within ∙ raised_all j.item within ∙ ap (met_count g) is)
+      (λ (past : length g.clocks ≤ j.item).
       let none : slice_index counts j.item ≡ 0 = get_or_past counts j.item 0 (let size = raised.size in omega arith) in
-      let all : greatest (length clocks) (Counted j) ≤ 0 = greatest_least (length clocks) (Counted j) 0 (λ k below.
-      let o = are.each k below in
-      let apart : item_of group k ≢ j = λ (same : item_of group k ≡ j). let at : k ≡ j.item = ap (λ (i : ItemId). i.item) same in omega arith in
-      let shared : Counted j k ≡ Shared j k = counted_other j k below apart in
-      let size : slice_index (sizes_of (clock_in_group clocks k).base) j.group ≡ length clocks = ap (λ (sizes : List ℕ). slice_index sizes j.group) o.shape ∙ ap (slice_index (group_sizes clocks)) here ∙ sym are.size in
-      let zero_here : Shared j k ≡ 0 = count_past (clock_in_group clocks k).base j (omega arith) in
-      omega arith) in
+      let other : (k : ℕ) → k < length g.clocks → item_of g.number k ≢ j = λ k below same. let at : k ≡ j.item = ap (λ (i : ItemId). i.item) same in absurd (omega arith) in
+      let all : count_of base j ≡ met_count g j = known_all j other in
+      let size : slice_index (sizes_of base) j.group ≡ length g.clocks = ap (λ (sizes : List ℕ). slice_index sizes j.group) gathered.shape ∙ ap (slice_index g.sizes) here ∙ group_size in
+      let zero_here : count_of base j ≡ 0 = count_past base j (omega arith) in
       omega arith)
-      (cases_lt j.item (length clocks))
+      (cases_lt j.item (length g.clocks))
 
-  met_count : (j : ItemId) → count_of Met j ≡ greatest (length clocks) (Counted j)
-  met_count j =
+  count_met : (j : ItemId) → count_of Met j ≡ met_count g j
+  count_met j =
       ⊎_elim
-      (λ (here : j.group ≡ group). met_here j here ∙ counted_here j here)
-      (λ (other : j.group ≡ group → ⊥).
-      ap (λ (row : List ℕ). slice_index row j.item) (get_or-set_other base group j.group counts [] other) ∙ shared_all j ∙ greatest_same (length clocks) (Shared j) (Counted j) (λ k below. sym (counted_other j k below (λ (same : item_of group k ≡ j). other (ap (λ (i : ItemId). i.group) (sym same))))))
-      (cases_eq j.group group)
+      (λ (here : j.group ≡ g.number). met_here j here ∙ counted_here j here)
+      (λ (other : j.group ≡ g.number → ⊥).
+      ap (λ (row : List ℕ). slice_index row j.item) (get_or-set_other base g.number j.group counts [] other) ∙ known_all j (λ k below same. other (ap (λ (i : ItemId). i.group) (sym same))))
+      (cases_eq j.group g.number)
 
-  pub met_base : (met : Counts) → met ≡ Met → IsMetBase group clocks met
-  met_base met is = record {
-    shape = ap sizes_of is ∙ map-set_same length base group counts [] row_size ∙ gathered.shape;
-    counts = λ j. ap (λ (c : Counts). count_of c j) is ∙ met_count j;
+  pub met_base : (behind : Counts) → behind ≡ Met → IsMetBase g behind
+  met_base behind is = record {
+    shape = ap sizes_of is ∙ map-set_same length base g.number counts [] row_count ∙ gathered.shape;
+    counts = λ j. ap (λ (c : Counts). count_of c j) is ∙ count_met j;
   }
 
--- ---- clocks that share a base
+-- ---- clocks, one after another
 
--- the first n are the same, and one more
-pub same_more : (n : ℕ) (clocks more : List Counts) (x base : Counts) → length clocks ≡ n → ((k : ℕ) → k < n → get_or clocks k [] ≡ base) → x ≡ base → more ≡ clocks ++ x ∷ [] → record { size : length more ≡ n + 1; each : (k : ℕ) → k < n + 1 → get_or more k [] ≡ base }
-same_more n clocks more x base size each last is = record {
-  size = ap length is ∙ length_push clocks x ∙ ap (λ (m : ℕ). m + 1) size;
-  each = λ k below. ap (λ (xs : List Counts). get_or xs k []) is ∙
-      ⊎_elim
-      (λ (same : k ≡ n). get_or_push clocks x [] k (size ∙ sym same) ∙ last)
-      (λ (apart : k ≡ n → ⊥). get_or_append_left clocks (x ∷ []) [] k (omega arith) ∙ each k (omega arith))
-      (cases_eq k n);
-}
+-- the first n share what was met, and one more
+pub same_more : (n : ℕ) (clocks more : List Counts) (x base : Counts) → length clocks ≡ n → ((k : ℕ) → k < n → get_or clocks k [] ≡ base) → x ≡ base → more ≡ clocks ++ x ∷ [] → (k : ℕ) → k < n + 1 → get_or more k [] ≡ base
+same_more n clocks more x base size each last is k below =
+    ap (λ (xs : List Counts). get_or xs k []) is ∙
+    ⊎_elim
+    (λ (same : k ≡ n). get_or_push clocks x [] k (size ∙ sym same) ∙ last)
+    (λ (apart : k ≡ n → ⊥). get_or_append_left clocks (x ∷ []) [] k (omega arith) ∙ each k (omega arith))
+    (cases_eq k n)
+
+pub ticked_more : (g : GroupClocks) (n : ℕ) (clocks more : List Counts) (c : Counts) → length clocks ≡ n → TickFirst g n clocks → IsTick (clock_in_group g n) (item_of g.number n) c → more ≡ clocks ++ c ∷ [] → TickFirst g (n + 1) more
+ticked_more g n clocks more c size first last is k below =
+    subst (λ (xs : List Counts). IsTick (clock_in_group g k) (item_of g.number k) (get_or xs k [])) (sym is)
+    (⊎_elim
+    (λ (same : k ≡ n). subst (IsTick (clock_in_group g k) (item_of g.number k)) (sym (get_or_push clocks c [] k (size ∙ sym same))) (subst (λ (m : ℕ). IsTick (clock_in_group g m) (item_of g.number m) c) (sym same) last))
+    (λ (apart : k ≡ n → ⊥). subst (IsTick (clock_in_group g k) (item_of g.number k)) (sym (get_or_append_left clocks (c ∷ []) [] k (omega arith))) (first k (omega arith)))
+    (cases_eq k n))
+
+-- a group that shares what all of its items count
+pub meets_each : (old new : GroupClocks) (base : Counts) → slice_index old.sizes old.number ≡ length old.clocks → ((k : ℕ) → k < length old.clocks → sizes_of (clock_in_group old k) ≡ old.sizes) → IsMetBase old base → IsShared base old.number new → MeetsEach old new
+meets_each old new base size shapes met shared =
+    let same_size : length new.clocks ≡ length old.clocks = shared.size ∙ ap (λ (sizes : List ℕ). slice_index sizes old.number) met.shape ∙ size in
+    record {
+      same = record { number = shared.number; sizes = shared.sizes ∙ met.shape; size = same_size };
+      shapes = shapes;
+      each = λ k below. subst (IsMetBase old) (sym (shared.each k (subst (λ (m : ℕ). k < m) (sym same_size) below))) met;
+    }

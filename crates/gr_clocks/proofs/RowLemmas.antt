@@ -1,9 +1,10 @@
 -- Tables in lists: what stands at an item, and that items have places of their own.
-use Rattle.std.proofs.Common.{add-one, sum, IsSome, ◌≡◌, ℕ, zero, suc, ◌+◌, ◌-◌, ◌<◌, ◌≤◌, true, false, List, [], ◌∷◌, map, length, get_or, set, take, drop, slice_range, Option, Some, None, if◌then◌else◌, nat_lt, ◌==◌, refl, sym, ◌∙◌, ap, subst, arith}
-use Rattle.std.proofs.lemmas.Bool.{and_parts, and_from, both_ways, eqb-true, eq-eqb, ltb-true, ltb-false, lt-ltb, le-ltb}
+use Rattle.std.proofs.Common.{add-one, sum, IsSome, ◌≡◌, ◌≢◌, ℕ, zero, suc, ◌+◌, ◌-◌, ◌<◌, ◌≤◌, true, false, List, [], ◌∷◌, map, length, slice_index, get_or, set, take, drop, slice_range, Option, Some, None, if◌then◌else◌, nat_lt, ◌==◌, refl, sym, ◌∙◌, ap, subst, arith, ⊎_elim}
+use Rattle.std.proofs.lemmas.Bool.{cases_eq, and_parts, and_from, both_ways, eqb-true, eq-eqb, ltb-true, ltb-false, lt-ltb, le-ltb}
 use Rattle.std.proofs.lemmas.List.Sums.{sum_by-cons, sum_by_more}
-use Rattle.std.proofs.lemmas.List.{get_or-take, get_or-drop, get_or_past, length-take, length-drop, take_more, length-set, get_or-set_same, get_or-set_other}
+use Rattle.std.proofs.lemmas.List.{get_or-take, get_or-drop, get_or_past, length-map, length-take, length-drop, take_more, length-set, get_or-set_same, get_or-set_other}
 use Rattle.std.proofs.Common.{◌++◌}
+use Rattle.std.proofs.Math.ListN.{get_or-map}
 use Rattle.gr_model.specs.declared.event.ItemId.{ItemId}
 use Rattle.gr_model.specs.Shapes.{HasItem}
 use Rattle.gr_clocks.specs.Rows.{entry_of, same_item, rows_after, rows_of, RisesTo, AreStarts, ends_from, starts_of, place_in, place_of}
@@ -276,3 +277,26 @@ group_of {X} (s ∷ ends) xs t g r is within =
       rise = let up = rises_at s ends (length xs) g r.1 there in omega (arith, next);
       size = ap (λ (n : ℕ). n - get_or (s ∷ ends) g 0) next ∙ sym (gap_at s ends g there) ∙ ap (λ (y : List ℕ). get_or y g 0) (sym sizes);
     }
+
+-- ---- one entry of a table is written
+
+pub row_size : {X : Type 0} (t : List (List X)) (g : ℕ) → slice_index (map length t) g ≡ length (get_or t g [])
+row_size t g = get_or-map length t g []
+
+pub row_of_item : {X : Type 0} (t : List (List X)) (i : ItemId) → HasItem (map length t) i → (i.group < length t) × (i.item < length (get_or t i.group []))
+row_of_item t i has = (subst (λ (n : ℕ). i.group < n) (length-map t length) has.0, subst (λ (n : ℕ). i.item < n) (row_size t i.group) has.1)
+
+pub entry_same : {X : Type 0} (none : X) (t : List (List X)) (i : ItemId) (x : X) → i.group < length t → i.item < length (get_or t i.group []) → entry_of none (set t i.group (set (get_or t i.group []) i.item x)) i ≡ x
+entry_same {X} none t i x group item =
+    ap (λ (row : List X). get_or row i.item none) (get_or-set_same t i.group (set (get_or t i.group []) i.item x) [] group) ∙ get_or-set_same (get_or t i.group []) i.item x none item
+
+pub entry_other : {X : Type 0} (none : X) (t : List (List X)) (i : ItemId) (x : X) (j : ItemId) → i.group < length t → i ≢ j → entry_of none (set t i.group (set (get_or t i.group []) i.item x)) j ≡ entry_of none t j
+entry_other {X} none t i x j group other =
+    let row : List X = set (get_or t i.group []) i.item x in
+    ⊎_elim
+    (λ (here : j.group ≡ i.group).
+    let at_row : get_or (set t i.group row) j.group [] ≡ row = ap (λ (g : ℕ). get_or (set t i.group row) g []) here ∙ get_or-set_same t i.group row [] group in
+    let apart : j.item ≢ i.item = λ (same : j.item ≡ i.item). other (same_items i j (and_from (i.group == j.group) (i.item == j.item) (eq-eqb i.group j.group (sym here)) (eq-eqb i.item j.item (sym same)))) in
+    ap (λ (xs : List X). get_or xs j.item none) at_row ∙ get_or-set_other (get_or t i.group []) i.item j.item x none apart ∙ ap (λ (g : ℕ). get_or (get_or t g []) j.item none) (sym here))
+    (λ (apart : j.group ≡ i.group → ⊥). ap (λ (xs : List X). get_or xs j.item none) (get_or-set_other t i.group j.group row [] apart))
+    (cases_eq j.group i.group)

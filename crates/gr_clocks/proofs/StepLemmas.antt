@@ -1,16 +1,19 @@
 -- A snapshot's clock is the clock that its item then has: two clocks of one shape with the same counts are the same.
-use Rattle.std.proofs.Common.{◌≡◌, ◌≢◌, ℕ, suc, Bool, List, [], ◌∷◌, length, refl, sym, ◌∙◌, ap, subst}
+use Rattle.std.proofs.Common.{◌≡◌, ◌≢◌, ℕ, ◌<◌, suc, Bool, List, [], ◌∷◌, map, length, set, refl, sym, ◌∙◌, ap, subst}
 use Rattle.std.proofs.lemmas.List.{ext_get_or}
+use Rattle.std.proofs.Math.Seq.{map-set_same}
 use Rattle.gr_model.specs.declared.event.Space.{Space}
 use Rattle.gr_model.specs.declared.event.Space.TheVariants.{Global, Local}
 use Rattle.gr_model.specs.declared.event.Scope.{Scope}
 use Rattle.gr_model.specs.declared.event.ItemId.{ItemId}
 use Rattle.gr_model.specs.declared.event.Word.{Word}
 use Rattle.gr_model.specs.Access.{memory_of}
+use Rattle.gr_model.specs.Shapes.{IsShape}
 use Rattle.gr_clocks.specs.Counts.{Counts, count_of, sizes_of, IsTick, IsJoin}
-use Rattle.gr_clocks.specs.Tables.{item_of, ClockTable, AreZero, IsTickOfJoin, AreBehind, GivesGroup, MeetsGroup}
-use Rattle.gr_clocks.specs.ItemClocks.{ItemClocks, clocks_in, clock_in, AreNew, Ticks, ReleaseClock, release_of, Acquires, Meets, clocks_of, orders}
-use Rattle.gr_clocks.proofs.TableLemmas.{tick_of_join, meets_group}
+use Rattle.gr_clocks.specs.Tables.{item_of, ClockTable, AreZero, IsTickOfJoin, MeetsGroup, group_at}
+use Rattle.gr_clocks.specs.Groups.{GroupClocks, IsSameGroup, IsBehind}
+use Rattle.gr_clocks.specs.ItemClocks.{ItemClocks, clocks_in, clock_in, AreNew, Ticks, ReleaseClock, release_of, Acquires, Meets, clocks_of, orders, AreOfOneShape}
+use Rattle.gr_clocks.proofs.TableLemmas.{tick_of_join, meets_group, behind_same}
 
 same_counts : (c d : Counts) → sizes_of c ≡ sizes_of d → ((j : ItemId) → count_of c j ≡ count_of d j) → c ≡ d
 same_counts [] [] sizes counts = refl
@@ -59,11 +62,17 @@ are_new sizes global local g l = record {
 }
 
 -- a barrier, from what it does in each memory
-pub meets : (group : ℕ) (global local : Bool) (old_global old_local new_global new_local : ClockTable) (for_global for_local : List Counts) → AreBehind old_global group global for_global → GivesGroup old_global group for_global new_global → AreBehind old_local group local for_local → GivesGroup old_local group for_local new_local → Meets (clocks_of old_global old_local) group global local (clocks_of new_global new_local)
-meets group global local old_global old_local new_global new_local for_global for_local behind_global gives_global behind_local gives_local = record {
-  shape = gives_global.shape;
-  groups = λ m. elim m as (λ n. MeetsGroup (clocks_in (clocks_of old_global old_local) n) group (orders global local n) (clocks_in (clocks_of new_global new_local) n)) [
-    | Global ↦ meets_group group global old_global new_global for_global behind_global gives_global
-    | Local ↦ meets_group group local old_local new_local for_local behind_local gives_local
-  ];
-}
+pub meets : (group : ℕ) (global local : Bool) (old_global old_local new_global new_local : ClockTable) (for_global for_local : GroupClocks) → group < length old_global → group < length old_local → IsBehind (group_at old_global group) global for_global → new_global ≡ set old_global group for_global.clocks → IsBehind (group_at old_local group) local for_local → new_local ≡ set old_local group for_local.clocks → Meets (clocks_of old_global old_local) group global local (clocks_of new_global new_local)
+meets group global local old_global old_local new_global new_local for_global for_local there there_local behind_global put_global behind_local put_local =
+    let first = meets_group group global old_global new_global for_global there behind_global put_global in
+    let second = meets_group group local old_local new_local for_local there_local behind_local put_local in
+    record {
+      shape = ap (λ (t : ClockTable). map length t) put_global ∙ map-set_same length old_global group for_global.clocks [] (behind_same (group_at old_global group) global for_global behind_global).size;
+      groups = λ m. elim m as (λ n. MeetsGroup (clocks_in (clocks_of old_global old_local) n) group (orders global local n) (clocks_in (clocks_of new_global new_local) n)) [ Global ↦ first | Local ↦ second ];
+    }
+
+pub of_one_shape : (group : ℕ) (old_global old_local new_global new_local : ClockTable) (for_global for_local : GroupClocks) → IsSameGroup (group_at old_global group) for_global → IsSameGroup (group_at old_local group) for_local → new_global ≡ set old_global group for_global.clocks → new_local ≡ set old_local group for_local.clocks → AreOfOneShape old_global old_local → AreOfOneShape new_global new_local
+of_one_shape group old_global old_local new_global new_local for_global for_local same_global same_local put_global put_local are =
+    let sizes : map length new_global ≡ map length old_global = ap (λ (t : ClockTable). map length t) put_global ∙ map-set_same length old_global group for_global.clocks [] same_global.size in
+    let local_sizes : map length new_local ≡ map length old_local = ap (λ (t : ClockTable). map length t) put_local ∙ map-set_same length old_local group for_local.clocks [] same_local.size in
+    record { shape = subst IsShape (sym sizes) are.shape; same = local_sizes ∙ are.same ∙ sym sizes }

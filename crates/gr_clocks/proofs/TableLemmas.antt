@@ -1,91 +1,96 @@
--- The clocks of items in a list: what is read, and what is written at an item.
-use Rattle.std.proofs.Common.{◌≡◌, ◌≢◌, ◌⊎◌, inl, inr, ℕ, ◌+◌, ◌<◌, ◌≤◌, max, Bool, true, false, List, [], ◌∷◌, ◌++◌, map, length, sum, slice_index, get_or, set, Option, Some, None, IsSome, if◌then◌else◌, refl, sym, ◌∙◌, ap, subst, arith, ⊎_elim}
+-- The clocks of items in a table: what is read, and what is written at an item or a group.
+use Rattle.std.proofs.Common.{◌≡◌, ◌≢◌, ◌⊎◌, inl, inr, ℕ, ◌+◌, ◌<◌, ◌≤◌, max, Bool, true, false, List, [], ◌∷◌, ◌++◌, map, length, slice_index, get_or, set, refl, sym, ◌∙◌, ap, subst, arith, ⊎_elim}
 use Rattle.std.proofs.lemmas.Bool.{cases_eq, cases_lt}
-use Rattle.std.proofs.lemmas.List.{get_or_push, get_or_append_left, length_push, length-set, length-map, get_or-set_same, get_or-set_other, get_or_read, set-get_or}
+use Rattle.std.proofs.lemmas.List.{length-map, length-set, map-set, get_or-set_same, get_or-set_other, get_or_read, get_or_push, get_or_append_left, ext_get_or}
+use Rattle.std.proofs.Math.ListN.{get_or-map}
+use Rattle.std.proofs.Math.Seq.{map-set_same}
 use Rattle.gr_model.specs.declared.event.ItemId.{ItemId}
 use Rattle.gr_model.specs.Shapes.{HasItem}
 use Rattle.gr_clocks.specs.declared.clock.TheConstants.{LARGEST_COUNT}
-use Rattle.gr_clocks.specs.Rows.{entry_of, same_item, rows_of, AreStarts, starts_of, place_of}
 use Rattle.gr_clocks.specs.Counts.{Counts, count_of, sizes_of, tick_at, IsZero, IsTick, IsJoin}
-use Rattle.gr_clocks.specs.Owned.{OwnCounts, counts_of, nobody}
-use Rattle.gr_clocks.specs.Groups.{item_of, greatest, clock_in_group, group_sizes, IsGroupClock, IsGroup, IsMetBase, AreJoined}
-use Rattle.gr_clocks.specs.Tables.{ClockTable, clock_at, IsGroupFull, IsBeyond, MeetsGroup, AreZero, TicksItem, IsTickOfJoin, LearnsAndTicks, AreClocks, IsApart, AreApart, IsTicked, AreTicked, IsMet, AreMet, AreBehind, AreOfGroup, GivesItem, GivesFirst, GivesGroup}
-use Rattle.gr_clocks.proofs.RowLemmas.{same_items, cell, entry_at, entry_set, place_within, sizes_same, has_place, starts_of_sizes, sizes_of_starts}
-use Rattle.gr_clocks.proofs.OwnLemmas.{own_count, own_sizes}
-use Rattle.gr_clocks.proofs.GroupLemmas.{greatest_same}
+use Rattle.gr_clocks.specs.Groups.{item_of, greatest, GroupClocks, no_group, with_clock, IsShared, IsGrown, IsSameGroup, IsBehind}
+use Rattle.gr_clocks.specs.Tables.{ClockTable, clock_at, group_at, table_of, AreGroups, MeetsGroup, AreZero, TicksItem, IsTickOfJoin, LearnsAndTicks}
+use Rattle.gr_clocks.proofs.RowLemmas.{row_size, row_of_item, entry_same, entry_other}
 
--- an item of a table in a list has a place, also in what was read of the starts
-pub item_has_place : (starts : List ℕ) (clocks : List Counts) (t : ClockTable) (read : List ℕ) (i : ItemId) → AreClocks starts clocks → rows_of starts clocks ≡ t → read ≡ starts → HasItem (map length t) i → IsSome (place_of read i)
-item_has_place starts clocks t read i are is same has =
-    subst (λ (xs : List ℕ). IsSome (place_of xs i)) (sym same) (has_place starts clocks i are.whole (subst (λ (x : ClockTable). HasItem (map length x) i) (sym is) has))
+same_group : (x y : GroupClocks) → x.number ≡ y.number → x.sizes ≡ y.sizes → x.clocks ≡ y.clocks → x ≡ y
+same_group x y number sizes clocks =
+    ap (λ (n : ℕ). let g : GroupClocks = record { number = n; sizes = x.sizes; clocks = x.clocks } in g) number ∙
+    ap (λ (ns : List ℕ). let g : GroupClocks = record { number = y.number; sizes = ns; clocks = x.clocks } in g) sizes ∙
+    ap (λ (cs : List Counts). let g : GroupClocks = record { number = y.number; sizes = y.sizes; clocks = cs } in g) clocks
 
--- clocks in a list, the table that they are, and the place of an item
-pub record StandsAt (starts : List ℕ) (clocks : List Counts) (t : ClockTable) (i : ItemId) (p : ℕ) : Type 0 where
-  pub are : AreClocks starts clocks
-  pub is : rows_of starts clocks ≡ t
-  pub found : place_of starts i ≡ Some p
+-- ---- the groups of a table
 
-pub stands_at : (starts : List ℕ) (clocks : List Counts) (t : ClockTable) (read : List ℕ) (i : ItemId) (p : ℕ) → AreClocks starts clocks → rows_of starts clocks ≡ t → read ≡ starts → place_of read i ≡ Some p → StandsAt starts clocks t i p
-stands_at starts clocks t read i p are is same there = record { are = are; is = is; found = ap (λ (xs : List ℕ). place_of xs i) (sym same) ∙ there }
+module _ (groups : List GroupClocks) (t : ClockTable) (are : AreGroups groups) (is : table_of groups ≡ t) where
+  pub table_length : length groups ≡ length t
+  table_length = sym (length-map groups (λ g. g.clocks)) ∙ ap (λ (u : ClockTable). length u) is
 
-module _ {starts : List ℕ} {clocks : List Counts} {t : ClockTable} {i : ItemId} {p : ℕ} (at : StandsAt starts clocks t i p) where
-  pub in_range : p < length clocks
-  in_range = place_within starts (length clocks) i p at.are.whole at.found
+  pub group_is : (p : ℕ) (x : GroupClocks) → p < length t → x ≡ get_or groups p x → x ≡ group_at t p
+  group_is p x there reads =
+      let within : p < length groups = subst (λ (n : ℕ). p < n) (sym table_length) there in
+      get_or_read groups p x within reads no_group ∙ are p within ∙ ap (λ (u : ClockTable). group_at u p) is
 
-  at_place : clock_at t i ≡ get_or clocks p []
-  at_place = ap (λ (x : ClockTable). clock_at x i) (sym at.is) ∙ entry_at [] starts clocks i at.are.whole ∙ ap (cell [] clocks) at.found
+  -- a group is put in the place of one of as many items
+  module _ (p : ℕ) (y : GroupClocks) (there : p < length t) (same : IsSameGroup (group_at t p) y) where
+    pub put_table : table_of (set groups p y) ≡ set t p y.clocks
+    put_table = map-set (λ g. g.clocks) groups p y ∙ ap (λ (u : ClockTable). set u p y.clocks) is
 
-  -- what is read there is the item's clock, of the table's shape
-  module _ (x : Counts) (reads : x ≡ get_or clocks p x) where
-    pub read_clock : x ≡ clock_at t i
-    read_clock = get_or_read clocks p x in_range reads [] ∙ sym at_place
+    put_sizes : map length (set t p y.clocks) ≡ map length t
+    put_sizes = map-set_same length t p y.clocks [] same.size
 
-    pub read_shape : sizes_of x ≡ map length t
-    read_shape = ap sizes_of (get_or_read clocks p x in_range reads []) ∙ at.are.shapes p in_range ∙ ap (λ (y : ClockTable). map length y) at.is
+    put_here : y ≡ group_at (set t p y.clocks) p
+    put_here = same_group y (group_at (set t p y.clocks) p) same.number (same.sizes ∙ sym put_sizes) (sym (get_or-set_same t p y.clocks [] there))
 
-    pub read_item : HasItem (map length t) i → HasItem (sizes_of x) i
-    read_item has = subst (λ (sizes : List ℕ). HasItem sizes i) (sym read_shape) has
+    put_other : (q : ℕ) → (q ≡ p → ⊥) → group_at t q ≡ group_at (set t p y.clocks) q
+    put_other q apart = same_group (group_at t q) (group_at (set t p y.clocks) q) refl (sym put_sizes) (sym (get_or-set_other t p q y.clocks [] apart))
 
-    -- and what is written again changes nothing
-    pub set_again : (y : Counts) → y ≡ x → rows_of starts (set clocks p y) ≡ t
-    set_again y same = ap (λ (z : Counts). rows_of starts (set clocks p z)) (same ∙ reads) ∙ ap (rows_of starts) (set-get_or clocks p x) ∙ at.is
+    pub put_groups : AreGroups (set groups p y)
+    put_groups q within =
+        let in_groups : p < length groups = subst (λ (n : ℕ). p < n) (sym table_length) there in
+        ⊎_elim
+        (λ (here : q ≡ p).
+        subst (λ (n : ℕ). get_or (set groups p y) n no_group ≡ group_at (table_of (set groups p y)) n) (sym here)
+        (get_or-set_same groups p y no_group in_groups ∙ put_here ∙ ap (λ (u : ClockTable). group_at u p) (sym put_table)))
+        (λ (apart : q ≡ p → ⊥).
+        get_or-set_other groups p q y no_group apart ∙ are q (subst (λ (n : ℕ). q < n) (length-set groups p y) within) ∙ ap (λ (u : ClockTable). group_at u q) is ∙ put_other q apart ∙ ap (λ (u : ClockTable). group_at u q) (sym put_table))
+        (cases_eq q p)
 
-  -- another clock of the shape is written there
-  module _ (x : Counts) (shape : sizes_of x ≡ map length t) where
-    size : length (set clocks p x) ≡ length clocks
-    size = length-set clocks p x
+  -- a group is put there that has another clock for one item
+  module _ (i : ItemId) (x y : GroupClocks) (clock : Counts) (has : HasItem (map length t) i) (reads : x ≡ get_or groups i.group x) (written : y ≡ with_clock x i.item clock) where
+    in_table : i.group < length t
+    in_table = let there = row_of_item t i has in there.0
 
-    whole : AreStarts starts (length (set clocks p x))
-    whole = subst (AreStarts starts) (sym size) at.are.whole
+    written_is : y ≡ with_clock (group_at t i.group) i.item clock
+    written_is = written ∙ ap (λ (g : GroupClocks). with_clock g i.item clock) (group_is i.group x in_table reads)
 
-    sizes : map length (rows_of starts (set clocks p x)) ≡ map length t
-    sizes = sizes_same starts clocks (set clocks p x) at.are.whole size ∙ ap (λ (y : ClockTable). map length y) at.is
+    same_written : IsSameGroup (group_at t i.group) y
+    same_written = subst (IsSameGroup (group_at t i.group)) (sym written_is) (record { number = refl; sizes = refl; size = length-set (get_or t i.group []) i.item clock })
 
-    pub set_clocks : AreClocks starts (set clocks p x)
-    set_clocks = record {
-      whole = whole;
-      shapes = λ q within. ⊎_elim
-          (λ (here : q ≡ p). ap (λ (n : ℕ). sizes_of (get_or (set clocks p x) n [])) here ∙ ap sizes_of (get_or-set_same clocks p x [] in_range) ∙ shape ∙ sym sizes)
-          (λ (other : q ≡ p → ⊥). ap sizes_of (get_or-set_other clocks p q x [] other) ∙ at.are.shapes q (subst (λ (n : ℕ). q < n) size within) ∙ ap (λ (y : ClockTable). map length y) at.is ∙ sym sizes)
-          (cases_eq q p);
-    }
+    pub item_groups : AreGroups (set groups i.group y)
+    item_groups = put_groups i.group y in_table same_written
 
-    set_item : clock_at (rows_of starts (set clocks p x)) i ≡ x
-    set_item = entry_at [] starts (set clocks p x) i whole ∙ ap (cell [] (set clocks p x)) at.found ∙ get_or-set_same clocks p x [] in_range
+    pub item_table : table_of (set groups i.group y) ≡ set t i.group (set (get_or t i.group []) i.item clock)
+    item_table = put_table i.group y in_table same_written ∙ ap (λ (g : GroupClocks). set t i.group g.clocks) written_is
 
-    set_others : (j : ItemId) → j ≢ i → clock_at (rows_of starts (set clocks p x)) j ≡ clock_at t j
-    set_others j other =
-        entry_set [] x starts clocks i p at.are.whole at.found j ∙
-        (elim (same_item i j) as (λ b. (same_item i j ≡ b) → (if b then x else entry_of [] (rows_of starts clocks) j) ≡ entry_of [] (rows_of starts clocks) j) [
-          | true ↦ λ is_same. absurd (other (sym (same_items i j is_same)))
-          | false ↦ λ f. refl
-        ] refl) ∙ ap (λ (y : ClockTable). clock_at y j) at.is
+-- ---- an item has another clock
 
-    pub set_ticks : IsTick (clock_at t i) i x → TicksItem t i (rows_of starts (set clocks p x))
-    set_ticks tick = record { shape = sizes; item = subst (IsTick (clock_at t i) i) (sym set_item) tick; others = set_others }
+module _ (old new : ClockTable) (i : ItemId) (clock : Counts) (has : HasItem (map length old) i) (is : new ≡ set old i.group (set (get_or old i.group []) i.item clock)) where
+  at_item : clock_at new i ≡ clock
+  at_item = let there = row_of_item old i has in ap (λ (t : ClockTable). clock_at t i) is ∙ entry_same [] old i clock there.0 there.1
 
-    pub set_given : GivesItem t i x (rows_of starts (set clocks p x))
-    set_given = record { shape = sizes; item = set_item; others = set_others }
+  at_other : (j : ItemId) → j ≢ i → clock_at new j ≡ clock_at old j
+  at_other j other = let there = row_of_item old i has in ap (λ (t : ClockTable). clock_at t j) is ∙ entry_other [] old i clock j there.0 (λ (same : i ≡ j). other (sym same))
+
+  same_sizes : map length new ≡ map length old
+  same_sizes = ap (λ (t : ClockTable). map length t) is ∙ map-set_same length old i.group (set (get_or old i.group []) i.item clock) [] (length-set (get_or old i.group []) i.item clock)
+
+  pub ticks_item : IsTick (clock_at old i) i clock → TicksItem old i new
+  ticks_item tick = record { shape = same_sizes; item = subst (IsTick (clock_at old i) i) (sym at_item) tick; others = at_other }
+
+  pub learns_and_ticks : (theirs : Counts) → IsTickOfJoin (clock_at old i) theirs i clock → LearnsAndTicks old i theirs new
+  learns_and_ticks theirs tick = record { shape = same_sizes; item = subst (IsTickOfJoin (clock_at old i) theirs i) (sym at_item) tick; others = at_other }
+
+pub tick_grows : (mine theirs : Counts) (i : ItemId) (after : Counts) → IsTickOfJoin mine theirs i after → IsGrown mine after
+tick_grows mine theirs i after tick = record { shape = tick.shape; counts = λ j. let at = tick.counts j in omega arith }
 
 -- a tick after a join
 pub tick_of_join : (mine theirs joined : Counts) (i : ItemId) (after : Counts) → IsJoin mine theirs joined → IsTick joined i after → IsTickOfJoin mine theirs i after
@@ -109,161 +114,71 @@ join_has_room mine theirs joined i join mine_room their_room full =
     (λ (same : count_of joined i ≡ count_of theirs i). their_room (sym same ∙ full))
     (max_cases (count_of mine i) (count_of theirs i) (count_of joined i) (join.counts i))
 
--- ---- the items of a group, one after another
-
-others_apart : (group n : ℕ) (j : ItemId) → IsBeyond group (n + 1) j → j ≢ item_of group n
-others_apart group n j (inl other) same = other (ap (λ (x : ItemId). x.group) same)
-others_apart group n j (inr past) same = let here : j.item ≡ n = ap (λ (x : ItemId). x.item) same in omega arith
-
-beyond_less : (group n : ℕ) (j : ItemId) → IsBeyond group (n + 1) j → IsBeyond group n j
-beyond_less group n j (inl other) = inl other
-beyond_less group n j (inr past) = inr (let le : n ≤ j.item = omega arith in le)
-
-pub ticks_item : (old : ClockTable) (i : ItemId) (clock : Counts) (new : ClockTable) → IsTick (clock_at old i) i clock → GivesItem old i clock new → TicksItem old i new
-ticks_item old i clock new tick given = record { shape = given.shape; item = subst (IsTick (clock_at old i) i) (sym given.item) tick; others = given.others }
-
-pub learns_and_ticks : (old : ClockTable) (i : ItemId) (theirs clock : Counts) (new : ClockTable) → IsTickOfJoin (clock_at old i) theirs i clock → GivesItem old i clock new → LearnsAndTicks old i theirs new
-learns_and_ticks old i theirs clock new tick given = record { shape = given.shape; item = subst (IsTickOfJoin (clock_at old i) theirs i) (sym given.item) tick; others = given.others }
-
 -- ---- new clocks
 
-pub zero_more : (sizes : List ℕ) (xs ys : List Counts) (x : Counts) (n : ℕ) → length xs ≡ n → ((p : ℕ) → p < n → IsZero sizes (get_or xs p [])) → IsZero sizes x → ys ≡ xs ++ x ∷ [] → (p : ℕ) → p < n + 1 → IsZero sizes (get_or ys p [])
-zero_more sizes xs ys x n count all last is p below =
-    subst (λ (zs : List Counts). IsZero sizes (get_or zs p [])) (sym is)
+pub shared_more : (met : Counts) (n : ℕ) (groups more : List GroupClocks) (x : GroupClocks) → length groups ≡ n → ((p : ℕ) → p < n → IsShared met p (get_or groups p no_group)) → IsShared met n x → more ≡ groups ++ x ∷ [] → (p : ℕ) → p < n + 1 → IsShared met p (get_or more p no_group)
+shared_more met n groups more x size each last is p below =
+    subst (λ (gs : List GroupClocks). IsShared met p (get_or gs p no_group)) (sym is)
     (⊎_elim
-    (λ (same : p ≡ n). subst (IsZero sizes) (sym (get_or_push xs x [] p (count ∙ sym same))) last)
-    (λ (apart : p ≡ n → ⊥). subst (IsZero sizes) (sym (get_or_append_left xs (x ∷ []) [] p (omega arith))) (all p (omega arith)))
+    (λ (same : p ≡ n). subst (IsShared met p) (sym (get_or_push groups x no_group p (size ∙ sym same))) (subst (λ (m : ℕ). IsShared met m x) (sym same) last))
+    (λ (apart : p ≡ n → ⊥). subst (IsShared met p) (sym (get_or_append_left groups (x ∷ []) no_group p (omega arith))) (each p (omega arith)))
     (cases_eq p n))
 
-module _ (sizes starts : List ℕ) (clocks : List Counts) (is_starts : starts ≡ starts_of sizes) (count : length clocks ≡ sum sizes) (zero_all : (p : ℕ) → p < length clocks → IsZero sizes (get_or clocks p [])) where
-  new_whole : AreStarts starts (length clocks)
-  new_whole = subst (λ (xs : List ℕ). AreStarts xs (length clocks)) (sym is_starts) (starts_of_sizes sizes (length clocks) count)
+-- groups that share a clock which has counted nothing
+module _ (sizes : List ℕ) (zero : Counts) (groups : List GroupClocks) (is_zero : IsZero sizes zero) (count : length groups ≡ length sizes) (shared : (p : ℕ) → p < length sizes → IsShared zero p (get_or groups p no_group)) where
+  row_is : (p : ℕ) → get_or (table_of groups) p [] ≡ (get_or groups p no_group).clocks
+  row_is p = get_or-map (λ (g : GroupClocks). g.clocks) groups p no_group
 
-  new_sizes : map length (rows_of starts clocks) ≡ sizes
-  new_sizes = ap (λ (xs : List ℕ). map length (rows_of xs clocks)) is_starts ∙ sizes_of_starts sizes clocks count
+  zero_row : (p : ℕ) → p < length sizes → length (get_or (table_of groups) p []) ≡ slice_index sizes p
+  zero_row p below = ap (λ (cs : List Counts). length cs) (row_is p) ∙ (shared p below).size ∙ ap (λ (ns : List ℕ). slice_index ns p) is_zero.shape
 
-  pub new_clocks : AreClocks starts clocks
-  new_clocks = record { whole = new_whole; shapes = λ p within. (zero_all p within).shape ∙ sym new_sizes }
+  zero_sizes : map length (table_of groups) ≡ sizes
+  zero_sizes =
+      let whole : length (map length (table_of groups)) ≡ length sizes = length-map (table_of groups) length ∙ length-map groups (λ g. g.clocks) ∙ count in
+      ext_get_or 0 (map length (table_of groups)) sizes whole (λ p there. row_size (table_of groups) p ∙ zero_row p (subst (λ (n : ℕ). p < n) whole there))
 
-  new_at : (i : ItemId) (o : Option ℕ) → place_of starts i ≡ o → IsSome o → IsZero sizes (cell [] clocks o)
-  new_at i None e some = absurd (let f : false ≡ true = some in cc)
-  new_at i (Some p) e some = zero_all p (place_within starts (length clocks) i p new_whole e)
+  pub zero_groups : AreGroups groups
+  zero_groups p within =
+      let is = shared p (subst (λ (n : ℕ). p < n) count within) in
+      same_group (get_or groups p no_group) (group_at (table_of groups) p) is.number (is.sizes ∙ is_zero.shape ∙ sym zero_sizes) (sym (row_is p))
 
-  pub new_zero : AreZero sizes (rows_of starts clocks)
-  new_zero = record {
-    shape = new_sizes;
+  pub zero_table : AreZero sizes (table_of groups)
+  zero_table = record {
+    shape = zero_sizes;
     clocks = λ i has.
-        let some = has_place starts clocks i new_whole (subst (λ (xs : List ℕ). HasItem xs i) (sym new_sizes) has) in
-        subst (IsZero sizes) (sym (entry_at [] starts clocks i new_whole)) (new_at i (place_of starts i) refl some);
+        let there = row_of_item (table_of groups) i (subst (λ (ns : List ℕ). HasItem ns i) (sym zero_sizes) has) in
+        let is = (shared i.group has.0).each i.item (subst (λ (cs : List Counts). i.item < length cs) (row_is i.group) there.1) in
+        subst (IsZero sizes) (sym (ap (λ (cs : List Counts). get_or cs i.item []) (row_is i.group) ∙ is)) is_zero;
   }
 
--- ---- a barrier from its parts
+-- ---- a barrier
 
-pub gives_none : (group : ℕ) (old : ClockTable) (clocks : List Counts) → GivesFirst old group 0 clocks clocks old
-gives_none group old clocks = record { shape = refl; size = refl; rest = λ k from. refl; items = λ k below. absurd (omega arith); others = λ j beyond. refl }
-
-pub gives_more : (group n : ℕ) (old mid new : ClockTable) (clocks left : List Counts) (x y : Counts) → n < length left → GivesFirst old group n clocks left mid → x ≡ get_or left n x → GivesItem mid (item_of group n) x new → GivesFirst old group (n + 1) clocks (set left n y) new
-gives_more group n old mid new clocks left x y there first reads given =
-    let is : x ≡ get_or clocks n [] = get_or_read left n x there reads [] ∙ first.rest n (omega arith) in
-    let here : clock_at new (item_of group n) ≡ get_or clocks n [] = given.item ∙ is in
-    record {
-      shape = given.shape ∙ first.shape;
-      size = length-set left n y ∙ first.size;
-      rest = λ k from. get_or-set_other left n k y [] (λ (same : k ≡ n). omega arith) ∙ first.rest k (omega arith);
-      items = λ k below. ⊎_elim
-          (λ (same : k ≡ n). subst (λ (m : ℕ). clock_at new (item_of group m) ≡ get_or clocks m []) (sym same) here)
-          (λ (apart : k ≡ n → ⊥). given.others (item_of group k) (λ (same : item_of group k ≡ item_of group n). apart (ap (λ (j : ItemId). j.item) same)) ∙ first.items k (omega arith))
-          (cases_eq k n);
-      others = λ j beyond. given.others j (others_apart group n j beyond) ∙ first.others j (beyond_less group n j beyond);
-    }
-
-pub gives_group : (group : ℕ) (old new : ClockTable) (clocks left : List Counts) (n : ℕ) → n ≡ slice_index (map length old) group → GivesFirst old group n clocks left new → GivesGroup old group clocks new
-gives_group group old new clocks left n is_n gives = record {
-  shape = gives.shape;
-  items = λ k below. gives.items k (subst (λ (m : ℕ). k < m) (sym is_n) below);
-  others = λ j other. gives.others j (inl other);
-}
-
-pub are_of_group : (group : ℕ) (orders : Bool) (t : ClockTable) (clocks : List Counts) → AreBehind t group orders clocks → AreOfGroup t group clocks
-are_of_group group true t clocks met = record { size = met.size; shapes = λ k below. (met.each k (subst (λ (m : ℕ). k < m) met.size below)).shape }
-are_of_group group false t clocks ticked = record { size = ticked.size; shapes = λ k below. (ticked.each k (subst (λ (m : ℕ). k < m) ticked.size below)).shape }
-
-pub meets_group : (group : ℕ) (orders : Bool) (old new : ClockTable) (clocks : List Counts) → AreBehind old group orders clocks → GivesGroup old group clocks new → MeetsGroup old group orders new
-meets_group group true old new clocks met gives = record {
-  shape = gives.shape;
-  shapes = λ k below. ap sizes_of (gives.items k below) ∙ (met.each k below).same;
-  counts = λ k j below. ap (λ (c : Counts). count_of c j) (gives.items k below) ∙ (met.each k below).counts j;
-  others = gives.others;
-}
-meets_group group false old new clocks ticked gives = record {
-  shape = gives.shape;
-  items = λ k below. subst (IsTick (clock_at old (item_of group k)) (item_of group k)) (sym (gives.items k below)) (ticked.each k below).tick;
-  others = gives.others;
-}
-
--- ---- the clocks of a group, one after another
-
-pub apart_more : (t : ClockTable) (group n : ℕ) (clocks more : List OwnCounts) (o : OwnCounts) → AreApart t group n clocks → IsApart t group n o → more ≡ clocks ++ o ∷ [] → AreApart t group (n + 1) more
-apart_more t group n clocks more o first last is = record {
-  size = ap length is ∙ length_push clocks o ∙ ap (λ (m : ℕ). m + 1) first.size;
-  each = λ k below. subst (λ (xs : List OwnCounts). IsApart t group k (get_or xs k nobody)) (sym is)
-      (⊎_elim
-      (λ (same : k ≡ n). subst (IsApart t group k) (sym (get_or_push clocks o nobody k (first.size ∙ sym same))) (subst (λ (m : ℕ). IsApart t group m o) (sym same) last))
-      (λ (apart : k ≡ n → ⊥). subst (IsApart t group k) (sym (get_or_append_left clocks (o ∷ []) nobody k (let size = first.size in omega arith))) (first.each k (omega arith)))
-      (cases_eq k n));
-}
-
-pub ticked_more : (t : ClockTable) (group n : ℕ) (clocks more : List Counts) (c : Counts) → AreTicked t group n clocks → IsTicked t group n c → more ≡ clocks ++ c ∷ [] → AreTicked t group (n + 1) more
-ticked_more t group n clocks more c first last is = record {
-  size = ap length is ∙ length_push clocks c ∙ ap (λ (m : ℕ). m + 1) first.size;
-  each = λ k below. subst (λ (xs : List Counts). IsTicked t group k (get_or xs k [])) (sym is)
-      (⊎_elim
-      (λ (same : k ≡ n). subst (IsTicked t group k) (sym (get_or_push clocks c [] k (first.size ∙ sym same))) (subst (λ (m : ℕ). IsTicked t group m c) (sym same) last))
-      (λ (apart : k ≡ n → ⊥). subst (IsTicked t group k) (sym (get_or_append_left clocks (c ∷ []) [] k (let size = first.size in omega arith))) (first.each k (omega arith)))
-      (cases_eq k n));
-}
-
--- clocks of a group's items, apart or joined
-module _ (t : ClockTable) (group : ℕ) (there : group < length t) (some : 0 < slice_index (map length t) group) (xs : List OwnCounts) (apart : AreApart t group (slice_index (map length t) group) xs) where
-  base_shape : (k : ℕ) → k < slice_index (map length t) group → sizes_of (clock_in_group xs k).base ≡ map length t
-  base_shape k below = sym (own_sizes (clock_in_group xs k)) ∙ (apart.each k below).shape
-
-  sizes_are : group_sizes xs ≡ map length t
-  sizes_are = base_shape 0 some
-
-  group_clock : ¬ IsGroupFull t group → (k : ℕ) → k < slice_index (map length t) group → IsGroupClock group k (group_sizes xs) (clock_in_group xs k)
-  group_clock free k below =
-      let is = apart.each k below in
-      record {
-        item = is.item;
-        shape = base_shape k below ∙ sym sizes_are;
-        own = is.own;
-        free = λ full. free (k, below, ap (λ (c : Counts). count_of c (item_of group k)) (sym is.counts) ∙ ap (count_of (counts_of (clock_in_group xs k))) (sym is.item) ∙ own_count (clock_in_group xs k) is.own ∙ full);
+pub meets_group : (group : ℕ) (orders : Bool) (old new : ClockTable) (y : GroupClocks) → group < length old → IsBehind (group_at old group) orders y → new ≡ set old group y.clocks → MeetsGroup old group orders new
+meets_group group orders old new y there behind is =
+    let others : (j : ItemId) → j.group ≢ group → clock_at new j ≡ clock_at old j = λ j other. ap (λ (t : ClockTable). clock_at t j) is ∙ ap (λ (row : List Counts). get_or row j.item []) (get_or-set_other old group j.group y.clocks [] other) in
+    let row : get_or new group [] ≡ y.clocks = ap (λ (t : ClockTable). get_or t group []) is ∙ get_or-set_same old group y.clocks [] there in
+    let size = row_size old group in
+    let shape : length y.clocks ≡ length (get_or old group []) → map length new ≡ map length old = λ same. ap (λ (t : ClockTable). map length t) is ∙ map-set_same length old group y.clocks [] same in
+    elim orders as (λ b. IsBehind (group_at old group) b y → MeetsGroup old group b new) [
+      | true ↦ λ met. record {
+        shape = shape met.same.size;
+        shapes = λ k below.
+            let within : k < length (get_or old group []) = subst (λ (n : ℕ). k < n) size below in
+            ap (λ (cs : List Counts). sizes_of (get_or cs k [])) row ∙ (met.each k within).shape ∙ sym (met.shapes k within);
+        counts = λ k j below.
+            let within : k < length (get_or old group []) = subst (λ (n : ℕ). k < n) size below in
+            let f = λ (m : ℕ). count_of (clock_at old (item_of group m)) j + tick_at (item_of group m) j in
+            ap (λ (cs : List Counts). count_of (get_or cs k []) j) row ∙ (met.each k within).counts j ∙ ap (λ (n : ℕ). greatest n f) (sym size);
+        others = others;
       }
-
-  pub is_group : ¬ IsGroupFull t group → IsGroup group xs
-  is_group free = record {
-    some = subst (λ (m : ℕ). 0 < m) (sym apart.size) some;
-    there = subst (λ (sizes : List ℕ). group < length sizes) (sym sizes_are) (subst (λ (m : ℕ). group < m) (sym (length-map t length)) there);
-    size = apart.size ∙ ap (λ (sizes : List ℕ). slice_index sizes group) (sym sizes_are);
-    each = λ k below. group_clock free k (subst (λ (m : ℕ). k < m) apart.size below);
-  }
-
-  is_met : (base : Counts) → IsMetBase group xs base → (k : ℕ) → k < slice_index (map length t) group → IsMet t group k base
-  is_met base met k below =
-      let shape : sizes_of base ≡ map length t = met.shape ∙ sizes_are in
-      record {
-        shape = shape;
-        same = shape ∙ sym (apart.each k below).shape ∙ ap sizes_of (apart.each k below).counts;
-        counts = λ j.
-            let f = λ (m : ℕ). count_of (counts_of (clock_in_group xs m)) j + tick_at (item_of group m) j in
-            let h = λ (m : ℕ). count_of (clock_at t (item_of group m)) j + tick_at (item_of group m) j in
-            met.counts j ∙ ap (λ (m : ℕ). greatest m f) apart.size ∙
-            greatest_same (slice_index (map length t) group) f h (λ m within. ap (λ (c : Counts). count_of c j + tick_at (item_of group m) j) (apart.each m within).counts);
+      | false ↦ λ ticked. record {
+        shape = shape ticked.same.size;
+        items = λ k below.
+            let within : k < length (get_or old group []) = subst (λ (n : ℕ). k < n) size below in
+            subst (λ (cs : List Counts). IsTick (get_or (get_or old group []) k []) (item_of group k) (get_or cs k [])) (sym row) (ticked.each k within);
+        others = others;
       }
+    ] behind
 
-  pub are_met : (behind : List Counts) → AreJoined group xs behind → AreMet t group (slice_index (map length t) group) behind
-  are_met behind joined = record {
-    size = joined.size ∙ apart.size;
-    each = λ k below. is_met (get_or behind k []) (joined.each k (subst (λ (m : ℕ). k < m) (sym apart.size) below)) k below;
-  }
+pub behind_same : (g : GroupClocks) (orders : Bool) (y : GroupClocks) → IsBehind g orders y → IsSameGroup g y
+behind_same g orders y behind = elim orders as (λ b. IsBehind g b y → IsSameGroup g y) [ true ↦ λ met. met.same | false ↦ λ ticked. ticked.same ] behind

@@ -1,10 +1,9 @@
 -- The clocks of one work-group's items, and what a barrier makes of them.
 -- Source: docs/MODEL.md, "Clocks".
-use Rattle.std.specs.Prelude.{◌≡◌, ◌≢◌, ℕ, zero, suc, ◌+◌, ◌<◌, ◌≤◌, max, All, List, [], length, slice_index, slice_index_or}
+use Rattle.std.specs.Prelude.{◌≡◌, ◌≢◌, ℕ, zero, suc, ◌+◌, ◌<◌, ◌≤◌, ◌^◌, max, All, Bool, true, false, List, [], length, set, slice_index, slice_index_or}
 use Rattle.gr_model.specs.declared.event.ItemId.{ItemId}
 use Rattle.gr_clocks.specs.declared.clock.TheConstants.{LARGEST_COUNT}
-use Rattle.gr_clocks.specs.Counts.{Counts, count_of, sizes_of, tick_at}
-use Rattle.gr_clocks.specs.Owned.{OwnCounts, counts_of, nobody, IsOwn}
+use Rattle.gr_clocks.specs.Counts.{Counts, count_of, sizes_of, tick_at, IsTick}
 
 -- the item of a group at a place
 abbrev pub item_of : ℕ → ℕ → ItemId
@@ -15,51 +14,121 @@ abbrev pub greatest : ℕ → (ℕ → ℕ) → ℕ
 greatest zero f = 0
 greatest (suc n) f = max (f n) (greatest n f)
 
-abbrev pub clock_in_group : List OwnCounts → ℕ → OwnCounts
-clock_in_group clocks k = slice_index_or clocks k nobody
+-- the number of a group, how many items each group has, and the clocks of its own items
+pub record GroupClocks : Type 0 where
+  pub number : ℕ
+  pub sizes : List ℕ
+  pub clocks : List Counts
 
--- how many items each group has, as the first clock has it
-abbrev pub group_sizes : List OwnCounts → List ℕ
-group_sizes clocks = sizes_of (clock_in_group clocks 0).base
+-- what stands for a group where there is none
+abbrev pub no_group : GroupClocks
+no_group = record { number = 0; sizes = []; clocks = [] }
 
--- the clock of an item, which can count one more event of it
-pub record IsGroupClock (group k : ℕ) (sizes : List ℕ) (o : OwnCounts) : Type 0 where
-  pub item : o.item ≡ item_of group k
-  pub shape : sizes_of o.base ≡ sizes
-  pub own : IsOwn o
-  pub free : o.count ≢ LARGEST_COUNT
+abbrev pub clock_in_group : GroupClocks → ℕ → Counts
+clock_in_group g k = slice_index_or g.clocks k []
 
--- the clocks of all items of a group
-pub record IsGroup (group : ℕ) (clocks : List OwnCounts) : Type 0 where
-  pub some : 0 < length clocks
-  pub there : group < length (group_sizes clocks)
-  pub size : length clocks ≡ slice_index (group_sizes clocks) group
-  pub each : (k : ℕ) → k < length clocks → IsGroupClock group k (group_sizes clocks) (clock_in_group clocks k)
+-- the group with this clock for an item
+abbrev pub with_clock : GroupClocks → ℕ → Counts → GroupClocks
+with_clock g k c = record { number = g.number; sizes = g.sizes; clocks = set g.clocks k c }
 
--- base has of each item the greatest count that the first one or the first n clocks share
-pub record GathersFirst (clocks : List OwnCounts) (n : ℕ) (base : Counts) : Type 0 where
-  pub shape : sizes_of base ≡ group_sizes clocks
-  pub counts : (j : ItemId) → count_of base j ≡ max (count_of (clock_in_group clocks 0).base j) (greatest n (λ k. count_of (clock_in_group clocks k).base j))
+-- ---- what a group keeps
+
+-- c counts what was met, and no more but of item i where the item learned nothing since
+pub record Keeps (met : Counts) (i : ItemId) (learned : Bool) (c : Counts) : Type 0 where
+  pub shape : sizes_of c ≡ sizes_of met
+  pub least : (j : ItemId) → count_of met j ≤ count_of c j
+  pub most : learned ≡ false → (j : ItemId) → i ≢ j → count_of c j ≤ count_of met j
+
+-- a clock for each item of the group, a mark for each, and what was met
+pub record IsGroup (number : ℕ) (met : Counts) (clocks : List Counts) (learned : List Bool) : Type 0 where
+  pub there : number < length (sizes_of met)
+  pub size : slice_index (sizes_of met) number ≡ length clocks
+  pub few : length clocks < 2 ^ 16
+  pub marks : length learned ≡ length clocks
+  pub each : (k : ℕ) → k < length clocks → Keeps met (item_of number k) (slice_index_or learned k false) (slice_index_or clocks k [])
+
+-- all items count the same
+pub record IsShared (met : Counts) (group : ℕ) (g : GroupClocks) : Type 0 where
+  pub number : g.number ≡ group
+  pub sizes : g.sizes ≡ sizes_of met
+  pub size : length g.clocks ≡ slice_index (sizes_of met) group
+  pub each : (k : ℕ) → k < length g.clocks → clock_in_group g k ≡ met
+
+-- ---- an event of one item
+
+-- the count that an item has of its own events is as great as it may be
+abbrev pub IsFullClock : GroupClocks → ℕ → Type 0
+IsFullClock g k = count_of (clock_in_group g k) (item_of g.number k) ≡ LARGEST_COUNT
+
+abbrev pub HasFullClock : GroupClocks → Type 0
+HasFullClock g = (k : ℕ) × (k < length g.clocks) × IsFullClock g k
+
+-- the item ticks, and nothing else changes
+pub record TicksClock (old : GroupClocks) (k : ℕ) (new : GroupClocks) : Type 0 where
+  pub group : new ≡ with_clock old k (clock_in_group new k)
+  pub tick : IsTick (clock_in_group old k) (item_of old.number k) (clock_in_group new k)
+
+-- after counts no less than before
+pub record IsGrown (before after : Counts) : Type 0 where
+  pub shape : sizes_of after ≡ sizes_of before
+  pub counts : (j : ItemId) → count_of before j ≤ count_of after j
+
+-- ---- a barrier
+
+-- the same items
+pub record IsSameGroup (old new : GroupClocks) : Type 0 where
+  pub number : new.number ≡ old.number
+  pub sizes : new.sizes ≡ old.sizes
+  pub size : length new.clocks ≡ length old.clocks
+
+-- base counts what was met, and what the first n clocks do, their own items aside, and no more than some clock does
+pub record GathersFirst (met : Counts) (g : GroupClocks) (n : ℕ) (base : Counts) : Type 0 where
+  pub shape : sizes_of base ≡ g.sizes
+  pub above : (j : ItemId) → count_of met j ≤ count_of base j
+  pub least : (k : ℕ) (j : ItemId) → k < n → item_of g.number k ≢ j → count_of (clock_in_group g k) j ≤ count_of base j
+  pub most : (j : ItemId) → 0 < length g.clocks → count_of base j ≤ greatest (length g.clocks) (λ k. count_of (clock_in_group g k) j)
+
+-- base counts what all clocks do, their own items aside, and no more than some clock does
+pub record Gathers (g : GroupClocks) (base : Counts) : Type 0 where
+  pub shape : sizes_of base ≡ g.sizes
+  pub least : (k : ℕ) (j : ItemId) → k < length g.clocks → item_of g.number k ≢ j → count_of (clock_in_group g k) j ≤ count_of base j
+  pub most : (j : ItemId) → 0 < length g.clocks → count_of base j ≤ greatest (length g.clocks) (λ k. count_of (clock_in_group g k) j)
 
 -- the count of an item behind the barrier
-abbrev pub raised_count : ℕ → List OwnCounts → Counts → ℕ → ℕ
-raised_count group clocks base k = max (count_of base (item_of group k)) ((clock_in_group clocks k).count + 1)
+abbrev pub raised_count : GroupClocks → Counts → ℕ → ℕ
+raised_count g base k = max (count_of base (item_of g.number k)) (count_of (clock_in_group g k) (item_of g.number k) + 1)
 
--- the counts of the first n items of the group
-pub record AreRaisedFirst (group : ℕ) (clocks : List OwnCounts) (base : Counts) (n : ℕ) (counts : List ℕ) : Type 0 where
+-- those of the first n items
+pub record AreRaised (g : GroupClocks) (base : Counts) (n : ℕ) (counts : List ℕ) : Type 0 where
   pub size : length counts ≡ n
-  pub each : (k : ℕ) → k < n → slice_index counts k ≡ raised_count group clocks base k
+  pub each : (k : ℕ) → k < n → slice_index counts k ≡ raised_count g base k
   pub limit : All (λ m. m ≤ LARGEST_COUNT) counts
 
-abbrev pub AreRaised : ℕ → List OwnCounts → Counts → List ℕ → Type 0
-AreRaised group clocks base counts = AreRaisedFirst group clocks base (length clocks) counts
+-- the count of item j in the join of all clocks, each with one more event of its item
+abbrev pub met_count : GroupClocks → ItemId → ℕ
+met_count g j = greatest (length g.clocks) (λ k. count_of (clock_in_group g k) j + tick_at (item_of g.number k) j)
 
--- base counts what all clocks of the group do, each with one more event of its item
-pub record IsMetBase (group : ℕ) (clocks : List OwnCounts) (base : Counts) : Type 0 where
-  pub shape : sizes_of base ≡ group_sizes clocks
-  pub counts : (j : ItemId) → count_of base j ≡ greatest (length clocks) (λ k. count_of (counts_of (clock_in_group clocks k)) j + tick_at (item_of group k) j)
+-- base counts what all of them do, each with one more event of its item
+pub record IsMetBase (g : GroupClocks) (base : Counts) : Type 0 where
+  pub shape : sizes_of base ≡ g.sizes
+  pub counts : (j : ItemId) → count_of base j ≡ met_count g j
 
--- a clock for each item of the group behind a barrier, which counts what all of them do
-pub record AreJoined (group : ℕ) (clocks : List OwnCounts) (behind : List Counts) : Type 0 where
-  pub size : length behind ≡ length clocks
-  pub each : (k : ℕ) → k < length clocks → IsMetBase group clocks (slice_index_or behind k [])
+-- each of the first n items ticks
+abbrev pub TickFirst : GroupClocks → ℕ → List Counts → Type 0
+TickFirst g n clocks = (k : ℕ) → k < n → IsTick (clock_in_group g k) (item_of g.number k) (slice_index_or clocks k [])
+
+-- each item ticks
+pub record TicksEach (old new : GroupClocks) : Type 0 where
+  pub same : IsSameGroup old new
+  pub each : TickFirst old (length old.clocks) new.clocks
+
+-- each item counts what all of them do
+pub record MeetsEach (old new : GroupClocks) : Type 0 where
+  pub same : IsSameGroup old new
+  pub shapes : (k : ℕ) → k < length old.clocks → sizes_of (clock_in_group old k) ≡ old.sizes
+  pub each : (k : ℕ) → k < length old.clocks → IsMetBase old (clock_in_group new k)
+
+-- behind a barrier that orders the memory, or does not
+abbrev pub IsBehind : GroupClocks → Bool → GroupClocks → Type 0
+IsBehind old true new = MeetsEach old new
+IsBehind old false new = TicksEach old new

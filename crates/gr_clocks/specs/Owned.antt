@@ -20,14 +20,6 @@ pub record OwnCounts : Type 0 where
 abbrev pub counts_of : OwnCounts → Counts
 counts_of o = with_count o.base o.item o.count
 
--- what stands for a clock where there is none
-abbrev pub nobody : OwnCounts
-nobody = record { base = []; item = record { group = 0; item = 0 }; count = 0 }
-
--- what is counted here, as a clock of item i
-abbrev pub own_of : Counts → ItemId → OwnCounts
-own_of c i = record { base = c; item = i; count = count_of c i }
-
 -- the item is there, and its count stands above the one in whose place it is
 pub record IsOwn (o : OwnCounts) : Type 0 where
   pub item : HasItem (sizes_of o.base) o.item

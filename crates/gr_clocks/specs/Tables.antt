@@ -4,10 +4,9 @@ use Rattle.std.specs.Prelude.{◌≡◌, ◌≢◌, ◌⊎◌, ℕ, ◌+◌, ◌
 use Rattle.gr_model.specs.declared.event.ItemId.{ItemId}
 use Rattle.gr_model.specs.Shapes.{HasItem}
 use Rattle.gr_clocks.specs.declared.clock.TheConstants.{LARGEST_COUNT}
-use Rattle.gr_clocks.specs.Rows.{entry_of, rows_of, AreStarts}
+use Rattle.gr_clocks.specs.Rows.{entry_of}
 use Rattle.gr_clocks.specs.Counts.{Counts, count_of, sizes_of, tick_at, IsZero, IsTick}
-use Rattle.gr_clocks.specs.Owned.{OwnCounts, counts_of, IsOwn}
-use Rattle.gr_clocks.specs.Groups.{clock_in_group}
+use Rattle.gr_clocks.specs.Groups.{GroupClocks, no_group}
 pub use Rattle.gr_clocks.specs.Groups.{item_of, greatest}
 
 -- for each group, the clocks of its items
@@ -79,72 +78,16 @@ MeetsGroup old group false new = TicksGroup old group new
 abbrev pub IsBeyond : ℕ → ℕ → ItemId → Type 0
 IsBeyond group n j = (j.group ≢ group) ⊎ (n ≤ j.item)
 
--- the clock of an item of a group, with the item's count apart
-pub record IsApart (t : ClockTable) (group k : ℕ) (o : OwnCounts) : Type 0 where
-  pub item : o.item ≡ item_of group k
-  pub counts : counts_of o ≡ clock_at t (item_of group k)
-  pub shape : sizes_of (counts_of o) ≡ map length t
-  pub own : IsOwn o
+-- ---- a table by its groups
 
--- those of the first n items of a group
-pub record AreApart (t : ClockTable) (group n : ℕ) (clocks : List OwnCounts) : Type 0 where
-  pub size : length clocks ≡ n
-  pub each : (k : ℕ) → k < n → IsApart t group k (clock_in_group clocks k)
+-- a group, as the table has it
+abbrev pub group_at : ClockTable → ℕ → GroupClocks
+group_at t group = record { number = group; sizes = map length t; clocks = slice_index_or t group [] }
 
--- the clock of an item of a group with one more event of the item
-pub record IsTicked (t : ClockTable) (group k : ℕ) (c : Counts) : Type 0 where
-  pub tick : IsTick (clock_at t (item_of group k)) (item_of group k) c
-  pub shape : sizes_of c ≡ map length t
+-- the clocks of the groups
+abbrev pub table_of : List GroupClocks → ClockTable
+table_of groups = map (λ g. g.clocks) groups
 
--- those of the first n items of a group
-pub record AreTicked (t : ClockTable) (group n : ℕ) (clocks : List Counts) : Type 0 where
-  pub size : length clocks ≡ n
-  pub each : (k : ℕ) → k < n → IsTicked t group k (slice_index_or clocks k [])
-
--- a clock of an item of a group that counts what all of them will have counted behind a barrier
-pub record IsMet (t : ClockTable) (group k : ℕ) (c : Counts) : Type 0 where
-  pub shape : sizes_of c ≡ map length t
-  pub same : sizes_of c ≡ sizes_of (clock_at t (item_of group k))
-  pub counts : (j : ItemId) → count_of c j ≡ joined_count t group j
-
--- those of the first n items of a group
-pub record AreMet (t : ClockTable) (group n : ℕ) (clocks : List Counts) : Type 0 where
-  pub size : length clocks ≡ n
-  pub each : (k : ℕ) → k < n → IsMet t group k (slice_index_or clocks k [])
-
--- the clocks of a group's items behind a barrier that orders the memory, or does not
-abbrev pub AreBehind : ClockTable → ℕ → Bool → List Counts → Type 0
-AreBehind t group true clocks = AreMet t group (slice_index (map length t) group) clocks
-AreBehind t group false clocks = AreTicked t group (slice_index (map length t) group) clocks
-
--- a clock for each item of a group, of the table's shape
-pub record AreOfGroup (t : ClockTable) (group : ℕ) (clocks : List Counts) : Type 0 where
-  pub size : length clocks ≡ slice_index (map length t) group
-  pub shapes : (k : ℕ) → k < length clocks → sizes_of (slice_index_or clocks k []) ≡ map length t
-
--- the item has this clock
-pub record GivesItem (old : ClockTable) (i : ItemId) (clock : Counts) (new : ClockTable) : Type 0 where
-  pub shape : map length new ≡ map length old
-  pub item : clock_at new i ≡ clock
-  pub others : (j : ItemId) → j ≢ i → clock_at new j ≡ clock_at old j
-
--- the first n items of a group have these clocks, and the others are still left
-pub record GivesFirst (old : ClockTable) (group n : ℕ) (clocks left : List Counts) (new : ClockTable) : Type 0 where
-  pub shape : map length new ≡ map length old
-  pub size : length left ≡ length clocks
-  pub rest : (k : ℕ) → n ≤ k → slice_index_or left k [] ≡ slice_index_or clocks k []
-  pub items : (k : ℕ) → k < n → clock_at new (item_of group k) ≡ slice_index_or clocks k []
-  pub others : (j : ItemId) → IsBeyond group n j → clock_at new j ≡ clock_at old j
-
--- the items of a group have these clocks
-pub record GivesGroup (old : ClockTable) (group : ℕ) (clocks : List Counts) (new : ClockTable) : Type 0 where
-  pub shape : map length new ≡ map length old
-  pub items : (k : ℕ) → k < slice_index (map length old) group → clock_at new (item_of group k) ≡ slice_index_or clocks k []
-  pub others : (j : ItemId) → j.group ≢ group → clock_at new j ≡ clock_at old j
-
--- ---- clocks in a list
-
--- one clock for each item of the shape that the starts give, and each of that shape
-pub record AreClocks (starts : List ℕ) (clocks : List Counts) : Type 0 where
-  pub whole : AreStarts starts (length clocks)
-  pub shapes : (p : ℕ) → p < length clocks → sizes_of (slice_index_or clocks p []) ≡ map length (rows_of starts clocks)
+-- each group has its place for its number, and the sizes of all
+abbrev pub AreGroups : List GroupClocks → Type 0
+AreGroups groups = (p : ℕ) → p < length groups → slice_index_or groups p no_group ≡ group_at (table_of groups) p

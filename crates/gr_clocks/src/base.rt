@@ -128,20 +128,4 @@ impl<A: Allocator> Base<A> {
         }
         Ok(())
     }
-
-    /// The greater count of each item.
-    pub(crate) fn join(&self, other: &Base<A>) -> Result<Base<A>, ClockError>
-    where
-        A: Clone,
-        requires { sizes_of other.now ≡ sizes_of self.now }
-        ensures join { IfOk result (λ b. IsJoin self.now other.now b) }
-        ensures memory { IsOkUnless result ClockError.Memory }
-    {
-        let alloc = self.alloc()?;
-        let mut blocks = Vec::with_capacity(alloc, self.blocks.len())?;
-        for group in 0..self.blocks.len() {
-            blocks.push(self.blocks[group].join(&other.blocks[group])?)?;
-        }
-        Ok(Base { blocks })
-    }
 }

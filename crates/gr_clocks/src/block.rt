@@ -114,20 +114,14 @@ impl<A: Allocator> Block<A> {
         self.most == 0 || are_within(mine, theirs)
     }
 
-    /// The greater count of each item. It is one of the two, shared, where that one is within no count less.
-    pub(crate) fn join(&self, other: &Block<A>) -> Result<Block<A>, ClockError>
+    /// The greater count of each item, where neither of the two is within the other.
+    fn merged(&self, other: &Block<A>) -> Result<Block<A>, ClockError>
     where
         A: Clone,
         requires { length other.now ≡ length self.now }
         ensures join { IfOk result (λ b. IsRowJoin self.now other.now b) }
         ensures memory { IsOkUnless result ClockError.Memory }
     {
-        if other.is_within(self) {
-            return self.copy();
-        }
-        if self.is_within(other) {
-            return other.copy();
-        }
         let mine: &Vec<u32, A> = &self.counts;
         let theirs: &Vec<u32, A> = &other.counts;
         let alloc = mine.allocator().clone()?;
@@ -140,7 +134,7 @@ impl<A: Allocator> Block<A> {
         })
     }
 
-    /// Takes the greater count of each item.
+    /// Takes the greater count of each item, and shares the other's counts where no own one is above them.
     pub(crate) fn learn(&mut self, other: &Block<A>) -> Result<(), ClockError>
     where
         A: Clone,
@@ -151,7 +145,11 @@ impl<A: Allocator> Block<A> {
         if other.is_within(self) {
             return Ok(());
         }
-        let joined = self.join(other)?;
+        let joined = if self.is_within(other) {
+            other.copy()?
+        } else {
+            self.merged(other)?
+        };
         *self = joined;
         Ok(())
     }

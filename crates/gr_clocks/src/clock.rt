@@ -2,15 +2,15 @@
 //!
 //! Semantics: a tick adds one to one item's count, and a join takes the greater count of each item (docs/MODEL.md, "Clocks").
 //! No count is above `LARGEST_COUNT`. To tick the item whose count stands apart takes no memory, and a copy shares all counts.
+//!
+//! Invariant: the item is there, and its count is not above `LARGEST_COUNT` and not below the one that is shared.
 
 ghost use Rattle.std.specs.Prelude.{◌≡◌, ◌↔◌, ◌<◌, ◌≤◌, ◌≢◌, IsTrue, IfOk, IfErr, OnOk, OnErr, IsOkUnless};
 ghost use Rattle.gr_clocks.specs.declared.clock.ClockError.TheVariants.{Memory as OutOfMemory};
 ghost use Rattle.gr_model.specs.Shapes.{HasItem};
 ghost use Rattle.gr_clocks.specs.Counts.{count_of, sizes_of, IsZero, IsTick, IsJoin};
-ghost use Rattle.gr_clocks.specs.Owned.{counts_of, IsOwn};
 
 use crate::base::Base;
-use crate::own::OwnClock;
 use gr_model::event::ItemId;
 use gr_model::memory::Memory;
 use gr_model::shape::Shape;
@@ -60,16 +60,20 @@ impl<T: Drop> From<AllocFailed<T>> for ClockError {
 #[derive(Drop)]
 #[derive_where(Debug)]
 pub struct Clock<A: Allocator = Global> {
-    own: OwnClock<A>,
+    base: Arc<Base<A>, A>,
+    item: ItemId,
+    count: u32,
 }
 
 impl<A: Allocator> Model for Clock<A> {
     ghost use Rattle.gr_clocks.specs.Counts.{Counts};
-    ghost use Rattle.gr_clocks.specs.Owned.{counts_of};
+    ghost use Rattle.gr_clocks.specs.Owned.{with_count, IsOwn};
 
     ghost Value = { Counts };
 
-    ghost view = { λ c. counts_of c.own };
+    ghost view = { λ c. with_count c.base.value c.item c.count };
+
+    ghost invariant = { λ c. IsOwn (record { base = c.base.value; item = c.item; count = c.count }) };
 }
 
 impl<A: Allocator + Copy> Clock<A> {
@@ -94,21 +98,41 @@ impl<A: Allocator> Clock<A> {
         ensures counts { IfOk result (λ c. c ≡ base.now.value) }
         ensures memory { IsOkUnless result ClockError.Memory }
     {
-        let own = OwnClock::new(base, item)?;
-        Ok(Clock { own })
+        let count = base.get(item);
+        let base = Arc::try_clone(base)?;
+        Ok(Clock { base, item, count })
     }
 
-    /// The same counts, with the count of this item apart.
-    pub(crate) fn apart(&self, item: ItemId) -> Result<OwnClock<A>, ClockError>
+    /// The same counts, none of them apart. Where the one apart is also the one that is shared, they stay shared.
+    fn whole(&self) -> Result<Arc<Base<A>, A>, ClockError>
     where
         A: Clone,
-        requires { HasItem (sizes_of self.now) item }
-        ensures counts { IfOk result (λ o. counts_of o ≡ self.now) }
-        ensures item { IfOk result (λ o. o.item ≡ item) }
-        ensures own { IfOk result (λ o. IsOwn o) }
+        ensures whole { IfOk result (λ b. b.value ≡ self.now) }
         ensures memory { IsOkUnless result ClockError.Memory }
     {
-        self.own.of(item)
+        if self.base.get(self.item) == self.count {
+            let whole = Arc::try_clone(&self.base)?;
+            return Ok(whole);
+        }
+        let mut base = self.base.copy()?;
+        base.set(self.item, self.count)?;
+        let alloc = base.alloc()?;
+        let whole = Arc::new(alloc, base)?;
+        Ok(whole)
+    }
+
+    /// Lets counts of the same shape take the greater one of each item.
+    pub(crate) fn teach(&self, base: &mut Base<A>) -> Result<(), ClockError>
+    where
+        A: Clone,
+        requires { sizes_of self.now ≡ sizes_of base.old }
+        ensures join { OnOk result (IsJoin base.old self.now base.new) }
+        ensures memory { IsOkUnless result ClockError.Memory }
+    {
+        base.learn(&self.base)?;
+        let count = self.count.max(base.get(self.item));
+        base.set(self.item, count)?;
+        Ok(())
     }
 
     /// How many events of the item are counted; 0 where the clock lacks the item.
@@ -116,7 +140,11 @@ impl<A: Allocator> Clock<A> {
         ensures count { result ≡ count_of self.now item }
         ensures limit { result ≤ LARGEST_COUNT }
     {
-        self.own.get(item)
+        if item == self.item {
+            self.count
+        } else {
+            self.base.get(item)
+        }
     }
 
     /// Whether the item's event with this index is counted.
@@ -133,6 +161,20 @@ impl<A: Allocator> Clock<A> {
         self.get(item) == LARGEST_COUNT
     }
 
+    /// The clock with one more event of an item whose count can grow. That count stands apart.
+    fn raised(&self, item: ItemId) -> Result<Clock<A>, ClockError>
+    where
+        A: Clone,
+        requires item { HasItem (sizes_of self.now) item }
+        requires room { count_of self.now item ≢ LARGEST_COUNT }
+        ensures tick { IfOk result (λ c. IsTick self.now item c) }
+        ensures memory { IsOkUnless result ClockError.Memory }
+    {
+        let base = self.whole()?;
+        let count = base.get(item) + 1;
+        Ok(Clock { base, item, count })
+    }
+
     /// Counts one more event of an item whose count can grow. It takes no memory where that count stands apart.
     ///
     /// # Errors
@@ -146,13 +188,12 @@ impl<A: Allocator> Clock<A> {
         ensures memory { IsOkUnless result ClockError.Memory }
         ensures err { OnErr result (self.new ≡ self.old) }
     {
-        if self.own.item() == item {
-            self.own.raise();
+        if self.item == item {
+            self.count += 1;
             return Ok(());
         }
-        let mut turned = self.own.of(item)?;
-        turned.raise();
-        self.own = turned;
+        let raised = self.raised(item)?;
+        *self = raised;
         Ok(())
     }
 
@@ -187,8 +228,12 @@ impl<A: Allocator> Clock<A> {
         ensures memory { IsOkUnless result ClockError.Memory }
         ensures err { OnErr result (self.new ≡ self.old) }
     {
-        let joined = self.own.join(&other.own)?;
-        self.own = joined;
+        let mut base = self.base.copy()?;
+        other.teach(&mut base)?;
+        let count = self.count.max(base.get(self.item));
+        let base = Arc::new(base.alloc()?, base)?;
+        self.base = base;
+        self.count = count;
         Ok(())
     }
 
@@ -202,8 +247,12 @@ impl<A: Allocator> Clock<A> {
         ensures copy { IfOk result (λ c. c ≡ self.now) }
         ensures memory { IsOkUnless result ClockError.Memory }
     {
-        let own = self.own.copy()?;
-        Ok(Clock { own })
+        let base = Arc::try_clone(&self.base)?;
+        Ok(Clock {
+            base,
+            item: self.item,
+            count: self.count,
+        })
     }
 }
 
@@ -220,20 +269,17 @@ pub(crate) fn raise_both<A: Allocator + Clone>(
     requires items { HasItem (sizes_of one.old) item × HasItem (sizes_of other.old) item }
     requires room { (count_of one.old item ≢ LARGEST_COUNT) × (count_of other.old item ≢ LARGEST_COUNT) }
     ensures ok { OnOk result (IsTick one.old item one.new × IsTick other.old item other.new) }
-    ensures shapes { (sizes_of one.new ≡ sizes_of one.old) × (sizes_of other.new ≡ sizes_of other.old) }
     ensures memory { IsOkUnless result ClockError.Memory }
     ensures err { OnErr result ((one.new ≡ one.old) × (other.new ≡ other.old)) }
 {
-    if one.own.item() == item && other.own.item() == item {
-        one.own.raise();
-        other.own.raise();
+    if one.item == item && other.item == item {
+        one.count += 1;
+        other.count += 1;
         return Ok(());
     }
-    let mut first = one.own.of(item)?;
-    let mut second = other.own.of(item)?;
-    first.raise();
-    second.raise();
-    one.own = first;
-    other.own = second;
+    let first = one.raised(item)?;
+    let second = other.raised(item)?;
+    *one = first;
+    *other = second;
     Ok(())
 }

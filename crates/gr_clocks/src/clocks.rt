@@ -263,10 +263,10 @@ impl<A: Allocator> Clocks<A> {
         if self.is_group_spent(group) {
             return Err(ClockError::Spent);
         }
-        let global_clocks = self.global.behind(group, global)?;
-        let local_clocks = self.local.behind(group, local)?;
-        self.global.give(group, global_clocks);
-        self.local.give(group, local_clocks);
+        let global_group = self.global.behind(group, global)?;
+        let local_group = self.local.behind(group, local)?;
+        self.global.put(group, global_group);
+        self.local.put(group, local_group);
         Ok(())
     }
 }

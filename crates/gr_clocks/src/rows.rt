@@ -2,7 +2,7 @@
 //!
 //! A list of starts has, for each group, the place of its first entry, and at its end the length of the whole.
 
-ghost use Rattle.std.specs.Prelude.{◌≡◌, ◌+◌, ◌∷◌, IfOk, IsSome};
+ghost use Rattle.std.specs.Prelude.{◌≡◌, ◌+◌, ◌∷◌, IfOk};
 ghost use Rattle.gr_clocks.specs.Rows as spec;
 ghost use Rattle.gr_clocks.specs.Rows.{starts_of};
 
@@ -42,12 +42,4 @@ pub(crate) fn place_of(starts: &[u16], item: ItemId) -> Option<usize>
     } else {
         None
     }
-}
-
-/// The place of the entry of an item that is there.
-pub(crate) fn index_of(starts: &[u16], item: ItemId) -> usize
-    requires { IsSome (spec.place_of starts.now item) }
-    ensures { spec.place_of starts.now item ≡ Some result }
-{
-    place_of(starts, item).unwrap_or(0)
 }

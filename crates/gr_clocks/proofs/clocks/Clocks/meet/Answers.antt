@@ -1,13 +1,33 @@
-use Rattle.gr_clocks.proofs.TableLemmas.{are_of_group}
-use Rattle.gr_clocks.proofs.StepLemmas.{meets}
+use Rattle.std.proofs.Common.{◌≡◌, ◌∙◌, ℕ, ◌<◌, true, length, map, ap, subst, sym}
+use Rattle.std.proofs.lemmas.List.{length-map}
+use Rattle.gr_model.specs.declared.event.Space.TheVariants.{Local}
+use Rattle.gr_clocks.specs.ItemClocks.{ItemClocks, clocks_in}
+use Rattle.gr_clocks.specs.Tables.{IsGroupFull, group_at}
+use Rattle.gr_clocks.proofs.TableLemmas.{behind_same}
+use Rattle.gr_clocks.proofs.StepLemmas.{meets, of_one_shape}
 use Rattle.gr_clocks.proofs.clocks.Clocks.meet.Goals as goal
 
-pub give-requires-clause-clocks : goal.give-requires-clause-clocks
-give-requires-clause-clocks g c = are_of_group c.args.group c.args.global c.self.inside.global c.in_ok-global_clocks.global_clocks.items c.in_ok-global_clocks.ensures.behind
+pub behind-requires-2-clause-free : goal.behind-requires-2-clause-free
+behind-requires-2-clause-free g c full =
+    let spent : c.is_group_spent.result ≡ true = c.is_group_spent.ensures.1 (Local, subst (λ (v : ItemClocks). IsGroupFull (clocks_in v Local) c.args.group) c.self.view_is full) in
+    let not_spent = c.if-is_group_spent.false in
+    absurd (cc)
 
-pub give-requires-2-clause-clocks : goal.give-requires-2-clause-clocks
-give-requires-2-clause-clocks g c = are_of_group c.args.group c.args.local c.self.inside.local c.in_ok-local_clocks.local_clocks.items c.in_ok-local_clocks.ensures.behind
+pub put-requires-clause-same : goal.put-requires-clause-same
+put-requires-clause-same g c = behind_same (group_at c.self.inside.global c.args.group) c.args.global c.in_ok-global_group.global_group c.in_ok-global_group.ensures.behind
+
+pub put-requires-2-clause-same : goal.put-requires-2-clause-same
+put-requires-2-clause-same g c = behind_same (group_at c.self.inside.local c.args.group) c.args.local c.in_ok-local_group.local_group c.in_ok-local_group.ensures.behind
+
+pub invariant_of-self : goal.invariant_of-self
+invariant_of-self g c =
+    let global_same = behind_same (group_at c.self.inside.global c.args.group) c.args.global c.in_ok-global_group.global_group c.in_ok-global_group.ensures.behind in
+    let local_same = behind_same (group_at c.self.inside.local c.args.group) c.args.local c.in_ok-local_group.local_group c.in_ok-local_group.ensures.behind in
+    of_one_shape c.args.group c.self.inside.global c.self.inside.local c.put.new.self c.put-2.new.self c.in_ok-global_group.global_group c.in_ok-local_group.local_group global_same local_same c.put.ensures c.put-2.ensures c.self.invariant
 
 pub returns-clause-ok : goal.returns-clause-ok
 returns-clause-ok g c =
-    rw (← c.self.view_is) (meets c.args.group c.args.global c.args.local c.self.inside.global c.self.inside.local c.give.new.self c.give-2.new.self c.in_ok-global_clocks.global_clocks.items c.in_ok-local_clocks.local_clocks.items c.in_ok-global_clocks.ensures.behind c.give.ensures c.in_ok-local_clocks.ensures.behind c.give-2.ensures)
+    let sizes : c.args.group < length (map length c.self.inside.global) = subst (λ (v : ItemClocks). c.args.group < length v.sizes) (sym c.self.view_is) c.requires in
+    let there : c.args.group < length c.self.inside.global = subst (λ (n : ℕ). c.args.group < n) (length-map c.self.inside.global length) sizes in
+    let local_there : c.args.group < length c.self.inside.local = subst (λ (n : ℕ). c.args.group < n) (ap length (sym c.self.invariant.same) ∙ length-map c.self.inside.local length) sizes in
+    rw (← c.self.view_is) (meets c.args.group c.args.global c.args.local c.self.inside.global c.self.inside.local c.put.new.self c.put-2.new.self c.in_ok-global_group.global_group c.in_ok-local_group.local_group there local_there c.in_ok-global_group.ensures.behind c.put.ensures c.in_ok-local_group.ensures.behind c.put-2.ensures)

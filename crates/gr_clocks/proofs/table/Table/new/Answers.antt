@@ -1,21 +1,24 @@
-use Rattle.std.proofs.Common.{◌≡◌, ◌∙◌, ◌+◌, ℕ, length, sum, ap, subst, sym, arith}
+use Rattle.std.proofs.Common.{◌∙◌, ◌+◌, ℕ, length, ap, subst, arith}
 use Rattle.std.proofs.lemmas.List.{length_push}
-use Rattle.gr_clocks.specs.Counts.{IsZero}
-use Rattle.gr_clocks.proofs.TableLemmas.{new_clocks, new_zero, zero_more}
+use Rattle.gr_clocks.specs.Counts.{Counts, IsZero}
+use Rattle.gr_clocks.specs.Groups.{IsShared}
+use Rattle.gr_clocks.proofs.TableLemmas.{shared_more, zero_groups, zero_table}
 use Rattle.gr_clocks.proofs.table.Table.new.Goals as goal
+
+pub loop-group-preserved : goal.loop-group-preserved
+loop-group-preserved g c =
+    let last : IsShared c.in_ok-zero-2.zero.value c.loop-group.group c.in_ok-sharing.field-0 = subst (λ (x : Counts). IsShared x c.loop-group.group c.in_ok-sharing.field-0) c.in_ok-shared.ensures c.in_ok-sharing.ensures.shared in
+    record {
+      count = ap length c.in_ok-push.ensures.items ∙ length_push c.loop-group.groups.items c.in_ok-sharing.field-0 ∙ ap (λ (n : ℕ). n + 1) c.loop-group.invariant.count;
+      shared = shared_more c.in_ok-zero-2.zero.value c.loop-group.group c.loop-group.groups.items c.push.new.self.items c.in_ok-sharing.field-0 c.loop-group.invariant.count c.loop-group.invariant.shared last c.in_ok-push.ensures.items;
+    }
 
 pub invariant_of-result : goal.invariant_of-result
 invariant_of-result g c =
-    let count : length c.loop-place.clocks.items ≡ sum c.args.shape.now = omega (arith, c.total-place-end.ensures.total) in
-    new_clocks c.args.shape.now c.in_ok-starts.starts.items c.loop-place.clocks.items c.in_ok-starts.ensures count (λ p within. c.loop-place.invariant.zero p (omega arith))
+    let zero : IsZero c.args.shape.now c.in_ok-zero-2.zero.value = rw c.in_ok-zero-2.ensures.ok c.in_ok-zero.ensures.zero in
+    zero_groups c.args.shape.now c.in_ok-zero-2.zero.value c.loop-group.groups.items zero (omega arith) (λ p below. c.loop-group.invariant.shared p (omega arith))
 
 pub returns-clause-zero : goal.returns-clause-zero
 returns-clause-zero g c =
-    let count : length c.loop-place.clocks.items ≡ sum c.args.shape.now = omega (arith, c.total-place-end.ensures.total) in
-    new_zero c.args.shape.now c.in_ok-starts.starts.items c.loop-place.clocks.items c.in_ok-starts.ensures count (λ p within. c.loop-place.invariant.zero p (omega arith))
-
-pub loop-place-preserved : goal.loop-place-preserved
-loop-place-preserved g c = record {
-  count = ap length c.in_ok-push.ensures.items ∙ length_push c.loop-place.clocks.items c.in_ok-copy.field-0 ∙ ap (λ (n : ℕ). n + 1) c.loop-place.invariant.count;
-  zero = zero_more c.args.shape.now c.loop-place.clocks.items c.push.new.self.items c.in_ok-copy.field-0 c.loop-place._place c.loop-place.invariant.count c.loop-place.invariant.zero (subst (IsZero c.args.shape.now) (sym c.in_ok-copy.ensures.copy) c.in_ok-zero.ensures.zero) c.in_ok-push.ensures.items;
-}
+    let zero : IsZero c.args.shape.now c.in_ok-zero-2.zero.value = rw c.in_ok-zero-2.ensures.ok c.in_ok-zero.ensures.zero in
+    zero_table c.args.shape.now c.in_ok-zero-2.zero.value c.loop-group.groups.items zero (omega arith) (λ p below. c.loop-group.invariant.shared p (omega arith))
