@@ -1,0 +1,31 @@
+-- Files that are opened by their names, and what is shown of a word of the launch whose streams they have.
+-- Source: docs/FORMATS.md, "Explanation".
+use Rattle.std.specs.Prelude.{◌≡◌, ◌⊎◌, ℕ, Bool, List, [], ◌∷◌, ◌++◌, map, Option, Result, Ok, Err, IfSome, ⊤}
+use Rattle.gr_model.specs.declared.event.Word.{Word}
+use Rattle.gr_record.specs.declared.fault.Fault.{Fault}
+use Rattle.gr_record.specs.declared.fault.Fault.TheVariants as faults
+use Rattle.gr_replay.specs.Each.{all_known}
+use Rattle.gr_show.specs.Shown.{IsShown, IsShowFault, ShowsFront}
+
+module _ {T E : Type 0} (Gives : List ℕ → Result T E → Type 0) where
+  -- by what is given at each name, the files are those of the names, in their order
+  abbrev pub AreOpened : List (List ℕ) → List T → Type 0
+  AreOpened [] [] = ⊤
+  AreOpened (name ∷ names) (file ∷ files) = Gives name (Ok file) × AreOpened names files
+  AreOpened [] (file ∷ files) = ⊥
+  AreOpened (name ∷ names) [] = ⊥
+
+  -- those of the names before it are opened, and this one can't be
+  pub record IsFirstUnopened (names : List (List ℕ)) : Type 0 where
+    pub before : List (List ℕ)
+    pub name : List ℕ
+    pub after : List (List ℕ)
+    pub split : names ≡ before ++ name ∷ after
+    pub files : List T
+    pub opened : AreOpened before files
+    pub error : E
+    pub refused : Gives name (Err error)
+
+  -- a file can't be opened, or there is no memory
+  abbrev pub IsOpeningFault : List (List ℕ) → Fault → Type 0
+  IsOpeningFault names f = (f ≡ faults.Memory) ⊎ ((f ≡ faults.Read) × IsFirstUnopened names)
