@@ -29,3 +29,14 @@ module _ {T E : Type 0} (Gives : List ℕ → Result T E → Type 0) where
   -- a file can't be opened, or there is no memory
   abbrev pub IsOpeningFault : List (List ℕ) → Fault → Type 0
   IsOpeningFault names f = (f ≡ faults.Memory) ⊎ ((f ≡ faults.Read) × IsFirstUnopened names)
+
+-- the same of the launch whose streams the files of these names have, one each
+module _ {T E : Type 0} (remaining : T → Option (List ℕ)) (Gives : List ℕ → Result T E → Type 0) (names : List (List ℕ)) where
+  abbrev pub IsShownOfFiles : Word → Bool → Option (List ℕ) → Option (List ℕ) → Type 0
+  IsShownOfFiles w found old new = (files : List T) × AreOpened Gives names files × IsShown (all_known (map remaining files)) w found old new
+
+  abbrev pub ShowsFrontOfFiles : Word → Option (List ℕ) → Option (List ℕ) → Type 0
+  ShowsFrontOfFiles w old new = (files : List T) × AreOpened Gives names files × ShowsFront (all_known (map remaining files)) w old new
+
+  abbrev pub IsFileFault : Fault → Type 0
+  IsFileFault f = IsOpeningFault Gives names f ⊎ ((files : List T) × AreOpened Gives names files × IfSome (all_known (map remaining files)) (λ inputs. IsShowFault inputs f))
