@@ -1,4 +1,4 @@
-use Rattle.std.proofs.Common.{◌≡◌, ◌⊎◌, ◌<◌, length, map, arith, inl, inr, refl}
+use Rattle.std.proofs.Common.{◌<◌, length, map, arith, inl, inr, refl}
 use Rattle.std.proofs.lemmas.List.{length-map}
 use Rattle.std.specs.Fn.{FnReturnsAt}
 use Rattle.gr_show.proofs.OpeningLemmas.{first_unopened, opened_more, text_at}

@@ -1,6 +1,5 @@
-use Rattle.std.proofs.Common.{◌≡◌, ◌≢◌, ◌∷◌, ◌<◌, ℕ, List, MatchOption, Option, None, arith}
+use Rattle.std.proofs.Common.{◌≡◌, ◌≢◌, ◌∷◌, ℕ, List, None, arith}
 use Rattle.std.proofs.lemmas.Str.Pattern.{strip_prefix_char}
-use Rattle.gr_show.specs.Naming.{IsGroupOf}
 use Rattle.gr_show.proofs.words.group_of.Goals as goal
 
 pub returns-in_err-strip_prefix : goal.returns-in_err-strip_prefix

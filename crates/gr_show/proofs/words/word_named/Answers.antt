@@ -1,4 +1,4 @@
-use Rattle.std.proofs.Common.{◌≡◌, ℕ, List, Option, None, codes, true}
+use Rattle.std.proofs.Common.{◌≡◌, ℕ, List, None, codes, true}
 use Rattle.gr_model.specs.declared.event.Word.{Word}
 use Rattle.gr_model.specs.declared.event.Word.TheVariants.{Global, Local}
 use Rattle.gr_show.specs.Naming.{IsGroupOf, Names}
