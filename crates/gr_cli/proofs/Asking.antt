@@ -1,5 +1,5 @@
 -- What the values of the command `explain` ask for.
-use Rattle.std.proofs.Common.{◌≡◌, ◌∙◌, ℕ, List, Option, None, Some, Bool, true, false, true≢false, sym, ap, map, Bor, codes, refl}
+use Rattle.std.proofs.Common.{◌≡◌, ◌∙◌, List, Option, None, Some, Bool, true, false, true≢false, sym, ap, map, Bor, codes, refl}
 use Rattle.std.specs.Prelude.{option_map, is_some}
 use Rattle.clap.specs.declared.parser.matches.Found.{Found}
 use Rattle.clap.specs.Matches.{first_value, matched_of, raw_values}

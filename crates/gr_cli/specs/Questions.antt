@@ -1,5 +1,5 @@
 -- The words that ask for one word of a launch to be shown.
-use Rattle.std.specs.Prelude.{◌≡◌, ℕ, List, [], Option, Some, codes, map}
+use Rattle.std.specs.Prelude.{◌≡◌, List, [], Option, Some, codes, map}
 use Rattle.clap.specs.Walk.{Row, Text, all_of, first_of}
 use Rattle.clap.specs.Words.{subcommand_of}
 use Rattle.gr_model.specs.declared.event.Word.{Word}

@@ -91,7 +91,8 @@ Example:
   gpurace explain l3 4 group*.gpurace
   race local 3 4: 3 0 12 with 3 1 12";
 
-const SPACE: &str = "g for global memory, or l with a group from 0 to 63, as l3, for its local memory";
+const SPACE: &str =
+    "g for global memory, or l with a group from 0 to 63, as l3, for its local memory";
 
 const WORD: &str = "The number of the word, below 4294967296";
 
@@ -160,10 +161,7 @@ fn task_named(name: &str) -> Task
 }
 
 /// The question that the values of the command `explain` ask.
-fn question_of<'a>(
-    alloc: Global,
-    matches: &ArgMatches<'a>,
-) -> Result<Request<'a>, AllocError>
+fn question_of<'a>(alloc: Global, matches: &ArgMatches<'a>) -> Result<Request<'a>, AllocError>
     ensures { IfOk result (λ r. IsRequestOf (rows_of (found_of matches.now)) r) }
 {
     let Some(space) = matches.get_str("SPACE") else {

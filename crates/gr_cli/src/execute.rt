@@ -15,9 +15,7 @@ ghost use Rattle.gr_cli.specs.Statuses.{fault_status, race_status, IsReportStatu
 ghost use Rattle.gr_cli.specs.Words.{AreHelp, AreWrong, AsksFor, IsHelp, IsWrongUsage, faults};
 
 use crate::arguments::{Question, Request, Task, request_of};
-use crate::status::{
-    FAILED, NOTHING, USAGE, WANTING, status_of, status_of_race, status_of_report,
-};
+use crate::status::{FAILED, NOTHING, USAGE, WANTING, status_of, status_of_race, status_of_report};
 use clap::Error;
 use clap::error::ErrorKind;
 use gr_record::fault::Fault;

@@ -1,4 +1,4 @@
-use Rattle.std.proofs.Common.{◌≡◌, ◌∙◌, inr, subst, sym}
+use Rattle.std.proofs.Common.{◌∙◌, inr, subst, sym}
 use Rattle.gr_cli.specs.Answers.{IsAnswerOf}
 use Rattle.gr_cli.specs.declared.arguments.Task.{Task}
 use Rattle.gr_cli.proofs.AnswerLemmas.{wrong_of, help_of, no_memory, no_memory_to_display, only_memory}

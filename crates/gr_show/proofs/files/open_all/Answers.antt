@@ -9,7 +9,7 @@ returns-in-Err-clause-fault g c =
     let texts = map (λ s. s.now) c.args.names.now in
     let lt : c.loop-name.name-index < length texts = omega (arith, length-map c.args.names.now (λ s. s.now), c.loop-name-test.true) in
     let first = first_unopened (FnReturnsAt g.O.Fn c.args.opener) texts c.loop-name.name-index c.loop-name.files.items _ lt (text_at c.args.names.now c.loop-name.name-index _ c.loop-name-test.true) c.loop-name.invariant c.in-Err.error (record { shown = _; shows = refl; says = record { met = c.in-Err.ensures } }) in
-    elim c.fault_of_opening.ensures [ | inl m ↦ inl m | inr r ↦ inr (r, first) ]
+    elim c.fault_of_opening.ensures [ inl m ↦ inl m | inr r ↦ inr (r, first) ]
 
 pub loop-name-preserved : goal.loop-name-preserved
 loop-name-preserved g c =
