@@ -1,5 +1,5 @@
 -- What a run leaves behind, from what its outcome says.
-use Rattle.std.proofs.Common.{◌≡◌, ◌≢◌, ◌⊎◌, ℕ, List, Option, Result, Ok, Err, inl, inr, sym, subst}
+use Rattle.std.proofs.Common.{◌≡◌, ◌≢◌, ◌⊎◌, ℕ, List, [], Option, Result, Ok, Err, Bool, inl, inr, refl, sym, subst}
 use Rattle.std.specs.Prelude.{IfOk, IfErr, IfSome, OnOk, IsErrAnd}
 use Rattle.std.specs.Io.KnownBytes.{Appends, Keeps}
 use Rattle.gr_record.specs.declared.fault.Fault.{Fault}
@@ -19,8 +19,10 @@ use Rattle.gr_text.specs.Texts.{packed}
 use Rattle.gr_text.specs.Dumps.{dumped}
 use Rattle.gr_cli.specs.declared.arguments.Task.{Task}
 use Rattle.gr_cli.specs.declared.arguments.Task.TheVariants.{Replay, Pack, Dump}
-use Rattle.gr_cli.specs.Answers.{IsAnswer, IsAnswerOf, IsRewriting, IsTold}
-use Rattle.gr_cli.specs.Statuses.{fault_status, IsReportStatus}
+use Rattle.gr_model.specs.declared.event.Word.{Word}
+use Rattle.gr_show.specs.Opening.{IsFileFault, IsShownOfFiles, ShowsFrontOfFiles}
+use Rattle.gr_cli.specs.Answers.{IsAnswer, IsAnswerOf, IsDisplay, IsRewriting, IsTold}
+use Rattle.gr_cli.specs.Statuses.{fault_status, race_status, IsReportStatus}
 use Rattle.gr_cli.specs.Words.{AreHelp, AreWrong, IsHelp, IsWrongUsage}
 use Rattle.gr_cli.specs.declared.status.TheConstants.{NOTHING, USAGE, WANTING, FAILED}
 use Rattle.clap.specs.declared.error.kind.ErrorKind.{ErrorKind}
@@ -57,6 +59,25 @@ rewriting_of meaning (Ok r) input old new old_errors new_errors status whole fau
 rewriting_of meaning (Err f) input old new old_errors new_errors status whole fault untouched front ends silent fault_ends line =
     inr (f, record { fault = fault; told = record { line = line; ends = fault_ends; untouched = untouched }; front = front })
 
+module _ {T X : Type 0} (remaining : T → Option (List ℕ)) (Gives : List ℕ → Result T X → Type 0) (files : List (List ℕ)) (w : Word) where
+  pub display_of : (outcome : Result Bool Fault) (old new old_errors new_errors : Option (List ℕ)) (status : ℕ)
+      → IfOk outcome (λ found. IsShownOfFiles remaining Gives files w found old new)
+      → IfErr outcome (λ f. IsFileFault remaining Gives files f)
+      → IfErr outcome (λ f. f ≢ Write → Keeps old new)
+      → IfErr outcome (λ f. f ≡ Write → ShowsFrontOfFiles remaining Gives files w old new)
+      → IfOk outcome (λ found. status ≡ race_status found)
+      → OnOk outcome (Keeps old_errors new_errors)
+      → IfErr outcome (λ f. status ≡ fault_status f)
+      → IfErr outcome (λ f. AppendsFront old_errors new_errors (fault_line f))
+      → IsDisplay remaining Gives files w old new old_errors new_errors status
+  display_of (Ok found) old new old_errors new_errors status shown fault untouched front ends silent fault_ends line =
+      inl (found, record { shown = shown; silent = silent; ends = ends })
+  display_of (Err f) old new old_errors new_errors status shown fault untouched front ends silent fault_ends line =
+      inr (f, record { fault = fault; told = record { line = line; ends = fault_ends; untouched = untouched }; front = front })
+
+  pub no_memory_to_display : (old new old_errors new_errors : Option (List ℕ)) (status : ℕ) → IsTold old new old_errors new_errors status Memory → IsDisplay remaining Gives files w old new old_errors new_errors status
+  no_memory_to_display old new old_errors new_errors status told = inr (Memory, record { fault = inl (inl refl); told = told; front = λ h. absurd cc })
+
 -- where memory was wanting before the task began
 pub no_memory : (t : Task) (input old new old_errors new_errors : Option (List ℕ)) (status : ℕ) → IsTold old new old_errors new_errors status Memory → IsAnswerOf t input old new old_errors new_errors status
 no_memory Replay input old new old_errors new_errors status told =
@@ -87,3 +108,8 @@ module _ (k : ErrorKind) (kinds : Kinds) (old new old_errors new_errors : Option
 
   pub help_of : (IsHelp k → (status ≡ NOTHING) ⊎ (status ≡ FAILED)) → AreHelp kinds → (status ≡ NOTHING) ⊎ (status ≡ WANTING) ⊎ (status ≡ FAILED)
   help_of help are = elim among [ inl e ↦ inr (inl (memory e).ends) | inr a ↦ elim (help (are.1 k a)) [ inl n ↦ inl n | inr f ↦ inr (inr f) ] ]
+
+-- words that are taken fail for want of memory alone
+pub only_memory : (k : ErrorKind) (kinds : Kinds) → kinds ≡ [] → (k ≡ OutOfMemory) ⊎ IsAmong k kinds → k ≡ OutOfMemory
+only_memory k kinds none (inl memory) = memory
+only_memory k kinds none (inr among) = let nothing : IsAmong k [] = rw none at among in absurd nothing

@@ -1,2 +1,3 @@
 pub mod AnswerLemmas
+pub mod Asking
 pub mod Naming

@@ -1,6 +1,6 @@
 -- The command that a parse met.
-use Rattle.std.proofs.Common.{◌≡◌, true, List, [], ◌∷◌, Option, Some, None, refl, ap, ◌∙◌}
-use Rattle.std.specs.Prelude.{option_map, Box}
+use Rattle.std.proofs.Common.{◌≡◌, ◌<◌, ℕ, true, true≢false, List, [], ◌∷◌, Option, Some, None, inl, inr, refl, sym, ap, ◌∙◌, arith, get_or, codes}
+use Rattle.std.specs.Prelude.{option_map, is_some, Box}
 use Rattle.std.specs.Box.{box_value}
 use Rattle.clap.specs.declared.parser.matches.ArgMatches.{ArgMatches}
 use Rattle.clap.specs.declared.parser.matches.ArgMatches.TheViews.{out-ArgMatches, out-SubCommand}
@@ -9,7 +9,9 @@ use Rattle.clap.specs.Words.{App, HasMatchesOf, Text, is_simple, subcommand_name
 use Rattle.clap.proofs.OnLiterals.{clap_on_literals}
 use Rattle.gr_cli.specs.declared.arguments.Task.{Task}
 use Rattle.gr_cli.specs.declared.arguments.Task.TheVariants.{Replay, Pack, Dump}
-use Rattle.gr_cli.specs.Words.{gpurace, name_of}
+use Rattle.clap.specs.Walk.{Row}
+use Rattle.gr_cli.specs.Questions.{command_of}
+use Rattle.gr_cli.specs.Words.{gpurace, name_of, AsksFor}
 
 -- the words of each task are taken, and name its command
 
@@ -45,6 +47,25 @@ name_from_rows : {Z : Type 0} (o : Option (Box SubCommand Z)) → option_map (λ
 name_from_rows None = refl
 name_from_rows (Some b) = refl
 
+nothing_is_some : {X : Type 0} (x : X) → None ≡ Some x → ⊥
+nothing_is_some {X = X} x e = true≢false (sym (ap (λ (o : Option X). is_some o) e))
+
+injected : {X : Type 0} (x y : X) → Some x ≡ Some y → x ≡ y
+injected x y e = cc
+
+-- no task has the name of the command that shows a word
+
+below : (a b : ℕ) → a ≡ b → a < b → ⊥
+below a b e lt = absurd (omega (arith, e, lt))
+
+abbrev first_letter : Text → ℕ
+first_letter text = get_or text 0 0
+
+not_explain : (t : Task) → name_of t ≡ codes "explain" → ⊥
+not_explain Replay e = below 101 114 (sym (ap first_letter e)) (omega arith)
+not_explain Pack e = below 101 112 (sym (ap first_letter e)) (omega arith)
+not_explain Dump e = below 100 101 (ap first_letter e) (omega arith)
+
 module _ (command : App) (m : ArgMatches) (is : command ≡ gpurace) (words : List Text) (matches : HasMatchesOf command words m) where
   name_is_met : subcommand_name_of m ≡ met words
   name_is_met =
@@ -56,3 +77,20 @@ module _ (command : App) (m : ArgMatches) (is : command ≡ gpurace) (words : Li
 
   pub name_is : (t : Task) → words ≡ name_of t ∷ [] → subcommand_name_of m ≡ Some (name_of t)
   name_is t asks = name_is_met ∙ ap met asks ∙ command_is_met t
+
+  pub no_task : (t : Task) → AsksFor t words → subcommand_name_of m ≡ Some (codes "explain") → ⊥
+  no_task t asks named = elim asks [
+    | inl e ↦ not_explain t (injected (name_of t) (codes "explain") (sym (name_is t e) ∙ named))
+    | inr e ↦ nothing_is_some (codes "explain") (sym (no_name e.0) ∙ named)
+  ]
+
+  module _ (rows : List Row) (asks : command_of words ≡ Some (codes "explain", rows)) where
+    explain_is_met : subcommand_rows_of m ≡ Some (codes "explain", rows)
+    unfolding command_of
+    explain_is_met = (matches (ap is_simple is ∙ gpurace_is_simple)).1 ∙ ap (λ a. subcommand_of a words) is ∙ asks
+
+    pub explain_is_named : subcommand_name_of m ≡ Some (codes "explain")
+    explain_is_named = name_from_rows (out-ArgMatches m).subcommand ∙ ap (option_map (λ p. p.0)) explain_is_met
+
+    pub values_are : (values : List Row) → option_map (λ p. p.1) (subcommand_rows_of m) ≡ Some values → rows ≡ values
+    values_are values at = injected rows values (sym (ap (option_map (λ p. p.1)) explain_is_met) ∙ at)

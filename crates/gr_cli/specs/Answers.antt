@@ -1,7 +1,8 @@
 -- What a run of the program leaves behind: on standard output, on standard error, and its status.
 -- Source: docs/FORMATS.md, "Report", "Fault lines" and "Exit statuses".
-use Rattle.std.specs.Prelude.{◌≡◌, ◌≢◌, ◌⊎◌, ℕ, List, Option, Result, IfSome}
+use Rattle.std.specs.Prelude.{◌≡◌, ◌≢◌, ◌⊎◌, ℕ, Bool, List, Option, Result, IfSome}
 use Rattle.std.specs.Io.KnownBytes.{Appends, Keeps}
+use Rattle.gr_model.specs.declared.event.Word.{Word}
 use Rattle.gr_model.specs.Reports.{WholeReport}
 use Rattle.gr_record.specs.declared.fault.Fault.{Fault}
 use Rattle.gr_record.specs.declared.fault.Fault.TheVariants.{Write}
@@ -13,10 +14,11 @@ use Rattle.gr_input.specs.Faults.{Fails}
 use Rattle.gr_text.specs.Texts.{packed}
 use Rattle.gr_text.specs.Dumps.{dumped}
 use Rattle.gr_text.specs.Writes.{Writes, WritesFront as WritesFrontOf}
+use Rattle.gr_show.specs.Opening.{IsFileFault, IsShownOfFiles, ShowsFrontOfFiles}
 use Rattle.gr_cli.specs.declared.arguments.Task.{Task}
 use Rattle.gr_cli.specs.declared.arguments.Task.TheVariants.{Replay, Pack, Dump}
 use Rattle.gr_cli.specs.declared.status.TheConstants.{NOTHING}
-use Rattle.gr_cli.specs.Statuses.{fault_status, IsReportStatus}
+use Rattle.gr_cli.specs.Statuses.{fault_status, race_status, IsReportStatus}
 
 -- r is the report of the input; its whole text is written, nothing is told on standard error, and the status is that of r
 pub record IsReported (input old new old_errors new_errors : Option (List ℕ)) (status : ℕ) (r : WholeReport) : Type 0 where
@@ -65,3 +67,20 @@ abbrev pub IsAnswerOf : Task → Option (List ℕ) → Option (List ℕ) → Opt
 IsAnswerOf Replay input old new old_errors new_errors status = IsAnswer input old new old_errors new_errors status
 IsAnswerOf Pack input old new old_errors new_errors status = IsRewriting packed input old new old_errors new_errors status
 IsAnswerOf Dump input old new old_errors new_errors status = IsRewriting dumped input old new old_errors new_errors status
+
+-- what is left behind where a word is to be shown of the launch whose streams the files of these names have
+module _ {T X : Type 0} (remaining : T → Option (List ℕ)) (Gives : List ℕ → Result T X → Type 0) (files : List (List ℕ)) (w : Word) (old new old_errors new_errors : Option (List ℕ)) (status : ℕ) where
+  -- the line of the word is written whole, nothing is told on standard error, and the status says whether the word is racy
+  pub record IsDisplayed (found : Bool) : Type 0 where
+    pub shown : IsShownOfFiles remaining Gives files w found old new
+    pub silent : Keeps old_errors new_errors
+    pub ends : status ≡ race_status found
+
+  -- f is why there is no such line, and is told; where the writer failed, it has a front of the line
+  pub record IsNotDisplayed (f : Fault) : Type 0 where
+    pub fault : IsFileFault remaining Gives files f
+    pub told : IsTold old new old_errors new_errors status f
+    pub front : f ≡ Write → ShowsFrontOfFiles remaining Gives files w old new
+
+  abbrev pub IsDisplay : Type 0
+  IsDisplay = ((found : Bool) × IsDisplayed found) ⊎ ((f : Fault) × IsNotDisplayed f)

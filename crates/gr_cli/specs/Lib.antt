@@ -1,3 +1,4 @@
 pub mod Answers
+pub mod Questions
 pub mod Statuses
 pub mod Words

@@ -1,6 +1,6 @@
 -- The exit statuses of the program.
 -- Source: docs/FORMATS.md, "Exit statuses".
-use Rattle.std.specs.Prelude.{◌≡◌, ◌⊎◌, ℕ}
+use Rattle.std.specs.Prelude.{◌≡◌, ◌⊎◌, ℕ, Bool, if◌then◌else◌}
 use Rattle.gr_model.specs.Reports.{WholeReport}
 use Rattle.gr_record.specs.declared.error.RecordError.TheVariants.{Memory as NoMemory}
 use Rattle.gr_record.specs.declared.fault.Fault.{Fault}
@@ -27,3 +27,7 @@ fault_status Write = FAILED
 -- a report has the status of a finding where it has a race, a divergent barrier or an unmatched acquire
 abbrev pub IsReportStatus : WholeReport → ℕ → Type 0
 IsReportStatus r status = ((status ≡ FOUND) × HasFinding r) ⊎ ((status ≡ NOTHING) × ¬ HasFinding r)
+
+-- whether a word is racy
+abbrev pub race_status : Bool → ℕ
+race_status found = if found then FOUND else NOTHING

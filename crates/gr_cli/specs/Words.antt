@@ -1,10 +1,11 @@
 -- The words that ask for a task, and the commands that they are read by.
-use Rattle.std.specs.Prelude.{◌≡◌, ◌≢◌, ◌⊎◌, ℕ, true, List, [], ◌∷◌, codes}
+use Rattle.std.specs.Prelude.{◌≡◌, ◌≢◌, ◌⊎◌, ℕ, true, List, [], ◌∷◌, Some, codes}
+use Rattle.clap.specs.declared.builder.action.ArgAction.TheVariants.{Append}
 use Rattle.clap.specs.declared.error.kind.ErrorKind.{ErrorKind}
 use Rattle.clap.specs.declared.error.kind.ErrorKind.TheVariants.{DisplayHelp, DisplayVersion, OutOfMemory}
 use Rattle.gr_cli.specs.declared.arguments.Task.{Task}
 use Rattle.gr_cli.specs.declared.arguments.Task.TheVariants.{Replay, Pack, Dump}
-use Rattle.clap.specs.Words.{App, IsAmong, Shape, fault_of, new_app, with_subcommand}
+use Rattle.clap.specs.Words.{App, IsAmong, Rule, Shape, fault_of, new_app, new_rule, with_rule, with_subcommand}
 
 -- the command of a task
 abbrev pub name_of : Task → List ℕ
@@ -24,8 +25,22 @@ alone = record (new_app (codes "gpurace")).top { no_binary_name = true; has_vers
 abbrev pub command_named : List ℕ → Shape
 command_named name = (new_app name).top
 
+-- a value that has to be given, and the files, of which there is one at least
+abbrev pub wanted : List ℕ → Rule
+wanted id = record (new_rule id) { required = true }
+
+abbrev pub wanted_files : Rule
+wanted_files = record (wanted (codes "FILE")) { action = Some Append }
+
+-- the command that shows one word
+abbrev pub explaining : Shape
+explaining = (with_rule (with_rule (with_rule (new_app (codes "explain")) (wanted (codes "SPACE"))) (wanted (codes "WORD"))) wanted_files).top
+
+abbrev pub tasks : App
+tasks = with_subcommand (with_subcommand (with_subcommand (record { top = alone; subs = [] }) (command_named (codes "replay"))) (command_named (codes "pack"))) (command_named (codes "dump"))
+
 abbrev pub gpurace : App
-gpurace = with_subcommand (with_subcommand (with_subcommand (record { top = alone; subs = [] }) (command_named (codes "replay"))) (command_named (codes "pack"))) (command_named (codes "dump"))
+gpurace = with_subcommand tasks explaining
 
 -- help was asked for, or the version
 abbrev pub IsHelp : ErrorKind → Type 0

@@ -1,13 +1,19 @@
 //! What the words of the command line ask for.
 
-ghost use Rattle.std.specs.Prelude.{◌≡◌, false, IfOk, IfErr, map};
+ghost use Rattle.std.specs.Prelude.{◌≡◌, ℕ, List, false, IfOk, IfErr, map};
 ghost use Rattle.clap.specs.declared.builder.command.Command.TheViews.{out-Command as fields_of};
-ghost use Rattle.clap.specs.Words.{FailsBy, app_of, kind_of, shape_of};
+ghost use Rattle.clap.specs.Walk.{rows_of};
+ghost use Rattle.clap.specs.Words.{FailsBy, app_of, found_of, kind_of, shape_of};
+ghost use Rattle.gr_model.specs.declared.event.Word.{Word as AnyWord};
+ghost use Rattle.gr_cli.specs.declared.arguments.Request.TheVariants.{Perform, Misnamed};
 ghost use Rattle.gr_cli.specs.declared.arguments.Task.{Task as AnyTask};
-ghost use Rattle.gr_cli.specs.Words.{gpurace, command_named, faults, name_of, AsksFor};
+ghost use Rattle.gr_cli.specs.Words.{gpurace, command_named, explaining, faults, name_of, AsksFor};
+ghost use Rattle.gr_cli.specs.Questions.{AsksToShow, IsMisnamed, IsQuestion, IsRequestOf};
 
 use clap::error::ErrorKind;
-use clap::{Command, Error};
+use clap::{Arg, ArgAction, ArgMatches, Command, Error};
+use gr_model::event::Word;
+use gr_show::words::word_named;
 use std::alloc::{AllocError, Global};
 use std::convert::AsStr;
 
@@ -20,6 +26,24 @@ pub enum Task {
     Pack,
     /// Write the text of the streams that stand one after another on standard input.
     Dump,
+}
+
+/// A word of a launch, whose streams are in these files, one each.
+#[derive(Drop)]
+pub struct Question<'a> {
+    pub word: Word,
+    pub files: Vec<&'a str>,
+}
+
+/// What the words of a command line ask for.
+#[derive(Drop)]
+pub enum Request<'a> {
+    /// A task over standard input.
+    Perform(Task),
+    /// The least racing pair of a word.
+    Show(Question<'a>),
+    /// The least racing pair of a word, but the words do not name one.
+    Misnamed,
 }
 
 const ABOUT: &str =
@@ -37,6 +61,7 @@ const AFTER_HELP: &str = "\
 Examples:
   gpurace replay < trace.gpurace
   gpurace pack < trace.txt | gpurace replay
+  gpurace explain g 16 group0.gpurace group1.gpurace
 
 Exit status:
   0  nothing was found, or what was asked for is done
@@ -52,12 +77,53 @@ const PACK: &str = "Writes the bytes of the trace whose text is on standard inpu
 
 const DUMP: &str = "Writes the text of the trace on standard input";
 
+const EXPLAIN: &str = "Tells of one word which two accesses race on it";
+
+const LONG_EXPLAIN: &str = "\
+Tells of one word which two accesses race on it, or that it has no race.
+
+The accesses are told as GROUP ITEM INDEX; an item's records are counted from 0. Of all racing pairs it is the least, by
+its first access and then by its second. The pair is found without clocks, in time that grows with the accesses to the
+word times the records of the launch: a word that many items access in a trace of a million records takes long.";
+
+const AFTER_EXPLAIN: &str = "\
+Example:
+  gpurace explain l3 4 group*.gpurace
+  race local 3 4: 3 0 12 with 3 1 12";
+
+const SPACE: &str =
+    "g for global memory, or l with a group from 0 to 63, as l3, for its local memory";
+
+const WORD: &str = "The number of the word, below 4294967296";
+
+const FILES: &str = "The streams of the launch, one in each file";
+
 /// A command without options.
 fn plain_command<'a>(alloc: Global, name: &'a str, about: &'a str) -> Command<'a>
     ensures shape { shape_of result ≡ command_named name.now }
     ensures alone { (fields_of result).has_globals ≡ false }
 {
     Command::new(alloc, name).about(about)
+}
+
+/// The command that shows one word.
+fn explain_command<'a>(alloc: Global) -> Result<Command<'a>, AllocError>
+    ensures shape { IfOk result (λ c. shape_of c ≡ explaining) }
+    ensures alone { IfOk result (λ c. (fields_of c).has_globals ≡ false) }
+{
+    let space = Arg::new(alloc, "SPACE").required(true).help(SPACE);
+    let word = Arg::new(alloc, "WORD").required(true).help(WORD);
+    let files = Arg::new(alloc, "FILE")
+        .required(true)
+        .action(ArgAction::Append)
+        .help(FILES);
+    Command::new(alloc, "explain")
+        .about(EXPLAIN)
+        .long_about(LONG_EXPLAIN)
+        .after_help(AFTER_EXPLAIN)
+        .arg(space)?
+        .arg(word)?
+        .arg(files)
 }
 
 /// The program's commands and options, as help shows them.
@@ -67,6 +133,7 @@ fn command<'a>(alloc: Global) -> Result<Command<'a>, AllocError>
     let replay = plain_command(alloc, "replay", REPLAY);
     let pack = plain_command(alloc, "pack", PACK);
     let dump = plain_command(alloc, "dump", DUMP);
+    let explain = explain_command(alloc)?;
     Command::new(alloc, "gpurace")
         .bin_name("gpurace")?
         .no_binary_name(true)
@@ -76,7 +143,8 @@ fn command<'a>(alloc: Global) -> Result<Command<'a>, AllocError>
         .after_help(AFTER_HELP)
         .subcommand(replay)?
         .subcommand(pack)?
-        .subcommand(dump)
+        .subcommand(dump)?
+        .subcommand(explain)
 }
 
 /// The task of the command of this name, which is one of the program's.
@@ -92,18 +160,43 @@ fn task_named(name: &str) -> Task
     }
 }
 
+/// The question that the values of the command `explain` ask.
+fn question_of<'a>(alloc: Global, matches: &ArgMatches<'a>) -> Result<Request<'a>, AllocError>
+    ensures { IfOk result (λ r. IsRequestOf (rows_of (found_of matches.now)) r) }
+{
+    let Some(space) = matches.get_str("SPACE") else {
+        return Ok(Request::Misnamed);
+    };
+    let Some(number) = matches.get_str("WORD") else {
+        return Ok(Request::Misnamed);
+    };
+    let Some(files) = matches.get_strs("FILE") else {
+        return Ok(Request::Misnamed);
+    };
+    let Some(word) = word_named(space, number) else {
+        return Ok(Request::Misnamed);
+    };
+    let files = Vec::from_slice(alloc, files)?;
+    Ok(Request::Show(Question { word, files }))
+}
+
 /// What the words ask for, the program's name not among them.
 ///
 /// # Errors
 /// The text of help or of wrong usage, or want of memory; of words that ask for a task this alone.
-pub fn task_of<S: AsStr>(alloc: Global, words: &[S]) -> Result<Task, Error>
+pub fn request_of<'a, S: AsStr>(alloc: Global, words: &'a [S]) -> Result<Request<'a>, Error>
     ensures fails { FailsBy (faults (map S.text words.now)) result }
-    ensures task { IfOk result (λ t. (u : AnyTask) → AsksFor u (map S.text words.now) → t ≡ u) }
+    ensures task { IfOk result (λ r. (u : AnyTask) → AsksFor u (map S.text words.now) → r ≡ Perform u) }
     ensures memory { IfErr result (λ e. (u : AnyTask) → AsksFor u (map S.text words.now) → kind_of e ≡ ErrorKind.OutOfMemory) }
+    ensures question { IfOk result (λ r. (w : AnyWord) (names : List (List ℕ)) → AsksToShow w names (map S.text words.now) → IsQuestion w names r) }
+    ensures misnamed { IfOk result (λ r. IsMisnamed (map S.text words.now) → r ≡ Misnamed) }
 {
     let matches = command(alloc)?.try_get_matches_from(words)?;
+    if let Some(values) = matches.subcommand_matches("explain") {
+        return Ok(question_of(alloc, values)?);
+    }
     match matches.subcommand_name() {
-        None => Ok(Task::Replay),
-        Some(name) => Ok(task_named(name)),
+        None => Ok(Request::Perform(Task::Replay)),
+        Some(name) => Ok(Request::Perform(task_named(name))),
     }
 }

@@ -1,28 +1,38 @@
 //! A run of the program, over values.
 
-ghost use Rattle.std.specs.Prelude.{◌≡◌, ◌⊎◌, ◌≤◌, IfOk, IfErr, OnOk, map};
+ghost use Rattle.std.specs.Prelude.{◌≡◌, ◌⊎◌, ◌≤◌, ℕ, List, IfOk, IfErr, OnOk, map};
+ghost use Rattle.std.specs.Fn.{FnReturnsAt};
 ghost use Rattle.std.specs.Io.KnownBytes.{Keeps};
 ghost use Rattle.clap.specs.Words.{kind_of};
+ghost use Rattle.gr_model.specs.declared.event.Word.{Word as AnyWord};
 ghost use Rattle.gr_report.specs.FaultText.{fault_line};
 ghost use Rattle.gr_report.specs.Putting.{AppendsFront};
 ghost use Rattle.gr_report.specs.Whole.{whole_of};
 ghost use Rattle.gr_cli.specs.declared.arguments.Task.{Task as AnyTask};
-ghost use Rattle.gr_cli.specs.Answers.{IsAnswerOf, IsTold};
-ghost use Rattle.gr_cli.specs.Statuses.{fault_status, IsReportStatus};
+ghost use Rattle.gr_cli.specs.Answers.{IsAnswerOf, IsDisplay, IsTold};
+ghost use Rattle.gr_cli.specs.Questions.{AsksToShow, IsMisnamed};
+ghost use Rattle.gr_cli.specs.Statuses.{fault_status, race_status, IsReportStatus};
 ghost use Rattle.gr_cli.specs.Words.{AreHelp, AreWrong, AsksFor, IsHelp, IsWrongUsage, faults};
 
-use crate::arguments::{Task, task_of};
-use crate::status::{FAILED, NOTHING, USAGE, WANTING, status_of, status_of_report};
+use crate::arguments::{Question, Request, Task, request_of};
+use crate::status::{FAILED, NOTHING, USAGE, WANTING, status_of, status_of_race, status_of_report};
 use clap::Error;
 use clap::error::ErrorKind;
 use gr_record::fault::Fault;
 use gr_replay::replay;
 use gr_report::report::Report;
 use gr_report::write_fault;
+use gr_show::files::show_race_of_files;
 use gr_text::{dump, pack};
 use std::alloc::Global;
 use std::convert::AsStr;
-use std::io::{Read, Write};
+use std::io::{self, Read, Write};
+
+const MISNAMED: &[u8] = b"\
+error: SPACE and WORD name no word of memory: SPACE is g, or l with a group from 0 to 63 as in l3, and WORD is a number \
+below 4294967296 in decimal digits\n\n\
+Usage: gpurace explain <SPACE> <WORD> <FILE>...\n\n\
+For more information, try '--help'.\n";
 
 /// Tells of a fault on standard error, and gives its status. That standard error fails is passed over: there is nowhere
 /// left to tell it.
@@ -98,21 +108,74 @@ fn perform<R: Read, W: Write, E: Write>(
     }
 }
 
-/// Does what the words ask for, and gives the exit status. The words are those behind the program's name.
-pub fn execute<S: AsStr, R: Read, W: Write, E: Write>(
+/// Tells of a word that was to be shown and could not, and gives the status of what came of it.
+fn conclude_showing<E: Write>(outcome: Result<bool, Fault>, errors: &mut E) -> u8
+    ensures race { IfOk outcome (λ found. result ≡ race_status found) }
+    ensures silent { OnOk outcome (Keeps (E.contents errors.old) (E.contents errors.new)) }
+    ensures fault { IfErr outcome (λ fault. result ≡ fault_status fault) }
+    ensures told { IfErr outcome (λ fault. AppendsFront (E.contents errors.old) (E.contents errors.new) (fault_line fault)) }
+{
+    match outcome {
+        Ok(found) => status_of_race(found),
+        Err(fault) => fail(&fault, errors),
+    }
+}
+
+/// Shows a word of the launch whose streams are in files, and gives the exit status.
+fn show<T: Read + Drop, O: Fn(&str) -> io::Result<T>, W: Write, E: Write>(
     alloc: Global,
-    words: &[S],
-    reader: &mut R,
+    question: &Question<'_>,
+    opener: O,
     writer: &mut W,
     errors: &mut E,
 ) -> u8
+    requires { O.IsAlwaysCallable opener }
+    ensures { IsDisplay T.remaining (FnReturnsAt O.Fn opener) (map (λ s. s.now) question.now.files.items) question.now.word (W.contents writer.old) (W.contents writer.new) (E.contents errors.old) (E.contents errors.new) result }
+{
+    let files = question.files.as_slice();
+    let outcome = show_race_of_files(alloc, files, opener, question.word, writer);
+    conclude_showing(outcome, errors)
+}
+
+/// Tells that the words name no word of memory.
+fn explain_misnaming<E: Write>(errors: &mut E) -> u8
+    ensures { result ≡ USAGE }
+{
+    let _ = errors.write_all(MISNAMED);
+    USAGE
+}
+
+/// Does what the words ask for, and gives the exit status. The words are those behind the program's name. Files are opened
+/// by `opener`, in their order, where the words ask for a word to be shown; no other task opens one.
+pub fn execute<S, R, T, O, W, E>(
+    alloc: Global,
+    words: &[S],
+    reader: &mut R,
+    opener: O,
+    writer: &mut W,
+    errors: &mut E,
+) -> u8
+where
+    S: AsStr,
+    R: Read,
+    T: Read + Drop,
+    O: Fn(&str) -> io::Result<T>,
+    W: Write,
+    E: Write,
+    requires { O.IsAlwaysCallable opener }
     ensures known { result ≤ FAILED }
     ensures does { (t : AnyTask) → AsksFor t (map S.text words.now) → IsAnswerOf t (R.remaining reader.old) (W.contents writer.old) (W.contents writer.new) (E.contents errors.old) (E.contents errors.new) result }
     ensures wrong { AreWrong (faults (map S.text words.now)) → ((result ≡ USAGE) ⊎ (result ≡ WANTING)) × Keeps (W.contents writer.old) (W.contents writer.new) }
     ensures help { AreHelp (faults (map S.text words.now)) → (result ≡ NOTHING) ⊎ (result ≡ WANTING) ⊎ (result ≡ FAILED) }
+
+    // The word that is shown, of files.
+    ensures shows { (w : AnyWord) (names : List (List ℕ)) → AsksToShow w names (map S.text words.now) → IsDisplay T.remaining (FnReturnsAt O.Fn opener) names w (W.contents writer.old) (W.contents writer.new) (E.contents errors.old) (E.contents errors.new) result }
+    ensures misnamed { IsMisnamed (map S.text words.now) → ((result ≡ USAGE) ⊎ (result ≡ WANTING)) × Keeps (W.contents writer.old) (W.contents writer.new) }
 {
-    match task_of(alloc, words) {
-        Ok(task) => perform(alloc, task, reader, writer, errors),
+    match request_of(alloc, words) {
+        Ok(Request::Perform(task)) => perform(alloc, task, reader, writer, errors),
+        Ok(Request::Show(question)) => show(alloc, &question, opener, writer, errors),
+        Ok(Request::Misnamed) => explain_misnaming(errors),
         Err(error) => explain_usage(&error, writer, errors),
     }
 }

@@ -1,7 +1,7 @@
 //! `gpurace`: reports the data races and the divergent barriers of an OpenCL kernel launch, from its trace.
 //!
 //! All that the program decides stands in functions over values (`execute`), so that tests run them in memory; `main`
-//! hands in the words, standard input, output and error.
+//! hands in the words, standard input, output and error, and what opens a file.
 #![tactic(auto)]
 
 mod arguments;
@@ -13,6 +13,7 @@ mod tests;
 use execute::{execute, fail};
 use gr_record::fault::Fault;
 use status::USAGE;
+use std::fs::File;
 use std::io::{BufWriter, ErrorKind, Write};
 use std::process::ExitCode;
 use std::{env, io};
@@ -41,6 +42,7 @@ fn main(rt: HostRuntime) -> ExitCode {
         alloc,
         words.as_slice(),
         &mut reader,
+        |name| File::open(&rt, name),
         &mut writer,
         &mut errors,
     );

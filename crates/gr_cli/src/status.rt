@@ -2,7 +2,7 @@
 
 ghost use Rattle.std.specs.Prelude.{◌≡◌};
 ghost use Rattle.gr_report.specs.Whole.{whole_of};
-ghost use Rattle.gr_cli.specs.Statuses.{fault_status, IsReportStatus};
+ghost use Rattle.gr_cli.specs.Statuses.{fault_status, race_status, IsReportStatus};
 
 use gr_record::error::RecordError;
 use gr_record::fault::Fault;
@@ -52,4 +52,11 @@ pub fn status_of_report<A: Allocator>(report: &Report<A>) -> u8
     ensures { IsReportStatus (whole_of report.now) result }
 {
     if found(report) { FOUND } else { NOTHING }
+}
+
+/// The status of a run that looked for a race.
+pub fn status_of_race(found: bool) -> u8
+    ensures { result ≡ race_status found }
+{
+    if found { FOUND } else { NOTHING }
 }

@@ -3,6 +3,7 @@ use crate::status::status_of;
 use gr_model::shape::ShapeError;
 use gr_record::error::RecordError;
 use gr_record::fault::Fault;
+use gr_text::packing::pack_text;
 use std::alloc::Global;
 use std::io::{self, ErrorKind, Read, Write};
 use std::test::*;
@@ -35,6 +36,13 @@ const REPORT: &str =
 const CLEAN: &str =
     "gpurace 1\ngroups 1 items 2 records 3\nend races 0 diverge 0 unmatched 0 held 0\n";
 
+/// Item 0 hands a word to items 1 and 2, and item 2 alone hands it back.
+const HANDED_BACK_BY_ONE: &str =
+    "group 0 items 3 launch 7\n0 w g 16\n0 st g 20 dev rel\n1 ld g 20 dev acq < 0 0 0\n1 r g 16\n\
+     2 ld g 20 dev acq < 0 0 0\n2 r g 16\n2 st g 24 dev rel\n0 ld g 24 dev acq < 0 2 0\n0 w g 16\nend\n";
+
+const BACK_LINE: &str = "race global 16: 0 0 3 with 0 1 1\n";
+
 /// Words and input, and what each output begins with (or is, where it is empty), and the status.
 type Case = (
     &'static str,
@@ -45,7 +53,7 @@ type Case = (
     u8,
 );
 
-const CASES: [Case; 23] = [
+const CASES: [Case; 45] = [
     ("a race", &["replay"], &RACE, REPORT, "", 1),
     ("a race, without a command", &[], &RACE, REPORT, "", 1),
     ("no race", &["replay"], &NO_RACE, CLEAN, "", 0),
@@ -159,6 +167,182 @@ const CASES: [Case; 23] = [
         2,
     ),
     (
+        "a racy word",
+        &["explain", "g", "16", "back"],
+        &[],
+        BACK_LINE,
+        "",
+        1,
+    ),
+    (
+        "a word without a race",
+        &["explain", "g", "20", "back"],
+        &[],
+        "no race global 20\n",
+        "",
+        0,
+    ),
+    (
+        "a local word, with zeros",
+        &["explain", "l07", "0016", "back"],
+        &[],
+        "no race local 7 16\n",
+        "",
+        0,
+    ),
+    (
+        "a file after two hyphens",
+        &["explain", "g", "16", "--", "back"],
+        &[],
+        BACK_LINE,
+        "",
+        1,
+    ),
+    (
+        "a space of a group too many",
+        &["explain", "l64", "4", "back"],
+        &[],
+        "",
+        MISNAMED,
+        3,
+    ),
+    (
+        "a space without a group",
+        &["explain", "l", "4", "back"],
+        &[],
+        "",
+        MISNAMED,
+        3,
+    ),
+    (
+        "a space in capitals",
+        &["explain", "G", "4", "back"],
+        &[],
+        "",
+        MISNAMED,
+        3,
+    ),
+    (
+        "a space of no letter",
+        &["explain", "", "4", "back"],
+        &[],
+        "",
+        MISNAMED,
+        3,
+    ),
+    (
+        "a word with a sign",
+        &["explain", "g", "+4", "back"],
+        &[],
+        "",
+        MISNAMED,
+        3,
+    ),
+    (
+        "a word of no digit",
+        &["explain", "g", "", "back"],
+        &[],
+        "",
+        MISNAMED,
+        3,
+    ),
+    (
+        "a word too great",
+        &["explain", "g", "4294967296", "back"],
+        &[],
+        "",
+        MISNAMED,
+        3,
+    ),
+    (
+        "a word below zero",
+        &["explain", "g", "-4", "back"],
+        &[],
+        "",
+        "error: unexpected argument '-4' found",
+        3,
+    ),
+    (
+        "a wrong word before a file that is missing",
+        &["explain", "g", "four", "missing"],
+        &[],
+        "",
+        MISNAMED,
+        3,
+    ),
+    (
+        "no file",
+        &["explain", "g", "16"],
+        &[],
+        "",
+        "error: the following required arguments were not provided:\n  <FILE>",
+        3,
+    ),
+    (
+        "nothing to explain",
+        &["explain"],
+        &[],
+        "",
+        "error: the following required arguments were not provided:\n  <SPACE>",
+        3,
+    ),
+    (
+        "an option of explain",
+        &["explain", "--quiet", "g", "16", "back"],
+        &[],
+        "",
+        "error: unexpected argument '--quiet' found",
+        3,
+    ),
+    (
+        "help on explain",
+        &["explain", "--help"],
+        &[],
+        "Tells of one word",
+        "",
+        0,
+    ),
+    (
+        "a file that is missing",
+        &["explain", "g", "16", "missing"],
+        &[],
+        "",
+        "gpurace: read fault\n",
+        5,
+    ),
+    (
+        "a file that is missing behind a refused one",
+        &["explain", "g", "16", "cut", "missing"],
+        &[],
+        "",
+        "gpurace: read fault\n",
+        5,
+    ),
+    (
+        "a file without memory to open it",
+        &["explain", "g", "16", "wanting"],
+        &[],
+        "",
+        "gpurace: out of memory\n",
+        4,
+    ),
+    (
+        "a file that is cut off",
+        &["explain", "g", "16", "cut"],
+        &[],
+        "",
+        "gpurace: stream 0: truncated\n",
+        2,
+    ),
+    (
+        "two files of one group",
+        &["explain", "g", "16", "race", "back"],
+        &[],
+        "",
+        "gpurace: stream 1: group given twice\n",
+        2,
+    ),
+    (
         "help on packing",
         &["pack", "--help"],
         &[],
@@ -178,6 +362,24 @@ const CASES: [Case; 23] = [
 
 const RACE_TEXT: &str = "group 0 items 2 launch 7\n0 w g 16\n1 r g 16\nend\n";
 
+const MISNAMED: &str = "error: SPACE and WORD name no word of memory: ";
+
+/// The bytes of a file by its name.
+fn open_stored<'a>(name: &str, back: &'a [u8]) -> io::Result<&'a [u8]> {
+    match name {
+        "back" => Ok(back),
+        "race" => Ok(RACE.as_slice()),
+        "cut" => Ok(CUT_OFF.as_slice()),
+        "wanting" => Err(io::Error::from(ErrorKind::OutOfMemory)),
+        _ => Err(io::Error::from(ErrorKind::NotFound)),
+    }
+}
+
+/// Opens no file.
+fn open_none(_: &str) -> io::Result<&'static [u8]> {
+    Err(io::Error::from(ErrorKind::NotFound))
+}
+
 /// Whether the text begins so, or is empty too.
 fn begins(text: &[u8], front: &str) -> bool {
     text.starts_with(front.as_bytes()) && (text.is_empty() == front.is_empty())
@@ -185,11 +387,19 @@ fn begins(text: &[u8], front: &str) -> bool {
 
 #[test]
 fn words_and_input_give_output_and_status(rt: HostRuntime) -> Result<(), Fail> {
+    let back = pack_text(rt.alloc(), HANDED_BACK_BY_ONE.as_bytes())?;
     for (name, words, input, wanted, wanted_errors, wanted_status) in &CASES {
         let mut reader = *input;
         let mut output = Vec::new(rt.alloc());
         let mut errors = Vec::new(rt.alloc());
-        let status = execute(rt.alloc(), words, &mut reader, &mut output, &mut errors);
+        let status = execute(
+            rt.alloc(),
+            words,
+            &mut reader,
+            |name| open_stored(name, &back),
+            &mut output,
+            &mut errors,
+        );
         assert_eq!(rt; status, *wanted_status, "{name}");
         assert!(rt; begins(output.as_slice(), wanted), "output of {name}");
         assert!(rt;
@@ -205,7 +415,14 @@ fn packing_gives_the_bytes(rt: HostRuntime) -> Result<(), Fail> {
     let mut reader = RACE_TEXT.as_bytes();
     let mut output = Vec::new(rt.alloc());
     let mut errors = Vec::new(rt.alloc());
-    let status = execute(rt.alloc(), &["pack"], &mut reader, &mut output, &mut errors);
+    let status = execute(
+        rt.alloc(),
+        &["pack"],
+        &mut reader,
+        open_none,
+        &mut output,
+        &mut errors,
+    );
     assert_eq!(rt; status, 0);
     assert!(rt; output.as_slice() == RACE.as_slice() && errors.is_empty());
     Ok(())
@@ -234,7 +451,14 @@ impl Write for Broken {
 /// The status of a run over an output that fails, with what is told on standard error.
 fn status_over_broken_output(alloc: Global, words: &[&str], errors: &mut Vec<u8>) -> u8 {
     let mut reader = RACE.as_slice();
-    execute(alloc, words, &mut reader, &mut Broken, errors)
+    execute(
+        alloc,
+        words,
+        &mut reader,
+        |_| Ok(RACE.as_slice()),
+        &mut Broken,
+        errors,
+    )
 }
 
 #[test]
@@ -242,7 +466,14 @@ fn input_and_output_that_fail_are_told(rt: HostRuntime) -> Result<(), Fail> {
     let alloc = rt.alloc();
     let mut output = Vec::new(alloc);
     let mut errors = Vec::new(alloc);
-    let status = execute(alloc, &["replay"], &mut Broken, &mut output, &mut errors);
+    let status = execute(
+        alloc,
+        &["replay"],
+        &mut Broken,
+        open_none,
+        &mut output,
+        &mut errors,
+    );
     assert_eq!(rt; status, 5, "reader");
     assert!(rt; output.is_empty(), "nothing is written");
     let status = status_over_broken_output(alloc, &["replay"], &mut errors);
@@ -251,8 +482,22 @@ fn input_and_output_that_fail_are_told(rt: HostRuntime) -> Result<(), Fail> {
     assert_eq!(rt; status, 5, "help");
     let status = status_over_broken_output(alloc, &["dump"], &mut errors);
     assert_eq!(rt; status, 5, "text");
-    let told =
-        b"gpurace: read fault\ngpurace: write fault\ngpurace: write fault\ngpurace: write fault\n";
+    let status = status_over_broken_output(alloc, &["explain", "g", "16", "race"], &mut errors);
+    assert_eq!(rt; status, 5, "line");
+    let words = ["explain", "g", "16", "broken"];
+    let mut reader = RACE.as_slice();
+    let status = execute(
+        alloc,
+        &words,
+        &mut reader,
+        |_| Ok(Broken),
+        &mut output,
+        &mut errors,
+    );
+    assert_eq!(rt; status, 5, "file");
+    assert!(rt; output.is_empty(), "nothing is written");
+    let told = b"gpurace: read fault\ngpurace: write fault\ngpurace: write fault\n\
+        gpurace: write fault\ngpurace: write fault\ngpurace: read fault\n";
     assert_eq!(rt; errors.as_slice(), told.as_slice());
     Ok(())
 }
@@ -261,10 +506,34 @@ fn input_and_output_that_fail_are_told(rt: HostRuntime) -> Result<(), Fail> {
 fn errors_that_can_not_be_told_keep_their_status(rt: HostRuntime) {
     let alloc = rt.alloc();
     let mut reader = CUT_OFF.as_slice();
-    let status = execute(alloc, &["--quiet"], &mut reader, &mut Broken, &mut Broken);
+    let status = execute(
+        alloc,
+        &["--quiet"],
+        &mut reader,
+        open_none,
+        &mut Broken,
+        &mut Broken,
+    );
     assert_eq!(rt; status, 3, "usage");
-    let status = execute(alloc, &["replay"], &mut reader, &mut Broken, &mut Broken);
+    let status = execute(
+        alloc,
+        &["replay"],
+        &mut reader,
+        open_none,
+        &mut Broken,
+        &mut Broken,
+    );
     assert_eq!(rt; status, 2, "a trace that is cut off");
+    let words = ["explain", "l64", "16", "file"];
+    let status = execute(
+        alloc,
+        &words,
+        &mut reader,
+        open_none,
+        &mut Broken,
+        &mut Broken,
+    );
+    assert_eq!(rt; status, 3, "a word that is misnamed");
 }
 
 const STATUSES: [(Fault, u8); 15] = [

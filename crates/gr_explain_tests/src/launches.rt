@@ -20,10 +20,11 @@ pub(crate) type Places = (Place, Place);
 pub(crate) type Case = (&'static str, &'static str, Word, Option<Places>);
 
 /// A write and a read of two items.
-const RACE: &str = "group 0 items 2 launch 7\n0 w g 16\n1 r g 16\nend\n";
+pub(crate) const RACE: &str = "group 0 items 2 launch 7\n0 w g 16\n1 r g 16\nend\n";
 
 /// A local word is handed over by a release on a global one.
-const HANDED_IN_THE_OTHER_MEMORY: &str = "group 0 items 2 launch 7\n0 w l 4\n0 st g 20 dev rel\n\
+pub(crate) const HANDED_IN_THE_OTHER_MEMORY: &str =
+    "group 0 items 2 launch 7\n0 w l 4\n0 st g 20 dev rel\n\
      1 ld g 20 dev acq < 0 0 0\n1 r l 4\nend\n";
 
 /// A word is handed from group to group, at work-group scope.
@@ -31,7 +32,7 @@ const HANDED_AT_GROUP_SCOPE: &str = "group 0 items 1 launch 7\n0 w g 16\n0 st g 
      group 1 items 1 launch 7\n0 ld g 20 grp acq < 0 0 0\n0 r g 16\nend\n";
 
 /// A word is handed to two items, and only one of them hands it back.
-const HANDED_BACK_BY_ONE: &str =
+pub(crate) const HANDED_BACK_BY_ONE: &str =
     "group 0 items 3 launch 7\n0 w g 16\n0 st g 20 dev rel\n1 ld g 20 dev acq < 0 0 0\n1 r g 16\n\
      2 ld g 20 dev acq < 0 0 0\n2 r g 16\n2 st g 24 dev rel\n0 ld g 24 dev acq < 0 2 0\n0 w g 16\nend\n";
 

@@ -1,9 +1,16 @@
-//! Tests of `gr_explain`: the least racing pairs of launches by hand, and growths that are refused.
+//! Tests of `gr_explain` and `gr_show`: the least racing pairs of launches by hand, their lines, and growths, reads and
+//! writes that are refused.
 #![tactic(auto)]
 
+#[cfg(test)]
+mod ends;
 #[cfg(test)]
 mod growths;
 #[cfg(test)]
 mod launches;
 #[cfg(test)]
 mod pairs;
+#[cfg(test)]
+mod shown;
+#[cfg(test)]
+mod words;

@@ -32,7 +32,7 @@ pub fn put<W: Write>(writer: &mut W, bytes: &[u8]) -> Result<(), WriteFault>
 }
 
 /// Writes a word, and a number after it.
-pub(crate) fn put_field<W: Write, N: Integer>(
+pub fn put_field<W: Write, N: Integer>(
     writer: &mut W,
     word: &[u8],
     n: N,

@@ -1,7 +1,7 @@
 use Rattle.std.proofs.Common.{◌≡◌, ◌∙◌, ap, ap₂, true, codes, []}
 use Rattle.std.proofs.lemmas.Result.{IfOk-weaker}
 use Rattle.clap.specs.Words.{App, app_of, new_app, with_subcommand}
-use Rattle.gr_cli.specs.Words.{alone, command_named}
+use Rattle.gr_cli.specs.Words.{alone, command_named, tasks}
 use Rattle.gr_cli.proofs.arguments.command.Goals as goal
 
 pub returns : goal.returns
@@ -10,4 +10,5 @@ returns c =
     let above_is : app_of c.after_help.result ≡ record { top = alone; subs = [] } = rw (c.after_help.ensures, c.long_about.ensures, c.about.ensures, c.version.ensures, c.no_binary_name.ensures) (ap (λ (a : App). record { top = record a.top { no_binary_name = true; has_version = true }; subs = a.subs }) named) in
     let first : app_of c.in_ok-subcommand.field-0 ≡ with_subcommand (record { top = alone; subs = [] }) (command_named (codes "replay")) = c.in_ok-subcommand.ensures.shape c.plain_command-replay.ensures.alone ∙ ap₂ with_subcommand above_is c.plain_command-replay.ensures.shape in
     let second : app_of c.in_ok-subcommand-2.field-0 ≡ with_subcommand (with_subcommand (record { top = alone; subs = [] }) (command_named (codes "replay"))) (command_named (codes "pack")) = c.in_ok-subcommand-2.ensures.shape c.plain_command-pack.ensures.alone ∙ ap₂ with_subcommand first c.plain_command-pack.ensures.shape in
-    IfOk-weaker c.subcommand-3.result _ _ (λ command added. added.shape c.plain_command-dump.ensures.alone ∙ ap₂ with_subcommand second c.plain_command-dump.ensures.shape) c.subcommand-3.ensures
+    let third : app_of c.in_ok-subcommand-3.field-0 ≡ tasks = c.in_ok-subcommand-3.ensures.shape c.plain_command-dump.ensures.alone ∙ ap₂ with_subcommand second c.plain_command-dump.ensures.shape in
+    IfOk-weaker c.subcommand-4.result _ _ (λ command added. added.shape c.in_ok-explain.ensures.alone ∙ ap₂ with_subcommand third c.in_ok-explain.ensures.shape) c.subcommand-4.ensures

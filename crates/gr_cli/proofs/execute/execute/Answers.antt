@@ -1,7 +1,8 @@
-use Rattle.std.proofs.Common.{subst}
+use Rattle.std.proofs.Common.{◌∙◌, inr, subst, sym}
 use Rattle.gr_cli.specs.Answers.{IsAnswerOf}
 use Rattle.gr_cli.specs.declared.arguments.Task.{Task}
-use Rattle.gr_cli.proofs.AnswerLemmas.{wrong_of, help_of, no_memory}
+use Rattle.gr_cli.proofs.AnswerLemmas.{wrong_of, help_of, no_memory, no_memory_to_display, only_memory}
+use Rattle.gr_cli.proofs.Asking.{same_task, show_is_no_task, misnamed_is_no_task}
 use Rattle.gr_cli.proofs.execute.execute.Goals as goal
 
 pub returns-in-Err-clause-wrong : goal.returns-in-Err-clause-wrong
@@ -10,11 +11,43 @@ returns-in-Err-clause-wrong g c = wrong_of _ _ _ _ _ _ _ c.explain_usage.ensures
 pub returns-in-Err-clause-help : goal.returns-in-Err-clause-help
 returns-in-Err-clause-help g c = help_of _ _ _ _ _ _ _ c.explain_usage.ensures.memory c.in-Err.ensures.fails c.explain_usage.ensures.help
 
-pub returns-in-Ok-clause-does : goal.returns-in-Ok-clause-does
-returns-in-Ok-clause-does g c = λ t asks.
+pub returns-in-Ok-Perform-clause-does : goal.returns-in-Ok-Perform-clause-does
+returns-in-Ok-Perform-clause-does g c = λ t asks.
     subst
     (λ (u : Task). IsAnswerOf u (g.R.Read.remaining c.args.reader.now) (g.W.Write.contents c.args.writer.now) (g.W.Write.contents c.perform.new.writer) (g.E.Write.contents c.args.errors.now) (g.E.Write.contents c.perform.new.errors) c.perform.result)
-    (c.in-Ok.ensures.task t asks) c.perform.ensures
+    (same_task c.in-Ok-Perform.task t (sym c.in-Ok-Perform.field-0-is ∙ c.in-Ok-Perform.ensures.task t asks)) c.perform.ensures
+
+pub returns-in-Ok-Perform-clause-shows : goal.returns-in-Ok-Perform-clause-shows
+returns-in-Ok-Perform-clause-shows g c = λ w names asks.
+    let no = rw c.in-Ok-Perform.field-0-is at (c.in-Ok-Perform.ensures.question w names asks) in
+    absurd no
+
+pub returns-in-Ok-Show-clause-does : goal.returns-in-Ok-Show-clause-does
+returns-in-Ok-Show-clause-does g c = λ t asks.
+    absurd (show_is_no_task c.in-Ok-Show.question t (sym c.in-Ok-Show.field-0-is ∙ c.in-Ok-Show.ensures.task t asks))
+
+pub returns-in-Ok-Show-clause-shows : goal.returns-in-Ok-Show-clause-shows
+returns-in-Ok-Show-clause-shows g c = λ w names asks.
+    let is = rw c.in-Ok-Show.field-0-is at (c.in-Ok-Show.ensures.question w names asks) in
+    rw (is.0, is.1) at c.show.ensures
+
+pub returns-in-Ok-Misnamed-clause-does : goal.returns-in-Ok-Misnamed-clause-does
+returns-in-Ok-Misnamed-clause-does g c = λ t asks.
+    absurd (misnamed_is_no_task t (sym c.in-Ok-Misnamed.field-0-is ∙ c.in-Ok-Misnamed.ensures.task t asks))
+
+pub returns-in-Ok-Misnamed-clause-shows : goal.returns-in-Ok-Misnamed-clause-shows
+returns-in-Ok-Misnamed-clause-shows g c = λ w names asks.
+    let no = rw c.in-Ok-Misnamed.field-0-is at (c.in-Ok-Misnamed.ensures.question w names asks) in
+    absurd no
 
 pub returns-in-Err-clause-does : goal.returns-in-Err-clause-does
 returns-in-Err-clause-does g c = λ t asks. no_memory t (g.R.Read.remaining c.args.reader.now) _ _ _ _ _ (c.explain_usage.ensures.memory (c.in-Err.ensures.memory t asks))
+
+pub returns-in-Err-clause-shows : goal.returns-in-Err-clause-shows
+returns-in-Err-clause-shows g c = λ w names asks.
+    no_memory_to_display g.T.Read.remaining _ _ _ _ _ _ _ _ (c.explain_usage.ensures.memory (only_memory _ _ asks.asks.taken c.in-Err.ensures.fails))
+
+pub returns-in-Err-clause-misnamed : goal.returns-in-Err-clause-misnamed
+returns-in-Err-clause-misnamed g c = λ is.
+    let told = c.explain_usage.ensures.memory (only_memory _ _ is.asks.taken c.in-Err.ensures.fails) in
+    (inr told.ends, told.untouched (λ e. cc))

@@ -1,0 +1,76 @@
+-- What the values of the command `explain` ask for.
+use Rattle.std.proofs.Common.{◌≡◌, ◌∙◌, List, Option, None, Some, Bool, true, false, true≢false, sym, ap, map, Bor, codes, refl}
+use Rattle.std.specs.Prelude.{option_map, is_some}
+use Rattle.clap.specs.declared.parser.matches.Found.{Found}
+use Rattle.clap.specs.Matches.{first_value, matched_of, raw_values}
+use Rattle.clap.specs.Walk.{Row, Text, all_of, first_of, rows_of}
+use Rattle.clap.proofs.WalkLemmas.{first_value-rows, raw_values-rows}
+use Rattle.gr_model.specs.declared.event.Word.{Word}
+use Rattle.gr_show.specs.Naming.{Names}
+use Rattle.gr_show.proofs.NamingLemmas.{names_one}
+use Rattle.gr_cli.specs.declared.arguments.Question.{Question}
+use Rattle.gr_cli.specs.declared.arguments.Request.{Request}
+use Rattle.gr_cli.specs.declared.arguments.Task.{Task}
+use Rattle.gr_cli.specs.declared.arguments.Request.TheVariants.{Perform, Show, Misnamed}
+use Rattle.gr_cli.specs.Questions.{IsNamed, IsQuestion, IsRequestOf}
+
+nothing_is_some : {X : Type 0} (x : X) → None ≡ Some x → ⊥
+nothing_is_some {X = X} x e = true≢false (sym (ap (λ (o : Option X). is_some o) e))
+
+injected : {X : Type 0} (x y : X) → Some x ≡ Some y → x ≡ y
+injected x y e = cc
+
+module _ (f : Found) (id : Text) (o : Option (Bor Text)) (e : option_map (λ s. s.now) o ≡ first_value f id) where
+  pub text_is : (x : Bor Text) → o ≡ Some x → first_of id (rows_of f) ≡ Some x.now
+  text_is x is = sym (first_value-rows f id) ∙ sym e ∙ ap (option_map (λ s. s.now)) is
+
+  pub no_text : o ≡ None → (t : Text) → first_of id (rows_of f) ≡ Some t → ⊥
+  no_text none t at = nothing_is_some t (sym (ap (option_map (λ (s : Bor Text). s.now)) none) ∙ e ∙ first_value-rows f id ∙ at)
+
+module _ (f : Found) (id : Text) (o : Option (Bor (List (Bor Text)))) (e : option_map (λ s. map (λ v. v.now) s.now) o ≡ option_map raw_values (matched_of f id)) where
+  pub texts_are : (x : Bor (List (Bor Text))) → o ≡ Some x → all_of id (rows_of f) ≡ Some (map (λ v. v.now) x.now)
+  texts_are x is = sym (raw_values-rows f id) ∙ sym e ∙ ap (option_map (λ s. map (λ v. v.now) s.now)) is
+
+  pub no_texts : o ≡ None → (ts : List Text) → all_of id (rows_of f) ≡ Some ts → ⊥
+  no_texts none ts at = nothing_is_some ts (sym (ap (option_map (λ (s : Bor (List (Bor Text))). map (λ v. v.now) s.now)) none) ∙ e ∙ raw_values-rows f id ∙ at)
+
+-- where the space and the number name no word, the values do not
+pub unnamed : (rows : List Row) (space number : Text) → first_of (codes "SPACE") rows ≡ Some space → first_of (codes "WORD") rows ≡ Some number → ((w : Word) → Names space number w → ⊥) → (w : Word) (files : List Text) → IsNamed rows w files → ⊥
+unnamed rows space number at_space at_number none w files is =
+    let same_space : is.space ≡ space = injected is.space space (sym is.at_space ∙ at_space) in
+    let same_number : is.number ≡ number = injected is.number number (sym is.at_number ∙ at_number) in
+    none w (rw (same_space, same_number) at is.names)
+
+-- the values name one word at most, and the files
+same_word : (rows : List Row) (v w : Word) (some other : List Text) → IsNamed rows v some → IsNamed rows w other → (v ≡ w) × (some ≡ other)
+same_word rows v w some other a b =
+    let same_space : b.space ≡ a.space = injected b.space a.space (sym b.at_space ∙ a.at_space) in
+    let same_number : b.number ≡ a.number = injected b.number a.number (sym b.at_number ∙ a.at_number) in
+    (names_one a.space a.number v w a.names (rw (same_space, same_number) at b.names), injected some other (sym a.at_files ∙ b.at_files))
+
+pub asked : (rows : List Row) (r : Request) (w : Word) (files : List Text) → IsRequestOf rows r → IsNamed rows w files → IsQuestion w files r
+asked rows (Show q) w files h named = same_word rows q.word w (map (λ s. s.now) q.files.items) files h named
+asked rows Misnamed w files h named = h w files named
+asked rows (Perform t) w files h named = h
+
+pub not_asked : (rows : List Row) (r : Request) → IsRequestOf rows r → ((w : Word) (files : List Text) → IsNamed rows w files → ⊥) → r ≡ Misnamed
+not_asked rows (Show q) h none = absurd (none q.word (map (λ s. s.now) q.files.items) h)
+not_asked rows Misnamed h none = refl
+not_asked rows (Perform t) h none = absurd h
+
+-- ---- requests of other kinds
+
+pub same_task : (t u : Task) → Perform t ≡ Perform u → t ≡ u
+same_task t u e = cc
+
+is_task : Request → Bool
+is_task (Perform t) = true
+is_task _ = false
+
+pub show_is_no_task : (q : Question) (u : Task) → Show q ≡ Perform u → ⊥
+unfolding is_task
+show_is_no_task q u e = true≢false (sym (ap is_task e))
+
+pub misnamed_is_no_task : (u : Task) → Misnamed ≡ Perform u → ⊥
+unfolding is_task
+misnamed_is_no_task u e = true≢false (sym (ap is_task e))

@@ -1,0 +1,107 @@
+use Rattle.std.proofs.Common.{◌≡◌, ◌∙◌, ap, ap₂, true, true≢false, refl, sym, subst, List, Some, None, map, inl, inr}
+use Rattle.clap.specs.Words.{App, HasKind, Kinds, Text, app_of, takes, kind_of, fault_of, is_simple_and_free}
+use Rattle.clap.specs.declared.error.kind.ErrorKind.TheVariants.{OutOfMemory}
+use Rattle.clap.proofs.OnLiterals.{clap_on_literals}
+use Rattle.gr_cli.specs.declared.arguments.Request.TheVariants.{Perform}
+use Rattle.gr_cli.specs.declared.arguments.Task.{Task}
+use Rattle.gr_cli.specs.Words.{gpurace, faults, name_of, AsksFor}
+use Rattle.gr_cli.proofs.AnswerLemmas.{if_err, fails_by}
+use Rattle.gr_cli.proofs.Asking.{asked, not_asked}
+use Rattle.gr_cli.proofs.Naming.{no_word_is_taken, command_is_taken, no_name, name_is, no_task, explain_is_named, values_are}
+use Rattle.gr_cli.proofs.arguments.request_of.Goals as goal
+
+gpurace_is_simple : is_simple_and_free gpurace ≡ true
+unfolding clap_on_literals
+gpurace_is_simple = refl
+
+pub returns-in_err-matches-clause-memory : goal.returns-in_err-matches-clause-memory
+returns-in_err-matches-clause-memory g c =
+    let taken : (t : Task) → AsksFor t (map g.S.AsStr.text c.args.words.now) → takes (app_of c.in_ok-command.field-0) (map g.S.AsStr.text c.args.words.now) ≡ true =
+    λ t asks. elim asks [
+      | inl e ↦ ap₂ takes c.in_ok-command.ensures e ∙ command_is_taken t
+      | inr e ↦ ap₂ takes c.in_ok-command.ensures e.0 ∙ no_word_is_taken
+    ] in
+    let kind : (t : Task) → AsksFor t (map g.S.AsStr.text c.args.words.now) → kind_of c.in_err-matches.field-0.0 ≡ OutOfMemory = λ t asks. c.in_err-matches.ensures.passes (taken t asks) in
+    if_err c.from_residual-in_err-matches.result (λ e same t asks. rw same (kind t asks)) c.from_residual-in_err-matches.ensures.1
+
+-- the command that was built has the program's faults
+faults_are : (command : App) (words : List Text) → command ≡ gpurace → fault_of command words ≡ faults words
+unfolding faults
+faults_are command words same = ap (λ (a : App). fault_of a words) same
+
+pub returns-in_err-matches-clause-fails : goal.returns-in_err-matches-clause-fails
+returns-in_err-matches-clause-fails g c =
+    let words = map g.S.AsStr.text c.args.words.now in
+    let kind = c.in_err-matches.ensures.kinds (ap is_simple_and_free c.in_ok-command.ensures ∙ gpurace_is_simple) in
+    fails_by (faults words) c.in_err-matches.field-0.0 c.from_residual-in_err-matches.result c.from_residual-in_err-matches.ensures.1
+    (subst (λ (kinds : Kinds). HasKind kinds c.in_err-matches.field-0.0) (faults_are (app_of c.in_ok-command.field-0) words c.in_ok-command.ensures) kind)
+
+pub returns-in-None-clause-fails : goal.returns-in-None-clause-fails
+returns-in-None-clause-fails g c =
+    let none = c.in_ok-matches.ensures.kinds (ap is_simple_and_free c.in_ok-command.ensures ∙ gpurace_is_simple) in
+    sym (faults_are (app_of c.in_ok-command.field-0) (map g.S.AsStr.text c.args.words.now) c.in_ok-command.ensures) ∙ none
+
+pub returns-clause-fails : goal.returns-clause-fails
+returns-clause-fails g c =
+    let none = c.in_ok-matches.ensures.kinds (ap is_simple_and_free c.in_ok-command.ensures ∙ gpurace_is_simple) in
+    sym (faults_are (app_of c.in_ok-command.field-0) (map g.S.AsStr.text c.args.words.now) c.in_ok-command.ensures) ∙ none
+
+pub returns-in-Some-clause-fails : goal.returns-in-Some-clause-fails
+returns-in-Some-clause-fails g c =
+    let none = c.in_ok-matches.ensures.kinds (ap is_simple_and_free c.in_ok-command.ensures ∙ gpurace_is_simple) in
+    sym (faults_are (app_of c.in_ok-command.field-0) (map g.S.AsStr.text c.args.words.now) c.in_ok-command.ensures) ∙ none
+
+-- where the command `explain` was met, the words ask for no task
+
+pub returns-in-Some-clause-task : goal.returns-in-Some-clause-task
+returns-in-Some-clause-task g c = λ u asks.
+    absurd (no_task (app_of c.in_ok-command.field-0) c.in_ok-matches.matches c.in_ok-command.ensures (map g.S.AsStr.text c.args.words.now) c.in_ok-matches.ensures.matches u asks (c.in-Some.ensures.found.0 refl))
+
+pub returns-in-Some-clause-question : goal.returns-in-Some-clause-question
+returns-in-Some-clause-question g c = λ w names asks.
+    let rows = values_are (app_of c.in_ok-command.field-0) c.in_ok-matches.matches c.in_ok-command.ensures (map g.S.AsStr.text c.args.words.now) c.in_ok-matches.ensures.matches asks.rows asks.asks.met _ c.in-Some.ensures.rows in
+    asked asks.rows c.in_ok-question_of.field-0 w names (rw rows c.in_ok-question_of.ensures) asks.named
+
+pub returns-in-Some-clause-misnamed : goal.returns-in-Some-clause-misnamed
+returns-in-Some-clause-misnamed g c = λ is.
+    let rows = values_are (app_of c.in_ok-command.field-0) c.in_ok-matches.matches c.in_ok-command.ensures (map g.S.AsStr.text c.args.words.now) c.in_ok-matches.ensures.matches is.rows is.asks.met _ c.in-Some.ensures.rows in
+    not_asked is.rows c.in_ok-question_of.field-0 (rw rows c.in_ok-question_of.ensures) is.unnamed
+
+-- and where it was not, they do not ask for a word
+
+pub returns-in-None-clause-question : goal.returns-in-None-clause-question
+returns-in-None-clause-question g c = λ w names asks.
+    true≢false (sym (c.in_default.ensures.found.1 (explain_is_named (app_of c.in_ok-command.field-0) c.in_ok-matches.matches c.in_ok-command.ensures (map g.S.AsStr.text c.args.words.now) c.in_ok-matches.ensures.matches asks.rows asks.asks.met)))
+
+pub returns-in-None-clause-misnamed : goal.returns-in-None-clause-misnamed
+returns-in-None-clause-misnamed g c = λ is.
+    absurd (true≢false (sym (c.in_default.ensures.found.1 (explain_is_named (app_of c.in_ok-command.field-0) c.in_ok-matches.matches c.in_ok-command.ensures (map g.S.AsStr.text c.args.words.now) c.in_ok-matches.ensures.matches is.rows is.asks.met))))
+
+pub returns-clause-question : goal.returns-clause-question
+returns-clause-question g c = λ w names asks.
+    true≢false (sym (c.in_default.ensures.found.1 (explain_is_named (app_of c.in_ok-command.field-0) c.in_ok-matches.matches c.in_ok-command.ensures (map g.S.AsStr.text c.args.words.now) c.in_ok-matches.ensures.matches asks.rows asks.asks.met)))
+
+pub returns-clause-misnamed : goal.returns-clause-misnamed
+returns-clause-misnamed g c = λ is.
+    absurd (true≢false (sym (c.in_default.ensures.found.1 (explain_is_named (app_of c.in_ok-command.field-0) c.in_ok-matches.matches c.in_ok-command.ensures (map g.S.AsStr.text c.args.words.now) c.in_ok-matches.ensures.matches is.rows is.asks.met))))
+
+-- where no command was met, the words ask for a report
+pub returns-in-None-clause-task : goal.returns-in-None-clause-task
+returns-in-None-clause-task g c = λ u asks.
+    ap Perform (elim asks [
+      | inl e ↦
+          let no : None ≡ Some (name_of u) = c.in-None.ensures ∙ name_is (app_of c.in_ok-command.field-0) c.in_ok-matches.matches c.in_ok-command.ensures (map g.S.AsStr.text c.args.words.now) c.in_ok-matches.ensures.matches u e in
+          absurd cc
+      | inr e ↦ sym e.1
+    ])
+
+pub returns-clause-task : goal.returns-clause-task
+returns-clause-task g c = λ u asks.
+    ap Perform (elim asks [
+      | inl e ↦
+          let is : Some c.in-Some-subcommand_name.name.now ≡ Some (name_of u) = c.in-Some-subcommand_name.ensures ∙ name_is (app_of c.in_ok-command.field-0) c.in_ok-matches.matches c.in_ok-command.ensures (map g.S.AsStr.text c.args.words.now) c.in_ok-matches.ensures.matches u e in
+          c.task_named.ensures u (let same : c.in-Some-subcommand_name.name.now ≡ name_of u = cc in same)
+      | inr e ↦
+          let no : Some c.in-Some-subcommand_name.name.now ≡ None = c.in-Some-subcommand_name.ensures ∙ no_name (app_of c.in_ok-command.field-0) c.in_ok-matches.matches c.in_ok-command.ensures (map g.S.AsStr.text c.args.words.now) c.in_ok-matches.ensures.matches e.0 in
+          absurd cc
+    ])

@@ -1,0 +1,4 @@
+pub mod Explanations
+pub mod Naming
+pub mod Opening
+pub mod Shown

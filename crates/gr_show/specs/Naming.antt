@@ -1,0 +1,25 @@
+-- The word of memory that a space and a number name, as they are written on a command line.
+-- Source: docs/FORMATS.md, "Explanation".
+use Rattle.std.specs.Prelude.{◌≡◌, ◌<◌, ◌^◌, ◌++◌, ℕ, List, codes}
+use Rattle.std.specs.Str.Parse.{IsNumeral, digits_value}
+use Rattle.gr_model.specs.declared.event.Word.{Word}
+use Rattle.gr_model.specs.declared.event.Word.TheVariants.{Global, Local}
+use Rattle.gr_model.specs.declared.limits.TheConstants.{MOST_GROUPS}
+
+-- decimal digits, at least one, that write this number below 2^32
+pub record IsNumber (text : List ℕ) (n : ℕ) : Type 0 where
+  pub digits : IsNumeral 10 text
+  pub value : digits_value 10 text ≡ n
+  pub below : n < 2 ^ 32
+
+-- an l, and the number of a group
+pub record IsGroupOf (space : List ℕ) (g : ℕ) : Type 0 where
+  pub number : List ℕ
+  pub spelled : space ≡ codes "l" ++ number
+  pub is : IsNumber number g
+  pub below : g < MOST_GROUPS
+
+-- the space and the number name the word
+abbrev pub Names : List ℕ → List ℕ → Word → Type 0
+Names space number (Global n) = (space ≡ codes "g") × IsNumber number n
+Names space number (Local g n) = IsGroupOf space g × IsNumber number n

@@ -1,0 +1,43 @@
+//! From the readers of a launch's streams to the line of one word.
+
+ghost use Rattle.std.specs.Prelude.{◌≡◌, ◌≢◌, IfErr, IfOk, IfSome, map};
+ghost use Rattle.std.specs.Io.KnownBytes.{Keeps};
+ghost use Rattle.gr_record.specs.declared.fault.Fault.TheVariants as faults;
+ghost use Rattle.gr_replay.specs.Each.{all_known};
+ghost use Rattle.gr_show.specs.Shown.{IsShowFault, IsShown, ShowsFront};
+
+use crate::explanation::write_explanation;
+use gr_explain::explain::explain;
+use gr_model::event::Word;
+use gr_record::fault::Fault;
+use gr_replay::read_each;
+use std::alloc::Allocator;
+use std::io::{Read, Write};
+
+/// Reads the streams of a launch, one from each reader, writes the line of the word and nothing else, and tells whether
+/// the word has a race.
+///
+/// # Errors
+/// Those of `read_each`; `Write` where the writer fails, which then has a front of the line. In every other case of an
+/// error nothing is written.
+pub fn show_race<A: Allocator + Copy, T: Read + Drop, W: Write>(
+    alloc: A,
+    readers: Vec<T, A>,
+    word: Word,
+    writer: &mut W,
+) -> Result<bool, Fault>
+    ensures shown { IfOk result (λ found. IsShown (all_known (map T.remaining readers.items)) word found (W.contents writer.old) (W.contents writer.new)) }
+    ensures fault { IfErr result (λ f. IfSome (all_known (map T.remaining readers.items)) (λ inputs. IsShowFault inputs f)) }
+
+    // What a refusal leaves with the writer.
+    ensures untouched { IfErr result (λ f. f ≢ faults.Write → Keeps (W.contents writer.old) (W.contents writer.new)) }
+    ensures front { IfErr result (λ f. f ≡ faults.Write → ShowsFront (all_known (map T.remaining readers.items)) word (W.contents writer.old) (W.contents writer.new)) }
+    ensures threads { IfErr result (λ f. f ≢ faults.Threads) }
+{
+    let traces = read_each(alloc, readers)?;
+    let pair = explain(alloc, &traces, word)?;
+    match write_explanation(writer, word, pair) {
+        Ok(()) => Ok(pair.is_some()),
+        Err(_) => Err(Fault::Write),
+    }
+}
