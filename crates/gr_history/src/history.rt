@@ -1,4 +1,4 @@
-//! A list that exists in proofs alone: it takes no bytes, and grows at its end.
+//! A list that exists in proofs alone. It takes no bytes, and grows at its end.
 
 ghost use Rattle.std.specs.Prelude.{◌≡◌, [], ◌∷◌, ◌++◌};
 
@@ -15,7 +15,7 @@ enum Past<T> {
     Then(Snapshot<Past<T>>, Snapshot<T>),
 }
 
-/// A list that exists in proofs alone. Contracts see the list; no code can read it.
+/// A list that exists in proofs alone and takes no bytes. Contracts see the list; no code can read it.
 #[derive(Drop)]
 pub struct History<T> {
     past: Snapshot<Past<T>>,
@@ -41,7 +41,7 @@ impl<T> History<T> {
         }
     }
 
-    /// Adds an element at the end, which stays its owner's.
+    /// Adds an element at the end of the list. The element stays the caller's.
     pub fn push(&mut self, element: &T)
         ensures { self.new ≡ self.old ++ element.now ∷ [] }
     {

@@ -1,4 +1,4 @@
-//! Lists that contracts see and memory does not hold.
+//! Lists that exist in proofs alone and take no bytes.
 #![tactic(auto)]
 
 pub mod history;

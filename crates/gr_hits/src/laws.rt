@@ -2,23 +2,24 @@
 
 ghost use Rattle.gr_hits.specs.Laws.{AccessesStay, HandledAdds, HitsAreClashes, LawfulHitsAreRaces, MetAddNone, OthersAddNone, WholeHitsAreRaces};
 
-/// A word is hit in the accesses along an order exactly where two events of the order clash on it. Where the order is
-/// lawful the word is then racy within it, and where it has all grounded events, among these.
+/// A word is hit in the accesses along an order exactly where two events of the order clash on it. If the order is
+/// lawful, these are the words that are racy within it. If it also has all grounded events, they are those that are
+/// racy among the grounded events.
 pub fn hits_tell_races()
     ensures clashes { HitsAreClashes }
     ensures lawful { LawfulHitsAreRaces }
     ensures whole { WholeHitsAreRaces }
 {}
 
-/// An event that is handled adds its access to those along the order; an event without a word, and the barriers of an
-/// instance that meets, add none.
+/// An event that is handled adds its access to those along the order. An event without a word adds none, nor do the
+/// barriers of an instance that meets.
 pub fn steps_add_accesses()
     ensures handle { HandledAdds }
     ensures other { OthersAddNone }
     ensures meet { MetAddNone }
 {}
 
-/// The accesses along a lawful order stay so where lists that are not complete grow.
+/// The accesses along a lawful order stay the accesses along it where lists that are not complete grow.
 pub fn accesses_stay()
     ensures { AccessesStay }
 {}

@@ -23,7 +23,8 @@ pub enum ConfigError {
     BadCapacity,
 }
 
-/// How many workers and intake queues a run has, and for how many values a queue has room. Contracts see these numbers.
+/// How many workers and intake queues a run has, and for how many values each queue has room: 1 to `MOST_WORKERS`, 1 to
+/// `MOST_QUEUES` and 1 to `MOST_PLACES`. Contracts see these numbers.
 #[derive(Clone, Copy, Debug, PartialEq, Eq)]
 pub struct Config {
     workers: u16,
@@ -44,10 +45,11 @@ impl Model for Config {
 }
 
 impl Config {
-    /// The configuration of these numbers.
+    /// The configuration of so many workers and intake queues, with room for `capacity` values in each queue.
     ///
     /// # Errors
-    /// The first of `BadWorkers`, `BadQueues` and `BadCapacity` that is there.
+    /// The first of these that is there: `BadWorkers` if `workers` is not 1 to `MOST_WORKERS`; `BadQueues` if `queues`
+    /// is not 1 to `MOST_QUEUES`; `BadCapacity` if `capacity` is not 1 to `MOST_PLACES`.
     pub fn new(workers: u16, queues: u16, capacity: u32) -> Result<Config, ConfigError>
         ensures accepted { IsOk result ↔ IsConfig (record { workers = workers; queues = queues; capacity = capacity }) }
         ensures numbers { IfOk result (λ c. c ≡ record { workers = workers; queues = queues; capacity = capacity }) }
@@ -69,7 +71,7 @@ impl Config {
         })
     }
 
-    /// How many workers there are.
+    /// How many workers there are: 1 to `MOST_WORKERS`.
     pub fn workers(&self) -> u16
         ensures number { result ≡ self.now.workers }
         ensures config { IsConfig self.now }
@@ -77,7 +79,7 @@ impl Config {
         self.workers
     }
 
-    /// How many intake queues there are.
+    /// How many intake queues there are: 1 to `MOST_QUEUES`.
     pub fn queues(&self) -> u16
         ensures number { result ≡ self.now.queues }
         ensures config { IsConfig self.now }
@@ -85,7 +87,7 @@ impl Config {
         self.queues
     }
 
-    /// For how many values a queue has room.
+    /// For how many values each queue has room: 1 to `MOST_PLACES`.
     pub fn capacity(&self) -> u32
         ensures number { result ≡ self.now.capacity }
         ensures config { IsConfig self.now }
@@ -94,7 +96,8 @@ impl Config {
     }
 }
 
-/// The intake queue, of so many, that a group's events go to.
+/// The number of the intake queue, of `queues`, that a group's events go to: `group` mod `queues`.
+/// Requires: `queues` is not 0.
 pub fn queue_of(group: u16, queues: u16) -> u16
     requires { queues ≢ 0 }
     ensures { result ≡ group % queues }
@@ -102,7 +105,9 @@ pub fn queue_of(group: u16, queues: u16) -> u16
     group % queues
 }
 
-/// The worker, of so many, that the accesses to a word go to: the same one for all accesses to the word.
+/// The number of the worker, of `workers`, that the accesses to a word go to: for global word w it is w mod `workers`,
+/// for local word w of group g it is (g + w) mod `workers`. So all accesses to a word go to one worker.
+/// Requires: `workers` is not 0.
 pub fn worker_of(word: &Word, workers: u16) -> u16
     requires { workers ≢ 0 }
     ensures { result ≡ worker_number word.now workers }

@@ -12,27 +12,35 @@ use crate::limits::{MOST_GROUPS, MOST_ITEMS_OF_A_GROUP, MOST_RECORDS};
 /// One of the two memories that work-items share: the launch's global memory, or the local memory of each work-group.
 #[derive(Clone, Copy, Debug, PartialEq, Eq)]
 pub enum Space {
+    /// The global memory of the launch.
     Global,
+    /// The local memory of each work-group.
     Local,
 }
 
-/// The memory scope of an atomic operation: `memory_scope_work_group` or `memory_scope_device`.
+/// The memory scope of an atomic operation.
 #[derive(Clone, Copy, Debug, PartialEq, Eq)]
 pub enum Scope {
+    /// `memory_scope_work_group`.
     Group,
+    /// `memory_scope_device`.
     Device,
 }
 
-/// The memory order of an atomic operation; `Both` is acquire and release.
+/// The memory order of an atomic operation.
 #[derive(Clone, Copy, Debug, PartialEq, Eq)]
 pub enum Order {
+    /// `memory_order_relaxed`.
     Relaxed,
+    /// `memory_order_acquire`.
     Acquire,
+    /// `memory_order_release`.
     Release,
+    /// Acquire and release: `memory_order_acq_rel`.
     Both,
 }
 
-/// What a record says that its work-item did. `End` says that the stream of its group is over.
+/// What a record says: what its work-item did, or that the stream of its group is over.
 #[derive(Clone, Copy, Debug, PartialEq, Eq)]
 pub enum Kind {
     /// A plain read.
@@ -47,61 +55,73 @@ pub enum Kind {
     Rmw(Scope, Order),
     /// A work-group barrier, with the memories that its flags name.
     Barrier { global: bool, local: bool },
-    /// The end of the stream; `cut` where the producer lost what came after.
+    /// The end of the stream. It is `cut` if records before it were lost.
     End { cut: bool },
 }
 
-/// A work-item, by its work-group and its place in it.
+/// A work-item, by its work-group and its place in the group.
 #[derive(Clone, Copy, Debug, PartialEq, Eq, PartialOrd, Ord, Hash)]
 pub struct ItemId {
+    /// The number of the work-group, from 0.
     pub group: u16,
+    /// The place of the work-item in its group, from 0.
     pub item: u16,
 }
 
-/// An event, by its work-item and its place in that item's trace, counted from 0.
+/// An event, by its work-item and its place in that item's trace.
 #[derive(Clone, Copy, Debug, PartialEq, Eq, PartialOrd, Ord, Hash)]
 pub struct EventId {
+    /// The work-item of the event.
     pub at: ItemId,
+    /// The place of the event in the item's trace, from 0.
     pub index: u32,
 }
 
-/// The name of a release: its work-item, and its number among that item's releases, counted from 0.
+/// The name of a release: its work-item, and its number among the releases of that item.
 #[derive(Clone, Copy, Debug, PartialEq, Eq, PartialOrd, Ord)]
 pub struct Name {
+    /// The work-item of the release.
     pub at: ItemId,
+    /// The number of the release among the item's releases, from 0.
     pub release: u32,
 }
 
-/// A record of a work-group's stream: what one work-item of it did.
+/// A record of a work-group's stream: what one work-item did, or the end of the stream. (An *event* of docs/MODEL.md is
+/// a record but no end.)
 #[derive(Clone, Copy, Debug, PartialEq, Eq)]
 pub struct Event {
-    /// The work-item's place in its group; 0 for an end.
+    /// The place of the work-item in its group, from 0; 0 for an end.
     pub item: u16,
+    /// What the record says.
     pub kind: Kind,
     /// The memory of an access; `Global` for a barrier and an end.
     pub space: Space,
     /// The number of the 4-byte word of an access, or the site of a barrier; 0 for an end.
     pub word: u32,
-    /// The release whose value an acquire took, if the producer found one.
+    /// The release whose value an acquire took, if the producer found one; `None` for every other record.
     pub name: Option<Name>,
 }
 
-/// An event, and the work-group that sent it.
+/// A record, and the work-group that sent it.
 #[derive(Clone, Copy, Debug, PartialEq, Eq)]
 pub struct Sent {
+    /// The number of the work-group, from 0.
     pub group: u16,
+    /// The record.
     pub event: Event,
 }
 
-/// A location: a word of global memory, or a word of one work-group's local memory. Global words come first.
+/// A word of memory: a global word of the launch, or a local word of one work-group. Global words are below local ones.
 #[derive(Clone, Copy, Debug, PartialEq, Eq, PartialOrd, Ord, Hash)]
 pub enum Word {
+    /// The global word with this number.
     Global(u32),
+    /// Of this work-group, the local word with this number.
     Local(u16, u32),
 }
 
 impl Order {
-    /// Whether it has an acquire's half.
+    /// Whether an operation of this order is an acquire.
     pub fn acquires(self) -> bool
         ensures { result ≡ acquires self }
     {
@@ -111,7 +131,7 @@ impl Order {
         }
     }
 
-    /// Whether it has a release's half.
+    /// Whether an operation of this order is a release.
     pub fn releases(self) -> bool
         ensures { result ≡ releases self }
     {
@@ -123,7 +143,7 @@ impl Order {
 }
 
 impl Kind {
-    /// Whether it is an acquire, which may name a release.
+    /// Whether a record of this kind is an acquire, which may name a release.
     pub fn is_acquire(self) -> bool
         ensures { result ≡ is_acquire_kind self }
     {
@@ -139,7 +159,7 @@ impl Kind {
         }
     }
 
-    /// Whether it ends its stream.
+    /// Whether a record of this kind is the end of its stream.
     pub fn is_end(self) -> bool
         ensures { result ≡ is_end_kind self }
     {
@@ -148,7 +168,7 @@ impl Kind {
 }
 
 impl Event {
-    /// The end of a stream, with whether the stream was cut.
+    /// The record that ends a stream, and says whether records before it were lost.
     pub fn end(cut: bool) -> Event
         ensures { result ≡ end_of cut }
     {
@@ -163,7 +183,8 @@ impl Event {
 }
 
 impl Name {
-    /// Whether some launch could have a release of this name.
+    /// Whether some launch could have a release of this name: the group is below `MOST_GROUPS`, the item below
+    /// `MOST_ITEMS_OF_A_GROUP` and the number below `MOST_RECORDS`.
     pub fn is_in_range(self) -> bool
         ensures { IsTrue result ↔ IsNameInRange self }
     {
@@ -173,7 +194,7 @@ impl Name {
     }
 }
 
-/// Whether an event's name, if it has one, is one that it may have.
+/// Whether a record of this kind may have this name, or none.
 fn naming_ok(kind: Kind, name: Option<Name>) -> bool
     ensures { IsTrue result ↔ IsNamingOk kind name }
 {
@@ -183,7 +204,8 @@ fn naming_ok(kind: Kind, name: Option<Name>) -> bool
     }
 }
 
-/// Whether an event's order is one that its kind may have, and the fields that it leaves unused have their first values.
+/// Whether a record's order is one that its kind may have, and the fields that the kind leaves unused are 0 or
+/// `Global`.
 fn kind_ok(kind: Kind, item: u16, space: Space, word: u32) -> bool
     ensures { IsTrue result ↔ IsKindOk kind item space word }
 {
@@ -199,8 +221,9 @@ fn kind_ok(kind: Kind, item: u16, space: Space, word: u32) -> bool
     }
 }
 
-/// Whether a record is one that a work-group of so many items may have: its item is one of them, its order is one that
-/// its kind may have, and a name stands only at an acquire and is one that some launch could have.
+/// Whether a record is one that a work-group of `items` work-items may have: its item is below `items`, its order is
+/// one that its kind may have, the fields that its kind leaves unused are 0 or `Global`, and a name stands only at an
+/// acquire and is in range.
 pub fn event_ok(event: &Event, items: u16) -> bool
     ensures { IsTrue result ↔ IsEventOk event.now items }
 {

@@ -18,7 +18,7 @@ pub fn order_goes_forwards()
     ensures within { OrderStaysWithin }
 {}
 
-/// What stands in a lawful order is grounded.
+/// Each event of a lawful order is grounded.
 pub fn lawful_orders_are_grounded()
     ensures { OrderIsGrounded }
 {}
@@ -39,12 +39,13 @@ pub fn hits_are_races()
     ensures whole { WholeHitsAreRaces }
 {}
 
-/// A race of events that were taken in a lawful order is a race of the report of all lists that go on from there.
+/// A word that is racy among the events of a lawful order is racy among the grounded events of all lists to which the
+/// lists of this order grow. So a race that was found stays one.
 pub fn nothing_is_taken_back()
     ensures { RacesStay }
 {}
 
-/// What is reported is told by the lists alone: two reports of the same lists are equal.
+/// The lists alone determine the report: two reports of the same lists are equal.
 pub fn lists_have_one_report()
     ensures { ReportIsOne }
 {}

@@ -1,9 +1,9 @@
-//! The one error that any growth can meet.
+//! The error of an allocation that was refused.
 
 use std::alloc::{AllocError, AllocFailed};
 use thiserror::Error;
 
-/// Want of memory: a growth was refused. What was called is then as it was before.
+/// Out of memory: an allocation was refused. What a public method was called on is then unchanged.
 #[derive(Clone, Copy, Debug, PartialEq, Eq, Error)]
 #[error("out of memory")]
 pub struct Memory;

@@ -2,39 +2,45 @@
 
 use crate::event::EventId;
 
-/// Why the barriers of an instance are divergent: the first cause of these that is there.
+/// Why an instance of barriers is divergent: the first of these causes that is there.
 #[derive(Clone, Copy, Debug, PartialEq, Eq)]
 pub enum DivergenceCause {
-    /// The group's stream ended, and an item never came to the barrier.
+    /// The group's stream is complete, and an item has no barrier of the instance.
     Missing,
-    /// Two items came from different sites.
+    /// Two barriers of the instance have different sites.
     Site,
-    /// Two items came with different memory flags.
+    /// Two barriers of the instance have different memory flags.
     Flags,
 }
 
-/// A divergent instance of a work-group's barriers, `instance` counted from 0 in each of its items.
+/// A divergent instance of a work-group's barriers.
 #[derive(Clone, Copy, Debug, PartialEq, Eq)]
 pub struct Divergence {
+    /// The number of the work-group, from 0.
     pub group: u16,
+    /// The number of the instance: the place of its barrier among the barriers of each item, from 0.
     pub instance: u32,
+    /// Why the instance is divergent.
     pub cause: DivergenceCause,
 }
 
-/// Why an acquire is unmatched: the first cause of these that is there.
+/// Why an acquire is unmatched: the first of these causes that is there.
 #[derive(Clone, Copy, Debug, PartialEq, Eq)]
 pub enum AcquireCause {
     /// The launch has no release of that name.
     Absent,
     /// The release is on another word.
     OtherWord,
-    /// The release is never reached itself.
+    /// The release is held itself.
     Behind,
 }
 
-/// An acquire that is never reached though all before it in its item is.
+/// An unmatched acquire: it names a release, and it is held though all events before it in its item are grounded
+/// (docs/MODEL.md, "What waits for what").
 #[derive(Clone, Copy, Debug, PartialEq, Eq)]
 pub struct Unmatched {
+    /// The acquire.
     pub event: EventId,
+    /// Why it is unmatched.
     pub cause: AcquireCause,
 }

@@ -15,6 +15,7 @@ use thiserror::Error;
 /// Why sizes are no shape: the first cause that is there.
 #[derive(Clone, Copy, Debug, PartialEq, Eq, Error)]
 pub enum ShapeError {
+    /// There are no groups.
     #[error("no groups")]
     NoGroups,
     /// There are more than `MOST_GROUPS`.
@@ -28,7 +29,7 @@ pub enum ShapeError {
     TooManyItems,
 }
 
-/// How many work-items each work-group has. Contracts see the list of those numbers.
+/// How many work-items each work-group of a launch has. Contracts see the list of these numbers.
 #[derive(Drop)]
 #[derive_where(Debug)]
 pub struct Shape<A: Allocator = Global> {
@@ -56,6 +57,7 @@ fn bad_group(sizes: &[u16]) -> Option<usize>
 }
 
 /// The sum of the sizes.
+/// Requires: there are at most `MOST_GROUPS` sizes, each 1 to `MOST_ITEMS_OF_A_GROUP`.
 fn total_of(sizes: &[u16]) -> u32
     requires few { length sizes.now ≤ MOST_GROUPS }
     requires small { All IsGroupSize sizes.now }
@@ -88,10 +90,20 @@ fn fault_of(sizes: &[u16]) -> Option<ShapeError>
 }
 
 impl<A: Allocator> Shape<A> {
-    /// The shape of these sizes, by group.
+    /// The shape of a launch whose group g has `sizes[g]` work-items.
     ///
     /// # Errors
-    /// The first of `NoGroups`, `TooManyGroups`, `BadItems` with the least such group, and `TooManyItems` that is there.
+    /// The first of these that is there: `NoGroups`; `TooManyGroups`; `BadItems` with the least such group;
+    /// `TooManyItems`.
+    ///
+    /// # Example
+    /// ```rust
+    /// let shape = Shape::new(vec![in rt.alloc(); 3, 256]?).ok().ok_or("shape")?;
+    /// assert_eq!(rt; shape.groups(), 2);
+    /// assert_eq!(rt; shape.items(1), 256);
+    /// assert_eq!(rt; shape.total(), 259);
+    /// assert_eq!(rt; Shape::new(Vec::new(rt.alloc())).err(), Some(ShapeError::NoGroups));
+    /// ```
     pub fn new(sizes: Vec<u16, A>) -> Result<Shape<A>, ShapeError>
         ensures accepted { IsOk result ↔ IsShape sizes.items }
         ensures sizes { IfOk result (λ s. s ≡ sizes.items) }
@@ -103,7 +115,7 @@ impl<A: Allocator> Shape<A> {
         }
     }
 
-    /// How many work-groups there are.
+    /// How many work-groups there are: 1 to `MOST_GROUPS`.
     pub fn groups(&self) -> u16
         ensures count { result ≡ length self.now }
         ensures shape { IsShape self.now }
@@ -111,7 +123,8 @@ impl<A: Allocator> Shape<A> {
         self.sizes.len() as u16
     }
 
-    /// How many work-items a group has.
+    /// How many work-items a group has: 1 to `MOST_ITEMS_OF_A_GROUP`.
+    /// Requires: there is such a group.
     pub fn items(&self, group: u16) -> u16
         requires { group < length self.now }
         ensures size { result ≡ slice_index self.now group }
@@ -120,7 +133,7 @@ impl<A: Allocator> Shape<A> {
         self.sizes[group as usize]
     }
 
-    /// How many work-items there are.
+    /// How many work-items there are in all groups: 1 to `MOST_ITEMS`.
     pub fn total(&self) -> u32
         ensures total { result ≡ sum self.now }
         ensures shape { IsShape self.now }
@@ -138,10 +151,10 @@ impl<A: Allocator> Shape<A> {
         }
     }
 
-    /// The same shape once more.
+    /// A copy of this shape.
     ///
     /// # Errors
-    /// `Memory` where its list can't be made.
+    /// `Memory` if an allocation is refused.
     pub fn copy(&self) -> Result<Shape<A>, Memory>
     where
         A: Clone,

@@ -18,19 +18,21 @@ use thiserror::Error;
 /// Why lists are no traces: the first cause that is there, of the first group that has one.
 #[derive(Clone, Copy, Debug, PartialEq, Eq, Error)]
 pub enum TracesError {
+    /// There are not as many lists as groups.
     #[error("there are not as many lists as groups")]
     WrongCount,
-    /// The group's list has more than `MOST_RECORDS`.
+    /// The list of this group has more than `MOST_RECORDS` records.
     #[error("group {0} has too many records")]
     TooManyRecords(u16),
-    /// The group's first record, by its place, that the group can't have there.
+    /// The group, and the place in its list of the first record that the group may not have there.
     #[error("group {0} has a bad event at {1}")]
     BadEvent(u16, u32),
+    /// The last record of this group's list is no end, or the list is empty.
     #[error("the list of group {0} has no end")]
     NoEnd(u16),
 }
 
-/// The complete lists of a launch. Contracts see the groups' sizes and one list of events for each group.
+/// The complete lists of a launch. Contracts see the sizes of the groups, and of each group the list of its records.
 #[derive(Drop)]
 #[derive_where(Debug)]
 pub struct Traces<A: Allocator = Global> {
@@ -93,7 +95,8 @@ fn list_fault(group: u16, items: u16, list: &[Event]) -> Option<TracesError>
     None
 }
 
-/// What is wrong with the lists of a shape's groups, of which there are as many.
+/// What is wrong with the lists of a shape's groups.
+/// Requires: there are as many lists as groups.
 fn first_fault<A: Allocator>(shape: &Shape<A>, lists: &[Vec<Event, A>]) -> Option<TracesError>
     requires { length lists.now ≡ length shape.now }
     ensures { MatchOption result (AreAccepted (streams shape.now lists.now)) (λ e. IsTracesFault (streams shape.now lists.now) e) }
@@ -108,11 +111,21 @@ fn first_fault<A: Allocator>(shape: &Shape<A>, lists: &[Vec<Event, A>]) -> Optio
 }
 
 impl<A: Allocator> Traces<A> {
-    /// The traces of a shape's groups, one list for each.
+    /// The traces of a launch of this shape, where group g has the records `lists[g]` in the order of its stream.
     ///
     /// # Errors
-    /// `WrongCount`; else, for the groups in order, the first of `TooManyRecords`, `BadEvent` with the first such place,
-    /// and `NoEnd` that is there.
+    /// `WrongCount` if there are not as many lists as groups. Else, of the first group whose list is not accepted, the
+    /// first of these that is there: `TooManyRecords`; `BadEvent` with the first such place; `NoEnd`.
+    ///
+    /// # Example
+    /// ```rust
+    /// let write = Event { item: 0, kind: Kind::Write, space: Space::Global, word: 16, name: None };
+    /// let read = Event { item: 1, kind: Kind::Read, ..write };
+    /// let shape = Shape::new(vec![in alloc; 2]?).ok().ok_or("shape")?;
+    /// let list = vec![in alloc; write, read, Event::end(false)]?;
+    /// let traces = Traces::new(shape, vec![in alloc; list]?).ok().ok_or("traces")?;
+    /// assert_eq!(rt; traces.list(0), [write, read, Event::end(false)].as_slice());
+    /// ```
     pub fn new(shape: Shape<A>, lists: Vec<Vec<Event, A>, A>) -> Result<Traces<A>, TracesError>
         ensures accepted { IsOk result ↔ AreAccepted (streams shape lists.items) }
         ensures lists { IfOk result (λ t. t ≡ streams shape lists.items) }
@@ -135,7 +148,8 @@ impl<A: Allocator> Traces<A> {
         &self.shape
     }
 
-    /// The list of a group, in the order of its stream.
+    /// The records of a group, in the order of its stream, its end last.
+    /// Requires: there is such a group.
     pub fn list(&self, group: u16) -> &[Event]
         requires { group < length self.now.sizes }
         ensures list { result.now ≡ list_of self.now group }

@@ -72,7 +72,7 @@ fn scope_of(kind: &Kind) -> Option<Scope>
     }
 }
 
-/// The scope of a release, or `None` for what is no release.
+/// The scope of a release, or `None` for a kind that is no release.
 pub fn release_scope(kind: &Kind) -> Option<Scope>
     ensures { result ≡ spec.release_scope kind.now }
 {
@@ -102,22 +102,24 @@ pub(crate) fn same_scope(
     }
 }
 
-/// Whether both are atomic accesses with inclusive scope, each of its work-group.
+/// Whether two accesses of these kinds, each of its work-group, are both atomic with inclusive scope.
 pub fn inclusive(first: &Kind, first_group: u16, second: &Kind, second_group: u16) -> bool
     ensures { result ≡ model.inclusive first.now first_group second.now second_group }
 {
     same_scope(scope_of(first), first_group, scope_of(second), second_group)
 }
 
-/// Whether both access memory and one of them modifies it. Whether they access one word is for the caller to say.
+/// Whether events of these two kinds both access memory and one of them modifies it. Whether they access one word, and
+/// with what scope, is not looked at.
 pub fn conflicts(first: &Kind, second: &Kind) -> bool
     ensures { result ≡ spec.conflicts first.now second.now }
 {
     is_access(first) && is_access(second) && (modifies(first) || modifies(second))
 }
 
-/// Whether the first event, of its work-group, is a release that synchronizes with the second, where that is an acquire
-/// that takes the first's value: their orders fit, they access one word, and they have inclusive scope.
+/// Whether the first event is a release that synchronizes with the second if that takes its value. This is so if the
+/// first is a release, the second an acquire, both are on one word, and they have inclusive scope. Each event is of the
+/// work-group beside it.
 pub fn pairs_with(release: &Event, release_group: u16, acquire: &Event, acquire_group: u16) -> bool
     ensures { IsTrue result ↔ PairsWith release.now release_group acquire.now acquire_group }
 {

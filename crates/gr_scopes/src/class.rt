@@ -8,14 +8,21 @@ ghost use Rattle.gr_scopes.specs.Classes as spec;
 use crate::access::same_scope;
 use gr_model::event::{Kind, Scope};
 
-/// What an access does to its word, and how: plainly, or as an atomic access of a scope. What modifies may read too.
+/// What an access does to its word, and how: plainly, or as an atomic access of a scope. An access that modifies may
+/// read too.
 #[derive(Clone, Copy, Debug, PartialEq, Eq)]
 pub enum Class {
+    /// A plain read.
     PlainRead,
+    /// A plain write.
     PlainWrite,
+    /// An atomic load of work-group scope.
     GroupRead,
+    /// An atomic store or read-modify-write of work-group scope.
     GroupModify,
+    /// An atomic load of device scope.
     DeviceRead,
+    /// An atomic store or read-modify-write of device scope.
     DeviceModify,
 }
 
@@ -79,8 +86,8 @@ pub fn class_of(kind: &Kind) -> Option<Class>
     }
 }
 
-/// Whether two accesses of one word, each of its work-group, never race, whatever their order: neither modifies the word,
-/// or both are atomic with inclusive scope.
+/// Whether two accesses of one word, each of its work-group, never race, whatever their clocks say: neither modifies
+/// the word, or both are atomic with inclusive scope.
 pub fn exempt(first: Class, first_group: u16, second: Class, second_group: u16) -> bool
     ensures { result ≡ spec.exempt first first_group second second_group }
 {

@@ -2,7 +2,7 @@
 
 ghost use Rattle.gr_steps.specs.Laws.{ReadyIsNext, HandleStaysLawful, MeetStaysLawful, GrowthStaysLawful, HandlesStay, MeetsStay, RestIsGrounded, HeldAtRest, GroundedIsDecided, UnmatchedAreReported, AllIsGrounded, AllRacesCount};
 
-/// What may be handled behind a lawful order is the next event of its item.
+/// An event that may be handled behind a lawful order is the next event of its item.
 pub fn ready_is_next()
     ensures { ReadyIsNext }
 {}
@@ -15,7 +15,7 @@ pub fn steps_stay_lawful()
     ensures growth { GrowthStaysLawful }
 {}
 
-/// What could be done before lists that are not complete grew can be done after, with the same outcome.
+/// A step that was allowed before lists that are not complete grew is allowed after, with the same outcome.
 pub fn steps_stay_allowed()
     ensures handle { HandlesStay }
     ensures meet { MeetsStay }
