@@ -1,4 +1,4 @@
-//! All bytes of a reader, and what a call that reads them answers beside what they mean.
+//! All bytes of a reader, and the faults of reading that these bytes do not determine.
 #![tactic(auto)]
 
 ghost use Rattle.std.specs.Prelude.{◌≡◌, ◌++◌, IfOk, IfErr, IfSome, OnOk};
@@ -24,10 +24,11 @@ fn keep<A: Allocator>(bytes: &mut Vec<u8, A>, piece: &[u8]) -> Result<(), Memory
     Ok(())
 }
 
-/// Reads to the end.
+/// All bytes up to the reader's end.
 ///
 /// # Errors
-/// `Read` at the first error of the reader, and after 4,294,967,296 calls; `Memory` where the bytes can't be kept.
+/// `Read` at the first error of the reader, or if it does not come to its end within 4,294,967,296 calls; `Memory` if
+/// an allocation is refused.
 pub fn read_all<A: Allocator, T: Read>(alloc: A, reader: &mut T) -> Result<Vec<u8, A>, Fault>
     ensures bytes { IfOk result (λ v. IfSome (T.remaining reader.old) (λ bytes. v.items ≡ bytes)) }
     ensures end { OnOk result (IsAtEnd (T.remaining reader.new)) }

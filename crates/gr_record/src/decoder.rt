@@ -23,7 +23,8 @@ use std::alloc::Allocator;
 use std::marker::Model;
 use std::mem;
 
-/// A decoder of one stream. Contracts see what it keeps of the bytes that were fed to it: `StandsFor` names them.
+/// A decoder of one stream. Contracts see what it keeps of the bytes that were fed to it; `StandsFor` names those
+/// bytes.
 #[derive(Debug, Drop)]
 pub struct Decoder {
     limit: u32,
@@ -43,7 +44,8 @@ impl Model for Decoder {
     ghost invariant = { λ d. IsStanding (record { limit = d.limit; items = d.items; count = d.count; held = d.held.items; stop = d.stop }) };
 }
 
-/// Adds a part where there is room for it.
+/// Adds a part.
+/// Requires: there is room for it.
 fn push<A: Allocator>(parts: &mut Vec<Part, A>, part: Part)
     requires { vec_len parts.old < vec_capacity parts.old }
     ensures parts { parts.new.items ≡ parts.old.items ++ part ∷ [] }
@@ -73,7 +75,8 @@ impl Decoder {
         Decoder::with_limit(MOST_RECORDS as u32)
     }
 
-    /// A decoder of a stream of at most so many records, which are 1 to `MOST_RECORDS`.
+    /// A decoder of a stream of at most `records` records.
+    /// Requires: `records` is 1 to `MOST_RECORDS`.
     #[tactic(auto, unfolding(crate::specs::Decoding::read_from))]
     pub fn with_limit(records: u32) -> Decoder
         requires some { 1 ≤ records }
@@ -100,7 +103,8 @@ impl Decoder {
         }
     }
 
-    /// How many bytes are missing to the end of the header or record at hand; 0 after the end and after a fault.
+    /// How many bytes are missing to the end of the header or record that comes next; 0 after the end and after a
+    /// fault.
     pub fn wants(&self) -> usize
         ensures { result ≡ missing self.now }
     {
@@ -240,8 +244,8 @@ impl Decoder {
         }
     }
 
-    /// Completes the header or record at hand from a piece that has the bytes which are missing to it, and answers the
-    /// bytes after those.
+    /// Completes the header or record at hand from a piece, and answers the bytes behind it.
+    /// Requires: the piece has the bytes that are missing to it, and there is room for the parts.
     fn complete<'p, A: Allocator>(&mut self, piece: &'p [u8], parts: &mut Vec<Part, A>) -> &'p [u8]
         requires inside { self.old.stop ≡ Inside }
         requires enough { missing self.old ≤ length piece.now }
@@ -260,7 +264,8 @@ impl Decoder {
         rest
     }
 
-    /// Takes a piece of a stream that is to go on, where there is room for the parts.
+    /// Takes a piece of the stream.
+    /// Requires: the stream is to go on, and there is room for the parts.
     fn take_piece<A: Allocator>(&mut self, piece: &[u8], parts: &mut Vec<Part, A>)
         requires inside { self.old.stop ≡ Inside }
         requires room { vec_len parts.old + units_in self.old.items (length self.old.held + length piece.now) ≤ vec_capacity parts.old }
@@ -275,11 +280,24 @@ impl Decoder {
         }
     }
 
-    /// Takes the next piece of the stream, and adds each header and record that is whole now.
+    /// Takes the next piece of the stream, and adds to `parts` each header and record that this piece completes.
     ///
     /// # Errors
-    /// The stream's first fault, from the piece that has it on; the parts before it are added. `Memory` where the list
-    /// could not grow, which comes before any fault in the piece and changes nothing.
+    /// The first fault of the stream, at the piece that has it and at each later one; the parts before it are added.
+    /// `Memory` if an allocation is refused, which is answered before any fault of the piece; the decoder and `parts`
+    /// are then unchanged.
+    ///
+    /// # Example
+    /// ```rust
+    /// // `stream` has 72 bytes: a header, two records and an end.
+    /// let mut decoder = Decoder::new();
+    /// let mut parts = Vec::new(rt.alloc());
+    /// decoder.feed(&stream[..31], &mut parts)?;
+    /// assert_eq!(rt; parts.len(), 1);
+    /// decoder.feed(&stream[31..], &mut parts)?;
+    /// assert_eq!(rt; parts.len(), 4);
+    /// decoder.finish()?;
+    /// ```
     pub fn feed<A: Allocator>(
         &mut self,
         piece: &[u8],
@@ -314,7 +332,7 @@ impl Decoder {
     /// Says that no bytes follow.
     ///
     /// # Errors
-    /// The stream's first fault; `Truncated` where there is none and the end did not come. It takes no memory.
+    /// The first fault of the stream; `Truncated` if there is none and the end did not come. It takes no memory.
     pub fn finish(&self) -> Result<(), RecordError>
         ensures exact { result ≡ last_answer self.now.stop }
         ensures memory { result ≢ Err OutOfMemory }

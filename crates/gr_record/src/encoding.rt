@@ -10,7 +10,8 @@ use byteorder::{ByteOrder, LittleEndian};
 use gr_model::event::{Event, Kind, Name, Order, Scope, Space};
 use gr_model::limits::MOST_ITEMS_OF_A_GROUP;
 
-/// Writes a header in range.
+/// Writes the 12 bytes of a header (docs/FORMATS.md, "Stream").
+/// Requires: the header is in range: `group` is below `MOST_GROUPS`, and `items` is 1 to `MOST_ITEMS_OF_A_GROUP`.
 pub fn encode_header(header: &Header, bytes: &mut [u8; HEADER_LENGTH])
     requires { IsHeader header.now }
     ensures { bytes.new ≡ header_spelling header.now }
@@ -67,6 +68,7 @@ fn bytes_of_kind(kind: Kind, space: Space) -> [u8; 4]
 }
 
 /// Writes a name, or that there is none, into the last eight bytes of a record.
+/// Requires: there are eight bytes.
 fn encode_name(name: Option<Name>, bytes: &mut [u8])
     requires { length bytes.old ≡ 8 }
     ensures { bytes.new ≡ name_bytes name }
@@ -81,7 +83,18 @@ fn encode_name(name: Option<Name>, bytes: &mut [u8])
     }
 }
 
-/// Writes a record that some stream may have.
+/// Writes the 20 bytes of a record (docs/FORMATS.md, "Stream").
+/// Requires: the record is in range: some group may have it, as `event_ok` with `MOST_ITEMS_OF_A_GROUP` tells.
+///
+/// # Example
+/// ```rust
+/// let event = Event { item: 0, kind: Kind::Write, space: Space::Global, word: 16, name: None };
+/// if event_ok(&event, MOST_ITEMS_OF_A_GROUP) {
+///     let mut bytes = [0; RECORD_LENGTH];
+///     encode_event(&event, &mut bytes);
+///     stream.extend_from_slice(&bytes)?;
+/// }
+/// ```
 pub fn encode_event(event: &Event, bytes: &mut [u8; RECORD_LENGTH])
     requires { IsEventOk event.now MOST_ITEMS_OF_A_GROUP }
     ensures { bytes.new ≡ event_spelling event.now }

@@ -20,28 +20,28 @@ pub enum RecordError {
     /// There is no such kind of record.
     #[error("bad kind")]
     BadKind,
-    /// The record's least byte, of the bytes 1 to 11, that can't have this value.
+    /// The place of the first byte, of the record's bytes 1 to 11, that may not have its value.
     #[error("bad field {0}")]
     BadField(u8),
-    /// A load that releases, or a store that acquires.
+    /// The record is a load that releases, or a store that acquires.
     #[error("bad order")]
     BadOrder,
-    /// A name that no release can have, or a name at what is no acquire.
+    /// The record has a name that is out of range, or has one though it is no acquire.
     #[error("bad name")]
     BadName,
-    /// The record's item is none of the header's.
+    /// The record's item is not below the number of items of the header.
     #[error("unknown item")]
     UnknownItem,
-    /// There are bytes after the end.
+    /// There are bytes behind the end.
     #[error("after end")]
     AfterEnd,
     /// The bytes are over before the end.
     #[error("truncated")]
     Truncated,
-    /// One record more than a stream may have.
+    /// There is one record more than the stream may have.
     #[error("too many records")]
     TooManyRecords,
-    /// A growth was refused.
+    /// An allocation was refused.
     #[error("out of memory")]
     Memory,
 }

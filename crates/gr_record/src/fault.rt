@@ -11,34 +11,35 @@ use gr_model::shape::ShapeError;
 /// Why a run over an input fails. Streams are counted from 0, lines from 1.
 #[derive(Clone, Copy, Debug, PartialEq, Eq)]
 pub enum Fault {
-    /// The stream at this place is refused.
+    /// The stream at this place has this fault.
     Stream(u64, RecordError),
-    /// The stream at this place is of a group that an earlier one is of.
+    /// The stream at this place is of the same group as an earlier one.
     SameGroup(u64),
-    /// The stream at this place is of another launch than the first.
+    /// The stream at this place is of another launch than the first stream.
     OtherLaunch(u64),
-    /// The least group below the greatest that has no stream.
+    /// This group has no stream. It is the least such group below the greatest that has one.
     MissingGroup(u16),
     /// The sizes of the groups are no shape.
     Shape(ShapeError),
-    /// The line is not one that its place needs.
+    /// The line with this number is not one that its place needs.
     BadLine(u64),
     /// The text is over inside a stream.
     NoEnd,
-    /// The line is one record more than a stream may have.
+    /// The line with this number is one record more than a stream may have.
     LongStream(u64),
     /// The reader failed.
     Read,
     /// The writer failed.
     Write,
-    /// A growth was refused.
+    /// An allocation was refused.
     Memory,
     /// A thread could not be started.
     Threads,
 }
 
 impl Fault {
-    /// The fault of a stream that is refused at this place. Want of memory is no stream's.
+    /// The fault of an input whose stream at this place has this fault. Out of memory is the fault of no stream: it is
+    /// `Memory`.
     pub fn of_stream(place: u64, error: RecordError) -> Fault
         ensures exact { result ≡ stream_fault place error }
         ensures values { IsOfValues result }

@@ -4,26 +4,27 @@
 ghost use Rattle.gr_record.specs.Laws.{SpelledIsRead, SpelledHeaderIsRead, ReadIsSpelled, ReadHeaderIsSpelled, NoSpellingBeginsAnother};
 ghost use Rattle.gr_record.specs.FrontLaws.{SpelledFrontIsRead, ReadFrontIsSpelled, FaultStays};
 
-/// What is spelled is read again, whatever follows it.
+/// A record or header in range is read from the bytes that spell it, whatever follows those. A header and the records
+/// behind it are read from the bytes that spell them.
 pub fn spelled_is_read()
     ensures event { SpelledIsRead }
     ensures header { SpelledHeaderIsRead }
     ensures front { SpelledFrontIsRead }
 {}
 
-/// What is read is in range, and is spelled so, each byte of it.
+/// What is read is in range, and the bytes from which it was read are those that spell it.
 pub fn read_is_spelled()
     ensures event { ReadIsSpelled }
     ensures header { ReadHeaderIsSpelled }
     ensures front { ReadFrontIsSpelled }
 {}
 
-/// Whatever follows a fault, it stays the fault, and no part comes behind it.
+/// Bytes after a fault change neither the fault nor the parts before it.
 pub fn fault_stays()
     ensures { FaultStays }
 {}
 
-/// No spelling of an event begins another.
+/// The bytes that spell a record are not the start of those that spell another.
 pub fn no_spelling_begins_another()
     ensures { NoSpellingBeginsAnother }
 {}

@@ -3,9 +3,11 @@
 use crate::header::Header;
 use gr_model::event::Event;
 
-/// A header's line, or a record's.
+/// What a line of the text form says: a header, or a record.
 #[derive(Clone, Copy, Debug, PartialEq, Eq)]
 pub enum Line {
+    /// The line is that of a header.
     Header(Header),
+    /// The line is that of a record.
     Event(Event),
 }

@@ -151,10 +151,11 @@ fn push_header<A: Allocator>(text: &mut String<A>, header: &Header) -> Result<()
     push_number(text, header.launch)
 }
 
-/// The line of a header or of a record, without its line feed.
+/// The line of a header or of a record, without its line feed (docs/FORMATS.md, "Text form").
+/// Requires: the header or record is in range, as for `encode_header` and `encode_event`.
 ///
 /// # Errors
-/// `Memory` where the text can't be made.
+/// `Memory` if an allocation is refused.
 pub fn line_text<A: Allocator>(alloc: A, line: &Line) -> Result<String<A>, Memory>
     requires { IsLine line.now }
     ensures { IfOk result (λ text. string_bytes text ≡ text_of line.now) }

@@ -318,7 +318,8 @@ fn read_line(line: &[u8]) -> Option<Line>
     Some(Line::Event(check(event)?))
 }
 
-/// What a line without its line feed says; `None` where the text form has no such line.
+/// What a line says, given without its line feed, or `None` if the text form has no such line (docs/FORMATS.md, "Text
+/// form").
 pub fn parse_line(line: &[u8]) -> Option<Line>
     // What is read has this line.
     ensures found { IfSome result (λ l. IsSaid l × (line.now ≡ line_text l)) }

@@ -31,6 +31,7 @@ const BARRIER: u8 = 5;
 const END: u8 = 6;
 
 /// What a whole header says, or its first fault.
+/// Requires: there are at least `HEADER_LENGTH` bytes.
 #[tactic(auto, unfolding(crate::specs::Reading::header_at))]
 pub(crate) fn read_header(bytes: &[u8]) -> Result<Header, RecordError>
     requires { HEADER_LENGTH ≤ length bytes.now }
@@ -191,7 +192,8 @@ pub(crate) fn name_fits(kind: Kind, name: Option<Name>) -> bool
     }
 }
 
-/// What a whole record says in a stream of so many items, or its first fault.
+/// What a whole record says in a stream of a group with `items` work-items, or its first fault.
+/// Requires: there are `RECORD_LENGTH` bytes.
 #[tactic(auto, unfolding(crate::specs::Reading::event_at))]
 pub(crate) fn read_event(items: u16, bytes: &[u8]) -> Result<Event, RecordError>
     requires { length bytes.now ≡ RECORD_LENGTH }

@@ -1,4 +1,4 @@
-//! Reading what stands at the front of a list of bytes: a header, or the records of a stream up to its end.
+//! Reading a prefix of a list of bytes: a header, or the records of a stream up to its end.
 
 ghost use Rattle.std.specs.Prelude.{◌≡◌, ◌≢◌, ◌≤◌, length, Ok, IfErr};
 ghost use Rattle.gr_record.specs.declared.error.RecordError.TheVariants as errors;
@@ -13,10 +13,11 @@ use gr_model::event::Event;
 use gr_model::limits::MOST_RECORDS;
 use std::alloc::Allocator;
 
-/// The header at the front of the bytes, and the bytes after it.
+/// The header at the start of the bytes, and the bytes behind it.
 ///
 /// # Errors
-/// `Truncated` where there are fewer bytes than a header has; else `BadMagic`, else `BadHeader`. It takes no memory.
+/// The first of these that is there: `Truncated` if there are fewer bytes than a header has; `BadMagic`; `BadHeader`.
+/// It takes no memory.
 #[tactic(auto, unfolding(crate::specs::WholeStreams::front_header_at))]
 pub fn read_front_header(bytes: &[u8]) -> Result<(Header, &[u8]), RecordError>
     ensures exact { Gives (λ x. (x.0, x.1.now)) result (front_header_at bytes.now) }
@@ -29,11 +30,12 @@ pub fn read_front_header(bytes: &[u8]) -> Result<(Header, &[u8]), RecordError>
     Ok((header, &bytes[HEADER_LENGTH..]))
 }
 
-/// The records at the front of the bytes up to the end, in a stream of so many items, and the bytes after them.
+/// The records at the start of the bytes up to the end of their stream, and the bytes behind it. The stream is of a
+/// group with `items` work-items.
 ///
 /// # Errors
-/// The first fault from the left; `Truncated` where the bytes are over before the end; `Memory` where the records can't
-/// be kept.
+/// The fault of the first record that has one (see `RecordError`); `Truncated` if the bytes are over before that and
+/// before the end; `Memory` if an allocation is refused.
 #[tactic(auto, unfolding(crate::specs::WholeStreams::front_records_at))]
 pub fn read_front_records<A: Allocator>(
     alloc: A,

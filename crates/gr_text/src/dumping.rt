@@ -20,6 +20,7 @@ use gr_record::stream::{read_front_header, read_front_records};
 use std::alloc::Allocator;
 
 /// Adds the line of a header or of a record, and its line feed.
+/// Requires: the header or record is in range.
 fn push_line<A: Allocator + Copy>(
     alloc: A,
     text: &mut Vec<u8, A>,
@@ -35,6 +36,7 @@ fn push_line<A: Allocator + Copy>(
 }
 
 /// Adds the lines of records.
+/// Requires: each record is in range.
 fn push_events<A: Allocator + Copy>(
     alloc: A,
     text: &mut Vec<u8, A>,
@@ -49,8 +51,8 @@ fn push_events<A: Allocator + Copy>(
     Ok(())
 }
 
-/// Adds the lines of the stream at the front of the bytes, which is the one of this place, and answers the bytes after
-/// it.
+/// Adds the lines of the stream at the start of the bytes, which is the one at this place of the input, and answers the
+/// bytes behind it.
 fn dump_stream<'a, A: Allocator + Copy>(
     alloc: A,
     text: &mut Vec<u8, A>,
@@ -73,10 +75,12 @@ fn dump_stream<'a, A: Allocator + Copy>(
     Ok(rest)
 }
 
-/// The text of the streams that stand in the bytes one after another.
+/// The text of the streams that stand in the bytes one after another. The groups and launch numbers of different
+/// streams are not compared.
 ///
 /// # Errors
-/// `Stream` with the first fault from the left; `Memory` where the text can't be kept.
+/// `Stream` with the place of the first stream that has a fault, from 0, and that fault; `Memory` if an allocation is
+/// refused.
 pub fn dump_bytes<A: Allocator + Copy>(alloc: A, bytes: &[u8]) -> Result<Vec<u8, A>, Fault>
     ensures exact { Gives (λ v. v.items) result (dumped bytes.now) }
     ensures values { IfErr result IsOfValues }

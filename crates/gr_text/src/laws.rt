@@ -1,25 +1,28 @@
-//! What texts and bytes are that are accepted. Each law is the contract of a function that does nothing, told in words in
+//! Which texts and bytes are accepted. Each law is the contract of a function that does nothing, told in words in
 //! docs/FORMATS.md, "Stream" and "Text form".
 
 ghost use Rattle.gr_text.specs.Wholes.{DumpedAreStreams, DumpedIsPackedAgain, PackedAreStreams, PackedIsDumpedAgain, WholeStreamsAreDumped, WholeStreamsArePacked};
 
-/// Bytes that are dumped are those of whole streams, one after another, and what is written is their text.
+/// Bytes that are dumped are those of whole streams, one after another, and what is written is the text of these
+/// streams.
 pub fn dumped_are_streams()
     ensures { DumpedAreStreams }
 {}
 
-/// A text that is packed is one of whole streams, one after another, and what is written is their bytes.
+/// A text that is packed is that of whole streams, one after another, of which the last line feed may be missing. What
+/// is written is the bytes of these streams.
 pub fn packed_are_streams()
     ensures { PackedAreStreams }
 {}
 
-/// The bytes of whole streams are dumped, and what is packed is dumped again as the text that it was.
+/// The bytes of whole streams are dumped. What is packed is dumped again as the text that it was, with its last line
+/// feed.
 pub fn streams_are_dumped()
     ensures streams { WholeStreamsAreDumped }
     ensures again { PackedIsDumpedAgain }
 {}
 
-/// The text of whole streams is packed, and what is dumped is packed again as the bytes that it was.
+/// The text of whole streams is packed. What is dumped is packed again as the bytes that it was.
 pub fn streams_are_packed()
     ensures streams { WholeStreamsArePacked }
     ensures again { DumpedIsPackedAgain }

@@ -10,7 +10,8 @@ fn first_feed(text: &[u8]) -> Option<usize>
     text.iter().position(|byte| *byte == b'\n')
 }
 
-/// The first line without its line feed, and the text behind it.
+/// The first line of a text without its line feed, and the text behind it.
+/// Requires: the text is not empty.
 pub(crate) fn split_line(text: &[u8]) -> (&[u8], &[u8])
     requires { 0 < length text.now }
     ensures lines { lines_of text.now ≡ result.0.now ∷ lines_of result.1.now }

@@ -16,6 +16,7 @@ use gr_record::line::Line;
 use std::alloc::Allocator;
 
 /// Adds the bytes of a header or of a record.
+/// Requires: the header or record is in range.
 fn push_bytes<A: Allocator>(bytes: &mut Vec<u8, A>, line: &Line) -> Result<(), Memory>
     requires { IsSaid line.now }
     ensures { OnOk result (bytes.new.items ≡ bytes.old.items ++ line_bytes line.now) }
@@ -38,8 +39,9 @@ fn push_bytes<A: Allocator>(bytes: &mut Vec<u8, A>, line: &Line) -> Result<(), M
 /// The bytes of the streams that a text has, one stream after another.
 ///
 /// # Errors
-/// Of the first line at fault `BadLine`, where its place needs another, or `LongStream`, where it is one record more
-/// than a stream may have; `NoEnd` where the text is over inside a stream; `Memory` where the bytes can't be kept.
+/// Of the first line at fault, with its number from 1: `BadLine` if its place needs another line, else `LongStream` if
+/// it is one record more than a stream may have. `NoEnd` if no line is at fault and the text is over inside a stream.
+/// `Memory` if an allocation is refused.
 pub fn pack_text<A: Allocator>(alloc: A, text: &[u8]) -> Result<Vec<u8, A>, Fault>
     ensures exact { Gives (λ v. v.items) result (packed text.now) }
     ensures values { IfErr result IsOfValues }

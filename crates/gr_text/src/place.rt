@@ -16,11 +16,11 @@ use gr_record::parsing::parse_line;
 pub enum Place {
     /// Before a header: at the start of the text, or behind an end.
     Outside,
-    /// In a stream of so many items, which may have so many records more.
+    /// In a stream of `items` items, with room for `left` more records.
     Inside { items: u16, left: u32 },
 }
 
-/// The record at this line of a stream, and the place behind it.
+/// The record at this line of a stream, and the place after it.
 fn take_event(number: u64, items: u16, left: u32, event: Event) -> Result<(Line, Place), Fault>
     ensures { result ≡ record_at number items left event }
 {
@@ -41,7 +41,7 @@ fn take_event(number: u64, items: u16, left: u32, event: Event) -> Result<(Line,
     Ok((Line::Event(event), behind))
 }
 
-/// What a line says that stands at this place, if it may stand there, and the place behind it.
+/// What a line says at this place, if it may stand there, and the place after it.
 fn take_said(number: u64, place: Place, line: Option<Line>) -> Result<(Line, Place), Fault>
     ensures { result ≡ line_at number place line }
 {
@@ -62,10 +62,12 @@ fn take_said(number: u64, place: Place, line: Option<Line>) -> Result<(Line, Pla
     }
 }
 
-/// What the line of this number says at this place, and the place behind it. The line comes without its line feed.
+/// What a line says at this place of a text, and the place after it. The line comes without its line feed, and has this
+/// number.
 ///
 /// # Errors
-/// `BadLine` where the place needs another line; else `LongStream` where it is one record more than a stream may have.
+/// `BadLine` with the number if the place needs another line; else `LongStream` with the number if the line is one
+/// record more than a stream may have.
 pub fn take_line(number: u64, place: Place, line: &[u8]) -> Result<(Line, Place), Fault>
     ensures exact { result ≡ line_at number place (line_said line.now) }
     ensures said { IfOk result (λ x. IsSaid x.0) }

@@ -36,10 +36,20 @@ fn write_all<W: Write>(writer: &mut W, bytes: &[u8]) -> Result<(), Fault>
 /// Reads a text to its end, and writes the bytes of its streams, one stream after another.
 ///
 /// # Errors
-/// Of the first line at fault `BadLine`, where its place needs another, or `LongStream`, where it is one record more
-/// than a stream may have; `NoEnd` where the text is over inside a stream; `Read` where the reader fails, or gives no end
-/// within 4,294,967,296 calls; `Memory` where something can't be kept; `Write` where the writer fails, which then has a
-/// front of the bytes. In every other case of an error nothing is written.
+/// Of the first line at fault, with its number from 1: `BadLine` if its place needs another line, else `LongStream` if
+/// it is one record more than a stream may have. `NoEnd` if no line is at fault and the text is over inside a stream.
+/// `Read` if the reader fails, or does not come to its end within 4,294,967,296 calls; `Memory` if an allocation is
+/// refused. `Write` if the writer fails, which then has a prefix of the bytes. At every other error nothing is written.
+///
+/// # Example
+/// ```rust
+/// let mut text = "group 0 items 1 launch 7\n0 w g 16\nend\n".as_bytes();
+/// let mut stream = Vec::new(rt.alloc());
+/// assert_eq!(rt; pack(rt.alloc(), &mut text, &mut stream), Ok(()));
+/// assert_eq!(rt; stream.len(), 52);
+/// let mut end_is_missing = "group 0 items 1 launch 7\n0 w g 16\n".as_bytes();
+/// assert_eq!(rt; pack(rt.alloc(), &mut end_is_missing, &mut stream), Err(Fault::NoEnd));
+/// ```
 pub fn pack<A: Allocator + Copy, T: Read, W: Write>(
     alloc: A,
     reader: &mut T,
@@ -60,9 +70,9 @@ pub fn pack<A: Allocator + Copy, T: Read, W: Write>(
 /// Reads streams to their end, one after another, and writes their text.
 ///
 /// # Errors
-/// `Stream` with the first fault from the left; `Read` where the reader fails, or gives no end within 4,294,967,296
-/// calls; `Memory` where something can't be kept; `Write` where the writer fails, which then has a front of the text. In
-/// every other case of an error nothing is written.
+/// `Stream` with the place of the first stream that has a fault, from 0, and that fault. `Read` if the reader fails, or
+/// does not come to its end within 4,294,967,296 calls; `Memory` if an allocation is refused. `Write` if the writer
+/// fails, which then has a prefix of the text. At every other error nothing is written.
 pub fn dump<A: Allocator + Copy, T: Read, W: Write>(
     alloc: A,
     reader: &mut T,
