@@ -77,7 +77,8 @@ impl<A: Allocator> Group<A> {
         self.ended = true;
     }
 
-    /// Adds a mark of an item, and tells its number.
+    /// Adds a mark of an item. Returns its number, from 0.
+    /// Requires: the group has the item, which has brought fewer than `MOST_RECORDS` marks.
     pub(crate) fn arrive(&mut self, item: u16, mark: Mark) -> Result<u32, Memory>
         requires item { item < length self.old.marks }
         requires few { length (marks_at self.old item) < MOST_RECORDS }
@@ -113,7 +114,7 @@ impl<A: Allocator> Group<A> {
         }
     }
 
-    /// How many barriers an item has met, at most.
+    /// How many barriers an item has brought, at most.
     pub(crate) fn instances(&self) -> u32
         ensures { (k : ℕ) → result ≤ k → NobodyCame self.now k }
     {
@@ -183,7 +184,7 @@ impl<A: Allocator> Group<A> {
         self.ended && self.lacks_one(instance)
     }
 
-    /// The state of an instance, or `None` where nobody came to it.
+    /// The state of an instance, or `None` if no item has come to it.
     pub(crate) fn state(&self, instance: u32) -> Option<State>
         ensures { IsState self.now instance result }
     {

@@ -21,18 +21,18 @@ use std::alloc::{Allocator, Global};
 use std::marker::Model;
 use thiserror::Error;
 
-/// What is known of an instance to which somebody came.
+/// What is known of an instance to which some item has come.
 #[derive(Clone, Copy, Debug, PartialEq, Eq)]
 pub enum State {
     /// Some item has not come yet, and those that came have one site and the same flags.
     Waiting,
     /// Every item has come, all from one site and with the same flags.
     Convergent,
-    /// Two items came from different sites or with different flags, or one never comes.
+    /// Two items came from different sites or with different flags, or the stream has ended and an item has not come.
     Divergent,
 }
 
-/// Why nothing changed.
+/// Why a call was refused. Nothing is then changed.
 #[derive(Clone, Copy, Debug, PartialEq, Eq, Error)]
 pub enum BarrierError {
     /// The launch has no such item.
@@ -41,6 +41,7 @@ pub enum BarrierError {
     /// The stream of this group has ended.
     #[error("the stream of group {0} has ended")]
     Ended(u16),
+    /// An allocation was refused.
     #[error("out of memory")]
     Memory,
 }
@@ -74,10 +75,10 @@ impl<A: Allocator> Model for Instances<A> {
 }
 
 impl<A: Allocator + Copy> Instances<A> {
-    /// A launch of this shape, none of whose items has come to a barrier.
+    /// The barriers of a launch of this shape, none of whose items has come to one.
     ///
     /// # Errors
-    /// `Memory`.
+    /// `Memory` if an allocation is refused.
     pub fn new(alloc: A, shape: &Shape<A>) -> Result<Instances<A>, Memory>
         ensures { IfOk result (λ v. v ≡ map fresh_group shape.now) }
     {
@@ -91,7 +92,7 @@ impl<A: Allocator + Copy> Instances<A> {
     /// The divergent instances with their causes, by group and then by instance.
     ///
     /// # Errors
-    /// `Memory`.
+    /// `Memory` if an allocation is refused.
     pub fn divergences(&self) -> Result<Vec<Divergence, A>, Memory>
         ensures { IfOk result (λ ds. Lists DivergenceBelow (IsDivergence self.now) ds.items) }
     {
@@ -122,11 +123,12 @@ impl<A: Allocator> Instances<A> {
         }
     }
 
-    /// Adds a barrier of an item, at this site and with these flags, and tells the number of its instance. The item has
-    /// brought fewer barriers than a stream has records.
+    /// Adds a barrier of an item, at this site and with these flags. Returns the number of its instance, from 0.
+    /// Requires: the item has brought fewer than `MOST_RECORDS` barriers.
     ///
     /// # Errors
-    /// The first of `UnknownItem`, `Ended` with the item's group, and `Memory` that is there.
+    /// The first of these that is there: `UnknownItem` if the launch has no such item; `Ended` with the item's group if
+    /// the stream of that has ended; `Memory` if an allocation is refused. Nothing is then changed.
     pub fn arrive(
         &mut self,
         item: ItemId,
@@ -151,7 +153,8 @@ impl<A: Allocator> Instances<A> {
         Ok(instance)
     }
 
-    /// Adds a mark of an item that is there.
+    /// Adds a mark of an item.
+    /// Requires: the launch has the item, which has brought fewer than `MOST_RECORDS` barriers.
     fn add(&mut self, item: ItemId, mark: Mark) -> Result<u32, Memory>
         requires item { HasItem (sizes_of self.old) item }
         requires few { length (marks_of self.old item) < MOST_RECORDS }
@@ -164,9 +167,10 @@ impl<A: Allocator> Instances<A> {
     }
 
     /// Ends the stream of a group.
+    /// Requires: there is such a group.
     ///
     /// # Errors
-    /// `Ended` where it has ended already. It takes no memory.
+    /// `Ended` with the group if its stream has ended already; nothing is then changed. It takes no memory.
     pub fn end_group(&mut self, group: u16) -> Result<(), BarrierError>
         requires { group < length self.old }
         ensures ok { OnOk result (Ends self.old group self.new) }
@@ -181,7 +185,7 @@ impl<A: Allocator> Instances<A> {
         Ok(())
     }
 
-    /// What is known of an instance of a group, or `None` where nobody came to it.
+    /// What is known of an instance of a group, or `None` if no item has come to it.
     pub fn state(&self, group: u16, instance: u32) -> Option<State>
         ensures { IsState (group_of self.now group) instance result }
     {
@@ -191,7 +195,8 @@ impl<A: Allocator> Instances<A> {
         }
     }
 
-    /// Why an instance of a group is divergent, or `None` where it is not.
+    /// Why an instance of a group is divergent, or `None` if it is not.
+    /// Requires: there is such a group.
     fn cause(&self, group: u16, instance: u32) -> Option<DivergenceCause>
         requires { group < length self.now }
         ensures { IsCause (group_of self.now group) instance result }
@@ -199,7 +204,8 @@ impl<A: Allocator> Instances<A> {
         self.groups[group as usize].cause(instance)
     }
 
-    /// How many instances of a group somebody came to, at most.
+    /// How many instances of a group some item has come to, at most.
+    /// Requires: there is such a group.
     fn instances(&self, group: u16) -> u32
         requires { group < length self.now }
         ensures { (k : ℕ) → result ≤ k → NobodyCame (group_of self.now group) k }
@@ -208,6 +214,7 @@ impl<A: Allocator> Instances<A> {
     }
 
     /// Adds the divergent instances of a group to those of the groups before it.
+    /// Requires: there is such a group, and the list has those of the groups before it.
     fn add_group(&self, group: u16, list: &mut Vec<Divergence, A>) -> Result<(), Memory>
         requires group { group < length self.now }
         requires before { AreListed self.now group 0 list.old.items }

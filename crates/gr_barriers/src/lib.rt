@@ -1,5 +1,5 @@
-//! The instances of a launch's work-group barriers: which have all their arrivals, which never will, and why. Nothing
-//! here knows of clocks, streams or what waits for what.
+//! The instances of a launch's work-group barriers: which are convergent, waiting or divergent so far, and why
+//! (docs/MODEL.md, "Barriers"). Nothing here knows of clocks, streams or what waits for what.
 #![tactic(auto)]
 
 mod group;

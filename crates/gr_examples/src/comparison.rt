@@ -11,7 +11,8 @@ use std::alloc::Global;
 /// The text of the report on the launch whose streams a text has.
 ///
 /// # Errors
-/// Where the text has no launch, or memory ran out.
+/// The fault of the text or of its streams if it has no launch (docs/FORMATS.md, "Faults"); `Memory` if an allocation
+/// is refused.
 pub fn report_on(alloc: Global, trace: &[u8]) -> Result<Vec<u8>, Fault>
     ensures { IfOk result (λ report. IsReportOn trace.now report.items) }
 {

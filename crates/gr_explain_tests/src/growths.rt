@@ -1,4 +1,4 @@
-//! Each growth is refused in turn: the answer is then want of memory, or what is due.
+//! Each growth is refused in turn: the answer is then out of memory, or what is due.
 
 use crate::launches::{CASES, Case, is_explained};
 use gr_model::memory::Memory;

@@ -1,4 +1,4 @@
-//! The report of a launch as data, its text, and the lines of faults. Nothing else writes a word of them.
+//! The report of a launch as data, its text, and the lines of faults.
 //!
 //! The texts are docs/FORMATS.md, "Report" and "Fault lines"; docs/REPORT.md says what each line of a report means.
 #![tactic(auto)]

@@ -1,6 +1,6 @@
 //! Text to a writer, in pieces, with no memory taken.
 //!
-//! Whatever happens, what was written is a front of the text that was due, and all of it where no fault is answered.
+//! Whatever happens, what was written is a prefix of the text that was due, and all of it if no fault is answered.
 
 ghost use Rattle.std.specs.Prelude.{◌≢◌, [], OnErr};
 ghost use Rattle.std.specs.Io.KnownBytes.{Keeps};
@@ -15,7 +15,10 @@ use thiserror::Error;
 #[error("write fault")]
 pub struct WriteFault;
 
-/// Writes the bytes. Where there are none, it does not fail.
+/// Writes the bytes.
+///
+/// # Errors
+/// `WriteFault` if the writer fails, which then has a prefix of the bytes. It is not answered if there are no bytes.
 pub fn put<W: Write>(writer: &mut W, bytes: &[u8]) -> Result<(), WriteFault>
     ensures puts { Puts (W.contents writer.old) (W.contents writer.new) result bytes.now }
     ensures some { OnErr result (bytes.now ≢ []) }
@@ -31,7 +34,10 @@ pub fn put<W: Write>(writer: &mut W, bytes: &[u8]) -> Result<(), WriteFault>
     Ok(())
 }
 
-/// Writes a word, and a number after it.
+/// Writes the bytes of a word, and a number after them.
+///
+/// # Errors
+/// `WriteFault` if the writer fails, which then has a prefix of these bytes.
 pub fn put_field<W: Write, N: Integer>(
     writer: &mut W,
     word: &[u8],
@@ -57,6 +63,9 @@ pub(crate) fn put_line<W: Write, N: Integer>(
 }
 
 /// Flushes behind a text that was written.
+///
+/// # Errors
+/// `WriteFault` if the writer answers an error.
 pub fn finish<W: Write>(writer: &mut W) -> Result<(), WriteFault>
     ensures { Keeps (W.contents writer.old) (W.contents writer.new) }
 {

@@ -1,4 +1,4 @@
-//! What is reported of a launch: plain data, made by every way of detection alike.
+//! The report of a launch, as plain data.
 
 ghost use Rattle.std.specs.Prelude.{◌↔◌, IsTrue};
 ghost use Rattle.gr_report.specs.Whole.{whole_of, HasFinding};
@@ -8,19 +8,21 @@ use gr_model::event::Word;
 use gr_model::report::{Divergence, Unmatched};
 use std::alloc::{Allocator, Global};
 
-/// The report of a launch. The lists of a report that a detection gives are ascending and without repeats.
+/// The report of a launch. Those that `detect` (gr_replay) and `World::report` (gr_world) make have ascending lists
+/// without repeats.
 #[derive(Drop)]
 #[derive_where(Debug, PartialEq)]
 pub struct Report<A: Allocator = Global> {
-    /// The words that have a data race, global ones first.
+    /// The racy words: global words before local ones, then by group and number.
     pub races: Rows<Word, A>,
     /// The divergent instances of barriers, by group and instance.
     pub divergences: Rows<Divergence, A>,
-    /// The acquires that never get their release, by group, item and index.
+    /// The unmatched acquires, by group, item and index.
     pub unmatched: Rows<Unmatched, A>,
     /// The groups whose stream says that it was cut.
     pub cut: Rows<u16, A>,
-    /// How many events are never reached, and so not judged.
+    /// How many events are held (docs/MODEL.md, "What waits for what"). Races are looked for among the other events
+    /// alone.
     pub held: u64,
     /// How many work-groups there are.
     pub groups: u16,
@@ -30,7 +32,8 @@ pub struct Report<A: Allocator = Global> {
     pub records: u64,
 }
 
-/// Whether there is a race, a divergent barrier or an unmatched acquire. A cut alone is no finding.
+/// Whether the report names a race, a divergent instance of barriers or an unmatched acquire. A cut stream alone is no
+/// finding.
 pub fn found<A: Allocator>(report: &Report<A>) -> bool
     ensures { IsTrue result ↔ HasFinding (whole_of report.now) }
 {

@@ -1,4 +1,4 @@
-//! A list that a report has.
+//! The lists of a report.
 
 ghost use Rattle.std.specs.Prelude.{◌≡◌};
 ghost use Rattle.std.specs.Cmp.Lexicographic.{pointwise, lists_per};
@@ -6,7 +6,7 @@ ghost use Rattle.std.specs.Cmp.Lexicographic.{pointwise, lists_per};
 use std::alloc::{Allocator, Global};
 use std::marker::Model;
 
-/// The rows of one kind in a report. Contracts see their list.
+/// A list in a report. Contracts see the list.
 #[derive(Drop)]
 #[derive_where(Debug; T)]
 pub struct Rows<T, A: Allocator = Global> {
@@ -22,14 +22,14 @@ impl<T, A: Allocator> Model for Rows<T, A> {
 }
 
 impl<T, A: Allocator> Rows<T, A> {
-    /// The rows of this list.
+    /// The rows with these elements, in this order.
     pub fn of(items: Vec<T, A>) -> Rows<T, A>
         ensures { result ≡ items.items }
     {
         Rows { items }
     }
 
-    /// The list.
+    /// The elements, in their order.
     pub fn as_slice(&self) -> &[T]
         ensures { result.now ≡ self.now }
     {

@@ -1,8 +1,9 @@
-//! The queue from the senders to the sequencer. Each work-group has one seat, which pushes its events, and one seat pops
-//! the events of all groups.
+//! The queue from the senders to the sequencer. Each work-group has one seat, which pushes its events, and one seat
+//! pops the events of all groups. (An "event" here is any record, the end too.)
 //!
 //! Invariant: of each group, what was popped, followed by what is queued, is what its seat pushed (docs/QUEUES.md, "The
-//! intake queue"). What a seat knows is in its pass, a value without bytes, which the queue's rule keeps true.
+//! intake queue"). What a seat knows is in its pass, a value without bytes, which the queue's rule keeps true. That the
+//! queue was full or empty at a moment of a call is not proved (docs/QUEUES.md, "Proved, tested, neither").
 
 ghost use Rattle.std.specs.Prelude.{◌≡◌, ◌≢◌, ◌<◌, ◌≤◌, [], ◌∷◌, ◌++◌, length, slice_index, slice_set, IfOk, IfErr, OnOk, IfSome, IfNone, IsTrue, IsFalse};
 ghost use Rattle.crossbeam_queue.specs.Fifo.{Forks, Held};
@@ -60,14 +61,14 @@ impl Model for IntakeSeat {
 }
 
 impl IntakeSeat {
-    /// The work-group whose events it pushes.
+    /// The number of the work-group whose events the seat pushes.
     pub fn group(&self) -> u16
         ensures { result ≡ self.now.group }
     {
         self.group
     }
 
-    /// The number of the group's work-items, which is not 0.
+    /// How many work-items the group has: at least 1.
     pub fn items(&self) -> u16
         ensures items { result ≡ self.now.items }
         ensures some { 0 < result }
@@ -96,7 +97,8 @@ impl Model for TakerSeat {
     ghost invariant = { λ s. IsTakerPass s.pass s.sizes };
 }
 
-/// Splits off the seat of a group that has had none.
+/// Splits off the seat of a group.
+/// Requires: `G` names the group and its number of items; the pass is of this queue; the rule allows the split.
 fn seat_for<G: NamesGroup, A: Allocator>(
     queue: &RuledArrayQueue<Sent, IntakeView, IntakeRule, A>,
     pass: &mut Pass<Sent, IntakeView>,
@@ -114,10 +116,23 @@ fn seat_for<G: NamesGroup, A: Allocator>(
 }
 
 impl<A: Allocator + Copy> Intake<A> {
-    /// An empty queue with room for so many events, and the seat that pops.
+    /// An empty queue with room for `capacity` events, and the seat that pops.
+    /// Requires: `capacity` is 1 to `MOST_PLACES`.
     ///
     /// # Errors
-    /// `Memory`.
+    /// `Memory` if an allocation is refused.
+    ///
+    /// # Example
+    /// ```rust
+    /// let (queue, mut taker) = Intake::new(rt.alloc(), 1)?;
+    /// let mut seat = queue.split(&mut taker, 5, 2).ok_or("the first split")?;
+    /// let event = Event { item: 0, kind: Kind::Write, space: Space::Global, word: 16, name: None };
+    /// if queue.push(&rt, &mut seat, event).is_err() {
+    ///     return Err("a push into an empty queue")?;
+    /// }
+    /// assert_eq!(rt; queue.pop(&rt, &mut taker), Some(Sent { group: 5, event }));
+    /// queue.join_back(&mut taker, seat);
+    /// ```
     pub fn new(alloc: A, capacity: u32) -> Result<(Intake<A>, TakerSeat), Memory>
         requires { (0 < capacity) × (capacity ≤ MOST_PLACES) }
         ensures room { IfOk result (λ made. made.0.places ≡ capacity) }
@@ -133,7 +148,9 @@ impl<A: Allocator + Copy> Intake<A> {
 }
 
 impl<A: Allocator> Intake<A> {
-    /// The seat of a work-group with so many items, or `None` where the group has had a seat.
+    /// The seat of a work-group with `items` work-items, or `None` if the group has had a seat.
+    /// Requires: the taker's seat is of this queue, `group` is below `MOST_GROUPS`, and `items` is 1 to
+    /// `MOST_ITEMS_OF_A_GROUP`.
     #[tactic(auto, using(crate::proofs::IntakeSteps::splits_as))]
     pub fn split(&self, taker: &mut TakerSeat, group: u16, items: u16) -> Option<IntakeSeat>
         requires queue { taker.old.queue ≡ self.now.queue }
@@ -156,9 +173,11 @@ impl<A: Allocator> Intake<A> {
     }
 
     /// Pushes an event of the seat's work-group.
+    /// Requires: the seat is of this queue; no end was pushed; the group may have the event (`event_ok`); there is room
+    /// for it in the stream: fewer than `MOST_RECORDS` records were pushed.
     ///
     /// # Errors
-    /// `Full` with the event, only where the queue was full at some moment of the call.
+    /// `Full` with the event, only if the queue was full at some moment of the call. The seat is then unchanged.
     pub fn push<R: Wait>(
         &self,
         rt: &R,
@@ -185,7 +204,9 @@ impl<A: Allocator> Intake<A> {
         }
     }
 
-    /// Pops the event that was pushed first, or `None` only where the queue was empty at some moment of the call.
+    /// Pops an event: of its work-group, the first that was not popped yet. Answers `None` only if the queue was empty
+    /// at some moment of the call.
+    /// Requires: the seat is of this queue.
     pub fn pop<R: Wait>(&self, rt: &R, taker: &mut TakerSeat) -> Option<Sent>
         requires { taker.old.queue ≡ self.now.queue }
 
@@ -200,8 +221,9 @@ impl<A: Allocator> Intake<A> {
         self.queue.pop_as::<PopStep, R>(rt, &mut taker.pass)
     }
 
-    /// Takes a work-group's seat back, and with it the list of what it pushed. That begins with what was popped of the
-    /// group, and is no more than it where the end was popped.
+    /// Takes a work-group's seat back, and with it the list of what that pushed. What was popped of the group is a
+    /// prefix of this list, and all of it if the end was popped.
+    /// Requires: both seats are of this queue.
     pub fn join_back(&self, taker: &mut TakerSeat, seat: IntakeSeat)
         requires taker { taker.old.queue ≡ self.now.queue }
         requires seat { seat.queue ≡ self.now.queue }

@@ -8,30 +8,37 @@ use gr_model::event::{Event, Sent};
 use std::collections::LinkedList;
 use std::marker::{Brand, PhantomData};
 
-/// A work-group's seat that was joined back, and what it had pushed. Contracts alone speak of it.
+/// A work-group's seat that was joined back. Contracts alone speak of it.
 pub struct Joined {
+    /// The number of the work-group.
     pub group: u16,
+    /// How many work-items the group has.
     pub items: u16,
+    /// What the seat had pushed.
     pub pushed: LinkedList<Event>,
 }
 
 /// What a seat knows. Contracts alone speak of it: no value of it is made.
 pub struct IntakeView {
-    /// Whether it is a work-group's seat, which may push. The next three are then the group, its number of items and what
-    /// the seat pushed.
+    /// Whether it is a work-group's seat, which may push.
     pub pushes: bool,
+    /// Of a work-group's seat: the number of the group. Of others 0.
     pub group: u16,
+    /// Of a work-group's seat: how many work-items the group has. Of others 0.
     pub items: u16,
+    /// Of a work-group's seat: what it pushed. Of others nothing.
     pub pushed: LinkedList<Event>,
-    /// Whether it is the taker's seat, which may pop. The next three are then what it popped, the number of items of each
-    /// group that has had a seat (0 of another), and the lists of the seats that were joined back.
+    /// Whether it is the taker's seat, which may pop.
     pub pops: bool,
+    /// Of the taker's seat: what it popped. Of others nothing.
     pub popped: LinkedList<Sent>,
+    /// Of the taker's seat: for each group how many work-items it has, 0 if it has had no seat. Of others nothing.
     pub sizes: LinkedList<u16>,
+    /// Of the taker's seat: the seats that were joined back. Of others nothing.
     pub joined: LinkedList<Joined>,
 }
 
-/// Of each work-group, what was popped, followed by what is queued, is what its seat pushed.
+/// The rule: of each work-group, what was popped, followed by what is queued, is what its seat pushed.
 pub struct IntakeRule;
 
 impl Protocol<Sent, IntakeView> for IntakeRule {
@@ -42,7 +49,7 @@ impl Protocol<Sent, IntakeView> for IntakeRule {
     ghost first = { first_view };
 }
 
-/// Names the work-group that a seat is split off for, and its number of items. A split picks both as it runs.
+/// The group and size for which a seat is split off, as a type, since step types take no values; read only by proofs.
 pub trait NamesGroup {
     ghost use Rattle.std.specs.Prelude.{ℕ};
 
@@ -57,7 +64,7 @@ impl NamesGroup for Brand {
     ghost items = { 0 };
 }
 
-/// A work-group's seat is split off the taker's.
+/// A step of the rule, for proofs alone: a work-group's seat is split off the taker's.
 pub struct SplitStep<G>(PhantomData<G>);
 
 impl<G: NamesGroup> Split<IntakeView> for SplitStep<G> {
@@ -69,7 +76,7 @@ impl<G: NamesGroup> Split<IntakeView> for SplitStep<G> {
     ghost right = { λ _. seat_of G.group G.items [] };
 }
 
-/// A work-group's seat is joined back into the taker's.
+/// A step of the rule, for proofs alone: a work-group's seat is joined back into the taker's.
 pub struct JoinStep;
 
 impl Join<IntakeView> for JoinStep {
@@ -80,7 +87,7 @@ impl Join<IntakeView> for JoinStep {
     ghost spent = { spent_view };
 }
 
-/// An event is pushed, or refused.
+/// A step of the rule, for proofs alone: an event is pushed, or refused.
 pub struct PushStep;
 
 impl Outcome<Sent, IntakeView> for PushStep {
@@ -95,7 +102,7 @@ impl Lesson<Sent, IntakeView> for PushStep {
     ghost fact = { SeatLearns };
 }
 
-/// An event is popped, or there is none.
+/// A step of the rule, for proofs alone: an event is popped, or there is none.
 pub struct PopStep;
 
 impl Outcome<Sent, IntakeView> for PopStep {

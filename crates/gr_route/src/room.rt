@@ -1,4 +1,4 @@
-//! A bounded queue's room for values.
+//! The answer of a push into a full queue.
 
 /// The queue was full at some moment of the call, and this is the value that was not pushed.
 #[derive(Debug, Drop)]

@@ -1,8 +1,8 @@
-//! The queue from the sequencer to one worker. One seat pushes accesses, and at last the word that there are no more;
-//! one seat pops them.
+//! The queue from the sequencer to one worker. One seat pushes accesses, and at last `Stop`; one seat pops them.
 //!
 //! Invariant: what was popped, followed by what is queued, is what the giver pushed (docs/QUEUES.md, "The work queue").
-//! What a seat knows is in its pass, a value without bytes, which the queue's rule keeps true.
+//! What a seat knows is in its pass, a value without bytes, which the queue's rule keeps true. That the queue was full
+//! or empty at a moment of a call is not proved (docs/QUEUES.md, "Proved, tested, neither").
 
 ghost use Rattle.std.specs.Prelude.{◌≡◌, ◌<◌, ◌≤◌, true, false, [], ◌∷◌, ◌++◌, None, Some, IfOk, IfErr, OnOk, IfSome, IfNone, IsTrue, IsFalse};
 ghost use Rattle.crossbeam_queue.specs.Fifo.{Held};
@@ -20,15 +20,17 @@ use std::alloc::{Allocator, Global};
 use std::marker::Model;
 use std::sync::Wait;
 
-/// What a worker is given: an access to apply, or the word that there are no more.
+/// What a worker is given.
 #[derive(Drop)]
 #[derive_where(Debug)]
 pub enum Work<A: Allocator = Global> {
+    /// An access to apply.
     Access(Access<A>),
+    /// There are no more accesses.
     Stop,
 }
 
-/// A bounded queue of work. Contracts see which queue it is, and for how much work it has room.
+/// A bounded queue of work. Contracts see which queue it is, and for how many values it has room.
 #[derive(Drop)]
 pub struct WorkQueue<A: Allocator = Global> {
     queue: RuledArrayQueue<Work<A>, WorkView<A>, WorkRule, A>,
@@ -60,8 +62,8 @@ impl<A: Allocator> Model for GiverSeat<A> {
     ghost invariant = { λ s. IsGiverPass s.pass };
 }
 
-/// The seat that pops. Contracts see its queue, what it popped, whether the giver's seat was split off, and what that had
-/// pushed, where it was joined back.
+/// The seat that pops. Contracts see its queue, what it popped, whether the giver's seat was split off, and what that
+/// had pushed, if it was joined back.
 #[derive(Drop)]
 pub struct WorkerSeat<A: Allocator = Global> {
     pass: Pass<Work<A>, WorkView<A>>,
@@ -80,10 +82,11 @@ impl<A: Allocator> Model for WorkerSeat<A> {
 }
 
 impl<A: Allocator + Copy> WorkQueue<A> {
-    /// An empty queue with room for so much work, and the seat that pops.
+    /// An empty queue with room for `capacity` values, and the seat that pops.
+    /// Requires: `capacity` is 1 to `MOST_PLACES`.
     ///
     /// # Errors
-    /// `Memory`.
+    /// `Memory` if an allocation is refused.
     pub fn new(alloc: A, capacity: u32) -> Result<(WorkQueue<A>, WorkerSeat<A>), Memory>
         requires { (0 < capacity) × (capacity ≤ MOST_PLACES) }
         ensures room { IfOk result (λ made. made.0.places ≡ capacity) }
@@ -96,7 +99,8 @@ impl<A: Allocator + Copy> WorkQueue<A> {
 }
 
 impl<A: Allocator> WorkQueue<A> {
-    /// The seat that pushes, or `None` where it was split off before.
+    /// The seat that pushes, or `None` if it was split off before.
+    /// Requires: the worker's seat is of this queue.
     #[tactic(auto, using(crate::proofs::WorkSteps::splits_as))]
     pub fn split(&self, worker: &mut WorkerSeat<A>) -> Option<GiverSeat<A>>
         requires { worker.old.queue ≡ self.now.queue }
@@ -116,10 +120,11 @@ impl<A: Allocator> WorkQueue<A> {
         Some(GiverSeat { pass })
     }
 
-    /// Pushes an access, or the word that there are no more, after which nothing may be pushed.
+    /// Pushes an access, or `Stop`, after which nothing may be pushed.
+    /// Requires: the seat is of this queue; no `Stop` was pushed.
     ///
     /// # Errors
-    /// `Full` with the work, only where the queue was full at some moment of the call.
+    /// `Full` with the work, only if the queue was full at some moment of the call. The seat is then unchanged.
     pub fn push<R: Wait>(
         &self,
         rt: &R,
@@ -140,7 +145,9 @@ impl<A: Allocator> WorkQueue<A> {
         }
     }
 
-    /// Pops the work that was pushed first, or `None` only where the queue was empty at some moment of the call.
+    /// Pops the first work that was not popped yet. Answers `None` only if the queue was empty at some moment of the
+    /// call.
+    /// Requires: the seat is of this queue.
     pub fn pop<R: Wait>(&self, rt: &R, worker: &mut WorkerSeat<A>) -> Option<Work<A>>
         requires { worker.old.queue ≡ self.now.queue }
 
@@ -155,8 +162,9 @@ impl<A: Allocator> WorkQueue<A> {
         self.queue.pop_as::<PopStep, R>(rt, &mut worker.pass)
     }
 
-    /// Takes the giver's seat back, and with it the list of what it pushed. That begins with what was popped, and is no
-    /// more than it where `Stop` was popped.
+    /// Takes the giver's seat back, and with it the list of what that pushed. What was popped is a prefix of this list,
+    /// and all of it if `Stop` was popped.
+    /// Requires: both seats are of this queue.
     pub fn join_back(&self, worker: &mut WorkerSeat<A>, giver: GiverSeat<A>)
         requires worker { worker.old.queue ≡ self.now.queue }
         requires giver { giver.queue ≡ self.now.queue }

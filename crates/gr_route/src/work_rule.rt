@@ -10,18 +10,22 @@ use std::collections::LinkedList;
 
 /// What a seat knows. Contracts alone speak of it: no value of it is made.
 pub struct WorkView<A: Allocator = Global> {
-    /// Whether it is the giver's seat, which may push. The next is then what it pushed.
+    /// Whether it is the giver's seat, which may push.
     pub pushes: bool,
+    /// Of the giver's seat: what it pushed. Of others nothing.
     pub pushed: LinkedList<Work<A>>,
-    /// Whether it is the worker's seat, which may pop. The next three are then what it popped, whether the giver's seat
-    /// was split off, and what that had pushed, where it was joined back.
+    /// Whether it is the worker's seat, which may pop.
     pub pops: bool,
+    /// Of the worker's seat: what it popped. Of others nothing.
     pub popped: LinkedList<Work<A>>,
+    /// Of the worker's seat: whether the giver's seat was split off. Of others false.
     pub split: bool,
+    /// Of the worker's seat: what the giver's seat had pushed, if that was joined back. Of others `None`.
     pub given: Option<LinkedList<Work<A>>>,
 }
 
-/// What was popped, followed by what is queued, is what the giver pushed, and `Stop` stands last in it.
+/// The rule: what was popped, followed by what is queued, is what the giver pushed, and `Stop` can stand only last in
+/// it.
 pub struct WorkRule;
 
 impl<A: Allocator> Protocol<Work<A>, WorkView<A>> for WorkRule {
@@ -32,7 +36,7 @@ impl<A: Allocator> Protocol<Work<A>, WorkView<A>> for WorkRule {
     ghost first = { first_view };
 }
 
-/// The giver's seat is split off the worker's.
+/// A step of the rule, for proofs alone: the giver's seat is split off the worker's.
 pub struct SplitStep;
 
 impl<A: Allocator> Split<WorkView<A>> for SplitStep {
@@ -44,7 +48,7 @@ impl<A: Allocator> Split<WorkView<A>> for SplitStep {
     ghost right = { λ _. giver_of [] };
 }
 
-/// The giver's seat is joined back into the worker's.
+/// A step of the rule, for proofs alone: the giver's seat is joined back into the worker's.
 pub struct JoinStep;
 
 impl<A: Allocator> Join<WorkView<A>> for JoinStep {
@@ -55,7 +59,7 @@ impl<A: Allocator> Join<WorkView<A>> for JoinStep {
     ghost spent = { spent_view };
 }
 
-/// Work is pushed, or refused.
+/// A step of the rule, for proofs alone: work is pushed, or refused.
 pub struct PushStep;
 
 impl<A: Allocator> Outcome<Work<A>, WorkView<A>> for PushStep {
@@ -70,7 +74,7 @@ impl<A: Allocator> Lesson<Work<A>, WorkView<A>> for PushStep {
     ghost fact = { GiverLearns };
 }
 
-/// Work is popped, or there is none.
+/// A step of the rule, for proofs alone: work is popped, or there is none.
 pub struct PopStep;
 
 impl<A: Allocator> Outcome<Work<A>, WorkView<A>> for PopStep {

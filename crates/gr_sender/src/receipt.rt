@@ -6,7 +6,8 @@ ghost use Rattle.gr_model.specs.Streams.{is_complete};
 use gr_route::intake::IntakeSeat;
 use std::marker::Model;
 
-/// The seat of a sender that was closed. Contracts see it as that seat, whose list is all that was sent, its end last.
+/// What is left of a sender that was closed: its seat. Contracts see the seat, whose list is all that was sent, its end
+/// last.
 #[derive(Drop)]
 pub struct Receipt {
     seat: IntakeSeat,
@@ -26,7 +27,8 @@ impl Model for Receipt {
 }
 
 impl Receipt {
-    /// The receipt of a group's seat that pushed the end.
+    /// The receipt of a group's seat.
+    /// Requires: the seat is the group's, and it has pushed the end.
     pub(crate) fn of(group: u16, seat: IntakeSeat) -> Receipt
         requires group { seat.group ≡ group }
         requires ended { IsTrue (is_complete seat.pushed) }
@@ -35,14 +37,14 @@ impl Receipt {
         Receipt { seat, group }
     }
 
-    /// The work-group whose stream was sent.
+    /// The number of the work-group whose stream was sent.
     pub fn group(&self) -> u16
         ensures { result ≡ self.now.group }
     {
         self.group
     }
 
-    /// The seat, to be joined back into the taker's.
+    /// The seat, which can be joined back into the taker's.
     pub fn into_seat(self) -> IntakeSeat
         ensures seat { result ≡ self }
         ensures ended { IsTrue (is_complete result.pushed) }

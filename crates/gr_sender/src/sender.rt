@@ -1,7 +1,9 @@
 //! The sending end of one work-group's stream.
 //!
-//! Invariant: the seat is the group's, in the sender's queue; the count is the length of what it pushed, and the sender is
-//! closed exactly where that ends in an end; one of the records that the stream may have is kept for the end.
+//! Invariant: the seat is the group's, in the sender's queue; the count is the length of what it pushed, and the sender
+//! is closed exactly where that ends in an end; one of the records that the stream may have is kept for the end.
+//!
+//! That the queue was full at a moment of a call is not proved (docs/QUEUES.md, "Proved, tested, neither").
 
 ghost use Rattle.std.specs.Prelude.{◌≡◌, ◌+◌, ◌<◌, ◌≤◌, [], ◌∷◌, ◌++◌, length, IfOk, IfErr, OnOk, OnErr, MatchOption, IsTrue, IsFalse};
 ghost use Rattle.std.specs.Arc.{arc_value};
@@ -22,11 +24,13 @@ use thiserror::Error;
 /// Why an event or an end was not sent: the first cause that is there.
 #[derive(Clone, Copy, Debug, PartialEq, Eq, Error)]
 pub enum SendError {
+    /// The sender has sent the end.
     #[error("the sender is closed")]
     Closed,
+    /// The work-group has no such work-item.
     #[error("the work-group has no such work-item")]
     UnknownItem,
-    /// It is an end, or no record that the work-group may have.
+    /// The event is an end, or none that the work-group may have.
     #[error("the work-group may not have this event")]
     BadEvent,
     /// The stream has room for its end alone.
@@ -62,8 +66,10 @@ impl<A: Allocator> Model for Sender<A> {
 }
 
 impl<A: Allocator> Sender<A> {
-    /// An open sender of a work-group with so many items, over the group's seat, which has pushed nothing yet. The stream
-    /// may have so many records, its end included.
+    /// An open sender of a work-group with `items` work-items, over the group's seat. The stream may have `records`
+    /// records, its end included.
+    /// Requires: the seat is the group's, is of this queue, has so many items, and has pushed nothing; `records` is 1
+    /// to `MOST_RECORDS`.
     pub fn new(
         group: u16,
         items: u16,
@@ -88,7 +94,7 @@ impl<A: Allocator> Sender<A> {
         }
     }
 
-    /// The work-group whose stream it sends.
+    /// The number of the work-group whose stream it sends.
     pub fn group(&self) -> u16
         ensures { result ≡ self.now.group }
     {
@@ -109,7 +115,9 @@ impl<A: Allocator> Sender<A> {
         self.closed
     }
 
-    /// Pushes the record that comes next: an event with room for the end behind it, or the end.
+    /// Pushes the record that comes next.
+    /// Requires: the end was not sent; the group may have the record; if it is no end, there is room for the end behind
+    /// it.
     fn push<R: Wait>(&mut self, rt: &R, event: Event) -> Result<(), SendError>
         requires unended { IsFalse (is_complete self.old.sent) }
         requires good { IsEventOk event self.old.items }
@@ -150,8 +158,22 @@ impl<A: Allocator> Sender<A> {
     /// Sends an event.
     ///
     /// # Errors
-    /// In this order: `Closed`; `UnknownItem`; `BadEvent` for an end, too; `StreamFull` where only the end has room left;
-    /// `Full`, only where the queue was full at some moment of the call. Each leaves the sender as it was.
+    /// The first of these that is there: `Closed` if the end was sent; `UnknownItem` if the group has no such item;
+    /// `BadEvent` if the event is an end, or none that the group may have; `StreamFull` if the stream has room for its
+    /// end alone; `Full` with the event, only if the queue was full at some moment of the call. The sender is then
+    /// unchanged.
+    ///
+    /// # Example
+    /// ```rust
+    /// let (queue, mut taker) = Intake::new(alloc, 4)?;
+    /// let queue = Arc::new(alloc, queue)?;
+    /// let seat = queue.split(&mut taker, 0, 1).ok_or("the first split")?;
+    /// let mut sender = Sender::new(0, 1, 1000, Arc::try_clone(&queue)?, seat);
+    /// let event = Event { item: 0, kind: Kind::Write, space: Space::Global, word: 16, name: None };
+    /// assert_eq!(rt; sender.send(&rt, event), Ok(()));
+    /// assert_eq!(rt; sender.close(&rt, false), Ok(()));
+    /// assert_eq!(rt; sender.send(&rt, event), Err(SendError::Closed));
+    /// ```
     pub fn send<R: Wait>(&mut self, rt: &R, event: Event) -> Result<(), SendError>
         ensures ok { OnOk result (self.new ≡ record self.old { sent = self.old.sent ++ event ∷ [] }) }
         ensures accepted { OnOk result (MaySend self.old event) }
@@ -164,11 +186,11 @@ impl<A: Allocator> Sender<A> {
         }
     }
 
-    /// Sends the end of the stream, with the mark that says whether the stream was cut.
+    /// Sends the end of the stream. It is `cut` if records before it were lost.
     ///
     /// # Errors
-    /// `Closed`; `Full` with the end, only where the queue was full at some moment of the call. Each leaves the sender as
-    /// it was.
+    /// `Closed` if the end was sent before; else `Full` with the end, only if the queue was full at some moment of the
+    /// call. The sender is then unchanged.
     pub fn close<R: Wait>(&mut self, rt: &R, cut: bool) -> Result<(), SendError>
         ensures ok { OnOk result (self.new ≡ record self.old { sent = self.old.sent ++ end_of cut ∷ [] }) }
         ensures accepted { OnOk result (IsFalse (is_complete self.old.sent)) }
@@ -181,10 +203,10 @@ impl<A: Allocator> Sender<A> {
         self.push(rt, Event::end(cut))
     }
 
-    /// Sends an event, and while the queue is full backs off and tries again.
+    /// Sends an event. While the queue is full, it backs off and tries again.
     ///
     /// # Errors
-    /// As `send`, but never `Full`.
+    /// Those of `send` but `Full`. The sender is then unchanged.
     pub fn send_wait<R: Wait>(&mut self, rt: &R, event: Event) -> Result<(), SendError>
         ensures ok { OnOk result (self.new ≡ record self.old { sent = self.old.sent ++ event ∷ [] }) }
         ensures accepted { OnOk result (MaySend self.old event) }
@@ -202,10 +224,10 @@ impl<A: Allocator> Sender<A> {
         unreachable!()
     }
 
-    /// Sends the end of the stream, and while the queue is full backs off and tries again.
+    /// Sends the end of the stream. While the queue is full, it backs off and tries again.
     ///
     /// # Errors
-    /// As `close`, but never `Full`.
+    /// `Closed` if the end was sent before. The sender is then unchanged.
     pub fn close_wait<R: Wait>(&mut self, rt: &R, cut: bool) -> Result<(), SendError>
         ensures ok { OnOk result (self.new ≡ record self.old { sent = self.old.sent ++ end_of cut ∷ [] }) }
         ensures accepted { OnOk result (IsFalse (is_complete self.old.sent)) }
@@ -223,7 +245,10 @@ impl<A: Allocator> Sender<A> {
         unreachable!()
     }
 
-    /// The receipt of what was sent, or the sender back where it is not closed.
+    /// The receipt of what was sent.
+    ///
+    /// # Errors
+    /// The sender, unchanged, if it has not sent the end.
     pub fn into_receipt(self) -> Result<Receipt, Sender<A>>
         ensures receipt { IfOk result (λ receipt. receipt ≡ record { queue = self.queue.queue; group = self.group; items = self.items; pushed = self.sent }) }
         ensures closed { OnOk result (IsTrue (is_complete self.sent)) }

@@ -1,5 +1,5 @@
 //! The calls of a sequencer, each tried twice: where memory ran out, nothing is to have changed, and the second try is
-//! judged. A `None` is a call that changed something though memory ran out, or that failed for want of memory twice.
+//! judged. A `None` is a call that changed something though memory ran out, or that was out of memory twice.
 
 ghost use Rattle.std.specs.Prelude.{IsTrue};
 ghost use Rattle.gr_lanes.specs.Takes.{IsEventButItem};

@@ -1,5 +1,5 @@
-//! Which words are hit along a list of accesses: each access is compared, by its clock, with the earlier ones to its word.
-//! Nothing here knows of streams, names or barriers.
+//! Which words are hit along a list of accesses (docs/MODEL.md, "Hits"): each access is compared, by its vector clock,
+//! with the earlier ones to its word. Nothing here knows of streams, names or barriers.
 #![tactic(auto)]
 
 pub mod laws;

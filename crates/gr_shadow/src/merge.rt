@@ -11,7 +11,7 @@ use std::alloc::Allocator;
 /// The words of two lists in ascending order, each once. The lists may be in any order, and have repeats.
 ///
 /// # Errors
-/// `Memory`.
+/// `Memory` if an allocation is refused.
 pub fn merge<A: Allocator>(
     alloc: A,
     first: &[Word],

@@ -80,7 +80,7 @@ impl<A: Allocator + Copy> Shadow<A> {
     /// Adds an access to the word, and tells whether the word becomes hit by it.
     ///
     /// # Errors
-    /// `Memory`. The shadow is then as it was.
+    /// `Memory` if an allocation is refused. The shadow is then unchanged.
     pub(crate) fn add(&mut self, access: &Access<A>) -> Result<bool, Memory>
         ensures shadow { OnOk result (IsShadowAfter self.old (clocked access.now) self.new) }
         ensures hit { IfOk result (λ hit. hit ≡ spec.is_first_hit self.old (clocked access.now)) }

@@ -24,7 +24,9 @@ use std::alloc::{Allocator, Global};
 use std::hash::{BuildHasherDefault, FoldHasher};
 use std::marker::Model;
 
-/// The shadows of all words that were accessed. Contracts see by `StandsFor` the list of accesses that they stand for.
+/// The race test's state. Of each word accessed it has whether the word was answered. If not, it has for each item and
+/// class the epoch (item, index) of the last access, since a later access that clashes with an earlier one also clashes
+/// with the last one of its item and class. Contracts see by `StandsFor` the list of accesses that it stands for.
 #[derive(Drop)]
 #[derive_where(Debug)]
 pub struct Shadows<A: Allocator = Global> {
@@ -42,7 +44,7 @@ impl<A: Allocator> Model for Shadows<A> {
 }
 
 impl<A: Allocator + Copy> Shadows<A> {
-    /// Shadows of no accesses. They take no memory.
+    /// The state before the first access. It takes no memory.
     pub fn new(alloc: A) -> Shadows<A>
         ensures { StandsFor [] result }
     {
@@ -69,11 +71,25 @@ impl<A: Allocator + Copy> Shadows<A> {
         }
     }
 
-    /// Takes one more access, and answers its word where it becomes hit by it: the access clashes with an earlier one, and
-    /// the word was not answered before.
+    /// Adds the next access. Answers its word if the access clashes with an earlier one (docs/MODEL.md, "Hits") and the
+    /// word was not answered before. The words that are answered are the racy ones if the accesses are those along a
+    /// lawful order, each with a clock that counts just the access and what happens before it.
     ///
     /// # Errors
-    /// `Memory`. The shadows then stand for the same accesses as before.
+    /// `Memory` if an allocation is refused. The accesses are then those before the call.
+    ///
+    /// # Example
+    /// ```rust
+    /// // `writer` and `reader` are two items of a group. Neither clock counts an event of the other item.
+    /// let word = Word::Global(16);
+    /// let write = Access { word, item: writer, index: 0, class: Class::PlainWrite, clock: writer_clock };
+    /// let read = Access { word, item: reader, index: 0, class: Class::PlainRead, clock: reader_clock };
+    /// let mut shadows = Shadows::new(rt.alloc());
+    /// assert_eq!(rt; shadows.apply(&write)?, None);
+    /// assert_eq!(rt; shadows.apply(&read)?, Some(word));
+    /// let words = shadows.racy()?;
+    /// assert!(rt; words.as_slice() == [word].as_slice());
+    /// ```
     pub fn apply(&mut self, access: &Access<A>) -> Result<Option<Word>, Memory>
         ensures stands { (accesses : List ClockedAccess) → StandsFor accesses self.old → OnOk result (StandsFor (accesses ++ clocked access.now ∷ []) self.new) }
         ensures word { (accesses : List ClockedAccess) → StandsFor accesses self.old → IfOk result (λ answer. (w : AnyWord) → answer ≡ Some w ↔ IsHitBy accesses (clocked access.now) w) }
@@ -97,10 +113,10 @@ impl<A: Allocator + Copy> Shadows<A> {
         Ok(words)
     }
 
-    /// The words that are hit, in ascending order, each once.
+    /// The words that are hit in the accesses so far, which are those that `apply` answered, ascending, each once.
     ///
     /// # Errors
-    /// `Memory`.
+    /// `Memory` if an allocation is refused.
     pub fn racy(&self) -> Result<Vec<Word, A>, Memory>
         ensures { (accesses : List ClockedAccess) → StandsFor accesses self.now → IfOk result (λ words. Lists WordBelow (IsHitIn accesses) words.items) }
     {

@@ -15,11 +15,14 @@ use std::alloc::Allocator;
 /// How many touches of a word are kept in its shadow itself.
 pub(crate) const PLACES: usize = 4;
 
-/// What is kept of an access: its work-item, its index there, and its class.
+/// What is kept of an access: its epoch (its work-item, and its place in the item's trace) and its class.
 #[derive(Clone, Copy, Debug)]
 pub(crate) struct Touch {
+    /// The work-item of the access.
     pub item: ItemId,
+    /// The place of the access in the item's trace, from 0.
     pub index: u32,
+    /// The class of the access.
     pub class: Class,
 }
 
@@ -46,7 +49,7 @@ impl Touch {
         }
     }
 
-    /// Whether a later access is of another item, and does not know of this one.
+    /// Whether a later access is of another item, and its clock does not count this one.
     pub(crate) fn is_unseen<A: Allocator>(&self, access: &Access<A>) -> bool
         ensures { result ≡ is_unseen (clocked access.now) self.now }
     {

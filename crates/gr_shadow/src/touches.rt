@@ -33,7 +33,7 @@ fn compact<A: Allocator>(touches: &mut Vec<Touch, A>)
     touches.dedup_by(|next, kept| kept.takes(next));
 }
 
-/// Whether a later access is of another item than one of these, and does not know of it.
+/// Whether a later access is of another item than one of these touches, and its clock does not count that one.
 fn has_unseen<A: Allocator>(touches: &[Touch], access: &Access<A>) -> bool
     ensures { result ≡ list_any (is_unseen (clocked access.now)) touches.now }
 {
@@ -92,7 +92,8 @@ impl<A: Allocator> Touches<A> {
             && has_unseen(&self.touches, access)
     }
 
-    /// Keeps a touch that belongs here.
+    /// Keeps a touch.
+    /// Requires: it belongs here (`has`).
     pub(crate) fn add(&mut self, touch: Touch) -> Result<(), Memory>
         requires { IsOfClass self.old.class self.old.group touch }
         ensures kept { OnOk result (Keeps self.new.touches (self.old.touches ++ touch ∷ [])) }

@@ -2,8 +2,8 @@
 
 ghost use Rattle.gr_world.specs.Laws.{ReceivedHitsStay};
 
-/// In every world, a word that is hit in what a worker received is racy in the report of all lists that go on from those
-/// that were taken.
+/// In every world, a word that is hit in what a worker received is racy among the grounded events of all lists to which
+/// the lists that were taken grow.
 pub fn nothing_is_taken_back()
     ensures { ReceivedHitsStay }
 {}

@@ -10,8 +10,8 @@ use std::alloc::{Allocator, Global};
 use std::collections::VecDeque;
 use std::marker::Model;
 
-/// A queue with room for so many values, which is made when the queue is. Contracts see that number, and the values that
-/// the queue holds, the front first.
+/// A bounded queue. Its room is allocated when it is made. Contracts see for how many values it has room, and the
+/// values that it holds, the front first.
 #[derive(Drop)]
 #[derive_where(Debug; T)]
 pub struct Queue<T, A: Allocator = Global> {
@@ -32,10 +32,10 @@ impl<T, A: Allocator> Model for Queue<T, A> {
 }
 
 impl<T, A: Allocator> Queue<T, A> {
-    /// An empty queue with room for so many values.
+    /// An empty queue with room for `places` values.
     ///
     /// # Errors
-    /// `Memory`.
+    /// `Memory` if an allocation is refused.
     pub fn new(alloc: A, places: usize) -> Result<Queue<T, A>, Memory>
         ensures { IfOk result (λ q. q ≡ empty_queue places) }
     {
@@ -64,7 +64,8 @@ impl<T, A: Allocator> Queue<T, A> {
         self.items.front()
     }
 
-    /// Puts a value at the end, for which there is room.
+    /// Puts a value at the end.
+    /// Requires: `has_room`.
     pub fn push(&mut self, value: T)
         requires { HasRoom self.old }
         ensures { self.new ≡ pushed self.old value }

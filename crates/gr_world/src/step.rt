@@ -28,7 +28,7 @@ pub enum Step {
     WorkTake(u16),
 }
 
-/// Why a step is refused: the first cause that is there.
+/// Why a step is refused: the first of these causes that is there. Nothing is then changed.
 #[derive(Clone, Copy, Debug, PartialEq, Eq, Error)]
 pub enum StepError {
     /// There is no such group, item, queue or worker; or what is sent is an end, is no record that the group may have, or
@@ -38,7 +38,7 @@ pub enum StepError {
     /// The group's stream has its end.
     #[error("the stream has its end")]
     NotOpen,
-    /// The queue has room for nothing more.
+    /// The queue has no room.
     #[error("the queue is full")]
     Full,
     /// The queue holds nothing, or no access is on its way.
@@ -50,6 +50,7 @@ pub enum StepError {
     /// The item's next event waits for something, or no instance of the group may meet.
     #[error("not ready")]
     NotReady,
+    /// An allocation was refused.
     #[error("out of memory")]
     Memory,
 }

@@ -39,10 +39,10 @@ impl<A: Allocator> Model for Worker<A> {
 }
 
 impl<A: Allocator + Copy> Worker<A> {
-    /// A worker that received nothing, and whose queue has room for so many accesses.
+    /// A worker that received nothing, and whose queue has room for `places` accesses.
     ///
     /// # Errors
-    /// `Memory`.
+    /// `Memory` if an allocation is refused.
     pub fn new(alloc: A, places: usize) -> Result<Worker<A>, Memory>
         ensures { IfOk result (λ w. w ≡ no_work places) }
     {
@@ -55,10 +55,10 @@ impl<A: Allocator + Copy> Worker<A> {
         })
     }
 
-    /// Receives the access at the front of its queue. Tells whether there was one.
+    /// Receives the access at the front of its queue. Returns whether there was one.
     ///
     /// # Errors
-    /// `Memory`. The worker is then as it was.
+    /// `Memory` if an allocation is refused. The worker is then unchanged.
     pub fn receive(&mut self) -> Result<bool, Memory>
         ensures ok { IfOk result (λ some. Receives self.old some self.new) }
         ensures err { OnErr result (¬ (self.old.queue.items ≡ [])) }
@@ -80,7 +80,7 @@ impl<A: Allocator + Copy> Worker<A> {
     /// The words that are hit in the accesses that it received, in ascending order, each once.
     ///
     /// # Errors
-    /// `Memory`.
+    /// `Memory` if an allocation is refused.
     pub fn racy(&self) -> Result<Vec<Word, A>, Memory>
         ensures { IfOk result (λ words. Lists WordBelow (IsHitIn self.now.received) words.items) }
     {
@@ -103,7 +103,8 @@ impl<A: Allocator> Worker<A> {
         self.queue.has_room()
     }
 
-    /// Queues an access for it, for which there is room.
+    /// Queues an access for it.
+    /// Requires: `has_room`.
     pub fn push(&mut self, access: Access<A>)
         requires { HasRoom self.old.queue }
         ensures { self.new ≡ queueing self.old (clocked access) }

@@ -98,7 +98,7 @@ impl<A: Allocator + Copy> World<A> {
     /// The world of a launch of this shape, in which nothing was sent.
     ///
     /// # Errors
-    /// `Memory`.
+    /// `Memory` if an allocation is refused.
     pub fn new(alloc: A, shape: Shape<A>, config: Config) -> Result<World<A>, Memory>
     where
         A: Clone,
@@ -123,7 +123,8 @@ impl<A: Allocator + Copy> World<A> {
     /// Makes a step.
     ///
     /// # Errors
-    /// The first of the causes of `StepError` that is there; a `Pass` takes no memory. Nothing is then changed.
+    /// The first of the causes of `StepError` that is there. `Memory` is answered only to a step that is allowed, and
+    /// never to a `Pass`. Nothing is then changed.
     pub fn step(&mut self, step: Step) -> Result<(), StepError>
     where
         A: Clone,
@@ -155,10 +156,11 @@ impl<A: Allocator + Copy> World<A> {
         Ok(races)
     }
 
-    /// The report of what was sent. The world is at rest.
+    /// The report of what was sent.
+    /// Requires: the world is at rest (`at_rest`).
     ///
     /// # Errors
-    /// `Memory`.
+    /// `Memory` if an allocation is refused.
     pub fn report(&self) -> Result<Report<A>, Memory>
         requires { IsWorldAtRest self.now }
         ensures { IfOk result (λ report. IsReportOf self.now.sent (whole_of report)) }
@@ -234,7 +236,7 @@ impl<A: Allocator + Copy> World<A> {
         Ok(())
     }
 
-    /// Tries steps one after another. Tells how many were refused.
+    /// Tries the steps in order. Returns how many were refused.
     pub fn run(&mut self, steps: &[Step]) -> u64
     where
         A: Clone,
@@ -271,8 +273,8 @@ impl<A: Allocator> World<A> {
         true
     }
 
-    /// Whether all streams have their ends, the queues are empty, nothing is on its way, and no step of the sequencer is
-    /// left. The handled events are then the grounded ones.
+    /// Whether the world is at rest: all streams have their ends, the queues are empty, nothing is on its way, and no
+    /// step of the sequencer is left. The handled events are then the grounded ones.
     pub fn at_rest(&self) -> bool
         ensures rest { IsTrue result ↔ IsWorldAtRest self.now }
         ensures done { IsTrue result → AreGrounded self.now.sent self.now.sequence.handled }
@@ -302,7 +304,9 @@ impl<A: Allocator> World<A> {
         records
     }
 
-    /// Whether a group can't send this event: it is an end, is none that the group may have, or leaves no room for the end.
+    /// Whether a group can't send this event: it is an end, is none that the group may have, or leaves no room for the
+    /// end.
+    /// Requires: there is such a group.
     fn is_bad(&self, group: u16, event: &Event) -> bool
         requires { group < length self.now.sent.sizes }
         ensures { IsTrue result ↔ IsBadEvent self.now group event.now }
@@ -336,7 +340,9 @@ impl<A: Allocator> World<A> {
         self.put(group, Event::end(cut))
     }
 
-    /// Puts a record, which the group may have, at the end of what the group sent and of its queue.
+    /// Puts a record at the end of what the group sent and of its queue.
+    /// Requires: there is such a group, and it may have the record; if that is no end, there is room for the end behind
+    /// it.
     fn put(&mut self, group: u16, event: Event) -> Result<(), StepError>
         requires group { group < length self.old.sent.sizes }
         requires good { IsEventOk event (size_of self.old.sent group) }

@@ -319,7 +319,7 @@ const SCRIPTS: [Script; 10] = [
     NOT_HANDLED,
 ];
 
-/// How many steps of a script `run` refuses, and what is reported at the end; `None` for want of memory.
+/// How many steps of a script `run` refuses, and what is reported at the end; `None` if out of memory.
 fn ran(alloc: Global, script: &Script) -> Option<(u64, Option<Told>)> {
     let steps = steps_of(alloc, script).ok()?;
     let mut world = new(alloc, script.sizes, script.numbers)?;

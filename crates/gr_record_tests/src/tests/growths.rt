@@ -13,7 +13,7 @@ use refusing::Refusing;
 use std::alloc::Global;
 use std::test::Fail;
 
-/// Feeds a header and a record, each again after a want of memory, and counts those.
+/// Feeds a header and a record, each once more if that was out of memory, and counts how often it was.
 fn read_twice<'a>(
     heap: &'a Refusing<Global>,
     bytes: &[u8; 20],

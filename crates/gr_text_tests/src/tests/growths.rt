@@ -1,4 +1,4 @@
-//! Each growth is refused in turn: the answer is then want of memory, with nothing written, or what is due.
+//! Each growth is refused in turn: the answer is then out of memory, with nothing written, or what is due.
 
 use super::pairs::{PAIRS, Pair};
 use gr_model::memory::Memory;
