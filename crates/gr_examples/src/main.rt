@@ -1,7 +1,8 @@
 //! Compares the reports on examples with the reports that stand beside their traces.
 //!
 //! The words of the command line are folders, each with a `trace.txt` and a `report.txt`. A line is printed for each:
-//! `NAME: as expected`, `NAME: another report` or `NAME: not read`. The exit status is 0 only where all are as expected.
+//! `NAME: as expected`, `NAME: another report` or `NAME: not read`. The exit status is 0 only where all are as
+//! expected.
 #![tactic(auto)]
 
 mod comparison;

@@ -1,4 +1,5 @@
-//! Laws of hits along an order. Each is the contract of a function that does nothing, told in words in docs/MODEL.md, "Hits".
+//! Laws of hits along an order. Each is the contract of a function that does nothing, told in words in docs/MODEL.md,
+//! "Hits".
 
 ghost use Rattle.gr_hits.specs.Laws.{AccessesStay, HandledAdds, HitsAreClashes, LawfulHitsAreRaces, MetAddNone, OthersAddNone, WholeHitsAreRaces};
 

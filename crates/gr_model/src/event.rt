@@ -1,7 +1,7 @@
 //! The records of a kernel trace, the events that they stand for, and the words that events access.
 //!
-//! What a record may look like is docs/MODEL.md, "Records"; orders and scopes are those of the OpenCL 2.0 specification,
-//! section 3.3 (memory model), "memory order" and "memory scope".
+//! What a record may look like is docs/MODEL.md, "Records"; orders and scopes are those of the OpenCL 2.0
+//! specification, section 3.3 (memory model), "memory order" and "memory scope".
 
 ghost use Rattle.std.specs.Prelude.{◌≡◌, ◌↔◌, IsTrue};
 ghost use Rattle.gr_model.specs.Access.{acquires, releases, is_acquire_kind, event_word};
@@ -98,7 +98,7 @@ pub struct Event {
     pub space: Space,
     /// The number of the 4-byte word of an access, or the site of a barrier; 0 for an end.
     pub word: u32,
-    /// The release whose value an acquire took, if the producer found one; `None` for every other record.
+    /// The release whose value an acquire took, or `None` if the producer found none; `None` for what is no acquire.
     pub name: Option<Name>,
 }
 

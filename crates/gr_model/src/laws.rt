@@ -1,4 +1,5 @@
-//! Laws of the definitions. Each is the contract of a function that does nothing, told in words in docs/MODEL.md, "Laws".
+//! Laws of the definitions. Each is the contract of a function that does nothing, told in words in docs/MODEL.md,
+//! "Laws".
 
 ghost use Rattle.std.specs.Prelude.{◌≡◌};
 ghost use Rattle.gr_model.specs.Laws.{AcceptedAreComplete, PairsGoForwards, OrderGoesForwards, OrderStaysWithin, OrderIsGrounded, WaitsStay, StagesStay, OrderStays, CountsStay, HitsAreRaces, WholeHitsAreRaces, RacesStay, ReportIsOne};
@@ -10,8 +11,8 @@ pub fn accepted_lists_are_complete()
     ensures { AcceptedAreComplete }
 {}
 
-/// In a lawful order base pairs go forwards, and so does the happens-before of each memory, which never leads in from
-/// outside the order.
+/// In a lawful order base pairs go forwards, and so does the happens-before of each memory. What happens before an
+/// event of the order stands in the order.
 pub fn order_goes_forwards()
     ensures pairs { PairsGoForwards }
     ensures order { OrderGoesForwards }
@@ -32,8 +33,9 @@ pub fn growth_changes_nothing()
     ensures counts { CountsStay }
 {}
 
-/// Along a lawful order, the words with an access that conflicts with an earlier one and is not ordered behind it are
-/// the racy words: of the order, and where it has all grounded events, of the report.
+/// Along a lawful order, the words on which an event clashes with an earlier one are those that are racy within the
+/// order. (It clashes if the two conflict and the earlier does not happen before it.) If the order has all grounded
+/// events, these are the words that are racy among the grounded events.
 pub fn hits_are_races()
     ensures within { HitsAreRaces }
     ensures whole { WholeHitsAreRaces }

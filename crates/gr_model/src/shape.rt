@@ -18,13 +18,13 @@ pub enum ShapeError {
     /// There are no groups.
     #[error("no groups")]
     NoGroups,
-    /// There are more than `MOST_GROUPS`.
+    /// There are more than `MOST_GROUPS` groups.
     #[error("too many groups")]
     TooManyGroups,
     /// The least group that has no items, or more than `MOST_ITEMS_OF_A_GROUP`.
     #[error("bad items in group {0}")]
     BadItems(u16),
-    /// There are more than `MOST_ITEMS` in all.
+    /// There are more than `MOST_ITEMS` work-items in all.
     #[error("too many items")]
     TooManyItems,
 }

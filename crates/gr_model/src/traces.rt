@@ -50,7 +50,8 @@ impl<A: Allocator> Model for Traces<A> {
     ghost invariant = { λ t. AreAccepted (streams t.shape t.lists.items) };
 }
 
-/// Whether a record may stand where it does, in a group of so many items.
+/// Whether a record may stand where it does, in a group with `items` work-items. `last` tells whether it is the last
+/// record of its list.
 fn good_at(event: &Event, items: u16, last: bool) -> bool
     ensures { IsTrue result ↔ (IsEventOk event.now items × (IsTrue (is_end event.now) → IsTrue last)) }
 {

@@ -125,7 +125,8 @@ impl Decoder {
         }
     }
 
-    /// How many headers and records so many bytes more may complete.
+    /// How many headers and records `bytes` more bytes may complete.
+    /// Requires: `bytes` is below 2^63.
     fn units_in(&self, bytes: usize) -> usize
         requires { bytes < 2 ^ 63 }
         ensures { result ≡ units_in self.now.items (length self.now.held + bytes) }
@@ -139,6 +140,8 @@ impl Decoder {
     }
 
     /// Takes a whole header.
+    /// Requires: the stream is to go on with its header; no bytes are kept; `unit` has `HEADER_LENGTH` bytes; there is
+    /// room for the part.
     fn take_header<A: Allocator>(&mut self, unit: &[u8], parts: &mut Vec<Part, A>)
         requires place { (self.old.stop ≡ Inside) × (self.old.items ≡ None) × (self.old.held ≡ []) }
         requires whole { length unit.now ≡ HEADER_LENGTH }
@@ -158,7 +161,9 @@ impl Decoder {
         }
     }
 
-    /// Takes a whole record of a stream of so many items.
+    /// Takes a whole record of a stream of a group with `items` work-items.
+    /// Requires: the stream is to go on, and its header with so many items was read; no bytes are kept; `unit` has
+    /// `RECORD_LENGTH` bytes; there is room for the part.
     fn take_record<A: Allocator>(&mut self, items: u16, unit: &[u8], parts: &mut Vec<Part, A>)
         requires place { (self.old.stop ≡ Inside) × (self.old.items ≡ Some items) × (self.old.held ≡ []) }
         requires whole { length unit.now ≡ RECORD_LENGTH }
@@ -184,6 +189,8 @@ impl Decoder {
     }
 
     /// Takes a whole header or record.
+    /// Requires: the stream is to go on; no bytes are kept; `unit` is a whole header or record, whichever comes next;
+    /// there is room for the part.
     fn take_unit<A: Allocator>(&mut self, unit: &[u8], parts: &mut Vec<Part, A>)
         requires place { (self.old.stop ≡ Inside) × (self.old.held ≡ []) }
         requires whole { length unit.now ≡ unit_length self.old.items }
@@ -201,6 +208,7 @@ impl Decoder {
     }
 
     /// Keeps bytes that make no whole header or record.
+    /// Requires: the stream is to go on, and the bytes make none with those that are kept already.
     fn hold(&mut self, bytes: &[u8])
         requires inside { self.old.stop ≡ Inside }
         requires few { length self.old.held + length bytes.now < unit_length self.old.items }
@@ -209,7 +217,8 @@ impl Decoder {
         let _ = self.held.try_extend_from_slice(bytes);
     }
 
-    /// Takes the headers and records that lie whole in a piece, and answers the bytes after them.
+    /// Takes the headers and records that lie whole in a piece, and answers the bytes behind them.
+    /// Requires: no bytes are kept; if the stream is to go on, there is room for the parts.
     fn take_whole<'p, A: Allocator>(
         &mut self,
         piece: &'p [u8],
@@ -231,6 +240,7 @@ impl Decoder {
     }
 
     /// Takes the bytes that are left of a piece: what is not whole yet is kept, and after an end any byte is a fault.
+    /// Requires: no bytes are kept; if the stream is to go on, these make no whole header or record.
     fn keep(&mut self, rest: &[u8])
         requires held { self.old.held ≡ [] }
         requires few { self.old.stop ≡ Inside → length rest.now < unit_length self.old.items }
@@ -245,7 +255,7 @@ impl Decoder {
     }
 
     /// Completes the header or record at hand from a piece, and answers the bytes behind it.
-    /// Requires: the piece has the bytes that are missing to it, and there is room for the parts.
+    /// Requires: the stream is to go on; the piece has the bytes that are missing to it; there is room for the parts.
     fn complete<'p, A: Allocator>(&mut self, piece: &'p [u8], parts: &mut Vec<Part, A>) -> &'p [u8]
         requires inside { self.old.stop ≡ Inside }
         requires enough { missing self.old ≤ length piece.now }

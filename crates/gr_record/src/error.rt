@@ -7,17 +7,17 @@ use gr_model::memory::Memory;
 use std::alloc::{AllocError, AllocFailed};
 use thiserror::Error;
 
-/// The first fault of a stream. Of a header `BadMagic` comes before `BadHeader`; of a whole record `TooManyRecords` comes
-/// first, then `BadKind`, `BadField` with the least such byte, `BadOrder`, `BadName` and `UnknownItem`.
+/// The first fault of a stream. Of a header `BadMagic` comes before `BadHeader`; of a whole record `TooManyRecords`
+/// comes first, then `BadKind`, `BadField` with the least such byte, `BadOrder`, `BadName` and `UnknownItem`.
 #[derive(Clone, Copy, Debug, PartialEq, Eq, Error)]
 pub enum RecordError {
-    /// The stream does not begin with the four bytes that each stream begins with.
+    /// The stream does not begin with the four bytes `GRT1`.
     #[error("bad magic")]
     BadMagic,
     /// The header's group or its number of items is out of range.
     #[error("bad header")]
     BadHeader,
-    /// There is no such kind of record.
+    /// Byte 0 of the record is no kind.
     #[error("bad kind")]
     BadKind,
     /// The place of the first byte, of the record's bytes 1 to 11, that may not have its value.
@@ -35,7 +35,7 @@ pub enum RecordError {
     /// There are bytes behind the end.
     #[error("after end")]
     AfterEnd,
-    /// The bytes are over before the end.
+    /// The bytes are over before the end of the stream.
     #[error("truncated")]
     Truncated,
     /// There is one record more than the stream may have.

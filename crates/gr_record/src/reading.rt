@@ -68,6 +68,7 @@ fn may_stand(kind: u8, place: usize, byte: u8) -> bool
 }
 
 /// The least place of a byte that may not stand there.
+/// Requires: there are `RECORD_LENGTH` bytes.
 fn first_bad_field(bytes: &[u8]) -> Option<u8>
     requires { length bytes.now ≡ RECORD_LENGTH }
     ensures { result ≡ bad_field bytes.now }
@@ -111,6 +112,7 @@ fn read_order(byte: u8) -> Order
 }
 
 /// The kind that the first four bytes say.
+/// Requires: there are `RECORD_LENGTH` bytes.
 #[tactic(auto, unfolding(crate::specs::Reading::kind_of))]
 fn read_kind(bytes: &[u8]) -> Kind
     requires { length bytes.now ≡ RECORD_LENGTH }
@@ -133,7 +135,8 @@ fn read_kind(bytes: &[u8]) -> Kind
     }
 }
 
-/// The memory of an access.
+/// The memory of an access; `Global` for a barrier and an end.
+/// Requires: there are `RECORD_LENGTH` bytes.
 #[tactic(auto, unfolding(crate::specs::Reading::space_at))]
 fn space_in(bytes: &[u8]) -> Space
     requires { length bytes.now ≡ RECORD_LENGTH }
@@ -146,7 +149,8 @@ fn space_in(bytes: &[u8]) -> Space
     }
 }
 
-/// The name in the last eight bytes.
+/// The name in the last eight bytes, if there is one.
+/// Requires: there are `RECORD_LENGTH` bytes.
 #[tactic(auto, unfolding(crate::specs::Reading::name_at))]
 fn read_name(bytes: &[u8]) -> Option<Name>
     requires { length bytes.now ≡ RECORD_LENGTH }

@@ -91,7 +91,7 @@ fn put_fault<W: Write>(writer: &mut W, fault: Fault) -> Result<(), WriteFault>
 /// Writes the line of the fault (docs/FORMATS.md, "Fault lines"), and flushes. It takes no memory.
 ///
 /// # Errors
-/// `WriteFault` if the writer fails, which then has a prefix of the line.
+/// `WriteFault` if the writer fails, which has then taken a prefix of the line.
 pub fn write_fault<W: Write>(fault: &Fault, writer: &mut W) -> Result<(), WriteFault>
     ensures whole { OnOk result (Appends (W.contents writer.old) (W.contents writer.new) (fault_line fault.now)) }
     ensures front { OnErr result (AppendsFront (W.contents writer.old) (W.contents writer.new) (fault_line fault.now)) }

@@ -18,7 +18,8 @@ pub struct WriteFault;
 /// Writes the bytes.
 ///
 /// # Errors
-/// `WriteFault` if the writer fails, which then has a prefix of the bytes. It is not answered if there are no bytes.
+/// `WriteFault` if the writer fails, which has then taken a prefix of the bytes. It is not answered if there are no
+/// bytes.
 pub fn put<W: Write>(writer: &mut W, bytes: &[u8]) -> Result<(), WriteFault>
     ensures puts { Puts (W.contents writer.old) (W.contents writer.new) result bytes.now }
     ensures some { OnErr result (bytes.now ≢ []) }
@@ -37,7 +38,7 @@ pub fn put<W: Write>(writer: &mut W, bytes: &[u8]) -> Result<(), WriteFault>
 /// Writes the bytes of a word, and a number after them.
 ///
 /// # Errors
-/// `WriteFault` if the writer fails, which then has a prefix of these bytes.
+/// `WriteFault` if the writer fails, which has then taken a prefix of these bytes.
 pub fn put_field<W: Write, N: Integer>(
     writer: &mut W,
     word: &[u8],

@@ -133,7 +133,7 @@ fn put_all<A: Allocator, W: Write>(writer: &mut W, report: &Report<A>) -> Result
 /// Writes the text of the report (docs/FORMATS.md, "Report"), and flushes. It takes no memory.
 ///
 /// # Errors
-/// `WriteFault` if the writer fails, which then has a prefix of the text.
+/// `WriteFault` if the writer fails, which has then taken a prefix of the text.
 pub fn write<A: Allocator, W: Write>(report: &Report<A>, writer: &mut W) -> Result<(), WriteFault>
     ensures whole { OnOk result (Appends (W.contents writer.old) (W.contents writer.new) (report_text (whole_of report.now))) }
     ensures front { OnErr result (AppendsFront (W.contents writer.old) (W.contents writer.new) (report_text (whole_of report.now))) }

@@ -83,8 +83,8 @@ pub fn release_scope(kind: &Kind) -> Option<Scope>
     }
 }
 
-/// Whether two scopes, each of an access of this group, are the same, and for work-group scope of one group. A plain
-/// access has no scope, which is the same as none.
+/// Whether both accesses have a scope, the two scopes are the same, and work-group scopes are of one group. `None` is
+/// the scope of a plain access.
 pub(crate) fn same_scope(
     first: Option<Scope>,
     first_group: u16,

@@ -14,9 +14,9 @@ use gr_model::memory::Memory;
 use std::alloc::{Allocator, Global};
 use std::marker::Model;
 
-/// What is kept of the accesses to one word: whether the word was answered, and where it was not, of each item and class the
-/// touch with the greatest index. The first few items and classes have theirs in the shadow itself, for good, so nothing is
-/// moved when more come; the others have theirs in lists, one for each class.
+/// What is kept of the accesses to one word: whether the word was answered, and where it was not, of each item and
+/// class the touch with the greatest index. The first few items and classes have theirs in the shadow itself, for good,
+/// so nothing is moved when more come; the others have theirs in lists, one for each class.
 #[derive(Drop)]
 #[derive_where(Debug)]
 pub(crate) struct Shadow<A: Allocator = Global> {

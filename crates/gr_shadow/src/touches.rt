@@ -12,7 +12,8 @@ use gr_scopes::class::{Class, exempt};
 use std::alloc::{Allocator, Global};
 use std::marker::Model;
 
-/// The group by which touches of a class are kept apart: that of their item where the class has group scope, and 0 else.
+/// The group by which touches of a class are kept apart: that of their item where the class has group scope, and 0
+/// else.
 fn kept_group(class: Class, group: u16) -> u16
     ensures { result ≡ kept_group class group }
 {
@@ -40,9 +41,9 @@ fn has_unseen<A: Allocator>(touches: &[Touch], access: &Access<A>) -> bool
     touches.iter().any(|touch| touch.is_unseen(access))
 }
 
-/// Touches of one class, and where it has group scope of one group: so all of them are exempt with a later access, or none.
-/// A touch is added without a search. A list that has grown to its limit is compacted, and the limit is then twice its length,
-/// so that it is never longer than twice the number of items in it, or `FEW`.
+/// Touches of one class, and where it has group scope of one group: so all of them are exempt with a later access, or
+/// none. A touch is added without a search. A list that has grown to its limit is compacted, and the limit is then
+/// twice its length, so that it is never longer than twice the number of items in it, or `FEW`.
 #[derive(Drop)]
 #[derive_where(Debug)]
 pub(crate) struct Touches<A: Allocator = Global> {

@@ -7,8 +7,8 @@ pub fn ready_is_next()
     ensures { ReadyIsNext }
 {}
 
-/// A lawful order stays lawful where an event is handled, where an instance meets, and where lists that are not complete
-/// grow.
+/// A lawful order stays lawful where an event is handled, where an instance meets, and where lists that are not
+/// complete grow.
 pub fn steps_stay_lawful()
     ensures handle { HandleStaysLawful }
     ensures meet { MeetStaysLawful }
@@ -28,7 +28,7 @@ pub fn rest_is_grounded()
     ensures held { HeldAtRest }
 {}
 
-/// In complete lists each event is grounded or is not. Where no acquire is unmatched, as a report says that names none,
+/// In complete lists each event is grounded or is not. If no acquire is unmatched, which is so if a report names none,
 /// every event is grounded, and so every race is reported.
 pub fn all_is_grounded()
     ensures decided { GroundedIsDecided }

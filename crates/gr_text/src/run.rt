@@ -39,7 +39,8 @@ fn write_all<W: Write>(writer: &mut W, bytes: &[u8]) -> Result<(), Fault>
 /// Of the first line at fault, with its number from 1: `BadLine` if its place needs another line, else `LongStream` if
 /// it is one record more than a stream may have. `NoEnd` if no line is at fault and the text is over inside a stream.
 /// `Read` if the reader fails, or does not come to its end within 4,294,967,296 calls; `Memory` if an allocation is
-/// refused. `Write` if the writer fails, which then has a prefix of the bytes. At every other error nothing is written.
+/// refused. `Write` if the writer fails, which has then taken a prefix of the bytes. At every other error nothing is
+/// written.
 ///
 /// # Example
 /// ```rust
@@ -72,7 +73,7 @@ pub fn pack<A: Allocator + Copy, T: Read, W: Write>(
 /// # Errors
 /// `Stream` with the place of the first stream that has a fault, from 0, and that fault. `Read` if the reader fails, or
 /// does not come to its end within 4,294,967,296 calls; `Memory` if an allocation is refused. `Write` if the writer
-/// fails, which then has a prefix of the text. At every other error nothing is written.
+/// fails, which has then taken a prefix of the text. At every other error nothing is written.
 pub fn dump<A: Allocator + Copy, T: Read, W: Write>(
     alloc: A,
     reader: &mut T,

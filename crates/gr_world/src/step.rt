@@ -31,8 +31,8 @@ pub enum Step {
 /// Why a step is refused: the first of these causes that is there. Nothing is then changed.
 #[derive(Clone, Copy, Debug, PartialEq, Eq, Error)]
 pub enum StepError {
-    /// There is no such group, item, queue or worker; or what is sent is an end, is no record that the group may have, or
-    /// would leave no room for the stream's end.
+    /// There is no such group, item, queue or worker; or what is sent is an end, is no record that the group may have,
+    /// or would leave no room for the stream's end.
     #[error("bad step")]
     BadStep,
     /// The group's stream has its end.

@@ -1,8 +1,8 @@
 //! The world.
 //!
-//! Invariant: what was taken of each group, followed by what is queued of it, is what was sent, and the handled order is
-//! lawful; what each worker received, followed by what is queued for it and what is on its way to it, are the accesses along
-//! the handled order that go to it.
+//! Invariant: what was taken of each group, followed by what is queued of it, is what was sent, and the handled order
+//! is lawful; what each worker received, followed by what is queued for it and what is on its way to it, are the
+//! accesses along the handled order that go to it.
 
 ghost use Rattle.std.specs.Prelude.{◌≡◌, ◌≢◌, ◌↔◌, ◌<◌, ◌+◌, IsTrue, IsFalse, IfOk, IfErr, OnOk, OnErr, length, replicate};
 ghost use Rattle.gr_model.specs.declared.limits.TheConstants.{MOST_RECORDS};
@@ -38,8 +38,8 @@ use gr_shadow::merge::merge;
 use std::alloc::{Allocator, Global};
 use std::marker::Model;
 
-/// The world of a run. Contracts see what was sent, what is queued for the sequencer, what was taken and in which order it
-/// was handled, what is on its way, and what each worker has.
+/// The world of a run. Contracts see what was sent, what is queued for the sequencer, what was taken and in which order
+/// it was handled, what is on its way, and what each worker has.
 #[derive(Drop)]
 #[derive_where(Debug)]
 pub struct World<A: Allocator = Global> {
