@@ -18,7 +18,7 @@ pub enum ConfigError {
     /// There are no queues, or more than `MOST_QUEUES`.
     #[error("bad queues")]
     BadQueues,
-    /// A queue has room for nothing, or for more than `MOST_PLACES`.
+    /// A queue has room for no value, or for more than `MOST_PLACES`.
     #[error("bad capacity")]
     BadCapacity,
 }
@@ -45,7 +45,8 @@ impl Model for Config {
 }
 
 impl Config {
-    /// The configuration of so many workers and intake queues, with room for `capacity` values in each queue.
+    /// The configuration of `workers` workers and `queues` intake queues, with room for `capacity` values in each
+    /// queue.
     ///
     /// # Errors
     /// The first of these that is there: `BadWorkers` if `workers` is not 1 to `MOST_WORKERS`; `BadQueues` if `queues`

@@ -162,7 +162,7 @@ impl Decoder {
     }
 
     /// Takes a whole record of a stream of a group with `items` work-items.
-    /// Requires: the stream is to go on, and its header with so many items was read; no bytes are kept; `unit` has
+    /// Requires: the stream is to go on, and its header with `items` work-items was read; no bytes are kept; `unit` has
     /// `RECORD_LENGTH` bytes; there is room for the part.
     fn take_record<A: Allocator>(&mut self, items: u16, unit: &[u8], parts: &mut Vec<Part, A>)
         requires place { (self.old.stop ≡ Inside) × (self.old.items ≡ Some items) × (self.old.held ≡ []) }

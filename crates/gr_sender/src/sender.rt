@@ -68,8 +68,8 @@ impl<A: Allocator> Model for Sender<A> {
 impl<A: Allocator> Sender<A> {
     /// An open sender of a work-group with `items` work-items, over the group's seat. The stream may have `records`
     /// records, its end included.
-    /// Requires: the seat is the group's, is of this queue, has so many items, and has pushed nothing; `records` is 1
-    /// to `MOST_RECORDS`.
+    /// Requires: the seat is the group's, is of this queue, has `items` work-items, and has pushed nothing; `records`
+    /// is 1 to `MOST_RECORDS`.
     pub fn new(
         group: u16,
         items: u16,

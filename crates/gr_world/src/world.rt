@@ -64,7 +64,7 @@ impl<A: Allocator> Model for World<A> {
     ghost invariant = { λ w. IsWorld (world_of w.config w.sent w.intakes.items w.sequencer w.way w.workers.items) };
 }
 
-/// So many empty queues, each with room for so many records.
+/// `count` empty queues, each with room for `places` records.
 fn queues_of<A: Allocator + Copy>(
     alloc: A,
     count: u16,
@@ -79,7 +79,7 @@ fn queues_of<A: Allocator + Copy>(
     Ok(queues)
 }
 
-/// So many workers that received nothing, each with room in its queue for so many accesses.
+/// `count` workers that received nothing, each with room in its queue for `places` accesses.
 fn crew_of<A: Allocator + Copy>(
     alloc: A,
     count: u16,
@@ -304,8 +304,8 @@ impl<A: Allocator> World<A> {
         records
     }
 
-    /// Whether a group can't send this event: it is an end, is none that the group may have, or leaves no room for the
-    /// end.
+    /// Whether a group may not send this event: it is an end, is none that the group may have, or leaves no room for
+    /// the end.
     /// Requires: there is such a group.
     fn is_bad(&self, group: u16, event: &Event) -> bool
         requires { group < length self.now.sent.sizes }
