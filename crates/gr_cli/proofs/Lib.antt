@@ -1,3 +1,4 @@
 pub mod AnswerLemmas
 pub mod Asking
 pub mod Naming
+pub mod Plain

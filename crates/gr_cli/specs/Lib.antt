@@ -1,4 +1,5 @@
 pub mod Answers
+pub mod Plain
 pub mod Questions
 pub mod Statuses
 pub mod Words

@@ -83,8 +83,10 @@ const LONG_EXPLAIN: &str = "\
 Tells of one word which two accesses race on it, or that it has no race.
 
 The accesses are told as GROUP ITEM INDEX; an item's records are counted from 0. Of all racing pairs it is the least, by
-its first access and then by its second. The pair is found without clocks, in time that grows with the accesses to the
-word times the records of the launch: a word that many items access in a trace of a million records takes long.";
+its first access and then by its second.
+
+The pair is found without clocks, in time that grows with the accesses to the word times the records of the launch: a trace
+of 100,000 records takes seconds, one of a million may take minutes.";
 
 const AFTER_EXPLAIN: &str = "\
 Example:

@@ -6,6 +6,7 @@
 
 mod arguments;
 mod execute;
+mod laws;
 mod status;
 #[cfg(test)]
 mod tests;

@@ -170,8 +170,7 @@ fn shown_between(
 
 #[test]
 fn readers_and_writers_that_fail_are_told(rt: HostRuntime) -> Result<(), Fail> {
-    let inputs = inputs_of(rt.alloc(), &[HANDED_BACK_BY_ONE])?;
-    let input = inputs[0].as_slice();
+    let input = pack_text(rt.alloc(), HANDED_BACK_BY_ONE.as_bytes())?;
     let (bytes, letters) = (212, BACK_LINE.len());
     assert_eq!(rt; input.len(), bytes);
     for calls in 0..bytes + 1 {
@@ -180,7 +179,7 @@ fn readers_and_writers_that_fail_are_told(rt: HostRuntime) -> Result<(), Fail> {
             room: letters,
             flushes: true,
         };
-        let answer = shown_between(rt.alloc(), input, calls, &mut writer);
+        let answer = shown_between(rt.alloc(), &input, calls, &mut writer);
         assert_eq!(rt; answer, Err(Fault::Read), "after {calls} calls");
         assert!(rt; writer.taken.is_empty(), "after {calls} calls");
     }
@@ -190,7 +189,7 @@ fn readers_and_writers_that_fail_are_told(rt: HostRuntime) -> Result<(), Fail> {
             room,
             flushes: room < letters,
         };
-        let answer = shown_between(rt.alloc(), input, bytes + 1, &mut writer);
+        let answer = shown_between(rt.alloc(), &input, bytes + 1, &mut writer);
         assert_eq!(rt; answer, Err(Fault::Write), "after {room} bytes");
         assert!(rt;
             writer.taken.len() == room && BACK_LINE.as_bytes().starts_with(&writer.taken),
