@@ -5,12 +5,13 @@ ghost use Rattle.std.specs.List.{sum_by};
 ghost use Rattle.gr_model.specs.Reports.{IsReportOf};
 ghost use Rattle.gr_report.specs.Whole.{whole_of};
 
-use crate::handling::handle_all;
 use crate::taking::take_all;
 use gr_model::memory::Memory;
 use gr_model::traces::Traces;
 use gr_report::report::Report;
 use gr_report::rows::Rows;
+use gr_sequencer::sequencer::Sequencer;
+use gr_shadow::shadows::Shadows;
 use std::alloc::Allocator;
 
 /// How many records there are, ends included.
@@ -31,8 +32,9 @@ fn records_of<B: Allocator>(traces: &Traces<B>) -> u64
 pub fn detect<A: Allocator + Copy>(alloc: A, traces: &Traces<A>) -> Result<Report<A>, Memory>
     ensures { IfOk result (λ report. IsReportOf traces.now (whole_of report)) }
 {
-    let mut sequencer = take_all(alloc, traces)?;
-    let shadows = handle_all(alloc, &mut sequencer)?;
+    let mut sequencer = Sequencer::new(alloc, traces.shape().copy()?)?;
+    let mut shadows = Shadows::new(alloc);
+    take_all(&mut sequencer, &mut shadows, traces)?;
     let races = shadows.racy()?;
     let divergences = sequencer.divergences()?;
     let unmatched = sequencer.unmatched()?;
