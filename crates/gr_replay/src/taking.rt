@@ -4,12 +4,14 @@
 
 ghost use Rattle.std.specs.Prelude.{◌≡◌, ◌<◌, [], OnOk, length};
 ghost use Rattle.gr_model.specs.declared.limits.TheConstants.{MOST_RECORDS};
-ghost use Rattle.gr_model.specs.Streams.{IsAccepted, list_of, size_of};
+ghost use Rattle.gr_model.specs.Streams.{AreAccepted, IsAccepted, list_of, size_of};
 ghost use Rattle.gr_lanes.specs.Takes.{CanTake, IsEventButItem, with_record};
 ghost use Rattle.gr_order.specs.Sequences.{IsDone, IsSequence, nothing};
+ghost use Rattle.gr_replay.specs.Launch.{streams_of};
 ghost use Rattle.gr_replay.specs.Sequencing.{AreShadowsOf, with_list};
 
 use crate::handling::handle_ready;
+use crate::launch::Launch;
 use gr_lanes::seq_error::SeqError;
 use gr_model::event::Event;
 use gr_model::memory::Memory;
@@ -82,7 +84,7 @@ fn take_list<A: Allocator + Copy>(
 ///
 /// # Errors
 /// `Memory`.
-pub(crate) fn take_all<A: Allocator + Copy>(
+pub(crate) fn take_traces<A: Allocator + Copy>(
     sequencer: &mut Sequencer<A>,
     shadows: &mut Shadows<A>,
     traces: &Traces<A>,
@@ -96,6 +98,32 @@ pub(crate) fn take_all<A: Allocator + Copy>(
 {
     for group in 0..traces.shape().groups() {
         take_list(sequencer, shadows, group, traces.list(group))?;
+    }
+    handle_ready(sequencer, shadows)?;
+    Ok(())
+}
+
+/// The same of streams, whose records are read group by group.
+///
+/// # Errors
+/// `Memory`.
+pub(crate) fn take_streams<A: Allocator + Copy>(
+    alloc: A,
+    sequencer: &mut Sequencer<A>,
+    shadows: &mut Shadows<A>,
+    launch: &Launch<'_, A>,
+) -> Result<(), Memory>
+    requires accepted { AreAccepted (streams_of launch.now) }
+    requires nothing { sequencer.old ≡ nothing launch.now.shape }
+    requires shadows { AreShadowsOf sequencer.old shadows.old }
+    ensures taken { OnOk result (sequencer.new.taken ≡ streams_of launch.now) }
+    ensures done { OnOk result (IsDone sequencer.new) }
+    ensures sequence { OnOk result (IsSequence sequencer.new) }
+    ensures shadows { OnOk result (AreShadowsOf sequencer.new shadows.new) }
+{
+    for group in 0..launch.shape.groups() {
+        let list = launch.streams[usize::from(group)].events.read(alloc)?;
+        take_list(sequencer, shadows, group, &list)?;
     }
     handle_ready(sequencer, shadows)?;
     Ok(())

@@ -2,7 +2,7 @@ use Rattle.std.proofs.Common.{◌<◌, ◌≤◌, List, length, ap, ◌∙◌, s
 use Rattle.gr_model.specs.declared.event.Event.{Event}
 use Rattle.gr_model.specs.Streams.{IsAccepted, size_of}
 use Rattle.gr_replay.proofs.TakenLists.{accepted_at, all_are_taken, list_taken, nothing_is_sequence, sequencer_is_new}
-use Rattle.gr_replay.proofs.taking.take_all.Goals as goal
+use Rattle.gr_replay.proofs.taking.take_traces.Goals as goal
 
 pub loop-group-init : goal.loop-group-init
 loop-group-init g c = record {
