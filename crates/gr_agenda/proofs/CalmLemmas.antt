@@ -1,5 +1,5 @@
 -- An item that stands at a barrier can go on exactly where the barrier's instance is divergent; and which instances stay as they are.
-use Rattle.std.proofs.Common.{◌≡◌, ◌<◌, ℕ, List, Bool, true, false, None, Some, Option, length, slice_get, refl, sym, ap, ◌∙◌, subst, ⊎_elim}
+use Rattle.std.proofs.Common.{◌≡◌, ◌<◌, ℕ, List, true, false, None, Some, Option, length, slice_get, refl, sym, ap, ◌∙◌, subst, ⊎_elim}
 use Rattle.std.specs.Prelude.{slice_index_or, slice_set}
 use Rattle.std.proofs.lemmas.Bool.{cases_eq}
 use Rattle.std.proofs.lemmas.List.{get_or-set_same, get_or-set_other, length-set}
@@ -9,9 +9,9 @@ use Rattle.gr_model.specs.declared.event.EventId.{EventId}
 use Rattle.gr_model.specs.declared.event.ItemId.{ItemId}
 use Rattle.gr_model.specs.Barriers.{IsDivergent, is_barrier}
 use Rattle.gr_model.specs.Events.{is_end}
-use Rattle.gr_model.specs.Streams.{Streams, event_at, place_of}
+use Rattle.gr_model.specs.Streams.{Streams, event_at}
 use Rattle.gr_clocks.specs.Counts.{count_of}
-use Rattle.gr_lanes.specs.Takes.{CanTake, with_record}
+use Rattle.gr_lanes.specs.Takes.{CanTake}
 use Rattle.gr_steps.specs.Steps.{CanHandle}
 use Rattle.gr_steps.proofs.EventRecords.{barriers_name_nothing}
 use Rattle.gr_order.specs.Sequences.{IsSequence, Sequence, taking}

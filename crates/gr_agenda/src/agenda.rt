@@ -23,6 +23,7 @@ ghost use Rattle.gr_agenda.specs.Lists.{Has, IsWaiting, KeepsSteps};
 
 use crate::todo::Todo;
 use crate::waiting::{LISTS, wait, wake};
+use gr_lanes::kinds::is_barrier;
 use gr_lanes::seq_error::SeqError;
 use gr_model::event::{Event, EventId, ItemId, Kind, Name};
 use gr_model::memory::Memory;
@@ -102,25 +103,12 @@ fn put_items<A: Allocator>(todo: &mut Todo<A>, group: u16, items: u16)
     }
 }
 
-/// Whether a record is a barrier.
-fn is_barrier(event: &Event) -> bool
-    ensures { result ≡ is_barrier event.now }
-{
-    matches!(
-        event.kind,
-        Kind::Barrier {
-            global: _,
-            local: _
-        }
-    )
-}
-
 /// Whether an item's next event is a barrier, as it is where an instance of its group may meet.
 fn is_at_barrier<A: Allocator>(order: &Order<A>, item: ItemId) -> bool
     ensures { CanMeet order.now.taken order.now.handled item.group → item.item < size_of order.now.taken item.group → IsTrue result }
 {
-    let index = order.frontier().get(item);
-    match order.lanes().event_at(EventId { at: item, index }) {
+    let _frontier = order.frontier();
+    match order.waiting(item) {
         None => false,
         Some(event) => is_barrier(&event),
     }
@@ -140,8 +128,8 @@ fn put_group<A: Allocator>(order: &Order<A>, todo: &mut Todo<A>, item: ItemId)
 fn named_by<A: Allocator>(order: &Order<A>, item: ItemId) -> Option<Name>
     ensures { (d : AnyEvent) (n : AnyName) → IsHeldUp order.now.taken order.now.handled d n → d.at ≡ item → result ≡ Some n }
 {
-    let index = order.frontier().get(item);
-    match order.lanes().event_at(EventId { at: item, index }) {
+    let _frontier = order.frontier();
+    match order.waiting(item) {
         None => None,
         Some(event) => event.name,
     }

@@ -1,4 +1,5 @@
 pub mod TakenLists
+pub mod RecordLemmas
 pub mod TellingLemmas
 pub mod Sets
 pub mod FollowerLemmas

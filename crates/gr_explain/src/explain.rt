@@ -7,6 +7,7 @@ ghost use Rattle.gr_explain.specs.LeastRaces.{IsLeastRace};
 
 use crate::listing::list_grounded;
 use crate::races::least_race;
+use crate::records::Records;
 use crate::taking::take_all;
 use gr_model::event::{EventId, Word};
 use gr_model::memory::Memory;
@@ -30,5 +31,6 @@ pub fn explain<A: Allocator + Copy>(
 {
     let mut order = take_all(alloc, traces)?;
     let listed = list_grounded(alloc, &mut order)?;
-    least_race(alloc, order.lanes(), &listed, word)
+    let records = Records::of(take_all(alloc, traces)?);
+    least_race(alloc, &records, &listed, word)
 }

@@ -5,9 +5,9 @@ ghost use Rattle.gr_model.specs.LawfulOrders.{IsLawful};
 ghost use Rattle.gr_model.specs.Streams.{AreFronts};
 ghost use Rattle.gr_explain.specs.Telling.{AreFollowers};
 
+use crate::records::Records;
 use crate::telling::is_told;
 use crate::told::Told;
-use gr_lanes::lanes::Lanes;
 use gr_model::event::{EventId, Space};
 use gr_model::memory::Memory;
 use std::alloc::Allocator;
@@ -18,19 +18,19 @@ use std::alloc::Allocator;
 /// `Memory`.
 pub(crate) fn followers<A: Allocator + Copy>(
     alloc: A,
-    lanes: &Lanes<A>,
+    records: &Records<A>,
     order: &[EventId],
     space: Space,
     first: EventId,
 ) -> Result<Told<A>, Memory>
-    requires fronts { AreFronts lanes.now }
-    requires lawful { IsLawful lanes.now order.now }
-    ensures { IfOk result (λ followers. AreFollowers lanes.now space order.now (length order.now) first followers.events.keys) }
+    requires fronts { AreFronts records.now }
+    requires lawful { IsLawful records.now order.now }
+    ensures { IfOk result (λ followers. AreFollowers records.now space order.now (length order.now) first followers.events.keys) }
 {
     let mut followers = Told::new(alloc);
     for event in order {
-        if *event == first || is_told(lanes, &followers, space, *event) {
-            followers.add(lanes, space, *event)?;
+        if *event == first || is_told(records, &followers, space, *event) {
+            followers.add(records, space, *event)?;
         }
     }
     Ok(followers)

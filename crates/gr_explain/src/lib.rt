@@ -12,6 +12,7 @@ mod followers;
 mod listing;
 mod pairs;
 mod races;
+mod records;
 mod taking;
 mod telling;
 mod told;

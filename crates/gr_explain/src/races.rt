@@ -11,33 +11,33 @@ ghost use Rattle.gr_explain.specs.Telling.{AreFollowers};
 use crate::conflict::{access_to, are_conflicting};
 use crate::followers::followers;
 use crate::pairs::{lesser, turned};
+use crate::records::Records;
 use crate::told::Told;
 use gr_clocks::clocks::memory_of;
-use gr_lanes::lanes::Lanes;
 use gr_model::event::{EventId, Word};
 use gr_model::memory::Memory;
 use std::alloc::Allocator;
 
 /// The least racing pair of a word so far and of an event with those that come behind it in an order.
 fn with_races_of<A: Allocator>(
-    lanes: &Lanes<A>,
+    records: &Records<A>,
     order: &[EventId],
     word: Word,
     place: usize,
     followers: &Told<A>,
     least: Option<(EventId, EventId)>,
 ) -> Option<(EventId, EventId)>
-    requires lawful { IsLawful lanes.now order.now }
+    requires lawful { IsLawful records.now order.now }
     requires place { place < length order.now }
-    requires followers { (e : _) → IsAt order.now place e → AreFollowers lanes.now (model.memory_of word) order.now (length order.now) e followers.now.events.keys }
-    requires least { IsLeastOf (IsFound lanes.now word order.now place 0) least }
-    ensures { IsLeastOf (IsFound lanes.now word order.now (place + 1) 0) result }
+    requires followers { (e : _) → IsAt order.now place e → AreFollowers records.now (model.memory_of word) order.now (length order.now) e followers.now.events.keys }
+    requires least { IsLeastOf (IsFound records.now word order.now place 0) least }
+    ensures { IsLeastOf (IsFound records.now word order.now (place + 1) 0) result }
 {
     let mut least = least;
     let first = order[place];
     for other in place + 1..order.len() {
         let second = order[other];
-        if are_conflicting(lanes, word, first, second) && !followers.events.contains(&second) {
+        if are_conflicting(records, word, first, second) && !followers.events.contains(&second) {
             least = Some(lesser(least, turned(first, second)));
         }
     }
@@ -50,22 +50,22 @@ fn with_races_of<A: Allocator>(
 /// `Memory`.
 pub(crate) fn least_race<A: Allocator + Copy>(
     alloc: A,
-    lanes: &Lanes<A>,
+    records: &Records<A>,
     order: &[EventId],
     word: Word,
 ) -> Result<Option<(EventId, EventId)>, Memory>
-    requires fronts { AreFronts lanes.now }
-    requires whole { IsWholeOrder lanes.now order.now }
-    ensures { IfOk result (λ least. IsLeastOf (IsRacePair lanes.now word) least) }
+    requires fronts { AreFronts records.now }
+    requires whole { IsWholeOrder records.now order.now }
+    ensures { IfOk result (λ least. IsLeastOf (IsRacePair records.now word) least) }
 {
     let mut least = None;
     for place in 0..order.len() {
         let first = order[place];
-        match access_to(lanes, word, first) {
+        match access_to(records, word, first) {
             None => {}
             Some(_) => {
-                let followers = followers(alloc, lanes, order, memory_of(word), first)?;
-                least = with_races_of(lanes, order, word, place, &followers, least);
+                let followers = followers(alloc, records, order, memory_of(word), first)?;
+                least = with_races_of(records, order, word, place, &followers, least);
             }
         }
     }

@@ -11,9 +11,9 @@ ghost use Rattle.gr_model.specs.Streams.{AreFronts, IsEvent};
 ghost use Rattle.gr_model.specs.Waits.{IsPrevious};
 ghost use Rattle.gr_explain.specs.Telling.{ArePassed, Has, IsFlagged, IsTold};
 
+use crate::records::Records;
 use crate::told::{Instance, Told};
 use gr_clocks::clocks::memory_of;
-use gr_lanes::lanes::Lanes;
 use gr_model::event::{EventId, Space};
 use gr_scopes::access::inclusive;
 use std::alloc::Allocator;
@@ -33,13 +33,13 @@ fn previous(event: EventId) -> Option<EventId>
 }
 
 /// The release that an event matches, if it matches one.
-fn matched<A: Allocator>(lanes: &Lanes<A>, event: EventId) -> Option<EventId>
-    ensures { MatchOption result ((d : AnyEvent) → ¬ Matches lanes.now event d) (λ d. Matches lanes.now event d) }
+fn matched<A: Allocator>(records: &Records<A>, event: EventId) -> Option<EventId>
+    ensures { MatchOption result ((d : AnyEvent) → ¬ Matches records.now event d) (λ d. Matches records.now event d) }
 {
-    let name = lanes.event_at(event)?.name?;
-    let index = lanes.release_at(name)?;
+    let name = records.event_at(event)?.name?;
+    let index = records.release_at(name)?;
     let release = EventId { at: name.at, index };
-    if lanes.word_at(release) == lanes.word_at(event) {
+    if records.word_at(release) == records.word_at(event) {
         Some(release)
     } else {
         None
@@ -48,17 +48,17 @@ fn matched<A: Allocator>(lanes: &Lanes<A>, event: EventId) -> Option<EventId>
 
 /// Whether the first of two events accesses a word of a memory, and both are atomic with inclusive scope.
 fn is_inclusive<A: Allocator>(
-    lanes: &Lanes<A>,
+    records: &Records<A>,
     space: Space,
     first: EventId,
     second: EventId,
 ) -> bool
-    ensures { IsTrue result ↔ order.IsInclusive lanes.now space first second }
+    ensures { IsTrue result ↔ order.IsInclusive records.now space first second }
 {
     match (
-        lanes.event_at(first),
-        lanes.word_at(first),
-        lanes.event_at(second),
+        records.event_at(first),
+        records.word_at(first),
+        records.event_at(second),
     ) {
         (Some(one), Some(word), Some(other)) => {
             memory_of(word) == space
@@ -69,23 +69,28 @@ fn is_inclusive<A: Allocator>(
 }
 
 /// Whether the release that an event matches with inclusive scope, on a word of a memory, is told.
-fn has_release<A: Allocator>(lanes: &Lanes<A>, told: &Told<A>, space: Space, event: EventId) -> bool
-    ensures { IsTrue result ↔ ((d : AnyEvent) × Has told.now.events.keys d × Matches lanes.now event d × order.IsInclusive lanes.now space d event) }
+fn has_release<A: Allocator>(
+    records: &Records<A>,
+    told: &Told<A>,
+    space: Space,
+    event: EventId,
+) -> bool
+    ensures { IsTrue result ↔ ((d : AnyEvent) × Has told.now.events.keys d × Matches records.now event d × order.IsInclusive records.now space d event) }
 {
-    match matched(lanes, event) {
+    match matched(records, event) {
         None => false,
         Some(release) => told.events.contains(&release)
-            && is_inclusive(lanes, space, release, event),
+            && is_inclusive(records, space, release, event),
     }
 }
 
 /// Whether some barrier of the convergent instance in which an event stands is told, where it flags the memory.
-fn has_companion<A: Allocator>(lanes: &Lanes<A>, told: &Told<A>, event: EventId) -> bool
-    requires fronts { AreFronts lanes.now }
-    requires there { IsEvent lanes.now event }
-    ensures { (m : AnySpace) → ArePassed lanes.now m told.now.events.keys told.now.instances.keys → IsTrue result ↔ ((d : AnyEvent) × (k : ℕ) × Has told.now.events.keys d × IsFlagged lanes.now m event k × StandsIn lanes.now d event.at.group k) }
+fn has_companion<A: Allocator>(records: &Records<A>, told: &Told<A>, event: EventId) -> bool
+    requires fronts { AreFronts records.now }
+    requires there { IsEvent records.now event }
+    ensures { (m : AnySpace) → ArePassed records.now m told.now.events.keys told.now.instances.keys → IsTrue result ↔ ((d : AnyEvent) × (k : ℕ) × Has told.now.events.keys d × IsFlagged records.now m event k × StandsIn records.now d event.at.group k) }
 {
-    match lanes.barrier_number(event) {
+    match records.barrier_number(event) {
         None => false,
         Some(number) => told.instances.contains(&Instance {
             group: event.at.group,
@@ -96,19 +101,19 @@ fn has_companion<A: Allocator>(lanes: &Lanes<A>, told: &Told<A>, event: EventId)
 
 /// Whether one of the told events tells an event directly.
 pub(crate) fn is_told<A: Allocator>(
-    lanes: &Lanes<A>,
+    records: &Records<A>,
     told: &Told<A>,
     space: Space,
     event: EventId,
 ) -> bool
-    requires fronts { AreFronts lanes.now }
-    requires there { (d : AnyEvent) → IsPrevious d event → IsEvent lanes.now d }
-    requires passed { ArePassed lanes.now space told.now.events.keys told.now.instances.keys }
-    ensures { IsTrue result ↔ IsTold lanes.now space told.now.events.keys event }
+    requires fronts { AreFronts records.now }
+    requires there { (d : AnyEvent) → IsPrevious d event → IsEvent records.now d }
+    requires passed { ArePassed records.now space told.now.events.keys told.now.instances.keys }
+    ensures { IsTrue result ↔ IsTold records.now space told.now.events.keys event }
 {
-    has_release(lanes, told, space, event)
+    has_release(records, told, space, event)
         || match previous(event) {
             None => false,
-            Some(before) => told.events.contains(&before) || has_companion(lanes, told, before),
+            Some(before) => told.events.contains(&before) || has_companion(records, told, before),
         }
 }

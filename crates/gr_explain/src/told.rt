@@ -9,8 +9,7 @@ ghost use Rattle.gr_model.specs.Streams.{AreFronts, place_of};
 ghost use Rattle.gr_model.specs.Waits.{CanGo};
 ghost use Rattle.gr_explain.specs.Telling.{ArePassed, Has, HasInstance, IsFlagged};
 
-use gr_lanes::instance::is_divergent;
-use gr_lanes::lanes::Lanes;
+use crate::records::Records;
 use gr_model::event::{EventId, Kind, Space};
 use gr_model::memory::Memory;
 use indexmap::IndexSet;
@@ -51,32 +50,32 @@ fn has_flag(kind: &Kind, space: Space) -> bool
 }
 
 /// Whether the instance of this number, in which an event stands, is convergent and flags a memory.
-fn is_flagged<A: Allocator>(lanes: &Lanes<A>, space: Space, event: EventId, number: u32) -> bool
-    requires fronts { AreFronts lanes.now }
-    requires settled { CanGo lanes.now event }
-    requires place { place_of lanes.now is_barrier event.at number ≡ Some event.index }
-    ensures { IsTrue result ↔ IsFlagged lanes.now space event number }
+fn is_flagged<A: Allocator>(records: &Records<A>, space: Space, event: EventId, number: u32) -> bool
+    requires fronts { AreFronts records.now }
+    requires settled { CanGo records.now event }
+    requires place { place_of records.now is_barrier event.at number ≡ Some event.index }
+    ensures { IsTrue result ↔ IsFlagged records.now space event number }
 {
-    match lanes.event_at(event) {
+    match records.event_at(event) {
         None => false,
         Some(taken) => {
-            has_flag(&taken.kind, space) && !is_divergent(lanes, event.at.group, number, &taken)
+            has_flag(&taken.kind, space) && !records.is_divergent(event.at.group, number, &taken)
         }
     }
 }
 
 /// The instance in which an event stands, if it is convergent, flags a memory and is not one of these.
 fn new_instance<A: Allocator>(
-    lanes: &Lanes<A>,
+    records: &Records<A>,
     instances: &Instances<A>,
     space: Space,
     event: EventId,
 ) -> Option<Instance>
-    requires fronts { AreFronts lanes.now }
-    requires settled { CanGo lanes.now event }
-    ensures { MatchOption result ((k : ℕ) → IsFlagged lanes.now space event k → HasInstance instances.now.keys event.at.group k) (λ i. (i.group ≡ event.at.group) × IsFlagged lanes.now space event i.number) }
+    requires fronts { AreFronts records.now }
+    requires settled { CanGo records.now event }
+    ensures { MatchOption result ((k : ℕ) → IsFlagged records.now space event k → HasInstance instances.now.keys event.at.group k) (λ i. (i.group ≡ event.at.group) × IsFlagged records.now space event i.number) }
 {
-    match lanes.barrier_number(event) {
+    match records.barrier_number(event) {
         None => None,
         Some(number) => {
             let instance = Instance {
@@ -85,7 +84,7 @@ fn new_instance<A: Allocator>(
             };
             if instances.contains(&instance) {
                 None
-            } else if is_flagged(lanes, space, event, number) {
+            } else if is_flagged(records, space, event, number) {
                 Some(instance)
             } else {
                 None
@@ -112,17 +111,17 @@ impl<A: Allocator + Copy> Told<A> {
     /// `Memory`.
     pub(crate) fn add(
         &mut self,
-        lanes: &Lanes<A>,
+        records: &Records<A>,
         space: Space,
         event: EventId,
     ) -> Result<(), Memory>
-        requires fronts { AreFronts lanes.now }
-        requires settled { CanGo lanes.now event }
-        requires passed { ArePassed lanes.now space self.old.events.keys self.old.instances.keys }
+        requires fronts { AreFronts records.now }
+        requires settled { CanGo records.now event }
+        requires passed { ArePassed records.now space self.old.events.keys self.old.instances.keys }
         ensures events { OnOk result ((d : AnyEvent) → Has self.new.events.keys d ↔ ((d ≡ event) ⊎ Has self.old.events.keys d)) }
-        ensures passed { OnOk result (ArePassed lanes.now space self.new.events.keys self.new.instances.keys) }
+        ensures passed { OnOk result (ArePassed records.now space self.new.events.keys self.new.instances.keys) }
     {
-        match new_instance(lanes, &self.instances, space, event) {
+        match new_instance(records, &self.instances, space, event) {
             None => {}
             Some(instance) => {
                 self.instances.insert(instance)?;

@@ -3,29 +3,45 @@
 //! The events of each item that were handled are its first ones. Once they are the grounded ones, the only event of an item
 //! that can be unmatched is the next.
 
-ghost use Rattle.std.specs.Prelude.{◌≡◌, ◌≢◌, ◌<◌, ◌+◌, IfOk, MatchOption, OnOk, length};
+ghost use Rattle.std.specs.Prelude.{◌≡◌, ◌≢◌, ◌<◌, ◌+◌, IfOk, MatchOption, OnOk, Some, length};
 ghost use Rattle.gr_model.specs.declared.report.Unmatched.{Unmatched as Finding};
-ghost use Rattle.gr_model.specs.Names.{HasAcquireCause, HasName};
+ghost use Rattle.gr_model.specs.Names.{HasAcquireCause, HasName, release_place};
+ghost use Rattle.gr_model.specs.Streams.{word_at};
 ghost use Rattle.gr_model.specs.Reports.{IsUnmatchedAcquire, Lists, UnmatchedBelow};
+ghost use Rattle.gr_windows.specs.Windows.{AreWaiting};
 ghost use Rattle.gr_findings.specs.Acquires.{AreUnmatchedBefore, IsGroundedFront};
 
 use gr_clocks::tally::Tally;
 use gr_lanes::lanes::Lanes;
-use gr_model::event::{EventId, ItemId, Name};
+use gr_model::event::{EventId, ItemId, Name, Word, word_of};
 use gr_model::memory::Memory;
 use gr_model::report::{AcquireCause, Unmatched};
+use gr_windows::windows::Windows;
 use std::alloc::Allocator;
 
+/// The word of the release of this name, which has this index.
+fn release_word<B: Allocator>(lanes: &Lanes<B>, name: Name, index: u32) -> Option<Word>
+    requires { release_place lanes.now name ≡ Some index }
+    ensures { result ≡ word_at lanes.now (record { at = name.at; index = index }) }
+{
+    lanes.release_word(name)
+}
+
 /// Why an acquire of this name that is never reached is unmatched.
-fn cause<B: Allocator>(lanes: &Lanes<B>, acquire: EventId, name: Name) -> AcquireCause
-    requires { HasName lanes.now acquire name }
+fn cause<B: Allocator>(
+    lanes: &Lanes<B>,
+    acquire: EventId,
+    name: Name,
+    word: Option<Word>,
+) -> AcquireCause
+    requires name { HasName lanes.now acquire name }
+    requires word { word ≡ word_at lanes.now acquire }
     ensures { HasAcquireCause lanes.now acquire result }
 {
     match lanes.release_at(name) {
         None => AcquireCause::Absent,
         Some(index) => {
-            let release = EventId { at: name.at, index };
-            if lanes.word_at(release) == lanes.word_at(acquire) {
+            if release_word(lanes, name, index) == word {
                 AcquireCause::Behind
             } else {
                 AcquireCause::OtherWord
@@ -38,8 +54,10 @@ fn cause<B: Allocator>(lanes: &Lanes<B>, acquire: EventId, name: Name) -> Acquir
 fn unmatched_of<B: Allocator>(
     lanes: &Lanes<B>,
     frontier: &Tally<B>,
+    windows: &Windows<B>,
     item: ItemId,
 ) -> Option<Unmatched>
+    requires waiting { AreWaiting lanes.now frontier.now windows.now }
     requires grounded { IsGroundedFront lanes.now frontier.now }
     ensures { MatchOption result ((u : Finding) → IsUnmatchedAcquire lanes.now u → u.event.at ≢ item) (λ u. (u.event.at ≡ item) × IsUnmatchedAcquire lanes.now u) }
 {
@@ -47,11 +65,11 @@ fn unmatched_of<B: Allocator>(
         at: item,
         index: frontier.get(item),
     };
-    let taken = lanes.event_at(event)?;
+    let taken = windows.waiting(item, 0)?;
     let name = taken.name?;
     Some(Unmatched {
         event,
-        cause: cause(lanes, event, name),
+        cause: cause(lanes, event, name, word_of(item.group, &taken)),
     })
 }
 
@@ -59,16 +77,18 @@ fn unmatched_of<B: Allocator>(
 fn add_group<A: Allocator, B: Allocator>(
     lanes: &Lanes<B>,
     frontier: &Tally<B>,
+    windows: &Windows<B>,
     group: u16,
     list: &mut Vec<Unmatched, A>,
 ) -> Result<(), Memory>
     requires group { group < length lanes.now.sizes }
     requires grounded { IsGroundedFront lanes.now frontier.now }
+    requires waiting { AreWaiting lanes.now frontier.now windows.now }
     requires before { AreUnmatchedBefore lanes.now group 0 list.old.items }
     ensures { OnOk result (AreUnmatchedBefore lanes.now (group + 1) 0 list.new.items) }
 {
     for item in 0..lanes.shape().items(group) {
-        if let Some(unmatched) = unmatched_of(lanes, frontier, ItemId { group, item }) {
+        if let Some(unmatched) = unmatched_of(lanes, frontier, windows, ItemId { group, item }) {
             list.push(unmatched)?;
         }
     }
@@ -76,7 +96,7 @@ fn add_group<A: Allocator, B: Allocator>(
 }
 
 /// The unmatched acquires with their causes, by group and then by item. The grounded events of each item are its first ones,
-/// as many as the frontier counts.
+/// as many as the frontier counts, and the others wait.
 ///
 /// # Errors
 /// `Memory`.
@@ -84,13 +104,15 @@ pub fn unmatched<A: Allocator, B: Allocator>(
     alloc: A,
     lanes: &Lanes<B>,
     frontier: &Tally<B>,
+    windows: &Windows<B>,
 ) -> Result<Vec<Unmatched, A>, Memory>
     requires grounded { IsGroundedFront lanes.now frontier.now }
+    requires waiting { AreWaiting lanes.now frontier.now windows.now }
     ensures { IfOk result (λ v. Lists UnmatchedBelow (IsUnmatchedAcquire lanes.now) v.items) }
 {
     let mut list = Vec::new(alloc);
     for group in 0..lanes.shape().groups() {
-        add_group(lanes, frontier, group, &mut list)?;
+        add_group(lanes, frontier, windows, group, &mut list)?;
     }
     Ok(list)
 }

@@ -7,10 +7,10 @@ use Rattle.gr_model.specs.Streams.{AreFronts, Grows, Streams, is_complete, list_
 use Rattle.gr_lanes.specs.Takes.{CanTake, with_record}
 
 module _ (s : Streams) (g : ℕ) (x : Event) (fronts : AreFronts s) (can : CanTake s g x) where
-  here : list_of (with_record s g x) g ≡ list_of s g ++ x ∷ []
+  pub here : list_of (with_record s g x) g ≡ list_of s g ++ x ∷ []
   here = get_or-set_same s.lists g (list_of s g ++ x ∷ []) [] (omega (arith, fronts.count, can.group))
 
-  other : (h : ℕ) → (h ≡ g → ⊥) → list_of (with_record s g x) h ≡ list_of s h
+  pub other : (h : ℕ) → (h ≡ g → ⊥) → list_of (with_record s g x) h ≡ list_of s h
   other h apart = get_or-set_other s.lists g h (list_of s g ++ x ∷ []) [] apart
 
   pub record_grows : Grows s (with_record s g x)

@@ -3,20 +3,21 @@ use Rattle.std.proofs.Common.{◌≡◌, ℕ, zero, suc, ◌+◌, ◌-◌, ◌<�
 use Rattle.std.proofs.lemmas.Bool.{cases_lt, cases_eq, eq-eqb, ltb-false, ltb-true, ne_eqb, false_from_ne_true}
 use Rattle.std.proofs.lemmas.List.{length-set, get_or-set_same, get_or-set_other, get_or_read, get_or_push, get_or_append_left, length_push}
 use Rattle.std.proofs.lemmas.List.Elements.{filter-append}
-use Rattle.std.proofs.lemmas.Option.{get_or_from_slice_get, slice_get-get_or, slice_get_past, slice_get_within}
+use Rattle.std.proofs.lemmas.Option.{get_or_from_slice_get, slice_get-get_or, slice_get_within}
 use Rattle.std.proofs.lemmas.List.Sorted.{searched}
 use Rattle.std.specs.List.Sorted.{IsBinarySearchResult}
 use Rattle.std.proofs.Math.Seq.{take-append_seam}
 use Rattle.gr_model.specs.declared.event.Event.{Event}
+use Rattle.gr_model.specs.declared.event.ItemId.{ItemId}
 use Rattle.gr_model.specs.declared.limits.TheConstants.{MOST_RECORDS}
 use Rattle.gr_model.specs.Access.{is_release}
 use Rattle.gr_model.specs.Barriers.{is_barrier}
 use Rattle.gr_model.specs.declared.event.Kind.TheVariants.{End}
 use Rattle.gr_model.specs.Events.{IsEventOk, is_end, is_end_kind}
-use Rattle.gr_model.specs.Streams.{IsFront, AreGood, is_complete, is_of, places_from}
+use Rattle.gr_model.specs.Streams.{IsFront, AreGood, Streams, event_at, is_complete, is_of, place_of, places_from, trace_of}
 use Rattle.gr_model.proofs.Places.{places_from-append}
 use Rattle.gr_model.proofs.StreamFronts.{front_push}
-use Rattle.gr_lanes.specs.Indices.{EndsCut, Index, index_of, no_index, with_if, with_event, indexed, AreIndices, AreRising}
+use Rattle.gr_lanes.specs.Indices.{EndsCut, Index, index_of, no_index, with_if, with_event, indexed, record_of, AreIndices, AreRising}
 
 -- an element more at the end of a list
 pub places_more : {X : Type 0} (test : X → Bool) (xs : List X) (x : X) → places_from test 0 (xs ++ x ∷ []) ≡ with_if (test x) (places_from test 0 xs) (length xs)
@@ -24,6 +25,13 @@ places_more test xs x =
     places_from-append test 0 xs (x ∷ []) ∙ elim (test x) as (λ b. places_from test 0 xs ++ cond b ((0 + length xs) ∷ []) [] ≡ with_if b (places_from test 0 xs) (length xs)) [
       | true ↦ ap (λ n. places_from test 0 xs ++ n ∷ []) (omega arith)
       | false ↦ append-nil (places_from test 0 xs)
+    ]
+
+pub filter_more : {X : Type 0} (test : X → Bool) (xs : List X) (x : X) → filter test (xs ++ x ∷ []) ≡ with_if (test x) (filter test xs) x
+filter_more test xs x =
+    filter-append test xs (x ∷ []) ∙ elim (test x) as (λ b. filter test xs ++ cond b (x ∷ []) [] ≡ with_if b (filter test xs) x) [
+      | true ↦ refl
+      | false ↦ append-nil (filter test xs)
     ]
 
 pub trace_more : (list : List Event) (x : Event) (i : ℕ) → filter (is_of i) (list ++ x ∷ []) ≡ filter (is_of i) list ++ cond (is_of i x) (x ∷ []) []
@@ -50,7 +58,7 @@ few-places test n (x ∷ xs) =
 pub index_other : (list : List Event) (x : Event) (i : ℕ) → is_of i x ≡ false → index_of (list ++ x ∷ []) i ≡ index_of list i
 index_other list x i other =
     let trace : filter (is_of i) (list ++ x ∷ []) ≡ filter (is_of i) list = trace_more list x i ∙ (ap (λ b. filter (is_of i) list ++ cond b (x ∷ []) []) other ∙ append-nil (filter (is_of i) list)) in
-    λ d. record { trace = trace d; releases = places_from is_release 0 (trace d); barriers = places_from is_barrier 0 (trace d) }
+    λ d. record { count = length (trace d); releases = places_from is_release 0 (trace d); barriers = places_from is_barrier 0 (trace d); released = filter is_release (trace d); arrived = filter is_barrier (trace d) }
 
 -- the record is one of the item's
 pub index_here : (list : List Event) (x : Event) (i : ℕ) → is_of i x ≡ true → index_of (list ++ x ∷ []) i ≡ with_event (index_of list i) x (is_release x) (is_barrier x)
@@ -58,24 +66,30 @@ index_here list x i mine =
     let trace : filter (is_of i) (list ++ x ∷ []) ≡ filter (is_of i) list ++ x ∷ [] = trace_more list x i ∙ ap (λ b. filter (is_of i) list ++ cond b (x ∷ []) []) mine in
     let releases = marked is_release trace in
     let barriers = marked is_barrier trace in
-    λ d. record { trace = trace d; releases = releases d; barriers = barriers d }
+    let released = picked is_release trace in
+    let arrived = picked is_barrier trace in
+    let count : length (filter (is_of i) (list ++ x ∷ [])) ≡ length (filter (is_of i) list) + 1 = ap length trace ∙ length_push (filter (is_of i) list) x in
+    λ d. record { count = count d; releases = releases d; barriers = barriers d; released = released d; arrived = arrived d }
   where
     marked : (test : Event → Bool) → filter (is_of i) (list ++ x ∷ []) ≡ filter (is_of i) list ++ x ∷ [] → places_from test 0 (filter (is_of i) (list ++ x ∷ [])) ≡ with_if (test x) (places_from test 0 (filter (is_of i) list)) (length (filter (is_of i) list))
     marked test trace = ap (places_from test 0) trace ∙ places_more test (filter (is_of i) list) x
 
+    picked : (test : Event → Bool) → filter (is_of i) (list ++ x ∷ []) ≡ filter (is_of i) list ++ x ∷ [] → filter test (filter (is_of i) (list ++ x ∷ [])) ≡ with_if (test x) (filter test (filter (is_of i) list)) x
+    picked test trace = ap (filter test) trace ∙ filter_more test (filter (is_of i) list) x
+
 -- ---- the lanes of a group
 
 -- a record that is an end is none of any item's
-end_is_of : (x : Event) (i : ℕ) → is_end x ≡ true → is_of i x ≡ false
+pub end_is_of : (x : Event) (i : ℕ) → is_end x ≡ true → is_of i x ≡ false
 end_is_of x i end = elim (x.item == i) as (λ b. (b && not (is_end x)) ≡ false) [ true ↦ ap not end | false ↦ refl ]
 
 is_of_item : (x : Event) (i : ℕ) → is_end x ≡ false → is_of i x ≡ (x.item == i)
 is_of_item x i on = elim (x.item == i) as (λ b. (b && not (is_end x)) ≡ b) [ true ↦ ap not on | false ↦ refl ]
 
 module _ (lanes : List Index) (list : List Event) (x : Event) (are : AreIndices lanes list) (ok : IsEventOk x (length lanes)) where
-  pub few_events : length (get_or lanes x.item no_index).trace < 4_294_967_296
+  pub few_events : (get_or lanes x.item no_index).count < 4_294_967_295
   few_events =
-      let same : length (get_or lanes x.item no_index).trace ≡ length (filter (is_of x.item) list) = ap (λ l. length l.trace) (are.each x.item ok.0) in
+      let same : (get_or lanes x.item no_index).count ≡ length (filter (is_of x.item) list) = ap (λ (l : Index). l.count) (are.each x.item ok.0) in
       omega (arith, few-places (is_of x.item) 0 list, length-places (is_of x.item) 0 list, are.front.few)
 
   abbrev event : Index
@@ -180,11 +194,11 @@ module _ (lanes : List Index) (list : List Event) (are : AreIndices lanes list) 
   behind : false ≡ ltb j (length read) → length lanes ≤ i
   behind beyond = let past = ltb-false j (length read) (sym beyond) in omega (arith, ap length same)
 
-  pub lacks_events : false ≡ ltb j (length read) → (k : ℕ) → None ≡ slice_get (filter (is_of i) list) k
-  lacks_events beyond k = sym (ap (λ l. slice_get l k) (no_trace (length lanes) list are.front i (behind beyond)))
-
   pub lacks_places : false ≡ ltb j (length read) → (test : Event → Bool) (k : ℕ) → None ≡ slice_get (places_from test 0 (filter (is_of i) list)) k
   lacks_places beyond test k = sym (ap (λ l. slice_get (places_from test 0 l) k) (no_trace (length lanes) list are.front i (behind beyond)))
+
+  pub lacks_records : false ≡ ltb j (length read) → (test : Event → Bool) (k : ℕ) → None ≡ slice_get (filter test (filter (is_of i) list)) k
+  lacks_records beyond test k = sym (ap (λ l. slice_get (filter test l) k) (no_trace (length lanes) list are.front i (behind beyond)))
 
   module _ (lane : Index) (there : true ≡ ltb j (length read)) (reads : lane ≡ get_or read j lane) where
     pub lane_is : lane ≡ index_of list i
@@ -208,8 +222,26 @@ module _ (lanes : List Index) (list : List Event) (are : AreIndices lanes list) 
     pub barriers_rise : AreRising lane.barriers
     barriers_rise = subst (λ (l : Index). AreRising l.barriers) (sym lane_is) (places_rise is_barrier 0 (filter (is_of i) list))
 
-    pub event_of : (k : ℕ) → slice_get lane.trace k ≡ slice_get (filter (is_of i) list) k
-    event_of k = ap (λ (l : Index). slice_get l.trace k) lane_is
+-- ---- the records of releases and barriers
+
+-- the k-th element that passes a test is the one at the k-th place
+record_place : {X : Type 0} (test : X → Bool) (i : ℕ) (xs : List X) (k n : ℕ) → slice_get (places_from test i xs) k ≡ Some n → (j : ℕ) × (n ≡ i + j) × (slice_get (filter test xs) k ≡ slice_get xs j)
+record_place test i [] k n e = cc
+record_place {X} test i (x ∷ xs) k n e =
+    elim (test x) as (λ b. slice_get (cond b (i ∷ places_from test (suc i) xs) (places_from test (suc i) xs)) k ≡ Some n → (j : ℕ) × (n ≡ i + j) × (slice_get (cond b (x ∷ filter test xs) (filter test xs)) k ≡ slice_get (x ∷ xs) j)) [
+      | true ↦ λ at. here k at (λ m f. record_place test (suc i) xs m n f)
+      | false ↦ λ at. let h = record_place test (suc i) xs k n at in (suc h.0, omega (arith, h.1), h.2)
+    ] e
+  where
+    here : (m : ℕ) → slice_get (i ∷ places_from test (suc i) xs) m ≡ Some n → ((l : ℕ) → slice_get (places_from test (suc i) xs) l ≡ Some n → (j : ℕ) × (n ≡ suc i + j) × (slice_get (filter test xs) l ≡ slice_get xs j)) → (j : ℕ) × (n ≡ i + j) × (slice_get (x ∷ filter test xs) m ≡ slice_get (x ∷ xs) j)
+    here zero at rest = let same : i ≡ n = cc in (0, omega arith, refl)
+    here (suc m) at rest = let h = rest m at in (suc h.0, omega (arith, h.1), h.2)
+
+pub record_is : (s : Streams) (test : Event → Bool) (i : ItemId) (k n : ℕ) → place_of s test i k ≡ Some n → record_of s test i k ≡ event_at s (record { at = i; index = n })
+record_is s test i k n place =
+    let h = record_place test 0 (trace_of s i) k n place in
+    let same : h.0 ≡ n = omega (arith, h.1) in
+    h.2 ∙ ap (slice_get (trace_of s i)) same
 
 -- ---- cut streams
 

@@ -1,5 +1,6 @@
 -- Instances, by the barriers that are found.
-use Rattle.std.proofs.Common.{◌≡◌, ℕ, zero, suc, ◌+◌, ◌<◌, true, cond, List, [], ◌∷◌, Option, Some, None, slice_get, filter_map, is_some, refl, sym, ap, ◌∙◌, subst, inl, inr, arith, true≢false}
+use Rattle.std.proofs.Common.{◌≡◌, ℕ, zero, suc, ◌+◌, ◌<◌, true, cond, List, [], ◌∷◌, Option, Some, None, slice_get, filter, filter_map, is_some, refl, sym, ap, ◌∙◌, subst, inl, inr, arith, true≢false}
+use Rattle.std.specs.Prelude.{MatchOption}
 use Rattle.std.specs.List.{cons_option}
 use Rattle.gr_model.specs.declared.event.Event.{Event}
 use Rattle.gr_model.specs.Barriers.{IsDivergent, arrivals, is_barrier, mark_of}
@@ -39,6 +40,19 @@ no_mark i (x ∷ xs) k e =
     here : (a : Mark) (m : ℕ) → slice_get (i ∷ places_from is_barrier (suc i) xs) m ≡ None → ((l : ℕ) → slice_get (places_from is_barrier (suc i) xs) l ≡ None → slice_get (filter_map mark_of xs) l ≡ None) → slice_get (a ∷ filter_map mark_of xs) m ≡ None
     here a zero f rest = cc
     here a (suc m) f rest = rest m f
+
+-- the k-th barrier has the k-th mark
+pub record_mark : (xs : List Event) (k : ℕ) → MatchOption (slice_get (filter is_barrier xs) k) (slice_get (filter_map mark_of xs) k ≡ None) (λ x. (slice_get (filter_map mark_of xs) k ≡ mark_of x) × (is_some (mark_of x) ≡ true))
+record_mark [] k = refl
+record_mark (x ∷ xs) k =
+    elim (mark_of x) as (λ o. (mark_of x ≡ o) → MatchOption (slice_get (cond (is_some o) (x ∷ filter is_barrier xs) (filter is_barrier xs)) k) (slice_get (cons_option o (filter_map mark_of xs)) k ≡ None) (λ y. (slice_get (cons_option o (filter_map mark_of xs)) k ≡ mark_of y) × (is_some (mark_of y) ≡ true))) [
+      | None ↦ λ is. record_mark xs k
+      | Some a ↦ λ is. here a is k (λ m. record_mark xs m)
+    ] refl
+  where
+    here : (a : Mark) → mark_of x ≡ Some a → (m : ℕ) → ((l : ℕ) → MatchOption (slice_get (filter is_barrier xs) l) (slice_get (filter_map mark_of xs) l ≡ None) (λ y. (slice_get (filter_map mark_of xs) l ≡ mark_of y) × (is_some (mark_of y) ≡ true))) → MatchOption (slice_get (x ∷ filter is_barrier xs) m) (slice_get (a ∷ filter_map mark_of xs) m ≡ None) (λ y. (slice_get (a ∷ filter_map mark_of xs) m ≡ mark_of y) × (is_some (mark_of y) ≡ true))
+    here a is zero rest = (sym is, ap is_some is)
+    here a is (suc m) rest = rest m
 
 -- ---- divergence
 

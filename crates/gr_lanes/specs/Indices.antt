@@ -1,17 +1,20 @@
 -- An index of each item's events in its group's list, and of its releases and barriers among its events.
-use Rattle.std.specs.Prelude.{◌≡◌, ℕ, ◌<◌, ◌≤◌, ◌-◌, Option, Bool, List, [], ◌∷◌, ◌++◌, length, map, filter, true, Some, slice_get, slice_index, slice_index_or, slice_set, if◌then◌else◌}
+use Rattle.std.specs.Prelude.{◌≡◌, ℕ, ◌<◌, ◌≤◌, ◌+◌, ◌-◌, Option, Bool, List, [], ◌∷◌, ◌++◌, length, map, filter, true, Some, slice_get, slice_index, slice_index_or, slice_set, if◌then◌else◌}
 use Rattle.gr_model.specs.declared.event.Event.{Event}
+use Rattle.gr_model.specs.declared.event.ItemId.{ItemId}
 use Rattle.gr_model.specs.declared.event.Kind.TheVariants.{End}
 use Rattle.gr_model.specs.Access.{is_release}
 use Rattle.gr_model.specs.Barriers.{is_barrier}
 use Rattle.gr_model.specs.Events.{is_end}
-use Rattle.gr_model.specs.Streams.{Streams, AreFronts, IsFront, is_of, places_from}
+use Rattle.gr_model.specs.Streams.{Streams, AreFronts, IsFront, is_of, places_from, trace_of}
 
--- an item's events, and the places of its releases and its barriers among them
+-- how many events an item has, the places of its releases and its barriers among them, and the records of these
 pub record Index : Type 0 where
-  pub trace : List Event
+  pub count : ℕ
   pub releases : List ℕ
   pub barriers : List ℕ
+  pub released : List Event
+  pub arrived : List Event
 
 -- each place is at least as great as those before it
 abbrev pub AreRising : List ℕ → Type 0
@@ -20,30 +23,38 @@ AreRising places = (i j : ℕ) → i ≤ j → j < length places → slice_index
 -- the index of an item of a group that has this list
 abbrev pub index_of : List Event → ℕ → Index
 index_of list item = record {
-  trace = filter (is_of item) list;
+  count = length (filter (is_of item) list);
   releases = places_from is_release 0 (filter (is_of item) list);
   barriers = places_from is_barrier 0 (filter (is_of item) list);
+  released = filter is_release (filter (is_of item) list);
+  arrived = filter is_barrier (filter (is_of item) list);
 }
 
 -- the index of an item without events
 abbrev pub no_index : Index
-no_index = record { trace = []; releases = []; barriers = [] }
+no_index = record { count = 0; releases = []; barriers = []; released = []; arrived = [] }
 
--- the list with one place more, if so told
-abbrev pub with_if : Bool → List ℕ → ℕ → List ℕ
-with_if told places n = if told then places ++ n ∷ [] else places
+-- the list with one more, if so told
+abbrev pub with_if : {X : Type 0} → Bool → List X → X → List X
+with_if told xs x = if told then xs ++ x ∷ [] else xs
 
 -- the index with one event more, which is a release or a barrier if so told
 abbrev pub with_event : Index → Event → Bool → Bool → Index
 with_event i x release barrier = record {
-  trace = i.trace ++ x ∷ [];
-  releases = with_if release i.releases (length i.trace);
-  barriers = with_if barrier i.barriers (length i.trace);
+  count = i.count + 1;
+  releases = with_if release i.releases i.count;
+  barriers = with_if barrier i.barriers i.count;
+  released = with_if release i.released x;
+  arrived = with_if barrier i.arrived x;
 }
 
 -- the indices of a group's items with a record more: an end is no item's event
 abbrev pub indexed : List Index → Event → List Index
 indexed lanes x = if is_end x then lanes else slice_set lanes x.item (with_event (slice_index_or lanes x.item no_index) x (is_release x) (is_barrier x))
+
+-- the record of an item's k-th event that passes a test
+abbrev pub record_of : Streams → (Event → Bool) → ItemId → ℕ → Option Event
+record_of s test i k = slice_get (filter test (trace_of s i)) k
 
 -- what was taken of a group of so many items
 pub record GroupList : Type 0 where

@@ -12,6 +12,7 @@ ghost use Rattle.gr_model.specs.Events.{IsEventOk};
 ghost use Rattle.gr_model.specs.Streams.{is_complete, is_of, places_from};
 ghost use Rattle.gr_lanes.specs.Indices.{EndsCut, no_index, indexed};
 
+use crate::kinds::{is_barrier, is_release};
 use crate::lane::Lane;
 use gr_history::history::History;
 use gr_model::event::{Event, Kind};
@@ -40,35 +41,6 @@ impl<A: Allocator> Model for Group<A> {
     ghost invariant = { λ g. IsKept g.lanes.items g.list g.taken g.last };
 }
 
-/// Whether an event is a release.
-fn is_release(event: &Event) -> bool
-    ensures { result ≡ model.is_release event.now }
-{
-    match event.kind {
-        Kind::Load(_, order) | Kind::Store(_, order) | Kind::Rmw(_, order) => order.releases(),
-        Kind::Read
-        | Kind::Write
-        | Kind::Barrier {
-            global: _,
-            local: _,
-        }
-        | Kind::End { cut: _ } => false,
-    }
-}
-
-/// Whether an event is a barrier.
-fn is_barrier(event: &Event) -> bool
-    ensures { result ≡ model_barriers.is_barrier event.now }
-{
-    matches!(
-        event.kind,
-        Kind::Barrier {
-            global: _,
-            local: _
-        }
-    )
-}
-
 /// Whether an event is an end that says that its stream was cut.
 fn is_cut(event: &Event) -> bool
     ensures { IsTrue result ↔ (event.now.kind ≡ End true) }
@@ -82,7 +54,7 @@ fn is_cut(event: &Event) -> bool
 /// `Memory`. The lanes are then as they were.
 fn index<A: Allocator>(lanes: &mut [Lane<A>], event: &Event) -> Result<(), Memory>
     requires item { event.now.item < length lanes.old }
-    requires few { length (slice_index_or lanes.old event.now.item no_index).trace < 4_294_967_296 }
+    requires few { (slice_index_or lanes.old event.now.item no_index).count < 4_294_967_295 }
     ensures ok { OnOk result (lanes.new ≡ indexed lanes.old event.now) }
     ensures err { OnErr result (lanes.new ≡ lanes.old) }
 {
@@ -149,16 +121,6 @@ impl<A: Allocator> Group<A> {
         }
     }
 
-    /// The event of an item with this index.
-    pub(crate) fn event_at(&self, item: u16, index: u32) -> Option<Event>
-        ensures { result ≡ slice_get (filter (is_of item) self.now.list) index }
-    {
-        match self.lanes.get(usize::from(item)) {
-            None => None,
-            Some(lane) => lane.event(index),
-        }
-    }
-
     /// The index of an item's release with this number.
     pub(crate) fn release_at(&self, item: u16, number: u32) -> Option<u32>
         ensures { result ≡ slice_get (places_from model.is_release 0 (filter (is_of item) self.now.list)) number }
@@ -176,6 +138,26 @@ impl<A: Allocator> Group<A> {
         match self.lanes.get(usize::from(item)) {
             None => None,
             Some(lane) => lane.barrier(number),
+        }
+    }
+
+    /// The record of an item's release with this number.
+    pub(crate) fn release_event(&self, item: u16, number: u32) -> Option<Event>
+        ensures { result ≡ slice_get (filter model.is_release (filter (is_of item) self.now.list)) number }
+    {
+        match self.lanes.get(usize::from(item)) {
+            None => None,
+            Some(lane) => lane.release_event(number),
+        }
+    }
+
+    /// The record of an item's barrier with this number.
+    pub(crate) fn barrier_event(&self, item: u16, number: u32) -> Option<Event>
+        ensures { result ≡ slice_get (filter model_barriers.is_barrier (filter (is_of item) self.now.list)) number }
+    {
+        match self.lanes.get(usize::from(item)) {
+            None => None,
+            Some(lane) => lane.barrier_event(number),
         }
     }
 

@@ -6,17 +6,14 @@ ghost use Rattle.gr_model.specs.Barriers.{IsDivergent, arrivals, mark_of};
 ghost use Rattle.gr_lanes.specs.Instances.{HasCome, IsParted};
 
 use crate::lanes::Lanes;
-use gr_model::event::{Event, EventId, ItemId};
+use gr_model::event::{Event, ItemId};
 use std::alloc::Allocator;
 
 /// The record of an item's barrier of this number, if it was taken.
 pub fn barrier<A: Allocator>(lanes: &Lanes<A>, item: ItemId, number: u32) -> Option<Event>
     ensures { MatchOption result (arrivals lanes.now item.group number item.item ≡ None) (λ x. (arrivals lanes.now item.group number item.item ≡ mark_of x) × (is_some (mark_of x) ≡ true)) }
 {
-    match lanes.barrier_at(item, number) {
-        None => None,
-        Some(index) => lanes.event_at(EventId { at: item, index }),
-    }
+    lanes.barrier_event(item, number)
 }
 
 /// Whether two barriers have one site and the same flags.

@@ -1,6 +1,7 @@
 //! The index of one work-item's events.
 //!
-//! A lane has an item's events in their order, and knows which of them are releases and barriers.
+//! A lane knows how many events an item has, and which of them are releases and barriers: of these it has the records, and
+//! of no other event.
 
 ghost use Rattle.std.specs.Prelude.{◌≡◌, ◌≢◌, ◌<◌, ℕ, MatchOption, OnOk, OnErr, length, slice_get};
 ghost use Rattle.gr_lanes.specs.Indices.{AreRising, no_index, with_event};
@@ -10,13 +11,15 @@ use gr_model::memory::Memory;
 use std::alloc::{Allocator, Global};
 use std::marker::Model;
 
-/// An item's events, and its releases and its barriers among them.
+/// How many events an item has, and its releases and its barriers among them.
 #[derive(Drop)]
 #[derive_where(Debug)]
 pub(crate) struct Lane<A: Allocator = Global> {
-    trace: Vec<Event, A>,
+    count: u32,
     releases: Vec<u32, A>,
     barriers: Vec<u32, A>,
+    released: Vec<Event, A>,
+    arrived: Vec<Event, A>,
 }
 
 impl<A: Allocator> Model for Lane<A> {
@@ -24,7 +27,7 @@ impl<A: Allocator> Model for Lane<A> {
 
     ghost Value = { Index };
 
-    ghost view = { λ l. record { trace = l.trace.items; releases = l.releases.items; barriers = l.barriers.items } };
+    ghost view = { λ l. record { count = l.count; releases = l.releases.items; barriers = l.barriers.items; released = l.released.items; arrived = l.arrived.items } };
 }
 
 /// The place of an index in a rising list of indices.
@@ -45,21 +48,16 @@ impl<A: Allocator + Copy> Lane<A> {
         ensures { result ≡ no_index }
     {
         Lane {
-            trace: Vec::new(alloc),
+            count: 0,
             releases: Vec::new(alloc),
             barriers: Vec::new(alloc),
+            released: Vec::new(alloc),
+            arrived: Vec::new(alloc),
         }
     }
 }
 
 impl<A: Allocator> Lane<A> {
-    /// The item's event with this index.
-    pub(crate) fn event(&self, index: u32) -> Option<Event>
-        ensures { result ≡ slice_get self.now.trace index }
-    {
-        self.trace.get(index as usize).copied()
-    }
-
     /// The index of the item's release with this number.
     pub(crate) fn release(&self, number: u32) -> Option<u32>
         ensures { result ≡ slice_get self.now.releases number }
@@ -83,6 +81,20 @@ impl<A: Allocator> Lane<A> {
         number_of(&self.releases, index)
     }
 
+    /// The record of the item's release with this number.
+    pub(crate) fn release_event(&self, number: u32) -> Option<Event>
+        ensures { result ≡ slice_get self.now.released number }
+    {
+        self.released.get(number as usize).copied()
+    }
+
+    /// The record of the item's barrier with this number.
+    pub(crate) fn barrier_event(&self, number: u32) -> Option<Event>
+        ensures { result ≡ slice_get self.now.arrived number }
+    {
+        self.arrived.get(number as usize).copied()
+    }
+
     /// The number among the item's barriers of the one with this index.
     pub(crate) fn barrier_number(&self, index: u32) -> Option<u32>
         requires few { length self.now.barriers < 4_294_967_296 }
@@ -97,20 +109,23 @@ impl<A: Allocator> Lane<A> {
     /// # Errors
     /// `Memory`. The lane is then as it was.
     pub(crate) fn add(&mut self, event: Event, release: bool, barrier: bool) -> Result<(), Memory>
-        requires { length self.old.trace < 4_294_967_296 }
+        requires { self.old.count < 4_294_967_295 }
         ensures ok { OnOk result (self.new ≡ with_event self.old event release barrier) }
         ensures err { OnErr result (self.new ≡ self.old) }
     {
-        self.trace.reserve(1)?;
         self.releases.reserve(usize::from(release))?;
         self.barriers.reserve(usize::from(barrier))?;
-        let index = self.trace.len() as u32;
-        self.trace.push_reserved(event);
+        self.released.reserve(usize::from(release))?;
+        self.arrived.reserve(usize::from(barrier))?;
+        let index = self.count;
+        self.count += 1;
         if release {
             self.releases.push_reserved(index);
+            self.released.push_reserved(event);
         }
         if barrier {
             self.barriers.push_reserved(index);
+            self.arrived.push_reserved(event);
         }
         Ok(())
     }

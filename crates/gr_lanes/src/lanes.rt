@@ -2,13 +2,13 @@
 //!
 //! Invariant: there is a group for each of the shape, of its size, and each has a front of a list that it may have.
 
-ghost use Rattle.std.specs.Prelude.{◌≡◌, ◌≢◌, ◌↔◌, ◌<◌, ℕ, Some, IsTrue, IfOk, IfErr, MatchOption, OnOk, OnErr, length};
+ghost use Rattle.std.specs.Prelude.{◌≡◌, ◌≢◌, ◌↔◌, ◌<◌, ℕ, Some, IsTrue, IfOk, IfErr, MatchOption, OnOk, OnErr, length, option_and_then};
 ghost use Rattle.gr_model.specs.declared.limits.TheConstants.{MOST_RECORDS};
-ghost use Rattle.gr_model.specs.Streams.{AreFronts, event_at, is_complete, list_of, place_of};
-ghost use Rattle.gr_model.specs.Access.{is_release};
+ghost use Rattle.gr_model.specs.Streams.{AreFronts, is_complete, list_of, place_of};
+ghost use Rattle.gr_model.specs.Access.{event_word, is_release};
 ghost use Rattle.gr_model.specs.Barriers.{is_barrier};
+ghost use Rattle.gr_lanes.specs.Indices.{record_of};
 ghost use Rattle.gr_model.specs.Reports.{IsCut};
-ghost use Rattle.gr_model.specs.Streams as model;
 ghost use Rattle.gr_model.specs.Names.{release_place};
 ghost use Rattle.gr_lanes.specs.declared.seq_error.SeqError.TheVariants.{Memory as OutOfMemory};
 ghost use Rattle.gr_lanes.specs.Takes.{nothing_taken, with_record, IsEventButItem, CanTake, IsTakeFault};
@@ -97,26 +97,6 @@ impl<A: Allocator> Lanes<A> {
         }
     }
 
-    /// An event that was taken, or `None` where there is none of this index.
-    pub fn event_at(&self, event: EventId) -> Option<Event>
-        ensures { result ≡ event_at self.now event }
-    {
-        match self.groups.get(usize::from(event.at.group)) {
-            None => None,
-            Some(group) => group.event_at(event.at.item, event.index),
-        }
-    }
-
-    /// The word that an event accesses, or `None` where it was not taken or is no access.
-    pub fn word_at(&self, event: EventId) -> Option<Word>
-        ensures { result ≡ model.word_at self.now event }
-    {
-        match self.event_at(event) {
-            None => None,
-            Some(taken) => word_of(event.at.group, &taken),
-        }
-    }
-
     /// The index in its item's trace of the release of this name, or `None` where no such release was taken.
     pub fn release_at(&self, name: Name) -> Option<u32>
         ensures { result ≡ release_place self.now name }
@@ -124,6 +104,36 @@ impl<A: Allocator> Lanes<A> {
         match self.groups.get(usize::from(name.at.group)) {
             None => None,
             Some(group) => group.release_at(name.at.item, name.release),
+        }
+    }
+
+    /// The record of the release of this name, or `None` where no such release was taken.
+    pub fn release_event(&self, name: Name) -> Option<Event>
+        ensures { result ≡ record_of self.now is_release name.at name.release }
+    {
+        match self.groups.get(usize::from(name.at.group)) {
+            None => None,
+            Some(group) => group.release_event(name.at.item, name.release),
+        }
+    }
+
+    /// The word of the release of this name, or `None` where no such release was taken.
+    pub fn release_word(&self, name: Name) -> Option<Word>
+        ensures { result ≡ option_and_then (event_word name.at.group) (record_of self.now is_release name.at name.release) }
+    {
+        match self.release_event(name) {
+            None => None,
+            Some(release) => word_of(name.at.group, &release),
+        }
+    }
+
+    /// The record of an item's barrier of this number, counted from 0, or `None` where no such barrier was taken.
+    pub fn barrier_event(&self, item: ItemId, number: u32) -> Option<Event>
+        ensures { result ≡ record_of self.now is_barrier item number }
+    {
+        match self.groups.get(usize::from(item.group)) {
+            None => None,
+            Some(group) => group.barrier_event(item.item, number),
         }
     }
 

@@ -1,9 +1,10 @@
-//! What was taken of a launch's streams: the records of each work-group in their order, and for each work-item an index
-//! of its events, its releases and its barriers.
+//! What was taken of a launch's streams: how many records of each work-group, and of each work-item its releases and its
+//! barriers. Of other records nothing is kept.
 #![tactic(auto)]
 
 mod group;
 pub mod instance;
+pub mod kinds;
 mod lane;
 pub mod lanes;
 pub mod seq_error;

@@ -30,7 +30,7 @@ module _ (q : Sequence) (frontier : Counts) (held : ℕ) (state : IsState q fron
   counts i = count_of frontier i
 
   -- no more events of an item are handled than were taken
-  taken_first : (i : ItemId) → counts i ≤ traces i
+  pub taken_first : (i : ItemId) → counts i ≤ traces i
   taken_first i = ⊎_elim (λ over. absurd (past over)) (λ le. le) (cases_lt (traces i) (counts i))
     where
       past : traces i < counts i → ⊥

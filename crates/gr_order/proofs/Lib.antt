@@ -6,3 +6,4 @@ pub mod PassLemmas
 pub mod SumLemmas
 pub mod TakenLemmas
 pub mod HeldLemmas
+pub mod WaitLemmas

@@ -2,3 +2,4 @@ pub mod Sequences
 pub mod Answers
 pub mod States
 pub mod Readiness
+pub mod Waiting

@@ -7,3 +7,4 @@ mod meeting;
 pub mod order;
 mod ready;
 pub mod steps;
+mod waiting;

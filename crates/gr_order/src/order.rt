@@ -1,19 +1,21 @@
 //! What was taken of a launch's streams, and the order in which its events were handled.
 //!
 //! Invariant: the order is lawful, and the handled events of each item are its first ones. How many they are is counted by
-//! a tally, the frontier. The order itself exists in proofs alone: no memory holds it, and no step wants for any.
+//! a tally, the frontier. Of each item the other events are kept, from the first that was not handled on, and no longer. The
+//! order itself exists in proofs alone: no memory holds it, and no step wants for any.
 
 ghost use Rattle.std.specs.Prelude.{◌≡◌, ◌+◌, ◌<◌, IsOkUnless, IfOk, IfErr, OnOk, MatchOption, OnErr, length, IsTrue, not, ◌↔◌};
 ghost use Rattle.gr_model.specs.declared.limits.TheConstants.{MOST_RECORDS};
 ghost use Rattle.gr_model.specs.Events.{is_end};
 ghost use Rattle.gr_model.specs.Reports.{IsHeld};
-ghost use Rattle.gr_model.specs.Streams.{AreComplete, list_of};
+ghost use Rattle.gr_model.specs.Streams.{AreComplete, event_at, list_of};
 ghost use Rattle.gr_order.specs.declared.go_error.GoError.TheVariants.{NotReady};
 ghost use Rattle.gr_lanes.specs.Takes.{CanTake, IsEventButItem, IsTakeFault};
 ghost use Rattle.gr_steps.specs.Steps.{CanHandle, CanMeet, IsAtRest, IsMeeting, IsReady};
 ghost use Rattle.gr_model.specs.Instances.{Mark};
 ghost use Rattle.gr_order.specs.Answers.{CanMake, IsHandleFault, IsMeetFault};
-ghost use Rattle.gr_clocks.specs.Counts.{sizes_of};
+ghost use Rattle.gr_clocks.specs.Counts.{Counts, count_of, sizes_of};
+ghost use Rattle.gr_windows.specs.Windows.{AreWaiting};
 ghost use Rattle.gr_order.specs.States.{AreFirst};
 ghost use Rattle.gr_order.specs.Sequences.{HandlesEvent, IsDone, IsGroupAtRest, IsSequence, MeetsInstance, MeetsNext, events_of, nothing, taking};
 
@@ -21,6 +23,7 @@ use crate::go_error::GoError;
 use crate::meeting::{add_next_events, count_next_events};
 use crate::ready::{is_ready, next_instance};
 use crate::steps::Ready;
+use crate::waiting::{forget, keep};
 use gr_clocks::tally::Tally;
 use gr_history::history::History;
 use gr_lanes::lanes::Lanes;
@@ -28,6 +31,7 @@ use gr_lanes::seq_error::SeqError;
 use gr_model::event::{Event, EventId, ItemId};
 use gr_model::memory::Memory;
 use gr_model::shape::Shape;
+use gr_windows::windows::Windows;
 use std::alloc::{Allocator, Global};
 use std::marker::Model;
 
@@ -39,18 +43,19 @@ pub struct Order<A: Allocator = Global> {
     lanes: Lanes<A>,
     handled: History<EventId>,
     frontier: Tally<A>,
+    windows: Windows<A>,
     held: u32,
 }
 
 impl<A: Allocator> Model for Order<A> {
     ghost use Rattle.gr_order.specs.Sequences.{Sequence};
-    ghost use Rattle.gr_order.specs.States.{IsState};
+    ghost use Rattle.gr_order.specs.Waiting.{IsKept};
 
     ghost Value = { Sequence };
 
     ghost view = { λ o. record { taken = o.lanes; handled = o.handled } };
 
-    ghost invariant = { λ o. IsState (record { taken = o.lanes; handled = o.handled }) o.frontier o.held };
+    ghost invariant = { λ o. IsKept (record { taken = o.lanes; handled = o.handled }) o.frontier o.windows o.held };
 }
 
 /// Whether a record is an event of its item, and not the end of its stream.
@@ -72,12 +77,14 @@ impl<A: Allocator + Copy> Order<A> {
             Ok(clock) => clock,
             Err(_) => return Err(Memory),
         };
+        let windows = Windows::new(alloc, &shape)?;
         let lanes = Lanes::new(alloc, shape)?;
         let handled = History::new();
         Ok(Order {
             lanes,
             handled,
             frontier,
+            windows,
             held: 0,
         })
     }
@@ -100,6 +107,28 @@ impl<A: Allocator> Order<A> {
         &self.frontier
     }
 
+    /// Of each item the events that were taken and not handled.
+    pub fn windows(&self) -> &Windows<A>
+        ensures { (c : Counts) → AreFirst self.now.handled c → AreWaiting self.now.taken c result.now }
+    {
+        &self.windows
+    }
+
+    /// The record of an item's first event that was not handled, if it was taken.
+    pub fn waiting(&self, item: ItemId) -> Option<Event>
+        ensures { (c : Counts) → AreFirst self.now.handled c → result ≡ event_at self.now.taken (record { at = item; index = count_of c item }) }
+    {
+        self.windows.waiting(item, 0)
+    }
+
+    /// The record of an event that may be handled.
+    pub fn event_at(&self, event: EventId) -> Option<Event>
+        requires { IsReady self.now.taken self.now.handled event }
+        ensures { result ≡ event_at self.now.taken event }
+    {
+        self.windows.waiting(event.at, 0)
+    }
+
     /// How many records were taken of a group; 0 of one that is not there.
     pub fn taken(&self, group: u16) -> u32
         ensures { result ≡ length (list_of self.now.taken group) }
@@ -114,7 +143,7 @@ impl<A: Allocator> Order<A> {
     {
         let index = self.frontier.get(item);
         let event = EventId { at: item, index };
-        match self.lanes.event_at(event) {
+        match self.windows.waiting(item, 0) {
             None => None,
             Some(taken) => {
                 if is_ready(&self.lanes, &self.frontier, event, &taken) {
@@ -134,7 +163,7 @@ impl<A: Allocator> Order<A> {
         if group >= self.lanes.shape().groups() {
             return None;
         }
-        next_instance(&self.lanes, &self.frontier, group)
+        next_instance(&self.lanes, &self.frontier, &self.windows, group)
     }
 
     /// Takes the next record of a group. It is one that some group may have, whatever its item.
@@ -155,9 +184,17 @@ impl<A: Allocator> Order<A> {
             Some(refusal) => return Err(refusal),
         }
         let more = is_event(&event);
-        self.lanes.take(group, event)?;
-        self.held += u32::from(more);
-        Ok(())
+        keep(&mut self.windows, group, &event)?;
+        match self.lanes.take(group, event) {
+            Ok(()) => {
+                self.held += u32::from(more);
+                Ok(())
+            }
+            Err(error) => {
+                forget(&mut self.windows, group, &event);
+                Err(error)
+            }
+        }
     }
 
     /// Handles an item's next event, where all that it waits for was handled and it is no barrier of a convergent or
@@ -189,6 +226,7 @@ impl<A: Allocator> Order<A> {
     {
         self.handled.push(&event);
         self.frontier.raise(event.at);
+        self.windows.pop_first(event.at);
         self.held -= 1;
     }
 
@@ -222,6 +260,7 @@ impl<A: Allocator> Order<A> {
         let size = self.lanes.shape().items(group);
         add_next_events(&mut self.handled, &self.frontier, group, size);
         count_next_events(&mut self.frontier, group, size);
+        self.windows.pop_group(group, size);
         self.held -= u32::from(size);
     }
 

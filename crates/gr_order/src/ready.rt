@@ -4,12 +4,15 @@
 ghost use Rattle.std.specs.Prelude.{◌≡◌, ◌↔◌, ◌<◌, true, IsTrue, MatchOption, Some, is_some, length, ℕ};
 ghost use Rattle.gr_model.specs.Barriers.{arrivals, mark_of};
 ghost use Rattle.gr_model.specs.Streams as model;
+ghost use Rattle.gr_windows.specs.Windows.{AreWaiting};
 ghost use Rattle.gr_order.specs.Readiness.{AreReleased, IsNextInstance, IsReleased, MayPass, StandsNext};
 
 use gr_clocks::tally::Tally;
 use gr_lanes::instance::{barrier, has_mark_of, is_divergent};
+use gr_lanes::kinds::is_barrier;
 use gr_lanes::lanes::Lanes;
 use gr_model::event::{Event, EventId, ItemId, Name, Word, word_of};
+use gr_windows::windows::Windows;
 use std::alloc::Allocator;
 
 /// Whether two events access one word, or neither is an access.
@@ -32,9 +35,8 @@ fn is_released<A: Allocator>(
     match lanes.release_at(name) {
         None => false,
         Some(index) => {
-            let release = EventId { at: name.at, index };
             frontier.covers(name.at, index)
-                && is_same(lanes.word_at(release), word_of(group, acquire))
+                && is_same(lanes.release_word(name), word_of(group, acquire))
         }
     }
 }
@@ -60,6 +62,9 @@ fn may_pass<A: Allocator>(lanes: &Lanes<A>, event: EventId, taken: &Event) -> bo
     requires fronts { model.AreFronts lanes.now }
     ensures { IsTrue result ↔ MayPass lanes.now event }
 {
+    if !is_barrier(taken) {
+        return true;
+    }
     match lanes.barrier_number(event) {
         None => true,
         Some(number) => is_divergent(lanes, event.at.group, number, taken),
@@ -132,16 +137,18 @@ fn all_stand_next<A: Allocator>(
 pub(crate) fn next_instance<A: Allocator>(
     lanes: &Lanes<A>,
     frontier: &Tally<A>,
+    windows: &Windows<A>,
     group: u16,
 ) -> Option<u32>
     requires group { group < length lanes.now.sizes }
+    requires waiting { AreWaiting lanes.now frontier.now windows.now }
     requires fronts { model.AreFronts lanes.now }
     ensures { MatchOption result ((k : ℕ) → ¬ IsNextInstance lanes.now frontier.now group k) (λ k. IsNextInstance lanes.now frontier.now group k) }
 {
     let first = ItemId { group, item: 0 };
     let index = frontier.get(first);
     let event = EventId { at: first, index };
-    match lanes.event_at(event) {
+    match windows.waiting(first, 0) {
         None => None,
         Some(mine) => match lanes.barrier_number(event) {
             None => None,

@@ -17,7 +17,7 @@ use Rattle.gr_input.specs.Faults.{Fails}
 use Rattle.gr_input.proofs.Outside.{fails_through}
 use Rattle.gr_replay.specs.Joined.{Flat, flats, stream_at, joined_at}
 
-list_any-flats : {Z : Type 0} (test : Header → Bool) (seen : List (Stream Z)) → list_any (λ s. test s.header) (flats seen) ≡ list_any (λ s. test s.header) seen
+list_any-flats : (test : Header → Bool) (seen : List Stream) → list_any (λ s. test s.header) (flats seen) ≡ list_any (λ s. test s.header) seen
 list_any-flats test [] = refl
 list_any-flats test (s ∷ seen) = ap (λ b. test s.header || b) (list_any-flats test seen)
 
@@ -26,7 +26,7 @@ fault_at-fails : {X Y : Type 0} (place : ℕ) (e : RecordError) (read : Result X
 fault_at-fails place errors.Memory read whole h go = tt
 fault_at-fails place e read whole h go = go h
 
-module _ {Z : Type 0} (seen : List (Stream Z)) (bytes : List ℕ) where
+module _ (seen : List Stream) (bytes : List ℕ) where
   pub header_fails : (e : RecordError) → record_spec.Fails e (front_header_at bytes) → Fails (stream_fault (length seen) e) (stream_at (flats seen) bytes)
   unfolding stream_at
   header_fails e h = fault_at-fails (length seen) e (front_header_at bytes) (stream_at (flats seen) bytes) h (λ k. rw (k, length-map) refl)

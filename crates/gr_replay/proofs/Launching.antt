@@ -1,5 +1,5 @@
 -- From streams to the launch that they are of.
-use Rattle.std.proofs.Common.{◌≡◌, ◌≢◌, ◌⊎◌, ℕ, zero, suc, ◌<◌, ◌≤◌, List, [], ◌∷◌, length, map, get_or, AllPairs, Contains, IsPermutation, Some, slice_get, slice_index, refl, sym, ap, ◌∙◌, subst, ⊎_elim, arith, eqb, eq-or-lt_of_le, option_map, inl, inr, Vec}
+use Rattle.std.proofs.Common.{◌≡◌, ◌≢◌, ◌⊎◌, ℕ, zero, suc, ◌<◌, ◌≤◌, List, [], ◌∷◌, length, map, get_or, AllPairs, Contains, IsPermutation, Some, slice_get, slice_index, refl, sym, ap, ◌∙◌, subst, ⊎_elim, arith, eqb, eq-or-lt_of_le, option_map, inl, inr}
 use Rattle.std.proofs.lemmas.Bool.{cases_lt}
 use Rattle.std.proofs.lemmas.Bool.Decides.{Decides-eqb}
 use Rattle.std.proofs.lemmas.List.{get_or-map, length-map}
@@ -11,7 +11,7 @@ use Rattle.std.proofs.lemmas.Option.{slice_get-get_or, get_or_from_slice_get, sl
 use Rattle.std.specs.List.Sorted.{IsNonDecreasingBy}
 use Rattle.gr_model.specs.Shapes.{IsShape}
 use Rattle.gr_model.specs.declared.event.Event.{Event}
-use Rattle.gr_model.specs.Streams.{Streams, streams, IsAccepted, AreAccepted}
+use Rattle.gr_model.specs.Streams.{Streams, IsAccepted, AreAccepted}
 use Rattle.gr_model.proofs.HitsAreRaces.{eqb_swap}
 use Rattle.gr_model.proofs.Places.{Contains-at}
 use Rattle.gr_replay.specs.declared.joined.Stream.{Stream}
@@ -132,18 +132,19 @@ module _ (seen fs : List Flat) (perm : IsPermutation seen fs) (placed : ArePlace
 
 -- ---- streams as they lie in memory
 
-map-flats : {Z Y : Type 0} (f : Flat → Y) (xs : List (Stream Z)) → map f (flats xs) ≡ map (λ s. f (flat s)) xs
+map-flats : {Y : Type 0} (f : Flat → Y) (xs : List Stream) → map f (flats xs) ≡ map (λ s. f (flat s)) xs
 map-flats f [] = refl
 map-flats f (x ∷ xs) = ap (λ l. f (flat x) ∷ l) (map-flats f xs)
 
-map-items : {Z : Type 0} (xs : List (Stream Z)) → map (λ (v : Vec Event Z). v.items) (map (λ s. s.events) xs) ≡ map (λ s. s.events.items) xs
-map-items [] = refl
-map-items (x ∷ xs) = ap (λ l. x.events.items ∷ l) (map-items xs)
+-- streams of these sizes and lists
+abbrev pub these : List ℕ → List (List Event) → Streams
+these sizes lists = record { sizes = sizes; lists = lists }
 
-pub launch_is : {Z : Type 0} (xs : List (Stream Z)) (sizes : List ℕ) (lists : List (Vec Event Z)) → sizes ≡ map (λ s. s.header.items) xs → lists ≡ map (λ s. s.events) xs → streams sizes lists ≡ launch_of (flats xs)
-launch_is {Z} xs sizes lists is_sizes is_lists =
+-- the sizes of streams and their lists, as a launch has them
+pub launch_is : (xs : List Stream) (sizes : List ℕ) (lists : List (List Event)) → sizes ≡ map (λ s. s.header.items) xs → lists ≡ map (λ s. s.events) xs → these sizes lists ≡ launch_of (flats xs)
+launch_is xs sizes lists is_sizes is_lists =
     let a : sizes ≡ map (λ (f : Flat). f.header.items) (flats xs) = is_sizes ∙ sym (map-flats (λ f. f.header.items) xs) in
-    let b : map (λ (v : Vec Event Z). v.items) lists ≡ map (λ (f : Flat). f.events) (flats xs) = ap (map (λ v. v.items)) is_lists ∙ (map-items xs ∙ sym (map-flats (λ f. f.events) xs)) in
+    let b : lists ≡ map (λ (f : Flat). f.events) (flats xs) = is_lists ∙ sym (map-flats (λ f. f.events) xs) in
     λ i. record { sizes = a i; lists = b i }
 
 pub missing_permutation : (seen fs : List Flat) → IsPermutation seen fs → (g : ℕ) → IsLeastMissing fs g → IsLeastMissing seen g

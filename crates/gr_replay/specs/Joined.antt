@@ -15,10 +15,10 @@ pub record Flat : Type 0 where
   pub header : Header
   pub events : List Event
 
-abbrev pub flat : {Z : Type 0} → Stream Z → Flat
-flat s = record { header = s.header; events = s.events.items }
+abbrev pub flat : Stream → Flat
+flat s = record { header = s.header; events = s.events }
 
-abbrev pub flats : {Z : Type 0} → List (Stream Z) → List Flat
+abbrev pub flats : List Stream → List Flat
 flats ss = map flat ss
 
 infixl 10 ◌>>=◌

@@ -1,11 +1,12 @@
 -- The launch that streams are of, or why they are none.
 -- Source: docs/FORMATS.md, "Several streams".
-use Rattle.std.specs.Prelude.{◌≡◌, ◌≢◌, ◌⊎◌, ℕ, ◌<◌, List, AllPairs, Contains, slice_index_or, length, slice_get, Some, Ok}
+use Rattle.std.specs.Prelude.{◌≡◌, ◌≢◌, ◌⊎◌, ℕ, ◌<◌, List, AllPairs, Contains, slice_index_or, length, map, slice_get, Some, Ok}
 use Rattle.gr_model.specs.Shapes.{IsShapeFault}
 use Rattle.gr_model.specs.Streams.{Streams}
 use Rattle.gr_record.specs.declared.fault.Fault.{Fault}
 use Rattle.gr_record.specs.declared.fault.Fault.TheVariants as faults
 use Rattle.gr_input.specs.Faults.{Fails}
+use Rattle.gr_replay.specs.declared.launch.Launch.{Launch}
 use Rattle.gr_replay.specs.Joined.{Flat, joined_of}
 
 -- one of the streams is of this group
@@ -23,6 +24,10 @@ pub record IsLeastMissing (seen : List Flat) (g : ℕ) : Type 0 where
   pub below : (f : Flat) × Contains seen f × (g < f.header.group)
   pub missing : ¬ HasGroup seen g
   pub least : (h : ℕ) → h < g → HasGroup seen h
+
+-- the streams of a launch
+abbrev pub streams_of : {Z : Type 0} → Launch Z → Streams
+streams_of l = record { sizes = l.shape; lists = map (λ s. s.events) l.streams.items }
 
 -- why streams are no launch: a group is missing, or else the sizes are no shape
 abbrev pub IsLaunchFault : List Flat → Fault → Type 0

@@ -1,3 +1,4 @@
+pub mod Standing
 pub mod Joined
 pub mod Launch
 pub mod Sequencing

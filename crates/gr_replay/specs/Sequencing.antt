@@ -11,13 +11,9 @@ use Rattle.gr_sequencer.specs.declared.handled.Handled.{Handled}
 use Rattle.gr_sequencer.specs.declared.handled.Handled.TheVariants.{One}
 use Rattle.gr_hits.specs.Accesses.{AreAccesses}
 
--- all of a launch was taken, and nothing was handled
-abbrev pub all_taken : Streams → Sequence
-all_taken s = record { taken = s; handled = [] }
-
--- the same with this list of a group
-abbrev pub with_list : Sequence → ℕ → List Event → Sequence
-with_list q g list = record { taken = record { sizes = q.taken.sizes; lists = slice_set q.taken.lists g list }; handled = q.handled }
+-- streams with this list of a group
+abbrev pub with_list : Streams → ℕ → List Event → Streams
+with_list s g list = record { sizes = s.sizes; lists = slice_set s.lists g list }
 
 -- the accesses of a step: one at most
 abbrev pub accesses_of : {Z : Type 0} → Handled Z → List ClockedAccess

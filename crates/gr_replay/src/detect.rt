@@ -1,64 +1,54 @@
 //! The report of a launch.
 
-ghost use Rattle.std.specs.Prelude.{◌≡◌, [], IfOk, OnOk, length};
+ghost use Rattle.std.specs.Prelude.{◌≡◌, IfOk, length};
 ghost use Rattle.std.specs.List.{sum_by};
-ghost use Rattle.gr_model.specs.Reports.{AreRaces, IsReportOf};
-ghost use Rattle.gr_order.specs.Sequences.{IsDone};
-ghost use Rattle.gr_steps.specs.Steps.{IsAtRest};
+ghost use Rattle.gr_model.specs.Reports.{IsReportOf};
+ghost use Rattle.gr_model.specs.Streams.{AreAccepted, AreFronts};
+ghost use Rattle.gr_order.specs.Sequences.{IsDone, IsSequence};
+ghost use Rattle.gr_replay.specs.Launch.{streams_of};
+ghost use Rattle.gr_replay.specs.Sequencing.{AreShadowsOf};
 ghost use Rattle.gr_report.specs.Whole.{whole_of};
 
-use crate::handling::handle_all;
-use crate::taking::take_all;
-use gr_model::event::Word;
+use crate::launch::Launch;
+use crate::taking::{take_streams, take_traces};
 use gr_model::memory::Memory;
+use gr_model::shape::Shape;
 use gr_model::traces::Traces;
 use gr_report::report::Report;
 use gr_report::rows::Rows;
 use gr_sequencer::sequencer::Sequencer;
+use gr_shadow::shadows::Shadows;
 use std::alloc::Allocator;
 
-/// How many records there are, ends included.
-fn records_of<B: Allocator>(traces: &Traces<B>) -> u64
-    ensures { result ≡ sum_by length traces.now.lists }
+/// How many records were taken of so many groups, which are all; ends are among them.
+fn records_of<A: Allocator>(sequencer: &Sequencer<A>, groups: u16) -> u64
+    requires groups { groups ≡ length sequencer.now.taken.lists }
+    requires fronts { AreFronts sequencer.now.taken }
+    ensures { result ≡ sum_by length sequencer.now.taken.lists }
 {
     let mut records: u64 = 0;
-    for group in 0..traces.shape().groups() {
-        records += traces.list(group).len() as u64;
+    for group in 0..groups {
+        records += u64::from(sequencer.taken(group));
     }
     records
 }
 
-/// Has a sequencer handle all that it can, and gives the racy words.
+/// The report of a launch of this shape, of which all was taken and all was handled that can be.
 ///
 /// # Errors
-/// `Memory` where a list can't be made.
-fn find_races<A: Allocator + Copy>(
-    alloc: A,
-    sequencer: &mut Sequencer<A>,
-) -> Result<Vec<Word, A>, Memory>
-    requires { sequencer.old.handled ≡ [] }
-    ensures taken { OnOk result (sequencer.new.taken ≡ sequencer.old.taken) }
-    ensures done { OnOk result (IsDone sequencer.new) }
-    ensures races { IfOk result (λ races. AreRaces sequencer.new.taken races.items) }
-{
-    let shadows = handle_all(alloc, sequencer)?;
-    shadows.racy()
-}
-
-/// The report of a launch of which a sequencer has handled all that it can, with these racy words.
-///
-/// # Errors
-/// `Memory` where a list can't be made.
+/// `Memory`.
 fn report_of<A: Allocator + Copy>(
     sequencer: &Sequencer<A>,
-    traces: &Traces<A>,
-    races: Vec<Word, A>,
+    shadows: &Shadows<A>,
+    shape: &Shape<A>,
 ) -> Result<Report<A>, Memory>
-    requires taken { sequencer.now.taken ≡ traces.now }
-    requires rest { IsAtRest sequencer.now.taken sequencer.now.handled }
-    requires races { AreRaces traces.now races.items }
-    ensures { IfOk result (λ report. IsReportOf traces.now (whole_of report)) }
+    requires shape { shape.now ≡ sequencer.now.taken.sizes }
+    requires done { IsDone sequencer.now }
+    requires sequence { IsSequence sequencer.now }
+    requires shadows { AreShadowsOf sequencer.now shadows.now }
+    ensures { IfOk result (λ report. IsReportOf sequencer.now.taken (whole_of report)) }
 {
+    let races = shadows.racy()?;
     let divergences = sequencer.divergences()?;
     let unmatched = sequencer.unmatched()?;
     let cut = sequencer.cut()?;
@@ -68,9 +58,9 @@ fn report_of<A: Allocator + Copy>(
         unmatched: Rows::of(unmatched),
         cut: Rows::of(cut),
         held: sequencer.held(),
-        groups: traces.shape().groups(),
-        items: traces.shape().total() as u16,
-        records: records_of(traces),
+        groups: shape.groups(),
+        items: shape.total() as u16,
+        records: records_of(sequencer, shape.groups()),
     })
 }
 
@@ -81,7 +71,25 @@ fn report_of<A: Allocator + Copy>(
 pub fn detect<A: Allocator + Copy>(alloc: A, traces: &Traces<A>) -> Result<Report<A>, Memory>
     ensures { IfOk result (λ report. IsReportOf traces.now (whole_of report)) }
 {
-    let mut sequencer = take_all(alloc, traces)?;
-    let races = find_races(alloc, &mut sequencer)?;
-    report_of(&sequencer, traces, races)
+    let mut sequencer = Sequencer::new(alloc, traces.shape().copy()?)?;
+    let mut shadows = Shadows::new(alloc);
+    take_traces(&mut sequencer, &mut shadows, traces)?;
+    report_of(&sequencer, &shadows, traces.shape())
+}
+
+/// The report of the launch that streams are of.
+///
+/// # Errors
+/// `Memory` where a list can't be made.
+pub(crate) fn detect_streams<A: Allocator + Copy>(
+    alloc: A,
+    launch: &Launch<'_, A>,
+) -> Result<Report<A>, Memory>
+    requires { AreAccepted (streams_of launch.now) }
+    ensures { IfOk result (λ report. IsReportOf (streams_of launch.now) (whole_of report)) }
+{
+    let mut sequencer = Sequencer::new(alloc, launch.shape.copy()?)?;
+    let mut shadows = Shadows::new(alloc);
+    take_streams(alloc, &mut sequencer, &mut shadows, launch)?;
+    report_of(&sequencer, &shadows, &launch.shape)
 }

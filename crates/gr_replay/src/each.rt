@@ -49,11 +49,11 @@ fn read_inputs<A: Allocator + Copy, T: Read + Drop>(
 }
 
 /// The stream that the bytes are, behind these streams.
-fn read_only_stream<A: Allocator>(
+fn read_only_stream<'a, A: Allocator>(
     alloc: A,
-    streams: &[Stream<A>],
-    bytes: &[u8],
-) -> Result<Stream<A>, Fault>
+    streams: &[Stream<'a>],
+    bytes: &'a [u8],
+) -> Result<Stream<'a>, Fault>
     ensures exact { Gives flat result (only_stream_at (flats streams.now) bytes.now) }
     ensures good { AreStreams (flats streams.now) → IfOk result (λ s. AreStreams (flats streams.now ++ flat s ∷ [])) }
     ensures values { IfErr result IsOfValues }
@@ -67,10 +67,10 @@ fn read_only_stream<A: Allocator>(
 }
 
 /// The streams of these inputs, one in each, in their order.
-fn read_only_streams<A: Allocator + Copy>(
+fn read_only_streams<'a, A: Allocator + Copy>(
     alloc: A,
-    inputs: &[Vec<u8, A>],
-) -> Result<Vec<Stream<A>, A>, Fault>
+    inputs: &'a [Vec<u8, A>],
+) -> Result<Vec<Stream<'a>, A>, Fault>
     ensures exact { Gives (λ v. flats v.items) result (each_of (inputs_of inputs.now)) }
     ensures good { IfOk result (λ v. AreStreams (flats v.items)) }
     ensures values { IfErr result IsOfValues }

@@ -1,6 +1,6 @@
 //! All events that can be handled, and the words that are hit in their accesses.
 
-ghost use Rattle.std.specs.Prelude.{◌≡◌, ◌++◌, [], List, IfOk, OnOk};
+ghost use Rattle.std.specs.Prelude.{◌≡◌, ◌++◌, List, OnOk};
 ghost use Rattle.gr_order.specs.Sequences.{IsDone, IsSequence};
 ghost use Rattle.gr_clocks.specs.ClockedAccess.{ClockedAccess};
 ghost use Rattle.gr_shadow.specs.StandsFor.{StandsFor};
@@ -31,23 +31,22 @@ fn shade<A: Allocator + Copy>(shadows: &mut Shadows<A>, step: Handled<A>) -> Res
     }
 }
 
-/// Handles all events that can be handled, and gives the shadows of their accesses.
+/// Handles all events that can be handled, and gives the shadows their accesses.
 ///
 /// # Errors
 /// `Memory`.
-pub(crate) fn handle_all<A: Allocator + Copy>(
-    alloc: A,
+pub(crate) fn handle_ready<A: Allocator + Copy>(
     sequencer: &mut Sequencer<A>,
-) -> Result<Shadows<A>, Memory>
-    requires { sequencer.old.handled ≡ [] }
+    shadows: &mut Shadows<A>,
+) -> Result<(), Memory>
+    requires { AreShadowsOf sequencer.old shadows.old }
     ensures taken { OnOk result (sequencer.new.taken ≡ sequencer.old.taken) }
     ensures done { OnOk result (IsDone sequencer.new) }
     ensures sequence { OnOk result (IsSequence sequencer.new) }
-    ensures shadows { IfOk result (λ shadows. AreShadowsOf sequencer.new shadows) }
+    ensures shadows { OnOk result (AreShadowsOf sequencer.new shadows.new) }
 {
-    let mut shadows = Shadows::new(alloc);
     while let Some(step) = sequencer.step()? {
-        shade(&mut shadows, step)?;
+        shade(shadows, step)?;
     }
-    Ok(shadows)
+    Ok(())
 }

@@ -7,29 +7,28 @@ ghost use Rattle.gr_input.specs.Faults.{Gives};
 ghost use Rattle.gr_replay.specs.Laws.{AreStreams};
 ghost use Rattle.gr_replay.specs.Joined.{flat, flats, stream_at, joined_of};
 
-use gr_model::event::Event;
+use crate::records::Records;
 use gr_record::fault::Fault;
 use gr_record::header::Header;
-use gr_record::stream::{read_front_header, read_front_records};
-use std::alloc::{Allocator, Global};
+use gr_record::stream::read_front_header;
+use std::alloc::Allocator;
 
 /// One stream: whose it is, and its records up to the end.
-#[derive(Drop)]
-#[derive_where(Debug)]
-pub struct Stream<A: Allocator = Global> {
+#[derive(Debug, Drop)]
+pub struct Stream<'a> {
     pub header: Header,
-    pub events: Vec<Event, A>,
+    pub events: Records<'a>,
 }
 
 /// Whether one of the streams is of this group.
-fn has_group<A: Allocator>(streams: &[Stream<A>], group: u16) -> bool
+fn has_group(streams: &[Stream<'_>], group: u16) -> bool
     ensures { result ≡ list_any (λ s. s.header.group == group) streams.now }
 {
     streams.iter().any(|stream| stream.header.group == group)
 }
 
 /// Whether one of the streams is of another launch.
-fn has_other_launch<A: Allocator>(streams: &[Stream<A>], launch: u32) -> bool
+fn has_other_launch(streams: &[Stream<'_>], launch: u32) -> bool
     ensures { result ≡ list_any (λ s. not (s.header.launch == launch)) streams.now }
 {
     streams.iter().any(|stream| stream.header.launch != launch)
@@ -38,9 +37,9 @@ fn has_other_launch<A: Allocator>(streams: &[Stream<A>], launch: u32) -> bool
 /// The stream at the front of the bytes, behind these streams, and the bytes after it.
 pub(crate) fn read_stream<'a, A: Allocator>(
     alloc: A,
-    streams: &[Stream<A>],
+    streams: &[Stream<'a>],
     bytes: &'a [u8],
-) -> Result<(Stream<A>, &'a [u8]), Fault>
+) -> Result<(Stream<'a>, &'a [u8]), Fault>
     ensures exact { Gives (λ x. (flat x.0, x.1.now)) result (stream_at (flats streams.now) bytes.now) }
     ensures values { IfErr result IsOfValues }
 {
@@ -55,18 +54,18 @@ pub(crate) fn read_stream<'a, A: Allocator>(
     if has_other_launch(streams, header.launch) {
         return Err(Fault::OtherLaunch(place));
     }
-    match read_front_records(alloc, header.items, rest) {
+    match Records::find(alloc, header.items, rest) {
         Ok((events, rest)) => Ok((Stream { header, events }, rest)),
         Err(error) => Err(Fault::of_stream(place, error)),
     }
 }
 
 /// Keeps one more stream.
-pub(crate) fn keep<A: Allocator>(
-    streams: &mut Vec<Stream<A>, A>,
-    stream: Stream<A>,
+pub(crate) fn keep<'a, A: Allocator>(
+    streams: &mut Vec<Stream<'a>, A>,
+    stream: Stream<'a>,
 ) -> Result<(), Fault>
-    ensures kept { OnOk result (streams.new.items ≡ streams.old.items ++ stream ∷ []) }
+    ensures kept { OnOk result (streams.new.items ≡ streams.old.items ++ stream.entry ∷ []) }
     ensures memory { IfErr result (λ f. f ≡ Fault.Memory) }
 {
     match streams.push(stream) {
@@ -80,7 +79,10 @@ pub(crate) fn keep<A: Allocator>(
 /// # Errors
 /// The first fault from the left: of a stream its header's, `SameGroup`, `OtherLaunch`, then that of its records;
 /// `Memory` where the streams can't be kept.
-pub fn read_streams<A: Allocator + Copy>(alloc: A, bytes: &[u8]) -> Result<Vec<Stream<A>, A>, Fault>
+pub fn read_streams<'a, A: Allocator + Copy>(
+    alloc: A,
+    bytes: &'a [u8],
+) -> Result<Vec<Stream<'a>, A>, Fault>
     ensures exact { Gives (λ v. flats v.items) result (joined_of bytes.now) }
     ensures good { IfOk result (λ v. AreStreams (flats v.items)) }
     ensures values { IfErr result IsOfValues }

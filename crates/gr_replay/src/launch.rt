@@ -1,10 +1,11 @@
 //! The launch that streams are of.
 
 ghost use Rattle.std.specs.Prelude.{◌≡◌, IfOk, IfErr, IfSome, MatchOption, IsPermutation, map};
-ghost use Rattle.gr_record.specs.Faults.{IsOfReading};
+ghost use Rattle.gr_record.specs.Faults.{IsOfReading, IsOfValues};
+ghost use Rattle.gr_model.specs.Streams.{AreAccepted};
 ghost use Rattle.gr_replay.specs.Joined.{flats};
 ghost use Rattle.gr_replay.specs.Laws.{AreStreams};
-ghost use Rattle.gr_replay.specs.Launch.{AreApart, AreRising, ArePlaced, IsLeastMissing, IsLaunchOf, IsLaunchFault, Reads, IsReadFault};
+ghost use Rattle.gr_replay.specs.Launch.{AreApart, streams_of, AreRising, ArePlaced, IsLeastMissing, IsLaunchOf, IsLaunchFault, Reads, IsReadFault};
 
 use crate::joined::{Stream, read_streams};
 use gr_input::read_all;
@@ -13,11 +14,19 @@ use gr_model::memory::Memory;
 use gr_model::shape::Shape;
 use gr_model::traces::Traces;
 use gr_record::fault::Fault;
-use std::alloc::Allocator;
+use std::alloc::{Allocator, Global};
 use std::io::Read;
 
+/// The streams of a launch in the order of its groups, and how many items each has.
+#[derive(Drop)]
+#[derive_where(Debug)]
+pub(crate) struct Launch<'a, A: Allocator = Global> {
+    pub(crate) shape: Shape<A>,
+    pub(crate) streams: Vec<Stream<'a>, A>,
+}
+
 /// Puts streams of different groups in the order of their groups.
-fn order_by_group<A: Allocator>(streams: &mut Vec<Stream<A>, A>)
+fn order_by_group<A: Allocator>(streams: &mut Vec<Stream<'_>, A>)
     requires { AreApart (flats streams.old.items) }
     ensures same { IsPermutation (flats streams.old.items) (flats streams.new.items) }
     ensures rising { AreRising (flats streams.new.items) }
@@ -26,7 +35,7 @@ fn order_by_group<A: Allocator>(streams: &mut Vec<Stream<A>, A>)
 }
 
 /// The first place of streams in order whose stream is of another group.
-fn first_gap<A: Allocator>(streams: &[Stream<A>]) -> Option<u16>
+fn first_gap(streams: &[Stream<'_>]) -> Option<u16>
     requires { AreRising (flats streams.now) }
     ensures { MatchOption result (ArePlaced (flats streams.now)) (λ g. IsLeastMissing (flats streams.now) g) }
 {
@@ -39,7 +48,7 @@ fn first_gap<A: Allocator>(streams: &[Stream<A>]) -> Option<u16>
 }
 
 /// The items of each stream.
-fn sizes_of<A: Allocator>(alloc: A, streams: &[Stream<A>]) -> Result<Vec<u16, A>, Memory>
+fn sizes_of<A: Allocator>(alloc: A, streams: &[Stream<'_>]) -> Result<Vec<u16, A>, Memory>
     ensures { IfOk result (λ v. v.items ≡ map (λ s. s.header.items) streams.now) }
 {
     let sizes = streams
@@ -50,17 +59,61 @@ fn sizes_of<A: Allocator>(alloc: A, streams: &[Stream<A>]) -> Result<Vec<u16, A>
 }
 
 /// The records of each stream.
-fn lists_of<A: Allocator>(
+fn lists_of<A: Allocator + Copy>(
     alloc: A,
-    streams: Vec<Stream<A>, A>,
+    streams: &[Stream<'_>],
 ) -> Result<Vec<Vec<Event, A>, A>, Memory>
-    ensures { IfOk result (λ v. v.items ≡ map (λ s. s.events) streams.items) }
+    ensures { IfOk result (λ v. map (λ l. l.items) v.items ≡ map (λ s. s.events) streams.now) }
 {
-    let lists = streams
-        .into_iter()
-        .map(|stream| stream.events)
-        .collect(alloc)?;
+    let mut lists = Vec::new(alloc);
+    for stream in streams {
+        lists.push(stream.events.read(alloc)?)?;
+    }
     Ok(lists)
+}
+
+/// The launch that streams are of, in whatever order they came.
+///
+/// # Errors
+/// `MissingGroup` with the least group below the greatest that no stream is of; else `Shape`; `Memory` where a list
+/// can't be made.
+pub(crate) fn launch_of<'a, A: Allocator + Copy>(
+    alloc: A,
+    streams: Vec<Stream<'a>, A>,
+) -> Result<Launch<'a, A>, Fault>
+    requires { AreStreams (flats streams.items) }
+    ensures launch { IfOk result (λ l. IsLaunchOf (flats streams.entry.items) (streams_of l)) }
+    ensures accepted { IfOk result (λ l. AreAccepted (streams_of l)) }
+    ensures fault { IfErr result (λ f. IsLaunchFault (flats streams.entry.items) f) }
+{
+    let mut streams = streams;
+    order_by_group(&mut streams);
+    if let Some(group) = first_gap(&streams) {
+        return Err(Fault::MissingGroup(group));
+    }
+    let sizes = sizes_of(alloc, &streams)?;
+    let shape = match Shape::new(sizes) {
+        Ok(shape) => shape,
+        Err(error) => return Err(Fault::Shape(error)),
+    };
+    Ok(Launch { shape, streams })
+}
+
+/// The launch whose streams stand one after another in the bytes.
+///
+/// # Errors
+/// The first fault of the streams from the left, then `MissingGroup`, then `Shape`; `Memory` where a list can't be made.
+pub(crate) fn read_launch<'a, A: Allocator + Copy>(
+    alloc: A,
+    bytes: &'a [u8],
+) -> Result<Launch<'a, A>, Fault>
+    ensures launch { IfOk result (λ l. Reads bytes.now (streams_of l)) }
+    ensures accepted { IfOk result (λ l. AreAccepted (streams_of l)) }
+    ensures fault { IfErr result (λ f. IsReadFault bytes.now f) }
+    ensures values { IfErr result IsOfValues }
+{
+    let streams = read_streams(alloc, bytes)?;
+    launch_of(alloc, streams)
 }
 
 /// The traces of the launch that streams are of, in whatever order they came.
@@ -70,24 +123,15 @@ fn lists_of<A: Allocator>(
 /// can't be made.
 pub fn traces_of<A: Allocator + Copy>(
     alloc: A,
-    streams: Vec<Stream<A>, A>,
+    streams: Vec<Stream<'_>, A>,
 ) -> Result<Traces<A>, Fault>
     requires { AreStreams (flats streams.items) }
-    ensures launch { IfOk result (λ t. IsLaunchOf (flats streams.items) t) }
-    ensures fault { IfErr result (λ f. IsLaunchFault (flats streams.items) f) }
+    ensures launch { IfOk result (λ t. IsLaunchOf (flats streams.entry.items) t) }
+    ensures fault { IfErr result (λ f. IsLaunchFault (flats streams.entry.items) f) }
 {
-    let mut streams = streams;
-    order_by_group(&mut streams);
-    if let Some(group) = first_gap(&streams) {
-        return Err(Fault::MissingGroup(group));
-    }
-    let sizes = sizes_of(alloc, &streams)?;
-    let lists = lists_of(alloc, streams)?;
-    let shape = match Shape::new(sizes) {
-        Ok(shape) => shape,
-        Err(error) => return Err(Fault::Shape(error)),
-    };
-    match Traces::new(shape, lists) {
+    let launch = launch_of(alloc, streams)?;
+    let lists = lists_of(alloc, &launch.streams)?;
+    match Traces::new(launch.shape, lists) {
         Ok(traces) => Ok(traces),
         Err(_) => unreachable!(),
     }

@@ -7,8 +7,9 @@ ghost use Rattle.gr_replay.specs.Replays.{IsExact, IsReplayFault, WritesFront};
 ghost use Rattle.gr_report.specs.ReportText.{report_text};
 ghost use Rattle.gr_report.specs.Whole.{whole_of};
 
-use crate::detect::detect;
-use crate::launch::read_joined;
+use crate::detect::detect_streams;
+use crate::launch::read_launch;
+use gr_input::read_all;
 use gr_record::fault::Fault;
 use gr_report::report::Report;
 use gr_report::write;
@@ -33,8 +34,9 @@ pub fn replay<A: Allocator + Copy, T: Read, W: Write>(
     ensures untouched { IfErr result (λ f. f ≢ faults.Write → Keeps (W.contents writer.old) (W.contents writer.new)) }
     ensures front { IfErr result (λ f. f ≡ faults.Write → IfSome (T.remaining reader.old) (λ bytes. WritesFront bytes (W.contents writer.old) (W.contents writer.new))) }
 {
-    let traces = read_joined(alloc, reader)?;
-    let report = detect(alloc, &traces)?;
+    let bytes = read_all(alloc, reader)?;
+    let launch = read_launch(alloc, bytes.as_slice())?;
+    let report = detect_streams(alloc, &launch)?;
     match write(&report, writer) {
         Ok(()) => Ok(report),
         Err(_) => Err(Fault::Write),

@@ -5,6 +5,7 @@ ghost use Rattle.gr_model.specs.declared.event.EventId.{EventId as AnyEvent};
 ghost use Rattle.gr_model.specs.Access as model;
 ghost use Rattle.gr_model.specs.Barriers.{IsConvergent};
 ghost use Rattle.gr_model.specs.Instances.{Mark};
+ghost use Rattle.gr_model.specs.Names.{release_place};
 ghost use Rattle.gr_model.specs.Streams.{event_at, word_at};
 ghost use Rattle.gr_model.specs.Counts.{IsSeen};
 ghost use Rattle.gr_steps.specs.Steps.{IsReady};
@@ -19,7 +20,7 @@ use gr_clocks::clock::{Clock, ClockError};
 use gr_clocks::clocks::{Clocks, memory_of};
 use gr_clocks::snapshot::Snapshot;
 use gr_lanes::instance::barrier;
-use gr_model::event::{Event, EventId, ItemId, Kind, Word, word_of};
+use gr_model::event::{Event, EventId, ItemId, Kind, Name, Word, word_of};
 use gr_model::memory::Memory;
 use gr_model::shape::Shape;
 use gr_order::order::Order;
@@ -65,6 +66,14 @@ impl<A: Allocator + Copy> Known<A> {
     }
 }
 
+/// The record of the release of this name, which has this index.
+fn release_event<A: Allocator>(order: &Order<A>, name: Name, index: u32) -> Option<Event>
+    requires { release_place order.now.taken name ≡ Some index }
+    ensures { result ≡ event_at order.now.taken (record { at = name.at; index = index }) }
+{
+    order.lanes().release_event(name)
+}
+
 /// What the release that an event matches left, where the two are of inclusive scope.
 fn lesson<'a, A: Allocator>(
     order: &Order<A>,
@@ -78,10 +87,9 @@ fn lesson<'a, A: Allocator>(
     ensures { MatchOption result (IsUntaught order.now.taken event) (λ l. IsLesson order.now.taken event l.now) }
 {
     let name = taken.name?;
-    let lanes = order.lanes();
-    let index = lanes.release_at(name)?;
+    let index = order.lanes().release_at(name)?;
     let release = EventId { at: name.at, index };
-    let given = lanes.event_at(release)?;
+    let given = release_event(order, name, index)?;
     if inclusive(&given.kind, release.at.group, &taken.kind, event.at.group) {
         left.get(&release)
     } else {

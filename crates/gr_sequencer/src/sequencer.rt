@@ -95,7 +95,7 @@ impl<A: Allocator + Copy> Sequencer<A> {
         ensures { IfOk result (λ v. Lists UnmatchedBelow (IsUnmatchedAcquire self.now.taken) v.items) }
     {
         let order = self.agenda.order();
-        acquires::unmatched(self.alloc, order.lanes(), order.frontier())
+        acquires::unmatched(self.alloc, order.lanes(), order.frontier(), order.windows())
     }
 }
 
@@ -143,7 +143,7 @@ impl<A: Allocator> Sequencer<A> {
             None => return Err(GoError::NotReady),
             Some(event) => event,
         };
-        let taken = match order.lanes().event_at(event) {
+        let taken = match order.event_at(event) {
             None => unreachable!(),
             Some(taken) => taken,
         };

@@ -14,7 +14,7 @@ pub is_told-requires-clause-there : goal.is_told-requires-clause-there
 is_told-requires-clause-there g c d previous =
     let order = c.args.order.now in
     let n = c.loop-event.event-index in
-    previous_is_there c.args.lanes.now c.args.space order c.requires.lawful n (get_or order n no_id) d (slice_get-get_or order n no_id c.loop-event-test.true) previous
+    previous_is_there c.args.records.now c.args.space order c.requires.lawful n (get_or order n no_id) d (slice_get-get_or order n no_id c.loop-event-test.true) previous
 
 pub add-requires-clause-settled : goal.add-requires-clause-settled
 add-requires-clause-settled g c =
@@ -24,13 +24,13 @@ add-requires-clause-settled g c =
 
 pub loop-event-init : goal.loop-event-init
 loop-event-init g c = record {
-  followers = no_followers c.args.lanes.now c.args.space c.args.order.now c.requires.lawful c.args.first c.new-followers.result.events.keys (λ f. has_none c.new-followers.result.events.keys f c.new-followers.ensures.events);
-  passed = none_passed c.args.lanes.now c.args.space c.new-followers.result.events.keys c.new-followers.result.instances.keys c.new-followers.ensures.events c.new-followers.ensures.instances;
+  followers = no_followers c.args.records.now c.args.space c.args.order.now c.requires.lawful c.args.first c.new-followers.result.events.keys (λ f. has_none c.new-followers.result.events.keys f c.new-followers.ensures.events);
+  passed = none_passed c.args.records.now c.args.space c.new-followers.result.events.keys c.new-followers.result.instances.keys c.new-followers.ensures.events c.new-followers.ensures.instances;
 }
 
 pub loop-event-preserved : goal.loop-event-preserved
 loop-event-preserved g c =
-    let s = c.args.lanes.now in
+    let s = c.args.records.now in
     let m = c.args.space in
     let order = c.args.order.now in
     let e = c.args.first in

@@ -15,7 +15,7 @@ use Rattle.gr_explain.proofs.races.least_race.Goals.{in-None, in-Some+in_ok-foll
 
 pub with_races_of-least-requires-clause-followers : goal.with_races_of-least-requires-clause-followers
 with_races_of-least-requires-clause-followers g c e at =
-    let s = c.args.lanes.now in
+    let s = c.args.records.now in
     let order = c.args.order.now in
     let p = c.loop-place.place in
     let first = get_or order p no_id in
@@ -26,11 +26,11 @@ with_races_of-least-requires-clause-followers g c e at =
     (subst (λ (m : Space). AreFollowers s m order (length order) first keys) c.memory_of.ensures c.in_ok-followers-in-Some.ensures)
 
 pub loop-place-init : goal.loop-place-init
-loop-place-init g c = none_found c.args.lanes.now c.args.word c.args.order.now c.requires.whole.lawful
+loop-place-init g c = none_found c.args.records.now c.args.word c.args.order.now c.requires.whole.lawful
 
 pub loop-place-preserved : goal.loop-place-preserved
 loop-place-preserved g c =
-    let s = c.args.lanes.now in
+    let s = c.args.records.now in
     let word = c.args.word in
     let order = c.args.order.now in
     let lawful = c.requires.whole.lawful in
@@ -47,7 +47,7 @@ loop-place-preserved g c =
 
 pub returns : goal.returns
 returns g c =
-    let s = c.args.lanes.now in
+    let s = c.args.records.now in
     let word = c.args.word in
     let order = c.args.order.now in
     let n = c.loop-place.place in

@@ -11,7 +11,7 @@ use Rattle.gr_explain.proofs.races.with_races_of.Goals.{then-are_conflicting+the
 
 pub loop-other-init : goal.loop-other-init
 loop-other-init g c =
-    let s = c.args.lanes.now in
+    let s = c.args.records.now in
     let w = c.args.word in
     let order = c.args.order.now in
     let p = c.args.place in
@@ -20,7 +20,7 @@ loop-other-init g c =
 
 pub returns : goal.returns
 returns g c =
-    let s = c.args.lanes.now in
+    let s = c.args.records.now in
     let w = c.args.word in
     let order = c.args.order.now in
     let p = c.args.place in
@@ -31,7 +31,7 @@ returns g c =
 
 pub loop-other-preserved : goal.loop-other-preserved
 loop-other-preserved g c =
-    let s = c.args.lanes.now in
+    let s = c.args.records.now in
     let word = c.args.word in
     let order = c.args.order.now in
     let lawful = c.requires.lawful in

@@ -10,7 +10,7 @@ returns-in-None g c m passed = (λ no. absurd (true≢false (sym no)), λ h. abs
 
 pub returns-in-Some : goal.returns-in-Some
 returns-in-Some g c m passed =
-    let s = c.args.lanes.now in
+    let s = c.args.records.now in
     let e = c.args.event in
     let k = c.in-Some.number in
     let there = c.requires.there in

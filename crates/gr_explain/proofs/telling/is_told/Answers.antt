@@ -10,7 +10,7 @@ has_companion-requires-clause-there g c = c.requires.there c.in-Some.before c.in
 
 pub returns-in-None : goal.returns-in-None
 returns-in-None g c =
-    let s = c.args.lanes.now in
+    let s = c.args.records.now in
     let m = c.args.space in
     let events = c.args.told.now.events.keys in (
       λ no. absurd (true≢false (sym no)),
@@ -22,7 +22,7 @@ returns-in-None g c =
 
 pub returns-else-contains : goal.returns-else-contains
 returns-else-contains g c =
-    let s = c.args.lanes.now in
+    let s = c.args.records.now in
     let m = c.args.space in
     let f = c.args.event in
     let events = c.args.told.now.events.keys in

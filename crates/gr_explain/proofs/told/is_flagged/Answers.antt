@@ -5,20 +5,20 @@ use Rattle.gr_explain.proofs.Instances.{flagged, flagged_is_there, not_both_ways
 use Rattle.gr_explain.proofs.told.is_flagged.Goals as goal
 
 pub is_divergent-requires-clause-come : goal.is_divergent-requires-clause-come
-is_divergent-requires-clause-come g c = come_of c.args.lanes.now c.requires.fronts c.args.event c.in-Some.taken (sym c.event_at.ensures ∙ c.in-Some.is) c.args.number c.requires.place
+is_divergent-requires-clause-come g c = come_of c.args.records.now c.requires.fronts c.args.event c.in-Some.taken (sym c.event_at.ensures ∙ c.in-Some.is) c.args.number c.requires.place
 
 pub returns-in-None : goal.returns-in-None
 returns-in-None g c = (
   λ no. absurd (true≢false (sym no)),
   λ h.
-      let there = flagged_is_there c.args.lanes.now c.args.space c.args.event c.args.number h in
+      let there = flagged_is_there c.args.records.now c.args.space c.args.event c.args.number h in
       let no : None ≡ Some there.0 = sym c.in-None.is ∙ (c.event_at.ensures ∙ there.1) in
       cc,
 )
 
 pub returns-then-has_flag : goal.returns-then-has_flag
 returns-then-has_flag g c =
-    let s = c.args.lanes.now in
+    let s = c.args.records.now in
     let m = c.args.space in
     let e = c.args.event in
     let x = c.in-Some.taken in
@@ -30,7 +30,7 @@ returns-then-has_flag g c =
 
 pub returns-else-has_flag : goal.returns-else-has_flag
 returns-else-has_flag g c =
-    let s = c.args.lanes.now in
+    let s = c.args.records.now in
     let x = c.in-Some.taken in
     let at = sym c.event_at.ensures ∙ c.in-Some.is in (
       λ yes. absurd (true≢false (sym yes ∙ c.if-has_flag.false)),

@@ -1,3 +1,6 @@
+use Rattle.std.proofs.Common.{◌≡◌, ◌∙◌, Some, ap, refl, sym, true≢false}
+use Rattle.gr_model.specs.Barriers.{is_barrier}
+use Rattle.gr_steps.proofs.BarrierPlaces.{barrier_there}
 use Rattle.gr_order.proofs.ReadyLemmas.{come_of, passes_if, passes_only}
 use Rattle.gr_order.proofs.ready.may_pass.Goals as goal
 use Rattle.gr_steps.proofs.EventRecords.{group_of_event}
@@ -14,3 +17,12 @@ returns-in-Some g c =
       λ divergent. passes_if s c.requires.fronts c.args.event c.args.taken.now c.requires.there c.in-Some.number c.in-Some.ensures (c.is_divergent.ensures.0 divergent),
       λ may. c.is_divergent.ensures.1 (passes_only s c.requires.fronts c.args.event c.args.taken.now c.requires.there c.in-Some.number c.in-Some.ensures may),
     )
+
+pub returns-then-not-is_barrier : goal.returns-then-not-is_barrier
+returns-then-not-is_barrier g c = (
+  λ _ group k stands.
+      let there = barrier_there c.args.lanes.now c.args.event group k stands in
+      let same : there.0 ≡ c.args.taken.now = let both : Some there.0 ≡ Some c.args.taken.now = sym there.1 ∙ c.requires.there in cc in
+      absurd (true≢false (sym there.2 ∙ (ap is_barrier same ∙ (sym c.is_barrier.ensures ∙ c.if-not-is_barrier.true)))),
+  λ _. refl,
+)

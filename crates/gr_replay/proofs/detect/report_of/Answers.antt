@@ -1,20 +1,22 @@
-use Rattle.std.proofs.Common.{◌∙◌, ◌<◌, ℕ, ap, length, subst, sum}
-use Rattle.gr_model.specs.Reports.{DivergenceBelow, IsCut, IsDivergence, IsHeld, IsUnmatchedAcquire, Lists, UnmatchedBelow}
-use Rattle.gr_model.specs.Streams.{Streams}
+use Rattle.std.proofs.Common.{◌∙◌, ap, length, refl, sum, sym}
+use Rattle.gr_replay.proofs.Reporting.{races_are_listed}
 use Rattle.gr_replay.proofs.detect.report_of.Goals as goal
+
+pub records_of-requires-clause-groups : goal.records_of-requires-clause-groups
+records_of-requires-clause-groups g c = c.groups-2.ensures.count ∙ (ap length c.requires.shape ∙ sym c.requires.sequence.fronts.count)
 
 pub returns : goal.returns
 returns g c =
-    let taken = c.requires.taken in
+    let q = c.args.sequencer.now in
     record {
       rest = record {
-        divergences = rw c.of-2.ensures (subst (λ (t : Streams). Lists DivergenceBelow (IsDivergence t) c.in_ok-divergences.divergences.items) taken c.in_ok-divergences.ensures);
-        unmatched = rw c.of-3.ensures (subst (λ (t : Streams). Lists UnmatchedBelow (IsUnmatchedAcquire t) c.in_ok-unmatched.unmatched.items) taken c.in_ok-unmatched.ensures);
-        cut = rw c.of-4.ensures (subst (λ (t : Streams). Lists (λ (g h : ℕ). g < h) (IsCut t) c.in_ok-cut.cut.items) taken c.in_ok-cut.ensures);
-        held = subst (λ (t : Streams). IsHeld t c.held.result) taken (c.held.ensures.held c.requires.rest);
-        groups = c.groups.ensures.count ∙ ap length c.shape.ensures.sizes;
-        items = c.total.ensures.total ∙ ap sum c.shape-2.ensures.sizes;
+        divergences = rw c.of-2.ensures c.in_ok-divergences.ensures;
+        unmatched = rw c.of-3.ensures c.in_ok-unmatched.ensures;
+        cut = rw c.of-4.ensures c.in_ok-cut.ensures;
+        held = c.held.ensures.held c.requires.done.rest;
+        groups = c.groups.ensures.count ∙ ap length c.requires.shape;
+        items = c.total.ensures.total ∙ ap sum c.requires.shape;
         records = c.records_of.ensures;
       };
-      races = rw c.of.ensures c.requires.races;
+      races = rw c.of.ensures (races_are_listed q.taken q c.args.shadows.now c.in_ok-races.races.items refl c.requires.done c.requires.sequence c.requires.shadows c.in_ok-races.ensures);
     }

@@ -12,11 +12,11 @@ pub returns-then-has_other_launch-clause-exact : goal.returns-then-has_other_lau
 returns-then-has_other_launch-clause-exact g c =
     other_launch c.args.streams.now c.args.bytes.now _ _ c.in-Ok.ensures.exact (sym c.has_group.ensures ∙ c.if-has_group.false) (sym c.has_other_launch.ensures ∙ c.if-has_other_launch.true)
 
-pub returns-in-Ok-read_front_records-clause-exact : goal.returns-in-Ok-read_front_records-clause-exact
-returns-in-Ok-read_front_records-clause-exact g c =
-    one_stream c.args.streams.now c.args.bytes.now _ _ c.in-Ok.ensures.exact (sym c.has_group.ensures ∙ c.if-has_group.false) (sym c.has_other_launch.ensures ∙ c.if-has_other_launch.false) _ _ c.in-Ok-read_front_records.ensures
+pub returns-in-Ok-find-clause-exact : goal.returns-in-Ok-find-clause-exact
+returns-in-Ok-find-clause-exact g c =
+    one_stream c.args.streams.now c.args.bytes.now _ _ c.in-Ok.ensures.exact (sym c.has_group.ensures ∙ c.if-has_group.false) (sym c.has_other_launch.ensures ∙ c.if-has_other_launch.false) _ _ c.in-Ok-find.ensures
 
-pub returns-in-Err-read_front_records-clause-exact : goal.returns-in-Err-read_front_records-clause-exact
-returns-in-Err-read_front_records-clause-exact g c =
-    rw c.of_stream-in-Err-read_front_records.ensures.exact
-    (records_fail c.args.streams.now c.args.bytes.now _ _ c.in-Ok.ensures.exact (sym c.has_group.ensures ∙ c.if-has_group.false) (sym c.has_other_launch.ensures ∙ c.if-has_other_launch.false) _ c.in-Err-read_front_records.ensures)
+pub returns-in-Err-find-clause-exact : goal.returns-in-Err-find-clause-exact
+returns-in-Err-find-clause-exact g c =
+    rw c.of_stream-in-Err-find.ensures.exact
+    (records_fail c.args.streams.now c.args.bytes.now _ _ c.in-Ok.ensures.exact (sym c.has_group.ensures ∙ c.if-has_group.false) (sym c.has_other_launch.ensures ∙ c.if-has_other_launch.false) _ c.in-Err-find.ensures)

@@ -5,7 +5,7 @@ use Rattle.gr_replay.proofs.Launching.{gap, at_least, same_at, group_at}
 use Rattle.gr_replay.proofs.launch.first_gap.Goals as goal
 
 pub loop-place-preserved : goal.loop-place-preserved
-loop-place-preserved g c =
+loop-place-preserved c =
     let xs = c.args.streams.now in
     let p = c.loop-place.place in
     let x = c.index-streams-place.result in
@@ -17,7 +17,7 @@ loop-place-preserved g c =
     (eq-or-lt_of_le (let le : k ≤ p = omega arith in le))
 
 pub overflow_cast-result : goal.overflow_cast-result
-overflow_cast-result g c =
+overflow_cast-result c =
     let xs = c.args.streams.now in
     let p = c.loop-place.place in
     let x = c.index-streams-place.result in
@@ -26,7 +26,7 @@ overflow_cast-result g c =
     omega arith
 
 pub returns-then-from-place : goal.returns-then-from-place
-returns-then-from-place g c =
+returns-then-from-place c =
     let xs = c.args.streams.now in
     let p = c.loop-place.place in
     let x = c.index-streams-place.result in

@@ -1,35 +1,19 @@
-use Rattle.std.proofs.Common.{sym, subst, refl, true≢false, List, ℕ}
-use Rattle.gr_model.specs.Shapes.{IsShape, IsShapeFault}
-use Rattle.gr_model.specs.Streams.{Streams, AreAccepted, streams}
+use Rattle.std.proofs.Common.{List, subst, sym, true≢false}
+use Rattle.gr_model.specs.declared.event.Event.{Event}
+use Rattle.gr_model.specs.Streams.{AreAccepted}
 use Rattle.gr_replay.specs.Joined.{flats}
 use Rattle.gr_replay.specs.Launch.{IsLaunchOf}
-use Rattle.gr_replay.proofs.Launching.{launch_of, missing_permutation, launch_is, is_launch, launch_accepted}
+use Rattle.gr_replay.proofs.Launching.{these}
 use Rattle.gr_replay.proofs.launch.traces_of.Goals as goal
-
-pub returns-in-Some-clause-fault : goal.returns-in-Some-clause-fault
-returns-in-Some-clause-fault g c =
-    let h = rw c.deref.ensures.value at c.in-Some.ensures in
-    missing_permutation _ _ c.order_by_group.ensures.same c.in-Some.group h
-
-pub returns-in-Err-clause-fault : goal.returns-in-Err-clause-fault
-returns-in-Err-clause-fault g c =
-    let placed = rw c.deref.ensures.value at c.in_default.ensures in
-    let is = launch_is _ _ _ (rw c.deref-2.ensures.value at c.in_ok-sizes.ensures) c.in_ok-lists.ensures in
-    (launch_of _, is_launch _ _ c.order_by_group.ensures.same placed, subst (λ (s : Streams). IsShapeFault s.sizes c.in-Err.error) is c.in-Err.ensures.refused)
 
 pub unreachable-requires : goal.unreachable-requires
 unreachable-requires g c =
-    let placed = rw c.deref.ensures.value at c.in_default.ensures in
-    let is = launch_is _ _ _ (rw c.deref-2.ensures.value at c.in_ok-sizes.ensures) c.in_ok-lists.ensures in
-    let shape = subst (λ (s : Streams). IsShape s.sizes) is (c.in-Ok.ensures.accepted.0 refl) in
-    let accepted = subst AreAccepted (sym is) (launch_accepted _ _ c.order_by_group.ensures.same placed shape c.requires) in
-    let here = subst (λ (sizes : List ℕ). AreAccepted (streams sizes c.in_ok-lists.lists.items)) (sym c.in-Ok.ensures.sizes) accepted in
-    true≢false (sym (c.in-Err-new.ensures.accepted.1 here))
+    let lists = rw c.deref.ensures.value at c.in_ok-lists.ensures in
+    let here = subst (λ (l : List (List Event)). AreAccepted (these c.in_ok-launch.launch.shape l)) (sym lists) c.in_ok-launch.ensures.accepted in
+    true≢false (sym (c.in-Err.ensures.accepted.1 here))
 
 pub returns-clause-launch : goal.returns-clause-launch
 returns-clause-launch g c =
-    let placed = rw c.deref.ensures.value at c.in_default.ensures in
-    let is = launch_is _ _ _ (rw c.deref-2.ensures.value at c.in_ok-sizes.ensures) c.in_ok-lists.ensures in
-    let launch = subst (IsLaunchOf (flats c.args.streams.items)) (sym is) (is_launch _ _ c.order_by_group.ensures.same placed) in
-    let here = subst (λ (sizes : List ℕ). IsLaunchOf (flats c.args.streams.items) (streams sizes c.in_ok-lists.lists.items)) (sym c.in-Ok.ensures.sizes) launch in
-    subst (IsLaunchOf (flats c.args.streams.items)) (sym c.in-Ok-new.ensures.lists) here
+    let lists = rw c.deref.ensures.value at c.in_ok-lists.ensures in
+    let here = subst (λ (l : List (List Event)). IsLaunchOf (flats c.args.streams.items) (these c.in_ok-launch.launch.shape l)) (sym lists) c.in_ok-launch.ensures.launch in
+    subst (IsLaunchOf (flats c.args.streams.items)) (sym c.in-Ok.ensures.lists) here

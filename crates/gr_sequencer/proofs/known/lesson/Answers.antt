@@ -7,11 +7,14 @@ use Rattle.gr_sequencer.specs.Known.{IsLeftBy, IsLesson, IsUntaught, left_at}
 use Rattle.gr_sequencer.proofs.Lessons.{given_releases, lesson_of, release_handled}
 use Rattle.gr_sequencer.proofs.known.lesson.Goals as goal
 
+pub release_event-requires : goal.release_event-requires
+release_event-requires g c = ap (λ t. release_place t c.in_ok-name.name) (sym c.lanes.ensures.taken) ∙ sym c.release_at.ensures ∙ c.in_ok-index.was
+
 pub returns-then-inclusive : goal.returns-then-inclusive
 returns-then-inclusive g c =
     let s = c.args.order.now.taken in
     let order = c.args.order.now.handled in
-    let read = c.lanes-lanes.ensures.taken in
+    let read = c.lanes.ensures.taken in
     let e = c.args.event in
     let n = c.in_ok-name.name in
     let r : EventId = record { at = n.at; index = c.in_ok-index.index } in
@@ -19,7 +22,7 @@ returns-then-inclusive g c =
     let given = c.in_ok-given.given in
     let event = c.requires.there in
     let place = ap (λ t. release_place t n) (sym read) ∙ sym c.release_at.ensures ∙ c.in_ok-index.was in
-    let there = ap (λ t. event_at t r) (sym read) ∙ sym c.event_at.ensures ∙ c.in_ok-given.was in
+    let there : event_at s r ≡ Some given = sym c.release_event.ensures ∙ c.in_ok-given.was in
     let ready = c.requires.ready in
     let handled = release_handled s order e r x given n event c.in_ok-name.was refl place there ready in
     let releases = given_releases s order e r x given n event c.in_ok-name.was refl place there ready in

@@ -13,7 +13,7 @@ update_of old before new e same update d = subst (λ events. list_any (same_even
 
 pub returns-clause-passed : goal.returns-clause-passed
 returns-clause-passed g c =
-    let s = c.args.lanes.now in
+    let s = c.args.records.now in
     let m = c.args.space in
     let e = c.args.event in
     let old = c.args.self.now.events.keys in

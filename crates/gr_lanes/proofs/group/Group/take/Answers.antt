@@ -13,7 +13,7 @@ pub index-requires-clause-few : goal.index-requires-clause-few
 index-requires-clause-few g c =
     let lanes = c.self.inside.lanes.items in
     let ok = subst (λ (v : GroupList). IsEventOk c.args.event v.size) (sym c.self.view_is) c.requires.good in
-    subst (λ (l : List Index). length (slice_index_or l c.args.event.item no_index).trace < 4_294_967_296) (sym c.deref_mut.ensures.value) (few_events lanes c.self.inside.list c.args.event c.self.invariant.indices ok)
+    subst (λ (l : List Index). (slice_index_or l c.args.event.item no_index).count < 4_294_967_295) (sym c.deref_mut.ensures.value) (few_events lanes c.self.inside.list c.args.event c.self.invariant.indices ok)
 
 pub invariant_of-self-2 : goal.invariant_of-self-2
 invariant_of-self-2 g c =

@@ -1,8 +1,9 @@
-use Rattle.std.proofs.Common.{◌≡◌, ◌∙◌, ◌-◌, ℕ, List, ap, arith, get_or, subst, sym}
+use Rattle.std.proofs.Common.{◌≡◌, ◌∙◌, ◌-◌, ℕ, List, ap, arith, get_or, length, map, subst, sym}
 use Rattle.gr_model.specs.Streams.{size_of}
 use Rattle.gr_steps.specs.Steps.{CanMeet}
 use Rattle.gr_order.specs.Sequences.{Sequence}
-use Rattle.gr_order.proofs.PassLemmas.{Passing, barriers_are_held, below_largest, meets_behind, state_behind}
+use Rattle.gr_order.proofs.PassLemmas.{Passing, barriers_are_held, below_largest, group_there, meets_behind, state_behind}
+use Rattle.gr_order.proofs.WaitLemmas.{group_is_kept, waits_behind}
 use Rattle.gr_order.proofs.order.Order.pass.Given as given
 use Rattle.gr_order.proofs.order.Order.pass.Goals as goal
 
@@ -11,14 +12,26 @@ count_next_events-requires-clause-room g c =
     let q : Sequence = record { taken = c.self.inside.lanes; handled = c.self.inside.handled } in
     let can = subst (λ (v : Sequence). CanMeet v.taken v.handled c.args.group) (sym c.self.view_is) c.requires in
     let size : c.items-size.result ≡ size_of c.self.inside.lanes c.args.group = c.items-size.ensures.size ∙ ap (λ (l : List ℕ). get_or l c.args.group 0) c.shape.ensures.sizes in
-    λ k lt. below_largest q c.self.inside.frontier c.self.inside.held c.self.invariant c.args.group can.0 can.1 can.2 k (omega (arith, size, lt))
+    λ k lt. below_largest q c.self.inside.frontier c.self.inside.held c.self.invariant.state c.args.group can.0 can.1 can.2 k (omega (arith, size, lt))
+
+pub pop_group-requires-clause-group : goal.pop_group-requires-clause-group
+pop_group-requires-clause-group g c =
+    let q : Sequence = record { taken = c.self.inside.lanes; handled = c.self.inside.handled } in
+    let can = subst (λ (v : Sequence). CanMeet v.taken v.handled c.args.group) (sym c.self.view_is) c.requires in
+    group_is_kept q c.self.inside.frontier c.self.inside.windows c.self.inside.held c.self.invariant c.args.group (group_there q c.self.inside.frontier c.self.inside.held c.self.invariant.state c.args.group can.0 can.1 can.2)
+
+pub pop_group-requires-clause-items : goal.pop_group-requires-clause-items
+pop_group-requires-clause-items g c =
+    let size : c.items-size.result ≡ size_of c.self.inside.lanes c.args.group = c.items-size.ensures.size ∙ ap (λ (l : List ℕ). get_or l c.args.group 0) c.shape.ensures.sizes in
+    let kept : get_or (map length c.self.inside.windows) c.args.group 0 ≡ size_of c.self.inside.lanes c.args.group = ap (λ (l : List ℕ). get_or l c.args.group 0) c.self.invariant.waits.shape in
+    omega (arith, size, kept)
 
 pub overflow_sub-self : goal.overflow_sub-self
 overflow_sub-self g c =
     let q : Sequence = record { taken = c.self.inside.lanes; handled = c.self.inside.handled } in
     let can = subst (λ (v : Sequence). CanMeet v.taken v.handled c.args.group) (sym c.self.view_is) c.requires in
     let size : c.items-size.result ≡ size_of c.self.inside.lanes c.args.group = c.items-size.ensures.size ∙ ap (λ (l : List ℕ). get_or l c.args.group 0) c.shape.ensures.sizes in
-    let held = barriers_are_held q c.self.inside.frontier c.self.inside.held c.self.invariant c.args.group can.0 can.1 can.2 in
+    let held = barriers_are_held q c.self.inside.frontier c.self.inside.held c.self.invariant.state c.args.group can.0 can.1 can.2 in
     omega (arith, size, held, c.from.ensures)
 
 -- the order and the clock at hand
@@ -27,8 +40,8 @@ at_hand g c =
     let q : Sequence = record { taken = c.self.inside.lanes; handled = c.self.inside.handled } in
     let can = subst (λ (v : Sequence). CanMeet v.taken v.handled c.args.group) (sym c.self.view_is) c.requires in
     let size : c.items-size.result ≡ size_of c.self.inside.lanes c.args.group = c.items-size.ensures.size ∙ ap (λ (l : List ℕ). get_or l c.args.group 0) c.shape.ensures.sizes in
-    let held = barriers_are_held q c.self.inside.frontier c.self.inside.held c.self.invariant c.args.group can.0 can.1 can.2 in record {
-      state = c.self.invariant;
+    let held = barriers_are_held q c.self.inside.frontier c.self.inside.held c.self.invariant.state c.args.group can.0 can.1 can.2 in record {
+      state = c.self.invariant.state;
       can = can;
       size = size;
       added = c.add_next_events.ensures;
@@ -37,7 +50,11 @@ at_hand g c =
     }
 
 pub invariant_of-self : goal.invariant_of-self
-invariant_of-self g c = state_behind (at_hand g c)
+invariant_of-self g c =
+    let q : Sequence = record { taken = c.self.inside.lanes; handled = c.self.inside.handled } in record {
+      state = state_behind (at_hand g c);
+      waits = waits_behind q c.self.inside.frontier c.self.inside.windows c.self.inside.held c.self.invariant c.args.group c.items-size.result c.count_next_events.new.frontier c.count_next_events.ensures c.pop_group.new.self c.pop_group.ensures;
+    }
 
 pub returns-clause-step : goal.returns-clause-step
 returns-clause-step g c = meets_behind (at_hand g c) c.args.self.now c.self.view_is

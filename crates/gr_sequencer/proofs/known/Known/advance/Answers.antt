@@ -1,6 +1,5 @@
-use Rattle.std.proofs.Common.{◌≡◌, Err, [], ◌∷◌, ◌++◌, sym, ap, ◌∙◌, subst, ⊎_elim}
-use Rattle.std.specs.Prelude.{OnOk, IsOkUnless}
-use Rattle.gr_clocks.specs.declared.clock.ClockError.TheVariants.{Spent}
+use Rattle.std.proofs.Common.{Err, [], ◌∷◌, ◌++◌, sym, ap, ◌∙◌, subst, ⊎_elim}
+use Rattle.std.specs.Prelude.{OnOk}
 use Rattle.gr_clocks.specs.ItemClocks.{Acquires, Ticks}
 use Rattle.gr_sequencer.specs.Known.{AreTrue, IsNext, Known}
 use Rattle.gr_sequencer.proofs.EventSteps.{has_clock, lesson_unspent, steps_true, taught_steps, untaught_steps, unspent}

@@ -1,4 +1,4 @@
-use Rattle.std.proofs.Common.{◌≡◌, List, [], ◌∷◌, ◌++◌, Some, IsTrue, sym, ap, ◌∙◌, subst}
+use Rattle.std.proofs.Common.{◌≡◌, List, [], ◌∷◌, ◌++◌, Some, IsTrue, sym, ◌∙◌, subst}
 use Rattle.gr_model.specs.declared.event.Event.{Event}
 use Rattle.gr_model.specs.declared.event.EventId.{EventId}
 use Rattle.gr_model.specs.Access.{is_release}
@@ -40,7 +40,7 @@ invariant_of-self-2 g c =
       follows = subst {A = Sequence} (λ p. IsKnown p.taken p.handled known) (sym c.order-order.ensures.order) c.self.invariant;
       ready = c.in-Some.ensures.next.1;
     } in
-    let there : event_at s e ≡ Some c.in-Some-event_at.taken = ap (λ t. event_at t e) (sym c.lanes.ensures.taken) ∙ sym c.event_at.ensures ∙ c.in-Some-event_at.is in
+    let there : event_at s e ≡ Some c.in-Some-event_at.taken = sym c.event_at.ensures ∙ c.in-Some-event_at.is in
     let own : (x : Event) → event_at s e ≡ Some x → IsTrue (is_release x) → IsLeftBy s e (left_at kept.left e) = λ x at releases.
     let same : x ≡ c.in-Some-event_at.taken = let both : Some x ≡ Some c.in-Some-event_at.taken = sym at ∙ there in cc in
     c.in_ok-keep.ensures.kept (subst (λ y. IsTrue (is_release y)) same releases) in

@@ -4,6 +4,7 @@ use Rattle.gr_clocks.specs.Counts.{count_of}
 use Rattle.gr_order.specs.Sequences.{Sequence}
 use Rattle.gr_steps.proofs.Resting.{rest_grounded}
 use Rattle.gr_steps.specs.Steps.{IsAtRest}
+use Rattle.gr_windows.specs.Windows.{AreWaiting}
 use Rattle.gr_sequencer.proofs.sequencer.Sequencer.unmatched.Goals as goal
 
 pub unmatched-requires : goal.unmatched-requires
@@ -17,4 +18,5 @@ unmatched-requires g c =
             λ h. (c.frontier.ensures.first e).0 ((grounded e).1 h),
             λ lt. (grounded e).0 ((c.frontier.ensures.first e).1 lt),
           );
+      waiting = subst (λ s. AreWaiting s c.frontier.result.now c.windows.result.now) (sym c.lanes.ensures.taken) (c.windows.ensures c.frontier.result.now c.frontier.ensures.first);
     }

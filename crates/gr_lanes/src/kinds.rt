@@ -1,0 +1,36 @@
+//! What a record is.
+
+ghost use Rattle.std.specs.Prelude.{◌≡◌};
+ghost use Rattle.gr_model.specs.Access as model;
+ghost use Rattle.gr_model.specs.Barriers as model_barriers;
+
+use gr_model::event::{Event, Kind};
+
+/// Whether an event is a release.
+pub fn is_release(event: &Event) -> bool
+    ensures { result ≡ model.is_release event.now }
+{
+    match event.kind {
+        Kind::Load(_, order) | Kind::Store(_, order) | Kind::Rmw(_, order) => order.releases(),
+        Kind::Read
+        | Kind::Write
+        | Kind::Barrier {
+            global: _,
+            local: _,
+        }
+        | Kind::End { cut: _ } => false,
+    }
+}
+
+/// Whether an event is a barrier.
+pub fn is_barrier(event: &Event) -> bool
+    ensures { result ≡ model_barriers.is_barrier event.now }
+{
+    matches!(
+        event.kind,
+        Kind::Barrier {
+            global: _,
+            local: _
+        }
+    )
+}

@@ -1,0 +1,170 @@
+-- The events that wait, where a record is taken, and where events are handled.
+use Rattle.std.proofs.Common.{◌≡◌, ◌⊎◌, ℕ, zero, suc, ◌+◌, ◌-◌, ◌<◌, ◌≤◌, add-one, Bool, true, false, not, ◌&&◌, ◌==◌, cond, List, [], ◌∷◌, ◌++◌, length, map, drop, take, get_or, filter, refl, sym, ap, ◌∙◌, subst, inl, inr, ⊎_elim, arith, append-nil}
+use Rattle.std.proofs.lemmas.Bool.{cases_eq, cases_lt, eq-eqb, ne_eqb}
+use Rattle.std.proofs.lemmas.List.{drop-append-le, length-map}
+use Rattle.gr_model.specs.declared.event.Event.{Event}
+use Rattle.gr_model.specs.declared.event.EventId.{EventId}
+use Rattle.gr_model.specs.declared.event.ItemId.{ItemId}
+use Rattle.gr_model.specs.Events.{is_end}
+use Rattle.gr_model.specs.Shapes.{HasItem}
+use Rattle.gr_model.specs.Streams.{AreFronts, Streams, is_of, list_of, trace_of}
+use Rattle.gr_clocks.specs.Counts.{Counts, IsTick, count_of}
+use Rattle.gr_clocks.specs.Tables.{IsBeyond, item_of}
+use Rattle.gr_lanes.specs.Takes.{CanTake, nothing_taken, with_record}
+use Rattle.gr_lanes.proofs.Growth.{here, other}
+use Rattle.gr_lanes.proofs.IndexLemmas.{end_is_of, trace_more}
+use Rattle.gr_windows.specs.Windows.{AreWaiting, Changes, DropsItems, IsEmpty, Table, window_of}
+use Rattle.gr_windows.proofs.WindowLemmas.{drop_none, drop_one, take_pushed}
+use Rattle.gr_order.specs.Sequences.{Sequence}
+use Rattle.gr_order.specs.States.{AreFirst, TicksItems}
+use Rattle.gr_order.specs.Waiting.{AreSame, IsKept, Keeps, added, is_at}
+use Rattle.gr_order.proofs.HeldLemmas.{taken_first}
+use Rattle.gr_order.proofs.StateLemmas.{item_cases, tick_here, tick_there}
+
+-- ---- what a record adds
+
+and_false : (b : Bool) → (b && false) ≡ false
+and_false true = refl
+and_false false = refl
+
+none_added : (g : ℕ) (x : Event) (i : ItemId) → is_at g x i ≡ false → added g x i ≡ []
+none_added g x i is = ap (λ b. cond b (x ∷ []) []) is
+
+pub end_adds_none : (g : ℕ) (x : Event) (i : ItemId) → is_end x ≡ true → added g x i ≡ []
+end_adds_none g x i end = none_added g x i (ap (λ b. (i.group == g) && b) (end_is_of x i.item end) ∙ and_false (i.group == g))
+
+adds_here : (g : ℕ) (x : Event) → is_end x ≡ false → added g x (item_of g x.item) ≡ x ∷ []
+adds_here g x on =
+    let is : is_at g x (item_of g x.item) ≡ true =
+    ap (λ b. b && is_of x.item x) (eq-eqb g g refl) ∙ (ap (λ b. b && not (is_end x)) (eq-eqb x.item x.item refl) ∙ ap not on) in
+    ap (λ b. cond b (x ∷ []) []) is
+
+adds_none : (g : ℕ) (x : Event) (i : ItemId) → (i ≡ item_of g x.item → ⊥) → added g x i ≡ []
+adds_none g x i apart = none_added g x i (⊎_elim
+    (λ (group : i.group ≡ g). ⊎_elim
+    (λ (item : x.item ≡ i.item). absurd (apart (λ d. record { group = group d; item = sym item d })))
+    (λ (differs : x.item ≡ i.item → ⊥). ap (λ b. (i.group == g) && (b && not (is_end x))) (ne_eqb x.item i.item differs) ∙ and_false (i.group == g))
+    (cases_eq x.item i.item))
+    (λ (differs : i.group ≡ g → ⊥). ap (λ b. b && is_of i.item x) (ne_eqb i.group g differs))
+    (cases_eq i.group g))
+
+pub keeps_end : (w : Table) (g : ℕ) (x : Event) → is_end x ≡ true → Keeps w g x w
+keeps_end w g x end = record { shape = refl; each = λ i. sym (ap (λ l. window_of w i ++ l) (end_adds_none g x i end) ∙ append-nil (window_of w i)) }
+
+pub keeps_event : (old : Table) (g : ℕ) (x : Event) (new : Table) → is_end x ≡ false → Changes old (item_of g x.item) (window_of old (item_of g x.item) ++ x ∷ []) new → Keeps old g x new
+keeps_event old g x new on changes = record {
+  shape = changes.shape;
+  each = λ i. ⊎_elim
+      (λ (same : i ≡ item_of g x.item). subst (λ j. window_of new j ≡ window_of old j ++ added g x j) (sym same) (changes.item ∙ sym (ap (λ l. window_of old (item_of g x.item) ++ l) (adds_here g x on))))
+      (λ (apart : i ≡ item_of g x.item → ⊥). changes.others i apart ∙ sym (ap (λ l. window_of old i ++ l) (adds_none g x i apart) ∙ append-nil (window_of old i)))
+      (item_cases i (item_of g x.item));
+}
+
+pub forgets_end : (before : Table) (g : ℕ) (x : Event) (w : Table) → is_end x ≡ true → Keeps before g x w → AreSame before w
+forgets_end before g x w end keeps = record { shape = keeps.shape; each = λ i. keeps.each i ∙ (ap (λ l. window_of before i ++ l) (end_adds_none g x i end) ∙ append-nil (window_of before i)) }
+
+pub forgets_event : (before : Table) (g : ℕ) (x : Event) (old new : Table) → is_end x ≡ false → Keeps before g x old → Changes old (item_of g x.item) (take (length (window_of old (item_of g x.item)) - 1) (window_of old (item_of g x.item))) new → AreSame before new
+forgets_event before g x old new on keeps changes =
+    let grew : window_of old (item_of g x.item) ≡ window_of before (item_of g x.item) ++ x ∷ [] = keeps.each (item_of g x.item) ∙ ap (λ l. window_of before (item_of g x.item) ++ l) (adds_here g x on) in record {
+      shape = changes.shape ∙ keeps.shape;
+      each = λ i. ⊎_elim
+          (λ (same : i ≡ item_of g x.item). subst (λ j. window_of new j ≡ window_of before j) (sym same) (changes.item ∙ (ap (λ (l : List Event). take (length l - 1) l) grew ∙ take_pushed (window_of before (item_of g x.item)) x)))
+          (λ (apart : i ≡ item_of g x.item → ⊥). changes.others i apart ∙ (keeps.each i ∙ (ap (λ l. window_of before i ++ l) (adds_none g x i apart) ∙ append-nil (window_of before i))))
+          (item_cases i (item_of g x.item));
+    }
+
+-- ---- a record is taken
+
+trace_grows : (s : Streams) (g : ℕ) (x : Event) → AreFronts s → CanTake s g x → (i : ItemId) → trace_of (with_record s g x) i ≡ trace_of s i ++ added g x i
+trace_grows s g x fronts can i = ⊎_elim
+    (λ (same : i.group ≡ g).
+    let list : list_of (with_record s g x) i.group ≡ list_of s i.group ++ x ∷ [] = ap (list_of (with_record s g x)) same ∙ (here s g x fronts can ∙ ap (λ n. list_of s n ++ x ∷ []) (sym same)) in
+    let test : is_at g x i ≡ is_of i.item x = ap (λ b. b && is_of i.item x) (eq-eqb i.group g same) in
+    ap (filter (is_of i.item)) list ∙ (trace_more (list_of s i.group) x i.item ∙ sym (ap (λ b. trace_of s i ++ cond b (x ∷ []) []) test)))
+    (λ (apart : i.group ≡ g → ⊥).
+    let none : added g x i ≡ [] = none_added g x i (ap (λ b. b && is_of i.item x) (ne_eqb i.group g apart)) in
+    ap (filter (is_of i.item)) (other s g x fronts can i.group apart) ∙ sym (ap (λ l. trace_of s i ++ l) none ∙ append-nil (trace_of s i)))
+    (cases_eq i.group g)
+
+module _ (q : Sequence) (frontier : Counts) (windows : Table) (held : ℕ) (kept : IsKept q frontier windows held) where
+  pub item_is_kept : (g : ℕ) (x : Event) → CanTake q.taken g x → HasItem (map length windows) (item_of g x.item)
+  item_is_kept g x can = subst (λ sizes. HasItem sizes (item_of g x.item)) (sym kept.waits.shape) (can.group, can.item)
+
+  pub waits_more : (g : ℕ) (x : Event) (new : Streams) → CanTake q.taken g x → new ≡ with_record q.taken g x → (now : Table) → Keeps windows g x now → AreWaiting new frontier now
+  waits_more g x new can is now keeps = subst (λ (s : Streams). AreWaiting s frontier now) (sym is) (record {
+    shape = keeps.shape ∙ kept.waits.shape;
+    each = λ i.
+        keeps.each i ∙ (ap (λ l. l ++ added g x i) (kept.waits.each i)
+        ∙ (sym (drop-append-le (count_of frontier i) (trace_of q.taken i) (added g x i) (taken_first q frontier held kept.state i))
+        ∙ ap (drop (count_of frontier i)) (sym (trace_grows q.taken g x kept.state.sequence.fronts can i))));
+  })
+
+  pub waits_again : (now : Table) → AreSame windows now → AreWaiting q.taken frontier now
+  waits_again now same = record { shape = same.shape ∙ kept.waits.shape; each = λ i. same.each i ∙ kept.waits.each i }
+
+  -- ---- events are handled
+
+  pub waits_less : (e : EventId) (new : Counts) → IsTick frontier e.at new → (now : Table) → Changes windows e.at (drop 1 (window_of windows e.at)) now → AreWaiting q.taken new now
+  waits_less e new tick now changes = record {
+    shape = changes.shape ∙ kept.waits.shape;
+    each = λ i. ⊎_elim
+        (λ (same : i ≡ e.at). subst (λ j. window_of now j ≡ drop (count_of new j) (trace_of q.taken j)) (sym same) first)
+        (λ (apart : i ≡ e.at → ⊥).
+        let count : count_of frontier i ≡ count_of new i = sym (tick.counts i ∙ (ap (λ n. count_of frontier i + n) (tick_there e.at i (λ here. apart (sym here))) ∙ omega arith)) in
+        changes.others i apart ∙ (kept.waits.each i ∙ ap (λ n. drop n (trace_of q.taken i)) count))
+        (item_cases i e.at);
+  }
+    where
+      first : window_of now e.at ≡ drop (count_of new e.at) (trace_of q.taken e.at)
+      first =
+          let count : suc (count_of frontier e.at) ≡ count_of new e.at = sym (tick.counts e.at ∙ (ap (λ n. count_of frontier e.at + n) (tick_here e.at e.at refl) ∙ add-one (count_of frontier e.at))) in
+          changes.item ∙ (ap (drop 1) (kept.waits.each e.at) ∙ (drop_one (count_of frontier e.at) (trace_of q.taken e.at) ∙ ap (λ n. drop n (trace_of q.taken e.at)) count))
+
+  pub waits_behind : (g n : ℕ) (new : Counts) → TicksItems frontier g n new → (now : Table) → DropsItems windows g n now → AreWaiting q.taken new now
+  waits_behind g n new ticks now drops = record {
+    shape = drops.shape ∙ kept.waits.shape;
+    each = λ i. ⊎_elim (λ (here : (i.group ≡ g) × (i.item < n)). first i here.0 here.1) (λ (beyond : IsBeyond g n i). drops.others i beyond ∙ (kept.waits.each i ∙ ap (λ m. drop m (trace_of q.taken i)) (sym (ticks.others i beyond)))) (cases_of i);
+  }
+    where
+      cases_of : (j : ItemId) → ((j.group ≡ g) × (j.item < n)) ⊎ IsBeyond g n j
+      cases_of j = ⊎_elim
+          (λ (here : j.group ≡ g). ⊎_elim (λ (lt : j.item < n). inl (here, lt)) (λ (ge : n ≤ j.item). inr (inr ge)) (cases_lt j.item n))
+          (λ (apart : j.group ≡ g → ⊥). inr (inl apart))
+          (cases_eq j.group g)
+
+      first_of : (k : ℕ) → k < n → window_of now (item_of g k) ≡ drop (count_of new (item_of g k)) (trace_of q.taken (item_of g k))
+      first_of k lt =
+          let count : suc (count_of frontier (item_of g k)) ≡ count_of new (item_of g k) = sym (ticks.items k lt ∙ add-one (count_of frontier (item_of g k))) in
+          drops.items k lt ∙ (ap (drop 1) (kept.waits.each (item_of g k)) ∙ (drop_one (count_of frontier (item_of g k)) (trace_of q.taken (item_of g k)) ∙ ap (λ m. drop m (trace_of q.taken (item_of g k))) count))
+
+      first : (j : ItemId) → j.group ≡ g → j.item < n → window_of now j ≡ drop (count_of new j) (trace_of q.taken j)
+      first j group lt =
+          let same : item_of g j.item ≡ j = λ d. record { group = sym group d; item = j.item } in
+          subst (λ i. window_of now i ≡ drop (count_of new i) (trace_of q.taken i)) same (first_of j.item lt)
+
+  pub group_is_kept : (g : ℕ) → g < length q.taken.sizes → g < length windows
+  group_is_kept g there = omega (arith, there, ap length kept.waits.shape, length-map windows (λ (row : List (List Event)). length row))
+
+  pub waits_as : (c : Counts) → AreFirst q.handled c → AreWaiting q.taken c windows
+  waits_as c first = record { shape = kept.waits.shape; each = λ i. kept.waits.each i ∙ ap (λ n. drop n (trace_of q.taken i)) (same i) }
+    where
+      same : (i : ItemId) → count_of frontier i ≡ count_of c i
+      same i = ⊎_elim
+          (λ (lt : count_of frontier i < count_of c i). absurd (let e : EventId = record { at = i; index = count_of frontier i } in let over = (kept.state.first e).0 ((first e).1 lt) in omega arith))
+          (λ (ge : count_of c i ≤ count_of frontier i). ⊎_elim
+          (λ (less : count_of c i < count_of frontier i). absurd (let e : EventId = record { at = i; index = count_of c i } in let over = (first e).0 ((kept.state.first e).1 less) in omega arith))
+          (λ (le : count_of frontier i ≤ count_of c i). omega arith)
+          (cases_lt (count_of c i) (count_of frontier i)))
+          (cases_lt (count_of frontier i) (count_of c i))
+
+-- nothing was taken
+pub none_wait : (sizes : List ℕ) (taken : Streams) → taken ≡ nothing_taken sizes → (frontier : Counts) (w : Table) → IsEmpty sizes w → AreWaiting taken frontier w
+none_wait sizes taken is frontier w empty = subst (λ (s : Streams). AreWaiting s frontier w) (sym is) (record {
+  shape = empty.shape;
+  each = λ i. empty.none i ∙ sym (drop_none (count_of frontier i) (trace_of (nothing_taken sizes) i) (ap (filter (is_of i.item)) (none_at sizes i.group)));
+})
+  where
+    none_at : (l : List ℕ) (g : ℕ) → get_or (map (λ (n : ℕ). let none : List Event = [] in none) l) g [] ≡ []
+    none_at [] g = refl
+    none_at (n ∷ l) zero = refl
+    none_at (n ∷ l) (suc g) = none_at l g

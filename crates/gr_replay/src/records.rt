@@ -1,0 +1,66 @@
+//! The records of one stream, where they stand among bytes.
+//!
+//! Invariant: the bytes begin with records of which the last is an end. They are read anew each time, so that nothing but the
+//! bytes is kept of them.
+
+ghost use Rattle.std.specs.Prelude.{◌≡◌, IfOk};
+ghost use Rattle.gr_record.specs.WholeStreams.{Gives, front_records_at};
+
+use gr_model::event::Event;
+use gr_model::memory::Memory;
+use gr_record::error::RecordError;
+use gr_record::stream::read_front_records;
+use std::alloc::Allocator;
+use std::marker::Model;
+
+/// The records of one stream up to its end. Contracts see their list.
+#[derive(Debug, Drop)]
+pub struct Records<'a> {
+    items: u16,
+    bytes: &'a [u8],
+}
+
+impl<'a> Model for Records<'a> {
+    ghost use Rattle.std.specs.Prelude.{List};
+    ghost use Rattle.gr_model.specs.declared.event.Event.{Event};
+    ghost use Rattle.gr_replay.specs.Standing.{IsWhole, listed};
+
+    ghost Value = { List Event };
+
+    ghost view = { λ r. listed r.items r.bytes.now };
+
+    ghost invariant = { λ r. IsWhole r.items r.bytes.now };
+}
+
+impl<'a> Records<'a> {
+    /// The records at the front of the bytes up to the end, in a stream of so many items, and the bytes after them.
+    ///
+    /// # Errors
+    /// Those of `read_front_records`.
+    pub fn find<A: Allocator>(
+        alloc: A,
+        items: u16,
+        bytes: &'a [u8],
+    ) -> Result<(Records<'a>, &'a [u8]), RecordError>
+        ensures { Gives (λ x. (x.0, x.1.now)) result (front_records_at items bytes.now) }
+    {
+        let (_events, rest) = read_front_records(alloc, items, bytes)?;
+        Ok((Records { items, bytes }, rest))
+    }
+
+    /// The list of the records.
+    ///
+    /// # Errors
+    /// `Memory`.
+    pub fn read<A: Allocator>(&self, alloc: A) -> Result<Vec<Event, A>, Memory>
+        ensures { IfOk result (λ v. v.items ≡ self.now) }
+    {
+        match read_front_records(alloc, self.items, self.bytes) {
+            Ok((events, _rest)) => Ok(events),
+            Err(error) => match error {
+                RecordError::Memory => Err(Memory),
+                _ => unreachable!(),
+            },
+        }
+    }
+}

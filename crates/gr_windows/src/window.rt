@@ -1,0 +1,73 @@
+//! The events of one work-item that wait, in their order.
+
+ghost use Rattle.std.specs.Prelude.{◌≡◌, ◌-◌, ◌++◌, ◌∷◌, [], OnOk, OnErr, drop, length, slice_get, take};
+
+use gr_model::event::Event;
+use gr_model::memory::Memory;
+use std::alloc::{Allocator, Global};
+use std::collections::VecDeque;
+use std::marker::Model;
+
+/// The events of an item that wait. Contracts see their list.
+#[derive(Drop)]
+#[derive_where(Debug)]
+pub(crate) struct Window<A: Allocator = Global> {
+    events: VecDeque<Event, A>,
+}
+
+impl<A: Allocator> Model for Window<A> {
+    ghost use Rattle.std.specs.Prelude.{List};
+    ghost use Rattle.gr_model.specs.declared.event.Event.{Event};
+
+    ghost Value = { List Event };
+
+    ghost view = { λ w. w.events.items };
+}
+
+impl<A: Allocator + Copy> Window<A> {
+    /// No event waits.
+    pub(crate) fn new(alloc: A) -> Window<A>
+        ensures { result ≡ [] }
+    {
+        Window {
+            events: VecDeque::new(alloc),
+        }
+    }
+}
+
+impl<A: Allocator> Window<A> {
+    /// The event at a place among those that wait.
+    pub(crate) fn get(&self, place: u32) -> Option<Event>
+        ensures { result ≡ slice_get self.now place }
+    {
+        self.events.get(place as usize).copied()
+    }
+
+    /// Adds an event behind the others.
+    ///
+    /// # Errors
+    /// `Memory`. Nothing is then added.
+    pub(crate) fn push(&mut self, event: Event) -> Result<(), Memory>
+        ensures ok { OnOk result (self.new ≡ self.old ++ event ∷ []) }
+        ensures err { OnErr result (self.new ≡ self.old) }
+    {
+        match self.events.push_back(event) {
+            Ok(()) => Ok(()),
+            Err(_) => Err(Memory),
+        }
+    }
+
+    /// Forgets the first event.
+    pub(crate) fn pop_first(&mut self)
+        ensures { self.new ≡ drop 1 self.old }
+    {
+        let _ = self.events.pop_front();
+    }
+
+    /// Forgets the last event.
+    pub(crate) fn pop_last(&mut self)
+        ensures { self.new ≡ take (length self.old - 1) self.old }
+    {
+        let _ = self.events.pop_back();
+    }
+}
