@@ -1,0 +1,48 @@
+-- The report of a run that has ended.
+use Rattle.std.proofs.Common.{◌≡◌, ◌∙◌, ℕ, List, Option, Some, length, sym, ap, subst}
+use Rattle.std.specs.Prelude.{IfSome}
+use Rattle.gr_model.specs.declared.event.Word.{Word}
+use Rattle.gr_model.specs.Reports.{IsReportOf, Lists, WholeReport, WordBelow}
+use Rattle.gr_model.specs.Streams.{Streams}
+use Rattle.gr_route.specs.IntakeSeats.{Seat}
+use Rattle.gr_sequencer_thread.specs.Ends.{End, IsEnd, IsFound}
+use Rattle.gr_sequencer_thread.specs.Feeds.{given_of}
+use Rattle.gr_detector.specs.Runs.{IsEachOnce, sent_by}
+use Rattle.gr_detector.specs.Settling.{AreTold, IsHitAmong, pops_of}
+use Rattle.gr_detector.proofs.HitLemmas.{races_are}
+use Rattle.gr_detector.proofs.SentLemmas.{taken_is_sent}
+
+-- a report with these races
+abbrev pub with_words : WholeReport → List Word → WholeReport
+with_words w races =
+    record {
+      races = races;
+      divergences = w.divergences;
+      unmatched = w.unmatched;
+      cut = w.cut;
+      held = w.held;
+      groups = w.groups;
+      items = w.items;
+      records = w.records;
+    }
+
+pub finished : {A : Type 0} (e : End A) → IsEnd e → (w : WholeReport) → e.report ≡ Some w → (races : List Word) → Lists WordBelow (IsHitAmong (given_of e.givers)) races → (receipts : List Seat) → IsEachOnce (length e.sizes) receipts → AreTold (pops_of e.takers) receipts → IsReportOf (sent_by e.sizes receipts) (with_words w races)
+finished e is w there races hits receipts once told =
+    let found : IsFound e.config e.sizes e.takers e.givers w = subst (λ (o : Option WholeReport). IfSome o (IsFound e.config e.sizes e.takers e.givers)) there is.found in
+    let each : IsEachOnce (length found.sequence.taken.sizes) receipts = subst (λ (sizes : List ℕ). IsEachOnce (length sizes) receipts) (sym found.sizes_are) once in
+    let sent : found.sequence.taken ≡ sent_by e.sizes receipts =
+    taken_is_sent e.config is.config found.sequence found.whole.good.sequence found.whole.over.complete e.takers is.queues found.whole.good.taken receipts each told
+    ∙ ap (λ (sizes : List ℕ). sent_by sizes receipts) found.sizes_are in
+    subst (λ (s : Streams). IsReportOf s (with_words w races)) sent
+    (record {
+      rest = record {
+        divergences = found.report_is.divergences;
+        unmatched = found.report_is.unmatched;
+        cut = found.report_is.cut;
+        held = found.report_is.held;
+        groups = found.report_is.groups;
+        items = found.report_is.items;
+        records = found.report_is.records;
+      };
+      races = races_are e.config is.config found.sequence e.takers e.givers is.crew found.whole races hits;
+    })

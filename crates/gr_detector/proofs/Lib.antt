@@ -1,0 +1,4 @@
+pub mod HitLemmas
+pub mod SentLemmas
+pub mod FinishLemmas
+pub mod SetupLemmas

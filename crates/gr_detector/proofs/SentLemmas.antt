@@ -1,0 +1,64 @@
+-- What was taken is what was sent, where all ends were popped.
+use Rattle.std.proofs.Common.{◌≡◌, ◌==◌, ℕ, suc, ◌+◌, ◌<◌, ◌≤◌, ◌%◌, true, false, cond, IsTrue, List, [], ◌∷◌, ◌++◌, length, map, get_or, Some, slice_get, refl, sym, ap, ◌∙◌, subst, ⊎_elim, arith, eq-eqb, ne_eqb}
+use Rattle.std.specs.Prelude.{All, filter}
+use Rattle.std.specs.List.{range_with_len}
+use Rattle.std.proofs.Math.Nat.{mod-lt}
+use Rattle.std.proofs.lemmas.Bool.{cases_eq}
+use Rattle.std.proofs.lemmas.List.{ext_get_or, get_or-map, length-map}
+use Rattle.std.proofs.lemmas.List.FromFn.{get_or-map-range_with_len, length-map-range_with_len}
+use Rattle.atomic_table.specs.Seated.{TableId}
+use Rattle.gr_model.specs.declared.event.Event.{Event}
+use Rattle.gr_model.specs.declared.event.Sent.{Sent}
+use Rattle.gr_model.specs.Configs.{IsConfig, Settings}
+use Rattle.gr_model.specs.Streams.{AreComplete, Streams, events_of, is_complete, list_of}
+use Rattle.gr_order.specs.Sequences.{IsSequence, Sequence}
+use Rattle.gr_route.specs.IntakeSeats.{Seat, Taker, popped_of}
+use Rattle.gr_sequencer_thread.specs.Feeds.{AreTaken}
+use Rattle.gr_detector.specs.Runs.{IsEachOnce, IsOfRun, Run, sent_by, sent_of}
+use Rattle.gr_detector.specs.Settling.{AreHere, AreTold, popped_at, pops_of}
+
+-- of a group that is there once, what was popped is what its receipt has
+sent_is : (pops : List (List Sent)) (g : ℕ) (receipts : List Seat) → IsTrue (is_complete (popped_at pops g)) → AreTold pops receipts → length (filter (λ (r : Seat). r.group == g) receipts) ≡ 1 → popped_at pops g ≡ sent_of g receipts
+sent_is pops g [] whole told once = absurd (omega (arith, once))
+sent_is pops g (r ∷ receipts) whole told once = ⊎_elim
+    (λ (same : r.group ≡ g).
+    subst (λ n. IsTrue (is_complete (popped_at pops n)) → popped_at pops n ≡ r.pushed) same told.0 whole
+    ∙ sym (ap (λ b. cond b r.pushed (sent_of g receipts)) (eq-eqb r.group g same)))
+    (λ apart.
+    let rest : length (filter (λ (s : Seat). s.group == g) receipts) ≡ 1 = sym (ap (λ b. length (cond b (r ∷ filter (λ (s : Seat). s.group == g) receipts) (filter (λ (s : Seat). s.group == g) receipts))) (ne_eqb r.group g apart)) ∙ once in
+    sent_is pops g receipts whole told.1 rest ∙ sym (ap (λ b. cond b r.pushed (sent_of g receipts)) (ne_eqb r.group g apart)))
+    (cases_eq r.group g)
+
+popped_here : (takers : List Taker) (q : ℕ) (g : ℕ) → q < length takers → (events : List Event) → ((d : Taker) → events ≡ popped_of (get_or takers q d) g) → events ≡ events_of g (get_or (pops_of takers) q [])
+popped_here [] q g lt events h = absurd (omega (arith, lt))
+popped_here (t ∷ ts) q g lt events h = h t ∙ ap (events_of g) (sym (get_or-map (λ (u : Taker). u.popped) (t ∷ ts) q t [] lt))
+
+module _ (config : Settings) (is : IsConfig config) (seq : Sequence) (sequence : IsSequence seq) (complete : AreComplete seq.taken) (takers : List Taker) (queues : length takers ≡ config.queues) (taken : AreTaken config seq.taken takers) where
+  pops_count : length (pops_of takers) ≡ config.queues
+  pops_count = length-map takers (λ (t : Taker). t.popped) ∙ queues
+
+  popped_is : (g : ℕ) → list_of seq.taken g ≡ popped_at (pops_of takers) g
+  popped_is g =
+      let below = mod-lt g (let some = is.queues.0 in let pos : 0 < config.queues = omega (arith, some) in pos) in
+      popped_here takers (g % config.queues) g (omega (arith, below, queues)) (list_of seq.taken g) (taken g)
+      ∙ ap (λ n. events_of g (get_or (pops_of takers) (g % n) [])) (sym pops_count)
+
+  pub taken_is_sent : (receipts : List Seat) → IsEachOnce (length seq.taken.sizes) receipts → AreTold (pops_of takers) receipts → seq.taken ≡ sent_by seq.taken.sizes receipts
+  taken_is_sent receipts once told =
+      let n = length seq.taken.sizes in
+      let lists : seq.taken.lists ≡ map (λ g. sent_of g receipts) (range_with_len 0 n) = ext_get_or [] seq.taken.lists (map (λ g. sent_of g receipts) (range_with_len 0 n))
+      (sequence.fronts.count ∙ sym (length-map-range_with_len (λ g. sent_of g receipts) 0 n))
+      (λ g lt.
+      let there : g < n = omega (arith, lt, sequence.fronts.count) in
+      popped_is g
+      ∙ (sent_is (pops_of takers) g receipts (subst (λ (l : List Event). IsTrue (is_complete l)) (popped_is g) (complete g there)) told (once g there)
+      ∙ sym (get_or-map-range_with_len (λ h. sent_of h receipts) 0 n g g [] there (omega arith)))) in
+      λ k. record { sizes = seq.taken.sizes; lists = lists k }
+
+-- receipts of a run are each of the queue of its group
+pub are_here : (run : Run) (intakes : List TableId) (receipts : List Seat) → run.intakes ≡ intakes → length intakes ≡ run.config.queues → All (λ r. IsOfRun run r.group r.queue) receipts → AreHere intakes receipts
+are_here run intakes [] same count all = tt
+are_here run intakes (r ∷ receipts) same count all = (
+  ap (λ (l : List TableId). slice_get l (r.group % length intakes)) (sym same) ∙ (ap (λ n. slice_get run.intakes (r.group % n)) count ∙ (all 0 r (omega arith)).here),
+  are_here run intakes receipts same count (λ k d lt. all (suc k) d (omega (arith, lt))),
+)

@@ -1,0 +1,7 @@
+use Rattle.std.proofs.Common.{◌≡◌, ◌<◌, ◌==◌, ℕ, length}
+use Rattle.std.specs.Prelude.{filter}
+use Rattle.gr_route.specs.IntakeSeats.{Seat}
+use Rattle.gr_detector.proofs.joins.has_each_once.Given as goal
+
+abbrev pub invariant-loop-group : goal.invariant-loop-group
+invariant-loop-group l = (g : ℕ) → g < l.group → length (filter (λ (r : Seat). r.group == g) l.receipts) ≡ 1

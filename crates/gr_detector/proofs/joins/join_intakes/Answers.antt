@@ -1,0 +1,39 @@
+use Rattle.std.proofs.Common.{◌≡◌, ◌∙◌, ◌<◌, ◌%◌, ◌∷◌, [], ℕ, List, IsTrue, rules, arith, ap, sym, subst, get_or, length}
+use Rattle.std.specs.Vec.Iter.{into_iter_items}
+use Rattle.std.proofs.Math.Nat.{mod-lt}
+use Rattle.std.proofs.Math.Seq.{map-set_same}
+use Rattle.std.proofs.lemmas.List.{get_or-map, length-map}
+use Rattle.gr_model.specs.declared.event.Event.{Event}
+use Rattle.gr_model.specs.declared.event.Sent.{Sent}
+use Rattle.gr_model.specs.Streams.{events_of, is_complete}
+use Rattle.gr_route.specs.IntakeSeats.{Seat, Taker, popped_of}
+use Rattle.gr_sequencer_thread.specs.Feeds.{intakes_of}
+use Rattle.gr_detector.specs.Settling.{AreHere, AreTold, IsTold, popped_at, pops_of}
+use Rattle.gr_detector.proofs.joins.join_intakes.Goals as goal
+
+pub loop-receipt-preserved : goal.loop-receipt-preserved
+loop-receipt-preserved g c =
+    let inv = c.loop-receipt.invariant in
+    let init = c.args.inlets.now in
+    let inlets = c.loop-receipt.inlets in
+    let r = c.in-Some.receipt in
+    let q = c.from.result % length inlets in
+    let item = c.index-inlets-queue.result in
+    let items : into_iter_items c.loop-receipt.receipt-iterator ≡ r ∷ into_iter_items c.next.new.self = search rules in
+    let group : c.from.result ≡ r.group = search rules in
+    let seat : c.into_seat.result ≡ r = c.into_seat.ensures.seat in
+    let count : length inlets ≡ length init = sym (length-map inlets (λ (t : Taker). t.queue)) ∙ (ap length inv.0 ∙ length-map init (λ (t : Taker). t.queue)) in
+    let lt : q < length inlets = mod-lt c.from.result (omega (arith, c.requires.some, count)) in
+    let here = subst (AreHere (intakes_of init)) items inv.2 in
+    let popped : popped_at (pops_of init) r.group ≡ popped_of (get_or inlets q item) c.into_seat.result.group =
+    ap (λ (l : List (List Sent)). popped_at l r.group) (sym inv.1)
+    ∙ (ap (λ n. events_of r.group (get_or (pops_of inlets) (r.group % n) [])) (length-map inlets (λ (t : Taker). t.popped))
+    ∙ (ap (λ n. events_of r.group (get_or (pops_of inlets) (n % length inlets) [])) (sym group)
+    ∙ (ap (events_of r.group) (get_or-map (λ (t : Taker). t.popped) inlets q item [] lt)
+    ∙ ap (λ (s : Seat). popped_of (get_or inlets q item) s.group) (sym seat)))) in
+    let mine : IsTold (pops_of init) r = λ whole. popped ∙ (c.join_back.ensures.whole (subst (λ (l : List Event). IsTrue (is_complete l)) popped whole) ∙ ap (λ (s : Seat). s.pushed) seat) in (
+      map-set_same (λ (t : Taker). t.queue) _ _ _ _ c.join_back.ensures.same.0 ∙ inv.0,
+      map-set_same (λ (t : Taker). t.popped) _ _ _ _ c.join_back.ensures.same.1 ∙ inv.1,
+      here.1,
+      λ rest. inv.3 (subst (AreTold (pops_of init)) (sym items) (mine, rest)),
+    )

@@ -1,0 +1,45 @@
+use Rattle.std.proofs.Common.{◌≡◌, ◌∙◌, ◌++◌, ◌∷◌, [], List, refl, rules, arith, length, ap, sym, subst, append-nil, append_assoc}
+use Rattle.std.specs.Prelude.{IfOk}
+use Rattle.std.specs.Vec.Iter.{into_iter_items}
+use Rattle.gr_model.specs.Reports.{Lists, WordBelow}
+use Rattle.gr_route.specs.WorkSeats.{Giver}
+use Rattle.gr_sequencer_thread.specs.Feeds.{given_of, works_of}
+use Rattle.gr_shadow.specs.Clashes.{ClockedAccess}
+use Rattle.gr_threads.specs.Given.{accesses_in}
+use Rattle.gr_detector.specs.Runs.{worker_queues}
+use Rattle.gr_detector.specs.Settling.{IsHitAmong}
+use Rattle.gr_detector.proofs.HitLemmas.{none_among}
+use Rattle.gr_detector.proofs.joins.settle_all.Goals as goal
+
+no_queues : {A : Type 0} (givers : List (Giver A)) → works_of givers ≡ [] → givers ≡ []
+no_queues [] e = refl
+no_queues (o ∷ givers) e = absurd (omega (arith, ap length e))
+
+nothing_left : {X : Type 0} (xs : List X) → length xs ≡ 0 → xs ≡ []
+nothing_left [] e = refl
+nothing_left (x ∷ xs) e = absurd (omega (arith, e))
+
+pub loop-worker-init : goal.loop-worker-init
+loop-worker-init g c =
+    let none : c.new.result.items ≡ [] = search rules in
+    (search rules, search rules, ([], search rules, subst (Lists WordBelow (IsHitAmong [])) (sym none) none_among))
+
+pub loop-worker-preserved : goal.loop-worker-preserved
+loop-worker-preserved g c =
+    let old = c.loop-worker.invariant.2 in
+    let o = c.in-Some-next.outlet in
+    let rest = into_iter_items c.next-in-loop-worker.new.self in
+    let items : into_iter_items c.loop-worker.left ≡ o ∷ rest = search rules in
+    let seat : c.into_seat.result ≡ o = search rules in
+    let x = accesses_in c.into_seat.result.pushed in
+    let here : (old.0 ++ x ∷ []) ++ given_of rest ≡ old.0 ++ given_of (into_iter_items c.loop-worker.left) =
+    append_assoc old.0 (x ∷ []) (given_of rest) ∙ ap (λ (l : List (List ClockedAccess)). old.0 ++ l) (ap (λ (u : Giver g.row.A.Denot). accesses_in u.pushed ∷ given_of rest) seat ∙ ap given_of (sym items)) in
+    (search rules, omega (arith, c.in-Some.ensures.steps.1, ap length c.in-Some.ensures.steps.0, c.loop-worker.invariant.1), (old.0 ++ x ∷ [], here ∙ old.1, c.merge_all-words.ensures old.0 x old.2 c.settle-more.ensures))
+
+pub returns : goal.returns
+returns g c =
+    let old = c.loop-worker.invariant.2 in
+    let over : into_iter_items c.loop-worker.worker-iterator ≡ [] = nothing_left (into_iter_items c.loop-worker.worker-iterator) (sym c.loop-worker.invariant.1 ∙ c.in-None.ensures.steps.0) in
+    let none : into_iter_items c.loop-worker.left ≡ [] = no_queues (into_iter_items c.loop-worker.left) (sym c.loop-worker.invariant.0 ∙ ap worker_queues over) in
+    let all : old.0 ≡ given_of c.args.outlets.items = sym (append-nil old.0) ∙ (ap (λ (l : List (Giver g.row.A.Denot)). old.0 ++ given_of l) (sym none) ∙ old.1) in
+    subst (λ (l : List (List ClockedAccess)). IfOk c.loop-worker.words (λ v. Lists WordBelow (IsHitAmong l) v.items)) all old.2

@@ -1,0 +1,15 @@
+use Rattle.std.proofs.Common.{◌≡◌, ◌++◌, List, length}
+use Rattle.std.specs.Prelude.{IfOk}
+use Rattle.std.specs.Vec.Iter.{into_iter_items, into_iter_len}
+use Rattle.gr_model.specs.Reports.{Lists, WordBelow}
+use Rattle.gr_sequencer_thread.specs.Feeds.{given_of, works_of}
+use Rattle.gr_shadow.specs.Clashes.{ClockedAccess}
+use Rattle.gr_detector.specs.Runs.{worker_queues}
+use Rattle.gr_detector.specs.Settling.{IsHitAmong}
+use Rattle.gr_detector.proofs.joins.settle_all.Given as goal
+
+abbrev pub invariant-loop-worker : goal.invariant-loop-worker
+invariant-loop-worker g l =
+    (worker_queues (into_iter_items l.worker-iterator) ≡ works_of (into_iter_items l.left))
+    × (into_iter_len l.worker-iterator ≡ length (into_iter_items l.worker-iterator))
+    × ((seen : List (List ClockedAccess)) × (seen ++ given_of (into_iter_items l.left) ≡ given_of l.fn.outlets.items) × IfOk l.words (λ v. Lists WordBelow (IsHitAmong seen) v.items))

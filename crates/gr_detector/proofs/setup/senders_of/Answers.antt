@@ -1,0 +1,56 @@
+use Rattle.std.proofs.Common.{◌≡◌, ◌∙◌, ◌<◌, ◌%◌, ◌+◌, ◌++◌, ◌∷◌, [], ℕ, List, Some, rules, arith, refl, ap, sym, subst, length, get_or, set, slice_get}
+use Rattle.std.proofs.Math.Nat.{mod-lt}
+use Rattle.std.proofs.Math.Seq.{map-set_same}
+use Rattle.std.proofs.lemmas.List.{length-append, length-map}
+use Rattle.gr_model.specs.declared.limits.TheConstants.{MOST_GROUPS, MOST_RECORDS}
+use Rattle.gr_route.specs.IntakeSeats.{Taker}
+use Rattle.gr_sender.specs.Senders.{Sending}
+use Rattle.gr_sequencer_thread.specs.Feeds.{intakes_of}
+use Rattle.gr_detector.specs.Setups.{AreOpenBelow, AreSeatedBelow, IsOpenSender}
+use Rattle.gr_detector.proofs.SetupLemmas.{each_set, none_seated, open_more, queue_at, seat_more, seating}
+use Rattle.gr_detector.proofs.setup.senders_of.Goals as goal
+
+pub loop-group-init : goal.loop-group-init
+loop-group-init g c = record {
+  intakes = refl;
+  unpopped = c.requires.unpopped;
+  seated = none_seated c.args.shape.now c.args.inlets.now c.requires.unseated;
+  count = ap length c.new-senders.ensures.items;
+  opened = λ h d lt. absurd (omega (arith, lt));
+}
+
+pub loop-group-preserved : goal.loop-group-preserved
+loop-group-preserved g c =
+    let inv = c.loop-group.invariant in
+    let n = c.loop-group.group in
+    let sizes = c.args.shape.now in
+    let init = c.args.inlets.now in
+    let inlets = c.loop-group.inlets in
+    let t = c.index-inlets-queue.result in
+    let s = c.in_ok-sender.field-0 in
+    let from : c.from.result ≡ n = c.from.ensures in
+    let is : t ≡ get_or inlets (c.from.result % length inlets) t = c.index-inlets-queue.is in
+    let at : t ≡ get_or inlets (n % length inlets) t = is ∙ ap (λ m. get_or inlets (m % length inlets) t) from in
+    let count : length inlets ≡ length init = sym (length-map inlets (λ (u : Taker). u.queue)) ∙ (ap length inv.intakes ∙ length-map init (λ (u : Taker). u.queue)) in
+    let some : 0 < length inlets = omega (arith, c.requires.some, count) in
+    let there : c.from.result % length inlets < length inlets = mod-lt c.from.result some in
+    let few : n < MOST_GROUPS = omega (arith, c.loop-group-test.true, c.groups-group-end.ensures.count, c.groups-group-end.ensures.shape.groups) in
+    let made : c.sender.new.self ≡ seating t n (get_or sizes n 0) = (let raw : c.sender.new.self ≡ seating t n c.items.result = search rules in raw) ∙ ap (seating t n) c.items.ensures.size in
+    let pushed : c.push.new.self.items ≡ c.loop-group.senders.items ++ s ∷ [] = c.in_ok-push.ensures.items in
+    let made_sender : s ≡ record { queue = s.queue; group = n; items = c.items.result; records = MOST_RECORDS; sent = [] } = search rules in
+    let queue : s.queue.queue ≡ t.queue = search rules in
+    record {
+      intakes = map-set_same (λ (u : Taker). u.queue) inlets (c.from.result % length inlets) c.sender.new.self t (ap (λ (u : Taker). u.queue) (made ∙ refl) ∙ ap (λ (u : Taker). u.queue) is) ∙ inv.intakes;
+      unpopped = each_set (λ (u : Taker). u.popped ≡ []) inlets (c.from.result % length inlets) c.sender.new.self inv.unpopped (ap (λ (u : Taker). u.popped) made ∙ (ap (λ (u : Taker). u.popped) is ∙ inv.unpopped (c.from.result % length inlets) t there)) there;
+      seated = subst (λ (u : Taker). AreSeatedBelow (n + 1) sizes (set inlets (c.from.result % length inlets) u)) (sym made)
+          (subst (λ m. AreSeatedBelow (n + 1) sizes (set inlets (m % length inlets) (seating t n (get_or sizes n 0)))) (sym from) (seat_more n sizes inlets inv.seated few some t at));
+      count = omega (arith, ap length pushed, length-append c.loop-group.senders.items (s ∷ []), inv.count);
+      opened = subst (AreOpenBelow (n + 1) sizes (intakes_of init)) (sym pushed)
+          (open_more n sizes (intakes_of init) c.loop-group.senders.items s inv.count inv.opened (record {
+            group = ap (λ (u : Sending). u.group) made_sender;
+            items = ap (λ (u : Sending). u.items) made_sender ∙ c.items.ensures.size;
+            records = ap (λ (u : Sending). u.records) made_sender;
+            sent = ap (λ (u : Sending). u.sent) made_sender;
+            here = queue_at inlets (intakes_of init) n t inv.intakes some ∙ ap Some (ap (λ (u : Taker). u.queue) (sym at) ∙ sym queue);
+          }));
+    }

@@ -1,0 +1,4 @@
+pub mod Runs
+pub mod Refusals
+pub mod Settling
+pub mod Setups

@@ -1,0 +1,35 @@
+-- What is found as the threads and the seats of a run are joined.
+-- Source: docs/QUEUES.md, "The intake queue" and "The work queue".
+use Rattle.std.specs.Prelude.{◌≡◌, ℕ, ◌<◌, ◌%◌, List, [], ◌∷◌, length, map, slice_get, slice_index_or, Some, IsTrue, ⊤}
+use Rattle.atomic_table.specs.Seated.{TableId}
+use Rattle.gr_model.specs.declared.event.Event.{Event}
+use Rattle.gr_model.specs.declared.event.Sent.{Sent}
+use Rattle.gr_model.specs.declared.event.Word.{Word}
+use Rattle.gr_model.specs.Streams.{events_of, is_complete}
+use Rattle.gr_route.specs.IntakeSeats.{Seat, Taker}
+use Rattle.gr_shadow.specs.Clashes.{ClockedAccess, IsHitIn}
+
+-- what was popped of each queue
+abbrev pub pops_of : List Taker → List (List Sent)
+pops_of takers = map (λ (t : Taker). t.popped) takers
+
+-- what was popped of a group, whose queue is told by its number
+abbrev pub popped_at : List (List Sent) → ℕ → List Event
+popped_at pops g = events_of g (slice_index_or pops (g % length pops) [])
+
+-- each receipt is of the queue of its group
+abbrev pub AreHere : List TableId → List Seat → Type 0
+AreHere intakes [] = ⊤
+AreHere intakes (r ∷ receipts) = (slice_get intakes (r.group % length intakes) ≡ Some r.queue) × AreHere intakes receipts
+
+-- of each receipt's group, what was popped is all that was pushed, where it is complete
+abbrev pub IsTold : List (List Sent) → Seat → Type 0
+IsTold pops r = IsTrue (is_complete (popped_at pops r.group)) → popped_at pops r.group ≡ r.pushed
+
+abbrev pub AreTold : List (List Sent) → List Seat → Type 0
+AreTold pops [] = ⊤
+AreTold pops (r ∷ receipts) = IsTold pops r × AreTold pops receipts
+
+-- a word is hit in the accesses that some worker was given
+abbrev pub IsHitAmong : List (List ClockedAccess) → Word → Type 0
+IsHitAmong given w = (k : ℕ) × (k < length given) × IsHitIn (slice_index_or given k []) w

@@ -1,0 +1,103 @@
+//! The end of a run: receipts are counted, and all seats are joined back.
+
+ghost use Rattle.std.specs.Prelude.{◌≡◌, ◌↔◌, ◌<◌, ◌++◌, ◌∷◌, ◌==◌, [], List, IfOk, IsTrue, filter, length};
+ghost use Rattle.gr_model.specs.Reports.{Lists, WordBelow};
+ghost use Rattle.gr_report.specs.Whole.{whole_of};
+ghost use Rattle.gr_shadow.specs.Clashes.{ClockedAccess, IsHitIn};
+ghost use Rattle.gr_sequencer_thread.specs.Feeds.{given_of, intakes_of, works_of};
+ghost use Rattle.gr_detector.specs.Runs.{IsEachOnce, worker_queues};
+ghost use Rattle.gr_detector.specs.Settling.{AreHere, AreTold, IsHitAmong, pops_of};
+
+use gr_model::event::Word;
+use gr_model::memory::Memory;
+use gr_report::report::Report;
+use gr_report::rows::Rows;
+use gr_sender::receipt::Receipt;
+use gr_sequencer_thread::inlet::Inlet;
+use gr_sequencer_thread::outlet::Outlet;
+use gr_shadow::merge::merge;
+use gr_worker_thread::thread::WorkerThread;
+use std::alloc::Allocator;
+use std::thread::Threads;
+
+/// How many of the receipts are a group's.
+fn count_of(receipts: &[Receipt], group: u16) -> usize
+    ensures { result ≡ length (filter (λ r. r.group == group) receipts.now) }
+{
+    receipts
+        .iter()
+        .filter(|receipt| receipt.group() == group)
+        .count()
+}
+
+/// Whether each of so many groups has one receipt.
+pub(crate) fn has_each_once(receipts: &[Receipt], groups: u16) -> bool
+    ensures { IsTrue result ↔ IsEachOnce groups receipts.now }
+{
+    for group in 0..groups {
+        if count_of(receipts, group) != 1 {
+            return false;
+        }
+    }
+    true
+}
+
+/// Joins back the seats of all receipts, each to the seat that popped its events.
+pub(crate) fn join_intakes<A: Allocator>(inlets: &mut [Inlet<A>], receipts: Vec<Receipt, A>)
+    requires some { 0 < length inlets.old }
+    requires here { AreHere (intakes_of inlets.old) receipts.items }
+    ensures { AreTold (pops_of inlets.old) receipts.items }
+{
+    for receipt in receipts {
+        let queue = usize::from(receipt.group()) % inlets.len();
+        inlets[queue].join_back(receipt.into_seat());
+    }
+}
+
+/// The words of two lists, where memory was wanting for neither.
+fn merge_all<A: Allocator + Copy>(
+    alloc: A,
+    words: Result<Vec<Word, A>, Memory>,
+    more: Result<Vec<Word, A>, Memory>,
+) -> Result<Vec<Word, A>, Memory>
+    ensures { (seen : List (List ClockedAccess)) (given : List ClockedAccess) → IfOk words (λ v. Lists WordBelow (IsHitAmong seen) v.items) → IfOk more (λ v. Lists WordBelow (IsHitIn given) v.items) → IfOk result (λ v. Lists WordBelow (IsHitAmong (seen ++ given ∷ [])) v.items) }
+{
+    let words = words?;
+    let more = more?;
+    merge(alloc, &words, &more)
+}
+
+/// Joins all workers, and then their queues' seats, and tells the words that are hit in the accesses that some worker was
+/// given, in ascending order, each once.
+///
+/// # Errors
+/// `Memory`, where it was wanting in whichever worker, too. All workers are joined all the same.
+pub(crate) fn settle_all<R: Threads, A: Allocator + Copy>(
+    rt: &R,
+    alloc: A,
+    workers: Vec<WorkerThread<A>, A>,
+    outlets: Vec<Outlet<A>, A>,
+) -> Result<Vec<Word, A>, Memory>
+    requires { worker_queues workers.items ≡ works_of outlets.items }
+    ensures { IfOk result (λ words. Lists WordBelow (IsHitAmong (given_of outlets.items)) words.items) }
+{
+    let mut words = Ok(Vec::new(alloc));
+    let mut left = outlets.into_iter();
+    for worker in workers {
+        let Some(outlet) = left.next() else {
+            unreachable!()
+        };
+        let more = worker.join(rt).settle(outlet.into_seat());
+        words = merge_all(alloc, words, more);
+    }
+    words
+}
+
+/// A report with these races.
+pub(crate) fn with_races<A: Allocator>(report: Report<A>, races: Vec<Word, A>) -> Report<A>
+    ensures { whole_of result ≡ record (whole_of report) { races = races.items } }
+{
+    let mut report = report;
+    report.races = Rows::of(races);
+    report
+}

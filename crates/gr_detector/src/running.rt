@@ -1,0 +1,100 @@
+//! A run whose threads run.
+//!
+//! Invariant: the queues that the workers pop from are those that the sequencer pushes to, in order.
+
+ghost use Rattle.std.specs.Prelude.{◌≡◌, IfErr, IfOk, length};
+ghost use Rattle.gr_model.specs.Reports.{IsReportOf};
+ghost use Rattle.gr_report.specs.Whole.{whole_of};
+ghost use Rattle.gr_detector.specs.Refusals.{IsHandedBack};
+ghost use Rattle.gr_detector.specs.Runs.{AreReceiptsOf, IsRunning, run_of, sent_by};
+
+use crate::error::FinishError;
+use crate::joins::{has_each_once, join_intakes, settle_all, with_races};
+use gr_report::report::Report;
+use gr_sender::receipt::Receipt;
+use gr_sequencer_thread::end::Parts;
+use gr_sequencer_thread::thread::SequencerThread;
+use gr_worker_thread::thread::WorkerThread;
+use std::alloc::{Allocator, Global};
+use std::marker::Model;
+use std::thread::Threads;
+
+/// A run whose threads run. Contracts see how it is set up, the items of each work-group, and its intake queues.
+#[derive(Drop)]
+pub struct Running<A: Allocator = Global> {
+    alloc: A,
+    groups: u16,
+    sequencer: SequencerThread<A>,
+    workers: Vec<WorkerThread<A>, A>,
+}
+
+impl<A: Allocator> Model for Running<A> {
+    ghost use Rattle.std.specs.Prelude.{◌≡◌, length};
+    ghost use Rattle.gr_detector.specs.Runs.{IsRunning, Run, run_of};
+
+    ghost Value = { Run };
+
+    ghost view = { λ r. run_of r.sequencer };
+
+    ghost invariant = { λ r. (r.groups ≡ length r.sequencer.sizes) × IsRunning r.sequencer r.workers.items };
+}
+
+impl<A: Allocator> Running<A> {
+    /// The run of these threads.
+    pub(crate) fn of(
+        alloc: A,
+        groups: u16,
+        sequencer: SequencerThread<A>,
+        workers: Vec<WorkerThread<A>, A>,
+    ) -> Running<A>
+        requires groups { groups ≡ length sequencer.sizes }
+        requires workers { IsRunning sequencer workers.items }
+        ensures { result ≡ run_of sequencer }
+    {
+        Running {
+            alloc,
+            groups,
+            sequencer,
+            workers,
+        }
+    }
+}
+
+impl<A: Allocator + Copy> Running<A> {
+    /// Joins all threads and then all seats, and gives the report of what was sent, which the receipts have. It waits until
+    /// all streams have their ends and all of them was handled.
+    ///
+    /// # Errors
+    /// `Receipts` where not every work-group has one receipt, with the run and the receipts: nothing has then happened.
+    /// Else `Memory`, where it was wanting in whichever thread; the run is then over.
+    pub fn finish<R: Threads>(
+        self,
+        rt: &R,
+        receipts: Vec<Receipt, A>,
+    ) -> Result<Report<A>, FinishError<A>>
+        requires { AreReceiptsOf self receipts.items }
+        ensures report { IfOk result (λ report. IsReportOf (sent_by self.sizes receipts.items) (whole_of report)) }
+        ensures refused { IfErr result (IsHandedBack self receipts.items) }
+    {
+        if !has_each_once(&receipts, self.groups) {
+            return Err(FinishError::Receipts(self, receipts));
+        }
+        let Running {
+            alloc,
+            groups: _,
+            sequencer,
+            workers,
+        } = self;
+        let Parts {
+            mut inlets,
+            outlets,
+            report,
+        } = sequencer.join(rt).into_parts();
+        join_intakes(&mut inlets, receipts);
+        let races = settle_all(rt, alloc, workers, outlets);
+        match (report, races) {
+            (Some(report), Ok(races)) => Ok(with_races(report, races)),
+            _ => Err(FinishError::Memory),
+        }
+    }
+}

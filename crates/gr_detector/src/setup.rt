@@ -1,0 +1,96 @@
+//! What a run is set up of: its queues, the seats at both ends of each, and the senders.
+
+ghost use Rattle.std.specs.Prelude.{◌≡◌, ◌<◌, ◌≤◌, [], IfOk, length};
+ghost use Rattle.gr_sequencer_thread.specs.Feeds.{intakes_of, works_of};
+ghost use Rattle.gr_detector.specs.Runs.{worker_queues};
+ghost use Rattle.gr_detector.specs.Setups.{AreOpenBelow, AreSeatedBelow, AreUngiven, AreUnpopped, AreUnseated};
+
+use gr_model::config::Config;
+use gr_model::limits::MOST_PLACES;
+use gr_model::memory::Memory;
+use gr_model::shape::Shape;
+use gr_route::work::WorkQueue;
+use gr_sender::sender::Sender;
+use gr_sequencer_thread::inlet::Inlet;
+use gr_sequencer_thread::outlet::Outlet;
+use gr_worker_thread::worker::Worker;
+use std::alloc::Allocator;
+use std::sync::Arc;
+
+/// The ends of the intake queues, which are new.
+pub(crate) fn inlets_of<A: Allocator + Copy>(
+    alloc: A,
+    config: Config,
+) -> Result<Vec<Inlet<A>, A>, Memory>
+    ensures count { IfOk result (λ inlets. length inlets.items ≡ config.queues) }
+    ensures unpopped { IfOk result (λ inlets. AreUnpopped inlets.items) }
+    ensures unseated { IfOk result (λ inlets. AreUnseated inlets.items) }
+{
+    let mut inlets = Vec::new(alloc);
+    for _ in 0..config.queues() {
+        inlets.push(Inlet::new(alloc, config.capacity())?)?;
+    }
+    Ok(inlets)
+}
+
+/// The senders of all work-groups of a launch of this shape, in order. The events of each go to the queue whose number is
+/// the group's modulo the number of queues.
+pub(crate) fn senders_of<A: Allocator + Copy>(
+    alloc: A,
+    shape: &Shape<A>,
+    inlets: &mut [Inlet<A>],
+) -> Result<Vec<Sender<A>, A>, Memory>
+    requires some { 0 < length inlets.old }
+    requires unpopped { AreUnpopped inlets.old }
+    requires unseated { AreUnseated inlets.old }
+    ensures queues { IfOk result (λ _. intakes_of inlets.new ≡ intakes_of inlets.old) }
+    ensures unpopped { IfOk result (λ _. AreUnpopped inlets.new) }
+    ensures seated { IfOk result (λ _. AreSeatedBelow (length shape.now) shape.now inlets.new) }
+    ensures count { IfOk result (λ senders. length senders.items ≡ length shape.now) }
+    ensures senders { IfOk result (λ senders. AreOpenBelow (length shape.now) shape.now (intakes_of inlets.old) senders.items) }
+{
+    let mut senders = Vec::new(alloc);
+    for group in 0..shape.groups() {
+        let queue = usize::from(group) % inlets.len();
+        senders.push(inlets[queue].sender(group, shape.items(group))?)?;
+    }
+    Ok(senders)
+}
+
+/// A new queue's end for the sequencer, and the worker with a number that pops from it.
+fn line_of<A: Allocator + Copy>(
+    alloc: A,
+    number: u16,
+    capacity: u32,
+) -> Result<(Outlet<A>, Worker<A>), Memory>
+    requires { (0 < capacity) × (capacity ≤ MOST_PLACES) }
+    ensures queue { IfOk result (λ line. line.1.queue ≡ line.0.queue) }
+    ensures pushed { IfOk result (λ line. line.0.pushed ≡ []) }
+{
+    let (queue, mut seat) = WorkQueue::new(alloc, capacity)?;
+    let Some(giver) = queue.split(&mut seat) else {
+        unreachable!()
+    };
+    let queue = Arc::new(alloc, queue)?;
+    let theirs = Arc::try_clone(&queue)?;
+    Ok((Outlet::new(queue, giver), Worker::new(number, theirs, seat)))
+}
+
+/// The ends of the workers' queues, which are new, and the workers, in order.
+pub(crate) fn crew_of<A: Allocator + Copy>(
+    alloc: A,
+    config: Config,
+) -> Result<(Vec<Outlet<A>, A>, Vec<Worker<A>, A>), Memory>
+    ensures count { IfOk result (λ crew. (length crew.0.items ≡ config.workers) × (length crew.1.items ≡ config.workers)) }
+    ensures queues { IfOk result (λ crew. worker_queues crew.1.items ≡ works_of crew.0.items) }
+    ensures ungiven { IfOk result (λ crew. AreUngiven crew.0.items) }
+{
+    let mut outlets = Vec::new(alloc);
+    let mut workers = Vec::new(alloc);
+    for number in 0..config.workers() {
+        let (outlet, worker) = line_of(alloc, number, config.capacity())?;
+        outlets.push(outlet)?;
+        workers.push(worker)?;
+    }
+    Ok((outlets, workers))
+}

@@ -1,0 +1,4 @@
+pub mod TakeLemmas
+pub mod StepLemmas
+pub mod BeginLemmas
+pub mod SameRuns

@@ -1,0 +1,12 @@
+use Rattle.gr_sequencer_thread.proofs.BeginLemmas.{fresh_good, fresh_unstopped}
+use Rattle.gr_sequencer_thread.proofs.feed.Feed.new.Goals as goal
+
+pub invariant_of-result : goal.invariant_of-result
+invariant_of-result g c = record {
+  config = c.queues.ensures.config;
+  queues = c.requires.fresh.queues;
+  crew = c.requires.fresh.crew;
+  seated = c.requires.fresh.seated;
+  unstopped = fresh_unstopped c.args.config c.queues.ensures.config c.args.sequencer c.at_end.ensures.sequence c.requires.sequencer c.args.inlets.items c.args.outlets.items c.requires.fresh;
+  good = λ f. fresh_good c.args.config c.queues.ensures.config c.args.sequencer c.at_end.ensures.sequence c.requires.sequencer c.args.inlets.items c.args.outlets.items c.requires.fresh;
+}

@@ -1,0 +1,62 @@
+use Rattle.std.proofs.Common.{◌≡◌, ◌∙◌, ◌≤◌, ◌++◌, ℕ, List, Option, None, Some, false, refl, rules, arith, ap, sym, subst, length, take, drop, append-nil}
+use Rattle.std.specs.Option.{option_map}
+use Rattle.std.specs.Prelude.{IfSome, OnSome}
+use Rattle.std.proofs.lemmas.List.{drop_all, length-map, take_all}
+use Rattle.gr_clocks.specs.ClockedAccess.{ClockedAccess, clocked}
+use Rattle.gr_model.specs.Reports.{IsReportButRaces, WholeReport}
+use Rattle.gr_model.specs.Streams.{AreComplete}
+use Rattle.gr_order.specs.Sequences.{IsDone, Sequence}
+use Rattle.gr_report.specs.declared.report.Report.{Report}
+use Rattle.gr_report.specs.Whole.{whole_of}
+use Rattle.gr_route.specs.WorkSeats.{Giver}
+use Rattle.gr_sequencer_thread.specs.Ends.{IsEnd, IsFound}
+use Rattle.gr_sequencer_thread.specs.Feeds.{ArePassed, Feed, IsOver, IsWhole, given_of, works_of}
+use Rattle.gr_sequencer_thread.proofs.feed.Feed.stop.Goals as goal
+
+whole_back : {X : Type 0} (n : ℕ) (was now : List X) → length was ≡ n → length now ≡ length was → take n (now ++ drop (length now) was) ≡ now
+whole_back n was now all count =
+    ap (λ l. take n (now ++ l)) (drop_all (length now) was (omega (arith, count)))
+    ∙ (ap (take n) (append-nil now) ∙ take_all n now (omega (arith, all, count)))
+
+found_is : {Z : Type 0} (o : Option (Report Z)) (F : Type 0) (Q P : WholeReport → Type 0) → OnSome o F → IfSome o (λ r. Q (whole_of r)) → (F → (w : WholeReport) → Q w → P w) → IfSome (option_map whole_of o) P
+found_is None F Q P f q h = tt
+found_is (Some r) F Q P f q h = h f (whole_of r) q
+
+pub of-requires : goal.of-requires
+of-requires g c =
+    let config = c.self.inside.config in
+    let seq = c.self.inside.sequencer in
+    let takers = c.self.inside.inlets.items in
+    let was = c.self.inside.outlets.items in
+    let now = c.stop_all.new.outlets in
+    let slice : c.deref_mut.result.now ≡ was = search rules in
+    let queues : works_of now ≡ works_of was = c.stop_all.ensures.queues ∙ ap works_of slice in
+    let given : given_of now ≡ given_of was = c.stop_all.ensures.given ∙ ap given_of slice in
+    let count : length now ≡ length was = sym (length-map now (λ (u : Giver g.row.A.Denot). u.queue)) ∙ (ap length queues ∙ length-map was (λ (u : Giver g.row.A.Denot). u.queue)) in
+    let len : length was ≡ c.self.inside.outlets.len = search rules in
+    let sizes : seq.taken.sizes ≡ c.args.shape = ap (λ (u : Feed g.row.A.Denot). u.sequence.taken.sizes) c.self.view_is ∙ c.requires.shape in
+    let whole : c.self.inside.failed ≡ false → IsWhole (record { config = config; sequence = seq; takers = takers; givers = now; way = None; failed = false }) = λ f.
+    let good = c.self.invariant.good f in
+    let over : IsOver c.args.self = c.requires.over (sym (ap (λ (u : Feed g.row.A.Denot). u.failed) c.self.view_is) ∙ f) in
+    let way : option_map clocked c.self.inside.way ≡ None = ap (λ (u : Feed g.row.A.Denot). u.way) c.self.view_is ∙ over.way in
+    record {
+      good = record {
+        sequence = good.sequence;
+        taken = good.taken;
+        passed = subst (λ (gs : List (List ClockedAccess)). ArePassed config seq gs None) (sym given) (subst (ArePassed config seq (given_of was)) way good.passed);
+      };
+      over = record {
+        complete = subst (λ (u : Feed g.row.A.Denot). AreComplete u.sequence.taken) (sym c.self.view_is) over.complete;
+        done = subst (λ (u : Feed g.row.A.Denot). IsDone u.sequence) (sym c.self.view_is) over.done;
+        way = refl;
+      };
+    } in
+    subst (λ (gs : List (Giver g.row.A.Denot)). IsEnd (record { config = config; sizes = c.args.shape; takers = takers; givers = gs; report = option_map whole_of c.findings-report.result }))
+    (sym (whole_back c.self.inside.outlets.len was now len count))
+    (record {
+      config = c.self.invariant.config;
+      queues = c.self.invariant.queues;
+      crew = count ∙ c.self.invariant.crew;
+      found = found_is c.findings-report.result (c.self.inside.failed ≡ false) (IsReportButRaces seq.taken) (IsFound config c.args.shape takers now) c.findings-report.ensures.failed c.findings-report.ensures.report
+          (λ f w is. record { sequence = seq; sizes_are = sizes; whole = whole f; report_is = is });
+    })

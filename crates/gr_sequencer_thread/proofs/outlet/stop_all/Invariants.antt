@@ -1,0 +1,10 @@
+use Rattle.std.proofs.Common.{◌≡◌, ◌≤◌, ℕ, get_or}
+use Rattle.gr_route.specs.WorkSeats.{Giver}
+use Rattle.gr_sequencer_thread.specs.Feeds.{given_of, works_of}
+use Rattle.gr_sequencer_thread.proofs.outlet.stop_all.Given as goal
+
+abbrev pub invariant-loop-outlet : goal.invariant-loop-outlet
+invariant-loop-outlet g l =
+    (works_of l.outlets ≡ works_of l.initial.outlets)
+    × (given_of l.outlets ≡ given_of l.initial.outlets)
+    × ((k : ℕ) (d : Giver g.row.A.Denot) → l.outlet-index ≤ k → get_or l.outlets k d ≡ get_or l.initial.outlets k d)

@@ -1,0 +1,7 @@
+use Rattle.std.proofs.Common.{◌≡◌, ◌∙◌, ap}
+use Rattle.std.proofs.Math.Seq.{map-set_same}
+use Rattle.gr_route.specs.IntakeSeats.{Taker}
+use Rattle.gr_sequencer_thread.proofs.thread.pop_any.Goals as goal
+
+pub returns-in-Some : goal.returns-in-Some
+returns-in-Some g c = map-set_same (λ (t : Taker). t.queue) _ _ _ _ (ap (λ (t : Taker). t.queue) c.in-Some.ensures.some) ∙ c.loop-inlet.invariant

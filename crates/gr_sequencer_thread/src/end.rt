@@ -1,0 +1,154 @@
+//! What the sequencer's thread leaves.
+
+ghost use Rattle.std.specs.Prelude.{◌≡◌, false, length, IfOk, IfSome, OnSome};
+ghost use Rattle.std.specs.List.{sum_by};
+ghost use Rattle.std.specs.Option.{option_map};
+ghost use Rattle.gr_model.specs.Reports.{IsReportButRaces};
+ghost use Rattle.gr_steps.specs.Steps.{IsAtRest};
+ghost use Rattle.gr_report.specs.Whole.{whole_of};
+ghost use Rattle.gr_sequencer_thread.specs.Ends as spec;
+
+use crate::inlet::Inlet;
+use crate::outlet::Outlet;
+use gr_model::config::Config;
+use gr_model::memory::Memory;
+use gr_model::shape::Shape;
+use gr_report::report::Report;
+use gr_report::rows::Rows;
+use gr_sequencer::sequencer::Sequencer;
+use std::alloc::{Allocator, Global};
+use std::marker::Model;
+
+/// What the sequencer's thread leaves. Contracts see how the run is set up, the items of each work-group, the seats of all
+/// queues, and the report but for its races, which is there unless memory was wanting.
+#[derive(Drop)]
+pub struct SequencerEnd<A: Allocator = Global> {
+    config: Config,
+    shape: Shape<A>,
+    inlets: Vec<Inlet<A>, A>,
+    outlets: Vec<Outlet<A>, A>,
+    report: Option<Report<A>>,
+}
+
+impl<A: Allocator> Model for SequencerEnd<A> {
+    ghost use Rattle.std.specs.Option.{option_map};
+    ghost use Rattle.gr_report.specs.Whole.{whole_of};
+    ghost use Rattle.gr_sequencer_thread.specs.Ends as spec;
+
+    ghost Value = { spec.End A };
+
+    ghost view = { λ e. record { config = e.config; sizes = e.shape; takers = e.inlets.items; givers = e.outlets.items; report = option_map whole_of e.report } };
+
+    ghost invariant = { λ e. spec.IsEnd {A = A} (record { config = e.config; sizes = e.shape; takers = e.inlets.items; givers = e.outlets.items; report = option_map whole_of e.report }) };
+}
+
+/// What the sequencer's thread leaves, taken apart: the ends of all intake queues and those of all workers' queues, in order,
+/// and the report but for its races, which is there unless memory was wanting.
+#[derive(Drop)]
+pub struct Parts<A: Allocator = Global> {
+    pub inlets: Vec<Inlet<A>, A>,
+    pub outlets: Vec<Outlet<A>, A>,
+    pub report: Option<Report<A>>,
+}
+
+impl<A: Allocator> SequencerEnd<A> {
+    /// The end of a thread in which memory was wanting, or else all was taken, handled and passed on.
+    pub(crate) fn of(
+        config: Config,
+        shape: Shape<A>,
+        inlets: Vec<Inlet<A>, A>,
+        outlets: Vec<Outlet<A>, A>,
+        report: Option<Report<A>>,
+    ) -> SequencerEnd<A>
+        requires { spec.IsEnd {A = A} (record { config = config; sizes = shape; takers = inlets.items; givers = outlets.items; report = option_map whole_of report }) }
+        ensures { result ≡ record { config = config; sizes = shape; takers = inlets.items; givers = outlets.items; report = option_map whole_of report } }
+    {
+        SequencerEnd {
+            config,
+            shape,
+            inlets,
+            outlets,
+            report,
+        }
+    }
+
+    /// Its parts.
+    pub fn into_parts(self) -> Parts<A>
+        ensures parts { self ≡ record { config = self.config; sizes = self.sizes; takers = result.inlets.items; givers = result.outlets.items; report = option_map whole_of result.report } }
+        ensures end { spec.IsEnd self }
+    {
+        let SequencerEnd {
+            config: _,
+            shape: _,
+            inlets,
+            outlets,
+            report,
+        } = self;
+        Parts {
+            inlets,
+            outlets,
+            report,
+        }
+    }
+}
+
+/// The report but for its races of a launch of this shape, of which a sequencer has taken all and has no step left, unless
+/// memory was wanting before, or is now.
+pub(crate) fn findings<A: Allocator + Copy>(
+    alloc: A,
+    shape: &Shape<A>,
+    sequencer: &Sequencer<A>,
+    failed: bool,
+) -> Option<Report<A>>
+    requires shape { sequencer.now.taken.sizes ≡ shape.now }
+    requires rest { failed ≡ false → IsAtRest sequencer.now.taken sequencer.now.handled }
+    ensures failed { OnSome result (failed ≡ false) }
+    ensures report { IfSome result (λ report. IsReportButRaces sequencer.now.taken (whole_of report)) }
+{
+    if failed {
+        return None;
+    }
+    report_of(alloc, shape, sequencer).ok()
+}
+
+/// The report but for its races of a launch of this shape, of which a sequencer has taken all and has no step left.
+///
+/// # Errors
+/// `Memory`.
+fn report_of<A: Allocator + Copy>(
+    alloc: A,
+    shape: &Shape<A>,
+    sequencer: &Sequencer<A>,
+) -> Result<Report<A>, Memory>
+    requires shape { sequencer.now.taken.sizes ≡ shape.now }
+    requires rest { IsAtRest sequencer.now.taken sequencer.now.handled }
+    ensures { IfOk result (λ report. IsReportButRaces sequencer.now.taken (whole_of report)) }
+{
+    let divergences = sequencer.divergences()?;
+    let unmatched = sequencer.unmatched()?;
+    let cut = sequencer.cut()?;
+    Ok(Report {
+        races: Rows::of(Vec::new(alloc)),
+        divergences: Rows::of(divergences),
+        unmatched: Rows::of(unmatched),
+        cut: Rows::of(cut),
+        held: sequencer.held(),
+        groups: shape.groups(),
+        items: shape.total() as u16,
+        records: records_of(shape, sequencer),
+    })
+}
+
+/// How many records were taken, ends included.
+fn records_of<A: Allocator>(shape: &Shape<A>, sequencer: &Sequencer<A>) -> u64
+    requires { sequencer.now.taken.sizes ≡ shape.now }
+    ensures { result ≡ sum_by length sequencer.now.taken.lists }
+{
+    // No list that a sequencer took is longer than a stream may be.
+    let _ = sequencer.at_end();
+    let mut records: u64 = 0;
+    for group in 0..shape.groups() {
+        records += u64::from(sequencer.taken(group));
+    }
+    records
+}

@@ -1,0 +1,179 @@
+//! The sequencer's thread, from its start to its join.
+
+ghost use Rattle.std.specs.Prelude.{◌≡◌, IfSome};
+ghost use Rattle.gr_sequencer_thread.specs.Ends.{begin_line, end_line, feed_line};
+ghost use Rattle.gr_sequencer_thread.specs.Feeds.{intakes_of};
+
+use crate::begin::Begin;
+use crate::end::SequencerEnd;
+use crate::feed::{Feed, left_open};
+use crate::inlet::Inlet;
+use crate::outlet::stop_all;
+use gr_model::event::Sent;
+use gr_model::memory::Memory;
+use gr_model::shape::Shape;
+use gr_sequencer::sequencer::Sequencer;
+use gr_threads::idle::Idle;
+use gr_threads::watch::Watch;
+use std::alloc::{Allocator, Global};
+use std::marker::Model;
+use std::snapshot::Snapshot;
+use std::sync::{Arc, Wait};
+use std::thread;
+use std::thread::{Promise, PromisedHandle, Threads};
+use std::time::Clock;
+
+/// Takes the events of all intake queues, handles them, and passes their accesses to the workers, until the end of every
+/// group was taken and nothing is left to do; then it tells the workers to stop. Where memory is wanting it goes on popping,
+/// and passes nothing more.
+fn run<R: Wait + Clock, A: Allocator + Copy, W: Watch>(
+    rt: &R,
+    alloc: A,
+    shape: Shape<A>,
+    feed: Feed<A>,
+    watch: &Arc<W, A>,
+) -> SequencerEnd<A>
+    requires { feed.sequence.taken.sizes ≡ shape }
+    ensures { end_line result ≡ feed_line feed }
+{
+    let mut feed = feed;
+    let idle = Idle::new();
+    for _ in rt.forever() {
+        let taken = feed.drain_all(rt, watch);
+        let advanced = feed.advance_all(rt);
+        if taken || advanced {
+            idle.reset();
+        } else if feed.is_over() {
+            return feed.stop(rt, alloc, shape);
+        } else {
+            idle.wait(rt);
+        }
+    }
+    unreachable!()
+}
+
+/// Pops an event of some intake queue, if there is one.
+fn pop_any<R: Wait, A: Allocator>(rt: &R, inlets: &mut [Inlet<A>]) -> Option<Sent>
+    ensures { intakes_of inlets.new ≡ intakes_of inlets.old }
+{
+    for inlet in inlets.iter_mut() {
+        if let Some(sent) = inlet.pop(rt) {
+            return Some(sent);
+        }
+    }
+    None
+}
+
+/// Pops the events of so many groups until the end of every one was popped, where memory was wanting from the beginning.
+fn pop_all<R: Wait + Clock, A: Allocator, W: Watch>(
+    rt: &R,
+    inlets: &mut [Inlet<A>],
+    groups: u16,
+    watch: &Arc<W, A>,
+)
+    ensures { intakes_of inlets.new ≡ intakes_of inlets.old }
+{
+    let mut open = groups;
+    let idle = Idle::new();
+    for _ in rt.forever() {
+        if open == 0 {
+            return;
+        }
+        match pop_any(rt, inlets) {
+            None => idle.wait(rt),
+            Some(sent) => {
+                idle.reset();
+                watch.at_take(sent.group);
+                open = left_open(open, &sent);
+            }
+        }
+    }
+    unreachable!()
+}
+
+/// The whole of the thread.
+fn sequence<R: Wait + Clock, A: Allocator + Copy, W: Watch>(
+    rt: &R,
+    alloc: A,
+    begin: Begin<A>,
+    watch: &Arc<W, A>,
+) -> SequencerEnd<A>
+    ensures { end_line result ≡ begin_line begin }
+{
+    let Begin {
+        config,
+        shape,
+        mut inlets,
+        mut outlets,
+    } = begin;
+    let sequencer = match shape.copy() {
+        Ok(copy) => Sequencer::new(alloc, copy),
+        Err(error) => Err(error),
+    };
+    match sequencer {
+        Ok(sequencer) => {
+            let groups = shape.groups();
+            let feed = Feed::new(config, sequencer, inlets, outlets, groups);
+            run(rt, alloc, shape, feed, watch)
+        }
+        Err(Memory) => {
+            // The numbers of a configuration are in range.
+            let _ = config.queues();
+            pop_all(rt, &mut inlets, shape.groups(), watch);
+            stop_all(rt, &mut outlets);
+            SequencerEnd::of(config, shape, inlets, outlets, None)
+        }
+    }
+}
+
+/// What the sequencer's thread promises of its end: its seats stay of their queues.
+#[derive(Drop)]
+struct OfSequencer<A: Allocator = Global>(Snapshot<Begin<A>>);
+
+impl<A: Allocator> Promise<SequencerEnd<A>> for OfSequencer<A> {
+    ghost use Rattle.std.specs.Prelude.{◌≡◌};
+    ghost use Rattle.gr_sequencer_thread.specs.Ends.{begin_line, end_line};
+
+    ghost kept_by = { λ p r. end_line r ≡ begin_line p.0.value };
+}
+
+/// The sequencer's thread that was started. Contracts see what it began with.
+#[derive(Drop)]
+pub struct SequencerThread<A: Allocator = Global> {
+    handle: PromisedHandle<SequencerEnd<A>, OfSequencer<A>>,
+}
+
+impl<A: Allocator> Model for SequencerThread<A> {
+    ghost use Rattle.gr_sequencer_thread.specs.Ends as spec;
+
+    ghost Value = { spec.Begin A };
+
+    ghost view = { λ t. t.handle.promise.0.value };
+}
+
+impl<A: Allocator + Copy + Send + Sync + Drop + 'static> SequencerThread<A> {
+    /// Starts the thread, or `None` where it can't be started.
+    pub fn start<
+        R: Threads + Wait + Clock + Copy + Send + 'static,
+        W: Watch + Send + Sync + Drop + 'static,
+    >(rt: R, alloc: A, begin: Begin<A>, watch: Arc<W, A>) -> Option<SequencerThread<A>>
+        ensures { IfSome result (λ t. t ≡ begin) }
+    {
+        let promise = OfSequencer(Snapshot::of(&begin));
+        let handle = thread::spawn_with(
+            &rt,
+            promise,
+            move || sequence(&rt, alloc, begin, &watch),
+        ).ok()?;
+        Some(SequencerThread { handle })
+    }
+}
+
+impl<A: Allocator> SequencerThread<A> {
+    /// Waits until the thread has ended.
+    pub fn join<R: Threads>(self, rt: &R) -> SequencerEnd<A>
+        ensures { end_line result ≡ begin_line self }
+    {
+        self.handle.join(rt)
+    }
+}

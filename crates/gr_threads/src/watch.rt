@@ -1,0 +1,28 @@
+//! What a caller may watch of a run while it runs.
+
+use gr_model::event::Word;
+
+/// Called by the threads of a run, which share it, at the moments that the names say. A call that takes long holds up its
+/// thread.
+pub trait Watch {
+    /// The sequencer took a record of the work-group.
+    fn at_take(&self, group: u16);
+
+    /// The worker has an access and is about to apply it.
+    fn at_access(&self, worker: u16);
+
+    /// An access that the worker applied made the word racy.
+    fn at_race(&self, worker: u16, word: &Word);
+}
+
+/// Watches nothing.
+#[derive(Clone, Copy, Debug)]
+pub struct NoWatch;
+
+impl Watch for NoWatch {
+    fn at_take(&self, _group: u16) {}
+
+    fn at_access(&self, _worker: u16) {}
+
+    fn at_race(&self, _worker: u16, _word: &Word) {}
+}
