@@ -1,9 +1,8 @@
 -- Records of which none was handled.
-use Rattle.std.proofs.Common.{◌≡◌, ◌<◌, ℕ, List, [], Some, slice_get, arith, ap, subst}
+use Rattle.std.proofs.Common.{◌≡◌, List, [], Some, slice_get, arith, ap, subst}
 use Rattle.gr_model.specs.declared.event.Event.{Event}
 use Rattle.gr_model.specs.declared.event.EventId.{EventId}
 use Rattle.gr_model.specs.Streams.{Streams, event_at}
-use Rattle.gr_clocks.specs.Counts.{Counts}
 use Rattle.gr_order.specs.States.{AreFirst}
 use Rattle.gr_windows.specs.Windows.{AreWaiting, Table, window_of}
 
