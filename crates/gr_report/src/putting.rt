@@ -32,11 +32,7 @@ pub fn put<W: Write>(writer: &mut W, bytes: &[u8]) -> Result<(), WriteFault>
 }
 
 /// Writes a word, and a number after it.
-pub fn put_field<W: Write, N: Integer>(
-    writer: &mut W,
-    word: &[u8],
-    n: N,
-) -> Result<(), WriteFault>
+pub fn put_field<W: Write, N: Integer>(writer: &mut W, word: &[u8], n: N) -> Result<(), WriteFault>
     ensures { Puts (W.contents writer.old) (W.contents writer.new) result (field word.now (N.text n)) }
 {
     put(writer, word)?;
