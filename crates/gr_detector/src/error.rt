@@ -8,6 +8,7 @@ use thiserror::Error;
 /// Why a run was not started. No thread of it is left.
 #[derive(Clone, Copy, Debug, PartialEq, Eq, Error)]
 pub enum StartError {
+    /// An allocation was refused before any thread was started.
     #[error("memory is wanting")]
     Memory,
     /// A thread could not be started, for whatever cause.
@@ -20,6 +21,6 @@ pub enum StartError {
 pub enum FinishError<A: Allocator = Global> {
     /// Not every work-group has one receipt. The run goes on, and it and the receipts are here.
     Receipts(Running<A>, Vec<Receipt, A>),
-    /// Memory was wanting, in whichever thread. The run is over.
+    /// Memory ran out, in whichever thread. The run is over: all its threads have ended, and the receipts are gone.
     Memory,
 }

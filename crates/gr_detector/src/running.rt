@@ -63,6 +63,7 @@ impl<A: Allocator> Running<A> {
 impl<A: Allocator + Copy> Running<A> {
     /// Joins all threads and then all seats, and gives the report of what was sent, which the receipts have. It waits until
     /// all streams have their ends and all of them was handled.
+    /// Requires: each receipt is of a work-group of this run, from the sender that `start` gave for it.
     ///
     /// # Errors
     /// `Receipts` where not every work-group has one receipt, with the run and the receipts: nothing has then happened.
