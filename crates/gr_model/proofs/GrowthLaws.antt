@@ -1,5 +1,5 @@
 -- What holds of the events that are reached holds on where incomplete lists grow.
-use Rattle.std.proofs.Common.{◌≡◌, ◌⊎◌, ℕ, zero, suc, ◌+◌, ◌<◌, Bool, List, ◌++◌, length, Some, None, slice_get, filter, filter_map, option_and_then, slice_index, sym, ap, ◌∙◌, subst, inl, inr, ⊎_elim, arith, IsTrue}
+use Rattle.std.proofs.Common.{Contains, ◌≡◌, ◌⊎◌, ℕ, zero, suc, ◌+◌, ◌<◌, Bool, List, ◌++◌, length, Some, None, slice_get, filter, filter_map, option_and_then, slice_index, sym, ap, ◌∙◌, subst, inl, inr, ⊎_elim, arith, IsTrue}
 use Rattle.std.proofs.lemmas.List.Elements.{filter-append, filter_map-append}
 use Rattle.std.proofs.lemmas.Option.{slice_get_within}
 use Rattle.gr_model.specs.declared.event.ItemId.{ItemId}
@@ -10,7 +10,7 @@ use Rattle.gr_model.specs.Access.{event_word, is_release}
 use Rattle.gr_model.specs.Barriers.{IsConvergent, IsDivergent, StandsIn, Together, arrivals, is_barrier, mark_of}
 use Rattle.gr_model.specs.HappensBefore.{BasePair, HappensBefore, IsInclusive, behind_barrier, by_pair, sequenced, synchronized, through}
 use Rattle.gr_model.specs.Instances.{AreMixed, HasArrived, Mark}
-use Rattle.gr_model.specs.Names.{Matches, MatchesBy, name_at}
+use Rattle.gr_model.specs.Names.{HasName, Matches, MatchesBy, names_at, names_of}
 use Rattle.gr_model.specs.Streams.{Grows, IsEvent, Streams, event_at, is_complete, is_of, list_of, place_of, places_from, size_of, trace_of, word_at}
 use Rattle.gr_model.specs.Waits.{CanGo, Stage, Waits, for_arrival, for_meeting, for_previous, for_release}
 use Rattle.gr_model.specs.declared.event.Space.{Space}
@@ -56,8 +56,12 @@ module _ (s t : Streams) (grows : Grows s t) where
   pub word_grows : (e : EventId) → IsEvent s e → word_at t e ≡ word_at s e
   word_grows e there = ap (option_and_then (event_word e.at.group)) (event_grows e there.0 there.1 ∙ sym there.1)
 
-  name_grows : (e : EventId) → IsEvent s e → name_at t e ≡ name_at s e
-  name_grows e there = ap (option_and_then (λ x. x.name)) (event_grows e there.0 there.1 ∙ sym there.1)
+  names_grow : (e : EventId) → IsEvent s e → names_at t e ≡ names_at s e
+  names_grow e there = ap names_of (event_grows e there.0 there.1 ∙ sym there.1)
+
+  -- an event has the names that it had
+  name_was : (f : EventId) (n : Name) → IsEvent s f → HasName t f n → HasName s f n
+  name_was f n there named = subst (λ names. Contains names n) (names_grow f there) named
 
   -- an event has the release that it had
   release_event : (n : Name) (f e : EventId) → MatchesBy s n f e → IsEvent s e
@@ -66,7 +70,7 @@ module _ (s t : Streams) (grows : Grows s t) where
   matches_by_grows : (n : Name) (f e : EventId) → IsEvent s f → MatchesBy s n f e → MatchesBy t n f e
   matches_by_grows n f e there m =
       record {
-        named = name_grows f there ∙ m.named;
+        named = subst (λ names. Contains names n) (sym (names_grow f there)) m.named;
         item = m.item;
         place = place_grows is_release n.at n.release e.index m.place;
         word = word_grows f there ∙ (m.word ∙ sym (word_grows e (release_event n f e m)));
@@ -78,7 +82,7 @@ module _ (s t : Streams) (grows : Grows s t) where
   -- in longer lists a release is the one that it was, where it was there
   matches_shrinks : (f e : EventId) → IsEvent s f → CanGo s f → Matches t f e → Matches s f e
   matches_shrinks f e there go m =
-      let had = go.release m.name (sym (name_grows f there) ∙ m.by.named) in
+      let had = go.release m.name (name_was f m.name there m.by.named) in
       let place : had.0.index ≡ e.index =
       let p : Some had.0.index ≡ Some e.index = sym (place_grows is_release m.name.at m.name.release had.0.index had.1.place) ∙ m.by.place in cc in
       let same : had.0 ≡ e = same_event had.0 e (had.1.item ∙ sym m.by.item) place in
@@ -182,7 +186,7 @@ module _ (s t : Streams) (grows : Grows s t) where
 
   can_go_grows : (e : EventId) → IsEvent s e → CanGo s e → CanGo t e
   can_go_grows e there go = record {
-    release = λ n named. let d = go.release n (sym (name_grows e there) ∙ named) in (d.0, matches_by_grows n e d.0 there d.1);
+    release = λ n named. let d = go.release n (name_was e n there named) in (d.0, matches_by_grows n e d.0 there d.1);
     instance = λ g k stands. ⊎_elim (λ c. inl (c.0, convergent_grows g k c.0 c.1)) (λ d. inr (divergent_grows g k d)) (go.instance g k (stands_shrinks e g k there stands));
   }
 

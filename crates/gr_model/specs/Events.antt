@@ -1,13 +1,13 @@
 -- Which records a work-group may have.
 -- Source: docs/MODEL.md, "Records". Which orders an atomic operation may have: OpenCL 2.0 specification, section 3.3 (memory model), "memory order".
-use Rattle.std.specs.Prelude.{◌≡◌, ℕ, ◌<◌, Bool, true, false, Option, Some, None, ⊤, IsTrue, IsFalse}
+use Rattle.std.specs.Prelude.{◌≡◌, ℕ, ◌<◌, Bool, true, false, List, [], ◌∷◌, ⊤, IsTrue, IsFalse}
 use Rattle.gr_model.specs.declared.event.Space.{Space}
 use Rattle.gr_model.specs.declared.event.Space.TheVariants.{Global}
 use Rattle.gr_model.specs.declared.event.Kind.{Kind}
 use Rattle.gr_model.specs.declared.event.Kind.TheVariants.{Read, Write, Load, Store, Rmw, Barrier, End}
 use Rattle.gr_model.specs.declared.event.Name.{Name}
 use Rattle.gr_model.specs.declared.event.Event.{Event}
-use Rattle.gr_model.specs.declared.limits.TheConstants.{MOST_GROUPS, MOST_ITEMS_OF_A_GROUP, MOST_RECORDS}
+use Rattle.gr_model.specs.NameLists.{AreNames}
 use Rattle.gr_model.specs.Access.{acquires, releases, is_acquire_kind}
 
 -- a load releases nothing and a store acquires nothing; a barrier and an end leave the fields that they don't use at their first values
@@ -20,18 +20,14 @@ IsKindOk (Rmw scope order) item space word = ⊤
 IsKindOk (Barrier global local) item space word = space ≡ Global
 IsKindOk (End cut) item space word = (item ≡ 0) × (space ≡ Global) × (word ≡ 0)
 
--- a name of a release that some launch could have
-abbrev pub IsNameInRange : Name → Type 0
-IsNameInRange n = (n.at.group < MOST_GROUPS) × (n.at.item < MOST_ITEMS_OF_A_GROUP) × (n.release < MOST_RECORDS)
-
--- a name stands only at an acquire, and in range
-abbrev pub IsNamingOk : Kind → Option Name → Type 0
-IsNamingOk kind None = ⊤
-IsNamingOk kind (Some n) = IsTrue (is_acquire_kind kind) × IsNameInRange n
+-- names stand only at an acquire, and are names that one acquire may have
+abbrev pub IsNamingOk : Kind → List Name → Type 0
+IsNamingOk kind [] = ⊤
+IsNamingOk kind (n ∷ names) = IsTrue (is_acquire_kind kind) × AreNames (n ∷ names)
 
 -- a record that a group of so many items may have
 abbrev pub IsEventOk : Event → ℕ → Type 0
-IsEventOk e items = (e.item < items) × IsNamingOk e.kind e.name × IsKindOk e.kind e.item e.space e.word
+IsEventOk e items = (e.item < items) × IsNamingOk e.kind e.names × IsKindOk e.kind e.item e.space e.word
 
 -- whether a record is an end, and whether it says that the stream was cut
 abbrev pub is_end_kind : Kind → Bool
@@ -48,4 +44,4 @@ is_end e = is_end_kind e.kind
 
 -- the end of a stream
 abbrev pub end_of : Bool → Event
-end_of cut = record { item = 0; kind = End cut; space = Global; word = 0; name = None }
+end_of cut = record { item = 0; kind = End cut; space = Global; word = 0; names = [] }

@@ -3,6 +3,8 @@ pub mod Events
 pub mod Shapes
 pub mod Configs
 pub mod Streams
+pub mod NameLists
+pub mod NamePlaces
 pub mod Names
 pub mod Instances
 pub mod Barriers

@@ -1,21 +1,26 @@
--- Which release an acquire names, and which release it matches.
--- Source: OpenCL 2.0 specification, section 3.3 (memory model), "synchronizes-with". That the producer writes the name is this project's own rule (docs/MODEL.md, "Names of releases").
--- What a record with several names would change stands in this file and in `Events` alone.
-use Rattle.std.specs.Prelude.{◌≡◌, ◌≢◌, ℕ, Option, Some, None, option_and_then}
+-- Which releases an acquire names, and which releases it matches.
+-- Source: OpenCL 2.0 specification, section 3.3 (memory model), "synchronizes-with". That the producer writes the names is this project's own rule (docs/MODEL.md, "Names of releases").
+use Rattle.std.specs.Prelude.{◌≡◌, ◌≢◌, ℕ, List, [], Option, Some, None, Contains}
 use Rattle.gr_model.specs.declared.event.EventId.{EventId}
+use Rattle.gr_model.specs.declared.event.Event.{Event}
 use Rattle.gr_model.specs.declared.event.Name.{Name}
 use Rattle.gr_model.specs.declared.report.AcquireCause.{AcquireCause}
 use Rattle.gr_model.specs.declared.report.AcquireCause.TheVariants.{Absent, OtherWord, Behind}
 use Rattle.gr_model.specs.Access.{is_release}
 use Rattle.gr_model.specs.Streams.{Streams, event_at, word_at, place_of}
 
--- the name that an event has
-abbrev pub name_at : Streams → EventId → Option Name
-name_at s e = option_and_then (λ x. x.name) (event_at s e)
+-- the names that a record has, if there is one
+abbrev pub names_of : Option Event → List Name
+names_of None = []
+names_of (Some x) = x.names
+
+-- the names that an event has
+abbrev pub names_at : Streams → EventId → List Name
+names_at s e = names_of (event_at s e)
 
 -- an event names a release
 abbrev pub HasName : Streams → EventId → Name → Type 0
-HasName s f n = name_at s f ≡ Some n
+HasName s f n = Contains (names_at s f) n
 
 -- the place of the named release in its item's trace: the item's releases are counted from 0
 abbrev pub release_place : Streams → Name → Option ℕ

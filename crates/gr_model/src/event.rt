@@ -5,9 +5,11 @@
 
 ghost use Rattle.std.specs.Prelude.{◌≡◌, ◌↔◌, IsTrue};
 ghost use Rattle.gr_model.specs.Access.{acquires, releases, is_acquire_kind, event_word};
-ghost use Rattle.gr_model.specs.Events.{IsNameInRange, IsNamingOk, IsKindOk, IsEventOk, end_of, is_end_kind};
+ghost use Rattle.gr_model.specs.NameLists.{IsNameInRange};
+ghost use Rattle.gr_model.specs.Events.{IsNamingOk, IsKindOk, IsEventOk, end_of, is_end_kind};
 
 use crate::limits::{MOST_GROUPS, MOST_ITEMS_OF_A_GROUP, MOST_RECORDS};
+use crate::names::Names;
 
 /// One of the two memories that work-items share: the launch's global memory, or the local memory of each work-group.
 #[derive(Clone, Copy, Debug, PartialEq, Eq)]
@@ -98,8 +100,9 @@ pub struct Event {
     pub space: Space,
     /// The number of the 4-byte word of an access, or the site of a barrier; 0 for an end.
     pub word: u32,
-    /// The release whose value an acquire took, or `None` if the producer found none; `None` for what is no acquire.
-    pub name: Option<Name>,
+    /// The releases whose values an acquire took: one for each release sequence from which its value came, and none if
+    /// the producer found none; none for what is no acquire.
+    pub names: Names,
 }
 
 /// A record, and the work-group that sent it.
@@ -143,7 +146,7 @@ impl Order {
 }
 
 impl Kind {
-    /// Whether a record of this kind is an acquire, which may name a release.
+    /// Whether a record of this kind is an acquire, which may name releases.
     pub fn is_acquire(self) -> bool
         ensures { result ≡ is_acquire_kind self }
     {
@@ -177,7 +180,7 @@ impl Event {
             kind: Kind::End { cut },
             space: Space::Global,
             word: 0,
-            name: None,
+            names: Names::none(),
         }
     }
 }
@@ -194,14 +197,11 @@ impl Name {
     }
 }
 
-/// Whether a record of this kind may have this name, or none.
-fn naming_ok(kind: Kind, name: Option<Name>) -> bool
-    ensures { IsTrue result ↔ IsNamingOk kind name }
+/// Whether a record of this kind may have these names.
+fn naming_ok(kind: Kind, names: Names) -> bool
+    ensures { IsTrue result ↔ IsNamingOk kind names }
 {
-    match name {
-        None => true,
-        Some(name) => kind.is_acquire() && name.is_in_range(),
-    }
+    names.as_slice().is_empty() || kind.is_acquire()
 }
 
 /// Whether a record's order is one that its kind may have, and the fields that the kind leaves unused are 0 or
@@ -222,13 +222,13 @@ fn kind_ok(kind: Kind, item: u16, space: Space, word: u32) -> bool
 }
 
 /// Whether a record is one that a work-group of `items` work-items may have: its item is below `items`, its order is
-/// one that its kind may have, the fields that its kind leaves unused are 0 or `Global`, and a name stands only at an
-/// acquire and is in range.
+/// one that its kind may have, the fields that its kind leaves unused are 0 or `Global`, and names stand only at an
+/// acquire. (Names are in range and in order by their type.)
 pub fn event_ok(event: &Event, items: u16) -> bool
     ensures { IsTrue result ↔ IsEventOk event.now items }
 {
     event.item < items
-        && naming_ok(event.kind, event.name)
+        && naming_ok(event.kind, event.names)
         && kind_ok(event.kind, event.item, event.space, event.word)
 }
 

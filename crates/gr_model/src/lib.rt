@@ -7,6 +7,7 @@ pub mod event;
 pub mod laws;
 pub mod limits;
 pub mod memory;
+pub mod names;
 pub mod report;
 pub mod shape;
 pub mod traces;

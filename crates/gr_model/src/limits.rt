@@ -12,6 +12,9 @@ pub const MOST_ITEMS: u32 = 2048;
 /// The greatest number of records in a work-group's stream, its end included.
 pub const MOST_RECORDS: usize = 16_777_216;
 
+/// The greatest number of releases that an acquire may name.
+pub const MOST_NAMES: usize = 4;
+
 /// The greatest number of workers of a run.
 pub const MOST_WORKERS: u16 = 8;
 
