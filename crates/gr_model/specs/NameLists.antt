@@ -1,6 +1,7 @@
 -- The names that one acquire may have: none to four, strictly ascending, each of them in range.
 -- Source: docs/MODEL.md, "Names of releases".
-use Rattle.std.specs.Prelude.{◌≡◌, ◌⊎◌, ◌<◌, ◌≤◌, List, length, All, AllPairs}
+use Rattle.std.specs.Prelude.{◌≡◌, ◌⊎◌, ◌<◌, ◌≤◌, List, length, All}
+use Rattle.std.specs.List.{AllAdjacentBelow}
 use Rattle.gr_model.specs.declared.event.Name.{Name}
 use Rattle.gr_model.specs.declared.limits.TheConstants.{MOST_GROUPS, MOST_ITEMS_OF_A_GROUP, MOST_NAMES, MOST_RECORDS}
 
@@ -12,8 +13,12 @@ IsNameInRange n = (n.at.group < MOST_GROUPS) × (n.at.item < MOST_ITEMS_OF_A_GRO
 abbrev pub NameBelow : Name → Name → Type 0
 NameBelow m n = (m.at.group < n.at.group) ⊎ ((m.at.group ≡ n.at.group) × ((m.at.item < n.at.item) ⊎ ((m.at.item ≡ n.at.item) × (m.release < n.release))))
 
+-- each name is below the next
+abbrev pub AreAscending : List Name → Type 0
+AreAscending names = AllAdjacentBelow NameBelow names (length names)
+
 -- the names that one acquire may have
 pub record AreNames (names : List Name) : Type 0 where
   pub few : length names ≤ MOST_NAMES
-  pub ascending : AllPairs NameBelow names
+  pub ascending : AreAscending names
   pub each : All IsNameInRange names

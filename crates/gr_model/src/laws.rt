@@ -56,6 +56,6 @@ pub fn lists_have_one_report()
 pub fn limits_are_those_of_the_formats()
     ensures groups { MOST_GROUPS ≡ 64 }
     ensures items_of_a_group { MOST_ITEMS_OF_A_GROUP ≡ 256 }
-    ensures items { MOST_ITEMS ≡ 2048 }
+    ensures items { MOST_ITEMS ≡ 16384 }
     ensures records { MOST_RECORDS ≡ 16777216 }
 {}

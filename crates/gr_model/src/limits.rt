@@ -7,7 +7,7 @@ pub const MOST_GROUPS: usize = 64;
 pub const MOST_ITEMS_OF_A_GROUP: u16 = 256;
 
 /// The greatest number of work-items in a launch.
-pub const MOST_ITEMS: u32 = 2048;
+pub const MOST_ITEMS: u32 = 16_384;
 
 /// The greatest number of records in a work-group's stream, its end included.
 pub const MOST_RECORDS: usize = 16_777_216;

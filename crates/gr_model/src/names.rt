@@ -2,8 +2,8 @@
 //!
 //! Invariant: their names are in range, and stand in strictly ascending order.
 
-ghost use Rattle.std.specs.Prelude.{◌≡◌, ◌↔◌, IsTrue, IsSome, IfSome, [], AllPairs};
-ghost use Rattle.gr_model.specs.NameLists.{NameBelow, AreNames};
+ghost use Rattle.std.specs.Prelude.{◌≡◌, ◌↔◌, IsTrue, IsSome, IfSome, []};
+ghost use Rattle.gr_model.specs.NameLists.{NameBelow, AreAscending, AreNames};
 
 use crate::event::{ItemId, Name};
 use crate::limits::MOST_NAMES;
@@ -40,11 +40,23 @@ impl Model for Names {
     ghost inverse_ok = { λ a h. λ i. record { places = h.filled i; count = h.counted i } };
 }
 
+/// Whether one name is below another: by group, then by item, then by number.
+fn is_below(name: &Name, other: &Name) -> bool
+    ensures { IsTrue result ↔ NameBelow name.now other.now }
+{
+    name < other
+}
+
 /// Whether each name is below the next one.
 fn are_ascending(names: &[Name]) -> bool
-    ensures { IsTrue result ↔ AllPairs NameBelow names.now }
+    ensures { IsTrue result ↔ AreAscending names.now }
 {
-    names.is_sorted_by(|name, next| name < next)
+    for i in 1..names.len() {
+        if !is_below(&names[i - 1], &names[i]) {
+            return false;
+        }
+    }
+    true
 }
 
 impl Names {

@@ -1,6 +1,6 @@
 //! How many work-items each work-group of a launch has.
 //!
-//! Invariant: there are 1 to 64 groups, each has 1 to 256 items, and there are at most 2,048 items (`limits`).
+//! Invariant: there are 1 to 64 groups, each has 1 to 256 items, and there are at most 16,384 items (`limits`).
 
 ghost use Rattle.std.specs.Prelude.{◌≡◌, ◌↔◌, ◌+◌, ◌<◌, ◌≤◌, IsTrue, IsOk, IfOk, IfErr, MatchOption, length, slice_index, sum, All, take};
 ghost use Rattle.gr_model.specs.Shapes.{IsShape, IsGroupSize, HasItem, IsFirstBadSize, IsShapeFault};

@@ -1,0 +1,7 @@
+use Rattle.std.proofs.Common.{◌≤◌, length}
+use Rattle.std.specs.List.{AllAdjacentBelow}
+use Rattle.gr_model.specs.NameLists.{NameBelow}
+use Rattle.gr_model.proofs.names.are_ascending.Given as goal
+
+abbrev pub invariant-loop-i : goal.invariant-loop-i
+invariant-loop-i l = AllAdjacentBelow NameBelow l.names l.i
