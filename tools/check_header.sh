@@ -1,6 +1,6 @@
 #!/bin/sh
 # Compiles the programs over gpurace_trace.h as C99 to C17 and as C++11 to C++20, each with all warnings as errors, and runs
-# them: header_refusals.c (what is refused, and which answer says so), release_acquire.c (whose bytes are compared with the
+# them: header_refusals.c (what is refused, and which answer says so), last_block.c (whose bytes are compared with the
 # example's) and producer_threads.c (whose streams are judged, where there is a program to judge them).
 #
 #   check_header.sh      needs a C and a C++ compiler, `cc` and `c++` or $CC and $CXX; the gate doesn't know of it
@@ -21,9 +21,9 @@ compile() {
 check_as() {
     compile "$@" "$tools/header_refusals.c"
     "$work/program"
-    compile "$@" "$tools/release_acquire.c"
+    compile "$@" "$tools/last_block.c"
     "$work/program" > "$work/trace.gpurace"
-    cmp "$work/trace.gpurace" "$data/release_acquire/trace.gpurace"
+    cmp "$work/trace.gpurace" "$data/last_block_mended/trace.gpurace"
     compile "$@" "$tools/producer_threads.c"
     "$work/program" "$work"
 }

@@ -1,5 +1,5 @@
 /*
- * Writing traces for gpurace, version 1 of the stream (docs/FORMATS.md, "Stream"). docs/PRODUCER.md says how a runtime makes a
+ * Writing traces for gpurace, in either version of the stream (docs/FORMATS.md, "Stream"). docs/PRODUCER.md says how a runtime makes a
  * trace with it; tools/producer_threads.c is one that does.
  *
  * A trace of a launch is one stream for each of its work-groups: a header, the records of the group's work-items, and an
@@ -25,8 +25,11 @@
 #ifndef GPURACE_TRACE_H
 #define GPURACE_TRACE_H
 
-/* The version of this header; version 1 was the set of functions gpurace_encode_.., which did not check their arguments. */
-#define GPURACE_TRACE_VERSION 2
+/*
+ * The version of this header. Version 1 was the set of functions gpurace_encode_.., which did not check their arguments; version 2
+ * wrote streams of version 1, whose records have room for one name.
+ */
+#define GPURACE_TRACE_VERSION 3
 
 #include <limits.h>
 #include <stdint.h>
@@ -34,16 +37,19 @@
 #include <string.h>
 
 #define GPURACE_HEADER_BYTES 12
-#define GPURACE_RECORD_BYTES 20
+#define GPURACE_RECORD_BYTES 44 /* of version 2; a record of version 1 has 20 */
 
 /* Limits: groups and items are counted from 0, records include the end. */
 #define GPURACE_MOST_GROUPS 64
 #define GPURACE_MOST_ITEMS 256
-#define GPURACE_MOST_ITEMS_OF_LAUNCH 2048
+#define GPURACE_MOST_ITEMS_OF_LAUNCH 16384
 #define GPURACE_MOST_RECORDS 16777216
 
-/* How many releases one record has room for. */
-#define GPURACE_NAMES_OF_RECORD 1
+/* How many releases a record of version 2 has room for; one of version 1 has room for one. */
+#define GPURACE_NAMES_OF_RECORD 4
+
+/* The version of a stream: what its records have room for, and how many bytes one takes (20 or 44). */
+enum gpurace_version { GPURACE_VERSION_1 = 1, GPURACE_VERSION_2 = 2 };
 
 enum gpurace_kind {
     GPURACE_READ = 0,
@@ -73,6 +79,7 @@ enum gpurace_status {
     GPURACE_BAD_GROUP,
     GPURACE_BAD_ITEMS,
     GPURACE_BAD_LAUNCH,
+    GPURACE_BAD_VERSION,
     GPURACE_BAD_ITEM,
     GPURACE_BAD_KIND,
     GPURACE_BAD_SPACE,
@@ -100,7 +107,7 @@ struct gpurace_name {
 struct gpurace_stream {
     gpurace_write *write;
     void *context;
-    uint32_t group, items, records;
+    uint32_t group, items, records, names_of_record;
     uint32_t releases[GPURACE_MOST_ITEMS];
     unsigned char is_open, is_broken, lost;
 };
@@ -124,6 +131,7 @@ static inline const char *gpurace_status_text(enum gpurace_status status) {
     case GPURACE_BAD_GROUP: return "the group is not 0 to 63";
     case GPURACE_BAD_ITEMS: return "the number of items is not 1 to 256";
     case GPURACE_BAD_LAUNCH: return "the launch is not below 2^32";
+    case GPURACE_BAD_VERSION: return "the version is neither 1 nor 2";
     case GPURACE_BAD_ITEM: return "the item is not below the stream's number of items";
     case GPURACE_BAD_KIND: return "the kind is not one that the call writes";
     case GPURACE_BAD_SPACE: return "the space is neither global nor local";
@@ -191,9 +199,28 @@ static inline int gpurace_is_name(const struct gpurace_name *name) {
     return name->group < GPURACE_MOST_GROUPS && name->item < GPURACE_MOST_ITEMS && name->release < GPURACE_MOST_RECORDS;
 }
 
-/* Writes a record; `place` is its second byte, the name may be missing. */
+/* Whether a name stands before another: by group, then by item, then by the number of the release. */
+static inline int gpurace_is_before(const struct gpurace_name *name, const struct gpurace_name *other) {
+    if (name->group != other->group)
+        return name->group < other->group;
+    if (name->item != other->item)
+        return name->item < other->item;
+    return name->release < other->release;
+}
+
+/* The least of the names that stands behind `last`, or behind none where that is NULL; NULL where there is none. */
+static inline const struct gpurace_name *gpurace_next_name(const struct gpurace_name *names, size_t count,
+                                                           const struct gpurace_name *last) {
+    const struct gpurace_name *next = NULL;
+    for (size_t at = 0; at < count; at++)
+        if ((!last || gpurace_is_before(last, names + at)) && (!next || gpurace_is_before(names + at, next)))
+            next = names + at;
+    return next;
+}
+
+/* Writes a record; `place` is its second byte. The names ascend, and the stream's records have room for them. */
 static inline enum gpurace_status gpurace_put_record(struct gpurace_stream *stream, const struct gpurace_access *access,
-                                                     unsigned place, const struct gpurace_name *name) {
+                                                     unsigned place, const struct gpurace_name *const *names, size_t count) {
     unsigned char bytes[GPURACE_RECORD_BYTES];
     bytes[0] = (unsigned char)access->kind;
     bytes[1] = (unsigned char)place;
@@ -202,36 +229,50 @@ static inline enum gpurace_status gpurace_put_record(struct gpurace_stream *stre
     gpurace_put(bytes + 4, access->item, 2);
     gpurace_put(bytes + 6, 0, 2);
     gpurace_put(bytes + 8, access->word, 4);
-    memset(bytes + 12, 0xff, 8);
-    if (name) {
-        gpurace_put(bytes + 12, name->group, 2);
-        gpurace_put(bytes + 14, name->item, 2);
-        gpurace_put(bytes + 16, name->release, 4);
+    memset(bytes + 12, 0xff, sizeof bytes - 12);
+    for (size_t at = 0; at < count; at++) {
+        gpurace_put(bytes + 12 + 8 * at, names[at]->group, 2);
+        gpurace_put(bytes + 14 + 8 * at, names[at]->item, 2);
+        gpurace_put(bytes + 16 + 8 * at, names[at]->release, 4);
     }
     stream->records++;
-    return gpurace_send(stream, bytes, sizeof bytes);
+    return gpurace_send(stream, bytes, 12 + 8 * (size_t)stream->names_of_record);
 }
 
 /*
- * Writes the records of an acquire, all of its names given. This is the one place that knows how many names a record has room
- * for: those beyond that are taken by acquire loads of the same word, directly before it.
+ * Writes the records of an acquire, each of its names once and in ascending order. Those beyond what one record has room for are
+ * taken by acquire loads of the same word, directly before it.
  */
 static inline enum gpurace_status gpurace_put_acquire(struct gpurace_stream *stream, const struct gpurace_access *access,
                                                       const struct gpurace_name *names, size_t count) {
     struct gpurace_access added = *access;
+    const struct gpurace_name *held[GPURACE_NAMES_OF_RECORD];
+    const struct gpurace_name *next = gpurace_next_name(names, count, NULL);
     enum gpurace_status status = GPURACE_OK;
+    size_t length = 0;
     added.kind = GPURACE_LOAD;
     added.order = GPURACE_ACQUIRE;
-    for (size_t at = 0; at + GPURACE_NAMES_OF_RECORD < count && status == GPURACE_OK; at++)
-        status = gpurace_put_record(stream, &added, (unsigned)added.space, names + at);
+    while (next && status == GPURACE_OK) {
+        if (length == stream->names_of_record) {
+            status = gpurace_put_record(stream, &added, (unsigned)added.space, held, length);
+            length = 0;
+        }
+        held[length++] = next;
+        next = gpurace_next_name(names, count, next);
+    }
     if (status != GPURACE_OK)
         return status;
-    return gpurace_put_record(stream, access, (unsigned)access->space, count ? names + count - 1 : NULL);
+    return gpurace_put_record(stream, access, (unsigned)access->space, held, length);
 }
 
-/* How many records an acquire with so many names is. */
-static inline uint64_t gpurace_records_of_acquire(size_t count) {
-    return count > GPURACE_NAMES_OF_RECORD ? count - GPURACE_NAMES_OF_RECORD + 1 : 1;
+/* How many records an acquire with these names is. */
+static inline uint64_t gpurace_records_of_acquire(const struct gpurace_stream *stream, const struct gpurace_name *names,
+                                                  size_t count) {
+    const struct gpurace_name *next = gpurace_next_name(names, count, NULL);
+    uint64_t distinct = 0;
+    for (; next; next = gpurace_next_name(names, count, next))
+        distinct++;
+    return distinct > stream->names_of_record ? (distinct - 1) / stream->names_of_record + 1 : 1;
 }
 
 static inline enum gpurace_status gpurace_check_names(const struct gpurace_name *names, size_t count) {
@@ -251,12 +292,15 @@ static inline void gpurace_count_release(struct gpurace_stream *stream, uint64_t
     }
 }
 
-/* Begins the stream of a group (0 to 63) of so many items (1 to 256) and writes its header. All streams of a launch give the
- * same number of it. */
-static inline enum gpurace_status gpurace_stream_open(struct gpurace_stream *stream, gpurace_write *write, void *context,
-                                                      uint64_t group, uint64_t items, uint64_t launch) {
+/* Begins the stream of a group (0 to 63) of so many items (1 to 256) in a version, and writes its header. All streams of a launch
+ * give the same number of it; their versions may differ. */
+static inline enum gpurace_status gpurace_stream_open_as(struct gpurace_stream *stream, enum gpurace_version version,
+                                                         gpurace_write *write, void *context, uint64_t group, uint64_t items,
+                                                         uint64_t launch) {
     unsigned char bytes[GPURACE_HEADER_BYTES];
     memset(stream, 0, sizeof *stream);
+    if (version != GPURACE_VERSION_1 && version != GPURACE_VERSION_2)
+        return GPURACE_BAD_VERSION;
     if (group >= GPURACE_MOST_GROUPS)
         return GPURACE_BAD_GROUP;
     if (items < 1 || items > GPURACE_MOST_ITEMS)
@@ -267,12 +311,19 @@ static inline enum gpurace_status gpurace_stream_open(struct gpurace_stream *str
     stream->context = context;
     stream->group = (uint32_t)group;
     stream->items = (uint32_t)items;
+    stream->names_of_record = version == GPURACE_VERSION_1 ? 1 : GPURACE_NAMES_OF_RECORD;
     stream->is_open = 1;
-    memcpy(bytes, "GRT1", 4);
+    memcpy(bytes, version == GPURACE_VERSION_1 ? "GRT1" : "GRT2", 4);
     gpurace_put(bytes + 4, group, 2);
     gpurace_put(bytes + 6, items, 2);
     gpurace_put(bytes + 8, launch, 4);
     return gpurace_send(stream, bytes, sizeof bytes);
+}
+
+/* Begins a stream of version 2. */
+static inline enum gpurace_status gpurace_stream_open(struct gpurace_stream *stream, gpurace_write *write, void *context,
+                                                      uint64_t group, uint64_t items, uint64_t launch) {
+    return gpurace_stream_open_as(stream, GPURACE_VERSION_2, write, context, group, items, launch);
 }
 
 /* A plain read or write (GPURACE_READ, GPURACE_WRITE) of a word. */
@@ -282,7 +333,7 @@ static inline enum gpurace_status gpurace_plain(struct gpurace_stream *stream, u
     if (kind != GPURACE_READ && kind != GPURACE_WRITE)
         return gpurace_refuse(stream, GPURACE_BAD_KIND);
     const enum gpurace_status status = gpurace_check(stream, &access, 1);
-    return status == GPURACE_OK ? gpurace_put_record(stream, &access, (unsigned)space, NULL) : gpurace_refuse(stream, status);
+    return status == GPURACE_OK ? gpurace_put_record(stream, &access, (unsigned)space, NULL, 0) : gpurace_refuse(stream, status);
 }
 
 /* A relaxed atomic load, store or read-modify-write (GPURACE_LOAD, GPURACE_STORE, GPURACE_RMW) of a word. */
@@ -292,7 +343,7 @@ static inline enum gpurace_status gpurace_atomic(struct gpurace_stream *stream, 
     if (kind != GPURACE_LOAD && kind != GPURACE_STORE && kind != GPURACE_RMW)
         return gpurace_refuse(stream, GPURACE_BAD_KIND);
     const enum gpurace_status status = gpurace_check(stream, &access, 1);
-    return status == GPURACE_OK ? gpurace_put_record(stream, &access, (unsigned)space, NULL) : gpurace_refuse(stream, status);
+    return status == GPURACE_OK ? gpurace_put_record(stream, &access, (unsigned)space, NULL, 0) : gpurace_refuse(stream, status);
 }
 
 /* A store or read-modify-write (GPURACE_STORE, GPURACE_RMW) with order release. Its name is told where `name` is not NULL. */
@@ -306,12 +357,12 @@ static inline enum gpurace_status gpurace_release(struct gpurace_stream *stream,
     if (status != GPURACE_OK)
         return gpurace_refuse(stream, status);
     gpurace_count_release(stream, item, name);
-    return gpurace_put_record(stream, &access, (unsigned)space, NULL);
+    return gpurace_put_record(stream, &access, (unsigned)space, NULL, 0);
 }
 
 /*
  * A load or read-modify-write (GPURACE_LOAD, GPURACE_RMW) with order acquire, whose value belongs to the release sequences of
- * the named releases; none, where it belongs to no release's.
+ * the named releases; none, where it belongs to no release's. The names may stand in any order, and one may stand twice.
  */
 static inline enum gpurace_status gpurace_acquire(struct gpurace_stream *stream, uint64_t item, enum gpurace_kind kind,
                                                   enum gpurace_space space, enum gpurace_scope scope, uint64_t word,
@@ -319,7 +370,7 @@ static inline enum gpurace_status gpurace_acquire(struct gpurace_stream *stream,
     const struct gpurace_access access = {kind, space, (unsigned)scope, GPURACE_ACQUIRE, item, word};
     if (kind != GPURACE_LOAD && kind != GPURACE_RMW)
         return gpurace_refuse(stream, GPURACE_BAD_KIND);
-    enum gpurace_status status = gpurace_check(stream, &access, gpurace_records_of_acquire(count));
+    enum gpurace_status status = gpurace_check(stream, &access, gpurace_records_of_acquire(stream, names, count));
     if (status == GPURACE_OK)
         status = gpurace_check_names(names, count);
     return status == GPURACE_OK ? gpurace_put_acquire(stream, &access, names, count) : gpurace_refuse(stream, status);
@@ -334,7 +385,7 @@ static inline enum gpurace_status gpurace_acquire_release(struct gpurace_stream 
                                                           const struct gpurace_name *names, size_t count,
                                                           struct gpurace_name *name) {
     const struct gpurace_access access = {GPURACE_RMW, space, (unsigned)scope, GPURACE_BOTH, item, word};
-    enum gpurace_status status = gpurace_check(stream, &access, gpurace_records_of_acquire(count));
+    enum gpurace_status status = gpurace_check(stream, &access, gpurace_records_of_acquire(stream, names, count));
     if (status == GPURACE_OK)
         status = gpurace_check_names(names, count);
     if (status != GPURACE_OK)
@@ -354,7 +405,7 @@ static inline enum gpurace_status gpurace_barrier(struct gpurace_stream *stream,
         return gpurace_refuse(stream, GPURACE_BAD_SITE);
     if (flags > (GPURACE_GLOBAL_FENCE | GPURACE_LOCAL_FENCE))
         return gpurace_refuse(stream, GPURACE_BAD_FLAGS);
-    return gpurace_put_record(stream, &barrier, (unsigned)flags, NULL);
+    return gpurace_put_record(stream, &barrier, (unsigned)flags, NULL, 0);
 }
 
 /*
@@ -368,7 +419,7 @@ static inline enum gpurace_status gpurace_stream_close(struct gpurace_stream *st
     stream->is_open = 0;
     if (stream->is_broken)
         return GPURACE_WRITE_FAILED;
-    return gpurace_put_record(stream, &end, cut || stream->lost ? 1 : 0, NULL);
+    return gpurace_put_record(stream, &end, cut || stream->lost ? 1 : 0, NULL, 0);
 }
 
 #endif

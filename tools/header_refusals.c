@@ -42,6 +42,7 @@ static void refuses_headers(void) {
     struct sink sink = {0, 1000, {0}};
     struct gpurace_stream stream;
     const size_t wide_group = 65536;
+    expect("version 3", gpurace_stream_open_as(&stream, (enum gpurace_version)3, put, &sink, 0, 1, 7), GPURACE_BAD_VERSION);
     expect("group 65536", gpurace_stream_open(&stream, put, &sink, wide_group, 1, 7), GPURACE_BAD_GROUP);
     expect("group 64", gpurace_stream_open(&stream, put, &sink, 64, 1, 7), GPURACE_BAD_GROUP);
     expect("group 2^32", gpurace_stream_open(&stream, put, &sink, past_32_bits, 1, 7), GPURACE_BAD_GROUP);
@@ -99,6 +100,29 @@ static void refuses_hand_overs(struct gpurace_stream *s) {
     expect_number("releases after refused ones", s->releases[0], 0);
 }
 
+/* The names of an acquire stand in ascending order, each once; what a record has no room for stands in loads before it. */
+static void orders_names(enum gpurace_version version, size_t record, uint64_t loads, unsigned char last_name) {
+    struct sink sink = {0, 1000, {0}};
+    struct gpurace_stream stream;
+    const struct gpurace_name names[] = {{1, 0, 5}, {0, 3, 0}, {1, 0, 5}, {0, 2, 7}, {0, 2, 6}, {2, 0, 0}};
+    expect("header", gpurace_stream_open_as(&stream, version, put, &sink, 5, 2, 7), GPURACE_OK);
+    expect("five names", gpurace_acquire(&stream, 1, GPURACE_LOAD, GPURACE_GLOBAL, GPURACE_DEVICE, 16, names, 6), GPURACE_OK);
+    expect_number("bytes of five names", sink.length, GPURACE_HEADER_BYTES + (loads + 1) * record);
+    expect_number("the group of the last name", sink.last[12], last_name);
+    expect("one name", gpurace_acquire(&stream, 1, GPURACE_LOAD, GPURACE_GLOBAL, GPURACE_DEVICE, 16, names, 1), GPURACE_OK);
+    expect_number("its number", sink.last[16], 5);
+}
+
+static void fills_a_record_with_names(void) {
+    struct sink sink = {0, 1000, {0}};
+    struct gpurace_stream stream;
+    const struct gpurace_name names[] = {{1, 0, 5}, {0, 3, 0}, {0, 2, 7}, {0, 2, 6}};
+    const unsigned char ordered[] = {0, 0, 2, 0, 6, 0, 0, 0, 0, 0, 2, 0, 7, 0, 0, 0, 0, 0, 3, 0, 0, 0, 0, 0, 1, 0, 0, 0, 5, 0, 0, 0};
+    expect("header", gpurace_stream_open(&stream, put, &sink, 5, 2, 7), GPURACE_OK);
+    expect("four names", gpurace_acquire(&stream, 1, GPURACE_LOAD, GPURACE_GLOBAL, GPURACE_DEVICE, 16, names, 4), GPURACE_OK);
+    expect_number("names in another order", (uint64_t)(memcmp(sink.last + 12, ordered, sizeof ordered) != 0), 0);
+}
+
 static void refuses_records(void) {
     struct sink sink = {0, 1000, {0}};
     struct gpurace_stream stream;
@@ -115,20 +139,20 @@ static void refuses_records(void) {
 
 /* A stream has room for 16,777,216 records, its end among them; what does not fit is refused whole. */
 static void keeps_room_for_the_end(void) {
-    struct sink sink = {0, 400000000, {0}};
+    struct sink sink = {0, 800000000, {0}};
     struct gpurace_stream stream;
-    const struct gpurace_name names[] = {{0, 0, 0}, {0, 1, 0}};
+    const struct gpurace_name names[] = {{0, 0, 0}, {0, 1, 0}, {0, 1, 1}, {0, 1, 2}, {0, 1, 3}};
     const enum gpurace_scope device = GPURACE_DEVICE;
     expect("header", gpurace_stream_open(&stream, put, &sink, 0, 2, 7), GPURACE_OK);
     for (uint32_t at = 0; at < GPURACE_MOST_RECORDS - 2; at++)
         expect("record", gpurace_plain(&stream, 0, GPURACE_READ, GPURACE_GLOBAL, at), GPURACE_OK);
-    expect("two records", gpurace_acquire(&stream, 1, GPURACE_LOAD, GPURACE_GLOBAL, device, 4, names, 2),
+    expect("two records", gpurace_acquire(&stream, 1, GPURACE_LOAD, GPURACE_GLOBAL, device, 4, names, 5),
            GPURACE_TOO_MANY_RECORDS);
-    expect("the last one", gpurace_acquire(&stream, 1, GPURACE_LOAD, GPURACE_GLOBAL, device, 4, names, 1), GPURACE_OK);
+    expect("the last one", gpurace_acquire(&stream, 1, GPURACE_LOAD, GPURACE_GLOBAL, device, 4, names, 4), GPURACE_OK);
     expect("one more", gpurace_barrier(&stream, 1, 1, 3), GPURACE_TOO_MANY_RECORDS);
     expect("end", gpurace_stream_close(&stream, 0), GPURACE_OK);
     expect_number("records of a full stream", stream.records, GPURACE_MOST_RECORDS);
-    expect_number("bytes of a full stream", sink.length, 12 + 20 * (uint64_t)GPURACE_MOST_RECORDS);
+    expect_number("bytes of a full stream", sink.length, 12 + GPURACE_RECORD_BYTES * (uint64_t)GPURACE_MOST_RECORDS);
     expect_number("its end says that records were lost", sink.last[1], 1);
 }
 
@@ -146,7 +170,7 @@ static void tells_names(void) {
 }
 
 static void fails_with_the_writer(void) {
-    struct sink sink = {0, 40, {0}};
+    struct sink sink = {0, GPURACE_HEADER_BYTES + GPURACE_RECORD_BYTES + 8, {0}};
     struct gpurace_stream stream;
     expect("header", gpurace_stream_open(&stream, put, &sink, 0, 1, 7), GPURACE_OK);
     expect("record", gpurace_barrier(&stream, 0, 1, 3), GPURACE_OK);
@@ -154,7 +178,7 @@ static void fails_with_the_writer(void) {
     sink.room = 1000;
     expect("behind it", gpurace_barrier(&stream, 0, 1, 3), GPURACE_WRITE_FAILED);
     expect("its end", gpurace_stream_close(&stream, 0), GPURACE_WRITE_FAILED);
-    expect_number("bytes of a broken stream", sink.length, 32);
+    expect_number("bytes of a broken stream", sink.length, GPURACE_HEADER_BYTES + GPURACE_RECORD_BYTES);
 }
 
 int main(void) {
@@ -162,6 +186,9 @@ int main(void) {
     refuses_records();
     keeps_room_for_the_end();
     tells_names();
+    orders_names(GPURACE_VERSION_1, 20, 4, 2);
+    orders_names(GPURACE_VERSION_2, GPURACE_RECORD_BYTES, 1, 2);
+    fills_a_record_with_names();
     fails_with_the_writer();
     return failures == 0 ? 0 : 1;
 }

@@ -123,6 +123,13 @@ private:
         return names;
     }
 
+    // The version of a group's stream: the second, whose records have room for several names, where an acquire has several.
+    gpurace_version version(const Group &group) const {
+        for (const Record &record : group.records)
+            if (record.names >= 0 && launch_.names[size_t(record.names)].size() > 1) return GPURACE_VERSION_2;
+        return GPURACE_VERSION_1;
+    }
+
     gpurace_status put(gpurace_stream &stream, const Record &record, uint64_t at) const {
         const auto kind = gpurace_kind(record.kind);
         const auto space = gpurace_space(record.space);
@@ -169,8 +176,8 @@ private:
         name << folder_ << "/group" << std::setw(2) << std::setfill('0') << number << ".gpurace";
         std::ofstream out(name.str(), std::ios::binary);
         gpurace_stream stream;
-        gpurace_status status =
-            gpurace_stream_open(&stream, write_bytes, static_cast<std::ostream *>(&out), number, items, launch_.number);
+        gpurace_status status = gpurace_stream_open_as(&stream, version(group), write_bytes, static_cast<std::ostream *>(&out), number,
+                                                       items, launch_.number);
         if (status == GPURACE_OK) status = put_records(stream, group, places);
         const bool is_cut = !group.is_complete || group.is_full || status == GPURACE_TOO_MANY_RECORDS;
         if (status == GPURACE_TOO_MANY_RECORDS) status = GPURACE_OK;
@@ -248,7 +255,7 @@ void write_launch(Launch &launch, const Settings &settings, const std::string &r
             reason = "its asynchronous copies need one more work-item in a group than the 256 that a trace has room for";
     }
     if (reason.empty() && items > GPURACE_MOST_ITEMS_OF_LAUNCH)
-        reason = "its asynchronous copies need one more work-item in each group, which makes more than 2,048; --groups records "
+        reason = "its asynchronous copies need one more work-item in each group, which makes more than 16,384; --groups records "
                  "fewer groups";
     Writer writer(launch, settings);
     const bool is_written = writer.write(reason);
