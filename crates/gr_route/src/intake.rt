@@ -126,7 +126,7 @@ impl<A: Allocator + Copy> Intake<A> {
     /// ```rust
     /// let (queue, mut taker) = Intake::new(rt.alloc(), 1)?;
     /// let mut seat = queue.split(&mut taker, 5, 2).ok_or("the first split")?;
-    /// let event = Event { item: 0, kind: Kind::Write, space: Space::Global, word: 16, name: None };
+    /// let event = Event { item: 0, kind: Kind::Write, space: Space::Global, word: 16, names: Names::none() };
     /// if queue.push(&rt, &mut seat, event).is_err() {
     ///     return Err("a push into an empty queue")?;
     /// }

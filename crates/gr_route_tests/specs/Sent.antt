@@ -1,5 +1,5 @@
 -- What each of the three senders sends.
-use Rattle.std.specs.Prelude.{◌≡◌, ℕ, zero, suc, ◌<◌, false, List, [], ◌∷◌, ◌++◌, None, Vec, IsTrue}
+use Rattle.std.specs.Prelude.{◌≡◌, ℕ, zero, suc, ◌<◌, false, List, [], ◌∷◌, ◌++◌, Vec, IsTrue}
 use Rattle.gr_model.specs.declared.event.Event.{Event}
 use Rattle.gr_model.specs.declared.event.Sent.{Sent}
 use Rattle.gr_model.specs.declared.event.Kind.TheVariants.{Write}
@@ -13,7 +13,7 @@ use Rattle.gr_sender.specs.Senders.{Sending}
 
 -- a plain write of a global word by item 0
 abbrev pub write_of : ℕ → Event
-write_of word = record { item = 0; kind = Write; space = Global; word = word; name = None }
+write_of word = record { item = 0; kind = Write; space = Global; word = word; names = [] }
 
 -- the writes of the words below a count, in ascending order
 abbrev pub writes_below : ℕ → List Event

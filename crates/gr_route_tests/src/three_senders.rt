@@ -11,6 +11,7 @@ ghost use Rattle.gr_route_tests.specs.Sent.{HasAll, HasEnds, IsFreshSender, IsRe
 use gr_model::event::{Event, Kind, Sent, Space};
 use gr_model::limits::{MOST_GROUPS, MOST_PLACES, MOST_RECORDS};
 use gr_model::memory::Memory;
+use gr_model::names::Names;
 use gr_route::intake::{Intake, IntakeSeat, TakerSeat};
 use gr_sender::receipt::Receipt;
 use gr_sender::sender::Sender;
@@ -27,7 +28,7 @@ pub fn write(word: u32) -> Event
         kind: Kind::Write,
         space: Space::Global,
         word,
-        name: None,
+        names: Names::none(),
     }
 }
 

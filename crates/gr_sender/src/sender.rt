@@ -169,7 +169,7 @@ impl<A: Allocator> Sender<A> {
     /// let queue = Arc::new(alloc, queue)?;
     /// let seat = queue.split(&mut taker, 0, 1).ok_or("the first split")?;
     /// let mut sender = Sender::new(0, 1, 1000, Arc::try_clone(&queue)?, seat);
-    /// let event = Event { item: 0, kind: Kind::Write, space: Space::Global, word: 16, name: None };
+    /// let event = Event { item: 0, kind: Kind::Write, space: Space::Global, word: 16, names: Names::none() };
     /// assert_eq!(rt; sender.send(&rt, event), Ok(()));
     /// assert_eq!(rt; sender.close(&rt, false), Ok(()));
     /// assert_eq!(rt; sender.send(&rt, event), Err(SendError::Closed));

@@ -1,29 +1,29 @@
 -- The definitions, tried on small lists.
-use Rattle.std.proofs.Common.{◌≡◌, ℕ, zero, suc, ◌<◌, true, false, Option, Some, None, refl, sym, ◌∙◌, ap, inl, inr, lit<, option_map, subst, arith, IsTrue}
+use Rattle.std.proofs.Common.{◌≡◌, ℕ, zero, suc, ◌<◌, true, false, Option, Some, None, Contains, [], ◌∷◌, refl, sym, ◌∙◌, ap, inl, inr, lit<, option_map, subst, arith, IsTrue}
 use Rattle.gr_model.specs.declared.event.Space.TheVariants.{Global, Local}
 use Rattle.gr_model.specs.declared.event.Scope.TheVariants.{Group, Device}
-use Rattle.gr_model.specs.declared.event.Order.TheVariants.{Acquire, Release}
-use Rattle.gr_model.specs.declared.event.Kind.TheVariants.{Load, Store}
+use Rattle.gr_model.specs.declared.event.Order.TheVariants.{Acquire, Both, Release}
+use Rattle.gr_model.specs.declared.event.Kind.TheVariants.{Load, Rmw, Store}
 use Rattle.gr_model.specs.declared.event.Name.{Name}
 use Rattle.gr_model.specs.declared.event.Event.{Event}
 use Rattle.gr_model.specs.declared.event.EventId.{EventId}
 use Rattle.gr_model.specs.declared.event.Word.{Word}
 use Rattle.gr_model.specs.declared.event.Word.TheVariants.{Global as GlobalWord, Local as LocalWord}
-use Rattle.gr_model.specs.declared.report.AcquireCause.TheVariants.{OtherWord, Behind}
+use Rattle.gr_model.specs.declared.report.AcquireCause.TheVariants.{Absent, OtherWord, Behind}
 use Rattle.gr_model.specs.declared.report.DivergenceCause.TheVariants.{Missing}
 use Rattle.gr_model.specs.Access.{inclusive}
 use Rattle.gr_model.specs.Barriers.{IsConvergent, IsDivergent, Together, arrivals}
 use Rattle.gr_model.specs.HappensBefore.{HappensBefore, BasePair, IsInclusive, sequenced, synchronized, behind_barrier, by_pair, through}
 use Rattle.gr_model.specs.Instances.{HasDivergenceCause, Mark}
-use Rattle.gr_model.specs.Names.{Matches, HasAcquireCause, IsAbsent, IsOfItsWord}
+use Rattle.gr_model.specs.Names.{Matches, HasAcquireCause, HasName, IsAbsent, IsOfItsWord}
 use Rattle.gr_model.specs.Reports.{IsCut}
 use Rattle.gr_model.specs.Streams.{Streams}
 use Rattle.gr_model.specs.Waits.{Stage, IsGrounded, IsPrevious, Waits, for_previous, for_release}
 use Rattle.gr_model.proofs.Descent.{stage_descends}
-use Rattle.gr_tests.specs.Examples.{access, acquire, the_end, release, event, handed_over, names_itself, crossed, scopes_differ, two_releases, mixed, waiting, met, the_mark}
+use Rattle.gr_tests.specs.Examples.{access, acquire, acquire_of, the_end, release, event, half_there, handed_by_two, handed_over, names_itself, crossed, scopes_differ, two_releases, mixed, waiting, met, the_mark}
 
 handed_match : Matches handed_over (event 1 0 0) (event 0 0 1)
-handed_match = record { name = release 0 0 0; by = record { named = refl; item = refl; place = refl; word = refl } }
+handed_match = record { name = release 0 0 0; by = record { named = (0, lit< tt, refl); item = refl; place = refl; word = refl } }
 
 handed_inclusive : IsInclusive handed_over Global (event 0 0 1) (event 1 0 0)
 handed_inclusive = record {
@@ -52,22 +52,23 @@ no_lower s e down zero n lt h = omega arith
 no_lower s e down (suc bound) n lt h = let low = down n h in no_lower s e down bound low.0 (omega (arith, low.1)) low.2
 
 itself_match : Matches names_itself (event 0 0 0) (event 0 0 0)
-itself_match = record { name = release 0 0 0; by = record { named = refl; item = refl; place = refl; word = refl } }
+itself_match = record { name = release 0 0 0; by = record { named = (0, lit< tt, refl); item = refl; place = refl; word = refl } }
 
 pub itself_is_held : ¬ IsGrounded names_itself (event 0 0 0)
 itself_is_held h = no_lower names_itself (event 0 0 0) (λ n k. stage_descends names_itself n (event 0 0 0) (event 0 0 0) k (for_release itself_match)) (suc h.0) h.0 (omega arith) h.1
 
-same_name : (m n : Name) → Some m ≡ Some n → m ≡ n
-same_name m n e = cc
+only_name : (m n : Name) → Contains (m ∷ []) n → m ≡ n
+only_name m n (zero, within, is) = is
+only_name m n (suc k, within, is) = absurd (omega (arith, within))
 
 pub itself_is_behind : HasAcquireCause names_itself (event 0 0 0) Behind
-itself_is_behind n named = subst (λ m. IsOfItsWord names_itself (event 0 0 0) m) (same_name (release 0 0 0) n named) (0, refl, refl)
+itself_is_behind n named = subst (λ m. IsOfItsWord names_itself (event 0 0 0) m) (only_name (release 0 0 0) n named) (0, refl, refl)
 
 crossed_match : Matches crossed (event 0 0 0) (event 1 0 1)
-crossed_match = record { name = release 1 0 0; by = record { named = refl; item = refl; place = refl; word = refl } }
+crossed_match = record { name = release 1 0 0; by = record { named = (0, lit< tt, refl); item = refl; place = refl; word = refl } }
 
 crossed_back : Matches crossed (event 1 0 0) (event 0 0 1)
-crossed_back = record { name = release 0 0 0; by = record { named = refl; item = refl; place = refl; word = refl } }
+crossed_back = record { name = release 0 0 0; by = record { named = (0, lit< tt, refl); item = refl; place = refl; word = refl } }
 
 -- from an acquire to the release that it names, and on to the event before that
 half_round : (e d c : EventId) → Matches crossed e d → IsPrevious c d → (n : ℕ) → Stage crossed n e → (q : ℕ) × (q < n) × Stage crossed q c
@@ -94,7 +95,7 @@ second_is_held h = no_lower crossed (event 1 0 0) (all_round (event 1 0 0) (even
 -- ---- scopes
 
 pub waits_all_the_same : Waits scopes_differ (event 0 1 0) (event 0 0 0)
-waits_all_the_same = for_release (record { name = release 0 0 0; by = record { named = refl; item = refl; place = refl; word = refl } })
+waits_all_the_same = for_release (record { name = release 0 0 0; by = record { named = (0, lit< tt, refl); item = refl; place = refl; word = refl } })
 
 zero_is_no_one : ◌≡◌ {A = ℕ} 0 1 → ⊥
 zero_is_no_one e = omega arith
@@ -112,11 +113,14 @@ gives_no_pair (behind_barrier a b flagged together item below there) = absurd (o
 
 -- ---- releases
 
+zero_is_there : ◌≡◌ {A = Option ℕ} (Some 0) None → ⊥
+zero_is_there e = cc
+
 one_is_there : ◌≡◌ {A = Option ℕ} (Some 1) None → ⊥
 one_is_there e = cc
 
-other_words : (n : Name) → Some (release 0 0 1) ≡ Some n → ¬ IsAbsent two_releases n
-other_words n named absent = one_is_there (subst (IsAbsent two_releases) (sym (same_name (release 0 0 1) n named)) absent)
+other_words : (n : Name) → Contains (release 0 0 1 ∷ []) n → ¬ IsAbsent two_releases n
+other_words n named absent = one_is_there (subst (IsAbsent two_releases) (sym (only_name (release 0 0 1) n named)) absent)
 
 twenty_four : ◌≡◌ {A = Option (Option ℕ)} (Some (Some 20)) (Some (Some 24)) → ⊥
 twenty_four e = let n : ◌≡◌ {A = ℕ} 20 24 = cc in omega arith
@@ -126,7 +130,58 @@ number_of (GlobalWord w) = Some w
 number_of (LocalWord g w) = None
 
 pub of_another_word : HasAcquireCause two_releases (event 0 1 0) OtherWord
-of_another_word = (other_words, (release 0 0 1, refl, (1, refl, λ same. twenty_four (ap (option_map number_of) same))))
+of_another_word = (other_words, (release 0 0 1, (0, lit< tt, refl), (1, refl, λ same. twenty_four (ap (option_map number_of) same))))
+
+-- ---- several names
+
+by_first : Matches handed_by_two (event 2 0 0) (event 0 0 1)
+by_first = record { name = release 0 0 0; by = record { named = (0, lit< tt, refl); item = refl; place = refl; word = refl } }
+
+by_second : Matches handed_by_two (event 2 0 0) (event 1 0 1)
+by_second = record { name = release 1 0 0; by = record { named = (1, lit< tt, refl); item = refl; place = refl; word = refl } }
+
+first_inclusive : IsInclusive handed_by_two Global (event 0 0 1) (event 2 0 0)
+first_inclusive = record {
+  first = access 0 (Store Device Release) Global 20;
+  second = acquire_of 0 (Load Device Acquire) 20 (release 0 0 0 ∷ release 1 0 0 ∷ []);
+  at_first = refl;
+  at_second = refl;
+  word = _;
+  has_word = refl;
+  memory = refl;
+  scopes = refl;
+}
+
+second_inclusive : IsInclusive handed_by_two Global (event 1 0 1) (event 2 0 0)
+second_inclusive = record {
+  first = access 0 (Rmw Device Both) Global 20;
+  second = acquire_of 0 (Load Device Acquire) 20 (release 0 0 0 ∷ release 1 0 0 ∷ []);
+  at_first = refl;
+  at_second = refl;
+  word = _;
+  has_word = refl;
+  memory = refl;
+  scopes = refl;
+}
+
+pub first_before_read : HappensBefore handed_by_two Global (event 0 0 0) (event 2 0 1)
+first_before_read =
+    through (through (by_pair (sequenced refl (lit< tt) (_, refl))) (synchronized by_first first_inclusive)) (sequenced refl (lit< tt) (_, refl))
+
+pub second_before_read : HappensBefore handed_by_two Global (event 1 0 0) (event 2 0 2)
+second_before_read =
+    through (through (by_pair (sequenced refl (lit< tt) (_, refl))) (synchronized by_second second_inclusive)) (sequenced refl (lit< tt) (_, refl))
+
+pub one_is_absent : HasAcquireCause half_there (event 1 0 0) Absent
+one_is_absent = (release 0 0 2, (1, lit< tt, refl), refl)
+
+both_there : (n : Name) → HasName half_there (event 2 0 0) n → ¬ IsAbsent half_there n
+both_there n (zero, within, is) absent = zero_is_there (subst (IsAbsent half_there) (sym is) absent)
+both_there n (suc zero, within, is) absent = one_is_there (subst (IsAbsent half_there) (sym is) absent)
+both_there n (suc (suc k), within, is) absent = omega (arith, within)
+
+pub one_is_of_another_word : HasAcquireCause half_there (event 2 0 0) OtherWord
+one_is_of_another_word = (both_there, (release 0 0 0, (0, lit< tt, refl), (0, refl, λ same. twenty_four (sym (ap (option_map number_of) same)))))
 
 -- ---- instances
 

@@ -1,5 +1,5 @@
 -- Small lists on which the definitions are tried, one for each rule that is easy to get wrong.
-use Rattle.std.specs.Prelude.{ℕ, Bool, true, false, [], ◌∷◌, Some, None}
+use Rattle.std.specs.Prelude.{ℕ, Bool, true, false, List, [], ◌∷◌}
 use Rattle.gr_model.specs.declared.event.Space.{Space}
 use Rattle.gr_model.specs.declared.event.Space.TheVariants.{Global, Local}
 use Rattle.gr_model.specs.declared.event.Scope.TheVariants.{Group, Device}
@@ -12,12 +12,15 @@ use Rattle.gr_model.specs.declared.event.EventId.{EventId}
 use Rattle.gr_model.specs.Instances.{Mark}
 use Rattle.gr_model.specs.Streams.{Streams}
 
--- a record without a name, one with a name, a barrier and an end
+-- a record without names, one with some names and one with one, a barrier and an end
 abbrev pub access : ℕ → Kind → Space → ℕ → Event
-access item kind space word = record { item = item; kind = kind; space = space; word = word; name = None }
+access item kind space word = record { item = item; kind = kind; space = space; word = word; names = [] }
+
+abbrev pub acquire_of : ℕ → Kind → ℕ → List Name → Event
+acquire_of item kind word names = record { item = item; kind = kind; space = Global; word = word; names = names }
 
 abbrev pub acquire : ℕ → Kind → ℕ → Name → Event
-acquire item kind word name = record { item = item; kind = kind; space = Global; word = word; name = Some name }
+acquire item kind word name = acquire_of item kind word (name ∷ [])
 
 abbrev pub barrier : ℕ → Bool → Bool → ℕ → Event
 barrier item global local site = access item (Barrier global local) Global site
@@ -66,6 +69,26 @@ abbrev pub two_releases : Streams
 two_releases = record {
   sizes = 2 ∷ [];
   lists = (access 0 (Store Group Release) Local 4 ∷ access 0 (Store Device Release) Global 20 ∷ acquire 1 (Load Device Acquire) 24 (release 0 0 1) ∷ the_end false ∷ []) ∷ [];
+}
+
+-- in two groups an item each writes a word and releases; an item of a third group names both releases and reads both words
+abbrev pub handed_by_two : Streams
+handed_by_two = record {
+  sizes = 1 ∷ 1 ∷ 1 ∷ [];
+  lists =
+      (access 0 Write Global 16 ∷ access 0 (Store Device Release) Global 20 ∷ the_end false ∷ [])
+      ∷ (access 0 Write Global 17 ∷ access 0 (Rmw Device Both) Global 20 ∷ the_end false ∷ [])
+      ∷ (acquire_of 0 (Load Device Acquire) 20 (release 0 0 0 ∷ release 1 0 0 ∷ []) ∷ access 0 Read Global 16 ∷ access 0 Read Global 17 ∷ the_end false ∷ []) ∷ [];
+}
+
+-- an acquire names a release of another word and one that is not there; the next names its word's release and that of the other word
+abbrev pub half_there : Streams
+half_there = record {
+  sizes = 1 ∷ 1 ∷ 1 ∷ [];
+  lists =
+      (access 0 (Store Device Release) Global 24 ∷ access 0 (Store Device Release) Global 20 ∷ the_end false ∷ [])
+      ∷ (acquire_of 0 (Load Device Acquire) 20 (release 0 0 0 ∷ release 0 0 2 ∷ []) ∷ the_end false ∷ [])
+      ∷ (acquire_of 0 (Load Device Acquire) 20 (release 0 0 0 ∷ release 0 0 1 ∷ []) ∷ the_end false ∷ []) ∷ [];
 }
 
 -- two items at one barrier from different sites, then one of them at another barrier

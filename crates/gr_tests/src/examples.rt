@@ -12,7 +12,7 @@ ghost use Rattle.gr_model.specs.Waits.{IsGrounded, Waits};
 ghost use Rattle.gr_model.specs.declared.event.Space.TheVariants.{Global, Local};
 ghost use Rattle.gr_model.specs.declared.report.AcquireCause.TheVariants.{Absent, OtherWord, Behind};
 ghost use Rattle.gr_model.specs.declared.report.DivergenceCause.TheVariants.{Missing};
-ghost use Rattle.gr_tests.specs.Examples.{event, release, handed_over, names_itself, crossed, scopes_differ, two_releases, mixed, waiting, met, the_mark, local_words};
+ghost use Rattle.gr_tests.specs.Examples.{event, release, half_there, handed_by_two, handed_over, names_itself, crossed, scopes_differ, two_releases, mixed, waiting, met, the_mark, local_words};
 
 /// What is handed over by a release and an acquire is ordered, from before the release to behind the acquire.
 pub fn a_release_hands_over()
@@ -44,6 +44,18 @@ pub fn another_scope_does_not_order()
 pub fn releases_are_counted_over_all_words()
     ensures second { release_place two_releases (release 0 0 1) ≡ Some 1 }
     ensures other_word { HasAcquireCause two_releases (event 0 1 0) OtherWord }
+{}
+
+/// An acquire that names two releases is ordered behind both.
+pub fn two_releases_hand_over()
+    ensures first { HappensBefore handed_by_two Global (event 0 0 0) (event 2 0 1) }
+    ensures second { HappensBefore handed_by_two Global (event 1 0 0) (event 2 0 2) }
+{}
+
+/// One release that is absent, or else one of another word, is enough for the cause, whatever the other names.
+pub fn one_name_gives_the_cause()
+    ensures absent { HasAcquireCause half_there (event 1 0 0) Absent }
+    ensures other_word { HasAcquireCause half_there (event 2 0 0) OtherWord }
 {}
 
 /// Instances count on after a divergent one, and an instance waits as long as its group's list is not complete.

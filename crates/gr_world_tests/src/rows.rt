@@ -2,7 +2,7 @@
 
 use crate::records::*;
 use crate::told::{NOTHING, Told};
-use gr_model::event::{Event, EventId, ItemId, Word};
+use gr_model::event::{EventId, ItemId, Word};
 use gr_model::report::{AcquireCause, Divergence, DivergenceCause, Unmatched};
 
 /// A launch, and its report.
@@ -11,7 +11,7 @@ pub(crate) struct Row {
     /// The sizes of the groups.
     pub(crate) sizes: &'static [u16],
     /// What each group sends before its end.
-    pub(crate) lists: &'static [&'static [Event]],
+    pub(crate) lists: &'static [&'static [Record]],
     /// What is reported.
     pub(crate) told: Told,
 }
@@ -184,8 +184,57 @@ const TWO_HANDS: Row = Row {
     },
 };
 
+const TWO_NAMES: Row = Row {
+    name: "two releases to one acquire",
+    sizes: &[3],
+    lists: &[&[
+        WRITE_16,
+        STORE_20,
+        ITEM_2_LOAD_20_OF_BOTH,
+        ITEM_2_READ_16,
+        ITEM_2_READ_24,
+        ITEM_1_WRITE_24,
+        ITEM_1_STORE_20,
+    ]],
+    told: Told {
+        items: 3,
+        records: 8,
+        ..NOTHING
+    },
+};
+
+/// The first event of item 1 of group 0.
+const FIRST_OF_ITEM_1: EventId = EventId {
+    at: ItemId { group: 0, item: 1 },
+    index: 0,
+};
+
+const TWO_WORDS: Row = Row {
+    name: "two releases to one acquire, one of them of another word",
+    sizes: &[3],
+    lists: &[&[
+        STORE_20,
+        ITEM_1_LOAD_20_OF_TWO_WORDS,
+        ITEM_1_READ_16,
+        ITEM_2_STORE_24,
+    ]],
+    told: Told {
+        unmatched: [
+            Some(Unmatched {
+                event: FIRST_OF_ITEM_1,
+                cause: AcquireCause::OtherWord,
+            }),
+            None,
+        ],
+        held: 2,
+        items: 3,
+        records: 5,
+        ..NOTHING
+    },
+};
+
 /// All rows.
-pub(crate) const ROWS: [Row; 9] = [
+pub(crate) const ROWS: [Row; 11] = [
     HANDED_OVER,
     SCOPES_OF_A_GROUP,
     TWO_MEMORIES,
@@ -195,4 +244,6 @@ pub(crate) const ROWS: [Row; 9] = [
     MISSING_ITEM,
     NO_SUCH_RELEASE,
     TWO_HANDS,
+    TWO_NAMES,
+    TWO_WORDS,
 ];

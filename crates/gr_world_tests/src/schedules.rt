@@ -2,6 +2,7 @@
 //! report is that of the whole lists. A step that is refused is tried again later.
 
 use crate::calls::{Numbers, new, shape_of, step};
+use crate::records::Record;
 use crate::rows::{ROWS, Row};
 use crate::steps::{Way, of_sequencer, of_workers, sends_of};
 use crate::told::reported;
@@ -107,13 +108,21 @@ fn follow_row(
     follow(world, &mut schedule)
 }
 
+/// The list of a group that sends these records before its end.
+fn list_of(alloc: Global, records: &[Record]) -> Result<Vec<Event>, Fail> {
+    let mut list = Vec::new(alloc);
+    for record in records {
+        list.push(record.event().ok_or("a record")?)?;
+    }
+    list.push(Event::end(false))?;
+    Ok(list)
+}
+
 /// The whole lists of a row.
 fn traces_of(alloc: Global, row: &Row) -> Result<Traces, Fail> {
     let mut lists = Vec::new(alloc);
     for list in row.lists {
-        let mut whole = list.to_vec(alloc)?;
-        whole.push(Event::end(false))?;
-        lists.push(whole)?;
+        lists.push(list_of(alloc, list)?)?;
     }
     let shape = shape_of(alloc, row.sizes).ok().ok_or("a shape")?;
     Ok(Traces::new(shape, lists).ok().ok_or("traces")?)

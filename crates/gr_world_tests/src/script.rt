@@ -1,13 +1,42 @@
 //! Scripts: steps, each with what is answered to it.
 
 use crate::calls::{Numbers, new, step};
+use crate::records::Record;
 use crate::told::{Told, reported};
+use gr_model::event::ItemId;
 use gr_world::step::{Step, StepError};
 use gr_world::world::World;
-use std::alloc::{AllocError, Allocator};
+use std::alloc::Allocator;
+
+/// A step as the scripts have it: what is sent is a record of the tables.
+#[derive(Clone, Copy)]
+pub(crate) enum Tried {
+    Send(u16, Record),
+    Close(u16, bool),
+    Take(u16),
+    Handle(ItemId),
+    Meet(u16),
+    Pass,
+    WorkTake(u16),
+}
+
+impl Tried {
+    /// The step, or `None` where no acquire may have the names of what is sent.
+    fn step(self) -> Option<Step> {
+        Some(match self {
+            Tried::Send(group, record) => Step::Send(group, record.event()?),
+            Tried::Close(group, cut) => Step::Close(group, cut),
+            Tried::Take(queue) => Step::Take(queue),
+            Tried::Handle(item) => Step::Handle(item),
+            Tried::Meet(group) => Step::Meet(group),
+            Tried::Pass => Step::Pass,
+            Tried::WorkTake(worker) => Step::WorkTake(worker),
+        })
+    }
+}
 
 /// A step, and what is answered to it.
-pub(crate) type Line = (Step, Result<(), StepError>);
+pub(crate) type Line = (Tried, Result<(), StepError>);
 
 /// A script of steps, which begins with a new world.
 pub(crate) struct Script {
@@ -22,22 +51,20 @@ pub(crate) struct Script {
     pub(crate) told: Option<Told>,
 }
 
-/// The steps of a script.
-pub(crate) fn steps_of<A: Allocator>(
-    alloc: A,
-    script: &Script,
-) -> Result<Vec<Step, A>, AllocError> {
+/// The steps of a script, or `None` if out of memory.
+pub(crate) fn steps_of<A: Allocator>(alloc: A, script: &Script) -> Option<Vec<Step, A>> {
     let mut steps = Vec::new(alloc);
-    for (step, _) in script.lines {
-        steps.push(*step)?;
+    for (tried, _) in script.lines {
+        steps.push(tried.step()?).ok()?;
     }
-    Ok(steps)
+    Some(steps)
 }
 
 /// The place of the first line whose step is answered otherwise, if there is one.
 fn first_wrong_line<A: Allocator + Copy>(world: &mut World<A>, lines: &[Line]) -> Option<usize> {
     for (place, (tried, answer)) in lines.iter().enumerate() {
-        if step(world, *tried) != Some(*answer) {
+        let told = tried.step().and_then(|tried| step(world, tried));
+        if told != Some(*answer) {
             return Some(place);
         }
     }

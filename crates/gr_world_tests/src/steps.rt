@@ -1,8 +1,9 @@
 //! The steps of a schedule: what senders send, and what sequencer and workers try again and again.
 
 use crate::calls::Numbers;
+use crate::records::Record;
 use crate::rows::Row;
-use gr_model::event::{Event, ItemId};
+use gr_model::event::ItemId;
 use gr_world::step::Step;
 use std::alloc::{AllocError, Global};
 use std::collections::VecDeque;
@@ -26,20 +27,20 @@ const MOST_RECORDS: usize = 10;
 fn add_send(
     steps: &mut VecDeque<Step>,
     group: u16,
-    list: &[Event],
+    list: &[Record],
     place: usize,
 ) -> Result<(), AllocError> {
     if place == list.len() {
         steps.push_back(Step::Close(group, false))?;
     }
-    if let Some(event) = list.get(place) {
-        steps.push_back(Step::Send(group, *event))?;
+    if let Some(event) = list.get(place).and_then(|record| record.event()) {
+        steps.push_back(Step::Send(group, event))?;
     }
     Ok(())
 }
 
 /// Adds the steps that send all of a group.
-fn add_all(steps: &mut VecDeque<Step>, group: u16, list: &[Event]) -> Result<(), AllocError> {
+fn add_all(steps: &mut VecDeque<Step>, group: u16, list: &[Record]) -> Result<(), AllocError> {
     for place in 0..MOST_RECORDS {
         add_send(steps, group, list, place)?;
     }
@@ -49,7 +50,7 @@ fn add_all(steps: &mut VecDeque<Step>, group: u16, list: &[Event]) -> Result<(),
 /// Adds the steps that send what stands at this place of each group's list.
 fn add_turn(
     steps: &mut VecDeque<Step>,
-    lists: &[&[Event]],
+    lists: &[&[Record]],
     place: usize,
 ) -> Result<(), AllocError> {
     for group in 0..MOST_GROUPS {

@@ -2,6 +2,7 @@
 
 use crate::three_senders::three_senders;
 use gr_model::event::{Event, Kind, Space};
+use gr_model::names::Names;
 use std::test::*;
 
 /// What a sender of a hundred writes and an end sends at a place.
@@ -16,7 +17,7 @@ fn sent_at(place: u32) -> Event {
         },
         space: Space::Global,
         word: if ends { 0 } else { place },
-        name: None,
+        names: Names::none(),
     }
 }
 

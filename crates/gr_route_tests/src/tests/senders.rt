@@ -29,14 +29,6 @@ fn sender_over(
     Ok((sender, queue, taker))
 }
 
-const END: Event = Event {
-    item: 0,
-    kind: Kind::End { cut: false },
-    space: Space::Global,
-    word: 0,
-    name: None,
-};
-
 #[test]
 fn a_closed_sender_sends_nothing(rt: HostRuntime) -> Result<(), Fail> {
     let (mut sender, _, _) = sender_over(rt.alloc(), 4, 1000)?;
@@ -86,7 +78,7 @@ fn only_events_of_the_group_are_sent(rt: HostRuntime) -> Result<(), Fail> {
     };
     let cases = [
         ("item 1 of one item", of_item_1, SendError::UnknownItem),
-        ("an end", END, SendError::BadEvent),
+        ("an end", Event::end(false), SendError::BadEvent),
         (
             "a barrier of a local word",
             barrier_of_local_words,
@@ -113,7 +105,10 @@ fn a_full_queue_takes_no_end(rt: HostRuntime) -> Result<(), Fail> {
         sender.send(&rt, write(17)),
         Err(SendError::Full(write(17)))
     );
-    assert_eq!(rt; sender.close(&rt, false), Err(SendError::Full(END)));
+    assert_eq!(rt;
+        sender.close(&rt, false),
+        Err(SendError::Full(Event::end(false)))
+    );
     assert_eq!(rt; (sender.is_closed(), sender.sent()), (false, 1));
     assert!(rt; queue.pop(&rt, &mut taker).is_some());
     assert_eq!(rt; sender.close(&rt, false), Ok(()));

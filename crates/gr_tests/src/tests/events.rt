@@ -1,12 +1,14 @@
-//! Which records a group may have, and which words they access.
+//! Which records a group may have, which names an acquire may have, and which words records access.
 
 use gr_model::event::{
     Event, EventId, ItemId, Kind, Name, Order, Scope, Space, Word, event_ok, word_of,
 };
+use gr_model::names::Names;
+use std::test::Fail;
 
-fn name_of(group: u16, item: u16, release: u32) -> Option<Name> {
+fn name_of(group: u16, item: u16, release: u32) -> Name {
     let at = ItemId { group, item };
-    Some(Name { at, release })
+    Name { at, release }
 }
 
 fn event_id(group: u16, item: u16, index: u32) -> EventId {
@@ -14,13 +16,13 @@ fn event_id(group: u16, item: u16, index: u32) -> EventId {
     EventId { at, index }
 }
 
-fn event(item: u16, kind: Kind, space: Space, word: u32, name: Option<Name>) -> Event {
+fn event(item: u16, kind: Kind, space: Space, word: u32, names: Names) -> Event {
     Event {
         item,
         kind,
         space,
         word,
-        name,
+        names,
     }
 }
 
@@ -29,7 +31,7 @@ type Case = (&'static str, Event, bool);
 
 fn access_cases() -> [Case; 8] {
     let (group, device) = (Scope::Group, Scope::Device);
-    let of = |item, kind| event(item, kind, Space::Global, 16, None);
+    let of = |item, kind| event(item, kind, Space::Global, 16, Names::none());
     [
         ("a plain read", of(1, Kind::Read), true),
         ("an item that the group lacks", of(2, Kind::Read), false),
@@ -66,84 +68,112 @@ fn access_cases() -> [Case; 8] {
     ]
 }
 
-fn name_cases() -> [Case; 6] {
-    let acquire = Kind::Load(Scope::Device, Order::Acquire);
-    let relaxed = Kind::Load(Scope::Device, Order::Relaxed);
-    let of = |kind, name| event(0, kind, Space::Global, 16, name);
+/// Rows of records that all have a name.
+fn named_cases(names: Names) -> [Case; 5] {
+    let of = |kind| event(0, kind, Space::Global, 16, names);
+    let barrier = Kind::Barrier {
+        global: true,
+        local: false,
+    };
     [
         (
-            "an acquire with the last name",
-            of(acquire, name_of(63, 255, 16_777_215)),
+            "an acquire with a name",
+            of(Kind::Load(Scope::Device, Order::Acquire)),
             true,
         ),
-        ("a name of group 64", of(acquire, name_of(64, 0, 0)), false),
-        ("a name of item 256", of(acquire, name_of(0, 256, 0)), false),
         (
-            "a name of release 16,777,216",
-            of(acquire, name_of(0, 0, 16_777_216)),
-            false,
+            "both halves with a name",
+            of(Kind::Rmw(Scope::Group, Order::Both)),
+            true,
         ),
         (
             "a relaxed load with a name",
-            of(relaxed, name_of(0, 0, 0)),
+            of(Kind::Load(Scope::Device, Order::Relaxed)),
             false,
         ),
-        (
-            "a plain write with a name",
-            of(Kind::Write, name_of(0, 0, 0)),
-            false,
-        ),
+        ("a plain write with a name", of(Kind::Write), false),
+        ("a barrier with a name", of(barrier), false),
     ]
 }
 
-fn other_cases() -> [Case; 7] {
+fn other_cases() -> [Case; 6] {
     let barrier = Kind::Barrier {
         global: true,
         local: false,
     };
     let end = Kind::End { cut: true };
     [
-        ("a barrier", event(1, barrier, Space::Global, 7, None), true),
+        (
+            "a barrier",
+            event(1, barrier, Space::Global, 7, Names::none()),
+            true,
+        ),
         (
             "a barrier with the local space",
-            event(1, barrier, Space::Local, 7, None),
+            event(1, barrier, Space::Local, 7, Names::none()),
             false,
         ),
         (
-            "a barrier with a name",
-            event(1, barrier, Space::Global, 7, name_of(0, 0, 0)),
-            false,
+            "an end",
+            event(0, end, Space::Global, 0, Names::none()),
+            true,
         ),
-        ("an end", event(0, end, Space::Global, 0, None), true),
         (
             "an end of item 1",
-            event(1, end, Space::Global, 0, None),
+            event(1, end, Space::Global, 0, Names::none()),
             false,
         ),
         (
             "an end with the local space",
-            event(0, end, Space::Local, 0, None),
+            event(0, end, Space::Local, 0, Names::none()),
             false,
         ),
         (
             "an end with a word",
-            event(0, end, Space::Global, 1, None),
+            event(0, end, Space::Global, 1, Names::none()),
             false,
         ),
     ]
 }
 
 #[test]
-fn a_group_may_have_just_these_records(rt: HostRuntime) {
+fn a_group_may_have_just_these_records(rt: HostRuntime) -> Result<(), Fail> {
     for (name, event, ok) in access_cases() {
-        assert_eq!(rt; event_ok(&event, 2), ok, "{name}");
-    }
-    for (name, event, ok) in name_cases() {
         assert_eq!(rt; event_ok(&event, 2), ok, "{name}");
     }
     for (name, event, ok) in other_cases() {
         assert_eq!(rt; event_ok(&event, 2), ok, "{name}");
     }
+    let names = Names::new(&[name_of(0, 0, 0)]).ok_or("a name")?;
+    for (name, event, ok) in named_cases(names) {
+        assert_eq!(rt; event_ok(&event, 2), ok, "{name}");
+    }
+    Ok(())
+}
+
+#[test]
+fn an_acquire_may_have_just_these_names(rt: HostRuntime) {
+    let least = name_of(0, 0, 0);
+    let last = name_of(63, 255, 16_777_215);
+    let four = [least, name_of(0, 0, 1), name_of(0, 1, 0), last];
+    let five = [
+        least,
+        name_of(0, 0, 1),
+        name_of(0, 1, 0),
+        name_of(1, 0, 0),
+        last,
+    ];
+    assert_eq!(rt; Names::new(&[]), Some(Names::none()));
+    assert_eq!(rt; Names::none().as_slice(), [].as_slice());
+    assert!(rt; Names::new(&four).is_some_and(|names| names.as_slice() == four.as_slice()));
+    assert!(rt; Names::new(&five).is_none());
+    assert!(rt; Names::new(&[least, least]).is_none());
+    assert!(rt; Names::new(&[name_of(0, 0, 1), least]).is_none());
+    assert!(rt; Names::new(&[name_of(0, 1, 0), name_of(0, 0, 1)]).is_none());
+    assert!(rt; Names::new(&[name_of(1, 0, 0), name_of(0, 1, 1)]).is_none());
+    assert!(rt; Names::new(&[name_of(64, 0, 0)]).is_none());
+    assert!(rt; Names::new(&[name_of(0, 256, 0)]).is_none());
+    assert!(rt; Names::new(&[least, name_of(0, 0, 16_777_216)]).is_none());
 }
 
 #[test]
@@ -156,19 +186,19 @@ fn an_access_has_a_word_of_its_memory(rt: HostRuntime) {
     let atomic = Kind::Rmw(Scope::Group, Order::Relaxed);
     let cases = [
         (
-            event(0, Kind::Write, Space::Global, 16, None),
+            event(0, Kind::Write, Space::Global, 16, Names::none()),
             Some(Word::Global(16)),
         ),
         (
-            event(0, Kind::Read, Space::Local, 16, None),
+            event(0, Kind::Read, Space::Local, 16, Names::none()),
             Some(Word::Local(5, 16)),
         ),
         (
-            event(0, atomic, Space::Local, 4, None),
+            event(0, atomic, Space::Local, 4, Names::none()),
             Some(Word::Local(5, 4)),
         ),
-        (event(0, barrier, Space::Global, 16, None), None),
-        (event(0, end, Space::Global, 0, None), None),
+        (event(0, barrier, Space::Global, 16, Names::none()), None),
+        (event(0, end, Space::Global, 0, Names::none()), None),
     ];
     for (event, word) in cases {
         assert_eq!(rt; word_of(5, &event), word);

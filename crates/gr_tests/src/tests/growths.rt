@@ -1,20 +1,12 @@
 //! Each growth refused in turn, as a launch's shape is copied and its lists are made.
 
-use gr_model::event::{Event, Kind, Space};
+use gr_model::event::Event;
 use gr_model::memory::Memory;
 use gr_model::shape::Shape;
 use gr_model::traces::Traces;
 use refusing::Refusing;
 use std::alloc::Allocator;
 use std::test::Fail;
-
-const END: Event = Event {
-    item: 0,
-    kind: Kind::End { cut: false },
-    space: Space::Global,
-    word: 0,
-    name: None,
-};
 
 /// How many items the traces of one group of two have, where all growths are granted.
 fn items_of_made_traces<A: Allocator + Copy>(alloc: A) -> Result<u32, Memory> {
@@ -25,7 +17,7 @@ fn items_of_made_traces<A: Allocator + Copy>(alloc: A) -> Result<u32, Memory> {
     };
     let copy = shape.copy()?;
     let mut list = Vec::new(alloc);
-    list.push(END)?;
+    list.push(Event::end(false))?;
     let mut lists = Vec::new(alloc);
     lists.push(list)?;
     let Ok(traces) = Traces::new(copy, lists) else {
@@ -35,7 +27,7 @@ fn items_of_made_traces<A: Allocator + Copy>(alloc: A) -> Result<u32, Memory> {
 }
 
 #[test]
-fn each_refused_growth_is_want_of_memory(rt: HostRuntime) -> Result<(), Fail> {
+fn each_refused_growth_is_out_of_memory(rt: HostRuntime) -> Result<(), Fail> {
     let mut refusals = 0_u32;
     for at in 0..1_000_u64 {
         let heap = Refusing::new(rt.alloc(), at);

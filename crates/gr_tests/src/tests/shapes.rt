@@ -8,7 +8,7 @@ use std::test::Fail;
 /// A row: its name, how many groups of which size come first, the sizes behind them, and the refusal that is due.
 type Case = (&'static str, u16, u16, &'static [u16], Option<ShapeError>);
 
-const CASES: [Case; 9] = [
+const CASES: [Case; 8] = [
     ("no groups", 0, 0, &[], Some(ShapeError::NoGroups)),
     ("one group of one", 0, 0, &[1], None),
     (
@@ -40,14 +40,7 @@ const CASES: [Case; 9] = [
         &[],
         Some(ShapeError::TooManyGroups),
     ),
-    ("eight groups of 256", 8, 256, &[], None),
-    (
-        "eight groups of 256 and one of 1",
-        8,
-        256,
-        &[1],
-        Some(ShapeError::TooManyItems),
-    ),
+    ("sixty-four groups of 256", 64, 256, &[], None),
 ];
 
 #[test]
@@ -94,11 +87,11 @@ fn a_shape_tells_its_sizes(rt: HostRuntime) -> Result<(), Fail> {
 #[test]
 fn the_largest_launch_can_be_copied(rt: HostRuntime) -> Result<(), Fail> {
     let mut sizes = Vec::new(rt.alloc());
-    for _ in 0..8 {
+    for _ in 0..64 {
         sizes.push(256)?;
     }
     let shape = Shape::new(sizes).ok().ok_or("shape")?;
     let copy: Result<u32, Memory> = shape.copy().map(|copy| copy.total());
-    assert_eq!(rt; copy, Ok(2048));
+    assert_eq!(rt; copy, Ok(16_384));
     Ok(())
 }

@@ -6,68 +6,87 @@ use gr_model::laws::{
     limits_are_those_of_the_formats, lists_have_one_report, nothing_is_taken_back,
     order_goes_forwards,
 };
+use gr_model::names::Names;
 use gr_model::shape::Shape;
 use gr_model::traces::{Traces, TracesError};
+use std::alloc::{AllocError, Global};
 use std::test::Fail;
 
-const END: Event = Event {
-    item: 0,
-    kind: Kind::End { cut: false },
-    space: Space::Global,
-    word: 0,
-    name: None,
-};
+/// A record of the rows: the end of a stream, a write of item 0, or a read of item 1.
+#[derive(Clone, Copy)]
+enum Record {
+    End,
+    Write,
+    Read,
+}
 
-const WRITE: Event = Event {
-    item: 0,
-    kind: Kind::Write,
-    space: Space::Global,
-    word: 16,
-    name: None,
-};
+use Record::{End, Read, Write};
 
-const READ: Event = Event {
-    item: 1,
-    kind: Kind::Read,
-    space: Space::Global,
-    word: 16,
-    name: None,
-};
+impl Record {
+    /// The record as an event.
+    fn event(self) -> Event {
+        match self {
+            End => Event::end(false),
+            Write => access(0, Kind::Write),
+            Read => access(1, Kind::Read),
+        }
+    }
+}
+
+/// An access to global word 16.
+fn access(item: u16, kind: Kind) -> Event {
+    Event {
+        item,
+        kind,
+        space: Space::Global,
+        word: 16,
+        names: Names::none(),
+    }
+}
+
+/// The list of these records.
+fn list_of(alloc: Global, records: &[Record]) -> Result<Vec<Event>, AllocError> {
+    let mut list = Vec::new(alloc);
+    for record in records {
+        list.push(record.event())?;
+    }
+    Ok(list)
+}
 
 /// A row: its name, the lists for two groups of two and of one item, and the refusal that is due.
 type Case = (
     &'static str,
-    &'static [&'static [Event]],
+    &'static [&'static [Record]],
     Option<TracesError>,
 );
 
 const CASES: [Case; 8] = [
-    ("two whole lists", &[&[WRITE, READ, END], &[END]], None),
-    ("one list too few", &[&[END]], Some(TracesError::WrongCount)),
+    ("two whole lists", &[&[Write, Read, End], &[End]], None),
+    ("one list too few", &[&[End]], Some(TracesError::WrongCount)),
     (
         "one list too many",
-        &[&[END], &[END], &[END]],
+        &[&[End], &[End], &[End]],
         Some(TracesError::WrongCount),
     ),
     (
         "an end before the last record",
-        &[&[END, WRITE, END], &[END]],
+        &[&[End, Write, End], &[End]],
         Some(TracesError::BadEvent(0, 0)),
     ),
     (
         "an item that its group lacks",
-        &[&[WRITE, END], &[WRITE, READ, END]],
+        &[&[Write, End], &[Write, Read, End]],
         Some(TracesError::BadEvent(1, 1)),
     ),
-    ("an empty list", &[&[END], &[]], Some(TracesError::NoEnd(1))),
+    ("an empty list", &[&[End], &[]], Some(TracesError::NoEnd(1))),
     (
         "no end",
-        &[&[WRITE, READ], &[END]],
+        &[&[Write, Read], &[End]],
         Some(TracesError::NoEnd(0)),
     ),
     (
         "the first group at fault is told",
-        &[&[WRITE], &[READ, END]],
+        &[&[Write], &[Read, End]],
         Some(TracesError::NoEnd(0)),
     ),
 ];
@@ -78,7 +97,7 @@ fn lists_are_traces_or_the_first_fault_is_told(rt: HostRuntime) -> Result<(), Fa
         let shape = Shape::new(vec![in rt.alloc(); 2, 1]?).ok().ok_or("shape")?;
         let mut lists = Vec::new(rt.alloc());
         for part in parts {
-            lists.push(part.to_vec(rt.alloc())?)?;
+            lists.push(list_of(rt.alloc(), part)?)?;
         }
         let answer = Traces::new(shape, lists);
         assert_eq!(rt; answer.err(), refusal, "{name}");
@@ -90,15 +109,18 @@ fn lists_are_traces_or_the_first_fault_is_told(rt: HostRuntime) -> Result<(), Fa
 fn traces_tell_their_lists(rt: HostRuntime) -> Result<(), Fail> {
     let alloc = rt.alloc();
     let shape = Shape::new(vec![in alloc; 2, 1]?).ok().ok_or("shape")?;
-    let first = vec![in alloc; WRITE, READ, END]?;
-    let second = vec![in alloc; END]?;
+    let first = list_of(alloc, &[Write, Read, End])?;
+    let second = list_of(alloc, &[End])?;
     let traces = Traces::new(shape, vec![in alloc; first, second]?)
         .ok()
         .ok_or("traces")?;
     assert_eq!(rt; traces.shape().groups(), 2);
     assert_eq!(rt; traces.shape().items(0), 2);
-    assert_eq!(rt; traces.list(0), [WRITE, READ, END].as_slice());
-    assert_eq!(rt; traces.list(1), [END].as_slice());
+    assert_eq!(rt;
+        traces.list(0),
+        [Write.event(), Read.event(), End.event()].as_slice()
+    );
+    assert_eq!(rt; traces.list(1), [End.event()].as_slice());
     Ok(())
 }
 

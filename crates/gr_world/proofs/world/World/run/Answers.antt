@@ -1,4 +1,4 @@
-use Rattle.std.proofs.Common.{rules, ◌≡◌, ◌+◌, ◌<◌, ◌≤◌, ◌∷◌, [], ◌++◌, ℕ, slice_index_or, None, suc, List, length, subst, sym, take, arith}
+use Rattle.std.proofs.Common.{rules, ◌≡◌, ◌+◌, ◌<◌, ◌≤◌, ◌∷◌, [], ◌++◌, ℕ, slice_index_or, suc, List, length, subst, sym, take, arith}
 use Rattle.std.proofs.lemmas.List.{take_all, take_more}
 use Rattle.gr_model.specs.declared.event.Kind.TheVariants.{Read}
 use Rattle.gr_model.specs.declared.event.Space.TheVariants.{Global}
@@ -17,7 +17,7 @@ overflow_add-refused g c = search (rules, c.loop-step.invariant.few)
 
 -- the step that a loop over steps names where there is none
 abbrev no_step : Step
-no_step = Send 0 (record { item = 0; kind = Read; space = Global; word = 0; name = None })
+no_step = Send 0 (record { item = 0; kind = Read; space = Global; word = 0; names = [] })
 
 -- one step more was tried
 more_made : (old w new : World) (steps : List Step) (i refused now : ℕ) → i < length steps → Runs old (take i steps ++ slice_index_or steps i no_step ∷ []) new refused → now ≡ refused → Runs old (take (i + 1) steps) new now
