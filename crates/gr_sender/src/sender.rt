@@ -126,10 +126,11 @@ impl<A: Allocator> Sender<A> {
         ensures unchanged { OnErr result (self.new ≡ self.old) }
         ensures full { IfErr result (λ error. IsFull self.old event error) }
     {
+        let ends = event.kind.is_end();
         match self.queue.push(rt, &mut self.seat, event) {
             Ok(()) => {
                 self.sent += 1;
-                self.closed = event.kind.is_end();
+                self.closed = ends;
                 Ok(())
             }
             Err(back) => Err(SendError::Full(back.0)),
@@ -215,8 +216,9 @@ impl<A: Allocator> Sender<A> {
         ensures never_full { IfErr result (λ error. IsFalse (is_full error)) }
     {
         let backoff = Backoff::new();
+        let again = &event;
         for _ in rt.forever() {
-            match self.send(rt, event) {
+            match self.send(rt, *again) {
                 Err(SendError::Full(_)) => backoff.snooze(),
                 answer => return answer,
             }

@@ -15,7 +15,7 @@ fn make_queues<A: Allocator + Copy>(alloc: A) -> Result<bool, Memory> {
 }
 
 #[test]
-fn each_refused_growth_is_want_of_memory(rt: HostRuntime) -> Result<(), Fail> {
+fn each_refused_growth_is_out_of_memory(rt: HostRuntime) -> Result<(), Fail> {
     for at in 0..1_000_u64 {
         let heap = Refusing::new(rt.alloc(), at);
         let answer = make_queues(&heap);

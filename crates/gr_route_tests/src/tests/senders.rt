@@ -85,11 +85,11 @@ fn only_events_of_the_group_are_sent(rt: HostRuntime) -> Result<(), Fail> {
             SendError::BadEvent,
         ),
     ];
-    for (name, event, refusal) in cases {
-        assert_eq!(rt; sender.send(&rt, event), Err(refusal), "{name}");
+    for (name, event, refusal) in cases.iter() {
+        assert_eq!(rt; sender.send(&rt, *event), Err(*refusal), "{name}");
         assert_eq!(rt;
-            sender.send_wait(&rt, event),
-            Err(refusal),
+            sender.send_wait(&rt, *event),
+            Err(*refusal),
             "{name}, waiting"
         );
     }

@@ -6,5 +6,5 @@ use Rattle.gr_sender.proofs.sender.Sender.push.Goals as goal
 
 pub invariant_of-self : goal.invariant_of-self
 invariant_of-self g c =
-    after_push _ _ _ _ _ _ _ _ _ c.args.event c.self.invariant c.is_end-self-inside.ensures
+    after_push _ _ _ _ _ _ _ _ _ c.args.event c.self.invariant c.is_end-ends.ensures
     (subst (λ (s : Sending). IsFalse (is_end c.args.event) → length s.sent + 1 < s.records) (sym c.self.view_is) c.requires.room) c.in-Ok.ensures.ok
