@@ -3,6 +3,7 @@ use Rattle.std.proofs.Common.{◌≡◌, ◌<◌, ℕ, List, true, false, None, 
 use Rattle.std.specs.Prelude.{slice_index_or, slice_set}
 use Rattle.std.proofs.lemmas.Bool.{cases_eq}
 use Rattle.std.proofs.lemmas.List.{get_or-set_same, get_or-set_other, length-set}
+use Rattle.std.proofs.lemmas.List.Elements.{Contains-get_or}
 use Rattle.std.proofs.lemmas.Option.{get_or_from_slice_get, slice_get-get_or, slice_get_within}
 use Rattle.gr_model.specs.declared.event.Event.{Event}
 use Rattle.gr_model.specs.declared.event.EventId.{EventId}
@@ -32,7 +33,7 @@ module _ (q : Sequence) (is : IsSequence q) (i : ItemId) (k : ℕ) (next : IsNex
     e,
     refl,
     ready_if q.taken q.handled is.lawful next.0 next.1 e refl there.0 there.1
-        (λ n named. absurd (barriers_name_nothing q.taken is.fronts e there.0 n there.1 there.2 named))
+        (λ k n lt. absurd (barriers_name_nothing q.taken is.fronts e there.0 (slice_index_or there.0.names k n) there.1 there.2 (Contains-get_or there.0.names k n lt)))
         (passes_if q.taken is.fronts e there.0 there.1 k next.2 divergent),
   )
 

@@ -1,16 +1,17 @@
--- What a step changes: an item or a group that it does not touch can go on only as before, or by the release that it waited for.
-use Rattle.std.proofs.Common.{◌≡◌, ◌⊎◌, ℕ, List, Some, None, Option, refl, sym, ap, ◌∙◌, subst, inl, inr, ⊎_elim}
+-- What a step changes: an item or a group that it does not touch can go on only as before, or by a release that it waited for.
+use Rattle.std.proofs.Common.{◌≡◌, ◌⊎◌, ℕ, List, Some, sym, ap, ◌∙◌, subst, inl, inr, ⊎_elim}
 use Rattle.gr_model.specs.declared.event.EventId.{EventId}
 use Rattle.gr_model.specs.declared.event.ItemId.{ItemId}
 use Rattle.gr_model.specs.declared.event.Name.{Name}
 use Rattle.gr_model.specs.Instances.{Mark}
 use Rattle.gr_model.specs.LawfulOrders.{IsIn, IsLawful}
-use Rattle.gr_model.specs.Names.{HasName, MatchesBy, name_at}
+use Rattle.gr_model.specs.Names.{HasName, MatchesBy, names_at, release_place}
 use Rattle.gr_model.specs.Streams.{Streams}
 use Rattle.gr_model.specs.Waits.{Waits, for_arrival, for_meeting, for_previous, for_release}
 use Rattle.gr_model.proofs.Cuts.{same_event}
 use Rattle.gr_model.proofs.GrowthLaws.{not_both}
 use Rattle.gr_steps.specs.Steps.{CanMeet, IsMeeting, IsReady}
+use Rattle.gr_steps.proofs.Deciding.{all_or_some}
 use Rattle.gr_steps.proofs.EventRecords.{one_release}
 use Rattle.gr_agenda.specs.Kept.{IsHeldUp}
 
@@ -22,14 +23,6 @@ pub record Adds (s : Streams) (h h2 : List EventId) (New : EventId → Type 0) (
   pub fresh : (x : EventId) → New x → ¬ IsIn h x
   pub touched : (x : EventId) → New x → T x.at
 
--- an event names a release that is handled now
-pub record IsWoken (s : Streams) (h : List EventId) (New : EventId → Type 0) (d : EventId) : Type 0 where
-  pub name : Name
-  pub held : IsHeldUp s h d name
-  pub release : EventId
-  pub new : New release
-  pub by : MatchesBy s name d release
-
 module _ (s : Streams) (h h2 : List EventId) (New : EventId → Type 0) (T : ItemId → Type 0) (adds : Adds s h h2 New T) where
   -- what stood before an untouched event was handled before
   untouched_in : (x : EventId) → (T x.at → ⊥) → IsIn h2 x → IsIn h x
@@ -40,11 +33,20 @@ module _ (s : Streams) (h h2 : List EventId) (New : EventId → Type 0) (T : Ite
     named = held.named;
     fresh = λ was. held.fresh (adds.old d was);
     previous = λ p is. untouched_in p (λ t. apart (subst T is.item t)) (held.previous p is);
-    free = λ x at place was. held.free x at place (adds.old x was);
+    free = λ was. held.free (was.0, was.1, was.2, adds.old was.0 was.3);
+  }
+
+  -- an event that is held up is so by each name by which it was, if the release of that name is not new
+  pub still_held : (d : EventId) (n m : Name) → IsHeldUp s h2 d n → IsHeldUp s h d m → ((x : EventId) → New x → x.at ≡ m.at → release_place s m ≡ Some x.index → ⊥) → IsHeldUp s h2 d m
+  still_held d n m held was old = record {
+    named = was.named;
+    fresh = held.fresh;
+    previous = held.previous;
+    free = λ there. ⊎_elim (λ (before : IsIn h there.0). was.free (there.0, there.1, there.2, before)) (λ (new : New there.0). old there.0 new there.1 there.2) (adds.split there.0 there.3);
   }
 
   module _ (d : EventId) (apart : T d.at → ⊥) (ready : IsReady s h2 d) where
-    -- it was ready, where the release that it names was handled before
+    -- it was ready, where the releases that it names were handled before
     waits_was : ((n : Name) → HasName s d n → (f : EventId) × MatchesBy s n d f × IsIn h f) → (x : EventId) → Waits s d x → IsIn h x
     waits_was released x (for_previous p) = untouched_in x (λ t. apart (subst T p.item t)) (ready.waits x (for_previous p))
     waits_was released x (for_release match) =
@@ -66,30 +68,37 @@ module _ (s : Streams) (h h2 : List EventId) (New : EventId → Type 0) (T : Ite
       instance = ready.instance;
     }
 
-    one_name : (n m : Name) → HasName s d n → HasName s d m → n ≡ m
-    one_name n m a b = let same : Some n ≡ Some m = sym a ∙ b in cc
+    -- the release of each of its names was handled before or is new
+    was_or_new : (n : Name) → HasName s d n → (f : EventId) × MatchesBy s n d f × (IsIn h f ⊎ New f)
+    was_or_new n named =
+        let r = ready.release n named in
+        (r.0, r.1, adds.split r.0 (ready.waits r.0 (for_release (record { name = n; by = r.1 }))))
 
     held_up : (n : Name) → HasName s d n → (f : EventId) → MatchesBy s n d f → New f → IsHeldUp s h d n
     held_up n named f by new = record {
       named = named;
       fresh = λ was. ready.fresh (adds.old d was);
       previous = λ p is. untouched_in p (λ t. apart (subst T is.item t)) (ready.waits p (for_previous is));
-      free = λ x at place was.
-          let index : f.index ≡ x.index = let both : Some f.index ≡ Some x.index = sym by.place ∙ place in cc in
-          adds.fresh f new (subst (IsIn h) (sym (same_event f x (by.item ∙ sym at) index)) was);
+      free = λ there.
+          let index : f.index ≡ there.0.index = let both : Some f.index ≡ Some there.0.index = sym by.place ∙ there.2 in cc in
+          adds.fresh f new (subst (IsIn h) (sym (same_event f there.0 (by.item ∙ sym there.1) index)) there.3);
     }
 
-    by_name : (o : Option Name) → name_at s d ≡ o → IsReady s h d ⊎ IsWoken s h New d
-    by_name None none = inl (ready_was (λ n named. absurd (let clash : None ≡ Some n = sym none ∙ named in cc)))
-    by_name (Some n) named =
-        let r = ready.release n named in
+    -- it was ready before, or a name held it up
+    pub ready_or_held : IsReady s h d ⊎ ((n : Name) × IsHeldUp s h d n)
+    ready_or_held =
         ⊎_elim
-        (λ (was : IsIn h r.0). inl (ready_was (λ m other. (r.0, subst (λ k. MatchesBy s k d r.0) (one_name n m named other) r.1, was))))
-        (λ (new : New r.0). inr (record { name = n; held = held_up n named r.0 r.1 new; release = r.0; new = new; by = r.1 }))
-        (adds.split r.0 (ready.waits r.0 (for_release (record { name = n; by = r.1 }))))
+        (λ (all : (n : Name) → HasName s d n → (f : EventId) × MatchesBy s n d f × IsIn h f). inl (ready_was all))
+        (λ (some : (n : Name) × HasName s d n × IsHeldUp s h d n). inr (some.0, some.2))
+        (all_or_some (λ n. (f : EventId) × MatchesBy s n d f × IsIn h f) (IsHeldUp s h d) (names_at s d) (λ n named.
+        let r = was_or_new n named in
+        ⊎_elim (λ (was : IsIn h r.0). inl (r.0, r.1, was)) (λ (new : New r.0). inr (held_up n named r.0 r.1 new)) r.2))
 
-    pub ready_or_woken : IsReady s h d ⊎ IsWoken s h New d
-    ready_or_woken = by_name (name_at s d) refl
+    -- the release of a name that held it up is new
+    pub new_release : (n : Name) → IsHeldUp s h d n → (f : EventId) × MatchesBy s n d f × New f
+    new_release n held =
+        let r = was_or_new n held.named in
+        ⊎_elim (λ (was : IsIn h r.0). absurd (held.free (r.0, r.1.item, r.1.place, was))) (λ (new : New r.0). (r.0, r.1, new)) r.2
 
   module _ (g : ℕ) (apart : (i : ItemId) → i.group ≡ g → T i → ⊥) where
     meeting_was : (k : ℕ) (a : Mark) → IsMeeting s h2 g k a → IsMeeting s h g k a

@@ -1,5 +1,5 @@
 -- The list of steps has all that is ready, behind each step and each record.
-use Rattle.std.proofs.Common.{option_and_then, filter, ◌≡◌, ◌⊎◌, ◌+◌, ◌<◌, ℕ, List, [], ◌∷◌, ◌++◌, Bool, true, false, Some, None, Vec, slice_get, zero, suc, length, refl, sym, ap, ◌∙◌, subst, inl, inr, ⊎_elim, arith, is_some}
+use Rattle.std.proofs.Common.{Contains, filter, ◌≡◌, ◌⊎◌, ◌+◌, ◌<◌, ℕ, List, [], ◌∷◌, ◌++◌, Bool, true, false, Some, None, Vec, slice_get, zero, suc, length, refl, sym, ap, ◌∙◌, subst, inl, inr, ⊎_elim, arith, is_some}
 use Rattle.std.proofs.lemmas.Bool.{cases_eq}
 use Rattle.gr_model.specs.declared.event.Event.{Event}
 use Rattle.gr_model.specs.declared.event.EventId.{EventId}
@@ -10,12 +10,13 @@ use Rattle.gr_model.specs.declared.event.Name.{Name}
 use Rattle.gr_model.specs.Access.{is_release, is_release_kind}
 use Rattle.gr_model.specs.Barriers.{StandsIn, is_barrier, mark_of_kind}
 use Rattle.gr_model.specs.LawfulOrders.{IsIn}
-use Rattle.gr_model.specs.Names.{HasName, release_place}
+use Rattle.gr_model.specs.Names.{HasName, names_of, release_place}
 use Rattle.gr_lanes.specs.Takes.{CanTake, nothing_taken, with_record}
 use Rattle.gr_model.specs.Streams.{AreFronts, IsEvent, Streams, event_at, is_of, list_of, place_of, size_of, trace_of}
 use Rattle.gr_model.proofs.Places.{places_from-there, slice_get-append}
 use Rattle.gr_steps.specs.Steps.{CanMeet, IsReady}
 use Rattle.gr_steps.proofs.BarrierPlaces.{barrier_of, barrier_there}
+use Rattle.gr_steps.proofs.Deciding.{by_cases, dec_both, number_dec, option_dec}
 use Rattle.gr_steps.proofs.EventRecords.{item_of_event}
 use Rattle.gr_steps.proofs.Orders.{split_last}
 use Rattle.gr_order.proofs.StateLemmas.{item_cases}
@@ -23,11 +24,11 @@ use Rattle.gr_order.specs.declared.steps.Ready.{Ready}
 use Rattle.gr_order.specs.declared.steps.Ready.TheVariants.{Item, Group}
 use Rattle.gr_order.specs.Answers.{CanMake}
 use Rattle.gr_order.specs.Sequences.{HandlesEvent, IsSequence, MeetsInstance, Sequence, nothing, taking}
-use Rattle.gr_agenda.specs.Kept.{IsHeldUp, IsKept}
+use Rattle.gr_agenda.specs.Kept.{IsHeldUp, IsKept, IsNoted}
 use Rattle.gr_agenda.specs.Lists.{Has, IsWaiting, KeepsSteps, Steps}
 use Rattle.gr_model.specs.Events.{is_end}
-use Rattle.gr_agenda.proofs.TakeFrames.{Takes, ready_was, held_was as held_before, meets_was as meets_before, own_meets, takes_own, takes_wide}
-use Rattle.gr_agenda.proofs.Frames.{Adds, IsWoken, held_was, meets_was, ready_or_woken}
+use Rattle.gr_agenda.proofs.TakeFrames.{Takes, ready_was, held_was as held_before, still_held as held_behind, meets_was as meets_before, own_meets, takes_own, takes_wide}
+use Rattle.gr_agenda.proofs.Frames.{Adds, held_was, meets_was, new_release, ready_or_held, still_held}
 
 -- the place of an event that passes a test is that of such an event
 pub passes_there : (s : Streams) (test : Event → Bool) (e : EventId) (k : ℕ) → place_of s test e.at k ≡ Some e.index → (x : Event) × (event_at s e ≡ Some x) × (test x ≡ true)
@@ -38,7 +39,7 @@ passes_there s test e k place =
 -- an event that has a name is there
 named_there : (s : Streams) (d : EventId) (n : Name) → HasName s d n → IsEvent s d
 named_there s d n named = elim (event_at s d) as (λ o. (event_at s d ≡ o) → IsEvent s d) [
-  | None ↦ λ none. absurd (let clash : None ≡ Some n = sym (ap (option_and_then (λ (x : Event). x.name)) none) ∙ named in cc)
+  | None ↦ λ none. absurd (let within = subst (λ names. Contains names n) (ap names_of none) named in omega (arith, within.1))
   | Some x ↦ λ at. (x, at)
 ] refl
 
@@ -81,33 +82,52 @@ module _ {Z : Type 0} (q : Sequence) (is : IsSequence q) (t t2 : Steps) (lists l
     module _ (item : Has t2 (Item e.at)) (group : CanMeet s h2 e.at.group → Has t2 (Group e.at.group))
         (others : (n : Name) (i : ItemId) → IsWaiting lists n i → Has t2 (Item i) ⊎ IsWaiting lists2 n i)
         (woken : (n : Name) → n.at ≡ e.at → release_place s n ≡ Some e.index → (i : ItemId) → IsWaiting lists n i → Has t2 (Item i)) where
-      event_woken : (d : EventId) → IsWoken s h (λ x. x ≡ e) d → Has t2 (Item d.at)
-      event_woken d w =
-          let at : w.name.at ≡ e.at = sym w.by.item ∙ ap (λ (y : EventId). y.at) w.new in
+      event_woken : (d : EventId) → (d.at ≡ e.at → ⊥) → IsReady s h2 d → (n : Name) → IsHeldUp s h d n → Has t2 (Item d.at)
+      event_woken d apart now n held =
           ⊎_elim
           (λ (has : Has t (Item d.at)). keeps (Item d.at) has)
-          (λ (waits : IsWaiting lists w.name d.at). woken w.name at (w.by.place ∙ ap (λ (y : EventId). Some y.index) w.new) d.at waits)
-          (kept.waits d w.name w.held)
+          (λ (noted : IsNoted s h lists d).
+          let release = new_release s h h2 (λ x. x ≡ e) (λ i. i ≡ e.at) adds_event d apart now noted.0 noted.1 in
+          let at : noted.0.at ≡ e.at = sym release.1.item ∙ ap (λ (y : EventId). y.at) release.2 in
+          woken noted.0 at (release.1.place ∙ ap (λ (y : EventId). Some y.index) release.2) d.at noted.2)
+          (kept.waits d n held)
+
+      -- an item that waits for another release than this still waits
+      stays_noted : (d : EventId) (n : Name) → IsHeldUp s h2 d n → IsNoted s h lists d → Has t2 (Item d.at) ⊎ IsNoted s h2 lists2 d
+      stays_noted d n held noted =
+          by_cases (dec_both (item_dec noted.0.at e.at) (option_dec number_dec (release_place s noted.0) (Some e.index)))
+          (λ (this : (noted.0.at ≡ e.at) × (release_place s noted.0 ≡ Some e.index)). inl (woken noted.0 this.0 this.1 d.at noted.2))
+          (λ (another : (noted.0.at ≡ e.at) × (release_place s noted.0 ≡ Some e.index) → ⊥). ⊎_elim
+          (λ (has : Has t2 (Item d.at)). inl has)
+          (λ (waits : IsWaiting lists2 noted.0 d.at). inr (
+            noted.0,
+            still_held s h h2 (λ x. x ≡ e) (λ i. i ≡ e.at) adds_event d n noted.0 held noted.1 (λ x new at place. another (sym at ∙ ap (λ (y : EventId). y.at) new, place ∙ ap (λ (y : EventId). Some y.index) new)),
+            waits,
+          ))
+          (others noted.0 d.at noted.2))
+        where
+          item_dec : (i j : ItemId) → Dec (i ≡ j)
+          item_dec i j = ⊎_elim yes no (item_cases i j)
 
       handled_ready : (r : Ready) → CanMake (record { taken = s; handled = h2 }) r → Has t2 r
       handled_ready (Item i) (d, at, now) = ⊎_elim
           (λ (same : i ≡ e.at). subst (λ j. Has t2 (Item j)) (sym same) item)
           (λ (apart : i ≡ e.at → ⊥). ⊎_elim
           (λ (was : IsReady s h d). keeps (Item i) (kept.ready (Item i) (d, at, was)))
-          (λ (w : IsWoken s h (λ x. x ≡ e) d). subst (λ j. Has t2 (Item j)) at (event_woken d w))
-          (ready_or_woken s h h2 (λ x. x ≡ e) (λ j. j ≡ e.at) adds_event d (λ same. apart (sym at ∙ same)) now))
+          (λ (held : (n : Name) × IsHeldUp s h d n). subst (λ j. Has t2 (Item j)) at (event_woken d (λ same. apart (sym at ∙ same)) now held.0 held.1))
+          (ready_or_held s h h2 (λ x. x ≡ e) (λ j. j ≡ e.at) adds_event d (λ same. apart (sym at ∙ same)) now))
           (item_cases i e.at)
       handled_ready (Group g) can = ⊎_elim
           (λ (same : g ≡ e.at.group). subst (λ n. Has t2 (Group n)) (sym same) (group (subst (λ n. CanMeet s h2 n) same can)))
           (λ (apart : g ≡ e.at.group → ⊥). keeps (Group g) (kept.ready (Group g) (meets_was s h h2 (λ x. x ≡ e) (λ j. j ≡ e.at) adds_event g (λ i own same. apart (sym own ∙ ap (λ (j : ItemId). j.group) same)) can)))
           (cases_eq g e.at.group)
 
-      handled_waits : (d : EventId) (n : Name) → IsHeldUp s h2 d n → Has t2 (Item d.at) ⊎ IsWaiting lists2 n d.at
+      handled_waits : (d : EventId) (n : Name) → IsHeldUp s h2 d n → Has t2 (Item d.at) ⊎ IsNoted s h2 lists2 d
       handled_waits d n held = ⊎_elim
           (λ (same : d.at ≡ e.at). inl (subst (λ j. Has t2 (Item j)) (sym same) item))
           (λ (apart : d.at ≡ e.at → ⊥). ⊎_elim
           (λ (has : Has t (Item d.at)). inl (keeps (Item d.at) has))
-          (λ (waits : IsWaiting lists n d.at). others n d.at waits)
+          (stays_noted d n held)
           (kept.waits d n (held_was s h h2 (λ x. x ≡ e) (λ j. j ≡ e.at) adds_event d n apart held)))
           (item_cases d.at e.at)
 
@@ -137,10 +157,10 @@ module _ {Z : Type 0} (q : Sequence) (is : IsSequence q) (t t2 : Steps) (lists l
       touched = λ x new. (new_stands x new).group;
     }
 
-    none_woken : (d : EventId) → IsWoken s h New d → ⊥
-    none_woken d w =
-        let barrier = barrier_there s w.release g k (new_stands w.release w.new) in
-        let release = passes_there s is_release w.release w.name.release (ap (λ i. place_of s is_release i w.name.release) w.by.item ∙ w.by.place) in
+    none_released : (n : Name) (x : EventId) → New x → x.at ≡ n.at → release_place s n ≡ Some x.index → ⊥
+    none_released n x new at place =
+        let barrier = barrier_there s x g k (new_stands x new) in
+        let release = passes_there s is_release x n.release (ap (λ i. place_of s is_release i n.release) at ∙ place) in
         let same : release.0 ≡ barrier.0 = let both : Some release.0 ≡ Some barrier.0 = sym release.1 ∙ barrier.1 in cc in
         not_both barrier.0.kind barrier.0.word barrier.2 (ap is_release (sym same) ∙ release.2)
 
@@ -155,20 +175,22 @@ module _ {Z : Type 0} (q : Sequence) (is : IsSequence q) (t t2 : Steps) (lists l
         (λ (own : d.at.group ≡ g). subst (λ j. Has t2 (Item j)) at (own_item d now.event own))
         (λ (apart : d.at.group ≡ g → ⊥). ⊎_elim
         (λ (was : IsReady s h d). keeps (Item i) (kept.ready (Item i) (d, at, was)))
-        (λ (w : IsWoken s h New d). absurd (none_woken d w))
-        (ready_or_woken s h met_list New (λ i. i.group ≡ g) adds_barriers d apart now))
+        (λ (held : (n : Name) × IsHeldUp s h d n).
+        let release = new_release s h met_list New (λ i. i.group ≡ g) adds_barriers d apart now held.0 held.1 in
+        absurd (none_released held.0 release.0 release.2 release.1.item release.1.place))
+        (ready_or_held s h met_list New (λ i. i.group ≡ g) adds_barriers d apart now))
         (cases_eq d.at.group g)
     met_ready (Group n) can = ⊎_elim
         (λ (same : n ≡ g). subst (λ m. Has t2 (Group m)) (sym same) group)
         (λ (apart : n ≡ g → ⊥). keeps (Group n) (kept.ready (Group n) (meets_was s h met_list New (λ i. i.group ≡ g) adds_barriers n (λ i own same. apart (sym own ∙ same)) can)))
         (cases_eq n g)
 
-    met_waits : (d : EventId) (n : Name) → IsHeldUp s met_list d n → Has t2 (Item d.at) ⊎ IsWaiting lists n d.at
+    met_waits : (d : EventId) (n : Name) → IsHeldUp s met_list d n → Has t2 (Item d.at) ⊎ IsNoted s met_list lists d
     met_waits d n held = ⊎_elim
         (λ (own : d.at.group ≡ g). inl (own_item d (named_there s d n held.named) own))
         (λ (apart : d.at.group ≡ g → ⊥). ⊎_elim
         (λ (has : Has t (Item d.at)). inl (keeps (Item d.at) has))
-        (λ (waits : IsWaiting lists n d.at). inr waits)
+        (λ (noted : IsNoted s h lists d). inr (noted.0, still_held s h met_list New (λ i. i.group ≡ g) adds_barriers d n noted.0 held noted.1 (none_released noted.0), noted.2))
         (kept.waits d n (held_was s h met_list New (λ i. i.group ≡ g) adds_barriers d n apart held)))
         (cases_eq d.at.group g)
 
@@ -192,7 +214,7 @@ meet_behind q is e ready q2 step t there can =
 pub kept_looked : {Z : Type 0} (q : Sequence) (t t2 : Steps) (lists lists2 : List (Vec ItemId Z)) (step : Ready) → IsKept q t lists → ¬ CanMake q step
     → ((r : Ready) → Has t r → (r ≡ step → ⊥) → Has t2 r)
     → ((n : Name) (i : ItemId) → IsWaiting lists n i → IsWaiting lists2 n i)
-    → ((d : EventId) (n : Name) → IsHeldUp q.taken q.handled d n → Item d.at ≡ step → Has t2 (Item d.at) ⊎ IsWaiting lists2 n d.at)
+    → ((d : EventId) (n : Name) → IsHeldUp q.taken q.handled d n → Item d.at ≡ step → Has t2 (Item d.at) ⊎ IsNoted q.taken q.handled lists2 d)
     → IsKept q t2 lists2
 kept_looked {Z} q t t2 lists lists2 step kept can't less more noted = record {
   ready = λ r can. less r (kept.ready r can) (λ same. can't (subst (CanMake q) same can));
@@ -200,7 +222,7 @@ kept_looked {Z} q t t2 lists lists2 step kept can't less more noted = record {
       (λ (same : Item d.at ≡ step). noted d n held same)
       (λ apart. ⊎_elim
       (λ (has : Has t (Item d.at)). inl (less (Item d.at) has apart))
-      (λ (waits : IsWaiting lists n d.at). inr (more n d.at waits))
+      (λ (noted : IsNoted q.taken q.handled lists d). inr (noted.0, noted.1, more noted.0 d.at noted.2))
       (kept.waits d n held))
       (step_cases d.at step);
 }
@@ -249,12 +271,12 @@ module _ {Z : Type 0} (q : Sequence) (t t2 : Steps) (lists : List (Vec ItemId Z)
         (λ (apart : n ≡ g → ⊥). keeps (Group n) (kept.ready (Group n) (meets_before q.taken longer q.handled T takes n (λ i own there. apart (sym own ∙ own_group i there)) can)))
         (cases_eq n g)
 
-    taken_waits : (d : EventId) (n : Name) → IsHeldUp longer q.handled d n → Has t2 (Item d.at) ⊎ IsWaiting lists n d.at
+    taken_waits : (d : EventId) (n : Name) → IsHeldUp longer q.handled d n → Has t2 (Item d.at) ⊎ IsNoted longer q.handled lists d
     taken_waits d n held = ⊎_elim
         (λ (own : T d.at). inl (items d (named_there longer d n held.named) own))
         (λ (apart : T d.at → ⊥). ⊎_elim
         (λ (has : Has t (Item d.at)). inl (keeps (Item d.at) has))
-        (λ (waits : IsWaiting lists n d.at). inr waits)
+        (λ (noted : IsNoted q.taken q.handled lists d). inr (noted.0, held_behind q.taken longer q.handled T takes d noted.0 apart noted.1, noted.2))
         (kept.waits d n (held_before q.taken longer q.handled T takes d n apart held)))
         (decided d.at)
 

@@ -1,11 +1,12 @@
 -- An event that is held up is the next of its item.
-use Rattle.std.proofs.Common.{true, ◌≡◌, ◌<◌, ◌≤◌, ℕ, List, Some, None, refl, sym, ap, ◌∙◌, ⊎_elim, arith, option_and_then, eq-or-lt_of_le}
+use Rattle.std.proofs.Common.{Contains, subst, true, ◌≡◌, ◌<◌, ◌≤◌, ℕ, List, Some, None, refl, sym, ap, ◌∙◌, ⊎_elim, arith, eq-or-lt_of_le}
 use Rattle.std.proofs.lemmas.Bool.{cases_lt}
 use Rattle.gr_model.specs.declared.event.Event.{Event}
 use Rattle.gr_model.specs.declared.event.EventId.{EventId}
 use Rattle.gr_model.specs.declared.event.ItemId.{ItemId}
 use Rattle.gr_model.specs.declared.event.Name.{Name}
 use Rattle.gr_model.specs.Barriers.{is_barrier}
+use Rattle.gr_model.specs.Names.{names_at, names_of}
 use Rattle.gr_model.specs.Streams.{Streams, event_at, size_of}
 use Rattle.gr_steps.specs.Steps.{CanMeet}
 use Rattle.gr_order.proofs.MeetLemmas.{meets_next}
@@ -14,7 +15,7 @@ use Rattle.gr_model.proofs.Cuts.{same_event}
 use Rattle.gr_clocks.specs.Counts.{Counts, count_of}
 use Rattle.gr_steps.proofs.Orders.{number_before}
 use Rattle.gr_order.specs.States.{AreFirst}
-use Rattle.gr_agenda.specs.Kept.{IsHeldUp}
+use Rattle.gr_agenda.specs.Kept.{IsHeldUp, IsReleaseHandled}
 
 module _ (s : Streams) (handled : List EventId) (frontier : Counts) (first : AreFirst handled frontier) (d : EventId) (n : Name) (held : IsHeldUp s handled d n) where
   index_is : d.index ≡ count_of frontier d.at
@@ -31,17 +32,23 @@ module _ (s : Streams) (handled : List EventId) (frontier : Counts) (first : Are
           let there = (first p).0 (held.previous p (record { item = refl; next = m.1 })) in
           omega (arith, there, m.1)
 
-  pub next_named : (i : ItemId) (index : ℕ) → d.at ≡ i → index ≡ count_of frontier i → (x : Event) → event_at s (record { at = i; index = index }) ≡ Some x → x.name ≡ Some n
-  next_named i index item is x at =
-      let e : EventId = record { at = i; index = index } in
-      let same : d ≡ e = same_event d e item (index_is ∙ (ap (count_of frontier) item ∙ sym is)) in
-      sym (ap (option_and_then (λ (y : Event). y.name)) at) ∙ (ap (λ (f : EventId). option_and_then (λ (y : Event). y.name) (event_at s f)) (sym same) ∙ held.named)
+  module _ (i : ItemId) (item : d.at ≡ i) where
+    next_is : d ≡ record { at = i; index = count_of frontier i }
+    next_is = same_event d (record { at = i; index = count_of frontier i }) item (index_is ∙ ap (count_of frontier) item)
 
-  pub next_there : (i : ItemId) (index : ℕ) → d.at ≡ i → index ≡ count_of frontier i → event_at s (record { at = i; index = index }) ≡ None → ⊥
-  next_there i index item is none =
-      let e : EventId = record { at = i; index = index } in
-      let same : d ≡ e = same_event d e item (index_is ∙ (ap (count_of frontier) item ∙ sym is)) in
-      let clash : None ≡ Some n = sym (ap (option_and_then (λ (y : Event). y.name)) none) ∙ (ap (λ (f : EventId). option_and_then (λ (y : Event). y.name) (event_at s f)) (sym same) ∙ held.named) in cc
+    module _ (x : Event) (at : event_at s (record { at = i; index = count_of frontier i }) ≡ Some x) where
+      names_are : names_at s d ≡ x.names
+      names_are = ap (names_at s) next_is ∙ ap names_of at
+
+      pub next_named : Contains x.names n
+      next_named = subst (λ names. Contains names n) names_are held.named
+
+      -- and each of its names holds it up whose release was not handled
+      pub next_held : (m : Name) → Contains x.names m → ¬ IsReleaseHandled s handled m → IsHeldUp s handled d m
+      next_held m named free = record { named = subst (λ names. Contains names m) (sym names_are) named; fresh = held.fresh; previous = held.previous; free = free }
+
+    pub next_there : event_at s (record { at = i; index = count_of frontier i }) ≡ None → ⊥
+    next_there none = let within = subst (λ names. Contains names n) (ap (names_at s) next_is ∙ ap names_of none) held.named in omega (arith, within.1)
 
 -- where an instance of a group may meet, the next event of each of its items is a barrier
 module _ (s : Streams) (handled : List EventId) (frontier : Counts) (first : AreFirst handled frontier) (i : ItemId) (can : CanMeet s handled i.group) (lt : i.item < size_of s i.group) (index : ℕ) (is : index ≡ count_of frontier i) where

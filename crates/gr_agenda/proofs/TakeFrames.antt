@@ -1,5 +1,5 @@
 -- What a record that is taken changes: an item or a group that it does not touch can go on only as before.
-use Rattle.std.proofs.Common.{cond, is_some, length, option_and_then, slice_index, ◌+◌, ◌≡◌, ◌<◌, ℕ, List, [], ◌∷◌, ◌++◌, Bool, true, false, Some, None, Option, refl, sym, ap, ◌∙◌, subst, inl, inr, ⊎_elim, filter, filter_map, slice_get, arith, append-nil, true≢false}
+use Rattle.std.proofs.Common.{Contains, cond, is_some, length, slice_index, ◌+◌, ◌≡◌, ◌<◌, ℕ, List, [], ◌∷◌, ◌++◌, Bool, true, false, Some, None, Option, refl, sym, ap, ◌∙◌, subst, inl, inr, ⊎_elim, filter, filter_map, slice_get, arith, append-nil, true≢false}
 use Rattle.std.specs.Prelude.{not, ◌&&◌, ◌==◌}
 use Rattle.std.specs.List.{cons_option}
 use Rattle.std.proofs.lemmas.List.{get_or-set_same, get_or-set_other}
@@ -19,7 +19,7 @@ use Rattle.gr_model.specs.Barriers.{IsDivergent, StandsIn, arrivals, is_barrier,
 use Rattle.gr_model.specs.Events.{is_end}
 use Rattle.gr_model.specs.Instances.{Mark}
 use Rattle.gr_model.specs.LawfulOrders.{IsIn, IsLawful}
-use Rattle.gr_model.specs.Names.{HasName, MatchesBy, name_at}
+use Rattle.gr_model.specs.Names.{HasName, MatchesBy, names_of, release_place}
 use Rattle.gr_model.specs.Streams.{AreFronts, Grows, IsEvent, Streams, event_at, is_complete, is_of, list_of, place_of, places_from, size_of, trace_of}
 use Rattle.gr_model.specs.Waits.{for_release}
 use Rattle.gr_model.proofs.GrowthLaws.{convergent_grows, event_grows, stands_grows, stands_shrinks, trace_grows, waits_grows, word_grows}
@@ -47,8 +47,13 @@ module _ (s t : Streams) (grows : Grows s t) where
       let more = trace_grows s t grows e.at in
       places_from-within test (trace_of s e.at) more.0 k e.index (ap (λ l. slice_get (places_from test 0 l) k) (sym more.1) ∙ at) (slice_get_within (trace_of s e.at) e.index there.0 there.1)
 
-  name_grows : (e : EventId) → IsEvent s e → name_at t e ≡ name_at s e
-  name_grows e there = ap (option_and_then (λ (x : Event). x.name)) (event_grows s t grows e there.0 there.1 ∙ sym there.1)
+  name_grows : (e : EventId) (n : Name) → IsEvent s e → HasName s e n → HasName t e n
+  name_grows e n there named = subst (λ names. Contains names n) (ap names_of (there.1 ∙ sym (event_grows s t grows e there.0 there.1))) named
+
+  -- the release of a name is the one that it was, where it was there
+  release_was : (n : Name) (x : EventId) → IsEvent s x → x.at ≡ n.at → release_place t n ≡ Some x.index → release_place s n ≡ Some x.index
+  release_was n x there at place =
+      subst (λ i. place_of s is_release i n.release ≡ Some x.index) at (place_shrinks is_release x n.release there (subst (λ i. place_of t is_release i n.release ≡ Some x.index) (sym at) place))
 
 module _ (s t : Streams) (h : List EventId) (T : ItemId → Type 0) (takes : Takes s t h T) where
   handled_event : (x : EventId) → IsIn h x → IsEvent s x
@@ -58,21 +63,30 @@ module _ (s t : Streams) (h : List EventId) (T : ItemId → Type 0) (takes : Tak
   event_was d apart = ap (λ (l : List Event). slice_get l d.index) (takes.trace d.at apart)
 
   name_was : (d : EventId) → (T d.at → ⊥) → (n : Name) → HasName t d n → HasName s d n
-  name_was d apart n named = ap (option_and_then (λ (x : Event). x.name)) (sym (event_was d apart)) ∙ named
+  name_was d apart n named = subst (λ names. Contains names n) (ap names_of (event_was d apart)) named
 
   pub held_was : (d : EventId) (n : Name) → (T d.at → ⊥) → IsHeldUp t h d n → IsHeldUp s h d n
   held_was d n apart held = record {
     named = name_was d apart n held.named;
     fresh = held.fresh;
     previous = held.previous;
-    free = λ x at place was. held.free x at (place_grows s t takes.grows is_release n.at n.release x.index place) was;
+    free = λ there. held.free (there.0, there.1, place_grows s t takes.grows is_release n.at n.release there.0.index there.2, there.3);
+  }
+
+  -- an event is held up by each name by which it was
+  pub still_held : (d : EventId) (n : Name) → (T d.at → ⊥) → IsHeldUp s h d n → IsHeldUp t h d n
+  still_held d n apart held = record {
+    named = subst (λ names. Contains names n) (ap names_of (sym (event_was d apart))) held.named;
+    fresh = held.fresh;
+    previous = held.previous;
+    free = λ there. held.free (there.0, there.1, release_was s t takes.grows n there.0 (handled_event there.0 there.3) there.1 there.2, there.3);
   }
 
   matches_was : (n : Name) (d f : EventId) → IsEvent s d → IsEvent s f → HasName s d n → MatchesBy t n d f → MatchesBy s n d f
   matches_was n d f here there named m = record {
     named = named;
     item = m.item;
-    place = subst (λ i. place_of s is_release i n.release ≡ Some f.index) m.item (place_shrinks s t takes.grows is_release f n.release there (subst (λ i. place_of t is_release i n.release ≡ Some f.index) (sym m.item) m.place));
+    place = release_was s t takes.grows n f there m.item m.place;
     word = sym (word_grows s t takes.grows d here) ∙ (m.word ∙ word_grows s t takes.grows f there);
   }
 
@@ -82,7 +96,7 @@ module _ (s t : Streams) (h : List EventId) (T : ItemId → Type 0) (takes : Tak
         event = here;
         fresh = ready.fresh;
         release = λ n named.
-            let r = ready.release n (name_grows s t takes.grows d here ∙ named) in
+            let r = ready.release n (name_grows s t takes.grows d n here named) in
             (r.0, matches_was n d r.0 here (handled_event r.0 (ready.waits r.0 (for_release (record { name = n; by = r.1 })))) named r.1);
         waits = λ x w. ready.waits x (waits_grows s t takes.grows d x here w);
         instance = λ g k stands. takes.divergent d g k apart stands (ready.instance g k (stands_grows s t takes.grows d g k stands));

@@ -16,17 +16,25 @@ use Rattle.gr_order.specs.Sequences.{Sequence}
 use Rattle.gr_order.specs.States.{AreFirst}
 use Rattle.gr_agenda.specs.Lists.{Has, IsWaiting, Steps}
 
--- an event is the next of its item, and names a release that was not handled
+-- the release of this name was handled
+abbrev pub IsReleaseHandled : Streams → List EventId → Name → Type 0
+IsReleaseHandled s handled n = (x : EventId) × (x.at ≡ n.at) × (release_place s n ≡ Some x.index) × IsIn handled x
+
+-- an event is the next of its item, and has this name, whose release was not handled
 pub record IsHeldUp (s : Streams) (handled : List EventId) (d : EventId) (n : Name) : Type 0 where
   pub named : HasName s d n
   pub fresh : ¬ IsIn handled d
   pub previous : (p : EventId) → IsPrevious p d → IsIn handled p
-  pub free : (x : EventId) → x.at ≡ n.at → release_place s n ≡ Some x.index → ¬ IsIn handled x
+  pub free : ¬ IsReleaseHandled s handled n
 
--- each step that can be made stands in the list, and each item that is held up there or among those that wait for its release
+-- an event is held up by one of its names, and its item stands among those that wait for the release of that name
+abbrev pub IsNoted : {Z : Type 0} → Streams → List EventId → List (Vec ItemId Z) → EventId → Type 0
+IsNoted s handled lists d = (n : Name) × IsHeldUp s handled d n × IsWaiting lists n d.at
+
+-- each step that can be made stands in the list, and each item that is held up there or among those that wait for one of its releases
 pub record IsKept {Z : Type 0} (q : Sequence) (t : Steps) (lists : List (Vec ItemId Z)) : Type 0 where
   pub ready : (r : Ready) → CanMake q r → Has t r
-  pub waits : (d : EventId) (n : Name) → IsHeldUp q.taken q.handled d n → Has t (Item d.at) ⊎ IsWaiting lists n d.at
+  pub waits : (d : EventId) (n : Name) → IsHeldUp q.taken q.handled d n → Has t (Item d.at) ⊎ IsNoted q.taken q.handled lists d
 
 -- ---- instances that are known not to be divergent
 

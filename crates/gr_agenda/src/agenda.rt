@@ -1,10 +1,10 @@
 //! An order of events with the list of the steps that may have become ready.
 //!
 //! Invariant: each step that can be made stands in the list, or memory was too short for one; each item whose next event
-//! names a release that was not handled stands in the list or among those that wait for that release; and the instances that
+//! names releases that were not handled stands in the list or among those that wait for one of these; and the instances that
 //! are called calm are not divergent.
 
-ghost use Rattle.std.specs.Prelude.{◌≡◌, false, ◌↔◌, ◌<◌, ◌⊎◌, IfOk, IfErr, IfSome, OnOk, OnErr, IsTrue, MatchOption, Some, length, slice_get, ℕ};
+ghost use Rattle.std.specs.Prelude.{◌≡◌, false, ◌↔◌, ◌<◌, ◌⊎◌, IfOk, IfErr, IfSome, IsSomeAnd, OnOk, OnErr, IsTrue, MatchOption, All, Contains, Some, length, slice_get, ℕ};
 ghost use Rattle.gr_model.specs.declared.event.EventId.{EventId as AnyEvent};
 ghost use Rattle.gr_model.specs.declared.event.ItemId.{ItemId as AnyItem};
 ghost use Rattle.gr_model.specs.declared.event.Name.{Name as AnyName};
@@ -18,7 +18,7 @@ ghost use Rattle.gr_lanes.specs.Takes.{CanTake, IsEventButItem, IsTakeFault};
 ghost use Rattle.gr_steps.specs.Steps.{CanHandle, CanMeet, IsReady};
 ghost use Rattle.gr_order.specs.Answers.{CanMake};
 ghost use Rattle.gr_order.specs.Sequences.{HandlesEvent, IsDone, IsSequence, MeetsNext, nothing, taking};
-ghost use Rattle.gr_agenda.specs.Kept.{AreCalm, IsHeldUp, IsNextBarrier, IsUnsettled};
+ghost use Rattle.gr_agenda.specs.Kept.{AreCalm, IsHeldUp, IsNextBarrier, IsNoted, IsReleaseHandled, IsUnsettled};
 ghost use Rattle.gr_agenda.specs.Lists.{Has, IsWaiting, KeepsSteps};
 
 use crate::todo::Todo;
@@ -124,27 +124,51 @@ fn put_group<A: Allocator>(order: &Order<A>, todo: &mut Todo<A>, item: ItemId)
     }
 }
 
-/// The name that an item's next event has, if it has one.
+/// Whether the release of a name was handled.
+fn is_handled<A: Allocator>(order: &Order<A>, name: Name) -> bool
+    ensures { IsTrue result ↔ IsReleaseHandled order.now.taken order.now.handled name }
+{
+    let frontier = order.frontier();
+    match order.lanes().release_at(name) {
+        None => false,
+        Some(index) => frontier.covers(name.at, index),
+    }
+}
+
+/// The first of an event's names whose release was not handled, if there is one.
+fn first_free<A: Allocator>(order: &Order<A>, event: &Event) -> Option<Name>
+    ensures { MatchOption result (All (IsReleaseHandled order.now.taken order.now.handled) event.now.names) (λ n. Contains event.now.names n × ¬ IsReleaseHandled order.now.taken order.now.handled n) }
+{
+    let names = event.names.as_slice();
+    for name in names {
+        if !is_handled(order, *name) {
+            return Some(*name);
+        }
+    }
+    None
+}
+
+/// A name by which an item's next event is held up, if there is one.
 fn named_by<A: Allocator>(order: &Order<A>, item: ItemId) -> Option<Name>
-    ensures { (d : AnyEvent) (n : AnyName) → IsHeldUp order.now.taken order.now.handled d n → d.at ≡ item → result ≡ Some n }
+    ensures { (d : AnyEvent) (n : AnyName) → IsHeldUp order.now.taken order.now.handled d n → d.at ≡ item → IsSomeAnd result (IsHeldUp order.now.taken order.now.handled d) }
 {
     let _frontier = order.frontier();
     match order.waiting(item) {
         None => None,
-        Some(event) => event.name,
+        Some(event) => first_free(order, &event),
     }
 }
 
 /// Notes for which release an item waits, where its next event is not ready.
 ///
 /// # Errors
-/// `Memory`.
+/// `Memory`: out of memory.
 fn note<A: Allocator>(
     order: &Order<A>,
     lists: &mut Vec<Vec<ItemId, A>, A>,
     step: Ready,
 ) -> Result<(), Memory>
-    ensures noted { OnOk result ((d : AnyEvent) (n : AnyName) → IsHeldUp order.now.taken order.now.handled d n → Item d.at ≡ step → IsWaiting lists.new.items n d.at) }
+    ensures noted { OnOk result ((d : AnyEvent) (n : AnyName) → IsHeldUp order.now.taken order.now.handled d n → Item d.at ≡ step → IsNoted order.now.taken order.now.handled lists.new.items d) }
     ensures keeps { (n : AnyName) (i : AnyItem) → IsWaiting lists.old.items n i → IsWaiting lists.new.items n i }
 {
     match step {
@@ -217,7 +241,7 @@ impl<A: Allocator + Copy> Agenda<A> {
     /// The agenda of a launch of this shape, of which nothing was taken.
     ///
     /// # Errors
-    /// `Memory`.
+    /// `Memory`: out of memory.
     pub fn new(alloc: A, shape: Shape<A>) -> Result<Agenda<A>, Memory>
         ensures { IfOk result (λ a. a ≡ nothing shape) }
     {

@@ -26,7 +26,7 @@ fn bucket_of(named: Name) -> usize
 /// An item waits for the release of this name.
 ///
 /// # Errors
-/// `Memory`.
+/// `Memory`: out of memory.
 pub(crate) fn wait<A: Allocator>(
     lists: &mut Vec<Vec<ItemId, A>, A>,
     named: Name,

@@ -1,5 +1,5 @@
 -- What a barrier sees whose instance meets; and what its item, its group, and the others, know then.
-use Rattle.std.proofs.Common.{◌≡◌, ◌≢◌, ◌⊎◌, ◌↔◌, ℕ, ◌<◌, List, Some, IsTrue, IsFalse, refl, sym, ap, ◌∙◌, subst, inl, inr, ⊎_elim, option_and_then, true≢false}
+use Rattle.std.proofs.Common.{◌≡◌, ◌≢◌, ◌⊎◌, ◌↔◌, ℕ, ◌<◌, List, Some, IsTrue, IsFalse, refl, sym, ap, ◌∙◌, subst, inl, inr, ⊎_elim, Contains, true≢false}
 use Rattle.gr_model.specs.declared.event.EventId.{EventId}
 use Rattle.gr_model.specs.declared.event.ItemId.{ItemId}
 use Rattle.gr_model.specs.declared.event.Space.{Space}
@@ -7,6 +7,7 @@ use Rattle.gr_model.specs.Barriers.{IsConvergent, StandsIn, Together}
 use Rattle.gr_model.specs.Counts.{IsSeen}
 use Rattle.gr_model.specs.Instances.{Mark, flags}
 use Rattle.gr_model.specs.LawfulOrders.{IsIn, IsLawful}
+use Rattle.gr_model.specs.Names.{names_of}
 use Rattle.gr_model.specs.Streams.{AreFronts, IsEvent, Streams, size_of}
 use Rattle.gr_steps.specs.Steps.{Meets}
 use Rattle.gr_steps.proofs.BarrierPlaces.{barrier_of, barrier_there, moved, same_instance, stands_same}
@@ -24,7 +25,7 @@ module _ (s : Streams) (m : Space) (old new : List EventId) (g k : ℕ) (fronts 
   learns_nothing : (b d : EventId) → StandsIn s b g k → Learns s m b d → ⊥
   learns_nothing b d stands l =
       let there = barrier_there s b g k stands in
-      barriers_name_nothing s fronts b there.0 l.matches.name there.1 there.2 (sym (ap (option_and_then (λ y. y.name)) there.1) ∙ l.matches.by.named)
+      barriers_name_nothing s fronts b there.0 l.matches.name there.1 there.2 (subst (λ names. Contains names l.matches.name) (ap names_of there.1) l.matches.by.named)
 
   pub met_sees : (b d : EventId) → StandsIn s b g k → IsSeen s m b d ↔ ((d ≡ b) ⊎ Knows s m old b.at d)
   met_sees b d stands =

@@ -1,20 +1,23 @@
 -- The unmatched acquires, found one after the other.
-use Rattle.std.proofs.Common.{◌≡◌, ◌≢◌, ◌⊎◌, ℕ, ◌+◌, ◌<◌, ◌≤◌, List, [], ◌∷◌, ◌++◌, length, Some, None, refl, sym, ap, ◌∙◌, subst, inl, inr, ⊎_elim, arith, eq-or-lt_of_le, option_and_then}
+use Rattle.std.proofs.Common.{◌≡◌, ◌≢◌, ◌⊎◌, ℕ, ◌+◌, ◌<◌, ◌≤◌, List, [], ◌∷◌, ◌++◌, length, Some, None, refl, sym, ap, ◌∙◌, subst, inl, inr, ⊎_elim, arith, eq-or-lt_of_le, Any, Contains, Option, get_or}
 use Rattle.std.proofs.lemmas.Bool.{cases_eq, cases_lt}
+use Rattle.std.proofs.lemmas.List.Elements.{Contains-get_or}
 use Rattle.gr_model.specs.declared.event.Event.{Event}
 use Rattle.gr_model.specs.declared.event.EventId.{EventId}
 use Rattle.gr_model.specs.declared.event.ItemId.{ItemId}
 use Rattle.gr_model.specs.declared.event.Name.{Name}
+use Rattle.gr_model.specs.declared.event.Word.{Word}
 use Rattle.gr_model.specs.declared.report.AcquireCause.{AcquireCause}
 use Rattle.gr_model.specs.declared.report.AcquireCause.TheVariants.{Absent, Behind, OtherWord}
 use Rattle.gr_model.specs.declared.report.Unmatched.{Unmatched}
-use Rattle.gr_model.specs.Names.{HasAcquireCause, HasName, IsAbsent, IsOfItsWord, IsOfOtherWord}
+use Rattle.gr_model.specs.Names.{HasAcquireCause, HasName, IsAbsent, IsOfItsWord, IsOfOtherWord, names_at, names_of, release_place}
 use Rattle.gr_model.specs.Reports.{IsUnmatched, IsUnmatchedAcquire, Lists, UnmatchedBelow}
 use Rattle.gr_model.specs.Streams.{AreFronts, Streams, event_at, size_of, word_at}
 use Rattle.gr_model.proofs.Cuts.{same_event}
 use Rattle.gr_clocks.specs.Counts.{Counts, count_of}
-use Rattle.gr_findings.specs.Acquires.{AreUnmatchedBefore, IsGroundedFront, IsItemBefore}
+use Rattle.gr_findings.specs.Acquires.{AreUnmatchedBefore, IsElsewhere, IsGroundedFront, IsItemBefore}
 use Rattle.gr_findings.proofs.Lists.{listed_push, listed_same, none_listed}
+use Rattle.gr_steps.proofs.Deciding.{by_cases, option_dec, word_dec}
 use Rattle.gr_steps.proofs.EventRecords.{group_of_event, item_of_event}
 
 -- ---- causes
@@ -38,6 +41,21 @@ module _ (s : Streams) (f : EventId) where
   one_cause Behind Absent p q = absurd (there q.0 (p q.0 q.1) q.2)
   one_cause Behind OtherWord p q = absurd (one_word q.1.0 (p q.1.0 q.1.1) q.1.2)
   one_cause Behind Behind p q = refl
+
+-- where no name of an acquire has no release, and none a release of another word, each has one of its word
+module _ (s : Streams) (f : EventId) (names : List Name) (word : Option Word) (names_are : names ≡ names_at s f) (word_is : word ≡ word_at s f) where
+  had : (n : Name) → HasName s f n → Contains names n
+  had n named = subst (λ xs. Contains xs n) (sym names_are) named
+
+  none_absent : (Any (IsAbsent s) names → ⊥) → (n : Name) → HasName s f n → ¬ IsAbsent s n
+  none_absent none n named absent = let there = had n named in none (there.0, n, there.1, there.2, absent)
+
+  pub cause_behind : (Any (IsAbsent s) names → ⊥) → (Any (IsElsewhere s word) names → ⊥) → HasAcquireCause s f Behind
+  cause_behind none same n named =
+      elim (release_place s n) as (λ o. (release_place s n ≡ o) → IsOfItsWord s f n) [
+        | None ↦ λ absent. absurd (none_absent none n named absent)
+        | Some k ↦ λ at. by_cases (option_dec word_dec (word_at s (record { at = n.at; index = k })) (word_at s f)) (λ its. (k, at, its)) (λ other. let there = had n named in absurd (same (there.0, n, there.1, there.2, subst (λ w. IsElsewhere s w n) (sym word_is) (k, at, other))))
+      ] refl
 
 -- ---- one item
 
@@ -83,32 +101,26 @@ module _ (s : Streams) (frontier : Counts) (front : IsGroundedFront s frontier) 
       cc
 
   module _ (x : Event) (at_next : event_at s next ≡ Some x) where
-    name_is : (n : Name) → HasName s next n → x.name ≡ Some n
-    name_is n has = sym (ap (option_and_then (λ (y : Event). y.name)) at_next) ∙ has
+    pub names_are : names_at s next ≡ x.names
+    names_are = ap names_of at_next
 
-    pub none_named : x.name ≡ None → (u : Unmatched) → IsUnmatchedAcquire s u → u.event.at ≢ item
+    pub none_named : length x.names ≡ 0 → (u : Unmatched) → IsUnmatchedAcquire s u → u.event.at ≢ item
     none_named none u unmatched at =
-        let named = unmatched.unmatched.named in
-        let name = unmatched.unmatched.name in
-        let same = only_next u.event unmatched.unmatched at in
-        let clash : None ≡ Some name = sym none ∙ name_is name (subst (λ e. HasName s e name) same named) in
-        cc
+        let named : HasName s next unmatched.unmatched.name = subst (λ e. HasName s e unmatched.unmatched.name) (only_next u.event unmatched.unmatched at) unmatched.unmatched.named in
+        let there = subst (λ xs. Contains xs unmatched.unmatched.name) names_are named in
+        omega (arith, there.1)
 
-    module _ (n : Name) (named : x.name ≡ Some n) where
-      pub names : HasName s next n
-      names = ap (option_and_then (λ (y : Event). y.name)) at_next ∙ named
-
-      pub this_is : (c : AcquireCause) → HasAcquireCause s next c → IsUnmatchedAcquire s (record { event = next; cause = c })
-      this_is c cause = record {
-        unmatched = record {
-          event = (x, at_next);
-          name = n;
-          named = names;
-          held = λ grounded. let lt : index < count_of frontier item = (front next).0 grounded in omega arith;
-          before = λ d at lt. let count : count_of frontier d.at ≡ index = ap (count_of frontier) at ∙ sym is in (front d).1 (omega arith);
-        };
-        cause = cause;
-      }
+    pub this_is : 0 < length x.names → (c : AcquireCause) → HasAcquireCause s next c → IsUnmatchedAcquire s (record { event = next; cause = c })
+    this_is some c cause = record {
+      unmatched = record {
+        event = (x, at_next);
+        name = get_or x.names 0 (record { at = item; release = 0 });
+        named = subst (λ xs. Contains xs (get_or x.names 0 (record { at = item; release = 0 }))) (sym names_are) (Contains-get_or x.names 0 (record { at = item; release = 0 }) some);
+        held = λ grounded. let lt : index < count_of frontier item = (front next).0 grounded in omega arith;
+        before = λ d at lt. let count : count_of frontier d.at ≡ index = ap (count_of frontier) at ∙ sym is in (front d).1 (omega arith);
+      };
+      cause = cause;
+    }
 
 -- ---- the list
 

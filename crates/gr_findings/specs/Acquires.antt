@@ -1,16 +1,23 @@
 -- Which acquires are found unmatched, where the grounded events of each item are known by their number.
-use Rattle.std.specs.Prelude.{◌≡◌, ◌⊎◌, ◌↔◌, ℕ, ◌<◌, List}
+use Rattle.std.specs.Prelude.{◌≡◌, ◌≢◌, ◌⊎◌, ◌↔◌, ℕ, ◌<◌, List, Option, Some}
 use Rattle.gr_model.specs.declared.event.EventId.{EventId}
 use Rattle.gr_model.specs.declared.event.ItemId.{ItemId}
+use Rattle.gr_model.specs.declared.event.Name.{Name}
+use Rattle.gr_model.specs.declared.event.Word.{Word}
 use Rattle.gr_model.specs.declared.report.Unmatched.{Unmatched}
+use Rattle.gr_model.specs.Names.{release_place}
 use Rattle.gr_model.specs.Reports.{IsUnmatchedAcquire, Lists, UnmatchedBelow}
-use Rattle.gr_model.specs.Streams.{Streams}
+use Rattle.gr_model.specs.Streams.{Streams, word_at}
 use Rattle.gr_model.specs.Waits.{IsGrounded}
 use Rattle.gr_clocks.specs.Counts.{Counts, count_of}
 
 -- the grounded events of each item are its first ones, as many as the clock counts
 abbrev pub IsGroundedFront : Streams → Counts → Type 0
 IsGroundedFront s frontier = (e : EventId) → IsGrounded s e ↔ (e.index < count_of frontier e.at)
+
+-- the release of this name is there, with another word than this
+abbrev pub IsElsewhere : Streams → Option Word → Name → Type 0
+IsElsewhere s word n = (k : ℕ) × (release_place s n ≡ Some k) × (word_at s (record { at = n.at; index = k }) ≢ word)
 
 -- ---- a list in the making
 

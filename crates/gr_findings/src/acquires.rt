@@ -3,13 +3,13 @@
 //! The events of each item that were handled are its first ones. Once they are the grounded ones, the only event of an item
 //! that can be unmatched is the next.
 
-ghost use Rattle.std.specs.Prelude.{◌≡◌, ◌≢◌, ◌<◌, ◌+◌, IfOk, MatchOption, OnOk, Some, length};
+ghost use Rattle.std.specs.Prelude.{◌≡◌, ◌≢◌, ◌↔◌, ◌<◌, ◌+◌, Any, IfOk, IsTrue, MatchOption, OnOk, Some, length};
 ghost use Rattle.gr_model.specs.declared.report.Unmatched.{Unmatched as Finding};
-ghost use Rattle.gr_model.specs.Names.{HasAcquireCause, HasName, release_place};
+ghost use Rattle.gr_model.specs.Names.{HasAcquireCause, IsAbsent, names_at, release_place};
 ghost use Rattle.gr_model.specs.Streams.{word_at};
 ghost use Rattle.gr_model.specs.Reports.{IsUnmatchedAcquire, Lists, UnmatchedBelow};
 ghost use Rattle.gr_windows.specs.Windows.{AreWaiting};
-ghost use Rattle.gr_findings.specs.Acquires.{AreUnmatchedBefore, IsGroundedFront};
+ghost use Rattle.gr_findings.specs.Acquires.{AreUnmatchedBefore, IsElsewhere, IsGroundedFront};
 
 use gr_clocks::tally::Tally;
 use gr_lanes::lanes::Lanes;
@@ -27,26 +27,54 @@ fn release_word<B: Allocator>(lanes: &Lanes<B>, name: Name, index: u32) -> Optio
     lanes.release_word(name)
 }
 
-/// Why an acquire of this name that is never reached is unmatched.
+/// Whether there is no release of this name.
+fn is_absent<B: Allocator>(lanes: &Lanes<B>, name: Name) -> bool
+    ensures { IsTrue result ↔ IsAbsent lanes.now name }
+{
+    lanes.release_at(name).is_none()
+}
+
+/// Whether the release of this name is there, with another word than this.
+fn is_elsewhere<B: Allocator>(lanes: &Lanes<B>, name: Name, word: Option<Word>) -> bool
+    ensures { IsTrue result ↔ IsElsewhere lanes.now word name }
+{
+    match lanes.release_at(name) {
+        None => false,
+        Some(index) => release_word(lanes, name, index) != word,
+    }
+}
+
+/// Whether there is no release of one of these names.
+fn has_absent<B: Allocator>(lanes: &Lanes<B>, names: &[Name]) -> bool
+    ensures { IsTrue result ↔ Any (IsAbsent lanes.now) names.now }
+{
+    names.iter().any(|name| is_absent(lanes, *name))
+}
+
+/// Whether the release of one of these names is there, with another word than this.
+fn has_elsewhere<B: Allocator>(lanes: &Lanes<B>, names: &[Name], word: Option<Word>) -> bool
+    ensures { IsTrue result ↔ Any (IsElsewhere lanes.now word) names.now }
+{
+    names.iter().any(|name| is_elsewhere(lanes, *name, word))
+}
+
+/// Why an acquire of these names that is never reached is unmatched.
 fn cause<B: Allocator>(
     lanes: &Lanes<B>,
     acquire: EventId,
-    name: Name,
+    names: &[Name],
     word: Option<Word>,
 ) -> AcquireCause
-    requires name { HasName lanes.now acquire name }
+    requires names { names.now ≡ names_at lanes.now acquire }
     requires word { word ≡ word_at lanes.now acquire }
     ensures { HasAcquireCause lanes.now acquire result }
 {
-    match lanes.release_at(name) {
-        None => AcquireCause::Absent,
-        Some(index) => {
-            if release_word(lanes, name, index) == word {
-                AcquireCause::Behind
-            } else {
-                AcquireCause::OtherWord
-            }
-        }
+    if has_absent(lanes, names) {
+        AcquireCause::Absent
+    } else if has_elsewhere(lanes, names, word) {
+        AcquireCause::OtherWord
+    } else {
+        AcquireCause::Behind
     }
 }
 
@@ -66,10 +94,13 @@ fn unmatched_of<B: Allocator>(
         index: frontier.get(item),
     };
     let taken = windows.waiting(item, 0)?;
-    let name = taken.name?;
+    let names = taken.names.as_slice();
+    if names.is_empty() {
+        return None;
+    }
     Some(Unmatched {
         event,
-        cause: cause(lanes, event, name, word_of(item.group, &taken)),
+        cause: cause(lanes, event, names, word_of(item.group, &taken)),
     })
 }
 
@@ -99,7 +130,7 @@ fn add_group<A: Allocator, B: Allocator>(
 /// as many as the frontier counts, and the others wait.
 ///
 /// # Errors
-/// `Memory`.
+/// `Memory`: out of memory.
 pub fn unmatched<A: Allocator, B: Allocator>(
     alloc: A,
     lanes: &Lanes<B>,

@@ -10,7 +10,7 @@ use std::alloc::Allocator;
 /// The groups whose streams were cut, ascending.
 ///
 /// # Errors
-/// `Memory`.
+/// `Memory`: out of memory.
 pub fn cut<A: Allocator, B: Allocator>(alloc: A, lanes: &Lanes<B>) -> Result<Vec<u16, A>, Memory>
     ensures { IfOk result (λ v. Lists (λ (g h : ℕ). g < h) (IsCut lanes.now) v.items) }
 {

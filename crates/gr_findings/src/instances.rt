@@ -125,7 +125,7 @@ fn add_group<A: Allocator, B: Allocator>(
 /// The divergent instances with their causes, by group and then by instance.
 ///
 /// # Errors
-/// `Memory`.
+/// `Memory`: out of memory.
 pub fn divergences<A: Allocator, B: Allocator>(
     alloc: A,
     lanes: &Lanes<B>,

@@ -17,7 +17,7 @@ with_record s g x = record { sizes = s.sizes; lists = slice_set s.lists g (list_
 
 -- a record that some group may have, whatever its item
 abbrev pub IsEventButItem : Event → Type 0
-IsEventButItem x = IsNamingOk x.kind x.name × IsKindOk x.kind x.item x.space x.word
+IsEventButItem x = IsNamingOk x.kind x.names × IsKindOk x.kind x.item x.space x.word
 
 -- a record of a group may be taken
 pub record CanTake (s : Streams) (g : ℕ) (x : Event) : Type 0 where

@@ -51,7 +51,7 @@ fn is_cut(event: &Event) -> bool
 /// Adds the group's next record to the lane of its item; an end is no item's event.
 ///
 /// # Errors
-/// `Memory`. The lanes are then as they were.
+/// `Memory`: out of memory. The lanes are then as they were.
 fn index<A: Allocator>(lanes: &mut [Lane<A>], event: &Event) -> Result<(), Memory>
     requires item { event.now.item < length lanes.old }
     requires few { (slice_index_or lanes.old event.now.item no_index).count < 4_294_967_295 }
@@ -61,14 +61,14 @@ fn index<A: Allocator>(lanes: &mut [Lane<A>], event: &Event) -> Result<(), Memor
     if event.kind.is_end() {
         return Ok(());
     }
-    lanes[usize::from(event.item)].add(*event, is_release(event), is_barrier(event))
+    lanes[usize::from(event.item)].add(event, is_release(event), is_barrier(event))
 }
 
 impl<A: Allocator + Copy> Group<A> {
     /// A group of so many items of which nothing was taken.
     ///
     /// # Errors
-    /// `Memory`.
+    /// `Memory`: out of memory.
     pub(crate) fn new(alloc: A, items: u16) -> Result<Group<A>, Memory>
         ensures { IfOk result (λ g. g ≡ record { size = items; list = [] }) }
     {
@@ -184,7 +184,7 @@ impl<A: Allocator> Group<A> {
     /// Takes the group's next record.
     ///
     /// # Errors
-    /// `Memory`. The group is then as it was.
+    /// `Memory`: out of memory. The group is then as it was.
     pub(crate) fn take(&mut self, event: Event) -> Result<(), Memory>
         requires good { IsEventOk event self.old.size }
         requires before_end { ¬ IsTrue (is_complete self.old.list) }

@@ -107,10 +107,10 @@ impl<A: Allocator> Lane<A> {
     /// Adds the item's next event.
     ///
     /// # Errors
-    /// `Memory`. The lane is then as it was.
-    pub(crate) fn add(&mut self, event: Event, release: bool, barrier: bool) -> Result<(), Memory>
+    /// `Memory`: out of memory. The lane is then as it was.
+    pub(crate) fn add(&mut self, event: &Event, release: bool, barrier: bool) -> Result<(), Memory>
         requires { self.old.count < 4_294_967_295 }
-        ensures ok { OnOk result (self.new ≡ with_event self.old event release barrier) }
+        ensures ok { OnOk result (self.new ≡ with_event self.old event.now release barrier) }
         ensures err { OnErr result (self.new ≡ self.old) }
     {
         self.releases.reserve(usize::from(release))?;
@@ -121,11 +121,11 @@ impl<A: Allocator> Lane<A> {
         self.count += 1;
         if release {
             self.releases.push_reserved(index);
-            self.released.push_reserved(event);
+            self.released.push_reserved(*event);
         }
         if barrier {
             self.barriers.push_reserved(index);
-            self.arrived.push_reserved(event);
+            self.arrived.push_reserved(*event);
         }
         Ok(())
     }

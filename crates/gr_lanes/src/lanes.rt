@@ -45,7 +45,7 @@ impl<A: Allocator + Copy> Lanes<A> {
     /// The groups of a shape, of which nothing was taken.
     ///
     /// # Errors
-    /// `Memory`.
+    /// `Memory`: out of memory.
     pub fn new(alloc: A, shape: Shape<A>) -> Result<Lanes<A>, Memory>
         ensures nothing { IfOk result (λ l. l ≡ nothing_taken shape) }
         ensures fronts { IfOk result (λ l. AreFronts l) }

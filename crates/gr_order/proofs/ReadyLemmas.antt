@@ -1,12 +1,13 @@
 -- Instances and releases, by what is looked at.
-use Rattle.std.proofs.Common.{◌≡◌, ℕ, ◌<◌, true, List, Some, None, slice_get, is_some, refl, sym, ap, ◌∙◌, subst, arith, option_and_then}
+use Rattle.std.proofs.Common.{Contains, ◌≡◌, ℕ, ◌<◌, true, List, Some, None, slice_get, is_some, refl, sym, ap, ◌∙◌, subst, arith, option_and_then}
+use Rattle.std.proofs.lemmas.List.Elements.{All-contains, All-contains_itself, All-weaker}
 use Rattle.gr_model.specs.declared.event.Event.{Event}
 use Rattle.gr_model.specs.Barriers.{IsDivergent, StandsIn, is_barrier, mark_of}
 use Rattle.gr_model.specs.declared.event.ItemId.{ItemId}
 use Rattle.gr_model.specs.declared.event.Name.{Name}
 use Rattle.gr_model.specs.Access.{event_word}
 use Rattle.gr_model.specs.LawfulOrders.{IsLawful}
-use Rattle.gr_model.specs.Names.{HasName, release_place}
+use Rattle.gr_model.specs.Names.{HasName, names_of, release_place}
 use Rattle.gr_model.specs.Streams.{AreFronts, Streams, event_at, place_of, trace_of, word_at}
 use Rattle.gr_model.specs.declared.event.EventId.{EventId}
 use Rattle.gr_model.proofs.Cuts.{same_event}
@@ -73,22 +74,23 @@ module _ (s : Streams) (order : List EventId) (lawful : IsLawful s order) (front
   none_next none can = let there = (only_next can).event in let clash : None ≡ Some there.0 = sym none ∙ there.1 in cc
 
   module _ (x : Event) (at : event_at s e ≡ Some x) where
-    named : (n : Name) → HasName s e n → x.name ≡ Some n
-    named n has = sym (ap (option_and_then (λ (y : Event). y.name)) at) ∙ has
+    named : (n : Name) → HasName s e n → Contains x.names n
+    named n has = subst (λ names. Contains names n) (ap names_of at) has
 
-    names : (n : Name) → x.name ≡ Some n → HasName s e n
-    names n is = ap (option_and_then (λ (y : Event). y.name)) at ∙ is
+    names : (n : Name) → Contains x.names n → HasName s e n
+    names n is = subst (λ names. Contains names n) (sym (ap names_of at)) is
 
     word : word_at s e ≡ event_word e.at.group x
     word = ap (option_and_then (event_word e.at.group)) at
 
     pub ready_if : AreReleased s frontier e.at.group x → MayPass s e → IsReady s order e
     ready_if released pass = next_is_ready s order lawful counts first_ones e (x, at) next
-        (λ n has. let r = released n (named n has) in (r.release, record { named = has; item = r.item; place = r.place; word = word ∙ r.word }, r.handled)) pass
+        (λ n has. let r = All-contains (IsReleased s frontier e.at.group x) x.names n released (named n has) in (r.release, record { named = has; item = r.item; place = r.place; word = word ∙ r.word }, r.handled)) pass
 
     pub ready_only : IsReady s order e → AreReleased s frontier e.at.group x × MayPass s e
     ready_only ready = (
-      λ n is. let r = ready_release s order lawful counts first_ones e ready n (names n is) in record { release = r.0; item = r.1.item; place = r.1.place; word = sym word ∙ r.1.word; handled = r.2 },
+      All-weaker (Contains x.names) (IsReleased s frontier e.at.group x)
+          (λ n is. let r = ready_release s order lawful counts first_ones e ready n (names n is) in record { release = r.0; item = r.1.item; place = r.1.place; word = sym word ∙ r.1.word; handled = r.2 }) x.names (All-contains_itself x.names),
       ready.instance,
     )
 

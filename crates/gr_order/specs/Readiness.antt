@@ -1,5 +1,5 @@
 -- What is looked at to tell whether an item's next event may be handled.
-use Rattle.std.specs.Prelude.{◌≡◌, ℕ, ◌<◌, Option, Some}
+use Rattle.std.specs.Prelude.{◌≡◌, ℕ, ◌<◌, All, Option, Some}
 use Rattle.gr_model.specs.declared.event.Event.{Event}
 use Rattle.gr_model.specs.declared.event.EventId.{EventId}
 use Rattle.gr_model.specs.declared.event.Name.{Name}
@@ -39,4 +39,4 @@ pub record IsReleased (s : Streams) (frontier : Counts) (group : ℕ) (x : Event
 
 -- so is the release of each name that it has
 abbrev pub AreReleased : Streams → Counts → ℕ → Event → Type 0
-AreReleased s frontier group x = (n : Name) → x.name ≡ Some n → IsReleased s frontier group x n
+AreReleased s frontier group x = All (IsReleased s frontier group x) x.names

@@ -2,7 +2,7 @@
 //!
 //! Invariant: the order is lawful, and the handled events of each item are its first ones. How many they are is counted by
 //! a tally, the frontier. Of each item the other events are kept, from the first that was not handled on, and no longer. The
-//! order itself exists in proofs alone: no memory holds it, and no step wants for any.
+//! order itself exists in proofs alone: no memory holds it, and no step needs any.
 
 ghost use Rattle.std.specs.Prelude.{◌≡◌, ◌+◌, ◌<◌, IsOkUnless, IfOk, IfErr, OnOk, MatchOption, OnErr, length, IsTrue, not, ◌↔◌};
 ghost use Rattle.gr_model.specs.declared.limits.TheConstants.{MOST_RECORDS};
@@ -69,7 +69,7 @@ impl<A: Allocator + Copy> Order<A> {
     /// The order of a launch of this shape, of which nothing was taken.
     ///
     /// # Errors
-    /// `Memory`.
+    /// `Memory`: out of memory.
     pub fn new(alloc: A, shape: Shape<A>) -> Result<Order<A>, Memory>
         ensures { IfOk result (λ o. o ≡ nothing shape) }
     {

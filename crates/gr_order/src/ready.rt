@@ -1,4 +1,4 @@
-//! What is looked at to tell whether an item's next event may be handled: the instance of a barrier, and the release that
+//! What is looked at to tell whether an item's next event may be handled: the instance of a barrier, and the releases that
 //! an acquire names.
 
 ghost use Rattle.std.specs.Prelude.{◌≡◌, ◌↔◌, ◌<◌, true, IsTrue, MatchOption, Some, is_some, length, ℕ};
@@ -41,8 +41,8 @@ fn is_released<A: Allocator>(
     }
 }
 
-/// Whether the release that an event of a group names, if it names one, was handled and has its word.
-fn has_its_release<A: Allocator>(
+/// Whether each release that an event of a group names was handled and has its word.
+fn has_its_releases<A: Allocator>(
     lanes: &Lanes<A>,
     frontier: &Tally<A>,
     group: u16,
@@ -50,10 +50,10 @@ fn has_its_release<A: Allocator>(
 ) -> bool
     ensures { IsTrue result ↔ AreReleased lanes.now frontier.now group acquire.now }
 {
-    match acquire.name {
-        None => true,
-        Some(name) => is_released(lanes, frontier, group, acquire, name),
-    }
+    let names = acquire.names.as_slice();
+    names
+        .iter()
+        .all(|name| is_released(lanes, frontier, group, acquire, *name))
 }
 
 /// Whether an event that was taken is no barrier, or one of a divergent instance.
@@ -82,7 +82,7 @@ pub(crate) fn is_ready<A: Allocator>(
     requires fronts { model.AreFronts lanes.now }
     ensures { IsTrue result ↔ (AreReleased lanes.now frontier.now event.at.group taken.now × MayPass lanes.now event) }
 {
-    has_its_release(lanes, frontier, event.at.group, taken) && may_pass(lanes, event, taken)
+    has_its_releases(lanes, frontier, event.at.group, taken) && may_pass(lanes, event, taken)
 }
 
 /// Whether an item came to an instance with the mark of a barrier.

@@ -14,7 +14,7 @@ use std::alloc::Allocator;
 /// Keeps a record of a group behind those of its item; an end is no item's event.
 ///
 /// # Errors
-/// `Memory`. Nothing is then kept.
+/// `Memory`: out of memory. Nothing is then kept.
 pub(crate) fn keep<A: Allocator>(
     windows: &mut Windows<A>,
     group: u16,

@@ -7,14 +7,14 @@ use Rattle.gr_model.specs.declared.event.ItemId.{ItemId}
 use Rattle.gr_model.specs.declared.event.Name.{Name}
 use Rattle.gr_model.specs.Barriers.{IsConvergent, IsDivergent, StandsIn, Together, arrivals, is_barrier, mark_of}
 use Rattle.gr_model.specs.Instances.{Mark}
-use Rattle.gr_model.specs.Names.{HasItsReleases, HasName, Matches, MatchesBy, name_at, release_place}
+use Rattle.gr_model.specs.Names.{HasItsReleases, HasName, Matches, MatchesBy, names_at, release_place}
 use Rattle.gr_model.specs.Streams.{AreComplete, Streams, place_of, size_of, trace_of, word_at}
 use Rattle.gr_model.specs.Waits.{IsPrevious, Waits, for_arrival, for_meeting, for_previous, for_release}
 use Rattle.gr_model.proofs.GrowthLaws.{not_both}
 use Rattle.gr_model.proofs.Places.{place-filter_map}
 use Rattle.gr_model.proofs.Cuts.{same_event}
 use Rattle.gr_steps.proofs.BarrierPlaces.{barrier_of, moved, same_instance, standing, stands_same}
-use Rattle.gr_steps.proofs.Deciding.{IsLeastWithout, all_below, dec_map, mark_dec, option_dec, word_dec}
+use Rattle.gr_steps.proofs.Deciding.{IsLeastWithout, all_below, all_dec, dec_map, mark_dec, option_dec, word_dec}
 use Rattle.gr_steps.proofs.EventRecords.{one_release}
 use Rattle.gr_steps.proofs.Orders.{number_before}
 
@@ -48,26 +48,24 @@ settled s complete e g k stands =
 
 -- ---- releases
 
-pub releases_dec : (s : Streams) (e : EventId) → Dec (HasItsReleases s e)
-releases_dec s e =
-    elim (name_at s e) as (λ o. (name_at s e ≡ o) → Dec (HasItsReleases s e)) [
-      | None ↦ λ none. yes (λ n named. absurd (let c : None ≡ Some n = sym none ∙ named in cc))
-      | Some n ↦ λ named. elim (release_place s n) as (λ o. (release_place s n ≡ o) → Dec (HasItsReleases s e)) [
-        | None ↦ λ absent. no (λ all. let r = all n named in let c : None ≡ Some r.0.index = sym absent ∙ r.1.place in cc)
-        | Some k ↦ λ at. dec_map (has n named k at) (had n named k at) (option_dec word_dec (word_at s e) (word_at s (record { at = n.at; index = k })))
-      ] refl
+-- whether an event has the release of one of its names
+release_of_name_dec : (s : Streams) (e : EventId) (n : Name) → HasName s e n → Dec ((d : EventId) × MatchesBy s n e d)
+release_of_name_dec s e n named =
+    elim (release_place s n) as (λ o. (release_place s n ≡ o) → Dec ((d : EventId) × MatchesBy s n e d)) [
+      | None ↦ λ absent. no (λ r. let c : None ≡ Some r.0.index = sym absent ∙ r.1.place in cc)
+      | Some k ↦ λ at. dec_map (has k at) (had k at) (option_dec word_dec (word_at s e) (word_at s (record { at = n.at; index = k })))
     ] refl
   where
-    has : (n : Name) → HasName s e n → (k : ℕ) → release_place s n ≡ Some k → word_at s e ≡ word_at s (record { at = n.at; index = k }) → HasItsReleases s e
-    has n named k at word m other =
-        let same : n ≡ m = let c : Some n ≡ Some m = sym named ∙ other in cc in
-        subst (λ x. (d : EventId) × MatchesBy s x e d) same (record { at = n.at; index = k }, record { named = named; item = refl; place = at; word = word })
+    has : (k : ℕ) → release_place s n ≡ Some k → word_at s e ≡ word_at s (record { at = n.at; index = k }) → (d : EventId) × MatchesBy s n e d
+    has k at word = (record { at = n.at; index = k }, record { named = named; item = refl; place = at; word = word })
 
-    had : (n : Name) → HasName s e n → (k : ℕ) → release_place s n ≡ Some k → HasItsReleases s e → word_at s e ≡ word_at s (record { at = n.at; index = k })
-    had n named k at all =
-        let r = all n named in
+    had : (k : ℕ) → release_place s n ≡ Some k → (d : EventId) × MatchesBy s n e d → word_at s e ≡ word_at s (record { at = n.at; index = k })
+    had k at r =
         let index : r.0.index ≡ k = let c : Some r.0.index ≡ Some k = sym r.1.place ∙ at in cc in
         r.1.word ∙ ap (word_at s) (same_event r.0 (record { at = n.at; index = k }) r.1.item index)
+
+pub releases_dec : (s : Streams) (e : EventId) → Dec (HasItsReleases s e)
+releases_dec s e = all_dec (λ n. (d : EventId) × MatchesBy s n e d) (names_at s e) (release_of_name_dec s e)
 
 -- ---- what is waited for
 
@@ -117,15 +115,13 @@ module _ (s : Streams) (complete : AreComplete s) where
   module _ (In : EventId → Type 0) (in_dec : (d : EventId) → Dec (In d)) (e : EventId) (releases : HasItsReleases s e) where
     release_dec : Dec ((d : EventId) → Matches s e d → In d)
     release_dec =
-        elim (name_at s e) as (λ o. (name_at s e ≡ o) → Dec ((d : EventId) → Matches s e d → In d)) [
-          | None ↦ λ none. yes (λ d m. absurd (let c : None ≡ Some m.name = sym none ∙ m.by.named in cc))
-          | Some n ↦ λ named. let r = releases n named in dec_map (λ h d m. subst In (one n named r.0 r.1 d m) h) (λ all. all r.0 (record { name = n; by = r.1 })) (in_dec r.0)
-        ] refl
+        dec_map
+        (λ (all : (n : Name) → HasName s e n → (d : EventId) → MatchesBy s n e d → In d). λ d m. all m.name m.by.named d m.by)
+        (λ all n named d by. all d (record { name = n; by = by }))
+        (all_dec (λ n. (d : EventId) → MatchesBy s n e d → In d) (names_at s e) of_name)
       where
-        one : (n : Name) → HasName s e n → (r : EventId) → MatchesBy s n e r → (d : EventId) → Matches s e d → r ≡ d
-        one n named r by d m =
-            let same : m.name ≡ n = let c : Some m.name ≡ Some n = sym m.by.named ∙ named in cc in
-            one_release s n e r d by (subst (λ x. MatchesBy s x e d) same m.by)
+        of_name : (n : Name) → HasName s e n → Dec ((d : EventId) → MatchesBy s n e d → In d)
+        of_name n named = let r = releases n named in dec_map (λ h d by. subst In (one_release s n e r.0 d r.1 by) h) (λ all. all r.0 r.1) (in_dec r.0)
 
     -- all that an event waits for, by its four clauses
     abbrev IsAll : Type 0

@@ -1,5 +1,5 @@
--- What can be decided of numbers, words, marks and events, and of all numbers below a bound.
-use Rattle.std.proofs.Common.{◌≡◌, ◌⊎◌, ℕ, zero, suc, ◌<◌, ◌≤◌, Bool, true, false, List, [], ◌∷◌, Option, Some, None, refl, sym, ap, subst, inl, inr, ⊎_elim, arith, eq-or-lt_of_le, true≢false}
+-- What can be decided of numbers, words, marks and events, of all numbers below a bound, and of all elements of a list.
+use Rattle.std.proofs.Common.{◌≡◌, ◌⊎◌, ℕ, zero, suc, ◌<◌, ◌≤◌, Bool, true, false, List, [], ◌∷◌, Contains, Option, Some, None, refl, sym, ap, subst, inl, inr, ⊎_elim, arith, eq-or-lt_of_le, true≢false}
 use Rattle.std.proofs.lemmas.Bool.{cases_lt}
 use Rattle.gr_model.specs.declared.event.EventId.{EventId}
 use Rattle.gr_model.specs.declared.event.Word.{Word}
@@ -93,3 +93,31 @@ all_below P (suc n) d =
     last : Dec (P n) → ((i : ℕ) → i < n → P i) → ((i : ℕ) → i < suc n → P i) ⊎ ((i : ℕ) × IsLeastWithout P (suc n) i)
     last (yes p) all = inl (λ i lt. ⊎_elim (λ (same : i ≡ n). subst P (sym same) p) (λ (l : i < n). all i l) (eq-or-lt_of_le (let le : i ≤ n = omega arith in le)))
     last (no h) all = inr (n, (omega arith, h, all))
+
+-- an element of a list is its first or one of the rest
+first_or_rest : {X : Type 0} (y : X) (xs : List X) (x : X) → Contains (y ∷ xs) x → (y ≡ x) ⊎ Contains xs x
+first_or_rest y xs x (zero, within, is) = inl is
+first_or_rest y xs x (suc k, within, is) = inr (k, omega (arith, within), is)
+
+-- where P or Q holds of each element of a list, P holds of all or Q of some
+pub all_or_some : {X : Type 0} (P Q : X → Type 0) (xs : List X) → ((x : X) → Contains xs x → P x ⊎ Q x) → ((x : X) → Contains xs x → P x) ⊎ ((x : X) × Contains xs x × Q x)
+all_or_some P Q [] each = inl (λ x there. absurd (omega (arith, there.1)))
+all_or_some {X} P Q (y ∷ xs) each =
+    ⊎_elim
+    (λ (first : P y). ⊎_elim
+    (λ (rest : (x : X) → Contains xs x → P x). inl (λ x there. ⊎_elim (λ (same : y ≡ x). subst P same first) (rest x) (first_or_rest y xs x there)))
+    (λ (some : (x : X) × Contains xs x × Q x). inr (some.0, behind some.0 some.1, some.2))
+    (all_or_some P Q xs (λ x there. each x (behind x there))))
+    (λ (first : Q y). inr (y, (0, omega arith, refl), first))
+    (each y (0, omega arith, refl))
+  where
+    behind : (x : X) → Contains xs x → Contains (y ∷ xs) x
+    behind x there = (suc there.0, omega (arith, there.1), there.2)
+
+-- whether P holds of all elements of a list
+pub all_dec : {X : Type 0} (P : X → Type 0) (xs : List X) → ((x : X) → Contains xs x → Dec (P x)) → Dec ((x : X) → Contains xs x → P x)
+all_dec {X} P xs decide =
+    ⊎_elim
+    (λ (all : (x : X) → Contains xs x → P x). yes all)
+    (λ (some : (x : X) × Contains xs x × (P x → ⊥)). no (λ all. some.2 (all some.0 some.1)))
+    (all_or_some P (λ x. P x → ⊥) xs (λ x there. by_cases (decide x there) inl inr))

@@ -1,5 +1,5 @@
 -- The record of an event stands in its group's list; a name is that of one release, and a barrier has none.
-use Rattle.std.proofs.Common.{◌≡◌, ◌==◌, ℕ, zero, suc, ◌<◌, ◌≤◌, Bool, true, false, cond, IsTrue, List, [], ◌∷◌, length, Option, Some, None, slice_get, filter, refl, sym, ap, ◌∙◌, subst, ⊎_elim, arith, is_some, not}
+use Rattle.std.proofs.Common.{◌≡◌, ◌==◌, ℕ, zero, suc, ◌<◌, ◌≤◌, Bool, true, false, cond, IsTrue, List, [], ◌∷◌, length, Contains, Some, None, slice_get, filter, refl, sym, ap, ◌∙◌, subst, ⊎_elim, arith, is_some, not}
 use Rattle.std.proofs.lemmas.Bool.{and_parts, cases_lt, eqb-true}
 use Rattle.std.proofs.lemmas.Option.{slice_get_past}
 use Rattle.std.proofs.lemmas.List.{get_or_past}
@@ -62,16 +62,16 @@ one_release s n e d f a b =
     same_event d f (a.item ∙ sym b.item) index
 
 -- what names a release is an acquire
-named_acquires : (kind : Kind) (a : Option Name) (n : Name) → a ≡ Some n → IsNamingOk kind a → IsTrue (is_acquire_kind kind)
-named_acquires kind None n same ok = cc
-named_acquires kind (Some m) n same ok = ok.0
+named_acquires : (kind : Kind) (names : List Name) (n : Name) → Contains names n → IsNamingOk kind names → IsTrue (is_acquire_kind kind)
+named_acquires kind [] n named ok = absurd (omega (arith, named.1))
+named_acquires kind (m ∷ names) n named ok = ok.0
 
-pub barriers_name_nothing : (s : Streams) → AreFronts s → (e : EventId) (x : Event) (n : Name) → event_at s e ≡ Some x → is_barrier x ≡ true → x.name ≡ Some n → ⊥
+pub barriers_name_nothing : (s : Streams) → AreFronts s → (e : EventId) (x : Event) (n : Name) → event_at s e ≡ Some x → is_barrier x ≡ true → Contains x.names n → ⊥
 barriers_name_nothing s fronts e x n at barrier named =
     let there = record_there s e x at in
     let group = group_of_event s fronts e x at in
     let good = (fronts.each e.at.group group).good there.0 x there.1 in
-    clash x.kind x.word barrier (named_acquires x.kind x.name n named good.0.1)
+    clash x.kind x.word barrier (named_acquires x.kind x.names n named good.0.1)
   where
     clash : (kind : Kind) (word : ℕ) → is_some (mark_of_kind kind word) ≡ true → IsTrue (is_acquire_kind kind) → ⊥
     clash Read word b a = cc

@@ -1,12 +1,12 @@
 -- A lawful order stays lawful where the barriers of an instance that can meet come behind it; and when an instance can meet.
-use Rattle.std.proofs.Common.{◌≡◌, ◌⊎◌, ℕ, ◌+◌, ◌<◌, ◌≤◌, List, ◌++◌, length, Some, slice_get, option_and_then, refl, sym, ap, ◌∙◌, subst, inl, inr, ⊎_elim, arith, eq-or-lt_of_le}
+use Rattle.std.proofs.Common.{◌≡◌, ◌⊎◌, ℕ, ◌+◌, ◌<◌, ◌≤◌, List, ◌++◌, length, Some, slice_get, Contains, refl, sym, ap, ◌∙◌, subst, inl, inr, ⊎_elim, arith, eq-or-lt_of_le}
 use Rattle.std.proofs.lemmas.Option.{slice_get_within}
 use Rattle.gr_model.specs.declared.event.EventId.{EventId}
 use Rattle.gr_model.specs.declared.event.Name.{Name}
 use Rattle.gr_model.specs.Barriers.{IsConvergent, StandsIn, Together}
 use Rattle.gr_model.specs.Instances.{Mark}
 use Rattle.gr_model.specs.LawfulOrders.{IsAt, IsIn, IsLawful}
-use Rattle.gr_model.specs.Names.{HasName}
+use Rattle.gr_model.specs.Names.{HasName, names_of}
 use Rattle.gr_model.specs.Streams.{AreFronts, IsEvent, Streams}
 use Rattle.gr_model.specs.Waits.{CanGo, IsPrevious, Waits, for_arrival, for_meeting, for_previous, for_release}
 use Rattle.gr_model.proofs.Places.{slice_get-append}
@@ -24,7 +24,7 @@ module _ (s : Streams) (fronts : AreFronts s) (order : List EventId) (lawful : I
   no_name : (x : EventId) (n : Name) → StandsIn s x g k → HasName s x n → ⊥
   no_name x n stands named =
       let there = barrier_there s x g k stands in
-      barriers_name_nothing s fronts x there.0 n there.1 there.2 (sym (ap (option_and_then (λ y. y.name)) there.1) ∙ named)
+      barriers_name_nothing s fronts x there.0 n there.1 there.2 (subst (λ names. Contains names n) (ap names_of there.1) named)
 
   met_event : (p : ℕ) (x : EventId) → IsOneOf p x → IsEvent s x × CanGo s x
   met_event p x (inl at) = lawful.event p x at

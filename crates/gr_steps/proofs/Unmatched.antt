@@ -1,31 +1,46 @@
 -- An unmatched acquire has a cause, so a report names each.
-use Rattle.std.proofs.Common.{◌≡◌, Some, None, [], sym, ◌∙◌, subst, arith, refl, Contains}
+use Rattle.std.proofs.Common.{◌≡◌, ◌⊎◌, ℕ, Some, None, [], sym, ◌∙◌, subst, inl, inr, ⊎_elim, arith, refl, Contains}
 use Rattle.gr_model.specs.declared.event.EventId.{EventId}
 use Rattle.gr_model.specs.declared.event.Name.{Name}
 use Rattle.gr_model.specs.declared.report.AcquireCause.{AcquireCause}
 use Rattle.gr_model.specs.declared.report.AcquireCause.TheVariants.{Absent, Behind, OtherWord}
-use Rattle.gr_model.specs.Names.{HasAcquireCause, HasName, IsAbsent, IsOfItsWord, release_place}
+use Rattle.gr_model.specs.Names.{HasAcquireCause, HasName, IsAbsent, IsOfItsWord, IsOfOtherWord, names_at, release_place}
 use Rattle.gr_model.specs.Reports.{IsReportButRaces, IsUnmatched, WholeReport}
 use Rattle.gr_model.specs.Streams.{Streams, word_at}
-use Rattle.gr_steps.proofs.Deciding.{option_dec, word_dec}
+use Rattle.gr_steps.proofs.Deciding.{all_or_some, by_cases, option_dec, word_dec}
 
-module _ (s : Streams) (e : EventId) (n : Name) (named : HasName s e n) where
-  same_name : (m : Name) → HasName s e m → n ≡ m
-  same_name m other = let c : Some n ≡ Some m = sym named ∙ other in cc
+-- there is a release of this name
+abbrev IsThere : Streams → Name → Type 0
+IsThere s n = (k : ℕ) × (release_place s n ≡ Some k)
 
-  has_cause : (c : AcquireCause) × HasAcquireCause s e c
-  has_cause =
-      elim (release_place s n) as (λ o. (release_place s n ≡ o) → (c : AcquireCause) × HasAcquireCause s e c) [
-        | None ↦ λ absent. (Absent, (n, named, absent))
-        | Some k ↦ λ at. elim (option_dec word_dec (word_at s (record { at = n.at; index = k })) (word_at s e)) as (λ _. (c : AcquireCause) × HasAcquireCause s e c) [
-          | yes same ↦ (Behind, λ m other. subst (λ x. IsOfItsWord s e x) (same_name m other) (k, at, same))
-          | no other ↦ (OtherWord, ((λ m names absent. let none : IsAbsent s n = subst (λ x. IsAbsent s x) (sym (same_name m names)) absent in let c : None ≡ Some k = sym none ∙ at in cc), (n, named, (k, at, other))))
-        ]
-      ] refl
+-- one of an event's names has no release, or else one has another word, or else each has the event's word
+has_cause : (s : Streams) (e : EventId) → (c : AcquireCause) × HasAcquireCause s e c
+has_cause s e =
+    ⊎_elim
+    (λ (there : (n : Name) → HasName s e n → IsThere s n). ⊎_elim
+    (λ (same : (n : Name) → HasName s e n → IsOfItsWord s e n). (Behind, same))
+    (λ (other : (n : Name) × HasName s e n × IsOfOtherWord s e n). (OtherWord, (λ n named. not_absent n (there n named), other)))
+    (all_or_some (IsOfItsWord s e) (IsOfOtherWord s e) (names_at s e) (λ n named. of_word n (there n named))))
+    (λ (absent : (n : Name) × HasName s e n × IsAbsent s n). (Absent, absent))
+    (all_or_some (IsThere s) (IsAbsent s) (names_at s e) (λ n named. there_or_absent n))
+  where
+    there_or_absent : (n : Name) → IsThere s n ⊎ IsAbsent s n
+    there_or_absent n =
+        elim (release_place s n) as (λ o. (release_place s n ≡ o) → IsThere s n ⊎ IsAbsent s n) [
+          | None ↦ λ absent. inr absent
+          | Some k ↦ λ at. inl (k, at)
+        ] refl
+
+    not_absent : (n : Name) → IsThere s n → ¬ IsAbsent s n
+    not_absent n there absent = let clash : None ≡ Some there.0 = sym absent ∙ there.1 in cc
+
+    of_word : (n : Name) → IsThere s n → IsOfItsWord s e n ⊎ IsOfOtherWord s e n
+    of_word n there =
+        by_cases (option_dec word_dec (word_at s (record { at = n.at; index = there.0 })) (word_at s e)) (λ same. inl (there.0, there.1, same)) (λ other. inr (there.0, there.1, other))
 
 pub none_unmatched : (s : Streams) (r : WholeReport) → IsReportButRaces s r → r.unmatched ≡ [] → (e : EventId) → ¬ IsUnmatched s e
 none_unmatched s r report none e unmatched =
-    let cause = has_cause s e unmatched.name unmatched.named in
+    let cause = has_cause s e in
     let listed = (report.unmatched.exact (record { event = e; cause = cause.0 })).1 (record { unmatched = unmatched; cause = cause.1 }) in
     let gone = subst (λ l. Contains l (record { event = e; cause = cause.0 })) none listed in
     absurd (omega (arith, gone.1))

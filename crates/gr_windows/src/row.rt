@@ -28,7 +28,7 @@ impl<A: Allocator + Copy> Row<A> {
     /// No event of a group of so many items waits.
     ///
     /// # Errors
-    /// `Memory`.
+    /// `Memory`: out of memory.
     pub(crate) fn new(alloc: A, items: u16) -> Result<Row<A>, Memory>
         ensures { IfOk result (λ r. r ≡ replicate items []) }
     {
@@ -54,7 +54,7 @@ impl<A: Allocator> Row<A> {
     /// Adds an event of an item behind the others.
     ///
     /// # Errors
-    /// `Memory`. Nothing is then added.
+    /// `Memory`: out of memory. Nothing is then added.
     pub(crate) fn push(&mut self, item: u16, event: Event) -> Result<(), Memory>
         requires { item < length self.old }
         ensures ok { OnOk result (self.new ≡ slice_set self.old item (slice_index_or self.old item [] ++ event ∷ [])) }

@@ -46,7 +46,7 @@ impl<A: Allocator> Window<A> {
     /// Adds an event behind the others.
     ///
     /// # Errors
-    /// `Memory`. Nothing is then added.
+    /// `Memory`: out of memory. Nothing is then added.
     pub(crate) fn push(&mut self, event: Event) -> Result<(), Memory>
         ensures ok { OnOk result (self.new ≡ self.old ++ event ∷ []) }
         ensures err { OnErr result (self.new ≡ self.old) }

@@ -30,7 +30,7 @@ impl<A: Allocator + Copy> Windows<A> {
     /// No event waits.
     ///
     /// # Errors
-    /// `Memory`.
+    /// `Memory`: out of memory.
     pub fn new(alloc: A, shape: &Shape<A>) -> Result<Windows<A>, Memory>
         ensures { IfOk result (λ w. IsEmpty shape.now w) }
     {
@@ -56,7 +56,7 @@ impl<A: Allocator> Windows<A> {
     /// Adds an event of an item behind the others.
     ///
     /// # Errors
-    /// `Memory`. Nothing is then added.
+    /// `Memory`: out of memory. Nothing is then added.
     pub fn push(&mut self, item: ItemId, event: Event) -> Result<(), Memory>
         requires { HasItem (map length self.old) item }
         ensures ok { OnOk result (Changes self.old item (window_of self.old item ++ event ∷ []) self.new) }
