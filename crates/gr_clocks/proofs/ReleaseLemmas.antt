@@ -1,5 +1,5 @@
 -- What several releases left, in each memory.
-use Rattle.std.proofs.Common.{◌≡◌, ◌≢◌, ℕ, zero, suc, None, Some, slice_get, ◌+◌, ◌<◌, max, Bool, true, false, All, Any, List, [], ◌∷◌, filter, map, length, get_or, refl, sym, ◌∙◌, ap, subst, arith}
+use Rattle.std.proofs.Common.{◌≡◌, ◌≢◌, ℕ, zero, suc, None, Some, slice_get, ◌+◌, ◌<◌, ◌≤◌, max, if◌then◌else◌, ◌++◌, Bool, true, false, All, Any, List, [], ◌∷◌, filter, map, length, get_or, refl, sym, ◌∙◌, ap, subst, arith}
 use Rattle.std.proofs.lemmas.List.{get_or-map, length-map}
 use Rattle.gr_model.specs.declared.event.Space.{Space}
 use Rattle.gr_model.specs.declared.event.Space.TheVariants.{Global, Local}
@@ -8,7 +8,7 @@ use Rattle.gr_model.specs.declared.event.Word.{Word}
 use Rattle.gr_model.specs.declared.event.Word.TheVariants.{Global as GlobalWord, Local as LocalWord}
 use Rattle.gr_model.specs.Access.{memory_of}
 use Rattle.gr_clocks.specs.declared.clock.TheConstants.{LARGEST_COUNT}
-use Rattle.gr_clocks.specs.Counts.{Counts, count_of, tick_at}
+use Rattle.gr_clocks.specs.Counts.{Counts, count_of, greatest_count, tick_at}
 use Rattle.gr_clocks.specs.Tables.{ClockTable, TicksItem, LearnsAndTicks}
 use Rattle.gr_clocks.specs.ItemClocks.{ItemClocks, ReleaseClock, Acquires, AreOfOneWord, AreSpent, Ticks, clocks_in, clocks_left, clocks_of, is_in}
 
@@ -75,6 +75,40 @@ module _ {X : Type 0} (release : X → ReleaseClock) where
   none_spent [] i room (k, r, below, at, full) = absurd (omega (arith, below))
   none_spent (x ∷ xs) i room (zero, r, below, at, full) = room 0 x (omega arith) (ap (λ (s : ReleaseClock). count_of s.clock i) at ∙ full)
   none_spent (x ∷ xs) i room (suc k, r, below, at, full) = none_spent xs i (tail_of (λ y. count_of (release y).clock i ≢ LARGEST_COUNT) x xs room) (k, r, omega (arith, below), at, full)
+
+-- ---- what releases count together in a memory
+
+-- one release more, on a word of the memory or of the other
+pub left_here : (m : Space) (releases : List ReleaseClock) (r : ReleaseClock) (j : ItemId) → m ≡ memory_of r.word → greatest_count (clocks_left m (releases ++ r ∷ [])) j ≡ max (greatest_count (clocks_left m releases) j) (count_of r.clock j)
+left_here m [] r j same = rw (in_its_memory m r.word same) (omega arith)
+left_here m (x ∷ releases) r j same =
+    let rest = left_here m releases r j same in
+    elim (is_in m x.word) as (λ b. greatest_count (map (λ (s : ReleaseClock). s.clock) (if b then x ∷ filter (λ s. is_in m s.word) (releases ++ r ∷ []) else filter (λ s. is_in m s.word) (releases ++ r ∷ []))) j ≡ max (greatest_count (map (λ (s : ReleaseClock). s.clock) (if b then x ∷ filter (λ s. is_in m s.word) releases else filter (λ s. is_in m s.word) releases)) j) (count_of r.clock j)) [
+      | true ↦ omega (arith, rest)
+      | false ↦ rest
+    ]
+
+pub left_elsewhere : (m : Space) (releases : List ReleaseClock) (r : ReleaseClock) (j : ItemId) → m ≢ memory_of r.word → greatest_count (clocks_left m (releases ++ r ∷ [])) j ≡ greatest_count (clocks_left m releases) j
+left_elsewhere m [] r j other = rw (in_no_other m r.word other) refl
+left_elsewhere m (x ∷ releases) r j other =
+    let rest = left_elsewhere m releases r j other in
+    elim (is_in m x.word) as (λ b. greatest_count (map (λ (s : ReleaseClock). s.clock) (if b then x ∷ filter (λ s. is_in m s.word) (releases ++ r ∷ []) else filter (λ s. is_in m s.word) (releases ++ r ∷ []))) j ≡ greatest_count (map (λ (s : ReleaseClock). s.clock) (if b then x ∷ filter (λ s. is_in m s.word) releases else filter (λ s. is_in m s.word) releases)) j) [
+      | true ↦ omega (arith, rest)
+      | false ↦ rest
+    ]
+
+-- they count together what one of them does
+pub left_counted : (releases : List ReleaseClock) (j : ItemId) (k : ℕ) (r : ReleaseClock) → k < length releases → get_or releases k r ≡ r → count_of r.clock j ≤ greatest_count (clocks_left (memory_of r.word) releases) j
+left_counted [] j k r below at = absurd (omega (arith, below))
+left_counted (x ∷ releases) j zero r below at =
+    subst (λ (y : ReleaseClock). count_of y.clock j ≤ greatest_count (clocks_left (memory_of y.word) (x ∷ releases)) j) at
+    (rw (in_its_memory (memory_of x.word) x.word refl) (omega arith))
+left_counted (x ∷ releases) j (suc k) r below at =
+    let rest = left_counted releases j k r (omega (arith, below)) at in
+    elim (is_in (memory_of r.word) x.word) as (λ b. count_of r.clock j ≤ greatest_count (map (λ (s : ReleaseClock). s.clock) (if b then x ∷ filter (λ s. is_in (memory_of r.word) s.word) releases else filter (λ s. is_in (memory_of r.word) s.word) releases)) j) [
+      | true ↦ omega (arith, rest)
+      | false ↦ rest
+    ]
 
 -- ---- an acquire, from what it does in each memory
 
