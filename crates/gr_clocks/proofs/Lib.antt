@@ -3,5 +3,7 @@ pub mod CountLemmas
 pub mod BlockLemmas
 pub mod OwnLemmas
 pub mod GroupLemmas
+pub mod JoinLemmas
 pub mod TableLemmas
+pub mod ReleaseLemmas
 pub mod StepLemmas

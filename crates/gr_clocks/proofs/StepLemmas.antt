@@ -9,11 +9,11 @@ use Rattle.gr_model.specs.declared.event.ItemId.{ItemId}
 use Rattle.gr_model.specs.declared.event.Word.{Word}
 use Rattle.gr_model.specs.Access.{memory_of}
 use Rattle.gr_model.specs.Shapes.{IsShape}
-use Rattle.gr_clocks.specs.Counts.{Counts, count_of, sizes_of, IsTick, IsJoin}
+use Rattle.gr_clocks.specs.Counts.{Counts, count_of, sizes_of, IsTick}
 use Rattle.gr_clocks.specs.Tables.{item_of, ClockTable, AreZero, IsTickOfJoin, MeetsGroup, group_at}
 use Rattle.gr_clocks.specs.Groups.{GroupClocks, IsSameGroup, IsBehind}
-use Rattle.gr_clocks.specs.ItemClocks.{ItemClocks, clocks_in, clock_in, AreNew, Ticks, ReleaseClock, release_of, Acquires, Meets, clocks_of, orders, AreOfOneShape}
-use Rattle.gr_clocks.proofs.TableLemmas.{tick_of_join, meets_group, behind_same}
+use Rattle.gr_clocks.specs.ItemClocks.{ItemClocks, clocks_in, clock_in, AreNew, Ticks, ReleaseClock, release_of, clocks_left, Acquires, Meets, clocks_of, orders, AreOfOneShape}
+use Rattle.gr_clocks.proofs.TableLemmas.{meets_group, behind_same}
 
 same_counts : (c d : Counts) → sizes_of c ≡ sizes_of d → ((j : ItemId) → count_of c j ≡ count_of d j) → c ≡ d
 same_counts [] [] sizes counts = refl
@@ -29,7 +29,7 @@ same_counts (x ∷ c) (y ∷ d) sizes counts =
 same_ticks : (before : Counts) (i : ItemId) (first second : Counts) → IsTick before i first → IsTick before i second → first ≡ second
 same_ticks before i first second t u = same_counts first second (t.shape ∙ sym u.shape) (λ j. t.counts j ∙ sym (u.counts j))
 
-same_steps : (mine theirs : Counts) (i : ItemId) (first second : Counts) → IsTickOfJoin mine theirs i first → IsTickOfJoin mine theirs i second → first ≡ second
+same_steps : (mine : Counts) (theirs : List Counts) (i : ItemId) (first second : Counts) → IsTickOfJoin mine theirs i first → IsTickOfJoin mine theirs i second → first ≡ second
 same_steps mine theirs i first second t u = same_counts first second (t.shape ∙ sym u.shape) (λ j. t.counts j ∙ sym (u.counts j))
 
 -- what a release leaves has the clock that ticked as the item's did
@@ -43,17 +43,9 @@ module _ (old new : ItemClocks) (i : ItemId) (word : Word) (scope : Scope) (m : 
   release_left result raised is ticks tick =
       left result raised is (same_ticks (clock_in old m i) i raised (clock_in new m i) (subst (λ (x : Counts). IsTick x i raised) is_copy tick) (ticks.ticks m).item)
 
-  module _ (s : ReleaseClock) (acquires : Acquires old i s new) where
-    pub other_left : (result : ReleaseClock) (raised : Counts) → result ≡ record { word = word; scope = scope; clock = raised } → m ≢ memory_of s.word → IsTick copied i raised → result ≡ release_of new i word scope
-    other_left result raised is other tick =
-        left result raised is (same_ticks (clock_in old m i) i raised (clock_in new m i) (subst (λ (x : Counts). IsTick x i raised) is_copy tick) (acquires.ticks m other).item)
-
-    pub joined_left : (result : ReleaseClock) (theirs joined raised : Counts) → result ≡ record { word = word; scope = scope; clock = raised } → m ≡ memory_of s.word → theirs ≡ s.clock → IsJoin copied theirs joined → IsTick joined i raised → result ≡ release_of new i word scope
-    joined_left result theirs joined raised is here same join tick =
-        let learned_clock : IsJoin copied s.clock joined = subst (λ (x : Counts). IsJoin copied x joined) same join in
-        let step : IsTickOfJoin (clock_in old m i) s.clock i raised = subst (λ (x : Counts). IsTickOfJoin x s.clock i raised) is_copy (tick_of_join copied s.clock joined i raised learned_clock tick) in
-        let learned : IsTickOfJoin (clock_in old m i) s.clock i (clock_in new m i) = subst (λ (n : Space). IsTickOfJoin (clock_in old n i) s.clock i (clock_in new n i)) (sym here) acquires.learns.item in
-        left result raised is (same_steps (clock_in old m i) s.clock i raised (clock_in new m i) step learned)
+  pub acquired_left : (releases : List ReleaseClock) → Acquires old i releases new → (result : ReleaseClock) (raised : Counts) → result ≡ record { word = word; scope = scope; clock = raised } → IsTickOfJoin copied (clocks_left m releases) i raised → result ≡ release_of new i word scope
+  acquired_left releases acquires result raised is step =
+      left result raised is (same_steps (clock_in old m i) (clocks_left m releases) i raised (clock_in new m i) (subst (λ (x : Counts). IsTickOfJoin x (clocks_left m releases) i raised) is_copy step) (acquires.learns m).item)
 
 pub are_new : (sizes : List ℕ) (global local : ClockTable) → AreZero sizes global → AreZero sizes local → AreNew sizes (clocks_of global local)
 are_new sizes global local g l = record {

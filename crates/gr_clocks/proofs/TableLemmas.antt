@@ -1,5 +1,5 @@
 -- The clocks of items in a table: what is read, and what is written at an item or a group.
-use Rattle.std.proofs.Common.{◌≡◌, ◌≢◌, ◌⊎◌, inl, inr, ℕ, ◌+◌, ◌<◌, ◌≤◌, max, Bool, true, false, List, [], ◌∷◌, ◌++◌, map, length, slice_index, get_or, set, refl, sym, ◌∙◌, ap, subst, arith, ⊎_elim}
+use Rattle.std.proofs.Common.{◌≡◌, ◌≢◌, ◌⊎◌, inl, inr, ℕ, suc, ◌+◌, ◌<◌, ◌≤◌, max, Bool, true, false, List, [], ◌∷◌, ◌++◌, map, length, slice_index, get_or, set, All, refl, sym, ◌∙◌, ap, subst, arith, ⊎_elim}
 use Rattle.std.proofs.lemmas.Bool.{cases_eq, cases_lt}
 use Rattle.std.proofs.lemmas.List.{length-map, length-set, map-set, get_or-set_same, get_or-set_other, get_or_read, get_or_push, get_or_append_left, ext_get_or}
 use Rattle.std.proofs.Math.ListN.{get_or-map}
@@ -7,7 +7,7 @@ use Rattle.std.proofs.Math.Seq.{map-set_same}
 use Rattle.gr_model.specs.declared.event.ItemId.{ItemId}
 use Rattle.gr_model.specs.Shapes.{HasItem}
 use Rattle.gr_clocks.specs.declared.clock.TheConstants.{LARGEST_COUNT}
-use Rattle.gr_clocks.specs.Counts.{Counts, count_of, sizes_of, tick_at, IsZero, IsTick, IsJoin}
+use Rattle.gr_clocks.specs.Counts.{Counts, count_of, greatest_count, sizes_of, tick_at, IsZero, IsTick, IsJoin, IsJoinOfAll}
 use Rattle.gr_clocks.specs.Groups.{item_of, greatest, GroupClocks, no_group, with_clock, IsShared, IsGrown, IsSameGroup, IsBehind}
 use Rattle.gr_clocks.specs.Tables.{ClockTable, clock_at, group_at, table_of, AreGroups, MeetsGroup, AreZero, TicksItem, IsTickOfJoin, LearnsAndTicks}
 use Rattle.gr_clocks.proofs.RowLemmas.{row_size, row_of_item, entry_same, entry_other}
@@ -86,14 +86,14 @@ module _ (old new : ClockTable) (i : ItemId) (clock : Counts) (has : HasItem (ma
   pub ticks_item : IsTick (clock_at old i) i clock → TicksItem old i new
   ticks_item tick = record { shape = same_sizes; item = subst (IsTick (clock_at old i) i) (sym at_item) tick; others = at_other }
 
-  pub learns_and_ticks : (theirs : Counts) → IsTickOfJoin (clock_at old i) theirs i clock → LearnsAndTicks old i theirs new
+  pub learns_and_ticks : (theirs : List Counts) → IsTickOfJoin (clock_at old i) theirs i clock → LearnsAndTicks old i theirs new
   learns_and_ticks theirs tick = record { shape = same_sizes; item = subst (IsTickOfJoin (clock_at old i) theirs i) (sym at_item) tick; others = at_other }
 
-pub tick_grows : (mine theirs : Counts) (i : ItemId) (after : Counts) → IsTickOfJoin mine theirs i after → IsGrown mine after
+pub tick_grows : (mine : Counts) (theirs : List Counts) (i : ItemId) (after : Counts) → IsTickOfJoin mine theirs i after → IsGrown mine after
 tick_grows mine theirs i after tick = record { shape = tick.shape; counts = λ j. let at = tick.counts j in omega arith }
 
--- a tick after a join
-pub tick_of_join : (mine theirs joined : Counts) (i : ItemId) (after : Counts) → IsJoin mine theirs joined → IsTick joined i after → IsTickOfJoin mine theirs i after
+-- a tick after joins
+pub tick_of_join : (mine : Counts) (theirs : List Counts) (joined : Counts) (i : ItemId) (after : Counts) → IsJoinOfAll mine theirs joined → IsTick joined i after → IsTickOfJoin mine theirs i after
 tick_of_join mine theirs joined i after join tick = record {
   shape = tick.shape ∙ join.shape;
   counts = λ j. tick.counts j ∙ ap (λ (n : ℕ). n + tick_at i j) (join.counts j);
@@ -106,13 +106,22 @@ max_cases m n x e =
     (λ (le : n ≤ m). inl (let same : x ≡ m = omega arith in same))
     (cases_lt m n)
 
--- where neither is full, their join has room
-pub join_has_room : (mine theirs joined : Counts) (i : ItemId) → IsJoin mine theirs joined → count_of mine i ≢ LARGEST_COUNT → count_of theirs i ≢ LARGEST_COUNT → count_of joined i ≢ LARGEST_COUNT
-join_has_room mine theirs joined i join mine_room their_room full =
+-- where none of them is full, the greatest of their counts is not the largest there is
+greatest_has_room : {X : Type 0} (clock : X → Counts) (theirs : List X) (i : ItemId) → All (λ x. count_of (clock x) i ≢ LARGEST_COUNT) theirs → greatest_count (map clock theirs) i ≢ LARGEST_COUNT
+greatest_has_room clock [] i room full = absurd (omega (arith, full))
+greatest_has_room clock (x ∷ theirs) i room full =
+    ⊎_elim
+    (λ (same : greatest_count (map clock (x ∷ theirs)) i ≡ count_of (clock x) i). room 0 x (omega arith) (sym same ∙ full))
+    (λ (same : greatest_count (map clock (x ∷ theirs)) i ≡ greatest_count (map clock theirs) i). greatest_has_room clock theirs i (λ k d below. room (suc k) d (omega (arith, below))) (sym same ∙ full))
+    (max_cases (count_of (clock x) i) (greatest_count (map clock theirs) i) (greatest_count (map clock (x ∷ theirs)) i) refl)
+
+-- where none is full, their join has room
+pub join_has_room : {X : Type 0} (clock : X → Counts) (mine : Counts) (theirs : List X) (joined : Counts) (i : ItemId) → IsJoinOfAll mine (map clock theirs) joined → count_of mine i ≢ LARGEST_COUNT → All (λ x. count_of (clock x) i ≢ LARGEST_COUNT) theirs → count_of joined i ≢ LARGEST_COUNT
+join_has_room clock mine theirs joined i join mine_room their_room full =
     ⊎_elim
     (λ (same : count_of joined i ≡ count_of mine i). mine_room (sym same ∙ full))
-    (λ (same : count_of joined i ≡ count_of theirs i). their_room (sym same ∙ full))
-    (max_cases (count_of mine i) (count_of theirs i) (count_of joined i) (join.counts i))
+    (λ (same : count_of joined i ≡ greatest_count (map clock theirs) i). greatest_has_room clock theirs i their_room (sym same ∙ full))
+    (max_cases (count_of mine i) (greatest_count (map clock theirs) i) (count_of joined i) (join.counts i))
 
 -- ---- new clocks
 

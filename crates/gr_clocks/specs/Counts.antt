@@ -1,6 +1,6 @@
 -- What a vector clock counts: of each work-item, a number of its events.
 -- Source: docs/MODEL.md, "Clocks". After Mattern, Virtual Time and Global States of Distributed Systems, 1988.
-use Rattle.std.specs.Prelude.{◌≡◌, ℕ, ◌+◌, ◌<◌, ◌≤◌, max, slice_index, All, List, map, length, if◌then◌else◌}
+use Rattle.std.specs.Prelude.{◌≡◌, ℕ, ◌+◌, ◌<◌, ◌≤◌, max, slice_index, All, List, [], ◌∷◌, map, length, if◌then◌else◌}
 use Rattle.gr_model.specs.declared.event.ItemId.{ItemId}
 use Rattle.gr_clocks.specs.declared.clock.TheConstants.{LARGEST_COUNT}
 use Rattle.gr_clocks.specs.Rows.{entry_of, same_item, AreStarts}
@@ -35,6 +35,16 @@ pub record IsTick (before : Counts) (i : ItemId) (after : Counts) : Type 0 where
 pub record IsJoin (mine theirs joined : Counts) : Type 0 where
   pub shape : sizes_of joined ≡ sizes_of mine
   pub counts : (j : ItemId) → count_of joined j ≡ max (count_of mine j) (count_of theirs j)
+
+-- the greatest count of an item among some clocks
+abbrev pub greatest_count : List Counts → ItemId → ℕ
+greatest_count [] j = 0
+greatest_count (c ∷ clocks) j = max (count_of c j) (greatest_count clocks j)
+
+-- joined has the greatest count of each item, of mine and all of theirs
+pub record IsJoinOfAll (mine : Counts) (theirs : List Counts) (joined : Counts) : Type 0 where
+  pub shape : sizes_of joined ≡ sizes_of mine
+  pub counts : (j : ItemId) → count_of joined j ≡ max (count_of mine j) (greatest_count theirs j)
 
 -- ---- counts in a list
 

@@ -1,14 +1,16 @@
 -- The clocks of a launch's work-items, one in each memory, and what an event does to them.
 -- Source: docs/MODEL.md, "Clocks".
-use Rattle.std.specs.Prelude.{◌≡◌, ◌≢◌, ℕ, Bool, List, map, length}
+use Rattle.std.specs.Prelude.{◌≡◌, ℕ, Bool, true, false, ⊤, All, Any, List, [], ◌∷◌, filter, map, length}
 use Rattle.gr_model.specs.declared.event.Space.{Space}
 use Rattle.gr_model.specs.declared.event.Space.TheVariants.{Global, Local}
 use Rattle.gr_model.specs.declared.event.Scope.{Scope}
 use Rattle.gr_model.specs.declared.event.ItemId.{ItemId}
 use Rattle.gr_model.specs.declared.event.Word.{Word}
+use Rattle.gr_model.specs.declared.event.Word.TheVariants.{Global as GlobalWord, Local as LocalWord}
 use Rattle.gr_model.specs.Access.{memory_of}
 use Rattle.gr_model.specs.Shapes.{IsShape}
-use Rattle.gr_clocks.specs.Counts.{Counts}
+use Rattle.gr_clocks.specs.declared.clock.TheConstants.{LARGEST_COUNT}
+use Rattle.gr_clocks.specs.Counts.{Counts, count_of}
 use Rattle.gr_clocks.specs.Tables.{ClockTable, clock_at, AreZero, IsFull, TicksItem, IsGroupFull, LearnsAndTicks, MeetsGroup}
 
 -- the sizes of the groups, and the clocks of their items in each memory
@@ -55,11 +57,30 @@ pub record ReleaseClock : Type 0 where
 abbrev pub release_of : ItemClocks → ItemId → Word → Scope → ReleaseClock
 release_of v i word scope = record { word = word; scope = scope; clock = clock_in v (memory_of word) i }
 
--- the item learns what a release left, in the memory of the release's word alone, and ticks in both
-pub record Acquires (old : ItemClocks) (i : ItemId) (s : ReleaseClock) (new : ItemClocks) : Type 0 where
+-- all releases are on one word
+abbrev pub AreOfOneWord : List ReleaseClock → Type 0
+AreOfOneWord [] = ⊤
+AreOfOneWord (s ∷ releases) = All (λ t. t.word ≡ s.word) releases
+
+-- some release's clock counts as many events of the item as there may be
+abbrev pub AreSpent : List ReleaseClock → ItemId → Type 0
+AreSpent releases i = Any (λ s. count_of s.clock i ≡ LARGEST_COUNT) releases
+
+-- whether a word is of a memory
+abbrev pub is_in : Space → Word → Bool
+is_in Global (GlobalWord word) = true
+is_in Global (LocalWord group word) = false
+is_in Local (GlobalWord word) = false
+is_in Local (LocalWord group word) = true
+
+-- the clocks that were left by the releases on words of a memory
+abbrev pub clocks_left : Space → List ReleaseClock → List Counts
+clocks_left m releases = map (λ s. s.clock) (filter (λ s. is_in m s.word) releases)
+
+-- the item learns what the releases left, in the memory of each one's word alone, and then ticks once in both
+pub record Acquires (old : ItemClocks) (i : ItemId) (releases : List ReleaseClock) (new : ItemClocks) : Type 0 where
   pub shape : new.sizes ≡ old.sizes
-  pub learns : LearnsAndTicks (clocks_in old (memory_of s.word)) i s.clock (clocks_in new (memory_of s.word))
-  pub ticks : (m : Space) → m ≢ memory_of s.word → TicksItem (clocks_in old m) i (clocks_in new m)
+  pub learns : (m : Space) → LearnsAndTicks (clocks_in old m) i (clocks_left m releases) (clocks_in new m)
 
 -- ---- barriers
 

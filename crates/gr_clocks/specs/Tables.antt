@@ -5,7 +5,7 @@ use Rattle.gr_model.specs.declared.event.ItemId.{ItemId}
 use Rattle.gr_model.specs.Shapes.{HasItem}
 use Rattle.gr_clocks.specs.declared.clock.TheConstants.{LARGEST_COUNT}
 use Rattle.gr_clocks.specs.Rows.{entry_of}
-use Rattle.gr_clocks.specs.Counts.{Counts, count_of, sizes_of, tick_at, IsZero, IsTick}
+use Rattle.gr_clocks.specs.Counts.{Counts, count_of, greatest_count, sizes_of, tick_at, IsZero, IsTick}
 use Rattle.gr_clocks.specs.Groups.{GroupClocks, no_group}
 pub use Rattle.gr_clocks.specs.Groups.{item_of, greatest}
 
@@ -37,13 +37,13 @@ pub record TicksItem (old : ClockTable) (i : ItemId) (new : ClockTable) : Type 0
   pub item : IsTick (clock_at old i) i (clock_at new i)
   pub others : (j : ItemId) → j ≢ i → clock_at new j ≡ clock_at old j
 
--- after counts all that mine and theirs count, and one more event of item i
-pub record IsTickOfJoin (mine theirs : Counts) (i : ItemId) (after : Counts) : Type 0 where
+-- after counts all that mine and all of theirs count, and one more event of item i
+pub record IsTickOfJoin (mine : Counts) (theirs : List Counts) (i : ItemId) (after : Counts) : Type 0 where
   pub shape : sizes_of after ≡ sizes_of mine
-  pub counts : (j : ItemId) → count_of after j ≡ max (count_of mine j) (count_of theirs j) + tick_at i j
+  pub counts : (j : ItemId) → count_of after j ≡ max (count_of mine j) (greatest_count theirs j) + tick_at i j
 
--- the item learns what another clock counts, and ticks
-pub record LearnsAndTicks (old : ClockTable) (i : ItemId) (theirs : Counts) (new : ClockTable) : Type 0 where
+-- the item learns what other clocks count, and then ticks once
+pub record LearnsAndTicks (old : ClockTable) (i : ItemId) (theirs : List Counts) (new : ClockTable) : Type 0 where
   pub shape : map length new ≡ map length old
   pub item : IsTickOfJoin (clock_at old i) theirs i (clock_at new i)
   pub others : (j : ItemId) → j ≢ i → clock_at new j ≡ clock_at old j

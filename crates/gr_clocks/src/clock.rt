@@ -5,12 +5,13 @@
 //!
 //! Invariant: the item is there, and its count is not above `LARGEST_COUNT` and not below the one that is shared.
 
-ghost use Rattle.std.specs.Prelude.{◌≡◌, ◌↔◌, ◌<◌, ◌≤◌, ◌≢◌, IsTrue, IfOk, IfErr, OnOk, OnErr, IsOkUnless};
+ghost use Rattle.std.specs.Prelude.{◌≡◌, ◌↔◌, ◌<◌, ◌≤◌, ◌≢◌, IsTrue, All, map, IfOk, IfErr, OnOk, OnErr, IsOkUnless};
 ghost use Rattle.gr_clocks.specs.declared.clock.ClockError.TheVariants.{Memory as OutOfMemory};
 ghost use Rattle.gr_model.specs.Shapes.{HasItem};
-ghost use Rattle.gr_clocks.specs.Counts.{count_of, sizes_of, IsZero, IsTick, IsJoin};
+ghost use Rattle.gr_clocks.specs.Counts.{count_of, sizes_of, IsZero, IsTick, IsJoin, IsJoinOfAll};
 
 use crate::base::Base;
+use crate::snapshot::Snapshot;
 use gr_model::event::ItemId;
 use gr_model::memory::Memory;
 use gr_model::shape::Shape;
@@ -80,7 +81,7 @@ impl<A: Allocator + Copy> Clock<A> {
     /// The clock of a shape's items that has counted nothing.
     ///
     /// # Errors
-    /// `Memory`.
+    /// `Memory`: out of memory.
     pub fn new(alloc: A, shape: &Shape<A>) -> Result<Clock<A>, ClockError>
         ensures zero { IfOk result (λ c. IsZero shape.now c) }
         ensures memory { IsOkUnless result ClockError.Memory }
@@ -178,7 +179,7 @@ impl<A: Allocator> Clock<A> {
     /// Counts one more event of an item whose count can grow. It takes no memory where that count stands apart.
     ///
     /// # Errors
-    /// `Memory`. The clock is then as it was.
+    /// `Memory`: out of memory. The clock is then as it was.
     pub(crate) fn raise(&mut self, item: ItemId) -> Result<(), ClockError>
     where
         A: Clone,
@@ -200,8 +201,8 @@ impl<A: Allocator> Clock<A> {
     /// Counts one more event of the item.
     ///
     /// # Errors
-    /// `Spent` where its count is `LARGEST_COUNT`; `Memory`, where the item's count does not stand apart yet. The clock is
-    /// then as it was.
+    /// `Spent`: its count is `LARGEST_COUNT`. `Memory`: out of memory, which comes only where the item's count does not
+    /// stand apart yet. The clock is then as it was.
     pub fn tick(&mut self, item: ItemId) -> Result<(), ClockError>
     where
         A: Clone,
@@ -219,7 +220,7 @@ impl<A: Allocator> Clock<A> {
     /// Learns all that another clock of the same shape counts: the greater count of each item.
     ///
     /// # Errors
-    /// `Memory`. The clock is then as it was.
+    /// `Memory`: out of memory. The clock is then as it was.
     pub fn join(&mut self, other: &Clock<A>) -> Result<(), ClockError>
     where
         A: Clone,
@@ -237,10 +238,28 @@ impl<A: Allocator> Clock<A> {
         Ok(())
     }
 
+    /// The clock, where it has learned all that these releases left: the greatest count of each item.
+    ///
+    /// # Errors
+    /// `Memory`: out of memory.
+    pub fn learned(&self, snapshots: &[&Snapshot<A>]) -> Result<Clock<A>, ClockError>
+    where
+        A: Clone,
+        requires { All (λ s. sizes_of s.now.clock ≡ sizes_of self.now) snapshots.now }
+        ensures join { IfOk result (λ c. IsJoinOfAll self.now (map (λ s. s.now.clock) snapshots.now) c) }
+        ensures memory { IsOkUnless result ClockError.Memory }
+    {
+        let mut clock = self.copy()?;
+        for snapshot in snapshots {
+            clock.join(snapshot.clock())?;
+        }
+        Ok(clock)
+    }
+
     /// The same clock once more.
     ///
     /// # Errors
-    /// `Memory`.
+    /// `Memory`: out of memory.
     pub fn copy(&self) -> Result<Clock<A>, ClockError>
     where
         A: Clone,
@@ -260,7 +279,7 @@ impl<A: Allocator> Clock<A> {
 /// stands apart in both.
 ///
 /// # Errors
-/// `Memory`. The clocks are then as they were.
+/// `Memory`: out of memory. The clocks are then as they were.
 pub(crate) fn raise_both<A: Allocator + Clone>(
     one: &mut Clock<A>,
     other: &mut Clock<A>,

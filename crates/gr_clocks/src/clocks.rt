@@ -1,15 +1,16 @@
 //! The clocks of a launch's work-items, one for each memory, and what an event of an item does to them.
 //!
-//! Each event of an item ticks both of its clocks. An acquire first learns what the release that it takes its value from
-//! left, in the memory of the release's word alone. A barrier gives each item of its group what all of them count, in
+//! Each event of an item ticks both of its clocks. An acquire first learns what the releases that it takes its value from
+//! left, in the memory of their word alone. A barrier gives each item of its group what all of them count, in
 //! the memories that it flags (docs/MODEL.md, "Clocks"). A call that is refused changes no clock.
 
-ghost use Rattle.std.specs.Prelude.{◌≡◌, ◌↔◌, ◌<◌, ◌⊎◌, ◌≢◌, IsTrue, IfOk, OnOk, OnErr, IsOkUnless, length};
+ghost use Rattle.std.specs.Prelude.{◌≡◌, ◌↔◌, ◌<◌, ◌⊎◌, ◌≢◌, IsTrue, IsFalse, All, [], IfOk, OnOk, OnErr, IsOkUnless, map, length};
 ghost use Rattle.gr_clocks.specs.declared.clock.ClockError.TheVariants.{Memory as OutOfMemory};
 ghost use Rattle.gr_model.specs.Access as model;
 ghost use Rattle.gr_model.specs.Shapes.{HasItem, IsShape};
 ghost use Rattle.gr_clocks.specs.Counts.{count_of, sizes_of};
-ghost use Rattle.gr_clocks.specs.ItemClocks.{clock_in, AreNew, IsSpent, IsGroupSpent, Ticks, release_of, Acquires, Meets};
+ghost use Rattle.gr_clocks.specs.ItemClocks.{clock_in, clocks_in, clocks_left, AreNew, IsSpent, AreSpent, AreOfOneWord, IsGroupSpent, Ticks, release_of, Acquires, Meets};
+ghost use Rattle.gr_clocks.specs.Tables.{IsTickOfJoin};
 
 use crate::clock::{Clock, ClockError, LARGEST_COUNT};
 use crate::snapshot::Snapshot;
@@ -55,11 +56,35 @@ fn is_in(word: Word, memory: Space) -> bool
     memory_of(word) == memory
 }
 
+/// Whether there are releases, all on one word, and the word is of this memory.
+fn are_in<A: Allocator>(snapshots: &[&Snapshot<A>], memory: Space) -> bool
+    requires { AreOfOneWord (map (λ s. s.now) snapshots.now) }
+    ensures all { IsTrue result → clocks_left memory (map (λ s. s.now) snapshots.now) ≡ map (λ s. s.now.clock) snapshots.now }
+    ensures none { IsFalse result → clocks_left memory (map (λ s. s.now) snapshots.now) ≡ [] }
+{
+    match snapshots.first() {
+        None => false,
+        Some(first) => is_in(first.word(), memory),
+    }
+}
+
+/// Whether the clock of some release counts as many events of the item as there may be.
+fn are_spent<A: Allocator>(snapshots: &[&Snapshot<A>], item: ItemId) -> bool
+    ensures { IsTrue result ↔ AreSpent (map (λ s. s.now) snapshots.now) item }
+{
+    for snapshot in snapshots {
+        if snapshot.clock().is_spent(item) {
+            return true;
+        }
+    }
+    false
+}
+
 impl<A: Allocator + Copy> Clocks<A> {
     /// The clocks of a shape's items, which have counted nothing.
     ///
     /// # Errors
-    /// `Memory`.
+    /// `Memory`: out of memory.
     pub fn new(alloc: A, shape: &Shape<A>) -> Result<Clocks<A>, ClockError>
         ensures zero { IfOk result (λ c. AreNew shape.now c) }
         ensures memory { IsOkUnless result ClockError.Memory }
@@ -72,16 +97,24 @@ impl<A: Allocator + Copy> Clocks<A> {
 }
 
 impl<A: Allocator> Clocks<A> {
+    /// The clocks in a memory.
+    fn table(&self, memory: Space) -> &Table<A>
+        ensures table { result.now ≡ clocks_in self.now memory }
+        ensures shape { map length result.now ≡ self.now.sizes }
+    {
+        match memory {
+            Space::Global => &self.global,
+            Space::Local => &self.local,
+        }
+    }
+
     /// The clock of an item in a memory.
     pub fn clock_of(&self, item: ItemId, space: Space) -> &Clock<A>
         requires { HasItem self.now.sizes item }
         ensures clock { result.now ≡ clock_in self.now space item }
         ensures shape { sizes_of result.now ≡ self.now.sizes }
     {
-        match space {
-            Space::Global => self.global.clock_of(item),
-            Space::Local => self.local.clock_of(item),
-        }
+        self.table(space).clock_of(item)
     }
 
     /// Whether the item's own count can't grow in one of the memories.
@@ -95,7 +128,7 @@ impl<A: Allocator> Clocks<A> {
     /// Counts one more event of an item whose counts can grow.
     ///
     /// # Errors
-    /// `Memory`. The clocks are then as they were.
+    /// `Memory`: out of memory. The clocks are then as they were.
     fn tick(&mut self, item: ItemId) -> Result<(), ClockError>
     where
         A: Clone,
@@ -108,42 +141,97 @@ impl<A: Allocator> Clocks<A> {
         tick_both(&mut self.global, &mut self.local, item)
     }
 
-    /// Gives an item in the memory of a release's word what the release left, and counts one more event of it, where
-    /// there is room.
+    /// Gives an item in a memory what releases on words of it left, and counts one more event of the item, where there is
+    /// room.
     ///
     /// # Errors
-    /// `Memory`. The clocks are then as they were.
-    fn learn_and_tick(&mut self, item: ItemId, snapshot: &Snapshot<A>) -> Result<(), ClockError>
+    /// `Memory`: out of memory. The clocks are then as they were.
+    fn learn_in(
+        &mut self,
+        item: ItemId,
+        snapshots: &[&Snapshot<A>],
+        memory: Space,
+    ) -> Result<(), ClockError>
     where
         A: Clone,
         requires item { HasItem self.old.sizes item }
-        requires shape { sizes_of snapshot.now.clock ≡ self.old.sizes }
+        requires shapes { All (λ s. sizes_of s.now.clock ≡ self.old.sizes) snapshots.now }
+        requires words { All (λ s. model.memory_of s.now.word ≡ memory) snapshots.now }
         requires room { ¬ IsSpent self.old item }
-        requires their_room { count_of snapshot.now.clock item ≢ LARGEST_COUNT }
-        ensures ok { OnOk result (Acquires self.old item snapshot.now self.new) }
+        requires their_room { All (λ s. count_of s.now.clock item ≢ LARGEST_COUNT) snapshots.now }
+        ensures ok { OnOk result (Acquires self.old item (map (λ s. s.now) snapshots.now) self.new) }
         ensures memory { IsOkUnless result ClockError.Memory }
         ensures err { OnErr result (self.new ≡ self.old) }
     {
-        match memory_of(snapshot.word()) {
+        match memory {
             Space::Global => {
                 let ticked = self.local.ticked(item)?;
-                self.global.learn_and_tick(item, snapshot.clock())?;
+                self.global.learn_and_tick(item, snapshots)?;
                 self.local.put_ticked(item, ticked);
                 Ok(())
             }
             Space::Local => {
                 let ticked = self.global.ticked(item)?;
-                self.local.learn_and_tick(item, snapshot.clock())?;
+                self.local.learn_and_tick(item, snapshots)?;
                 self.global.put_ticked(item, ticked);
                 Ok(())
             }
         }
     }
 
+    /// Gives an item what releases on one word left, in the memory of the word, and counts one more event of the item, where
+    /// there is room.
+    ///
+    /// # Errors
+    /// `Memory`: out of memory. The clocks are then as they were.
+    fn learn_and_tick(&mut self, item: ItemId, snapshots: &[&Snapshot<A>]) -> Result<(), ClockError>
+    where
+        A: Clone,
+        requires item { HasItem self.old.sizes item }
+        requires shapes { All (λ s. sizes_of s.now.clock ≡ self.old.sizes) snapshots.now }
+        requires word { AreOfOneWord (map (λ s. s.now) snapshots.now) }
+        requires room { ¬ IsSpent self.old item }
+        requires their_room { All (λ s. count_of s.now.clock item ≢ LARGEST_COUNT) snapshots.now }
+        ensures ok { OnOk result (Acquires self.old item (map (λ s. s.now) snapshots.now) self.new) }
+        ensures memory { IsOkUnless result ClockError.Memory }
+        ensures err { OnErr result (self.new ≡ self.old) }
+    {
+        match snapshots.first() {
+            None => self.tick(item),
+            Some(first) => self.learn_in(item, snapshots, memory_of(first.word())),
+        }
+    }
+
+    /// The clock in a memory of an item that has learned what releases on one word left, with one more event of it, where
+    /// there is room.
+    fn behind(
+        &self,
+        item: ItemId,
+        snapshots: &[&Snapshot<A>],
+        memory: Space,
+    ) -> Result<Clock<A>, ClockError>
+    where
+        A: Clone,
+        requires item { HasItem self.now.sizes item }
+        requires shapes { All (λ s. sizes_of s.now.clock ≡ self.now.sizes) snapshots.now }
+        requires word { AreOfOneWord (map (λ s. s.now) snapshots.now) }
+        requires room { ¬ IsSpent self.now item }
+        requires their_room { All (λ s. count_of s.now.clock item ≢ LARGEST_COUNT) snapshots.now }
+        ensures counts { IfOk result (λ c. IsTickOfJoin (clock_in self.now memory item) (clocks_left memory (map (λ s. s.now) snapshots.now)) item c) }
+        ensures shape { IfOk result (λ c. sizes_of c ≡ self.now.sizes) }
+        ensures memory { IsOkUnless result ClockError.Memory }
+    {
+        if are_in(snapshots, memory) {
+            self.table(memory).learned(item, snapshots)
+        } else {
+            self.table(memory).ticked(item)
+        }
+    }
+
     /// Counts an event of the item that neither releases nor acquires.
     ///
     /// # Errors
-    /// `Spent` where the item has too many events, `Memory`.
+    /// `Spent`: the item has too many events. `Memory`: out of memory. The clocks are then as they were.
     pub fn access(&mut self, item: ItemId) -> Result<(), ClockError>
     where
         A: Clone,
@@ -161,7 +249,7 @@ impl<A: Allocator> Clocks<A> {
     /// Counts a release of the item on this word with this scope, and takes its snapshot, the release itself counted.
     ///
     /// # Errors
-    /// `Spent` where the item has too many events, `Memory`.
+    /// `Spent`: the item has too many events. `Memory`: out of memory. The clocks are then as they were.
     pub fn release(
         &mut self,
         item: ItemId,
@@ -186,58 +274,58 @@ impl<A: Allocator> Clocks<A> {
         Ok(Snapshot::new(word, scope, clock))
     }
 
-    /// Counts an acquire of the item, which takes its value from the release of this snapshot.
+    /// Counts an acquire of the item, which takes its value from the releases of these snapshots, all on one word. It
+    /// learns from all of them, and then counts itself once; where there are none, it counts itself alone.
     ///
     /// # Errors
-    /// `Spent` where the item has too many events, or the snapshot counts too many of it; `Memory`.
-    pub fn acquire(&mut self, item: ItemId, snapshot: &Snapshot<A>) -> Result<(), ClockError>
+    /// `Spent`: the item has too many events, or a snapshot counts too many of it. `Memory`: out of memory. The clocks are
+    /// then as they were.
+    pub fn acquire(&mut self, item: ItemId, snapshots: &[&Snapshot<A>]) -> Result<(), ClockError>
     where
         A: Clone,
         requires item { HasItem self.old.sizes item }
-        requires shape { sizes_of snapshot.now.clock ≡ self.old.sizes }
-        ensures ok { OnOk result (Acquires self.old item snapshot.now self.new) }
-        ensures spent { (result ≡ Err ClockError.Spent) ↔ (IsSpent self.old item ⊎ (count_of snapshot.now.clock item ≡ LARGEST_COUNT)) }
+        requires shapes { All (λ s. sizes_of s.now.clock ≡ self.old.sizes) snapshots.now }
+        requires word { AreOfOneWord (map (λ s. s.now) snapshots.now) }
+        ensures ok { OnOk result (Acquires self.old item (map (λ s. s.now) snapshots.now) self.new) }
+        ensures spent { (result ≡ Err ClockError.Spent) ↔ (IsSpent self.old item ⊎ AreSpent (map (λ s. s.now) snapshots.now) item) }
         ensures err { OnErr result (self.new ≡ self.old) }
     {
-        if self.is_spent(item) || snapshot.clock().is_spent(item) {
+        if self.is_spent(item) || are_spent(snapshots, item) {
             return Err(ClockError::Spent);
         }
-        self.learn_and_tick(item, snapshot)
+        self.learn_and_tick(item, snapshots)
     }
 
-    /// Counts an acquire of the item that is a release too: it takes its value from the release of this snapshot, and
-    /// leaves a snapshot of its own on this word with this scope, the event itself counted.
+    /// Counts an acquire of the item that is a release too: it takes its value from the releases of these snapshots, all on
+    /// one word, and leaves a snapshot of its own on this word with this scope, the event itself counted.
     ///
     /// # Errors
-    /// `Spent` where the item has too many events, or the snapshot counts too many of it; `Memory`.
+    /// `Spent`: the item has too many events, or a snapshot counts too many of it. `Memory`: out of memory. The clocks are
+    /// then as they were.
     pub fn acquire_release(
         &mut self,
         item: ItemId,
-        snapshot: &Snapshot<A>,
+        snapshots: &[&Snapshot<A>],
         word: Word,
         scope: Scope,
     ) -> Result<Snapshot<A>, ClockError>
     where
         A: Clone,
         requires item { HasItem self.old.sizes item }
-        requires shape { sizes_of snapshot.now.clock ≡ self.old.sizes }
-        ensures ok { OnOk result (Acquires self.old item snapshot.now self.new) }
+        requires shapes { All (λ s. sizes_of s.now.clock ≡ self.old.sizes) snapshots.now }
+        requires word { AreOfOneWord (map (λ s. s.now) snapshots.now) }
+        ensures ok { OnOk result (Acquires self.old item (map (λ s. s.now) snapshots.now) self.new) }
         ensures snapshot { IfOk result (λ s. s ≡ release_of self.new item word scope) }
         ensures shape { IfOk result (λ s. sizes_of s.clock ≡ self.new.sizes) }
-        ensures spent { (result ≡ Err ClockError.Spent) ↔ (IsSpent self.old item ⊎ (count_of snapshot.now.clock item ≡ LARGEST_COUNT)) }
+        ensures spent { (result ≡ Err ClockError.Spent) ↔ (IsSpent self.old item ⊎ AreSpent (map (λ s. s.now) snapshots.now) item) }
         ensures err { OnErr result (self.new ≡ self.old) }
     {
-        if self.is_spent(item) || snapshot.clock().is_spent(item) {
+        if self.is_spent(item) || are_spent(snapshots, item) {
             return Err(ClockError::Spent);
         }
-        let memory = memory_of(word);
-        let mut joined = self.clock_of(item, memory).copy()?;
-        if is_in(snapshot.word(), memory) {
-            joined.join(snapshot.clock())?;
-        }
-        joined.raise(item)?;
-        self.learn_and_tick(item, snapshot)?;
-        Ok(Snapshot::new(word, scope, joined))
+        let left = self.behind(item, snapshots, memory_of(word))?;
+        self.learn_and_tick(item, snapshots)?;
+        Ok(Snapshot::new(word, scope, left))
     }
 
     /// Whether the own count of some item of the group can't grow in one of the memories.
@@ -251,7 +339,7 @@ impl<A: Allocator> Clocks<A> {
     /// Counts a barrier that all items of the group meet, with the memories that its flags name.
     ///
     /// # Errors
-    /// `Spent` where an item of the group has too many events, `Memory`.
+    /// `Spent`: an item of the group has too many events. `Memory`: out of memory. The clocks are then as they were.
     pub fn meet(&mut self, group: u16, global: bool, local: bool) -> Result<(), ClockError>
     where
         A: Clone,

@@ -110,6 +110,7 @@ impl<A: Allocator> Group<A> {
         requires item { item < length self.now.clocks }
         requires room { ¬ IsFullClock self.now item }
         ensures tick { IfOk result (λ c. IsTick (clock_in_group self.now item) (item_of self.now.number item) c) }
+        ensures shape { IfOk result (λ c. sizes_of c ≡ self.now.sizes) }
         ensures memory { IsOkUnless result ClockError.Memory }
     {
         let group = self.number;

@@ -2,7 +2,7 @@
 //!
 //! Invariant: each group has its place for its number, and all know the sizes of all.
 
-ghost use Rattle.std.specs.Prelude.{◌≡◌, ◌↔◌, ◌<◌, ◌≢◌, IsTrue, IfOk, OnOk, OnErr, IsOkUnless, map, length, set};
+ghost use Rattle.std.specs.Prelude.{◌≡◌, ◌↔◌, ◌<◌, ◌≢◌, IsTrue, All, IfOk, OnOk, OnErr, IsOkUnless, map, length, set};
 ghost use Rattle.gr_clocks.specs.declared.clock.ClockError.TheVariants.{Memory as OutOfMemory};
 ghost use Rattle.gr_model.specs.Shapes.{HasItem};
 ghost use Rattle.gr_clocks.specs.Counts.{count_of, sizes_of, IsTick};
@@ -12,6 +12,7 @@ ghost use Rattle.gr_clocks.specs.Tables.{clock_at, group_at, AreZero, IsFull, Is
 use crate::base::Base;
 use crate::clock::{Clock, ClockError, LARGEST_COUNT};
 use crate::group::{Group, tick_clocks};
+use crate::snapshot::Snapshot;
 use gr_model::event::ItemId;
 use gr_model::shape::Shape;
 use std::alloc::{Allocator, Global};
@@ -54,7 +55,7 @@ impl<A: Allocator + Copy> Table<A> {
 /// Counts one more event of an item in two tables, in both of which its own count can grow.
 ///
 /// # Errors
-/// `Memory`. The clocks are then as they were.
+/// `Memory`: out of memory. The clocks are then as they were.
 pub(crate) fn tick_both<A: Allocator + Clone>(
     one: &mut Table<A>,
     other: &mut Table<A>,
@@ -106,6 +107,7 @@ impl<A: Allocator> Table<A> {
         requires item { HasItem (map length self.now) item }
         requires room { ¬ IsFull self.now item }
         ensures tick { IfOk result (λ c. IsTick (clock_at self.now item) item c) }
+        ensures shape { IfOk result (λ c. sizes_of c ≡ map length self.now) }
         ensures memory { IsOkUnless result ClockError.Memory }
     {
         self.group(item.group).ticked_clock(item.item)
@@ -120,44 +122,48 @@ impl<A: Allocator> Table<A> {
         self.groups[item.group as usize].put_ticked(item.item, clock);
     }
 
-    /// The clock of an item that has learned what another clock counts, with one more event of it, where there is room in
-    /// both.
-    fn learned(&self, item: ItemId, other: &Clock<A>) -> Result<Clock<A>, ClockError>
+    /// The clock of an item that has learned what these releases left, with one more event of it, where there is room in
+    /// all clocks.
+    pub(crate) fn learned(
+        &self,
+        item: ItemId,
+        snapshots: &[&Snapshot<A>],
+    ) -> Result<Clock<A>, ClockError>
     where
         A: Clone,
         requires item { HasItem (map length self.now) item }
-        requires shape { sizes_of other.now ≡ map length self.now }
+        requires shapes { All (λ s. sizes_of s.now.clock ≡ map length self.now) snapshots.now }
         requires room { ¬ IsFull self.now item }
-        requires their_room { count_of other.now item ≢ LARGEST_COUNT }
-        ensures counts { IfOk result (λ c. IsTickOfJoin (clock_at self.now item) other.now item c) }
+        requires their_room { All (λ s. count_of s.now.clock item ≢ LARGEST_COUNT) snapshots.now }
+        ensures counts { IfOk result (λ c. IsTickOfJoin (clock_at self.now item) (map (λ s. s.now.clock) snapshots.now) item c) }
+        ensures shape { IfOk result (λ c. sizes_of c ≡ map length self.now) }
         ensures memory { IsOkUnless result ClockError.Memory }
     {
-        let mut clock = self.clock_of(item).copy()?;
-        clock.join(other)?;
+        let mut clock = self.clock_of(item).learned(snapshots)?;
         clock.raise(item)?;
         Ok(clock)
     }
 
-    /// Gives an item what another clock counts, and counts one more event of it, where there is room in both.
+    /// Gives an item what these releases left, and counts one more event of it, where there is room in all clocks.
     ///
     /// # Errors
-    /// `Memory`. The clocks are then as they were.
+    /// `Memory`: out of memory. The clocks are then as they were.
     pub(crate) fn learn_and_tick(
         &mut self,
         item: ItemId,
-        other: &Clock<A>,
+        snapshots: &[&Snapshot<A>],
     ) -> Result<(), ClockError>
     where
         A: Clone,
         requires item { HasItem (map length self.old) item }
-        requires shape { sizes_of other.now ≡ map length self.old }
+        requires shapes { All (λ s. sizes_of s.now.clock ≡ map length self.old) snapshots.now }
         requires room { ¬ IsFull self.old item }
-        requires their_room { count_of other.now item ≢ LARGEST_COUNT }
-        ensures ok { OnOk result (LearnsAndTicks self.old item other.now self.new) }
+        requires their_room { All (λ s. count_of s.now.clock item ≢ LARGEST_COUNT) snapshots.now }
+        ensures ok { OnOk result (LearnsAndTicks self.old item (map (λ s. s.now.clock) snapshots.now) self.new) }
         ensures memory { IsOkUnless result ClockError.Memory }
         ensures err { OnErr result (self.new ≡ self.old) }
     {
-        let clock = self.learned(item, other)?;
+        let clock = self.learned(item, snapshots)?;
         self.groups[item.group as usize].put_learned(item.item, clock);
         Ok(())
     }

@@ -1,7 +1,8 @@
 -- What is known where an event is handled.
-use Rattle.std.proofs.Common.{◌≡◌, ◌≢◌, ◌⊎◌, ◌↔◌, ℕ, ◌+◌, ◌<◌, ◌≤◌, max, Bool, true, false, List, [], ◌∷◌, ◌++◌, Some, IsTrue, map, length, refl, sym, ap, ◌∙◌, subst, inl, inr, ⊎_elim, arith, true≢false}
+use Rattle.std.proofs.Common.{◌≡◌, ◌≢◌, ◌⊎◌, ◌↔◌, ℕ, ◌+◌, ◌<◌, ◌≤◌, max, Bool, true, false, All, List, [], ◌∷◌, ◌++◌, Some, IsTrue, map, length, refl, sym, ap, ◌∙◌, subst, inl, inr, ⊎_elim, arith, true≢false}
 use Rattle.std.proofs.lemmas.Bool.{cases_lt}
 use Rattle.std.proofs.lemmas.List.Sums.{count_by-le-length, length-filter}
+use Rattle.std.proofs.lemmas.List.{map-id}
 use Rattle.std.proofs.lemmas.Option.{slice_get_within}
 use Rattle.std.specs.List.{count_by}
 use Rattle.gr_model.specs.declared.event.Event.{Event}
@@ -19,30 +20,20 @@ use Rattle.gr_model.specs.Waits.{for_release}
 use Rattle.gr_steps.specs.Steps.{Handles}
 use Rattle.gr_steps.proofs.EventRecords.{group_of_event, item_of_event}
 use Rattle.gr_clocks.specs.declared.clock.TheConstants.{LARGEST_COUNT}
-use Rattle.gr_clocks.specs.Counts.{Counts, IsJoin, IsTick, count_of, tick_at}
+use Rattle.gr_clocks.specs.Counts.{Counts, IsJoinOfAll, IsTick, count_of, greatest_count, tick_at}
 use Rattle.gr_clocks.specs.Rows.{same_item}
-use Rattle.gr_clocks.specs.ItemClocks.{Acquires, IsSpent, ItemClocks, ReleaseClock, Ticks, clock_in, clocks_in}
+use Rattle.gr_clocks.specs.ItemClocks.{Acquires, AreSpent, IsSpent, ItemClocks, ReleaseClock, Ticks, clock_in, clocks_in, clocks_left}
+use Rattle.gr_clocks.proofs.JoinLemmas.{joined_none}
+use Rattle.gr_clocks.proofs.ReleaseLemmas.{acquires_none, left_all, left_counted}
 use Rattle.gr_clocks.proofs.RowLemmas.{same_items, same_item_self}
 use Rattle.gr_closure.specs.Accesses.{CountsJust}
 use Rattle.gr_closure.specs.Knowledge.{Knows, Learns}
 use Rattle.gr_closure.proofs.EventKnowledge.{handled_cases, handled_knows, handled_sees, others_know_after_handle}
 use Rattle.gr_closure.proofs.HandledKnowledge.{known_handled, seen_handled}
 use Rattle.gr_closure.proofs.NextInItem.{IsNextInItem, ready_event_is_next}
-use Rattle.gr_sequencer.specs.Known.{AreLeft, AreTrue, IsGathered, IsLeftBy, IsLesson, IsNext, IsUntaught, Known, Left, left_at}
+use Rattle.gr_sequencer.specs.Known.{AreLeft, AreTrue, IsGathered, IsLeftBy, IsNext, Known, Left, left_at}
+use Rattle.gr_sequencer.specs.Lessons.{AreLessons}
 use Rattle.gr_sequencer.proofs.SeenCounts.{below_max, lesson_count, own_count, seen_count}
-
--- the two memories
-same_space : Space → Space → Bool
-same_space Global Global = true
-same_space Global Local = false
-same_space Local Global = false
-same_space Local Local = true
-
-space_cases : (m n : Space) → (m ≡ n) ⊎ (m ≢ n)
-space_cases Global Global = inl refl
-space_cases Global Local = inr (λ e. cc)
-space_cases Local Global = inr (λ e. cc)
-space_cases Local Local = inl refl
 
 module _ (s : Streams) (order : List EventId) (known : Known) (e : EventId) (next : IsNext s order known e) where
   abbrev pub own_clock : Space → Counts
@@ -85,32 +76,25 @@ module _ (s : Streams) (order : List EventId) (known : Known) (e : EventId) (nex
   pub unspent : IsSpent known.clocks e.at → ⊥
   unspent h = let full : e.index ≡ LARGEST_COUNT = sym (own h.0) ∙ h.1 in let small = index_small in omega arith
 
-  pub lesson_below : (left : ReleaseClock) → IsLesson s e left → count_of left.clock e.at ≤ e.index
-  lesson_below left is =
-      let m = memory_of left.word in
-      lesson_count s m order e next.lawful is_next (count_of (own_clock m)) (counts m) (Learns s m e) (learned m) (count_of left.clock) is.counts
-
-  pub lesson_unspent : (left : ReleaseClock) → IsLesson s e left → count_of left.clock e.at ≢ LARGEST_COUNT
-  lesson_unspent left is full = let below = lesson_below left is in let small = index_small in omega arith
-
   -- ---- what the event sees
 
-  nothing_below : (m : Space) → ((d : EventId) → ¬ Learns s m e d) → (d : EventId) → (d.index < 0) ↔ Learns s m e d
-  nothing_below m none d = (λ lt. absurd (omega (arith, lt)), λ l. absurd (none d l))
+  module _ (lessons : List ReleaseClock) (are : AreLessons s e lessons) where
+    -- what the lessons count together in a memory
+    abbrev told : Space → ItemId → ℕ
+    told m j = greatest_count (clocks_left m lessons) j
 
-  pub untaught_sees : (m : Space) (n : ItemId → ℕ) → ((d : EventId) → ¬ Learns s m e d) → ((j : ItemId) → n j ≡ count_of (own_clock m) j + tick_at e.at j) → (d : EventId) → (d.index < n d.at) ↔ IsSeen s m e d
-  untaught_sees m n none behind =
-      seen_count s m order e next.lawful is_next (count_of (own_clock m)) (counts m) (Learns s m e) (learned m) (λ j. 0) (nothing_below m none) (sees m) n (λ j.
-      let c : ℕ = count_of (own_clock m) j in
-      let t : ℕ = tick_at e.at j in
-      let is : n j ≡ c + t = behind j in
-      let same : n j ≡ max c 0 + t = omega arith in
-      same)
+    told_below : (m : Space) → told m e.at ≤ e.index
+    told_below m = lesson_count s m order e next.lawful is_next (count_of (own_clock m)) (counts m) (Learns s m e) (learned m) (told m) (are.counts m)
 
-  pub taught_sees : (left : ReleaseClock) → IsLesson s e left → (n : ItemId → ℕ) → ((j : ItemId) → n j ≡ max (count_of (own_clock (memory_of left.word)) j) (count_of left.clock j) + tick_at e.at j) → (d : EventId) → (d.index < n d.at) ↔ IsSeen s (memory_of left.word) e d
-  taught_sees left is n behind =
-      let m = memory_of left.word in
-      seen_count s m order e next.lawful is_next (count_of (own_clock m)) (counts m) (Learns s m e) (learned m) (count_of left.clock) is.counts (sees m) n behind
+    pub lessons_unspent : ¬ AreSpent lessons e.at
+    lessons_unspent (k, l, below, at, full) =
+        let counted = left_counted lessons e.at k l below at in
+        let less = told_below (memory_of l.word) in
+        let small = index_small in
+        omega (arith, counted, less, small, full)
+
+    lessons_see : (m : Space) (n : ItemId → ℕ) → ((j : ItemId) → n j ≡ max (count_of (own_clock m) j) (told m j) + tick_at e.at j) → (d : EventId) → (d.index < n d.at) ↔ IsSeen s m e d
+    lessons_see m n behind = seen_count s m order e next.lawful is_next (count_of (own_clock m)) (counts m) (Learns s m e) (learned m) (told m) (are.counts m) (sees m) n behind
 
   -- ---- what is gathered for it
 
@@ -151,20 +135,14 @@ module _ (s : Streams) (order : List EventId) (known : Known) (e : EventId) (nex
             ⊎_elim (λ same. h.1 (inl same)) (λ rest. ⊎_elim (λ known. h.1 (inr (inl known))) (λ g. h.1 (inr g)) rest),
           )
 
-  -- a copy of the item's clock, joined with a lesson or not
-  pub gathered_alone : (m : Space) (c : Counts) → c ≡ own_clock m → IsUntaught s e → CountsJust c (IsGathered s order m e)
-  gathered_alone m c same none d =
-      subst (λ k. (d.index < count_of k d.at) ↔ IsGathered s order m e d) (sym same) (
-        λ below. inl ((counts m d).0 below),
-        λ h. ⊎_elim (λ known. (counts m d).1 known) (λ l. absurd (none m d l)) h,
-      )
-
-  pub gathered_lesson : (m : Space) (c joined : Counts) (left : ReleaseClock) → c ≡ own_clock m → m ≡ memory_of left.word → IsLesson s e left → IsJoin c left.clock joined → CountsJust joined (IsGathered s order m e)
-  gathered_lesson m c joined left same at is join d =
+  -- the item's clock, joined with the lessons, which are all on words of the memory
+  pub gathered_lessons : (m : Space) (c joined : Counts) (lessons : List ReleaseClock) → AreLessons s e lessons → c ≡ own_clock m → All (λ l. m ≡ memory_of l.word) lessons → IsJoinOfAll c (map (λ (l : ReleaseClock). l.clock) lessons) joined → CountsJust joined (IsGathered s order m e)
+  gathered_lessons m c joined lessons are same here join d =
       let o : ℕ = count_of (own_clock m) d.at in
-      let l : ℕ = count_of left.clock d.at in
-      let counted : count_of joined d.at ≡ max o l = join.counts d.at ∙ ap (λ k. max (count_of k d.at) l) same in
-      let lesson : (d.index < l) ↔ Learns s m e d = subst (λ n. (d.index < l) ↔ Learns s n e d) (sym at) (is.counts d) in (
+      let l : ℕ = greatest_count (clocks_left m lessons) d.at in
+      let all : clocks_left m lessons ≡ map (λ (r : ReleaseClock). r.clock) lessons = ap (clocks_left m) (sym (map-id lessons)) ∙ left_all (λ r. r) m lessons here in
+      let counted : count_of joined d.at ≡ max o l = join.counts d.at ∙ ap (λ k. max (count_of k d.at) (greatest_count (map (λ (r : ReleaseClock). r.clock) lessons) d.at)) same ∙ ap (λ cs. max o (greatest_count cs d.at)) (sym all) in
+      let lesson : (d.index < l) ↔ Learns s m e d = are.counts m d in (
         λ below. ⊎_elim (λ h. inl ((counts m d).0 h)) (λ h. inr (lesson.0 h)) (below_max d.index o l (omega (arith, below, counted))),
         λ h.
             ⊎_elim
@@ -172,6 +150,10 @@ module _ (s : Streams) (order : List EventId) (known : Known) (e : EventId) (nex
             (λ l. let under = lesson.1 l in omega (arith, under, counted))
             h,
       )
+
+  -- where there are none
+  pub gathered_alone : (m : Space) (c : Counts) → AreLessons s e [] → c ≡ own_clock m → CountsJust c (IsGathered s order m e)
+  gathered_alone m c are same = gathered_lessons m c c [] are same (λ k d below. absurd (omega (arith, below))) (joined_none c)
 
   -- ---- what is known behind it
 
@@ -182,35 +164,16 @@ module _ (s : Streams) (order : List EventId) (known : Known) (e : EventId) (nex
     pub item : (m : Space) → CountsJust (clock_in new m e.at) (IsSeen s m e)
     pub others : (m : Space) (j : ItemId) → j ≢ e.at → clock_in new m j ≡ clock_in known.clocks m j
 
-  pub untaught_steps : (new : ItemClocks) → IsUntaught s e → Ticks known.clocks e.at new → Steps new
-  untaught_steps new none ticks = record {
-    shape = ticks.shape;
-    tables = λ m. (ticks.ticks m).shape;
-    item = λ m. untaught_sees m (count_of (clock_in new m e.at)) (none m) (λ j. (ticks.ticks m).item.counts j);
-    others = λ m j other. (ticks.ticks m).others j other;
-  }
-
-  pub taught_steps : (new : ItemClocks) (left : ReleaseClock) → IsLesson s e left → Acquires known.clocks e.at left new → Steps new
-  taught_steps new left is acquires = record {
+  pub lessons_steps : (new : ItemClocks) (lessons : List ReleaseClock) → AreLessons s e lessons → Acquires known.clocks e.at lessons new → Steps new
+  lessons_steps new lessons are acquires = record {
     shape = acquires.shape;
-    tables = λ m.
-        ⊎_elim
-        (λ same. subst (λ n. map length (clocks_in new n) ≡ map length (clocks_in known.clocks n)) (sym same) acquires.learns.shape)
-        (λ apart. (acquires.ticks m apart).shape)
-        (space_cases m (memory_of left.word));
-    item = λ m. ⊎_elim (λ same. there m same) (λ other. elsewhere m other) (space_cases m (memory_of left.word));
-    others = λ m j other.
-        ⊎_elim
-        (λ same. subst (λ n. clock_in new n j ≡ clock_in known.clocks n j) (sym same) (acquires.learns.others j other))
-        (λ apart. (acquires.ticks m apart).others j other)
-        (space_cases m (memory_of left.word));
+    tables = λ m. (acquires.learns m).shape;
+    item = λ m. lessons_see lessons are m (count_of (clock_in new m e.at)) (λ j. (acquires.learns m).item.counts j);
+    others = λ m j other. (acquires.learns m).others j other;
   }
-    where
-      there : (m : Space) → m ≡ memory_of left.word → CountsJust (clock_in new m e.at) (IsSeen s m e)
-      there m same = subst (λ n. CountsJust (clock_in new n e.at) (IsSeen s n e)) (sym same) (taught_sees left is (count_of (clock_in new (memory_of left.word) e.at)) (λ j. acquires.learns.item.counts j))
 
-      elsewhere : (m : Space) → m ≢ memory_of left.word → CountsJust (clock_in new m e.at) (IsSeen s m e)
-      elsewhere m other = untaught_sees m (count_of (clock_in new m e.at)) (λ d l. is.others m d other l) (λ j. (acquires.ticks m other).item.counts j)
+  pub untaught_steps : (new : ItemClocks) → AreLessons s e [] → Ticks known.clocks e.at new → Steps new
+  untaught_steps new are ticks = lessons_steps new [] are (acquires_none known.clocks e.at [] new refl ticks)
 
   pub steps_true : (new : ItemClocks) → Steps new → AreTrue s (order ++ e ∷ []) new
   steps_true new steps = record {

@@ -3,5 +3,6 @@ pub mod KeptLemmas
 pub mod KnownGrowth
 pub mod EventSteps
 pub mod GroupSteps
-pub mod Lessons
+pub mod Spaces
+pub mod Teaching
 pub mod StepLemmas

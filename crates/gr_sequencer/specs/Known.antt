@@ -69,14 +69,3 @@ pub record IsNext (s : Streams) (order : List EventId) (known : Known) (e : Even
 -- d is known to the event's item, or the event learns of it
 abbrev pub IsGathered : Streams → List EventId → Space → EventId → EventId → Type 0
 IsGathered s order m e d = Knows s m order e.at d ⊎ Learns s m e d
-
--- what an event learns from the release that it matches: it has the event's word, and counts just what is learned in the word's memory, where alone something is
-pub record IsLesson (s : Streams) (e : EventId) (left : ReleaseClock) : Type 0 where
-  pub word : word_at s e ≡ Some left.word
-  pub shape : sizes_of left.clock ≡ s.sizes
-  pub counts : CountsJust left.clock (Learns s (memory_of left.word) e)
-  pub others : (m : Space) (d : EventId) → m ≢ memory_of left.word → ¬ Learns s m e d
-
--- the event learns nothing
-abbrev pub IsUntaught : Streams → EventId → Type 0
-IsUntaught s e = (m : Space) (d : EventId) → ¬ Learns s m e d

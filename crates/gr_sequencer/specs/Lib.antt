@@ -1,2 +1,3 @@
 pub mod Answers
 pub mod Known
+pub mod Lessons

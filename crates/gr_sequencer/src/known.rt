@@ -1,30 +1,29 @@
 //! What the work-items know of the events that were handled: their clocks, and what each handled release left.
 
-ghost use Rattle.std.specs.Prelude.{◌≡◌, ◌≢◌, ◌<◌, ◌++◌, ◌∷◌, [], Some, IfOk, OnErr, OnOk, IsTrue, MatchOption, length};
+ghost use Rattle.std.specs.Prelude.{◌≡◌, ◌≢◌, ◌<◌, ◌++◌, ◌∷◌, [], Some, IfOk, OnErr, OnOk, IsTrue, length};
 ghost use Rattle.gr_model.specs.declared.event.EventId.{EventId as AnyEvent};
 ghost use Rattle.gr_model.specs.Access as model;
 ghost use Rattle.gr_model.specs.Barriers.{IsConvergent};
 ghost use Rattle.gr_model.specs.Instances.{Mark};
-ghost use Rattle.gr_model.specs.Names.{release_place};
 ghost use Rattle.gr_model.specs.Streams.{event_at, word_at};
 ghost use Rattle.gr_model.specs.Counts.{IsSeen};
-ghost use Rattle.gr_steps.specs.Steps.{IsReady};
 ghost use Rattle.gr_clocks.specs.Counts.{sizes_of};
 ghost use Rattle.gr_clocks.specs.ItemClocks.{IsGroupSpent, Meets};
 ghost use Rattle.gr_closure.specs.Accesses.{CountsJust, IsAccessOf};
 ghost use Rattle.gr_lanes.specs.Takes.{nothing_taken};
-ghost use Rattle.gr_sequencer.specs.Known.{AreLeft, AreTrue, IsGathered, IsKnown, IsLeftBy, IsLesson, IsNext, IsUntaught, left_at};
+ghost use Rattle.gr_sequencer.specs.Known.{AreTrue, IsGathered, IsKnown, IsLeftBy, IsNext, left_at};
 
+use crate::lessons::lessons_of;
 use gr_clocks::access::Access;
 use gr_clocks::clock::{Clock, ClockError};
 use gr_clocks::clocks::{Clocks, memory_of};
 use gr_clocks::snapshot::Snapshot;
 use gr_lanes::instance::barrier;
-use gr_model::event::{Event, EventId, ItemId, Kind, Name, Word, word_of};
+use gr_model::event::{Event, EventId, ItemId, Kind, Word, word_of};
 use gr_model::memory::Memory;
 use gr_model::shape::Shape;
 use gr_order::order::Order;
-use gr_scopes::access::{inclusive, release_scope};
+use gr_scopes::access::release_scope;
 use gr_scopes::class::class_of;
 use indexmap::IndexMap;
 use std::alloc::{Allocator, Global};
@@ -32,7 +31,7 @@ use std::hash::{BuildHasherDefault, FoldHasher};
 use std::marker::Model;
 
 /// What releases left, by the event.
-type Left<A> = IndexMap<EventId, Snapshot<A>, BuildHasherDefault<FoldHasher>, A>;
+pub(crate) type Left<A> = IndexMap<EventId, Snapshot<A>, BuildHasherDefault<FoldHasher>, A>;
 
 /// What the work-items know of the events that were handled: their clocks, and what each handled release left.
 #[derive(Drop)]
@@ -63,37 +62,6 @@ impl<A: Allocator + Copy> Known<A> {
             clocks,
             left: IndexMap::new(alloc),
         })
-    }
-}
-
-/// The record of the release of this name, which has this index.
-fn release_event<A: Allocator>(order: &Order<A>, name: Name, index: u32) -> Option<Event>
-    requires { release_place order.now.taken name ≡ Some index }
-    ensures { result ≡ event_at order.now.taken (record { at = name.at; index = index }) }
-{
-    order.lanes().release_event(name)
-}
-
-/// What the release that an event matches left, where the two are of inclusive scope.
-fn lesson<'a, A: Allocator>(
-    order: &Order<A>,
-    left: &'a Left<A>,
-    event: EventId,
-    taken: &Event,
-) -> Option<&'a Snapshot<A>>
-    requires there { event_at order.now.taken event ≡ Some taken.now }
-    requires left { AreLeft order.now.taken order.now.handled left.now.entries }
-    requires ready { IsReady order.now.taken order.now.handled event }
-    ensures { MatchOption result (IsUntaught order.now.taken event) (λ l. IsLesson order.now.taken event l.now) }
-{
-    let name = taken.name?;
-    let index = order.lanes().release_at(name)?;
-    let release = EventId { at: name.at, index };
-    let given = release_event(order, name, index)?;
-    if inclusive(&given.kind, release.at.group, &taken.kind, event.at.group) {
-        left.get(&release)
-    } else {
-        None
     }
 }
 
@@ -128,14 +96,14 @@ impl<A: Allocator> Known<A> {
         ensures shape { IfOk result (λ c. sizes_of c ≡ order.now.taken.sizes) }
         ensures counts { IfOk result (λ c. CountsJust c (IsGathered order.now.taken order.now.handled (model.memory_of word) event)) }
     {
-        let mut clock = match self.clocks.clock_of(event.at, memory_of(word)).copy() {
-            Ok(clock) => clock,
-            Err(_) => return Err(Memory),
-        };
-        match lesson(order, &self.left, event, taken) {
-            None => Ok(clock),
-            Some(lesson) => match clock.join(lesson.clock()) {
-                Ok(()) => Ok(clock),
+        let clock = self.clocks.clock_of(event.at, memory_of(word));
+        match lessons_of(order, &self.left, event, taken) {
+            None => match clock.copy() {
+                Ok(copied) => Ok(copied),
+                Err(_) => Err(Memory),
+            },
+            Some(lessons) => match clock.learned(lessons.as_slice()) {
+                Ok(learned) => Ok(learned),
                 Err(_) => Err(Memory),
             },
         }
@@ -170,7 +138,7 @@ impl<A: Allocator> Known<A> {
     /// The access of an event that may be handled next, or `None` where it is no access.
     ///
     /// # Errors
-    /// `Memory`.
+    /// `Memory`: out of memory.
     pub(crate) fn access_of(
         &self,
         order: &Order<A>,
@@ -201,7 +169,7 @@ impl<A: Allocator> Known<A> {
     /// Keeps what an event leaves, where it is a release.
     ///
     /// # Errors
-    /// `Memory`. What is known is then as before.
+    /// `Memory`: out of memory. What is known is then as before.
     pub(crate) fn keep(
         &mut self,
         order: &Order<A>,
@@ -234,7 +202,7 @@ impl<A: Allocator> Known<A> {
     /// Gives an event's item the clocks that it has behind the event, which may be handled next.
     ///
     /// # Errors
-    /// `Memory`. What is known is then as before.
+    /// `Memory`: out of memory. What is known is then as before.
     pub(crate) fn advance(
         &mut self,
         order: &Order<A>,
@@ -249,9 +217,9 @@ impl<A: Allocator> Known<A> {
         ensures clocks { OnOk result (AreTrue order.now.taken (order.now.handled ++ event ∷ []) self.new.clocks) }
         ensures err { OnErr result (self.new.clocks ≡ self.old.clocks) }
     {
-        let answer = match lesson(order, &self.left, event, taken) {
+        let answer = match lessons_of(order, &self.left, event, taken) {
             None => self.clocks.access(event.at),
-            Some(lesson) => self.clocks.acquire(event.at, lesson),
+            Some(lessons) => self.clocks.acquire(event.at, lessons.as_slice()),
         };
         match answer {
             Ok(()) => Ok(()),
@@ -266,7 +234,7 @@ impl<A: Allocator> Known<A> {
     /// is spent.
     ///
     /// # Errors
-    /// `Memory`. What is known is then as before.
+    /// `Memory`: out of memory. What is known is then as before.
     pub(crate) fn meet(&mut self, order: &Order<A>, group: u16, instance: u32) -> Result<(), Memory>
     where
         A: Clone,

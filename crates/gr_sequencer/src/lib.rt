@@ -4,4 +4,5 @@
 
 pub mod handled;
 mod known;
+mod lessons;
 pub mod sequencer;

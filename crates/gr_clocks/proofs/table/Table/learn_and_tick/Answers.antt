@@ -7,7 +7,7 @@ pub put_learned-requires-clause-grown : goal.put_learned-requires-clause-grown
 put_learned-requires-clause-grown g c =
     let there = row_of_item c.args.self.now c.args.item c.requires.item in
     let is = group_is c.self.inside.groups.items c.args.self.now c.self.invariant c.self.view_is c.args.item.group c.index_mut.result.now there.0 c.index_mut.ensures.value in
-    rw is (tick_grows (clock_at c.args.self.now c.args.item) c.args.other.now c.args.item c.in_ok-clock.clock c.in_ok-clock.ensures.counts)
+    rw is (tick_grows (clock_at c.args.self.now c.args.item) _ c.args.item c.in_ok-clock.clock c.in_ok-clock.ensures.counts)
 
 pub invariant_of-self : goal.invariant_of-self
 invariant_of-self g c = item_groups c.self.inside.groups.items c.args.self.now c.self.invariant c.self.view_is c.args.item c.index_mut.result.now c.put_learned.new.self c.in_ok-clock.clock c.requires.item c.index_mut.ensures.value c.put_learned.ensures
@@ -15,4 +15,4 @@ invariant_of-self g c = item_groups c.self.inside.groups.items c.args.self.now c
 pub returns-clause-ok : goal.returns-clause-ok
 returns-clause-ok g c =
     let is = item_table c.self.inside.groups.items c.args.self.now c.self.invariant c.self.view_is c.args.item c.index_mut.result.now c.put_learned.new.self c.in_ok-clock.clock c.requires.item c.index_mut.ensures.value c.put_learned.ensures in
-    learns_and_ticks c.args.self.now _ c.args.item c.in_ok-clock.clock c.requires.item is c.args.other.now c.in_ok-clock.ensures.counts
+    learns_and_ticks c.args.self.now _ c.args.item c.in_ok-clock.clock c.requires.item is _ c.in_ok-clock.ensures.counts

@@ -1,16 +1,18 @@
-use Rattle.std.proofs.Common.{Err, [], ◌∷◌, ◌++◌, sym, ap, ◌∙◌, subst, ⊎_elim}
+use Rattle.std.proofs.Common.{◌≡◌, Err, List, map, [], ◌∷◌, ◌++◌, sym, ap, ◌∙◌, subst, ⊎_elim, arith}
 use Rattle.std.specs.Prelude.{OnOk}
-use Rattle.gr_clocks.specs.ItemClocks.{Acquires, Ticks}
+use Rattle.gr_clocks.specs.Counts.{sizes_of}
+use Rattle.gr_clocks.specs.ItemClocks.{Acquires, AreOfOneWord, AreSpent, ReleaseClock, Ticks}
 use Rattle.gr_sequencer.specs.Known.{AreTrue, IsNext, Known}
-use Rattle.gr_sequencer.proofs.EventSteps.{has_clock, lesson_unspent, steps_true, taught_steps, untaught_steps, unspent}
+use Rattle.gr_sequencer.proofs.EventSteps.{has_clock, lessons_steps, lessons_unspent, steps_true, untaught_steps, unspent}
+use Rattle.gr_sequencer.proofs.Teaching.{each_referred, of_one_word}
 use Rattle.gr_sequencer.proofs.known.Known.advance.Goals as goal
 use Rattle.gr_sequencer.proofs.known.Known.advance.Goals.{in-None, in-Some, in-Ok, in-Err+in-Memory}
 
-pub lesson-requires : goal.lesson-requires
-lesson-requires g c =
+pub lessons_of-requires : goal.lessons_of-requires
+lessons_of-requires g c =
     let known : Known = record { clocks = c.self.inside.clocks; left = c.self.inside.left.entries } in
     let next = subst (λ k. IsNext c.args.order.now.taken c.args.order.now.handled k c.args.event) (sym c.self.view_is) c.requires.next in
-    record { there = c.requires.there; left = next.follows.left; ready = next.ready }
+    (omega arith, (c.requires.there, (next.follows.left, next.ready)))
 
 pub access-answer-requires : goal.access-answer-requires
 access-answer-requires g c =
@@ -24,6 +26,16 @@ acquire-answer-requires-clause-item g c =
     let next = subst (λ k. IsNext c.args.order.now.taken c.args.order.now.handled k c.args.event) (sym c.self.view_is) c.requires.next in
     has_clock c.args.order.now.taken c.args.order.now.handled known c.args.event next
 
+pub acquire-answer-requires-clause-shapes : goal.acquire-answer-requires-clause-shapes
+acquire-answer-requires-clause-shapes g c =
+    let known : Known = record { clocks = c.self.inside.clocks; left = c.self.inside.left.entries } in
+    let next = subst (λ k. IsNext c.args.order.now.taken c.args.order.now.handled k c.args.event) (sym c.self.view_is) c.requires.next in
+    each_referred (λ r. r.now) (λ l. sizes_of l.clock ≡ known.clocks.sizes) c.as_slice.result.now c.in-Some.lessons c.as_slice.ensures (λ k d below. c.in-Some.ensures.shapes k d below ∙ sym next.follows.clocks.shape)
+
+pub acquire-answer-requires-clause-word : goal.acquire-answer-requires-clause-word
+acquire-answer-requires-clause-word g c =
+    subst AreOfOneWord (sym c.as_slice.ensures) (of_one_word c.args.order.now.taken c.args.event c.in-Some.lessons c.in-Some.ensures.words)
+
 pub unreachable-requires : goal.unreachable-requires
 unreachable-requires g c =
     let s = c.args.order.now.taken in
@@ -31,11 +43,14 @@ unreachable-requires g c =
     let e = c.args.event in
     let known : Known = record { clocks = c.self.inside.clocks; left = c.self.inside.left.entries } in
     let next = subst (λ k. IsNext s order k e) (sym c.self.view_is) c.requires.next in
-    elim c.match-lesson.branch [
+    elim c.match-lessons_of.branch [
       | in-None w ↦
           unspent s order known e next (w.access-answer.ensures.spent.0 (sym w.answer-is ∙ c.in-Err.is ∙ ap Err c.in-Spent.is))
       | in-Some w ↦
-          ⊎_elim (unspent s order known e next) (lesson_unspent s order known e next w.in-Some.lesson.now w.in-Some.ensures) (w.acquire-answer.ensures.spent.0 (sym w.answer-is ∙ c.in-Err.is ∙ ap Err c.in-Spent.is))
+          ⊎_elim
+          (unspent s order known e next)
+          (λ spent. lessons_unspent s order known e next w.in-Some.lessons w.in-Some.ensures (subst (λ (ls : List ReleaseClock). AreSpent ls e.at) w.as_slice.ensures spent))
+          (w.acquire-answer.ensures.spent.0 (sym w.answer-is ∙ c.in-Err.is ∙ ap Err c.in-Spent.is))
     ]
 
 pub returns-clause-clocks : goal.returns-clause-clocks
@@ -47,13 +62,15 @@ returns-clause-clocks g c =
     let next = subst (λ k. IsNext s order k e) (sym c.self.view_is) c.requires.next in
     elim c.match-answer.branch [
       | in-Ok v ↦
-          subst (λ r. OnOk r (AreTrue s (order ++ e ∷ []) c.match-lesson.self-inside.clocks)) (sym v.result-is) (elim c.match-lesson.branch [
+          subst (λ r. OnOk r (AreTrue s (order ++ e ∷ []) c.match-lessons_of.self-inside.clocks)) (sym v.result-is) (elim c.match-lessons_of.branch [
             | in-None w ↦
                 let ticks = subst (λ r. OnOk r (Ticks known.clocks e.at w.access-answer.new.self)) (sym w.answer-is ∙ v.in-Ok.is) w.access-answer.ensures.ok in
                 subst (λ k. AreTrue s (order ++ e ∷ []) k.clocks) (sym w.self-inside-is) (steps_true s order known e next w.access-answer.new.self (untaught_steps s order known e next w.access-answer.new.self w.in-None.ensures ticks))
             | in-Some w ↦
-                let acquires = subst (λ r. OnOk r (Acquires known.clocks e.at w.in-Some.lesson.now w.acquire-answer.new.self)) (sym w.answer-is ∙ v.in-Ok.is) w.acquire-answer.ensures.ok in
-                subst (λ k. AreTrue s (order ++ e ∷ []) k.clocks) (sym w.self-inside-is) (steps_true s order known e next w.acquire-answer.new.self (taught_steps s order known e next w.acquire-answer.new.self w.in-Some.lesson.now w.in-Some.ensures acquires))
+                let lessons : List ReleaseClock = w.in-Some.lessons in
+                let told = subst (λ r. OnOk r (Acquires known.clocks e.at (map (λ r. r.now) w.as_slice.result.now) w.acquire-answer.new.self)) (sym w.answer-is ∙ v.in-Ok.is) w.acquire-answer.ensures.ok in
+                let acquires : Acquires known.clocks e.at lessons w.acquire-answer.new.self = subst (λ (ls : List ReleaseClock). Acquires known.clocks e.at ls w.acquire-answer.new.self) w.as_slice.ensures told in
+                subst (λ k. AreTrue s (order ++ e ∷ []) k.clocks) (sym w.self-inside-is) (steps_true s order known e next w.acquire-answer.new.self (lessons_steps s order known e next w.acquire-answer.new.self lessons w.in-Some.ensures acquires))
           ])
-      | in-Err+in-Memory v ↦ subst (λ r. OnOk r (AreTrue s (order ++ e ∷ []) c.match-lesson.self-inside.clocks)) (sym v.result-is) tt
+      | in-Err+in-Memory v ↦ subst (λ r. OnOk r (AreTrue s (order ++ e ∷ []) c.match-lessons_of.self-inside.clocks)) (sym v.result-is) tt
     ]

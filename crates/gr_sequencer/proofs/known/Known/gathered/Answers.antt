@@ -1,13 +1,15 @@
-use Rattle.std.proofs.Common.{◌≡◌, Some, sym, ap, ◌∙◌, subst}
+use Rattle.std.proofs.Common.{◌≡◌, All, List, get_or, Some, map, sym, ap, ◌∙◌, subst, arith}
+use Rattle.gr_model.specs.declared.event.Word.{Word}
 use Rattle.gr_model.specs.Access.{memory_of}
-use Rattle.gr_clocks.specs.Counts.{IsJoin}
-use Rattle.gr_clocks.specs.ItemClocks.{clock_in}
+use Rattle.gr_clocks.specs.Counts.{Counts, IsJoinOfAll, sizes_of}
+use Rattle.gr_clocks.specs.ItemClocks.{ReleaseClock, clock_in}
 use Rattle.gr_sequencer.specs.Known.{IsNext, Known}
-use Rattle.gr_sequencer.proofs.EventSteps.{gathered_alone, gathered_lesson, has_clock}
+use Rattle.gr_sequencer.proofs.EventSteps.{gathered_alone, gathered_lessons, has_clock}
+use Rattle.gr_sequencer.proofs.Teaching.{clocks_referred, each_referred}
 use Rattle.gr_sequencer.proofs.known.Known.gathered.Goals as goal
 
-pub clock_of-requires : goal.clock_of-requires
-clock_of-requires g c =
+pub clock_of-clock-requires : goal.clock_of-clock-requires
+clock_of-clock-requires g c =
     let s = c.args.order.now.taken in
     let order = c.args.order.now.handled in
     let e = c.args.event in
@@ -15,33 +17,46 @@ clock_of-requires g c =
     let next = subst (λ k. IsNext s order k e) (sym c.self.view_is) c.requires.next in
     has_clock s order known e next
 
-pub lesson-requires : goal.lesson-requires
-lesson-requires g c =
+pub lessons_of-requires : goal.lessons_of-requires
+lessons_of-requires g c =
     let next = subst (λ k. IsNext c.args.order.now.taken c.args.order.now.handled k c.args.event) (sym c.self.view_is) c.requires.next in
-    record { there = c.requires.there; left = next.follows.left; ready = next.ready }
+    (omega arith, (c.requires.there, (next.follows.left, next.ready)))
 
-pub returns-in-None-clause-counts : goal.returns-in-None-clause-counts
-returns-in-None-clause-counts g c =
+pub learned-requires : goal.learned-requires
+learned-requires g c =
+    let s = c.args.order.now.taken in
+    let order = c.args.order.now.handled in
+    let e = c.args.event in
+    let known : Known = record { clocks = c.self.inside.clocks; left = c.self.inside.left.entries } in
+    let next = subst (λ k. IsNext s order k e) (sym c.self.view_is) c.requires.next in
+    let lessons : List ReleaseClock = c.in-Some.lessons in
+    let shape : sizes_of c.clock_of-clock.result.now ≡ s.sizes = c.clock_of-clock.ensures.shape ∙ next.follows.clocks.shape in
+    each_referred (λ r. r.now) (λ l. sizes_of l.clock ≡ sizes_of c.clock_of-clock.result.now) c.as_slice.result.now lessons c.as_slice.ensures (λ k d below. c.in-Some.ensures.shapes k d below ∙ sym shape)
+
+pub returns-in-Ok-clause-counts : goal.returns-in-Ok-clause-counts
+returns-in-Ok-clause-counts g c =
+    let s = c.args.order.now.taken in
+    let order = c.args.order.now.handled in
+    let e = c.args.event in
+    let known : Known = record { clocks = c.self.inside.clocks; left = c.self.inside.left.entries } in
+    let next = subst (λ k. IsNext s order k e) (sym c.self.view_is) c.requires.next in
+    let same = c.in-Ok.ensures.copy ∙ c.clock_of-clock.ensures.clock ∙ ap (λ n. clock_in known.clocks n e.at) c.memory_of.ensures in
+    gathered_alone s order known e next (memory_of c.args.word) c.in-Ok.copied c.in-None.ensures same
+
+pub returns-in-Ok-learned-clause-counts : goal.returns-in-Ok-learned-clause-counts
+returns-in-Ok-learned-clause-counts g c =
     let s = c.args.order.now.taken in
     let order = c.args.order.now.handled in
     let e = c.args.event in
     let known : Known = record { clocks = c.self.inside.clocks; left = c.self.inside.left.entries } in
     let next = subst (λ k. IsNext s order k e) (sym c.self.view_is) c.requires.next in
     let m = memory_of c.args.word in
-    let same = c.in-Ok.ensures.copy ∙ c.clock_of.ensures.clock ∙ ap (λ n. clock_in known.clocks n e.at) c.memory_of.ensures in
-    gathered_alone s order known e next m c.in-Ok.clock same c.in-None.ensures
-
-pub returns-in-Ok-join-clause-counts : goal.returns-in-Ok-join-clause-counts
-returns-in-Ok-join-clause-counts g c =
-    let s = c.args.order.now.taken in
-    let order = c.args.order.now.handled in
-    let e = c.args.event in
-    let known : Known = record { clocks = c.self.inside.clocks; left = c.self.inside.left.entries } in
-    let next = subst (λ k. IsNext s order k e) (sym c.self.view_is) c.requires.next in
-    let m = memory_of c.args.word in
-    let left = c.in-Some.lesson.now in
-    let same = c.in-Ok.ensures.copy ∙ c.clock_of.ensures.clock ∙ ap (λ n. clock_in known.clocks n e.at) c.memory_of.ensures in
+    let lessons : List ReleaseClock = c.in-Some.lessons in
     let is = c.in-Some.ensures in
-    let word : c.args.word ≡ left.word = let both : Some c.args.word ≡ Some left.word = sym c.requires.word ∙ is.word in cc in
-    let join = subst (λ k. IsJoin c.in-Ok.clock k c.join.new.self) c.clock.ensures c.in-Ok-join.ensures.ok in
-    gathered_lesson s order known e next m c.in-Ok.clock c.join.new.self left same (ap memory_of word) is join
+    let same = c.clock_of-clock.ensures.clock ∙ ap (λ n. clock_in known.clocks n e.at) c.memory_of.ensures in
+    let here : All (λ (l : ReleaseClock). m ≡ memory_of l.word) lessons = λ k d below. on_word c.args.word (get_or lessons k d).word (sym c.requires.word ∙ is.words k d below) in
+    let join : IsJoinOfAll c.clock_of-clock.result.now (map (λ (l : ReleaseClock). l.clock) lessons) c.in-Ok-learned.learned = subst (λ (cs : List Counts). IsJoinOfAll c.clock_of-clock.result.now cs c.in-Ok-learned.learned) (clocks_referred (λ r. r.now) c.as_slice.result.now lessons c.as_slice.ensures) c.in-Ok-learned.ensures.join in
+    gathered_lessons s order known e next m c.clock_of-clock.result.now c.in-Ok-learned.learned lessons is same here join
+  where
+    on_word : (v w : Word) → Some v ≡ Some w → memory_of v ≡ memory_of w
+    on_word v w both = let same : v ≡ w = cc in ap memory_of same

@@ -2,7 +2,7 @@ use Rattle.std.proofs.Common.{◌∙◌, ap}
 use Rattle.gr_model.specs.Access.{is_release}
 use Rattle.gr_lanes.specs.Indices.{record_of}
 use Rattle.gr_lanes.proofs.IndexLemmas.{record_is}
-use Rattle.gr_sequencer.proofs.known.release_event.Goals as goal
+use Rattle.gr_sequencer.proofs.lessons.release_event.Goals as goal
 
 pub returns : goal.returns
 returns g c =

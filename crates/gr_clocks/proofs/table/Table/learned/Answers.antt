@@ -1,0 +1,7 @@
+use Rattle.std.proofs.Common.{subst, sym}
+use Rattle.gr_clocks.proofs.TableLemmas.{join_has_room, tick_of_join}
+use Rattle.gr_clocks.proofs.table.Table.learned.Goals as goal
+
+pub raise-requires-clause-room : goal.raise-requires-clause-room
+raise-requires-clause-room g c =
+    join_has_room (λ s. s.now.clock) _ c.args.snapshots.now c.in_ok-clock.clock c.args.item c.in_ok-clock.ensures.join (rw c.clock_of.ensures.clock c.requires.room) c.requires.their_room

@@ -1,0 +1,207 @@
+-- What an event learns from the releases that it names.
+use Rattle.std.proofs.Common.{◌≡◌, ◌≢◌, ◌⊎◌, ◌↔◌, ℕ, ◌+◌, ◌<◌, ◌≤◌, max, All, Contains, List, [], ◌∷◌, ◌++◌, length, get_or, map, take, None, Some, IsTrue, refl, sym, ap, ◌∙◌, subst, inl, inr, ⊎_elim, slice_get, suc, arith}
+use Rattle.std.proofs.lemmas.List.Elements.{All-push, Contains-append_left, Contains-push, Contains-push_cases}
+use Rattle.std.proofs.lemmas.List.{get_or-map, length-append, length-map}
+use Rattle.std.proofs.Math.Seq.{take-suc}
+use Rattle.gr_model.specs.declared.event.Event.{Event}
+use Rattle.gr_model.specs.declared.event.EventId.{EventId}
+use Rattle.gr_model.specs.declared.event.Name.{Name}
+use Rattle.gr_model.specs.declared.event.Space.{Space}
+use Rattle.gr_model.specs.Access.{inclusive, is_release, memory_of}
+use Rattle.gr_model.specs.Counts.{IsSeen}
+use Rattle.gr_model.specs.HappensBefore.{IsInclusive}
+use Rattle.gr_model.specs.LawfulOrders.{IsIn}
+use Rattle.gr_model.specs.Names.{HasName, Matches, MatchesBy, names_of, release_place}
+use Rattle.gr_model.specs.Streams.{Streams, event_at, trace_of, word_at}
+use Rattle.gr_model.specs.Waits.{for_release}
+use Rattle.gr_model.proofs.Places.{places_from-there}
+use Rattle.gr_model.proofs.Cuts.{same_event}
+use Rattle.gr_steps.specs.Steps.{IsReady}
+use Rattle.gr_steps.proofs.EventRecords.{one_release}
+use Rattle.gr_clocks.specs.Counts.{count_of, greatest_count, sizes_of}
+use Rattle.gr_clocks.specs.ItemClocks.{ReleaseClock, AreOfOneWord, clocks_left}
+use Rattle.gr_clocks.proofs.ReleaseLemmas.{left_elsewhere, left_here}
+use Rattle.gr_closure.specs.Knowledge.{Learns}
+use Rattle.gr_sequencer.specs.Known.{IsLeft}
+use Rattle.gr_sequencer.specs.Lessons.{AreLessons, IsLesson, IsUntaught, LearnsBy}
+use Rattle.gr_sequencer.proofs.SeenCounts.{below_max}
+use Rattle.gr_sequencer.proofs.Spaces.{space_cases}
+
+module _ (s : Streams) (order : List EventId) (e r : EventId) (x given : Event) (n : Name) (event : event_at s e ≡ Some x) (named : Contains x.names n) (item : r.at ≡ n.at) (place : release_place s n ≡ Some r.index) (there : event_at s r ≡ Some given) (ready : IsReady s order e) where
+  has_name : HasName s e n
+  has_name = subst (λ names. Contains names n) (sym (ap names_of event)) named
+
+  matches_by : MatchesBy s n e r
+  matches_by =
+      let found = ready.release n has_name in
+      let f = found.0 in
+      let by = found.1 in
+      let same : f ≡ r = same_event f r (by.item ∙ sym item) (let is : Some f.index ≡ Some r.index = sym by.place ∙ place in cc) in
+      subst (MatchesBy s n e) same by
+
+  matches : Matches s e r
+  matches = record { name = n; by = matches_by }
+
+  pub release_handled : IsIn order r
+  release_handled = ready.waits r (for_release matches)
+
+  pub given_releases : IsTrue (is_release given)
+  given_releases =
+      let is = places_from-there is_release 0 (trace_of s n.at) n.release r.index place in
+      let index : r.index ≡ is.0 = omega (arith, is.2) in
+      let at : slice_get (trace_of s n.at) r.index ≡ Some is.1 = ap (slice_get (trace_of s n.at)) index ∙ is.3 in
+      let same : is.1 ≡ given = let e : Some is.1 ≡ Some given = sym at ∙ ap (λ i. slice_get (trace_of s i) r.index) (sym item) ∙ there in cc in
+      subst (λ y. IsTrue (is_release y)) same is.4
+
+  -- what the event learns by this name, it learns from this release
+  from_release : (m : Space) (d : EventId) (l : LearnsBy s m e n d) → l.release ≡ r
+  from_release m d l = one_release s n e l.release r l.by matches_by
+
+  pub lesson_of : IsTrue (inclusive given.kind r.at.group x.kind e.at.group) → (left : ReleaseClock) → IsLeft s r left → IsLesson s e n left
+  lesson_of scopes left is = record {
+    word = matches_by.word ∙ is.word;
+    shape = is.shape;
+    counts = λ d. (
+      λ below. record { release = r; by = matches_by; inclusive = within; seen = (is.counts d).0 below },
+      λ l. (is.counts d).1 (subst (λ f. IsSeen s (memory_of left.word) f d) (from_release (memory_of left.word) d l) l.seen),
+    );
+    others = λ m d other l.
+        let w : Some l.inclusive.word ≡ Some left.word = sym l.inclusive.has_word ∙ ap (word_at s) (from_release m d l) ∙ is.word in
+        other (sym l.inclusive.memory ∙ (let same : l.inclusive.word ≡ left.word = cc in ap memory_of same));
+  }
+    where
+      within : IsInclusive s (memory_of left.word) r e
+      within = record { first = given; second = x; at_first = there; at_second = event; word = left.word; has_word = is.word; memory = refl; scopes = scopes }
+
+-- ---- the lessons of several names
+
+-- in a memory, e learns of d from the release of one of these names
+abbrev pub LearnsFrom : Streams → Space → EventId → List Name → EventId → Type 0
+LearnsFrom s m e names d = (n : Name) × Contains names n × LearnsBy s m e n d
+
+-- what an event learns from the releases of these names
+pub record AreLessonsOf (s : Streams) (e : EventId) (names : List Name) (lessons : List ReleaseClock) : Type 0 where
+  pub few : length lessons ≤ length names
+  pub words : All (λ l. word_at s e ≡ Some l.word) lessons
+  pub shapes : All (λ l. sizes_of l.clock ≡ s.sizes) lessons
+  pub counts : (m : Space) (d : EventId) → (d.index < greatest_count (clocks_left m lessons) d.at) ↔ LearnsFrom s m e names d
+
+module _ (s : Streams) (e : EventId) where
+  pub lessons_none : AreLessonsOf s e [] []
+  lessons_none = record {
+    few = omega arith;
+    words = λ k d below. absurd (omega (arith, below));
+    shapes = λ k d below. absurd (omega (arith, below));
+    counts = λ m d. (λ below. absurd (omega (arith, below)), λ l. absurd (let some = l.1.1 in omega (arith, some)));
+  }
+
+  module _ (names : List Name) (n : Name) where
+    longer : (m : Space) (d : EventId) → LearnsFrom s m e (names ++ n ∷ []) d ↔ (LearnsFrom s m e names d ⊎ LearnsBy s m e n d)
+    longer m d = (
+      λ l.
+          ⊎_elim
+          (λ had. inl (l.0, had, l.2))
+          (λ (same : n ≡ l.0). inr (subst (λ o. LearnsBy s m e o d) (sym same) l.2))
+          (Contains-push_cases names n l.0 l.1),
+      λ h.
+          ⊎_elim
+          (λ l. (l.0, Contains-append_left names (n ∷ []) l.0 l.1, l.2))
+          (λ l. (n, Contains-push names n, l))
+          h,
+    )
+
+    module _ (lessons : List ReleaseClock) (are : AreLessonsOf s e names lessons) where
+      -- a name from whose release nothing is learned
+      pub lessons_same : IsUntaught s e n → AreLessonsOf s e (names ++ n ∷ []) lessons
+      lessons_same none = record {
+        few = let size = length-append names (n ∷ []) in omega (arith, are.few, size);
+        words = are.words;
+        shapes = are.shapes;
+        counts = λ m d. (
+          λ below. (longer m d).1 (inl ((are.counts m d).0 below)),
+          λ l. ⊎_elim (λ had. (are.counts m d).1 had) (λ by. absurd (none m d by)) ((longer m d).0 l),
+        );
+      }
+
+      -- a name from whose release something is
+      pub lessons_more : (l : ReleaseClock) → IsLesson s e n l → AreLessonsOf s e (names ++ n ∷ []) (lessons ++ l ∷ [])
+      lessons_more l is = record {
+        few = let size = length-append names (n ∷ []) in let more = length-append lessons (l ∷ []) in omega (arith, are.few, size, more);
+        words = All-push (λ r. word_at s e ≡ Some r.word) lessons l are.words is.word;
+        shapes = All-push (λ r. sizes_of r.clock ≡ s.sizes) lessons l are.shapes is.shape;
+        counts = λ m d. ⊎_elim (λ same. in_its_memory m d same) (λ other. in_another m d other) (space_cases m (memory_of l.word));
+      }
+        where
+          all : Space → EventId → ℕ
+          all m d = greatest_count (clocks_left m (lessons ++ l ∷ [])) d.at
+
+          in_its_memory : (m : Space) (d : EventId) → m ≡ memory_of l.word → (d.index < all m d) ↔ LearnsFrom s m e (names ++ n ∷ []) d
+          in_its_memory m d same =
+              let most = left_here m lessons l d.at same in
+              let by : (d.index < count_of l.clock d.at) ↔ LearnsBy s m e n d = subst (λ o. (d.index < count_of l.clock d.at) ↔ LearnsBy s o e n d) (sym same) (is.counts d) in (
+                λ below.
+                    (longer m d).1 (⊎_elim
+                    (λ had. inl ((are.counts m d).0 had))
+                    (λ has. inr (by.0 has))
+                    (below_max d.index (greatest_count (clocks_left m lessons) d.at) (count_of l.clock d.at) (omega (arith, below, most)))),
+                λ learned.
+                    ⊎_elim
+                    (λ had. let under = (are.counts m d).1 had in omega (arith, under, most))
+                    (λ has. let under = by.1 has in omega (arith, under, most))
+                    ((longer m d).0 learned),
+              )
+
+          in_another : (m : Space) (d : EventId) → m ≢ memory_of l.word → (d.index < all m d) ↔ LearnsFrom s m e (names ++ n ∷ []) d
+          in_another m d other =
+              let same = left_elsewhere m lessons l d.at other in (
+                λ below. (longer m d).1 (inl ((are.counts m d).0 (omega (arith, below, same)))),
+                λ learned.
+                    ⊎_elim
+                    (λ had. let under = (are.counts m d).1 had in omega (arith, under, same))
+                    (λ by. absurd (is.others m d other by))
+                    ((longer m d).0 learned),
+              )
+
+  -- all names
+  pub lessons_all : (x : Event) → event_at s e ≡ Some x → (lessons : List ReleaseClock) → AreLessonsOf s e x.names lessons → AreLessons s e lessons
+  lessons_all x event lessons are = record {
+    words = are.words;
+    shapes = are.shapes;
+    counts = λ m d. (
+      λ below. let l = (are.counts m d).0 below in record { release = l.2.release; matches = record { name = l.0; by = l.2.by }; inclusive = l.2.inclusive; seen = l.2.seen },
+      λ l. (are.counts m d).1 (l.matches.name, subst (λ names. Contains names l.matches.name) (ap names_of event) l.matches.by.named, record { release = l.release; by = l.matches.by; inclusive = l.inclusive; seen = l.seen }),
+    );
+  }
+
+  -- they are all on the event's word
+  pub of_one_word : (lessons : List ReleaseClock) → All (λ l. word_at s e ≡ Some l.word) lessons → AreOfOneWord lessons
+  of_one_word [] words = tt
+  of_one_word (l ∷ lessons) words = one_word l lessons words
+    where
+      one_word : (l : ReleaseClock) (lessons : List ReleaseClock) → All (λ r. word_at s e ≡ Some r.word) (l ∷ lessons) → All (λ r. r.word ≡ l.word) lessons
+      one_word l lessons words k d below =
+          let first : word_at s e ≡ Some l.word = words 0 l (omega arith) in
+          let this : word_at s e ≡ Some (get_or lessons k d).word = words (suc k) d (omega (arith, below)) in
+          let both : Some (get_or lessons k d).word ≡ Some l.word = sym this ∙ first in
+          cc
+
+-- the names up to the next one
+pub next_names : (names read : List Name) (p : ℕ) (d : Name) → read ≡ names → p < length read → take (p + 1) names ≡ take p names ++ get_or read p d ∷ []
+next_names names read p d same below =
+    let there : p < length names = subst (λ ns. p < length ns) same below in
+    ap (λ n. take n names) (let next : p + 1 ≡ suc p = omega arith in next) ∙ take-suc names p d there ∙ ap (λ ns. take p names ++ get_or ns p d ∷ []) (sym same)
+
+-- what holds of all releases holds of all references to them
+pub each_referred : {X : Type 0} (release : X → ReleaseClock) (P : ReleaseClock → Type 0) (xs : List X) (lessons : List ReleaseClock) → map release xs ≡ lessons → All P lessons → All (λ x. P (release x)) xs
+each_referred release P xs lessons same all k d below =
+    let within : k < length lessons = let size = length-map xs release in subst (λ ls. k < length ls) same (omega (arith, below, size)) in
+    let at : get_or lessons k (release d) ≡ release (get_or xs k d) = ap (λ ls. get_or ls k (release d)) (sym same) ∙ get_or-map release xs k d (release d) below in
+    subst P at (all k (release d) within)
+
+-- and so of their clocks
+pub clocks_referred : {X : Type 0} (release : X → ReleaseClock) (xs : List X) (lessons : List ReleaseClock) → map release xs ≡ lessons → map (λ x. (release x).clock) xs ≡ map (λ (l : ReleaseClock). l.clock) lessons
+clocks_referred release xs lessons same = twice xs ∙ ap (map (λ (l : ReleaseClock). l.clock)) same
+  where
+    twice : (ys : List _) → map (λ y. (release y).clock) ys ≡ map (λ (l : ReleaseClock). l.clock) (map release ys)
+    twice [] = refl
+    twice (y ∷ ys) = let rest = twice ys in ap (λ cs. (release y).clock ∷ cs) rest
