@@ -1,17 +1,21 @@
 -- What is read is in range, and is spelled so.
-use Rattle.std.proofs.Common.{◌≡◌, ℕ, zero, suc, ◌+◌, ◌*◌, ◌<◌, ◌≤◌, Bool, true, false, cond, List, [], ◌∷◌, Option, Some, None, Result, Ok, Err, refl, arith, inl, inr}
+use Rattle.std.proofs.Common.{◌≡◌, ℕ, zero, suc, ◌+◌, ◌*◌, ◌<◌, ◌≤◌, Bool, true, false, cond, List, [], ◌∷◌, length, take, Option, Some, None, Result, Ok, Err, refl, ap, ◌∙◌, arith, inl, inr}
 use Rattle.std.specs.Prelude.{nat_lt, nat_le, ◌==◌, ◌||◌, ◌&&◌, not, slice_index}
 use Rattle.std.proofs.lemmas.Bool.{eqb-true, ltb-true, leb-true, ltb-false, leb-false, and_parts, cases_Bool, not-true, not-false}
 use Rattle.gr_model.specs.declared.event.Event.{Event}
 use Rattle.gr_model.specs.declared.event.Kind.{Kind}
 use Rattle.gr_model.specs.declared.event.Name.{Name}
-use Rattle.gr_model.specs.Events.{IsKindOk, IsNamingOk, IsEventOk}
+use Rattle.gr_model.specs.Events.{IsKindOk, IsEventOk}
 use Rattle.gr_record.specs.declared.header.Header.{Header}
+use Rattle.gr_record.specs.declared.header.Version.{Version}
+use Rattle.gr_record.specs.declared.header.Version.TheVariants.{One, Two}
 use Rattle.gr_record.specs.declared.error.RecordError.{RecordError}
-use Rattle.gr_record.specs.Spelling.{kind_bytes, name_bytes}
-use Rattle.gr_record.specs.Reading.{field, is_field_ok, unless_bad, bad_field, bad_field_from, kind_of, space_at, name_at, is_order_ok, is_name_ok, event_at, header_at}
-use Rattle.gr_record.specs.Laws.{ReadIsSpelled, ReadHeaderIsSpelled}
-use Rattle.gr_record.proofs.Numbers.{two_low, two_high, four, eight, space_again, scope_again, order_again, bit_again, flags_again}
+use Rattle.gr_record.specs.Versions.{places, record_length}
+use Rattle.gr_record.specs.Spelling.{kind_bytes, names_bytes, version_byte, header_spelling, IsHeader}
+use Rattle.gr_record.specs.Reading.{field, is_field_ok, unless_bad, unless_bad_names, bad_field, bad_field_from, kind_of, space_at, names_in, names_at, naming, is_order_ok, is_naming_ok, event_at, version_of, header_behind, header_at}
+use Rattle.gr_record.specs.Laws.{AreBytes, ReadIsSpelled, ReadHeaderIsSpelled}
+use Rattle.gr_record.proofs.Places.{bytes_drop, names_front, names_few, naming_found}
+use Rattle.gr_record.proofs.Numbers.{two_low, two_high, four, space_again, scope_again, order_again, bit_again, flags_again}
 
 abbrev done : {A : Type 0} → A → Result A RecordError
 done x = Ok x
@@ -33,24 +37,34 @@ none_next false p o e = absurd cc
 done_is : (x y : Event) → done x ≡ done y → x ≡ y
 done_is x y e = cc
 
+names_ok : {A : Type 0} (o : Option (List Name)) (next : List Name → Result A RecordError) (y : A) → unless_bad_names o next ≡ Ok y → (names : List Name) × (o ≡ Some names) × (next names ≡ Ok y)
+names_ok None next y e = absurd cc
+names_ok (Some names) next y e = (names, refl, e)
+
+named : (b : Bool) (x y : List Name) → cond b (Some x) None ≡ Some y → (b ≡ true) × (x ≡ y)
+named true x y e = (refl, cc)
+named false x y e = absurd cc
+
 -- what is known of a record that is read
-record Accepted (items : ℕ) (bytes : List ℕ) (e : Event) : Type 0 where
+record Accepted (h : Header) (bytes : List ℕ) (e : Event) : Type 0 where
   kind : nat_lt 6 (slice_index bytes 0) ≡ false
   fields : bad_field bytes ≡ None
   order : not (is_order_ok (kind_of bytes)) ≡ false
-  name : not (is_name_ok (kind_of bytes) (name_at bytes)) ≡ false
-  item : nat_le items (field 4 2 bytes) ≡ false
-  same : record { item = field 4 2 bytes; kind = kind_of bytes; space = space_at bytes; word = field 8 4 bytes; name = name_at bytes } ≡ e
+  naming : is_naming_ok (kind_of bytes) (names_at h.version bytes) ≡ true
+  item : nat_le h.items (field 4 2 bytes) ≡ false
+  same : record { item = field 4 2 bytes; kind = kind_of bytes; space = space_at bytes; word = field 8 4 bytes; names = names_at h.version bytes } ≡ e
 
-accepted : (items : ℕ) (bytes : List ℕ) (e : Event) → event_at items bytes ≡ Ok e → Accepted items bytes e
+accepted : (h : Header) (bytes : List ℕ) (e : Event) → event_at h bytes ≡ Ok e → Accepted h bytes e
 unfolding event_at
-accepted items bytes e h =
-    let k = guard_ok _ _ _ e h in
+accepted h bytes e is =
+    let k = guard_ok _ _ _ e is in
     let f = unless_bad_ok _ _ e k.1 in
     let o = guard_ok _ _ _ e f.1 in
-    let n = guard_ok _ _ _ e o.1 in
-    let i = guard_ok _ _ _ e n.1 in
-    record { kind = k.0; fields = f.0; order = o.0; name = n.0; item = i.0; same = done_is _ e i.1 }
+    let n = names_ok _ _ e o.1 in
+    let m = named _ (names_at h.version bytes) n.0 n.1 in
+    let i = guard_ok _ _ _ e n.2 in
+    let whole = done_is _ e i.1 in
+    record { kind = k.0; fields = f.0; order = o.0; naming = m.0; item = i.0; same = rw (← m.1) at whole }
 
 -- the fields of a record that is read
 record AreFieldsOk (bytes : List ℕ) : Type 0 where
@@ -104,31 +118,15 @@ module _ (b1 b2 b3 : ℕ) (rest : List ℕ) where
   kind_found (suc (suc (suc (suc (suc (suc zero)))))) k p q r = rw (bit_again b1 (ltb-true b1 2 p), eqb-true b2 0 q, eqb-true b3 0 r) refl
   kind_found (suc (suc (suc (suc (suc (suc (suc b))))))) k p q r = let le : suc (suc (suc (suc (suc (suc (suc b)))))) ≤ 6 = ltb-false 6 _ k in absurd (omega arith)
 
-module _ (b0 b1 b2 b3 b4 b5 b6 b7 b8 b9 b10 b11 b12 b13 b14 b15 b16 b17 b18 b19 : ℕ) (rest : List ℕ) where
+module _ (b0 b1 b2 b3 b4 b5 b6 b7 b8 b9 b10 b11 : ℕ) (rest : List ℕ) where
   abbrev cells : List ℕ
-  cells = b0 ∷ b1 ∷ b2 ∷ b3 ∷ b4 ∷ b5 ∷ b6 ∷ b7 ∷ b8 ∷ b9 ∷ b10 ∷ b11 ∷ b12 ∷ b13 ∷ b14 ∷ b15 ∷ b16 ∷ b17 ∷ b18 ∷ b19 ∷ rest
+  cells = b0 ∷ b1 ∷ b2 ∷ b3 ∷ b4 ∷ b5 ∷ b6 ∷ b7 ∷ b8 ∷ b9 ∷ b10 ∷ b11 ∷ rest
 
-  -- the last eight bytes
-  name_found : b12 < 256 → b13 < 256 → b14 < 256 → b15 < 256 → b16 < 256 → b17 < 256 → b18 < 256 → b19 < 256
-      → name_bytes (name_at cells) ≡ b12 ∷ b13 ∷ b14 ∷ b15 ∷ b16 ∷ b17 ∷ b18 ∷ b19 ∷ []
-  unfolding name_at
-  name_found f12 f13 f14 f15 f16 f17 f18 f19 =
-      elim (cases_Bool (field 12 8 cells == 18446744073709551615)) [
-        | inl all ↦
-            let k = eight b12 b13 b14 b15 b16 b17 b18 b19 f12 f13 f14 f15 f16 f17 f18 f19 (eqb-true _ _ all) in
-            rw (all, k.0, k.1, k.2, k.3, k.4, k.5, k.6, k.7) refl
-        | inr some ↦
-            let w = four b16 b17 b18 b19 f16 f17 f18 f19 _ refl in
-            rw (some, two_low b12 b13 f12 f13, two_high b12 b13 f12 f13, two_low b14 b15 f14 f15, two_high b14 b15 f14 f15, w.0, w.1, w.2, w.3) refl
-      ]
-
-pub naming_ok : (kind : Kind) (name : Option Name) → is_name_ok kind name ≡ true → IsNamingOk kind name
-naming_ok kind None h = tt
-naming_ok kind (Some n) h =
-    let a = and_parts _ _ h in
-    let b = and_parts _ _ a.0 in
-    let c = and_parts _ _ b.0 in
-    (c.0, (ltb-true _ _ c.1, ltb-true _ _ b.1, ltb-true _ _ a.1))
+  -- the bytes behind the first twelve
+  names_taken : (v : Version) → AreBytes rest → record_length v ≤ length cells
+      → take (record_length v) cells ≡ b0 ∷ b1 ∷ b2 ∷ b3 ∷ b4 ∷ b5 ∷ b6 ∷ b7 ∷ b8 ∷ b9 ∷ b10 ∷ b11 ∷ names_bytes (places v) (names_in (places v) rest)
+  names_taken One fits long = ap (λ (x : List ℕ). b0 ∷ b1 ∷ b2 ∷ b3 ∷ b4 ∷ b5 ∷ b6 ∷ b7 ∷ b8 ∷ b9 ∷ b10 ∷ b11 ∷ x) (names_front 1 rest fits (omega arith))
+  names_taken Two fits long = ap (λ (x : List ℕ). b0 ∷ b1 ∷ b2 ∷ b3 ∷ b4 ∷ b5 ∷ b6 ∷ b7 ∷ b8 ∷ b9 ∷ b10 ∷ b11 ∷ x) (names_front 4 rest fits (omega arith))
 
 -- an end has no item and no word
 no_end : (b : ℕ) → (not (6 == 6) || (b == 0)) ≡ true → b ≡ 0
@@ -157,19 +155,26 @@ module _ (b1 b2 b3 b4 b5 b6 b7 b8 b9 b10 b11 : ℕ) (rest : List ℕ) where
       (omega arith, refl, omega arith)
   kind_ok (suc (suc (suc (suc (suc (suc (suc b))))))) k f o = let le : suc (suc (suc (suc (suc (suc (suc b)))))) ≤ 6 = ltb-false 6 _ k in absurd (omega arith)
 
+some_fields : (v : Version) → 12 ≤ record_length v
+some_fields One = omega arith
+some_fields Two = omega arith
+
 pub read_is_spelled : ReadIsSpelled
-read_is_spelled items e (b0 ∷ b1 ∷ b2 ∷ b3 ∷ b4 ∷ b5 ∷ b6 ∷ b7 ∷ b8 ∷ b9 ∷ b10 ∷ b11 ∷ b12 ∷ b13 ∷ b14 ∷ b15 ∷ b16 ∷ b17 ∷ b18 ∷ b19 ∷ rest) fits len h =
-    let bytes : List ℕ = b0 ∷ b1 ∷ b2 ∷ b3 ∷ b4 ∷ b5 ∷ b6 ∷ b7 ∷ b8 ∷ b9 ∷ b10 ∷ b11 ∷ b12 ∷ b13 ∷ b14 ∷ b15 ∷ b16 ∷ b17 ∷ b18 ∷ b19 ∷ rest in
-    let a = accepted items bytes e h in
+read_is_spelled h e (b0 ∷ b1 ∷ b2 ∷ b3 ∷ b4 ∷ b5 ∷ b6 ∷ b7 ∷ b8 ∷ b9 ∷ b10 ∷ b11 ∷ rest) fits len is =
+    let bytes : List ℕ = b0 ∷ b1 ∷ b2 ∷ b3 ∷ b4 ∷ b5 ∷ b6 ∷ b7 ∷ b8 ∷ b9 ∷ b10 ∷ b11 ∷ rest in
+    let a = accepted h bytes e is in
     let f = fields_ok bytes a.fields in
-    let k = kind_found b1 b2 b3 (b4 ∷ b5 ∷ b6 ∷ b7 ∷ b8 ∷ b9 ∷ b10 ∷ b11 ∷ b12 ∷ b13 ∷ b14 ∷ b15 ∷ b16 ∷ b17 ∷ b18 ∷ b19 ∷ rest) b0 a.kind f.one f.two f.three in
-    let n = name_found b0 b1 b2 b3 b4 b5 b6 b7 b8 b9 b10 b11 b12 b13 b14 b15 b16 b17 b18 b19 rest (fits 12) (fits 13) (fits 14) (fits 15) (fits 16) (fits 17) (fits 18) (fits 19) in
+    let k = kind_found b1 b2 b3 (b4 ∷ b5 ∷ b6 ∷ b7 ∷ b8 ∷ b9 ∷ b10 ∷ b11 ∷ rest) b0 a.kind f.one f.two f.three in
+    let n = names_taken b0 b1 b2 b3 b4 b5 b6 b7 b8 b9 b10 b11 rest h.version (bytes_drop 12 bytes fits) len in
     let w = four b8 b9 b10 b11 (fits 8) (fits 9) (fits 10) (fits 11) _ refl in
     let z6 : b6 ≡ 0 = eqb-true b6 0 f.six in
     let z7 : b7 ≡ 0 = eqb-true b7 0 f.seven in
-    let ok : IsEventOk _ items = (leb-false _ _ a.item, naming_ok _ _ (not-false _ a.name), kind_ok b1 b2 b3 b4 b5 b6 b7 b8 b9 b10 b11 (b12 ∷ b13 ∷ b14 ∷ b15 ∷ b16 ∷ b17 ∷ b18 ∷ b19 ∷ rest) b0 a.kind f (not-false _ a.order)) in
-    rw (← a.same) (rw (k, n, z6, z7, two_low b4 b5 (fits 4) (fits 5), two_high b4 b5 (fits 4) (fits 5), w.0, w.1, w.2, w.3) refl, record { ok = ok; word = omega (arith, fits 8, fits 9, fits 10, fits 11) })
-read_is_spelled items e _ fits len h = absurd (omega arith)
+    let ok : IsEventOk _ h.items = (leb-false _ _ a.item, naming_found _ _ a.naming, kind_ok b1 b2 b3 b4 b5 b6 b7 b8 b9 b10 b11 rest b0 a.kind f (not-false _ a.order)) in
+    rw (← a.same) (
+      n ∙ rw (k, z6, z7, two_low b4 b5 (fits 4) (fits 5), two_high b4 b5 (fits 4) (fits 5), w.0, w.1, w.2, w.3) refl,
+      record { event = record { ok = ok; word = omega (arith, fits 8, fits 9, fits 10, fits 11) }; names = names_few (places h.version) rest },
+    )
+read_is_spelled h e _ fits len is = let long = some_fields h.version in absurd (omega arith)
 
 -- ---- headers
 
@@ -181,27 +186,61 @@ not_zero : (n : ℕ) → (n == 0) ≡ false → 1 ≤ n
 not_zero zero e = absurd cc
 not_zero (suc n) e = omega arith
 
-magic : (a b c d : ℕ) → a < 256 → b < 256 → c < 256 → d < 256 → a + 256 * (b + 256 * (c + 256 * (d + 0))) ≡ 827609671 → (a ≡ 71) × (b ≡ 82) × (c ≡ 84) × (d ≡ 49)
-magic a b c d p q r s k = (omega arith, omega arith, omega arith, omega arith)
+magic_one : (a b c d : ℕ) → a < 256 → b < 256 → c < 256 → d < 256 → a + 256 * (b + 256 * (c + 256 * (d + 0))) ≡ 827609671 → (a ≡ 71) × (b ≡ 82) × (c ≡ 84) × (d ≡ 49)
+magic_one a b c d p q r s k = (omega arith, omega arith, omega arith, omega arith)
+
+magic_two : (a b c d : ℕ) → a < 256 → b < 256 → c < 256 → d < 256 → a + 256 * (b + 256 * (c + 256 * (d + 0))) ≡ 844386887 → (a ≡ 71) × (b ≡ 82) × (c ≡ 84) × (d ≡ 50)
+magic_two a b c d p q r s k = (omega arith, omega arith, omega arith, omega arith)
 
 header_done : (x y : Header) → done x ≡ done y → x ≡ y
 header_done x y e = cc
 
+some_version : (v w : Version) → Some v ≡ Some w → v ≡ w
+some_version v w e = cc
+
+no_version : (v : Version) → None ≡ Some v → ⊥
+no_version v e = absurd cc
+
+-- the four bytes of a version
+magic : (a b c d : ℕ) → a < 256 → b < 256 → c < 256 → d < 256 → (v : Version) → version_of (a + 256 * (b + 256 * (c + 256 * (d + 0)))) ≡ Some v → (a ≡ 71) × (b ≡ 82) × (c ≡ 84) × (d ≡ version_byte v)
+magic a b c d p q r s v e =
+    let n : ℕ = a + 256 * (b + 256 * (c + 256 * (d + 0))) in
+    elim (cases_Bool (n == 827609671)) [
+      | inl one ↦
+          let is : One ≡ v = some_version One v (rw one at e) in
+          let m = magic_one a b c d p q r s (eqb-true _ _ one) in
+          (m.0, m.1, m.2, m.3 ∙ ap version_byte is)
+      | inr other ↦
+          elim (cases_Bool (n == 844386887)) [
+            | inl two ↦
+                let is : Two ≡ v = some_version Two v (rw (other, two) at e) in
+                let m = magic_two a b c d p q r s (eqb-true _ _ two) in
+                (m.0, m.1, m.2, m.3 ∙ ap version_byte is)
+            | inr none ↦ absurd (no_version v (rw (other, none) at e))
+          ]
+    ]
+
 pub read_header_is_spelled : ReadHeaderIsSpelled
 unfolding header_at
-read_header_is_spelled h (b0 ∷ b1 ∷ b2 ∷ b3 ∷ b4 ∷ b5 ∷ b6 ∷ b7 ∷ b8 ∷ b9 ∷ b10 ∷ b11 ∷ rest) fits len e =
-    let m = guard_ok _ _ _ h e in
-    let r = guard_ok _ _ _ h m.1 in
-    let same = header_done _ h r.1 in
-    let g = magic b0 b1 b2 b3 (fits 0) (fits 1) (fits 2) (fits 3) (eqb-true _ _ (not-false _ m.0)) in
-    let w = four b8 b9 b10 b11 (fits 8) (fits 9) (fits 10) (fits 11) _ refl in
-    let o = or_parts _ _ r.0 in
-    let p = or_parts _ _ o.0 in
-    let group : _ < 64 = leb-false 64 _ p.0 in
-    let some : 1 ≤ field 6 2 (b0 ∷ b1 ∷ b2 ∷ b3 ∷ b4 ∷ b5 ∷ b6 ∷ b7 ∷ []) = not_zero _ p.1 in
-    let items : _ ≤ 256 = ltb-false 256 _ o.1 in
-    rw (← same) (
-      rw (g.0, g.1, g.2, g.3, two_low b4 b5 (fits 4) (fits 5), two_high b4 b5 (fits 4) (fits 5), two_low b6 b7 (fits 6) (fits 7), two_high b6 b7 (fits 6) (fits 7), w.0, w.1, w.2, w.3) refl,
-      record { group = group; some = some; items = items; launch = omega (arith, fits 8, fits 9, fits 10, fits 11) },
-    )
+read_header_is_spelled h (b0 ∷ b1 ∷ b2 ∷ b3 ∷ b4 ∷ b5 ∷ b6 ∷ b7 ∷ b8 ∷ b9 ∷ b10 ∷ b11 ∷ rest) fits len e = by_version (version_of (field 0 4 bytes)) refl e
+  where
+    bytes : List ℕ
+    bytes = b0 ∷ b1 ∷ b2 ∷ b3 ∷ b4 ∷ b5 ∷ b6 ∷ b7 ∷ b8 ∷ b9 ∷ b10 ∷ b11 ∷ rest
+
+    by_version : (v : Option Version) → version_of (field 0 4 bytes) ≡ v → header_behind v bytes ≡ Ok h → (take 12 bytes ≡ header_spelling h) × IsHeader h
+    by_version None is k = absurd cc
+    by_version (Some v) is k =
+        let r = guard_ok _ _ (done (record { version = v; group = field 4 2 bytes; items = field 6 2 bytes; launch = field 8 4 bytes })) h k in
+        let same = header_done (record { version = v; group = field 4 2 bytes; items = field 6 2 bytes; launch = field 8 4 bytes }) h r.1 in
+        let g = magic b0 b1 b2 b3 (fits 0) (fits 1) (fits 2) (fits 3) v is in
+        let w = four b8 b9 b10 b11 (fits 8) (fits 9) (fits 10) (fits 11) _ refl in
+        let o = or_parts _ _ r.0 in
+        let p = or_parts _ _ o.0 in
+        let group : field 4 2 bytes < 64 = leb-false 64 _ p.0 in
+        let some : 1 ≤ field 6 2 bytes = not_zero _ p.1 in
+        let items : field 6 2 bytes ≤ 256 = ltb-false 256 _ o.1 in
+        rw (← same) (
+          rw (g.0, g.1, g.2, g.3, two_low b4 b5 (fits 4) (fits 5), two_high b4 b5 (fits 4) (fits 5), two_low b6 b7 (fits 6) (fits 7), two_high b6 b7 (fits 6) (fits 7), w.0, w.1, w.2, w.3) refl,
+          record { group = group; some = some; items = items; launch = omega (arith, fits 8, fits 9, fits 10, fits 11) },
+        )
 read_header_is_spelled h _ fits len e = absurd (omega arith)

@@ -7,7 +7,6 @@ use Rattle.gr_model.specs.Events.{is_end}
 use Rattle.gr_record.specs.declared.error.RecordError.{RecordError}
 use Rattle.gr_record.specs.declared.stop.Stop.{Stop}
 use Rattle.gr_record.specs.declared.stop.Stop.TheVariants.{Inside, AtEnd, AtFault}
-use Rattle.gr_record.specs.declared.layout.TheConstants.{RECORD_LENGTH}
 use Rattle.gr_record.specs.Fronts.{Records, behind, step, records_at}
 use Rattle.gr_record.proofs.Loop.{with_front, short, too_many, next}
 
@@ -17,50 +16,50 @@ grown Inside r further b = with_front r.events (further (length r.events))
 grown AtEnd r further b = record { events = r.events; rest = r.rest ++ b; stop = AtEnd }
 grown (AtFault e) r further b = record { events = r.events; rest = r.rest ++ b; stop = AtFault e }
 
-module _ (read : List ℕ → Result Event RecordError) (b : List ℕ) where
+module _ (size : ℕ) (read : List ℕ → Result Event RecordError) (b : List ℕ) where
   abbrev pub Grows : ℕ → List ℕ → Records → Type 0
-  Grows most a r = records_at read most (a ++ b) ≡ grown r.stop r (λ n. records_at read (most - n) (r.rest ++ b)) b
+  Grows most a r = records_at size read most (a ++ b) ≡ grown r.stop r (λ n. records_at size read (most - n) (r.rest ++ b)) b
 
-  behind_grown : (stop : Stop) (e : Event) (r : Records) (most : ℕ) → behind e (grown stop r (λ n. records_at read (most - n) (r.rest ++ b)) b) ≡ grown stop (behind e r) (λ n. records_at read (suc most - n) (r.rest ++ b)) b
+  behind_grown : (stop : Stop) (e : Event) (r : Records) (most : ℕ) → behind e (grown stop r (λ n. records_at size read (most - n) (r.rest ++ b)) b) ≡ grown stop (behind e r) (λ n. records_at size read (suc most - n) (r.rest ++ b)) b
   behind_grown Inside e r most =
       let k : suc most - suc (length r.events) ≡ most - length r.events = omega arith in
       rw k refl
   behind_grown AtEnd e r most = refl
   behind_grown (AtFault d) e r most = refl
 
-  front_same : (a : List ℕ) → RECORD_LENGTH ≤ length a → take RECORD_LENGTH (a ++ b) ≡ take RECORD_LENGTH a
-  front_same a long = take-append-le RECORD_LENGTH a b long
+  front_same : (a : List ℕ) → size ≤ length a → take size (a ++ b) ≡ take size a
+  front_same a long = take-append-le size a b long
 
-  rest_same : (a : List ℕ) → RECORD_LENGTH ≤ length a → drop RECORD_LENGTH (a ++ b) ≡ drop RECORD_LENGTH a ++ b
-  rest_same a long = drop-append-le RECORD_LENGTH a b long
+  rest_same : (a : List ℕ) → size ≤ length a → drop size (a ++ b) ≡ drop size a ++ b
+  rest_same a long = drop-append-le size a b long
 
-  step_grows : (most : ℕ) (a : List ℕ) → RECORD_LENGTH ≤ length a → Grows most (drop RECORD_LENGTH a) (records_at read most (drop RECORD_LENGTH a)) → (x : Result Event RecordError)
-      → step x (a ++ b) (records_at read most (drop RECORD_LENGTH (a ++ b))) ≡ grown (step x a (records_at read most (drop RECORD_LENGTH a))).stop (step x a (records_at read most (drop RECORD_LENGTH a))) (λ n. records_at read (suc most - n) ((step x a (records_at read most (drop RECORD_LENGTH a))).rest ++ b)) b
+  step_grows : (most : ℕ) (a : List ℕ) → size ≤ length a → Grows most (drop size a) (records_at size read most (drop size a)) → (x : Result Event RecordError)
+      → step size x (a ++ b) (records_at size read most (drop size (a ++ b))) ≡ grown (step size x a (records_at size read most (drop size a))).stop (step size x a (records_at size read most (drop size a))) (λ n. records_at size read (suc most - n) ((step size x a (records_at size read most (drop size a))).rest ++ b)) b
   step_grows most a long ih (Err e) = refl
   step_grows most a long ih (Ok e) =
       elim (cases_Bool (is_end e)) [
         | inl end ↦ rw (end, rest_same a long) refl
-        | inr on ↦ rw (on, rest_same a long) (ap (behind e) ih ∙ behind_grown (records_at read most (drop RECORD_LENGTH a)).stop e (records_at read most (drop RECORD_LENGTH a)) most)
+        | inr on ↦ rw (on, rest_same a long) (ap (behind e) ih ∙ behind_grown (records_at size read most (drop size a)).stop e (records_at size read most (drop size a)) most)
       ]
 
-  inside_grows : (most : ℕ) (a : List ℕ) → length a < RECORD_LENGTH → Grows most a (records_at read most a)
+  inside_grows : (most : ℕ) (a : List ℕ) → length a < size → Grows most a (records_at size read most a)
   inside_grows most a lt =
       let k : most - 0 ≡ most = omega arith in
-      rw (short read most a lt, k) refl
+      rw (short size read most a lt, k) refl
 
-  pub records_grow : (most : ℕ) (a : List ℕ) → Grows most a (records_at read most a)
+  pub records_grow : (most : ℕ) (a : List ℕ) → Grows most a (records_at size read most a)
   records_grow zero a =
-      elim (cases_lt (length a) RECORD_LENGTH) [
+      elim (cases_lt (length a) size) [
         | inl lt ↦ inside_grows zero a lt
         | inr long ↦
-            let longer : RECORD_LENGTH ≤ length (a ++ b) = simp length-append (omega arith) in
-            rw (too_many read a long, too_many read (a ++ b) longer) refl
+            let longer : size ≤ length (a ++ b) = simp length-append (omega arith) in
+            rw (too_many size read a long, too_many size read (a ++ b) longer) refl
       ]
   records_grow (suc most) a =
-      elim (cases_lt (length a) RECORD_LENGTH) [
+      elim (cases_lt (length a) size) [
         | inl lt ↦ inside_grows (suc most) a lt
         | inr long ↦
-            let longer : RECORD_LENGTH ≤ length (a ++ b) = simp length-append (omega arith) in
-            let ih = records_grow most (drop RECORD_LENGTH a) in
-            rw (next read most a long, next read most (a ++ b) longer, front_same a long) (step_grows most a long ih (read (take RECORD_LENGTH a)))
+            let longer : size ≤ length (a ++ b) = simp length-append (omega arith) in
+            let ih = records_grow most (drop size a) in
+            rw (next size read most a long, next size read most (a ++ b) longer, front_same a long) (step_grows most a long ih (read (take size a)))
       ]

@@ -3,15 +3,12 @@ pub mod Fields
 pub mod Found
 pub mod FoundFronts
 pub mod Growing
-pub mod LineNumbers
-pub mod LineWords
-pub mod LinesAgain
-pub mod LinesFound
 pub mod Loop
+pub mod Naming
 pub mod Numbers
+pub mod Places
 pub mod Resuming
 pub mod Spelled
 pub mod SpelledFronts
 pub mod Steps
-pub mod Words
 pub mod Written

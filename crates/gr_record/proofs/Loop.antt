@@ -5,7 +5,6 @@ use Rattle.gr_model.specs.declared.event.Event.{Event}
 use Rattle.gr_model.specs.Events.{is_end}
 use Rattle.gr_record.specs.declared.error.RecordError.{RecordError}
 use Rattle.gr_record.specs.declared.error.RecordError.TheVariants as errors
-use Rattle.gr_record.specs.declared.layout.TheConstants.{RECORD_LENGTH}
 use Rattle.gr_record.specs.Fronts.{Records, behind, step, records_at}
 use Rattle.gr_record.specs.declared.stop.Stop.TheVariants.{Inside, AtFault}
 use Rattle.gr_record.specs.WholeStreams.{Fails, whole}
@@ -22,48 +21,48 @@ pub fails : {Y : Type 0} (e : RecordError) (total : Result Y RecordError) → to
 fails errors.Memory total h = tt
 fails e total h = h
 
-module _ (read : List ℕ → Result Event RecordError) where
+module _ (size : ℕ) (read : List ℕ → Result Event RecordError) where
   -- fewer bytes than a record has
-  pub short : (most : ℕ) (bytes : List ℕ) → length bytes < RECORD_LENGTH → records_at read most bytes ≡ record { events = []; rest = bytes; stop = Inside }
+  pub short : (most : ℕ) (bytes : List ℕ) → length bytes < size → records_at size read most bytes ≡ record { events = []; rest = bytes; stop = Inside }
   unfolding records_at
-  short zero bytes lt = rw (lt-ltb (length bytes) RECORD_LENGTH lt) refl
-  short (suc most) bytes lt = rw (lt-ltb (length bytes) RECORD_LENGTH lt) refl
+  short zero bytes lt = rw (lt-ltb (length bytes) size lt) refl
+  short (suc most) bytes lt = rw (lt-ltb (length bytes) size lt) refl
 
   -- no further record may come
-  pub too_many : (bytes : List ℕ) → RECORD_LENGTH ≤ length bytes → records_at read 0 bytes ≡ record { events = []; rest = bytes; stop = AtFault errors.TooManyRecords }
+  pub too_many : (bytes : List ℕ) → size ≤ length bytes → records_at size read 0 bytes ≡ record { events = []; rest = bytes; stop = AtFault errors.TooManyRecords }
   unfolding records_at
-  too_many bytes le = rw (le-ltb (length bytes) RECORD_LENGTH le) refl
+  too_many bytes le = rw (le-ltb (length bytes) size le) refl
 
   -- a whole record
-  pub next : (most : ℕ) (bytes : List ℕ) → RECORD_LENGTH ≤ length bytes → records_at read (suc most) bytes ≡ step (read (take RECORD_LENGTH bytes)) bytes (records_at read most (drop RECORD_LENGTH bytes))
+  pub next : (most : ℕ) (bytes : List ℕ) → size ≤ length bytes → records_at size read (suc most) bytes ≡ step size (read (take size bytes)) bytes (records_at size read most (drop size bytes))
   unfolding records_at
-  next most bytes le = rw (le-ltb (length bytes) RECORD_LENGTH le) refl
+  next most bytes le = rw (le-ltb (length bytes) size le) refl
 
-module _ (read : List ℕ → Result Event RecordError) (front : List Event) (stop i : ℕ) (bytes : List ℕ) (total : Result (List Event × List ℕ) RecordError) (so_far : whole (with_front front (records_at read (stop - i) bytes)) ≡ total) where
-  pub stops_short : length bytes < RECORD_LENGTH → total ≡ Err errors.Truncated
-  stops_short lt = sym so_far ∙ ap (λ (r : Records). whole (with_front front r)) (short read (stop - i) bytes lt)
+module _ (size : ℕ) (read : List ℕ → Result Event RecordError) (front : List Event) (stop i : ℕ) (bytes : List ℕ) (total : Result (List Event × List ℕ) RecordError) (so_far : whole (with_front front (records_at size read (stop - i) bytes)) ≡ total) where
+  pub stops_short : length bytes < size → total ≡ Err errors.Truncated
+  stops_short lt = sym so_far ∙ ap (λ (r : Records). whole (with_front front r)) (short size read (stop - i) bytes lt)
 
-  pub none_left : stop ≤ i → RECORD_LENGTH ≤ length bytes → total ≡ Err errors.TooManyRecords
+  pub none_left : stop ≤ i → size ≤ length bytes → total ≡ Err errors.TooManyRecords
   none_left le long =
       let k : stop - i ≡ 0 = omega arith in
-      sym so_far ∙ rw k (ap (λ (r : Records). whole (with_front front r)) (too_many read bytes long))
+      sym so_far ∙ rw k (ap (λ (r : Records). whole (with_front front r)) (too_many size read bytes long))
 
-  module _ (lt : i < stop) (long : RECORD_LENGTH ≤ length bytes) where
-    one_more : (r : Result Event RecordError) → read (take RECORD_LENGTH bytes) ≡ r → whole (with_front front (step r bytes (records_at read (stop - (i + 1)) (drop RECORD_LENGTH bytes)))) ≡ total
+  module _ (lt : i < stop) (long : size ≤ length bytes) where
+    one_more : (r : Result Event RecordError) → read (take size bytes) ≡ r → whole (with_front front (step size r bytes (records_at size read (stop - (i + 1)) (drop size bytes)))) ≡ total
     one_more r is =
         let k : stop - i ≡ suc (stop - (i + 1)) = omega arith in
-        let at : records_at read (stop - i) bytes ≡ step r bytes (records_at read (stop - (i + 1)) (drop RECORD_LENGTH bytes)) = rw (k, ← is) (next read (stop - (i + 1)) bytes long) in
+        let at : records_at size read (stop - i) bytes ≡ step size r bytes (records_at size read (stop - (i + 1)) (drop size bytes)) = rw (k, ← is) (next size read (stop - (i + 1)) bytes long) in
         ap (λ (x : Records). whole (with_front front x)) (sym at) ∙ so_far
 
     -- a record at fault
-    pub refused : (d : RecordError) → read (take RECORD_LENGTH bytes) ≡ Err d → total ≡ Err d
+    pub refused : (d : RecordError) → read (take size bytes) ≡ Err d → total ≡ Err d
     refused d is = sym (one_more (Err d) is)
 
     -- the end
-    pub ended : (e : Event) → read (take RECORD_LENGTH bytes) ≡ Ok e → is_end e ≡ true → total ≡ Ok (front ++ e ∷ [], drop RECORD_LENGTH bytes)
+    pub ended : (e : Event) → read (take size bytes) ≡ Ok e → is_end e ≡ true → total ≡ Ok (front ++ e ∷ [], drop size bytes)
     ended e is end = sym (rw end at (one_more (Ok e) is))
 
     -- any other record
-    pub goes_on : (e : Event) → read (take RECORD_LENGTH bytes) ≡ Ok e → is_end e ≡ false → whole (with_front (front ++ e ∷ []) (records_at read (stop - (i + 1)) (drop RECORD_LENGTH bytes))) ≡ total
+    pub goes_on : (e : Event) → read (take size bytes) ≡ Ok e → is_end e ≡ false → whole (with_front (front ++ e ∷ []) (records_at size read (stop - (i + 1)) (drop size bytes))) ≡ total
     goes_on e is end =
-        ap whole (sym (regroup front e (records_at read (stop - (i + 1)) (drop RECORD_LENGTH bytes)))) ∙ (rw end at (one_more (Ok e) is))
+        ap whole (sym (regroup front e (records_at size read (stop - (i + 1)) (drop size bytes)))) ∙ (rw end at (one_more (Ok e) is))

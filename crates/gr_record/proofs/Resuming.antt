@@ -11,8 +11,9 @@ use Rattle.gr_record.specs.declared.stop.Stop.{Stop}
 use Rattle.gr_record.specs.declared.stop.Stop.{Stop}
 use Rattle.gr_record.specs.declared.stop.Stop.TheVariants.{Inside, AtEnd, AtFault}
 use Rattle.gr_record.specs.declared.layout.TheConstants.{HEADER_LENGTH}
+use Rattle.gr_record.specs.Versions.{record_length}
 use Rattle.gr_record.specs.Reading.{header_at, event_at}
-use Rattle.gr_record.specs.Fronts.{records_at}
+use Rattle.gr_record.specs.Fronts.{records_of}
 use Rattle.gr_record.specs.Decoding.{Reading, Standing, closed, under, read_from, reading, parts_of, standing, still, still_at, standing_after}
 use Rattle.gr_record.specs.FrontLaws.{FaultStays}
 use Rattle.gr_record.proofs.Growing.{grown, records_grow}
@@ -30,11 +31,11 @@ module _ (limit : ℕ) (piece : List ℕ) where
   same_count : (n : ℕ) → n ≡ n + 0
   same_count n = omega arith
 
-  records_go_on : (h : Header) (stop : Stop) (events : List Event) (rest : List ℕ) → GoesOn limit piece (closed (Some h) (record { events = events; rest = rest; stop = stop })) (closed (Some h) (grown stop (record { events = events; rest = rest; stop = stop }) (λ n. records_at (event_at h.items) (limit - n) (rest ++ piece)) piece))
+  records_go_on : (h : Header) (stop : Stop) (events : List Event) (rest : List ℕ) → GoesOn limit piece (closed (Some h) (record { events = events; rest = rest; stop = stop })) (closed (Some h) (grown stop (record { events = events; rest = rest; stop = stop }) (λ n. records_of h (limit - n) (rest ++ piece)) piece))
   unfolding read_from
   records_go_on h Inside events rest = record {
-    stands = rw (length-append events (records_at (event_at h.items) (limit - length events) (rest ++ piece)).events) refl;
-    listed = rw (map-append parts.Event events (records_at (event_at h.items) (limit - length events) (rest ++ piece)).events) refl;
+    stands = rw (length-append events (records_of h (limit - length events) (rest ++ piece)).events) refl;
+    listed = rw (map-append parts.Event events (records_of h (limit - length events) (rest ++ piece)).events) refl;
   }
   records_go_on h AtEnd events [] = record { stands = rw (← same_count (length events)) refl; listed = no_more _ }
   records_go_on h AtEnd events (b ∷ bytes) = record { stands = rw (← same_count (length events)) refl; listed = no_more _ }
@@ -43,13 +44,13 @@ module _ (limit : ℕ) (piece : List ℕ) where
   under_goes_on : (fed : List ℕ) → HEADER_LENGTH ≤ length fed → (x : Result Header RecordError) → GoesOn limit piece (under x limit fed) (under x limit (fed ++ piece))
   under_goes_on fed long (Err e) = record { stands = refl; listed = refl }
   under_goes_on fed long (Ok h) =
-      let r = records_at (event_at h.items) limit (drop HEADER_LENGTH fed) in
-      rw (drop-append-le HEADER_LENGTH fed piece long, records_grow (event_at h.items) piece limit (drop HEADER_LENGTH fed)) (records_go_on h r.stop r.events r.rest)
+      let r = records_of h limit (drop HEADER_LENGTH fed) in
+      rw (drop-append-le HEADER_LENGTH fed piece long, records_grow (record_length h.version) (event_at h) piece limit (drop HEADER_LENGTH fed)) (records_go_on h r.stop r.events r.rest)
 
   none_before : (n : ℕ) → n ≡ 0 + n
   none_before n = omega arith
 
-  begins : (fed : List ℕ) (q : Reading) → standing limit q ≡ standing_after (record { limit = limit; items = None; count = 0; held = fed; stop = Inside }) q
+  begins : (fed : List ℕ) (q : Reading) → standing limit q ≡ standing_after (record { limit = limit; header = None; count = 0; held = fed; stop = Inside }) q
   begins fed q = rw (← none_before (length q.events)) refl
 
   first_bytes : (fed : List ℕ) → GoesOn limit piece (record { header = None; events = []; rest = fed; stop = Inside }) (reading limit (fed ++ piece))

@@ -1,5 +1,5 @@
 -- What is spelled is read: a header and the records of its stream.
-use Rattle.std.proofs.Common.{◌≡◌, ℕ, zero, suc, ◌≤◌, Bool, true, false, cond, List, [], ◌∷◌, ◌++◌, length, drop, Result, Ok, refl, ap, ◌∙◌, arith, inl, inr}
+use Rattle.std.proofs.Common.{◌≡◌, ℕ, zero, suc, ◌<◌, ◌≤◌, Bool, true, false, cond, List, [], ◌∷◌, ◌++◌, length, drop, Result, Ok, refl, ap, ◌∙◌, arith, inl, inr}
 use Rattle.std.proofs.lemmas.Bool.{le-ltb, cases_Bool}
 use Rattle.std.proofs.lemmas.List.{take_at, drop_at, length-append, append-nil}
 use Rattle.gr_model.specs.declared.event.Event.{Event}
@@ -8,11 +8,14 @@ use Rattle.gr_model.specs.Events.{is_end}
 use Rattle.gr_model.specs.Streams.{is_complete}
 use Rattle.gr_record.specs.declared.error.RecordError.{RecordError}
 use Rattle.gr_record.specs.declared.header.Header.{Header}
+use Rattle.gr_record.specs.declared.header.Version.{Version}
+use Rattle.gr_record.specs.declared.header.Version.TheVariants.{One, Two}
 use Rattle.gr_record.specs.declared.stop.Stop.TheVariants.{Inside, AtEnd}
-use Rattle.gr_record.specs.declared.layout.TheConstants.{HEADER_LENGTH, RECORD_LENGTH}
+use Rattle.gr_record.specs.declared.layout.TheConstants.{HEADER_LENGTH}
+use Rattle.gr_record.specs.Versions.{record_length}
 use Rattle.gr_record.specs.Spelling.{event_spelling, events_spelling, header_spelling, IsHeader}
 use Rattle.gr_record.specs.Reading.{header_at, event_at}
-use Rattle.gr_record.specs.Fronts.{Records, behind, step, records_at}
+use Rattle.gr_record.specs.Fronts.{Records, behind, step, records_of}
 use Rattle.gr_record.specs.Decoding.{close, read_from}
 use Rattle.gr_record.specs.FrontLaws.{Runs, stop_after, SpelledFrontIsRead}
 use Rattle.gr_record.proofs.Loop.{short, next}
@@ -30,29 +33,38 @@ ended e es end none = rw (none, end) refl
 gone_on : (e : Event) (es : List Event) → is_end e ≡ false → stop_after (e ∷ es) ≡ stop_after es
 gone_on e es on = ap (λ (b : Bool). cond b AtEnd Inside) (complete_behind e es on)
 
-long_front : (xs ys : List ℕ) → length xs ≡ RECORD_LENGTH → RECORD_LENGTH ≤ length (xs ++ ys)
-long_front xs ys len = omega (arith, length-append xs ys)
+long_front : (n : ℕ) (xs ys : List ℕ) → length xs ≡ n → n ≤ length (xs ++ ys)
+long_front n xs ys len = omega (arith, length-append xs ys)
 
-records_spelled : (items : ℕ) → items ≤ MOST_ITEMS_OF_A_GROUP → (events : List Event) (most : ℕ) → Runs items events → length events ≤ most → records_at (event_at items) most (events_spelling events) ≡ Spelled events
-records_spelled items few [] most runs le = short (event_at items) most [] (omega arith)
-records_spelled items few (e ∷ es) zero runs le = absurd (omega arith)
-records_spelled items few (e ∷ es) (suc most) runs le =
-    let len = spelling_length e in
-    let bytes : List ℕ = event_spelling e ++ events_spelling es in
-    let long = long_front (event_spelling e) (events_spelling es) len in
-    let is : event_at items (event_spelling e) ≡ Ok e = rw (append-nil (event_spelling e)) at (spelled_is_read items e [] few runs.0) in
-    let here : records_at (event_at items) (suc most) (event_spelling e ++ events_spelling es) ≡ step (Ok e) (event_spelling e ++ events_spelling es) (records_at (event_at items) most (events_spelling es))
-    = next (event_at items) most (event_spelling e ++ events_spelling es) long
-    ∙ ap (λ (x : Result Event RecordError). step x bytes (records_at (event_at items) most (drop RECORD_LENGTH bytes))) (ap (event_at items) (take_at (event_spelling e) (events_spelling es) RECORD_LENGTH len) ∙ is)
-    ∙ ap (λ (x : List ℕ). step (Ok e) bytes (records_at (event_at items) most x)) (drop_at (event_spelling e) (events_spelling es) RECORD_LENGTH len) in
-    elim (cases_Bool (is_end e)) [
-      | inl end ↦
-          let none : es ≡ [] = runs.1 end in
-          here ∙ rw (end, drop_at (event_spelling e) (events_spelling es) RECORD_LENGTH len, ended e es end none, none) refl
-      | inr on ↦
-          let ih = records_spelled items few es most runs.2 (omega arith) in
-          here ∙ rw (on, gone_on e es on) (ap (behind e) ih)
-    ]
+some_size : (v : Version) → 0 < record_length v
+some_size One = omega arith
+some_size Two = omega arith
+
+module _ (h : Header) (few : h.items ≤ MOST_ITEMS_OF_A_GROUP) where
+  abbrev size : ℕ
+  size = record_length h.version
+
+  records_spelled : (events : List Event) (most : ℕ) → Runs h events → length events ≤ most → records_of h most (events_spelling h.version events) ≡ Spelled events
+  records_spelled [] most runs le = short size (event_at h) most [] (some_size h.version)
+  records_spelled (e ∷ es) zero runs le = absurd (omega arith)
+  records_spelled (e ∷ es) (suc most) runs le =
+      let len = spelling_length h.version e in
+      let front : List ℕ = event_spelling h.version e in
+      let rest : List ℕ = events_spelling h.version es in
+      let long = long_front size front rest len in
+      let is : event_at h front ≡ Ok e = rw (append-nil front) at (spelled_is_read h e [] few runs.0) in
+      let here : records_of h (suc most) (front ++ rest) ≡ step size (Ok e) (front ++ rest) (records_of h most rest)
+      = next size (event_at h) most (front ++ rest) long
+      ∙ ap (λ (x : Result Event RecordError). step size x (front ++ rest) (records_of h most (drop size (front ++ rest)))) (ap (event_at h) (take_at front rest size len) ∙ is)
+      ∙ ap (λ (x : List ℕ). step size (Ok e) (front ++ rest) (records_of h most x)) (drop_at front rest size len) in
+      elim (cases_Bool (is_end e)) [
+        | inl end ↦
+            let none : es ≡ [] = runs.1 end in
+            here ∙ rw (end, drop_at front rest size len, ended e es end none, none) refl
+        | inr on ↦
+            let ih = records_spelled es most runs.2 (omega arith) in
+            here ∙ rw (on, gone_on e es on) (ap (behind e) ih)
+      ]
 
 closed_after : (b : Bool) → close (cond b AtEnd Inside) [] ≡ cond b AtEnd Inside
 closed_after true = refl
@@ -64,6 +76,6 @@ header_read h ok = spelled_header_is_read h [] ok
 pub spelled_front_is_read : SpelledFrontIsRead
 unfolding read_from
 spelled_front_is_read limit h events front =
-    let long : HEADER_LENGTH ≤ length (header_spelling h ++ events_spelling events) = omega arith in
-    let records = records_spelled h.items front.header.items events limit front.runs front.few in
-    rw (le-ltb (length (header_spelling h ++ events_spelling events)) HEADER_LENGTH long, header_read h front.header, records, closed_after (is_complete events)) refl
+    let long : HEADER_LENGTH ≤ length (header_spelling h ++ events_spelling h.version events) = omega arith in
+    let records = records_spelled h front.header.items events limit front.runs front.few in
+    rw (le-ltb (length (header_spelling h ++ events_spelling h.version events)) HEADER_LENGTH long, header_read h front.header, records, closed_after (is_complete events)) refl

@@ -1,5 +1,5 @@
 -- A decoder's steps: a whole header, a whole record, bytes that are kept, and the end of a piece.
-use Rattle.std.proofs.Common.{◌≡◌, ℕ, suc, ◌+◌, ◌-◌, ◌<◌, ◌≤◌, Bool, true, false, List, [], ◌∷◌, ◌++◌, length, Option, Some, None, Ok, Err, refl, sym, ap, ◌∙◌, append_assoc, arith}
+use Rattle.std.proofs.Common.{◌≡◌, ℕ, suc, ◌+◌, ◌-◌, ◌/◌, ◌<◌, ◌≤◌, Bool, true, false, List, [], ◌∷◌, ◌++◌, length, Option, Some, None, Ok, Err, refl, sym, ap, ◌∙◌, append_assoc, arith}
 use Rattle.std.specs.Prelude.{IsSome}
 use Rattle.std.proofs.lemmas.Bool.{lt-ltb, le-ltb}
 use Rattle.std.proofs.lemmas.List.{take_at, drop_at, length-append, append-nil}
@@ -8,14 +8,17 @@ use Rattle.gr_model.specs.Events.{is_end}
 use Rattle.gr_record.specs.declared.error.RecordError.{RecordError}
 use Rattle.gr_record.specs.declared.error.RecordError.TheVariants as errors
 use Rattle.gr_record.specs.declared.header.Header.{Header}
+use Rattle.gr_record.specs.declared.header.Version.{Version}
+use Rattle.gr_record.specs.declared.header.Version.TheVariants.{One, Two}
 use Rattle.gr_record.specs.declared.part.Part.{Part}
 use Rattle.gr_record.specs.declared.part.Part.TheVariants as parts
 use Rattle.gr_record.specs.declared.stop.Stop.{Stop}
 use Rattle.gr_record.specs.declared.stop.Stop.TheVariants.{Inside, AtEnd, AtFault}
 use Rattle.gr_record.specs.declared.layout.TheConstants.{HEADER_LENGTH, RECORD_LENGTH}
+use Rattle.gr_record.specs.Versions.{record_length}
 use Rattle.gr_record.specs.Reading.{header_at, event_at}
-use Rattle.gr_record.specs.Fronts.{step, records_at}
-use Rattle.gr_record.specs.Decoding.{close, closed, under, read_from, reading, parts_of, Standing, standing, StandsFor, still, standing_after, IsStanding, IsHeldOk, stop_behind, Continues, GrowsAs, unit_length, units_in}
+use Rattle.gr_record.specs.Fronts.{step, records_of}
+use Rattle.gr_record.specs.Decoding.{close, closed, under, read_from, reading, parts_of, Standing, standing, StandsFor, still, standing_after, IsStanding, IsHeldOk, stop_behind, Continues, GrowsAs, unit_length, records_in, units_in}
 use Rattle.gr_record.proofs.Loop.{short, too_many, next}
 use Rattle.gr_record.proofs.Resuming.{reading_goes_on}
 
@@ -31,118 +34,118 @@ from_header most unit rest len =
     rw (le-ltb (length (unit ++ rest)) HEADER_LENGTH long, take_at unit rest HEADER_LENGTH len) refl
 
 -- what is read behind a header
-pub from_records : (items most : ℕ) (bytes : List ℕ) → read_from (Some items) most bytes ≡ closed None (records_at (event_at items) most bytes)
+pub from_records : (h : Header) (most : ℕ) (bytes : List ℕ) → read_from (Some h) most bytes ≡ closed None (records_of h most bytes)
 unfolding read_from
-from_records items most bytes = refl
+from_records h most bytes = refl
 
 -- what is read where a whole record comes first
-from_record : (items most : ℕ) (unit rest : List ℕ) → length unit ≡ RECORD_LENGTH → read_from (Some items) (suc most) (unit ++ rest) ≡ closed None (step (event_at items unit) (unit ++ rest) (records_at (event_at items) most rest))
+from_record : (h : Header) (most : ℕ) (unit rest : List ℕ) → length unit ≡ (record_length h.version) → read_from (Some h) (suc most) (unit ++ rest) ≡ closed None (step (record_length h.version) (event_at h unit) (unit ++ rest) (records_of h most rest))
 unfolding read_from
-from_record items most unit rest len =
-    let long : RECORD_LENGTH ≤ length (unit ++ rest) = simp length-append (omega arith) in
-    rw (next (event_at items) most (unit ++ rest) long, take_at unit rest RECORD_LENGTH len, drop_at unit rest RECORD_LENGTH len) refl
+from_record h most unit rest len =
+    let long : (record_length h.version) ≤ length (unit ++ rest) = simp length-append (omega arith) in
+    rw (next (record_length h.version) (event_at h) most (unit ++ rest) long, take_at unit rest (record_length h.version) len, drop_at unit rest (record_length h.version) len) refl
 
 module _ (limit count : ℕ) (unit rest : List ℕ) (listed : List Part) where
   -- a header
   pub header_continues : (h : Header) → length unit ≡ HEADER_LENGTH → header_at unit ≡ Ok h
-      → Continues (record { limit = limit; items = None; count = count; held = []; stop = Inside }) (unit ++ rest) listed
-      (record { limit = limit; items = Some h.items; count = count; held = []; stop = Inside }) rest (listed ++ parts.Header h ∷ [])
+      → Continues (record { limit = limit; header = None; count = count; held = []; stop = Inside }) (unit ++ rest) listed
+      (record { limit = limit; header = Some h; count = count; held = []; stop = Inside }) rest (listed ++ parts.Header h ∷ [])
   unfolding read_from
   header_continues h len is =
-      let r : read_from None (limit - count) (unit ++ rest) ≡ closed (Some h) (records_at (event_at h.items) (limit - count) rest)
+      let r : read_from None (limit - count) (unit ++ rest) ≡ closed (Some h) (records_of h (limit - count) rest)
       = from_header (limit - count) unit rest len ∙ rw (is, drop_at unit rest HEADER_LENGTH len) refl in
       record { stands = rw r refl; parts = rw r (regrouped listed (parts.Header h) _) }
 
   -- a header at fault
   pub header_fails : (e : RecordError) → length unit ≡ HEADER_LENGTH → header_at unit ≡ Err e
-      → Continues (record { limit = limit; items = None; count = count; held = []; stop = Inside }) (unit ++ rest) listed
-      (record { limit = limit; items = None; count = count; held = []; stop = AtFault e }) rest listed
+      → Continues (record { limit = limit; header = None; count = count; held = []; stop = Inside }) (unit ++ rest) listed
+      (record { limit = limit; header = None; count = count; held = []; stop = AtFault e }) rest listed
   header_fails e len is =
       let r : read_from None (limit - count) (unit ++ rest) ≡ record { header = None; events = []; rest = unit ++ rest; stop = AtFault e }
       = from_header (limit - count) unit rest len ∙ rw is refl in
       record { stands = rw r refl; parts = rw r refl }
 
-  module _ (items : ℕ) (len : length unit ≡ RECORD_LENGTH) where
+  module _ (h : Header) (len : length unit ≡ (record_length h.version)) where
     -- one record more than the limit
     pub one_too_many : count ≡ limit
-        → Continues (record { limit = limit; items = Some items; count = count; held = []; stop = Inside }) (unit ++ rest) listed
-        (record { limit = limit; items = Some items; count = count; held = []; stop = AtFault errors.TooManyRecords }) rest listed
+        → Continues (record { limit = limit; header = Some h; count = count; held = []; stop = Inside }) (unit ++ rest) listed
+        (record { limit = limit; header = Some h; count = count; held = []; stop = AtFault errors.TooManyRecords }) rest listed
     one_too_many full =
         let k : limit - count ≡ 0 = omega arith in
-        let long : RECORD_LENGTH ≤ length (unit ++ rest) = simp length-append (omega arith) in
-        let r : read_from (Some items) (limit - count) (unit ++ rest) ≡ record { header = None; events = []; rest = unit ++ rest; stop = AtFault errors.TooManyRecords }
-        = from_records items (limit - count) (unit ++ rest) ∙ rw (k, too_many (event_at items) (unit ++ rest) long) refl in
+        let long : (record_length h.version) ≤ length (unit ++ rest) = simp length-append (omega arith) in
+        let r : read_from (Some h) (limit - count) (unit ++ rest) ≡ record { header = None; events = []; rest = unit ++ rest; stop = AtFault errors.TooManyRecords }
+        = from_records h (limit - count) (unit ++ rest) ∙ rw (k, too_many (record_length h.version) (event_at h) (unit ++ rest) long) refl in
         record { stands = rw r refl; parts = rw r refl }
 
     module _ (lt : count < limit) where
-      one_more : read_from (Some items) (limit - count) (unit ++ rest) ≡ closed None (step (event_at items unit) (unit ++ rest) (records_at (event_at items) (limit - (count + 1)) rest))
+      one_more : read_from (Some h) (limit - count) (unit ++ rest) ≡ closed None (step (record_length h.version) (event_at h unit) (unit ++ rest) (records_of h (limit - (count + 1)) rest))
       one_more =
           let k : limit - count ≡ suc (limit - (count + 1)) = omega arith in
-          rw k (from_record items (limit - (count + 1)) unit rest len)
+          rw k (from_record h (limit - (count + 1)) unit rest len)
 
       -- a record at fault
-      pub record_fails : (e : RecordError) → event_at items unit ≡ Err e
-          → Continues (record { limit = limit; items = Some items; count = count; held = []; stop = Inside }) (unit ++ rest) listed
-          (record { limit = limit; items = Some items; count = count; held = []; stop = AtFault e }) rest listed
+      pub record_fails : (e : RecordError) → event_at h unit ≡ Err e
+          → Continues (record { limit = limit; header = Some h; count = count; held = []; stop = Inside }) (unit ++ rest) listed
+          (record { limit = limit; header = Some h; count = count; held = []; stop = AtFault e }) rest listed
       record_fails e is =
-          let r : read_from (Some items) (limit - count) (unit ++ rest) ≡ record { header = None; events = []; rest = unit ++ rest; stop = AtFault e }
+          let r : read_from (Some h) (limit - count) (unit ++ rest) ≡ record { header = None; events = []; rest = unit ++ rest; stop = AtFault e }
           = one_more ∙ rw is refl in
           record { stands = rw r refl; parts = rw r refl }
 
       -- the end
-      record_ends : (e : Event) → event_at items unit ≡ Ok e → is_end e ≡ true
-          → Continues (record { limit = limit; items = Some items; count = count; held = []; stop = Inside }) (unit ++ rest) listed
-          (record { limit = limit; items = Some items; count = count + 1; held = []; stop = AtEnd }) rest (listed ++ parts.Event e ∷ [])
+      record_ends : (e : Event) → event_at h unit ≡ Ok e → is_end e ≡ true
+          → Continues (record { limit = limit; header = Some h; count = count; held = []; stop = Inside }) (unit ++ rest) listed
+          (record { limit = limit; header = Some h; count = count + 1; held = []; stop = AtEnd }) rest (listed ++ parts.Event e ∷ [])
       record_ends e is end =
-          let r : read_from (Some items) (limit - count) (unit ++ rest) ≡ closed None (record { events = e ∷ []; rest = rest; stop = AtEnd })
-          = one_more ∙ rw (is, end, drop_at unit rest RECORD_LENGTH len) refl in
+          let r : read_from (Some h) (limit - count) (unit ++ rest) ≡ closed None (record { events = e ∷ []; rest = rest; stop = AtEnd })
+          = one_more ∙ rw (is, end, drop_at unit rest (record_length h.version) len) refl in
           let k : count + 1 ≡ count + 1 + 0 = omega arith in
           record { stands = rw (r, ← k) refl; parts = rw r (regrouped listed (parts.Event e) []) }
 
       -- any other record
-      record_continues : (e : Event) → event_at items unit ≡ Ok e → is_end e ≡ false
-          → Continues (record { limit = limit; items = Some items; count = count; held = []; stop = Inside }) (unit ++ rest) listed
-          (record { limit = limit; items = Some items; count = count + 1; held = []; stop = Inside }) rest (listed ++ parts.Event e ∷ [])
+      record_continues : (e : Event) → event_at h unit ≡ Ok e → is_end e ≡ false
+          → Continues (record { limit = limit; header = Some h; count = count; held = []; stop = Inside }) (unit ++ rest) listed
+          (record { limit = limit; header = Some h; count = count + 1; held = []; stop = Inside }) rest (listed ++ parts.Event e ∷ [])
       record_continues e is on =
-          let next_records = records_at (event_at items) (limit - (count + 1)) rest in
-          let r : read_from (Some items) (limit - count) (unit ++ rest) ≡ record { header = None; events = e ∷ next_records.events; rest = next_records.rest; stop = close next_records.stop next_records.rest }
+          let next_records = records_of h (limit - (count + 1)) rest in
+          let r : read_from (Some h) (limit - count) (unit ++ rest) ≡ record { header = None; events = e ∷ next_records.events; rest = next_records.rest; stop = close next_records.stop next_records.rest }
           = one_more ∙ rw (is, on) refl in
           let k : count + suc (length next_records.events) ≡ count + 1 + length next_records.events = omega arith in
-          let q = from_records items (limit - (count + 1)) rest in
+          let q = from_records h (limit - (count + 1)) rest in
           record { stands = rw (r, q, k) refl; parts = rw (r, q) (regrouped listed (parts.Event e) _) }
 
       -- a record
-      pub record_taken : (e : Event) (end : Bool) → event_at items unit ≡ Ok e → is_end e ≡ end
-          → Continues (record { limit = limit; items = Some items; count = count; held = []; stop = Inside }) (unit ++ rest) listed
-          (record { limit = limit; items = Some items; count = count + 1; held = []; stop = stop_behind end }) rest (listed ++ parts.Event e ∷ [])
+      pub record_taken : (e : Event) (end : Bool) → event_at h unit ≡ Ok e → is_end e ≡ end
+          → Continues (record { limit = limit; header = Some h; count = count; held = []; stop = Inside }) (unit ++ rest) listed
+          (record { limit = limit; header = Some h; count = count + 1; held = []; stop = stop_behind end }) rest (listed ++ parts.Event e ∷ [])
       record_taken e true is end = record_ends e is end
       record_taken e false is on = record_continues e is on
 
 -- ---- bytes that are kept
 
 -- bytes that do not make a whole header or record are kept
-pub holding_continues : (limit count : ℕ) (items : Option ℕ) (held piece : List ℕ) (listed : List Part)
-    → Continues (record { limit = limit; items = items; count = count; held = held; stop = Inside }) piece listed
-    (record { limit = limit; items = items; count = count; held = held ++ piece; stop = Inside }) [] listed
-holding_continues limit count items held piece listed = record { stands = rw (append-nil (held ++ piece)) refl; parts = rw (append-nil (held ++ piece)) refl }
+pub holding_continues : (limit count : ℕ) (h : Option Header) (held piece : List ℕ) (listed : List Part)
+    → Continues (record { limit = limit; header = h; count = count; held = held; stop = Inside }) piece listed
+    (record { limit = limit; header = h; count = count; held = held ++ piece; stop = Inside }) [] listed
+holding_continues limit count h held piece listed = record { stands = rw (append-nil (held ++ piece)) refl; parts = rw (append-nil (held ++ piece)) refl }
 
 -- what was kept comes before the rest
-pub held_continues : (limit count : ℕ) (items : Option ℕ) (held front rest : List ℕ) (listed : List Part)
-    → Continues (record { limit = limit; items = items; count = count; held = held; stop = Inside }) (front ++ rest) listed
-    (record { limit = limit; items = items; count = count; held = []; stop = Inside }) ((held ++ front) ++ rest) listed
-held_continues limit count items held front rest listed = record { stands = rw (append_assoc held front rest) refl; parts = rw (append_assoc held front rest) refl }
+pub held_continues : (limit count : ℕ) (h : Option Header) (held front rest : List ℕ) (listed : List Part)
+    → Continues (record { limit = limit; header = h; count = count; held = held; stop = Inside }) (front ++ rest) listed
+    (record { limit = limit; header = h; count = count; held = []; stop = Inside }) ((held ++ front) ++ rest) listed
+held_continues limit count h held front rest listed = record { stands = rw (append_assoc held front rest) refl; parts = rw (append_assoc held front rest) refl }
 
 -- bytes behind an end
-pub after_end_continues : (limit count : ℕ) (items : Option ℕ) (b : ℕ) (bytes : List ℕ) (listed : List Part)
-    → Continues (record { limit = limit; items = items; count = count; held = []; stop = AtEnd }) (b ∷ bytes) listed
-    (record { limit = limit; items = items; count = count; held = []; stop = AtFault errors.AfterEnd }) [] listed
-after_end_continues limit count items b bytes listed = record { stands = refl; parts = refl }
+pub after_end_continues : (limit count : ℕ) (h : Option Header) (b : ℕ) (bytes : List ℕ) (listed : List Part)
+    → Continues (record { limit = limit; header = h; count = count; held = []; stop = AtEnd }) (b ∷ bytes) listed
+    (record { limit = limit; header = h; count = count; held = []; stop = AtFault errors.AfterEnd }) [] listed
+after_end_continues limit count h b bytes listed = record { stands = refl; parts = refl }
 
 -- bytes behind a fault
-pub failed_continues : (limit count : ℕ) (items : Option ℕ) (e : RecordError) (bytes : List ℕ) (listed : List Part)
-    → Continues (record { limit = limit; items = items; count = count; held = []; stop = AtFault e }) bytes listed
-    (record { limit = limit; items = items; count = count; held = []; stop = AtFault e }) [] listed
-failed_continues limit count items e bytes listed = record { stands = refl; parts = refl }
+pub failed_continues : (limit count : ℕ) (h : Option Header) (e : RecordError) (bytes : List ℕ) (listed : List Part)
+    → Continues (record { limit = limit; header = h; count = count; held = []; stop = AtFault e }) bytes listed
+    (record { limit = limit; header = h; count = count; held = []; stop = AtFault e }) [] listed
+failed_continues limit count h e bytes listed = record { stands = refl; parts = refl }
 
 pub continues_on : (d e f : Standing) (x y z : List ℕ) (p q r : List Part) → Continues d x p e y q → Continues e y q f z r → Continues d x p f z r
 continues_on d e f x y z p q r one two = record { stands = one.stands ∙ two.stands; parts = one.parts ∙ two.parts }
@@ -161,18 +164,18 @@ pub record Settled (d : Standing) : Type 0 where
   pub stands : standing_after d (still d []) ≡ d
   pub parts : parts_of (still d []) ≡ []
 
-settled_at : (limit count : ℕ) (items : Option ℕ) (held : List ℕ) (stop : Stop) → IsHeldOk stop items held → Settled (record { limit = limit; items = items; count = count; held = held; stop = stop })
+settled_at : (limit count : ℕ) (h : Option Header) (held : List ℕ) (stop : Stop) → IsHeldOk stop h held → Settled (record { limit = limit; header = h; count = count; held = held; stop = stop })
 settled_at limit count None held Inside ok =
     let r : read_from None (limit - count) (held ++ []) ≡ record { header = None; events = []; rest = held; stop = Inside } = rw (append-nil held) (too_short (limit - count) held ok) in
     record { stands = rw (r, ← none_more count) refl; parts = rw r refl }
-settled_at limit count (Some items) held Inside ok =
-    let r : read_from (Some items) (limit - count) (held ++ []) ≡ record { header = None; events = []; rest = held; stop = Inside } = rw (append-nil held) (from_records items (limit - count) held ∙ rw (short (event_at items) (limit - count) held ok) refl) in
+settled_at limit count (Some h) held Inside ok =
+    let r : read_from (Some h) (limit - count) (held ++ []) ≡ record { header = None; events = []; rest = held; stop = Inside } = rw (append-nil held) (from_records h (limit - count) held ∙ rw (short (record_length h.version) (event_at h) (limit - count) held ok) refl) in
     record { stands = rw (r, ← none_more count) refl; parts = rw r refl }
-settled_at limit count items held AtEnd ok = record { stands = rw (ok, ← none_more count) refl; parts = refl }
-settled_at limit count items held (AtFault e) ok = record { stands = rw (ok.0, ← none_more count) refl; parts = refl }
+settled_at limit count h held AtEnd ok = record { stands = rw (ok, ← none_more count) refl; parts = refl }
+settled_at limit count h held (AtFault e) ok = record { stands = rw (ok.0, ← none_more count) refl; parts = refl }
 
 pub settled : (d : Standing) → IsStanding d → Settled d
-settled d ok = settled_at d.limit d.count d.items d.held d.stop ok.held
+settled d ok = settled_at d.limit d.count d.header d.held d.stop ok.held
 
 -- what was read of a whole piece
 pub record Fed (old : Standing) (piece : List ℕ) (before : List Part) (new : Standing) (after : List Part) : Type 0 where
@@ -203,16 +206,32 @@ module _ (old new : Standing) (piece : List ℕ) (before after : List Part) (f :
 
 -- ---- room for the parts
 
+few_records : (v : Version) (m : ℕ) → records_in v m ≤ m / RECORD_LENGTH
+few_records One m = omega arith
+few_records Two m = omega arith
+
+record_less : (v : Version) (n m : ℕ) → n ≡ record_length v + m → records_in v m + 1 ≤ records_in v n
+record_less One n m e = omega arith
+record_less Two n m e = omega arith
+
+-- a header that was read stays
+abbrev pub Stays : Option Header → Option Header → Type 0
+Stays h later = (i : Header) → h ≡ Some i → later ≡ Some i
+
+same_header : (i j : Header) → Some i ≡ Some j → i ≡ j
+same_header i j e = cc
+
 -- a unit less makes room for one part less
-pub one_less : (items : Option ℕ) (i n m : ℕ) → n ≡ unit_length items + m → units_in (Some i) m + 1 ≤ units_in items n
-one_less None i n m e =
+pub one_less : (h : Option Header) (i : Header) (n m : ℕ) → Stays h (Some i) → n ≡ unit_length h + m → units_in (Some i) m + 1 ≤ units_in h n
+one_less None i n m stays e =
     let long : HEADER_LENGTH ≤ n = omega arith in
     let k : n - HEADER_LENGTH ≡ m = omega arith in
+    let few = few_records i.version m in
     rw (le-ltb n HEADER_LENGTH long, k) (omega arith)
-one_less (Some j) i n m e = omega arith
+one_less (Some j) i n m stays e = rw (same_header i j (stays j refl)) (record_less j.version n m e)
 
-pub room_left : (items later : Option ℕ) (n m len cap longer wider : ℕ) → IsSome later → n ≡ unit_length items + m → len + units_in items n ≤ cap → longer ≤ len + 1 → cap ≤ wider → longer + units_in later m ≤ wider
-room_left items None n m len cap longer wider some e room one wide = absurd cc
-room_left items (Some i) n m len cap longer wider some e room one wide =
-    let less = one_less items i n m e in
+pub room_left : (h later : Option Header) (n m len cap longer wider : ℕ) → IsSome later → Stays h later → n ≡ unit_length h + m → len + units_in h n ≤ cap → longer ≤ len + 1 → cap ≤ wider → longer + units_in later m ≤ wider
+room_left h None n m len cap longer wider some stays e room one wide = absurd cc
+room_left h (Some i) n m len cap longer wider some stays e room one wide =
+    let less = one_less h i n m stays e in
     omega arith

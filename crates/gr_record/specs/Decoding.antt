@@ -6,13 +6,16 @@ use Rattle.gr_model.specs.declared.limits.TheConstants.{MOST_RECORDS}
 use Rattle.gr_record.specs.declared.error.RecordError.{RecordError}
 use Rattle.gr_record.specs.declared.error.RecordError.TheVariants as errors
 use Rattle.gr_record.specs.declared.header.Header.{Header}
+use Rattle.gr_record.specs.declared.header.Version.{Version}
+use Rattle.gr_record.specs.declared.header.Version.TheVariants.{One, Two}
 use Rattle.gr_record.specs.declared.part.Part.{Part}
 use Rattle.gr_record.specs.declared.part.Part.TheVariants as parts
 use Rattle.gr_record.specs.declared.stop.Stop.{Stop}
 use Rattle.gr_record.specs.declared.stop.Stop.TheVariants.{Inside, AtEnd, AtFault}
-use Rattle.gr_record.specs.declared.layout.TheConstants.{HEADER_LENGTH, RECORD_LENGTH}
-use Rattle.gr_record.specs.Reading.{header_at, event_at}
-use Rattle.gr_record.specs.Fronts.{Records, records_at}
+use Rattle.gr_record.specs.declared.layout.TheConstants.{HEADER_LENGTH, RECORD_LENGTH, LONG_RECORD_LENGTH}
+use Rattle.gr_record.specs.Versions.{record_length}
+use Rattle.gr_record.specs.Reading.{header_at}
+use Rattle.gr_record.specs.Fronts.{Records, records_of}
 
 -- the header, if it was read, and the records; the bytes that are left, and why reading stops there
 pub record Reading : Type 0 where
@@ -34,14 +37,14 @@ closed header r = record { header = header; events = r.events; rest = r.rest; st
 -- behind a whole header: at most so many records
 abbrev pub under : Result Header RecordError → ℕ → List ℕ → Reading
 under (Err e) most bytes = record { header = None; events = []; rest = bytes; stop = AtFault e }
-under (Ok h) most bytes = closed (Some h) (records_at (event_at h.items) most (drop HEADER_LENGTH bytes))
+under (Ok h) most bytes = closed (Some h) (records_of h most (drop HEADER_LENGTH bytes))
 
--- what is read of bytes where the header, with this number of items, was read before or is still to come
-unfoldable pub read_from : Option ℕ → ℕ → List ℕ → Reading
+-- what is read of bytes where this header was read before, or is still to come
+unfoldable pub read_from : Option Header → ℕ → List ℕ → Reading
 read_from None most bytes =
     if nat_lt (length bytes) HEADER_LENGTH then record { header = None; events = []; rest = bytes; stop = Inside }
     else under (header_at (take HEADER_LENGTH bytes)) most bytes
-read_from (Some items) most bytes = closed None (records_at (event_at items) most bytes)
+read_from (Some h) most bytes = closed None (records_of h most bytes)
 
 -- what is read of the bytes of one stream of at most so many records
 abbrev pub reading : ℕ → List ℕ → Reading
@@ -60,14 +63,15 @@ parts_of r = header_part r.header ++ map parts.Event r.events
 
 pub record Standing : Type 0 where
   pub limit : ℕ
-  pub items : Option ℕ
+  pub header : Option Header
   pub count : ℕ
   pub held : List ℕ
   pub stop : Stop
 
-abbrev pub header_items : Option Header → Option ℕ → Option ℕ
-header_items None items = items
-header_items (Some h) items = Some h.items
+-- the header that is read now, or was before
+abbrev pub either_header : Option Header → Option Header → Option Header
+either_header None before = before
+either_header (Some h) before = Some h
 
 -- the bytes that are kept for what is not whole yet
 abbrev pub held_at : Stop → List ℕ → List ℕ
@@ -77,20 +81,20 @@ held_at (AtFault e) rest = []
 
 -- what is kept of the bytes of a stream
 abbrev pub standing : ℕ → Reading → Standing
-standing limit r = record { limit = limit; items = header_items r.header None; count = length r.events; held = held_at r.stop r.rest; stop = r.stop }
+standing limit r = record { limit = limit; header = either_header r.header None; count = length r.events; held = held_at r.stop r.rest; stop = r.stop }
 
 -- a decoder that has been fed these bytes
 abbrev pub StandsFor : Standing → List ℕ → Type 0
 StandsFor d fed = d ≡ standing d.limit (reading d.limit fed)
 
 -- the bytes of a header or of a record, whichever comes next
-abbrev pub unit_length : Option ℕ → ℕ
+abbrev pub unit_length : Option Header → ℕ
 unit_length None = HEADER_LENGTH
-unit_length (Some items) = RECORD_LENGTH
+unit_length (Some h) = record_length h.version
 
 -- what a decoder that stands so reads of further bytes, and how it stands then
 abbrev pub still_at : Stop → Standing → List ℕ → Reading
-still_at Inside d more = read_from d.items (d.limit - d.count) (d.held ++ more)
+still_at Inside d more = read_from d.header (d.limit - d.count) (d.held ++ more)
 still_at AtEnd d more = record { header = None; events = []; rest = more; stop = close AtEnd more }
 still_at (AtFault e) d more = record { header = None; events = []; rest = more; stop = AtFault e }
 
@@ -98,37 +102,37 @@ abbrev pub still : Standing → List ℕ → Reading
 still d more = still_at d.stop d more
 
 abbrev pub standing_after : Standing → Reading → Standing
-standing_after d r = record { limit = d.limit; items = header_items r.header d.items; count = d.count + length r.events; held = held_at r.stop r.rest; stop = r.stop }
+standing_after d r = record { limit = d.limit; header = either_header r.header d.header; count = d.count + length r.events; held = held_at r.stop r.rest; stop = r.stop }
 
 -- a decoder that has been fed nothing
 abbrev pub fresh : ℕ → Standing
-fresh limit = record { limit = limit; items = None; count = 0; held = []; stop = Inside }
+fresh limit = record { limit = limit; header = None; count = 0; held = []; stop = Inside }
 
 -- fewer bytes are kept than a header or a record has, and none behind an end or a fault
-abbrev pub IsHeldOk : Stop → Option ℕ → List ℕ → Type 0
-IsHeldOk Inside items held = length held < unit_length items
-IsHeldOk AtEnd items held = held ≡ []
-IsHeldOk (AtFault e) items held = (held ≡ []) × (e ≢ errors.Memory)
+abbrev pub IsHeldOk : Stop → Option Header → List ℕ → Type 0
+IsHeldOk Inside header held = length held < unit_length header
+IsHeldOk AtEnd header held = held ≡ []
+IsHeldOk (AtFault e) header held = (held ≡ []) × (e ≢ errors.Memory)
 
-abbrev pub IsCountOk : Option ℕ → ℕ → ℕ → Type 0
+abbrev pub IsCountOk : Option Header → ℕ → ℕ → Type 0
 IsCountOk None count limit = count ≡ 0
-IsCountOk (Some items) count limit = count ≤ limit
+IsCountOk (Some h) count limit = count ≤ limit
 
 -- how a decoder may stand
 pub record IsStanding (d : Standing) : Type 0 where
   pub some : 1 ≤ d.limit
   pub limit : d.limit ≤ MOST_RECORDS
-  pub count : IsCountOk d.items d.count d.limit
-  pub held : IsHeldOk d.stop d.items d.held
+  pub count : IsCountOk d.header d.count d.limit
+  pub held : IsHeldOk d.stop d.header d.held
 
 -- the bytes that are missing to a whole header or record
-abbrev pub missing_at : Stop → Option ℕ → List ℕ → ℕ
-missing_at Inside items held = unit_length items - length held
-missing_at AtEnd items held = 0
-missing_at (AtFault e) items held = 0
+abbrev pub missing_at : Stop → Option Header → List ℕ → ℕ
+missing_at Inside header held = unit_length header - length held
+missing_at AtEnd header held = 0
+missing_at (AtFault e) header held = 0
 
 abbrev pub missing : Standing → ℕ
-missing d = missing_at d.stop d.items d.held
+missing d = missing_at d.stop d.header d.held
 
 -- ---- a piece, part by part
 
@@ -137,10 +141,15 @@ pub record Continues (d : Standing) (more : List ℕ) (listed : List Part) (e : 
   pub stands : standing_after d (still d more) ≡ standing_after e (still e rest)
   pub parts : listed ++ parts_of (still d more) ≡ longer ++ parts_of (still e rest)
 
--- how many headers and records so many bytes may complete
-abbrev pub units_in : Option ℕ → ℕ → ℕ
+-- how many records so many bytes may complete, and how many headers and records
+abbrev pub records_in : Version → ℕ → ℕ
+records_in One bytes = bytes / RECORD_LENGTH
+records_in Two bytes = bytes / LONG_RECORD_LENGTH
+
+-- a header may be that of the version with the shorter records
+abbrev pub units_in : Option Header → ℕ → ℕ
 units_in None bytes = if nat_lt bytes HEADER_LENGTH then 0 else 1 + (bytes - HEADER_LENGTH) / RECORD_LENGTH
-units_in (Some items) bytes = bytes / RECORD_LENGTH
+units_in (Some h) bytes = records_in h.version bytes
 
 -- how a decoder stands directly behind a record
 abbrev pub stop_behind : Bool → Stop

@@ -8,24 +8,24 @@ use Rattle.gr_record.specs.declared.error.RecordError.{RecordError}
 use Rattle.gr_record.specs.declared.header.Header.{Header}
 use Rattle.gr_record.specs.declared.stop.Stop.{Stop}
 use Rattle.gr_record.specs.declared.stop.Stop.TheVariants.{Inside, AtEnd, AtFault}
-use Rattle.gr_record.specs.Spelling.{header_spelling, events_spelling, IsHeader, IsEvent}
+use Rattle.gr_record.specs.Spelling.{header_spelling, events_spelling, IsHeader, IsRecord}
 use Rattle.gr_record.specs.Laws.{AreBytes}
-use Rattle.gr_record.specs.Decoding.{Reading, reading, parts_of, header_items, unit_length}
+use Rattle.gr_record.specs.Decoding.{Reading, reading, parts_of, either_header, unit_length}
 
--- records that a stream of so many items may have in this order: none but the last is an end
-abbrev pub Runs : ℕ → List Event → Type 0
-Runs items [] = ⊤
-Runs items (e ∷ es) = IsEvent items e × (IsTrue (is_end e) → es ≡ []) × Runs items es
+-- records that the stream of this header may have in this order: none but the last is an end
+abbrev pub Runs : Header → List Event → Type 0
+Runs h [] = ⊤
+Runs h (e ∷ es) = IsRecord h e × (IsTrue (is_end e) → es ≡ []) × Runs h es
 
 -- a header, and at most so many records of its stream
 pub record IsFront (limit : ℕ) (h : Header) (events : List Event) : Type 0 where
   pub header : IsHeader h
-  pub runs : Runs h.items events
+  pub runs : Runs h events
   pub few : length events ≤ limit
 
 abbrev pub front_spelling : Option Header → List Event → List ℕ
 front_spelling None events = []
-front_spelling (Some h) events = header_spelling h ++ events_spelling events
+front_spelling (Some h) events = header_spelling h ++ events_spelling h.version events
 
 abbrev pub FrontIn : ℕ → Option Header → List Event → Type 0
 FrontIn limit None events = events ≡ []
@@ -36,7 +36,7 @@ pub record IsReadingOf (limit : ℕ) (bytes : List ℕ) (r : Reading) : Type 0 w
   pub parts : bytes ≡ front_spelling r.header r.events ++ r.rest
   pub front : FrontIn limit r.header r.events
   pub ended : r.stop ≡ AtEnd → IsTrue (is_complete r.events) × (r.rest ≡ [])
-  pub short : r.stop ≡ Inside → length r.rest < unit_length (header_items r.header None)
+  pub short : r.stop ≡ Inside → length r.rest < unit_length (either_header r.header None)
 
 -- what is read of bytes is spelled so
 abbrev pub ReadFrontIsSpelled : Type 0

@@ -4,8 +4,9 @@ use Rattle.std.specs.Prelude.{◌≡◌, ℕ, ◌<◌, ◌≤◌, List, ◌++◌
 use Rattle.gr_model.specs.declared.event.Event.{Event}
 use Rattle.gr_model.specs.declared.limits.TheConstants.{MOST_ITEMS_OF_A_GROUP}
 use Rattle.gr_record.specs.declared.header.Header.{Header}
-use Rattle.gr_record.specs.declared.layout.TheConstants.{HEADER_LENGTH, RECORD_LENGTH}
-use Rattle.gr_record.specs.Spelling.{header_spelling, event_spelling, IsHeader, IsEvent}
+use Rattle.gr_record.specs.declared.layout.TheConstants.{HEADER_LENGTH}
+use Rattle.gr_record.specs.Versions.{record_length}
+use Rattle.gr_record.specs.Spelling.{header_spelling, event_spelling, IsHeader, IsRecord}
 use Rattle.gr_record.specs.Reading.{header_at, event_at}
 
 abbrev pub AreBytes : List ℕ → Type 0
@@ -13,18 +14,18 @@ AreBytes bytes = (i : ℕ) → slice_index bytes i < 256
 
 -- what is spelled is read again, whatever follows it
 abbrev pub SpelledIsRead : Type 0
-SpelledIsRead = (items : ℕ) (e : Event) (rest : List ℕ) → items ≤ MOST_ITEMS_OF_A_GROUP → IsEvent items e → event_at items (event_spelling e ++ rest) ≡ Ok e
+SpelledIsRead = (h : Header) (e : Event) (rest : List ℕ) → h.items ≤ MOST_ITEMS_OF_A_GROUP → IsRecord h e → event_at h (event_spelling h.version e ++ rest) ≡ Ok e
 
 abbrev pub SpelledHeaderIsRead : Type 0
 SpelledHeaderIsRead = (h : Header) (rest : List ℕ) → IsHeader h → header_at (header_spelling h ++ rest) ≡ Ok h
 
 -- what is read is in range, and is spelled so
 abbrev pub ReadIsSpelled : Type 0
-ReadIsSpelled = (items : ℕ) (e : Event) (bytes : List ℕ) → AreBytes bytes → RECORD_LENGTH ≤ length bytes → event_at items bytes ≡ Ok e → (take RECORD_LENGTH bytes ≡ event_spelling e) × IsEvent items e
+ReadIsSpelled = (h : Header) (e : Event) (bytes : List ℕ) → AreBytes bytes → record_length h.version ≤ length bytes → event_at h bytes ≡ Ok e → (take (record_length h.version) bytes ≡ event_spelling h.version e) × IsRecord h e
 
 abbrev pub ReadHeaderIsSpelled : Type 0
 ReadHeaderIsSpelled = (h : Header) (bytes : List ℕ) → AreBytes bytes → HEADER_LENGTH ≤ length bytes → header_at bytes ≡ Ok h → (take HEADER_LENGTH bytes ≡ header_spelling h) × IsHeader h
 
--- no spelling of an event begins another
+-- no spelling of an event begins another of its version
 abbrev pub NoSpellingBeginsAnother : Type 0
-NoSpellingBeginsAnother = (items : ℕ) (a b : Event) (x y : List ℕ) → items ≤ MOST_ITEMS_OF_A_GROUP → IsEvent items a → IsEvent items b → event_spelling a ++ x ≡ event_spelling b ++ y → (a ≡ b) × (x ≡ y)
+NoSpellingBeginsAnother = (h : Header) (a b : Event) (x y : List ℕ) → h.items ≤ MOST_ITEMS_OF_A_GROUP → IsRecord h a → IsRecord h b → event_spelling h.version a ++ x ≡ event_spelling h.version b ++ y → (a ≡ b) × (x ≡ y)

@@ -3,9 +3,7 @@ pub mod Faults
 pub mod FrontLaws
 pub mod Fronts
 pub mod Laws
-pub mod LineLaws
-pub mod LineReading
-pub mod LineText
 pub mod Reading
 pub mod Spelling
+pub mod Versions
 pub mod WholeStreams

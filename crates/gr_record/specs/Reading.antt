@@ -1,6 +1,6 @@
 -- What the bytes of a header and of a record say, or their first fault.
 -- Source: docs/FORMATS.md, "Stream" and "Faults of a whole record".
-use Rattle.std.specs.Prelude.{ℕ, ◌-◌, ◌^◌, Bool, true, not, ◌&&◌, ◌||◌, List, drop, slice_index, Option, Some, None, Result, Ok, Err, nat_lt, nat_le, ◌==◌, if◌then◌else◌}
+use Rattle.std.specs.Prelude.{ℕ, zero, suc, ◌-◌, ◌^◌, Bool, true, not, ◌&&◌, ◌||◌, List, [], ◌∷◌, length, drop, slice_index, Option, Some, None, Result, Ok, Err, nat_lt, nat_le, ◌==◌, if◌then◌else◌}
 use Rattle.std.specs.List.{range_with_len, find}
 use Rattle.byteorder.specs.Endian.{little_number}
 use Rattle.gr_model.specs.declared.event.Space.{Space}
@@ -13,9 +13,12 @@ use Rattle.gr_model.specs.declared.event.Kind.{Kind}
 use Rattle.gr_model.specs.declared.event.Kind.TheVariants.{Read, Write, Load, Store, Rmw, Barrier, End}
 use Rattle.gr_model.specs.declared.event.Name.{Name}
 use Rattle.gr_model.specs.declared.event.Event.{Event}
-use Rattle.gr_model.specs.declared.limits.TheConstants.{MOST_GROUPS, MOST_ITEMS_OF_A_GROUP, MOST_RECORDS}
+use Rattle.gr_model.specs.declared.limits.TheConstants.{MOST_GROUPS, MOST_ITEMS_OF_A_GROUP, MOST_NAMES, MOST_RECORDS}
 use Rattle.gr_model.specs.Access.{acquires, releases, is_acquire_kind}
 use Rattle.gr_record.specs.declared.header.Header.{Header}
+use Rattle.gr_record.specs.declared.header.Version.{Version}
+use Rattle.gr_record.specs.declared.header.Version.TheVariants.{One, Two}
+use Rattle.gr_record.specs.Versions.{places}
 use Rattle.gr_record.specs.declared.error.RecordError.{RecordError}
 use Rattle.gr_record.specs.declared.error.RecordError.TheVariants as errors
 
@@ -25,12 +28,20 @@ field i n bytes = little_number n (drop i bytes)
 
 -- ---- headers
 
--- what a whole header says: `GRT1`, then group, items and launch
+-- the version that the first four bytes say, as a number: `GRT1` or `GRT2`
+abbrev pub version_of : ℕ → Option Version
+version_of magic = if magic == 0x31545247 then Some One else if magic == 0x32545247 then Some Two else None
+
+-- what a whole header of this version says: group, items and launch
+abbrev pub header_behind : Option Version → List ℕ → Result Header RecordError
+header_behind None bytes = Err errors.BadMagic
+header_behind (Some version) bytes =
+    if nat_le MOST_GROUPS (field 4 2 bytes) || (field 6 2 bytes == 0) || nat_lt MOST_ITEMS_OF_A_GROUP (field 6 2 bytes) then Err errors.BadHeader
+    else Ok (record { version = version; group = field 4 2 bytes; items = field 6 2 bytes; launch = field 8 4 bytes })
+
+-- what a whole header says
 unfoldable pub header_at : List ℕ → Result Header RecordError
-header_at bytes =
-    if not (field 0 4 bytes == 0x31545247) then Err errors.BadMagic
-    else if nat_le MOST_GROUPS (field 4 2 bytes) || (field 6 2 bytes == 0) || nat_lt MOST_ITEMS_OF_A_GROUP (field 6 2 bytes) then Err errors.BadHeader
-    else Ok (record { group = field 4 2 bytes; items = field 6 2 bytes; launch = field 8 4 bytes })
+header_at bytes = header_behind (version_of (field 0 4 bytes)) bytes
 
 -- ---- the fields of a record
 
@@ -81,11 +92,23 @@ kind_of bytes =
 unfoldable pub space_at : List ℕ → Space
 space_at bytes = if nat_lt (slice_index bytes 0) 5 then space_of (slice_index bytes 1) else Global
 
--- no name where the bytes 12 to 19 are all 255
-unfoldable pub name_at : List ℕ → Option Name
-name_at bytes =
-    if field 12 8 bytes == 2 ^ 64 - 1 then None
-    else Some (record { at = record { group = field 12 2 bytes; item = field 14 2 bytes }; release = field 16 4 bytes })
+-- whether so many places for names are unused: their bytes are all 255
+unfoldable pub are_unused : ℕ → List ℕ → Bool
+are_unused zero bytes = true
+are_unused (suc n) bytes = (field 0 8 bytes == 2 ^ 64 - 1) && are_unused n (drop 8 bytes)
+
+-- the name in the first eight bytes
+unfoldable pub name_in : List ℕ → Name
+name_in bytes = record { at = record { group = field 0 2 bytes; item = field 2 2 bytes }; release = field 4 4 bytes }
+
+-- what so many places have, up to those that are unused
+unfoldable pub names_in : ℕ → List ℕ → List Name
+names_in zero bytes = []
+names_in (suc n) bytes = if are_unused (suc n) bytes then [] else name_in bytes ∷ names_in n (drop 8 bytes)
+
+-- the names of a record, from its byte 12 on
+abbrev pub names_at : Version → List ℕ → List Name
+names_at version bytes = names_in (places version) (drop 12 bytes)
 
 -- ---- records
 
@@ -99,21 +122,49 @@ is_order_ok (Rmw scope order) = true
 is_order_ok (Barrier global local) = true
 is_order_ok (End cut) = true
 
--- a name stands only at an acquire, and is one that some launch could have
-abbrev pub is_name_ok : Kind → Option Name → Bool
-is_name_ok kind None = true
-is_name_ok kind (Some name) = is_acquire_kind kind && nat_lt name.at.group MOST_GROUPS && nat_lt name.at.item MOST_ITEMS_OF_A_GROUP && nat_lt name.release MOST_RECORDS
+-- a name that some launch could have
+abbrev pub is_in_range : Name → Bool
+is_in_range name = nat_lt name.at.group MOST_GROUPS && nat_lt name.at.item MOST_ITEMS_OF_A_GROUP && nat_lt name.release MOST_RECORDS
+
+-- by group, then by item, then by number
+abbrev pub is_below : Name → Name → Bool
+is_below m n =
+    nat_lt m.at.group n.at.group || ((m.at.group == n.at.group) && (nat_lt m.at.item n.at.item || ((m.at.item == n.at.item) && nat_lt m.release n.release)))
+
+-- a name is below the first of these, if there is one
+abbrev pub is_below_first : Name → List Name → Bool
+is_below_first m [] = true
+is_below_first m (n ∷ names) = is_below m n
+
+-- each is in range, and below the next
+abbrev pub are_in_order : List Name → Bool
+are_in_order [] = true
+are_in_order (n ∷ names) = is_in_range n && is_below_first n names && are_in_order names
+
+-- names stand only at an acquire, and are names that one acquire may have
+abbrev pub is_naming_ok : Kind → List Name → Bool
+is_naming_ok kind [] = true
+is_naming_ok kind (n ∷ names) = is_acquire_kind kind && nat_le (length (n ∷ names)) MOST_NAMES && are_in_order (n ∷ names)
+
+-- the names that a record of this kind has, if it may have them
+abbrev pub naming : Kind → List Name → Option (List Name)
+naming kind names = if is_naming_ok kind names then Some names else None
 
 abbrev pub unless_bad : {X : Type 0} → Option ℕ → Result X RecordError → Result X RecordError
 unless_bad (Some place) next = Err (errors.BadField place)
 unless_bad None next = next
 
--- what a whole record says in a stream of so many items
-unfoldable pub event_at : ℕ → List ℕ → Result Event RecordError
-event_at items bytes =
+-- what follows where the names are those that the record may have
+abbrev pub unless_bad_names : {X : Type 0} → Option (List Name) → (List Name → Result X RecordError) → Result X RecordError
+unless_bad_names None next = Err errors.BadName
+unless_bad_names (Some names) next = next names
+
+-- what a whole record says in the stream of this header
+unfoldable pub event_at : Header → List ℕ → Result Event RecordError
+event_at h bytes =
     if nat_lt 6 (slice_index bytes 0) then Err errors.BadKind
     else unless_bad (bad_field bytes)
     (if not (is_order_ok (kind_of bytes)) then Err errors.BadOrder
-    else if not (is_name_ok (kind_of bytes) (name_at bytes)) then Err errors.BadName
-    else if nat_le items (field 4 2 bytes) then Err errors.UnknownItem
-    else Ok (record { item = field 4 2 bytes; kind = kind_of bytes; space = space_at bytes; word = field 8 4 bytes; name = name_at bytes }))
+    else unless_bad_names (naming (kind_of bytes) (names_at h.version bytes)) (λ names.
+    if nat_le h.items (field 4 2 bytes) then Err errors.UnknownItem
+    else Ok (record { item = field 4 2 bytes; kind = kind_of bytes; space = space_at bytes; word = field 8 4 bytes; names = names })))

@@ -1,6 +1,6 @@
 -- The one spelling of a header and of each event, as bytes. Numbers are little endian.
 -- Source: docs/FORMATS.md, "Stream".
-use Rattle.std.specs.Prelude.{ℕ, ◌+◌, ◌*◌, ◌^◌, ◌<◌, ◌≤◌, Bool, List, [], ◌∷◌, ◌++◌, replicate, Option, Some, None, if◌then◌else◌}
+use Rattle.std.specs.Prelude.{ℕ, ◌+◌, ◌*◌, ◌^◌, ◌<◌, ◌≤◌, Bool, List, [], ◌∷◌, ◌++◌, length, replicate, Option, Some, None, zero, suc, if◌then◌else◌}
 use Rattle.std.specs.List.{flat_map}
 use Rattle.byteorder.specs.Endian.{little_bytes}
 use Rattle.gr_model.specs.declared.event.Space.{Space}
@@ -16,6 +16,9 @@ use Rattle.gr_model.specs.declared.event.Event.{Event}
 use Rattle.gr_model.specs.declared.limits.TheConstants.{MOST_GROUPS, MOST_ITEMS_OF_A_GROUP}
 use Rattle.gr_model.specs.Events.{IsEventOk}
 use Rattle.gr_record.specs.declared.header.Header.{Header}
+use Rattle.gr_record.specs.declared.header.Version.{Version}
+use Rattle.gr_record.specs.declared.header.Version.TheVariants.{One, Two}
+use Rattle.gr_record.specs.Versions.{places}
 
 -- a byte for a space, a scope, an order, a truth
 abbrev pub space_byte : Space → ℕ
@@ -45,20 +48,40 @@ kind_bytes (Rmw scope order) space = 4 ∷ space_byte space ∷ scope_byte scope
 kind_bytes (Barrier global local) space = 5 ∷ (bit global + 2 * bit local) ∷ 0 ∷ 0 ∷ []
 kind_bytes (End cut) space = 6 ∷ bit cut ∷ 0 ∷ 0 ∷ []
 
--- the bytes 12 to 19 of a record
-abbrev pub name_bytes : Option Name → List ℕ
-name_bytes None = replicate 8 255
-name_bytes (Some name) = little_bytes 2 name.at.group ++ little_bytes 2 name.at.item ++ little_bytes 4 name.release
+-- the eight bytes of a name
+abbrev pub name_bytes : Name → List ℕ
+name_bytes name = little_bytes 2 name.at.group ++ little_bytes 2 name.at.item ++ little_bytes 4 name.release
 
-abbrev pub event_spelling : Event → List ℕ
-event_spelling e = kind_bytes e.kind e.space ++ little_bytes 2 e.item ++ 0 ∷ 0 ∷ little_bytes 4 e.word ++ name_bytes e.name
+-- a place for a name; the bytes of an unused one are 255
+abbrev pub place_bytes : Option Name → List ℕ
+place_bytes None = replicate 8 255
+place_bytes (Some name) = name_bytes name
 
--- `GRT1`, then group, items and launch
+-- so many places: the names stand in the first ones
+abbrev pub names_bytes : ℕ → List Name → List ℕ
+names_bytes zero names = []
+names_bytes (suc n) [] = place_bytes None ++ names_bytes n []
+names_bytes (suc n) (name ∷ names) = place_bytes (Some name) ++ names_bytes n names
+
+-- the bytes 0 to 11 of a record
+abbrev pub fields_bytes : Event → List ℕ
+fields_bytes e = kind_bytes e.kind e.space ++ little_bytes 2 e.item ++ 0 ∷ 0 ∷ little_bytes 4 e.word
+
+-- a record in a stream of this version
+abbrev pub event_spelling : Version → Event → List ℕ
+event_spelling v e = fields_bytes e ++ names_bytes (places v) e.names
+
+-- `GRT1` or `GRT2`
+abbrev pub version_byte : Version → ℕ
+version_byte One = 0x31
+version_byte Two = 0x32
+
+-- these four bytes, then group, items and launch
 abbrev pub header_spelling : Header → List ℕ
-header_spelling h = 0x47 ∷ 0x52 ∷ 0x54 ∷ 0x31 ∷ little_bytes 2 h.group ++ little_bytes 2 h.items ++ little_bytes 4 h.launch
+header_spelling h = 0x47 ∷ 0x52 ∷ 0x54 ∷ version_byte h.version ∷ little_bytes 2 h.group ++ little_bytes 2 h.items ++ little_bytes 4 h.launch
 
-abbrev pub events_spelling : List Event → List ℕ
-events_spelling es = flat_map event_spelling es
+abbrev pub events_spelling : Version → List Event → List ℕ
+events_spelling v es = flat_map (event_spelling v) es
 
 -- a header that a stream may begin with
 pub record IsHeader (h : Header) : Type 0 where
@@ -71,3 +94,8 @@ pub record IsHeader (h : Header) : Type 0 where
 pub record IsEvent (items : ℕ) (e : Event) : Type 0 where
   pub ok : IsEventOk e items
   pub word : e.word < 2 ^ 32
+
+-- a record that the stream of this header may have: it has room for the names
+pub record IsRecord (h : Header) (e : Event) : Type 0 where
+  pub event : IsEvent h.items e
+  pub names : length e.names ≤ places h.version

@@ -1,6 +1,6 @@
 -- What stands at the front of a list of bytes: a header, or the records of a stream up to its end; and the bytes after it.
 -- Source: docs/FORMATS.md, "Stream".
-use Rattle.std.specs.Prelude.{◌≡◌, ℕ, ◌^◌, ◌<◌, List, ◌++◌, length, drop, All, nat_lt, Result, Ok, Err, if◌then◌else◌}
+use Rattle.std.specs.Prelude.{◌≡◌, ℕ, ◌^◌, ◌<◌, ◌≤◌, List, ◌++◌, length, drop, All, nat_lt, Result, Ok, Err, if◌then◌else◌}
 use Rattle.gr_model.specs.declared.event.Event.{Event}
 use Rattle.gr_model.specs.declared.limits.TheConstants.{MOST_RECORDS}
 use Rattle.gr_model.specs.Streams.{IsAccepted}
@@ -8,9 +8,10 @@ use Rattle.gr_record.specs.declared.error.RecordError.{RecordError}
 use Rattle.gr_record.specs.declared.error.RecordError.TheVariants as errors
 use Rattle.gr_record.specs.declared.header.Header.{Header}
 use Rattle.gr_record.specs.declared.layout.TheConstants.{HEADER_LENGTH}
+use Rattle.gr_record.specs.Versions.{places}
 use Rattle.gr_record.specs.Spelling.{header_spelling, events_spelling, IsHeader}
-use Rattle.gr_record.specs.Reading.{header_at, event_at}
-use Rattle.gr_record.specs.Fronts.{Records, records_at}
+use Rattle.gr_record.specs.Reading.{header_at}
+use Rattle.gr_record.specs.Fronts.{Records, records_of}
 use Rattle.gr_record.specs.declared.stop.Stop.{Stop}
 use Rattle.gr_record.specs.declared.stop.Stop.TheVariants.{Inside, AtEnd, AtFault}
 
@@ -45,17 +46,18 @@ front_header_at bytes =
     if nat_lt (length bytes) HEADER_LENGTH then Err errors.Truncated
     else header_at bytes >>= λ h. Ok (h, drop HEADER_LENGTH bytes)
 
--- the records at the front of the bytes up to the end, and the bytes after them
-unfoldable pub front_records_at : ℕ → List ℕ → Result (List Event × List ℕ) RecordError
-front_records_at items bytes = whole (records_at (event_at items) MOST_RECORDS bytes)
+-- the records of the stream of this header, at the front of the bytes up to the end, and the bytes after them
+unfoldable pub front_records_at : Header → List ℕ → Result (List Event × List ℕ) RecordError
+front_records_at h bytes = whole (records_of h MOST_RECORDS bytes)
 
 -- ---- what a stream is, by its spelling
 
 abbrev pub stream_spelling : Header → List Event → List ℕ
-stream_spelling h events = header_spelling h ++ events_spelling events
+stream_spelling h events = header_spelling h ++ events_spelling h.version events
 
--- a header in range, and a complete list that its group may have
+-- a header in range, and a complete list that its group may have, with names for which there is room
 pub record IsStream (h : Header) (events : List Event) : Type 0 where
   pub header : IsHeader h
   pub list : IsAccepted h.items events
   pub words : All (λ e. e.word < 2 ^ 32) events
+  pub names : All (λ e. length e.names ≤ places h.version) events

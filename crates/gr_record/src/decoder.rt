@@ -7,12 +7,15 @@ ghost use Rattle.std.specs.Prelude.{◌≡◌, ◌≢◌, ◌+◌, ◌<◌, ◌�
 ghost use Rattle.std.specs.Vec.{vec_len, vec_capacity};
 ghost use Rattle.gr_model.specs.Events.{is_end};
 ghost use Rattle.gr_record.specs.declared.error.RecordError.TheVariants.{Memory as OutOfMemory};
+ghost use Rattle.gr_record.specs.declared.header.Header.{Header};
 ghost use Rattle.gr_record.specs.declared.part.Part.{Part};
 ghost use Rattle.gr_record.specs.declared.stop.Stop.TheVariants.{Inside, AtEnd, AtFault};
-ghost use Rattle.gr_record.specs.Decoding.{Standing, StandsFor, fresh, unit_length, missing, units_in, stop_behind, Continues, answer, last_answer, GrowsAs, HasMemory, reading, parts_of};
+ghost use Rattle.gr_record.specs.Versions.{record_length};
+ghost use Rattle.gr_record.specs.Decoding.{Standing, StandsFor, fresh, unit_length, missing, records_in, units_in, stop_behind, Continues, answer, last_answer, GrowsAs, HasMemory, reading, parts_of};
 
 use crate::error::RecordError;
-use crate::layout::{HEADER_LENGTH, RECORD_LENGTH};
+use crate::header::{Header, Version};
+use crate::layout::{HEADER_LENGTH, LONG_RECORD_LENGTH, RECORD_LENGTH};
 use crate::part::Part;
 use crate::reading::{read_event, read_header};
 use crate::stop::Stop;
@@ -28,9 +31,9 @@ use std::mem;
 #[derive(Debug, Drop)]
 pub struct Decoder {
     limit: u32,
-    items: Option<u16>,
+    header: Option<Header>,
     count: u32,
-    held: ArrayVec<u8, RECORD_LENGTH>,
+    held: ArrayVec<u8, LONG_RECORD_LENGTH>,
     stop: Stop,
 }
 
@@ -39,9 +42,9 @@ impl Model for Decoder {
 
     ghost Value = { Standing };
 
-    ghost view = { λ d. record { limit = d.limit; items = d.items; count = d.count; held = d.held.items; stop = d.stop } };
+    ghost view = { λ d. record { limit = d.limit; header = d.header; count = d.count; held = d.held.items; stop = d.stop } };
 
-    ghost invariant = { λ d. IsStanding (record { limit = d.limit; items = d.items; count = d.count; held = d.held.items; stop = d.stop }) };
+    ghost invariant = { λ d. IsStanding (record { limit = d.limit; header = d.header; count = d.count; held = d.held.items; stop = d.stop }) };
 }
 
 /// Adds a part.
@@ -55,9 +58,19 @@ fn push<A: Allocator>(parts: &mut Vec<Part, A>, part: Part)
     let _ = parts.push(part);
 }
 
+/// How many records so many bytes may complete.
+fn records_in(version: Version, bytes: usize) -> usize
+    ensures { result ≡ records_in version bytes }
+{
+    match version {
+        Version::One => bytes / RECORD_LENGTH,
+        Version::Two => bytes / LONG_RECORD_LENGTH,
+    }
+}
+
 /// Why reading stops directly behind a record, if it does.
-fn stop_behind(event: Event) -> Stop
-    ensures { result ≡ stop_behind (is_end event) }
+fn stop_behind(event: &Event) -> Stop
+    ensures { result ≡ stop_behind (is_end event.now) }
 {
     if event.kind.is_end() {
         Stop::AtEnd
@@ -86,7 +99,7 @@ impl Decoder {
     {
         Decoder {
             limit: records,
-            items: None,
+            header: None,
             count: 0,
             held: ArrayVec::new(),
             stop: Stop::Inside,
@@ -95,11 +108,13 @@ impl Decoder {
 
     /// How many bytes the header or the record that comes next has.
     fn unit(&self) -> usize
-        ensures { result ≡ unit_length self.now.items }
+        ensures length { result ≡ unit_length self.now.header }
+        ensures some { 0 < result }
+        ensures few { result ≤ LONG_RECORD_LENGTH }
     {
-        match self.items {
+        match self.header {
             None => HEADER_LENGTH,
-            Some(_) => RECORD_LENGTH,
+            Some(header) => header.version.record_length(),
         }
     }
 
@@ -129,13 +144,13 @@ impl Decoder {
     /// Requires: `bytes` is below 2^63.
     fn units_in(&self, bytes: usize) -> usize
         requires { bytes < 2 ^ 63 }
-        ensures { result ≡ units_in self.now.items (length self.now.held + bytes) }
+        ensures { result ≡ units_in self.now.header (length self.now.held + bytes) }
     {
         let bytes = self.held.len() + bytes;
-        match self.items {
+        match self.header {
             None if bytes < HEADER_LENGTH => 0,
             None => 1 + (bytes - HEADER_LENGTH) / RECORD_LENGTH,
-            Some(_) => bytes / RECORD_LENGTH,
+            Some(header) => records_in(header.version, bytes),
         }
     }
 
@@ -143,34 +158,39 @@ impl Decoder {
     /// Requires: the stream is to go on with its header; no bytes are kept; `unit` has `HEADER_LENGTH` bytes; there is
     /// room for the part.
     fn take_header<A: Allocator>(&mut self, unit: &[u8], parts: &mut Vec<Part, A>)
-        requires place { (self.old.stop ≡ Inside) × (self.old.items ≡ None) × (self.old.held ≡ []) }
+        requires place { (self.old.stop ≡ Inside) × (self.old.header ≡ None) × (self.old.held ≡ []) }
         requires whole { length unit.now ≡ HEADER_LENGTH }
         requires room { vec_len parts.old < vec_capacity parts.old }
         ensures continues { (rest : List ℕ) → Continues self.old (unit.now ++ rest) parts.old.items self.new rest parts.new.items }
         ensures held { self.new.held ≡ [] }
-        ensures items { self.new.stop ≡ Inside → IsSome self.new.items }
+        ensures header { self.new.stop ≡ Inside → IsSome self.new.header }
         ensures len { vec_len parts.new ≤ vec_len parts.old + 1 }
         ensures capacity { vec_capacity parts.old ≤ vec_capacity parts.new }
     {
         match read_header(unit) {
             Ok(header) => {
-                self.items = Some(header.items);
+                self.header = Some(header);
                 push(parts, Part::Header(header));
             }
             Err(error) => self.stop = Stop::AtFault(error),
         }
     }
 
-    /// Takes a whole record of a stream of a group with `items` work-items.
-    /// Requires: the stream is to go on, and its header with `items` work-items was read; no bytes are kept; `unit` has
-    /// `RECORD_LENGTH` bytes; there is room for the part.
-    fn take_record<A: Allocator>(&mut self, items: u16, unit: &[u8], parts: &mut Vec<Part, A>)
-        requires place { (self.old.stop ≡ Inside) × (self.old.items ≡ Some items) × (self.old.held ≡ []) }
-        requires whole { length unit.now ≡ RECORD_LENGTH }
+    /// Takes a whole record.
+    /// Requires: the stream is to go on, and this header of it was read; no bytes are kept; `unit` has the bytes of a
+    /// record; there is room for the part.
+    fn take_record<A: Allocator>(
+        &mut self,
+        header: Header,
+        unit: &[u8],
+        parts: &mut Vec<Part, A>,
+    )
+        requires place { (self.old.stop ≡ Inside) × (self.old.header ≡ Some header) × (self.old.held ≡ []) }
+        requires whole { length unit.now ≡ record_length header.version }
         requires room { vec_len parts.old < vec_capacity parts.old }
         ensures continues { (rest : List ℕ) → Continues self.old (unit.now ++ rest) parts.old.items self.new rest parts.new.items }
         ensures held { self.new.held ≡ [] }
-        ensures items { self.new.items ≡ self.old.items }
+        ensures header { self.new.header ≡ self.old.header }
         ensures len { vec_len parts.new ≤ vec_len parts.old + 1 }
         ensures capacity { vec_capacity parts.old ≤ vec_capacity parts.new }
     {
@@ -178,10 +198,10 @@ impl Decoder {
             self.stop = Stop::AtFault(RecordError::TooManyRecords);
             return;
         }
-        match read_event(items, unit) {
+        match read_event(header, unit) {
             Ok(event) => {
                 self.count += 1;
-                self.stop = stop_behind(event);
+                self.stop = stop_behind(&event);
                 push(parts, Part::Event(event));
             }
             Err(error) => self.stop = Stop::AtFault(error),
@@ -193,17 +213,18 @@ impl Decoder {
     /// there is room for the part.
     fn take_unit<A: Allocator>(&mut self, unit: &[u8], parts: &mut Vec<Part, A>)
         requires place { (self.old.stop ≡ Inside) × (self.old.held ≡ []) }
-        requires whole { length unit.now ≡ unit_length self.old.items }
+        requires whole { length unit.now ≡ unit_length self.old.header }
         requires room { vec_len parts.old < vec_capacity parts.old }
         ensures continues { (rest : List ℕ) → Continues self.old (unit.now ++ rest) parts.old.items self.new rest parts.new.items }
         ensures held { self.new.held ≡ [] }
-        ensures items { self.new.stop ≡ Inside → IsSome self.new.items }
+        ensures header { self.new.stop ≡ Inside → IsSome self.new.header }
+        ensures stays { (h : Header) → self.old.header ≡ Some h → self.new.header ≡ Some h }
         ensures len { vec_len parts.new ≤ vec_len parts.old + 1 }
         ensures capacity { vec_capacity parts.old ≤ vec_capacity parts.new }
     {
-        match self.items {
+        match self.header {
             None => self.take_header(unit, parts),
-            Some(items) => self.take_record(items, unit, parts),
+            Some(header) => self.take_record(header, unit, parts),
         }
     }
 
@@ -211,8 +232,8 @@ impl Decoder {
     /// Requires: the stream is to go on, and the bytes make none with those that are kept already.
     fn hold(&mut self, bytes: &[u8])
         requires inside { self.old.stop ≡ Inside }
-        requires few { length self.old.held + length bytes.now < unit_length self.old.items }
-        ensures kept { self.new ≡ record { limit = self.old.limit; items = self.old.items; count = self.old.count; held = self.old.held ++ bytes.now; stop = self.old.stop } }
+        requires few { length self.old.held + length bytes.now < unit_length self.old.header }
+        ensures kept { self.new ≡ record { limit = self.old.limit; header = self.old.header; count = self.old.count; held = self.old.held ++ bytes.now; stop = self.old.stop } }
     {
         let _ = self.held.try_extend_from_slice(bytes);
     }
@@ -225,10 +246,10 @@ impl Decoder {
         parts: &mut Vec<Part, A>,
     ) -> &'p [u8]
         requires held { self.old.held ≡ [] }
-        requires room { self.old.stop ≡ Inside → vec_len parts.old + units_in self.old.items (length piece.now) ≤ vec_capacity parts.old }
+        requires room { self.old.stop ≡ Inside → vec_len parts.old + units_in self.old.header (length piece.now) ≤ vec_capacity parts.old }
         ensures continues { Continues self.old piece.now parts.old.items self.new result.now parts.new.items }
         ensures held { self.new.held ≡ [] }
-        ensures few { self.new.stop ≡ Inside → length result.now < unit_length self.new.items }
+        ensures few { self.new.stop ≡ Inside → length result.now < unit_length self.new.header }
     {
         let mut rest = piece;
         while self.is_inside() && self.unit() <= rest.len() {
@@ -243,7 +264,7 @@ impl Decoder {
     /// Requires: no bytes are kept; if the stream is to go on, these make no whole header or record.
     fn keep(&mut self, rest: &[u8])
         requires held { self.old.held ≡ [] }
-        requires few { self.old.stop ≡ Inside → length rest.now < unit_length self.old.items }
+        requires few { self.old.stop ≡ Inside → length rest.now < unit_length self.old.header }
         ensures { (listed : List Part) → Continues self.old rest.now listed self.new [] listed }
     {
         match self.stop {
@@ -259,10 +280,10 @@ impl Decoder {
     fn complete<'p, A: Allocator>(&mut self, piece: &'p [u8], parts: &mut Vec<Part, A>) -> &'p [u8]
         requires inside { self.old.stop ≡ Inside }
         requires enough { missing self.old ≤ length piece.now }
-        requires room { vec_len parts.old + units_in self.old.items (length self.old.held + length piece.now) ≤ vec_capacity parts.old }
+        requires room { vec_len parts.old + units_in self.old.header (length self.old.held + length piece.now) ≤ vec_capacity parts.old }
         ensures continues { Continues self.old piece.now parts.old.items self.new result.now parts.new.items }
         ensures held { self.new.held ≡ [] }
-        ensures room { self.new.stop ≡ Inside → vec_len parts.new + units_in self.new.items (length result.now) ≤ vec_capacity parts.new }
+        ensures room { self.new.stop ≡ Inside → vec_len parts.new + units_in self.new.header (length result.now) ≤ vec_capacity parts.new }
     {
         if self.held.is_empty() {
             return piece;
@@ -278,7 +299,7 @@ impl Decoder {
     /// Requires: the stream is to go on, and there is room for the parts.
     fn take_piece<A: Allocator>(&mut self, piece: &[u8], parts: &mut Vec<Part, A>)
         requires inside { self.old.stop ≡ Inside }
-        requires room { vec_len parts.old + units_in self.old.items (length self.old.held + length piece.now) ≤ vec_capacity parts.old }
+        requires room { vec_len parts.old + units_in self.old.header (length self.old.held + length piece.now) ≤ vec_capacity parts.old }
         ensures { Continues self.old piece.now parts.old.items self.new [] parts.new.items }
     {
         if piece.len() < self.wants() {
@@ -325,7 +346,7 @@ impl Decoder {
         // A decoder that has failed, or has met the end, grows nothing; nor does one whose list has room for all that the
         // piece may complete.
         ensures over { self.old.stop ≢ Inside → HasMemory result }
-        ensures room { vec_len parts.old + units_in self.old.items (length self.old.held + length piece.now) ≤ vec_capacity parts.old → HasMemory result }
+        ensures room { vec_len parts.old + units_in self.old.header (length self.old.held + length piece.now) ≤ vec_capacity parts.old → HasMemory result }
     {
         if self.is_inside() {
             parts.reserve(self.units_in(piece.len()))?;

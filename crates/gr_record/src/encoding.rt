@@ -1,14 +1,26 @@
 //! Writing one header and one record.
 
-ghost use Rattle.std.specs.Prelude.{◌≡◌, ◌<◌, ◌≤◌, ◌^◌, List, ℕ, ◌∷◌, [], length};
+ghost use Rattle.std.specs.Prelude.{◌≡◌, ◌≤◌, length};
+ghost use Rattle.std.specs.List.{slice_get};
 ghost use Rattle.gr_model.specs.Events.{IsEventOk};
-ghost use Rattle.gr_record.specs.Spelling.{IsHeader, header_spelling, event_spelling, kind_bytes, name_bytes, space_byte, scope_byte, order_byte, bit};
+ghost use Rattle.gr_record.specs.declared.header.Version.TheVariants.{One, Two};
+ghost use Rattle.gr_record.specs.Spelling.{IsHeader, header_spelling, event_spelling, kind_bytes, fields_bytes, place_bytes, space_byte, scope_byte, order_byte, bit, version_byte};
 
-use crate::header::Header;
-use crate::layout::{HEADER_LENGTH, RECORD_LENGTH};
+use crate::header::{Header, Version};
+use crate::layout::{FIELDS_LENGTH, HEADER_LENGTH, LONG_RECORD_LENGTH, NAME_LENGTH, RECORD_LENGTH};
 use byteorder::{ByteOrder, LittleEndian};
 use gr_model::event::{Event, Kind, Name, Order, Scope, Space};
 use gr_model::limits::MOST_ITEMS_OF_A_GROUP;
+
+/// The fourth byte of a header, which tells the version.
+fn byte_of_version(version: Version) -> u8
+    ensures { result ≡ version_byte version }
+{
+    match version {
+        Version::One => b'1',
+        Version::Two => b'2',
+    }
+}
 
 /// Writes the 12 bytes of a header (docs/FORMATS.md, "Stream").
 /// Requires: the header is in range: `group` is below `MOST_GROUPS`, and `items` is 1 to `MOST_ITEMS_OF_A_GROUP`.
@@ -16,7 +28,7 @@ pub fn encode_header(header: &Header, bytes: &mut [u8; HEADER_LENGTH])
     requires { IsHeader header.now }
     ensures { bytes.new ≡ header_spelling header.now }
 {
-    bytes[..4].copy_from_slice(b"GRT1");
+    bytes[..4].copy_from_slice(&[b'G', b'R', b'T', byte_of_version(header.version)]);
     LittleEndian::write_u16(&mut bytes[4..], header.group);
     LittleEndian::write_u16(&mut bytes[6..], header.items);
     LittleEndian::write_u32(&mut bytes[8..], header.launch);
@@ -67,11 +79,29 @@ fn bytes_of_kind(kind: Kind, space: Space) -> [u8; 4]
     }
 }
 
-/// Writes a name, or that there is none, into the last eight bytes of a record.
-/// Requires: there are eight bytes.
+/// The bytes of a record before its names.
+fn bytes_of_fields(event: &Event) -> [u8; FIELDS_LENGTH]
+    ensures { result ≡ fields_bytes event.now }
+{
+    let mut bytes = [0; FIELDS_LENGTH];
+    bytes[..4].copy_from_slice(&bytes_of_kind(event.kind, event.space));
+    LittleEndian::write_u16(&mut bytes[4..], event.item);
+    LittleEndian::write_u32(&mut bytes[8..], event.word);
+    bytes
+}
+
+/// The name at this place, if there is one.
+fn name_at(names: &[Name], place: usize) -> Option<Name>
+    ensures { result ≡ slice_get names.now place }
+{
+    names.get(place).copied()
+}
+
+/// Writes a name, or that there is none, into a place for one.
+/// Requires: there are `NAME_LENGTH` bytes.
 fn encode_name(name: Option<Name>, bytes: &mut [u8])
-    requires { length bytes.old ≡ 8 }
-    ensures { bytes.new ≡ name_bytes name }
+    requires { length bytes.old ≡ NAME_LENGTH }
+    ensures { bytes.new ≡ place_bytes name }
 {
     match name {
         None => LittleEndian::write_u64(bytes, u64::MAX),
@@ -83,12 +113,13 @@ fn encode_name(name: Option<Name>, bytes: &mut [u8])
     }
 }
 
-/// Writes the 20 bytes of a record (docs/FORMATS.md, "Stream").
-/// Requires: the record is in range: some group may have it, as `event_ok` with `MOST_ITEMS_OF_A_GROUP` tells.
+/// Writes the 20 bytes of a record of a stream of version 1 (docs/FORMATS.md, "Stream").
+/// Requires: the record is in range: some group may have it, as `event_ok` with `MOST_ITEMS_OF_A_GROUP` tells. It has
+/// at most one name.
 ///
 /// # Example
 /// ```rust
-/// let event = Event { item: 0, kind: Kind::Write, space: Space::Global, word: 16, name: None };
+/// let event = Event { item: 0, kind: Kind::Write, space: Space::Global, word: 16, names: Names::none() };
 /// if event_ok(&event, MOST_ITEMS_OF_A_GROUP) {
 ///     let mut bytes = [0; RECORD_LENGTH];
 ///     encode_event(&event, &mut bytes);
@@ -96,12 +127,24 @@ fn encode_name(name: Option<Name>, bytes: &mut [u8])
 /// }
 /// ```
 pub fn encode_event(event: &Event, bytes: &mut [u8; RECORD_LENGTH])
-    requires { IsEventOk event.now MOST_ITEMS_OF_A_GROUP }
-    ensures { bytes.new ≡ event_spelling event.now }
+    requires range { IsEventOk event.now MOST_ITEMS_OF_A_GROUP }
+    requires names { length event.now.names ≤ 1 }
+    ensures { bytes.new ≡ event_spelling One event.now }
 {
-    bytes[..4].copy_from_slice(&bytes_of_kind(event.kind, event.space));
-    LittleEndian::write_u16(&mut bytes[4..], event.item);
-    LittleEndian::write_u16(&mut bytes[6..], 0);
-    LittleEndian::write_u32(&mut bytes[8..], event.word);
-    encode_name(event.name, &mut bytes[12..]);
+    bytes[..12].copy_from_slice(&bytes_of_fields(event));
+    encode_name(name_at(event.names.as_slice(), 0), &mut bytes[12..]);
+}
+
+/// Writes the 44 bytes of a record of a stream of version 2 (docs/FORMATS.md, "Stream").
+/// Requires: the record is in range: some group may have it, as `event_ok` with `MOST_ITEMS_OF_A_GROUP` tells.
+pub fn encode_event2(event: &Event, bytes: &mut [u8; LONG_RECORD_LENGTH])
+    requires { IsEventOk event.now MOST_ITEMS_OF_A_GROUP }
+    ensures { bytes.new ≡ event_spelling Two event.now }
+{
+    let names = event.names.as_slice();
+    bytes[..12].copy_from_slice(&bytes_of_fields(event));
+    encode_name(name_at(names, 0), &mut bytes[12..20]);
+    encode_name(name_at(names, 1), &mut bytes[20..28]);
+    encode_name(name_at(names, 2), &mut bytes[28..36]);
+    encode_name(name_at(names, 3), &mut bytes[36..]);
 }

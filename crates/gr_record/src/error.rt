@@ -11,7 +11,7 @@ use thiserror::Error;
 /// comes first, then `BadKind`, `BadField` with the least such byte, `BadOrder`, `BadName` and `UnknownItem`.
 #[derive(Clone, Copy, Debug, PartialEq, Eq, Error)]
 pub enum RecordError {
-    /// The stream does not begin with the four bytes `GRT1`.
+    /// The stream does not begin with the four bytes `GRT1` or `GRT2`.
     #[error("bad magic")]
     BadMagic,
     /// The header's group or its number of items is out of range.
@@ -26,7 +26,8 @@ pub enum RecordError {
     /// The record is a load that releases, or a store that acquires.
     #[error("bad order")]
     BadOrder,
-    /// The record has a name that is out of range, or has one though it is no acquire.
+    /// The record has a name that is out of range, names that are not in strictly ascending order, a name behind a place
+    /// that is not used, or a name though it is no acquire.
     #[error("bad name")]
     BadName,
     /// The record's item is not below the number of items of the header.

@@ -3,18 +3,23 @@
 //! A record's fields are judged from the left, so that the first fault is the one that is answered (docs/FORMATS.md,
 //! "Faults of a whole record").
 
-ghost use Rattle.std.specs.Prelude.{◌≡◌, ◌≤◌, length};
-ghost use Rattle.gr_record.specs.Reading.{header_at, is_atomic, is_field_ok, bad_field, space_of, scope_of, order_of, kind_of, space_at, name_at, is_order_ok, is_name_ok, event_at};
+ghost use Rattle.std.specs.Prelude.{◌≡◌, ◌≤◌, ◌*◌, length, take};
+ghost use Rattle.gr_record.specs.Versions.{record_length};
+ghost use Rattle.gr_record.specs.Reading.{version_of, header_at, is_field_ok, bad_field, space_of, scope_of, order_of, kind_of, space_at, are_unused, name_in, names_in, is_order_ok, naming, event_at};
 
 use crate::error::RecordError;
-use crate::header::Header;
-use crate::layout::{HEADER_LENGTH, RECORD_LENGTH};
+use crate::header::{Header, Version};
+use crate::layout::{FIELDS_LENGTH, HEADER_LENGTH, NAME_LENGTH, RECORD_LENGTH};
 use byteorder::{ByteOrder, LittleEndian};
 use gr_model::event::{Event, ItemId, Kind, Name, Order, Scope, Space};
-use gr_model::limits::{MOST_GROUPS, MOST_ITEMS_OF_A_GROUP};
+use gr_model::limits::{MOST_GROUPS, MOST_ITEMS_OF_A_GROUP, MOST_NAMES};
+use gr_model::names::Names;
 
 /// The bytes `GRT1` as one number.
-const MAGIC: u32 = 0x3154_5247;
+const MAGIC_ONE: u32 = 0x3154_5247;
+
+/// The bytes `GRT2` as one number.
+const MAGIC_TWO: u32 = 0x3254_5247;
 
 const READ: u8 = 0;
 
@@ -30,6 +35,23 @@ const BARRIER: u8 = 5;
 
 const END: u8 = 6;
 
+/// What stands in the places of an array of names that are not used.
+const UNUSED: Name = Name {
+    at: ItemId { group: 0, item: 0 },
+    release: 0,
+};
+
+/// The version that the first four bytes of a stream say.
+fn read_version(magic: u32) -> Option<Version>
+    ensures { result ≡ version_of magic }
+{
+    match magic {
+        MAGIC_ONE => Some(Version::One),
+        MAGIC_TWO => Some(Version::Two),
+        _ => None,
+    }
+}
+
 /// What a whole header says, or its first fault.
 /// Requires: there are at least `HEADER_LENGTH` bytes.
 #[tactic(auto, unfolding(crate::specs::Reading::header_at))]
@@ -37,9 +59,9 @@ pub(crate) fn read_header(bytes: &[u8]) -> Result<Header, RecordError>
     requires { HEADER_LENGTH ≤ length bytes.now }
     ensures { result ≡ header_at bytes.now }
 {
-    if LittleEndian::read_u32(bytes) != MAGIC {
+    let Some(version) = read_version(LittleEndian::read_u32(bytes)) else {
         return Err(RecordError::BadMagic);
-    }
+    };
     let group = LittleEndian::read_u16(&bytes[4..]);
     let items = LittleEndian::read_u16(&bytes[6..]);
     let launch = LittleEndian::read_u32(&bytes[8..]);
@@ -47,6 +69,7 @@ pub(crate) fn read_header(bytes: &[u8]) -> Result<Header, RecordError>
         return Err(RecordError::BadHeader);
     }
     Ok(Header {
+        version,
         group,
         items,
         launch,
@@ -68,9 +91,9 @@ fn may_stand(kind: u8, place: usize, byte: u8) -> bool
 }
 
 /// The least place of a byte that may not stand there.
-/// Requires: there are `RECORD_LENGTH` bytes.
+/// Requires: there are at least `RECORD_LENGTH` bytes.
 fn first_bad_field(bytes: &[u8]) -> Option<u8>
-    requires { length bytes.now ≡ RECORD_LENGTH }
+    requires { RECORD_LENGTH ≤ length bytes.now }
     ensures { result ≡ bad_field bytes.now }
 {
     let kind = bytes[0];
@@ -112,10 +135,10 @@ fn read_order(byte: u8) -> Order
 }
 
 /// The kind that the first four bytes say.
-/// Requires: there are `RECORD_LENGTH` bytes.
+/// Requires: there are at least `RECORD_LENGTH` bytes.
 #[tactic(auto, unfolding(crate::specs::Reading::kind_of))]
 fn read_kind(bytes: &[u8]) -> Kind
-    requires { length bytes.now ≡ RECORD_LENGTH }
+    requires { RECORD_LENGTH ≤ length bytes.now }
     ensures { result ≡ kind_of bytes.now }
 {
     let flag = bytes[1];
@@ -136,10 +159,10 @@ fn read_kind(bytes: &[u8]) -> Kind
 }
 
 /// The memory of an access; `Global` for a barrier and an end.
-/// Requires: there are `RECORD_LENGTH` bytes.
+/// Requires: there are at least `RECORD_LENGTH` bytes.
 #[tactic(auto, unfolding(crate::specs::Reading::space_at))]
 fn space_in(bytes: &[u8]) -> Space
-    requires { length bytes.now ≡ RECORD_LENGTH }
+    requires { RECORD_LENGTH ≤ length bytes.now }
     ensures { result ≡ space_at bytes.now }
 {
     if bytes[0] < BARRIER {
@@ -149,27 +172,60 @@ fn space_in(bytes: &[u8]) -> Space
     }
 }
 
-/// The name in the last eight bytes, if there is one.
-/// Requires: there are `RECORD_LENGTH` bytes.
-#[tactic(auto, unfolding(crate::specs::Reading::name_at))]
-fn read_name(bytes: &[u8]) -> Option<Name>
-    requires { length bytes.now ≡ RECORD_LENGTH }
-    ensures { result ≡ name_at bytes.now }
+/// Whether the first `count` places for names are unused.
+/// Requires: there are that many places.
+fn are_unused(bytes: &[u8], count: usize) -> bool
+    requires { NAME_LENGTH * count ≤ length bytes.now }
+    ensures { result ≡ are_unused count bytes.now }
 {
-    if LittleEndian::read_u64(&bytes[12..]) == u64::MAX {
-        return None;
+    let mut rest = bytes;
+    for _ in 0..count {
+        if LittleEndian::read_u64(rest) != u64::MAX {
+            return false;
+        }
+        rest = &rest[NAME_LENGTH..];
     }
-    let group = LittleEndian::read_u16(&bytes[12..]);
-    let item = LittleEndian::read_u16(&bytes[14..]);
-    let release = LittleEndian::read_u32(&bytes[16..]);
-    Some(Name {
-        at: ItemId { group, item },
-        release,
-    })
+    true
 }
 
-/// Whether the kind may have its order.
-pub(crate) fn order_fits(kind: Kind) -> bool
+/// The name in the first place.
+/// Requires: there is a place.
+#[tactic(auto, unfolding(crate::specs::Reading::name_in))]
+fn read_name(bytes: &[u8]) -> Name
+    requires { NAME_LENGTH ≤ length bytes.now }
+    ensures { result ≡ name_in bytes.now }
+{
+    let group = LittleEndian::read_u16(bytes);
+    let item = LittleEndian::read_u16(&bytes[2..]);
+    let release = LittleEndian::read_u32(&bytes[4..]);
+    Name {
+        at: ItemId { group, item },
+        release,
+    }
+}
+
+/// What the first `count` places have, up to those that are unused, and how many places those before them are.
+/// Requires: there are that many places, at most `MOST_NAMES`.
+fn read_names(bytes: &[u8], count: usize) -> ([Name; MOST_NAMES], usize)
+    requires places { NAME_LENGTH * count ≤ length bytes.now }
+    requires few { count ≤ MOST_NAMES }
+    ensures few { result.1 ≤ MOST_NAMES }
+    ensures names { take result.1 result.0 ≡ names_in count bytes.now }
+{
+    let mut names = [UNUSED; MOST_NAMES];
+    let mut rest = bytes;
+    for place in 0..count {
+        if are_unused(rest, count - place) {
+            return (names, place);
+        }
+        names[place] = read_name(rest);
+        rest = &rest[NAME_LENGTH..];
+    }
+    (names, count)
+}
+
+/// Whether a record of this kind may have its order: a load does not release, and a store does not acquire.
+pub fn order_fits(kind: Kind) -> bool
     ensures { result ≡ is_order_ok kind }
 {
     match kind {
@@ -186,22 +242,26 @@ pub(crate) fn order_fits(kind: Kind) -> bool
     }
 }
 
-/// Whether the kind may have this name, or none.
-pub(crate) fn name_fits(kind: Kind, name: Option<Name>) -> bool
-    ensures { result ≡ is_name_ok kind name }
+/// The names as those of a record of this kind, or `None` if it may not have them: names stand only at an acquire, and
+/// are at most `MOST_NAMES`, in strictly ascending order, and each in range.
+pub fn naming(kind: Kind, names: &[Name]) -> Option<Names>
+    ensures { result ≡ naming kind names.now }
 {
-    match name {
-        None => true,
-        Some(name) => kind.is_acquire() && name.is_in_range(),
+    if names.is_empty() {
+        Some(Names::none())
+    } else if kind.is_acquire() {
+        Names::new(names)
+    } else {
+        None
     }
 }
 
-/// What a whole record says in a stream of a group with `items` work-items, or its first fault.
-/// Requires: there are `RECORD_LENGTH` bytes.
+/// What a whole record says in the stream of this header, or its first fault.
+/// Requires: there are the bytes of a record.
 #[tactic(auto, unfolding(crate::specs::Reading::event_at))]
-pub(crate) fn read_event(items: u16, bytes: &[u8]) -> Result<Event, RecordError>
-    requires { length bytes.now ≡ RECORD_LENGTH }
-    ensures { result ≡ event_at items bytes.now }
+pub(crate) fn read_event(header: Header, bytes: &[u8]) -> Result<Event, RecordError>
+    requires { length bytes.now ≡ record_length header.version }
+    ensures { result ≡ event_at header bytes.now }
 {
     if bytes[0] > END {
         return Err(RecordError::BadKind);
@@ -213,12 +273,12 @@ pub(crate) fn read_event(items: u16, bytes: &[u8]) -> Result<Event, RecordError>
     if !order_fits(kind) {
         return Err(RecordError::BadOrder);
     }
-    let name = read_name(bytes);
-    if !name_fits(kind, name) {
+    let (names, used) = read_names(&bytes[FIELDS_LENGTH..], header.version.places());
+    let Some(names) = naming(kind, &names[..used]) else {
         return Err(RecordError::BadName);
-    }
+    };
     let item = LittleEndian::read_u16(&bytes[4..]);
-    if item >= items {
+    if item >= header.items {
         return Err(RecordError::UnknownItem);
     }
     Ok(Event {
@@ -226,6 +286,6 @@ pub(crate) fn read_event(items: u16, bytes: &[u8]) -> Result<Event, RecordError>
         kind,
         space: space_in(bytes),
         word: LittleEndian::read_u32(&bytes[8..]),
-        name,
+        names,
     })
 }

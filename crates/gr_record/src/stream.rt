@@ -7,7 +7,7 @@ ghost use Rattle.gr_record.specs.WholeStreams.{Gives, front_header_at, front_rec
 
 use crate::error::RecordError;
 use crate::header::Header;
-use crate::layout::{HEADER_LENGTH, RECORD_LENGTH};
+use crate::layout::HEADER_LENGTH;
 use crate::reading::{read_event, read_header};
 use gr_model::event::Event;
 use gr_model::limits::MOST_RECORDS;
@@ -30,8 +30,7 @@ pub fn read_front_header(bytes: &[u8]) -> Result<(Header, &[u8]), RecordError>
     Ok((header, &bytes[HEADER_LENGTH..]))
 }
 
-/// The records at the start of the bytes up to the end of their stream, and the bytes behind it. The stream is of a
-/// group with `items` work-items.
+/// The records at the start of the bytes up to the end of their stream, which has this header, and the bytes behind it.
 ///
 /// # Errors
 /// The fault of the first record that has one (see `RecordError`); `Truncated` if the bytes are over before that and
@@ -39,26 +38,28 @@ pub fn read_front_header(bytes: &[u8]) -> Result<(Header, &[u8]), RecordError>
 #[tactic(auto, unfolding(crate::specs::WholeStreams::front_records_at))]
 pub fn read_front_records<A: Allocator>(
     alloc: A,
-    items: u16,
+    header: Header,
     bytes: &[u8],
 ) -> Result<(Vec<Event, A>, &[u8]), RecordError>
-    ensures { Gives (λ x. (x.0.items, x.1.now)) result (front_records_at items bytes.now) }
+    ensures { Gives (λ x. (x.0.items, x.1.now)) result (front_records_at header bytes.now) }
 {
     let mut events = Vec::new(alloc);
+    let size = header.version.record_length();
     let mut rest = bytes;
     for _ in 0..MOST_RECORDS {
-        if rest.len() < RECORD_LENGTH {
+        if rest.len() < size {
             return Err(RecordError::Truncated);
         }
-        let (record, after) = rest.split_at(RECORD_LENGTH);
-        let event = read_event(items, record)?;
+        let (record, after) = rest.split_at(size);
+        let event = read_event(header, record)?;
+        let is_end = event.kind.is_end();
         events.push(event)?;
         rest = after;
-        if event.kind.is_end() {
+        if is_end {
             return Ok((events, rest));
         }
     }
-    if rest.len() < RECORD_LENGTH {
+    if rest.len() < size {
         return Err(RecordError::Truncated);
     }
     Err(RecordError::TooManyRecords)

@@ -8,8 +8,8 @@ use Rattle.gr_model.specs.declared.event.Event.{Event}
 use Rattle.gr_record.specs.declared.error.RecordError.{RecordError}
 use Rattle.gr_record.specs.declared.fault.Fault.{Fault}
 use Rattle.gr_record.specs.declared.header.Header.{Header}
-use Rattle.gr_record.specs.declared.line.Line.{Line}
-use Rattle.gr_record.specs.declared.line.Line.TheVariants as lines
+use Rattle.gr_lines.specs.declared.line.Line.{Line}
+use Rattle.gr_lines.specs.declared.line.Line.TheVariants as lines
 use Rattle.gr_record.specs.Laws.{AreBytes}
 use Rattle.gr_record.specs.Spelling.{header_spelling, events_spelling}
 use Rattle.gr_record.specs.WholeStreams.{front_header_at, front_records_at, stream_spelling}

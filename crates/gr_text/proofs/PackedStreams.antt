@@ -12,15 +12,15 @@ use Rattle.gr_model.specs.Streams.{is_complete}
 use Rattle.gr_record.specs.declared.fault.Fault.{Fault}
 use Rattle.gr_record.specs.declared.fault.Fault.TheVariants as faults
 use Rattle.gr_record.specs.declared.header.Header.{Header}
-use Rattle.gr_record.specs.declared.line.Line.{Line}
-use Rattle.gr_record.specs.declared.line.Line.TheVariants as lines
+use Rattle.gr_lines.specs.declared.line.Line.{Line}
+use Rattle.gr_lines.specs.declared.line.Line.TheVariants as lines
 use Rattle.gr_record.specs.FrontLaws.{Runs}
-use Rattle.gr_record.specs.LineLaws.{IsSaid}
-use Rattle.gr_record.specs.LineReading.{line_said}
-use Rattle.gr_record.specs.LineText.{line_text}
+use Rattle.gr_lines.specs.LineLaws.{IsSaid}
+use Rattle.gr_lines.specs.LineReading.{line_said}
+use Rattle.gr_lines.specs.LineText.{line_text}
 use Rattle.gr_record.specs.Spelling.{IsHeader, IsEvent, header_spelling, event_spelling, events_spelling}
 use Rattle.gr_record.proofs.FoundFronts.{complete_behind}
-use Rattle.gr_record.proofs.LinesFound.{read_is_text}
+use Rattle.gr_lines.proofs.LinesFound.{read_is_text}
 use Rattle.gr_text.specs.declared.place.Place.{Place}
 use Rattle.gr_text.specs.declared.place.Place.TheVariants.{Outside, Inside}
 use Rattle.gr_text.specs.Lines.{lines_of}

@@ -16,15 +16,15 @@ use Rattle.gr_model.specs.declared.event.Event.{Event}
 use Rattle.gr_model.specs.declared.limits.TheConstants.{MOST_ITEMS_OF_A_GROUP, MOST_RECORDS}
 use Rattle.gr_model.specs.Events.{IsNamingOk, is_end}
 use Rattle.gr_model.specs.Streams.{is_complete}
-use Rattle.gr_record.specs.declared.line.Line.{Line}
-use Rattle.gr_record.specs.declared.line.Line.TheVariants as lines
+use Rattle.gr_lines.specs.declared.line.Line.{Line}
+use Rattle.gr_lines.specs.declared.line.Line.TheVariants as lines
 use Rattle.gr_record.specs.FrontLaws.{Runs}
-use Rattle.gr_record.specs.LineLaws.{IsSaid}
-use Rattle.gr_record.specs.LineText.{line_text, space_word, scope_word, order_word, flags_word, name_words, atomic_words, first_word, later_words, later_text, header_words}
+use Rattle.gr_lines.specs.LineLaws.{IsSaid}
+use Rattle.gr_lines.specs.LineText.{line_text, space_word, scope_word, order_word, flags_word, name_words, atomic_words, first_word, later_words, later_text, header_words}
 use Rattle.gr_record.specs.Spelling.{IsEvent}
 use Rattle.gr_record.proofs.FoundFronts.{complete_behind}
-use Rattle.gr_record.proofs.LineWords.{are_digits, decimal_digits}
-use Rattle.gr_record.proofs.LinesAgain.{text_is_read}
+use Rattle.gr_lines.proofs.LineWords.{are_digits, decimal_digits}
+use Rattle.gr_lines.proofs.LinesAgain.{text_is_read}
 use Rattle.gr_text.specs.declared.place.Place.TheVariants.{Outside, Inside}
 use Rattle.gr_text.specs.Lines.{lines_of}
 use Rattle.gr_text.specs.Texts.{whole_line, packed, said_from}

@@ -7,13 +7,13 @@ use Rattle.gr_model.specs.declared.event.Event.{Event}
 use Rattle.gr_model.specs.Events.{is_end}
 use Rattle.gr_record.specs.declared.fault.Fault.{Fault}
 use Rattle.gr_record.specs.declared.fault.Fault.TheVariants as faults
-use Rattle.gr_record.specs.declared.line.Line.{Line}
-use Rattle.gr_record.specs.declared.line.Line.TheVariants as lines
-use Rattle.gr_record.specs.LineReading.{line_said}
-use Rattle.gr_record.specs.LineText.{line_text}
-use Rattle.gr_record.specs.LineLaws.{IsSaid}
-use Rattle.gr_record.proofs.LinesAgain.{text_is_read}
-use Rattle.gr_record.proofs.LinesFound.{read_is_text}
+use Rattle.gr_lines.specs.declared.line.Line.{Line}
+use Rattle.gr_lines.specs.declared.line.Line.TheVariants as lines
+use Rattle.gr_lines.specs.LineReading.{line_said}
+use Rattle.gr_lines.specs.LineText.{line_text}
+use Rattle.gr_lines.specs.LineLaws.{IsSaid}
+use Rattle.gr_lines.proofs.LinesAgain.{text_is_read}
+use Rattle.gr_lines.proofs.LinesFound.{read_is_text}
 use Rattle.gr_text.specs.declared.place.Place.{Place}
 use Rattle.gr_text.specs.declared.place.Place.TheVariants.{Outside, Inside}
 use Rattle.gr_text.specs.Texts.{◌>>=◌, line_bytes, record_at, line_at, said_from}

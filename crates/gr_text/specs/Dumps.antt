@@ -5,9 +5,14 @@ use Rattle.std.specs.List.{flat_map}
 use Rattle.gr_record.specs.declared.error.RecordError.{RecordError}
 use Rattle.gr_record.specs.declared.fault.Fault.{Fault}
 use Rattle.gr_record.specs.declared.fault.Fault.TheVariants as faults
-use Rattle.gr_record.specs.declared.line.Line.{Line}
-use Rattle.gr_record.specs.declared.line.Line.TheVariants as lines
+use Rattle.gr_lines.specs.declared.line.Line.{Line}
+use Rattle.gr_lines.specs.declared.line.Line.TheVariants as lines
+use Rattle.gr_record.specs.declared.header.Header.{Header}
+use Rattle.gr_record.specs.declared.header.Version.TheVariants.{Two}
+use Rattle.gr_record.specs.Spelling.{header_spelling, event_spelling}
 use Rattle.gr_record.specs.WholeStreams.{front_header_at, front_records_at}
+use Rattle.gr_text.specs.declared.forming.Form.{Form}
+use Rattle.gr_text.specs.declared.forming.Form.TheVariants.{Text, Long}
 use Rattle.gr_text.specs.Texts.{◌>>=◌, whole_line}
 
 -- an error of the stream at this place
@@ -19,7 +24,7 @@ at_place place (Err e) = Err (faults.Stream place e)
 unfoldable pub stream_at : ℕ → List ℕ → Result (List Line × List ℕ) Fault
 stream_at place bytes =
     at_place place (front_header_at bytes) >>= λ h.
-    at_place place (front_records_at h.0.items h.1) >>= λ r. Ok (lines.Header h.0 ∷ map lines.Event r.0, r.1)
+    at_place place (front_records_at h.0 h.1) >>= λ r. Ok (lines.Header h.0 ∷ map lines.Event r.0, r.1)
 
 -- the headers and records of at most so many streams, the first of which is the one of this place
 unfoldable pub streams_at : ℕ → ℕ → List ℕ → Result (List Line) Fault
@@ -32,10 +37,34 @@ streams_at (suc most) place bytes =
 abbrev pub streams_in : List ℕ → Result (List Line) Fault
 streams_in bytes = streams_at (length bytes) 0 bytes
 
--- the text of the streams in the bytes
-abbrev pub dumped : List ℕ → Result (List ℕ) Fault
-dumped bytes = streams_in bytes >>= λ xs. Ok (flat_map whole_line xs)
+-- ---- the streams in another form
 
--- a text with the lines of a stream, and the bytes after it
-abbrev pub with_text : List ℕ → Result (List Line × List ℕ) Fault → Result (List ℕ × List ℕ) Fault
-with_text text s = s >>= λ x. Ok (text ++ flat_map whole_line x.0, x.1)
+-- the header of the same stream in version 2
+abbrev pub upgraded_header : Header → Header
+upgraded_header h = record { version = Two; group = h.group; items = h.items; launch = h.launch }
+
+-- a header or a record, as bytes of version 2
+abbrev pub long_bytes : Line → List ℕ
+long_bytes (lines.Header h) = header_spelling (upgraded_header h)
+long_bytes (lines.Event e) = event_spelling Two e
+
+-- a header or a record in this form
+abbrev pub formed : Form → Line → List ℕ
+formed Text = whole_line
+formed Long = long_bytes
+
+-- the streams in the bytes, in this form
+abbrev pub formed_of : Form → List ℕ → Result (List ℕ) Fault
+formed_of form bytes = streams_in bytes >>= λ xs. Ok (flat_map (formed form) xs)
+
+-- their text
+abbrev pub dumped : List ℕ → Result (List ℕ) Fault
+dumped bytes = formed_of Text bytes
+
+-- their bytes in version 2
+abbrev pub upgraded : List ℕ → Result (List ℕ) Fault
+upgraded bytes = formed_of Long bytes
+
+-- what was written, with a stream in this form, and the bytes after the stream
+abbrev pub with_stream : Form → List ℕ → Result (List Line × List ℕ) Fault → Result (List ℕ × List ℕ) Fault
+with_stream form front s = s >>= λ x. Ok (front ++ flat_map (formed form) x.0, x.1)

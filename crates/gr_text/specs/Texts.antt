@@ -1,17 +1,20 @@
 -- What the lines of a text say: streams one after another, or the first line at fault.
 -- Source: docs/FORMATS.md, "Text form" and "Faults".
-use Rattle.std.specs.Prelude.{ℕ, ◌+◌, ◌-◌, ◌==◌, nat_le, if◌then◌else◌, List, [], ◌∷◌, ◌++◌, Option, Some, None, Result, Ok, Err}
-use Rattle.std.specs.List.{flat_map}
+use Rattle.std.specs.Prelude.{ℕ, ⊤, ◌≤◌, ◌+◌, ◌-◌, ◌==◌, nat_le, nat_lt, ◌||◌, length, if◌then◌else◌, List, [], ◌∷◌, ◌++◌, Option, Some, None, Result, Ok, Err}
 use Rattle.gr_model.specs.declared.event.Event.{Event}
 use Rattle.gr_model.specs.declared.limits.TheConstants.{MOST_RECORDS}
 use Rattle.gr_model.specs.Events.{is_end}
 use Rattle.gr_record.specs.declared.fault.Fault.{Fault}
 use Rattle.gr_record.specs.declared.fault.Fault.TheVariants as faults
-use Rattle.gr_record.specs.declared.line.Line.{Line}
-use Rattle.gr_record.specs.declared.line.Line.TheVariants as lines
-use Rattle.gr_record.specs.LineReading.{line_said}
-use Rattle.gr_record.specs.LineText.{line_text}
+use Rattle.gr_lines.specs.declared.line.Line.{Line}
+use Rattle.gr_lines.specs.declared.line.Line.TheVariants as lines
+use Rattle.gr_lines.specs.LineReading.{line_said}
+use Rattle.gr_lines.specs.LineText.{line_text}
 use Rattle.gr_record.specs.Spelling.{header_spelling, event_spelling}
+use Rattle.gr_record.specs.Versions.{places}
+use Rattle.gr_record.specs.declared.header.Header.{Header}
+use Rattle.gr_record.specs.declared.header.Version.{Version}
+use Rattle.gr_record.specs.declared.header.Version.TheVariants.{One}
 use Rattle.gr_text.specs.declared.place.Place.{Place}
 use Rattle.gr_text.specs.declared.place.Place.TheVariants.{Outside, Inside}
 use Rattle.gr_text.specs.Lines.{lines_of}
@@ -23,10 +26,15 @@ abbrev pub ◌>>=◌ : {X Y : Type 0} → Result X Fault → (X → Result Y Fau
 
 -- ---- one header or record
 
--- as bytes
-abbrev pub line_bytes : Line → List ℕ
-line_bytes (lines.Header h) = header_spelling h
-line_bytes (lines.Event e) = event_spelling e
+-- as bytes, a record in a stream of this version
+abbrev pub line_bytes : Version → Line → List ℕ
+line_bytes v (lines.Header h) = header_spelling h
+line_bytes v (lines.Event e) = event_spelling v e
+
+-- a stream of this version has room for the names
+abbrev pub HasRoom : Version → Line → Type 0
+HasRoom v (lines.Header h) = ⊤
+HasRoom v (lines.Event e) = length e.names ≤ places v
 
 -- as a line with its line feed
 abbrev pub whole_line : Line → List ℕ
@@ -34,27 +42,27 @@ whole_line l = line_text l ++ 10 ∷ []
 
 -- ---- the line at a place
 
--- a record at line n of a stream that may have so many more, and the place behind it
-abbrev pub record_at : ℕ → ℕ → ℕ → Event → Result (Line × Place) Fault
-record_at n items left e =
-    if nat_le items e.item then Err (faults.BadLine n)
+-- a record at line n of the stream of this header, which may have so many more, and the place behind it
+abbrev pub record_at : ℕ → Header → ℕ → Event → Result (Line × Place) Fault
+record_at n h left e =
+    if nat_le h.items e.item || nat_lt (places h.version) (length e.names) then Err (faults.BadLine n)
     else if left == 0 then Err (faults.LongStream n)
-    else Ok (lines.Event e, if is_end e then Outside else Inside items (left - 1))
+    else Ok (lines.Event e, if is_end e then Outside else Inside h (left - 1))
 
 -- what line n says at a place, and the place behind it: outside of streams a header is due, and in one a record
 abbrev pub line_at : ℕ → Place → Option Line → Result (Line × Place) Fault
 line_at n place None = Err (faults.BadLine n)
-line_at n Outside (Some (lines.Header h)) = Ok (lines.Header h, Inside h.items MOST_RECORDS)
+line_at n Outside (Some (lines.Header h)) = Ok (lines.Header h, Inside h MOST_RECORDS)
 line_at n Outside (Some (lines.Event e)) = Err (faults.BadLine n)
-line_at n (Inside items left) (Some (lines.Header h)) = Err (faults.BadLine n)
-line_at n (Inside items left) (Some (lines.Event e)) = record_at n items left e
+line_at n (Inside h left) (Some (lines.Header g)) = Err (faults.BadLine n)
+line_at n (Inside h left) (Some (lines.Event e)) = record_at n h left e
 
 -- ---- the lines from a place on
 
 -- behind the last line, which no stream may need to be followed
 abbrev pub over_at : Place → Result (List Line) Fault
 over_at Outside = Ok []
-over_at (Inside items left) = Err faults.NoEnd
+over_at (Inside h left) = Err faults.NoEnd
 
 -- what the lines say, the first of which is line n
 unfoldable pub said_from : ℕ → Place → List (List ℕ) → Result (List Line) Fault
@@ -65,6 +73,21 @@ said_from n place (l ∷ ls) = line_at n place (line_said l) >>= λ x. said_from
 abbrev pub said_in : List ℕ → Result (List Line) Fault
 said_in text = said_from 1 Outside (lines_of text)
 
+-- the version of the stream at a place; outside of streams a header is due, and any version will do
+abbrev pub version_at : Place → Version
+version_at Outside = One
+version_at (Inside h left) = h.version
+
+-- the version of the stream behind a line in one of this version
+abbrev pub version_behind : Version → Line → Version
+version_behind v (lines.Header h) = h.version
+version_behind v (lines.Event e) = if is_end e then One else v
+
+-- the bytes of lines, the first of which stands in a stream of this version
+abbrev pub lines_bytes : Version → List Line → List ℕ
+lines_bytes v [] = []
+lines_bytes v (x ∷ xs) = line_bytes v x ++ lines_bytes (version_behind v x) xs
+
 -- the bytes of the streams of a text
 abbrev pub packed : List ℕ → Result (List ℕ) Fault
-packed text = said_in text >>= λ xs. Ok (flat_map line_bytes xs)
+packed text = said_in text >>= λ xs. Ok (lines_bytes (version_at Outside) xs)

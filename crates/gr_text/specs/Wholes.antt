@@ -6,13 +6,13 @@ use Rattle.gr_model.specs.declared.event.Event.{Event}
 use Rattle.gr_model.specs.declared.limits.TheConstants.{MOST_RECORDS}
 use Rattle.gr_model.specs.Streams.{is_complete}
 use Rattle.gr_record.specs.declared.header.Header.{Header}
-use Rattle.gr_record.specs.declared.line.Line.{Line}
-use Rattle.gr_record.specs.declared.line.Line.TheVariants as lines
+use Rattle.gr_lines.specs.declared.line.Line.{Line}
+use Rattle.gr_lines.specs.declared.line.Line.TheVariants as lines
 use Rattle.gr_record.specs.FrontLaws.{IsFront}
 use Rattle.gr_record.specs.Laws.{AreBytes}
 use Rattle.gr_record.specs.WholeStreams.{stream_spelling}
 use Rattle.gr_text.specs.Texts.{packed, whole_line}
-use Rattle.gr_text.specs.Dumps.{dumped}
+use Rattle.gr_text.specs.Dumps.{dumped, upgraded, upgraded_header}
 
 -- a header, and the records behind it
 pub record WholeStream : Type 0 where
@@ -62,3 +62,21 @@ WholeStreamsArePacked = (ss : List WholeStream) → All IsWhole ss → packed (t
 -- what is dumped is packed again as the bytes that it was
 abbrev pub DumpedIsPackedAgain : Type 0
 DumpedIsPackedAgain = (bytes text : List ℕ) → AreBytes bytes → dumped bytes ≡ Ok text → packed text ≡ Ok bytes
+
+-- ---- the same streams in version 2
+
+-- a stream with the same group, items and launch, and the same records
+abbrev pub upgraded_stream : WholeStream → WholeStream
+upgraded_stream s = record { header = upgraded_header s.header; events = s.events }
+
+-- bytes that are upgraded are those of whole streams, and what is written is the bytes of the same streams in version 2
+abbrev pub UpgradedAreStreams : Type 0
+UpgradedAreStreams = (bytes out : List ℕ) → AreBytes bytes → upgraded bytes ≡ Ok out → (ss : List WholeStream) × All IsWhole ss × (bytes ≡ bytes_of ss) × All IsWhole (map upgraded_stream ss) × (out ≡ bytes_of (map upgraded_stream ss))
+
+-- the bytes of whole streams are upgraded
+abbrev pub WholeStreamsAreUpgraded : Type 0
+WholeStreamsAreUpgraded = (ss : List WholeStream) → All IsWhole ss → upgraded (bytes_of ss) ≡ Ok (bytes_of (map upgraded_stream ss))
+
+-- what was upgraded stays as it is
+abbrev pub UpgradedStays : Type 0
+UpgradedStays = (bytes out : List ℕ) → AreBytes bytes → upgraded bytes ≡ Ok out → upgraded out ≡ Ok out

@@ -1,7 +1,7 @@
 //! Which texts and bytes are accepted. Each law is the contract of a function that does nothing, told in words in
 //! docs/FORMATS.md, "Stream" and "Text form".
 
-ghost use Rattle.gr_text.specs.Wholes.{DumpedAreStreams, DumpedIsPackedAgain, PackedAreStreams, PackedIsDumpedAgain, WholeStreamsAreDumped, WholeStreamsArePacked};
+ghost use Rattle.gr_text.specs.Wholes.{DumpedAreStreams, DumpedIsPackedAgain, PackedAreStreams, PackedIsDumpedAgain, UpgradedAreStreams, UpgradedStays, WholeStreamsAreDumped, WholeStreamsArePacked, WholeStreamsAreUpgraded};
 
 /// Bytes that are dumped are those of whole streams, one after another, and what is written is the text of these
 /// streams.
@@ -26,4 +26,16 @@ pub fn streams_are_dumped()
 pub fn streams_are_packed()
     ensures streams { WholeStreamsArePacked }
     ensures again { DumpedIsPackedAgain }
+{}
+
+/// Bytes that are upgraded are those of whole streams, one after another. What is written is the bytes of the same
+/// streams in version 2: each has the same group, items, launch and records.
+pub fn upgraded_are_streams()
+    ensures { UpgradedAreStreams }
+{}
+
+/// The bytes of whole streams are upgraded. What was upgraded stays as it is.
+pub fn streams_are_upgraded()
+    ensures streams { WholeStreamsAreUpgraded }
+    ensures again { UpgradedStays }
 {}

@@ -1,11 +1,11 @@
-//! The text form of streams: text to bytes and back.
+//! The text form of streams: text to bytes and back; and streams of version 1 as those of version 2.
 #![tactic(auto)]
 
-pub mod dumping;
+pub mod forming;
 pub mod laws;
 mod lines;
 pub mod packing;
 pub mod place;
 mod run;
 
-pub use run::{dump, pack};
+pub use run::{dump, pack, upgrade};

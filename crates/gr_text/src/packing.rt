@@ -1,39 +1,82 @@
 //! From a text to the bytes of its streams.
 
-ghost use Rattle.std.specs.Prelude.{◌≡◌, ◌++◌, IfErr, OnOk};
+ghost use Rattle.std.specs.Prelude.{◌≡◌, ◌≤◌, ◌++◌, length, IfErr, OnOk};
 ghost use Rattle.gr_input.specs.Faults.{Gives};
 ghost use Rattle.gr_record.specs.Faults.{IsOfValues};
-ghost use Rattle.gr_record.specs.LineLaws.{IsSaid};
-ghost use Rattle.gr_text.specs.Texts.{line_bytes, packed};
+ghost use Rattle.gr_lines.specs.LineLaws.{IsSaid};
+ghost use Rattle.gr_model.specs.Events.{IsEventOk};
+ghost use Rattle.gr_model.specs.declared.limits.TheConstants.{MOST_ITEMS_OF_A_GROUP};
+ghost use Rattle.gr_record.specs.Spelling.{IsHeader, header_spelling, event_spelling};
+ghost use Rattle.gr_record.specs.Versions.{places};
+ghost use Rattle.gr_text.specs.Texts.{line_bytes, packed, HasRoom};
 
 use crate::lines::split_line;
 use crate::place::{Place, take_line};
+use gr_model::event::Event;
 use gr_model::memory::Memory;
-use gr_record::encoding::{encode_event, encode_header};
+use gr_record::encoding::{encode_event, encode_event2, encode_header};
 use gr_record::fault::Fault;
-use gr_record::layout::{HEADER_LENGTH, RECORD_LENGTH};
-use gr_record::line::Line;
+use gr_record::header::{Header, Version};
+use gr_record::layout::{HEADER_LENGTH, LONG_RECORD_LENGTH, RECORD_LENGTH};
+use gr_lines::line::Line;
 use std::alloc::Allocator;
 
-/// Adds the bytes of a header or of a record.
-/// Requires: the header or record is in range.
-fn push_bytes<A: Allocator>(bytes: &mut Vec<u8, A>, line: &Line) -> Result<(), Memory>
-    requires { IsSaid line.now }
-    ensures { OnOk result (bytes.new.items ≡ bytes.old.items ++ line_bytes line.now) }
+/// Adds the bytes of a record in a stream of this version.
+/// Requires: the record is in range, and the stream has room for its names.
+pub(crate) fn push_record<A: Allocator>(
+    bytes: &mut Vec<u8, A>,
+    version: Version,
+    event: &Event,
+) -> Result<(), Memory>
+    requires range { IsEventOk event.now MOST_ITEMS_OF_A_GROUP }
+    requires names { length event.now.names ≤ places version }
+    ensures { OnOk result (bytes.new.items ≡ bytes.old.items ++ event_spelling version event.now) }
 {
-    match line {
-        Line::Header(header) => {
-            let mut unit = [0; HEADER_LENGTH];
-            encode_header(header, &mut unit);
-            bytes.extend_from_slice(&unit)?;
-        }
-        Line::Event(event) => {
+    match version {
+        Version::One => {
             let mut unit = [0; RECORD_LENGTH];
             encode_event(event, &mut unit);
             bytes.extend_from_slice(&unit)?;
         }
+        Version::Two => {
+            let mut unit = [0; LONG_RECORD_LENGTH];
+            encode_event2(event, &mut unit);
+            bytes.extend_from_slice(&unit)?;
+        }
     }
     Ok(())
+}
+
+/// Adds the bytes of a header.
+/// Requires: the header is in range.
+pub(crate) fn push_header<A: Allocator>(
+    bytes: &mut Vec<u8, A>,
+    header: &Header,
+) -> Result<(), Memory>
+    requires { IsHeader header.now }
+    ensures { OnOk result (bytes.new.items ≡ bytes.old.items ++ header_spelling header.now) }
+{
+    let mut unit = [0; HEADER_LENGTH];
+    encode_header(header, &mut unit);
+    bytes.extend_from_slice(&unit)?;
+    Ok(())
+}
+
+/// Adds the bytes of a header, or of a record in a stream of this version.
+/// Requires: the header or record is in range, and the stream has room for the record's names.
+fn push_bytes<A: Allocator>(
+    bytes: &mut Vec<u8, A>,
+    version: Version,
+    line: &Line,
+) -> Result<(), Memory>
+    requires said { IsSaid line.now }
+    requires names { HasRoom version line.now }
+    ensures { OnOk result (bytes.new.items ≡ bytes.old.items ++ line_bytes version line.now) }
+{
+    match line {
+        Line::Header(header) => push_header(bytes, header),
+        Line::Event(event) => push_record(bytes, version, event),
+    }
 }
 
 /// The bytes of the streams that a text has, one stream after another.
@@ -54,12 +97,12 @@ pub fn pack_text<A: Allocator>(alloc: A, text: &[u8]) -> Result<Vec<u8, A>, Faul
         number += 1;
         let (line, after) = split_line(rest);
         let (said, behind) = take_line(number, place, line)?;
-        push_bytes(&mut bytes, &said)?;
+        push_bytes(&mut bytes, place.version(), &said)?;
         place = behind;
         rest = after;
     }
     match place {
         Place::Outside => Ok(bytes),
-        Place::Inside { items: _, left: _ } => Err(Fault::NoEnd),
+        Place::Inside { header: _, left: _ } => Err(Fault::NoEnd),
     }
 }

@@ -6,10 +6,10 @@ ghost use Rattle.gr_input.specs.Faults.{Fails};
 ghost use Rattle.gr_record.specs.declared.fault.Fault.TheVariants as faults;
 ghost use Rattle.gr_report.specs.Putting.{AppendsFront};
 ghost use Rattle.gr_text.specs.Texts.{packed};
-ghost use Rattle.gr_text.specs.Dumps.{dumped};
+ghost use Rattle.gr_text.specs.Dumps.{dumped, upgraded};
 ghost use Rattle.gr_text.specs.Writes.{Writes, WritesFront};
 
-use crate::dumping::dump_bytes;
+use crate::forming::{Form, formed_bytes};
 use crate::packing::pack_text;
 use gr_input::read_all;
 use gr_record::fault::Fault;
@@ -87,6 +87,30 @@ pub fn dump<A: Allocator + Copy, T: Read, W: Write>(
     ensures front { IfErr result (λ f. f ≡ faults.Write → IfSome (T.remaining reader.old) (λ bytes. WritesFront (dumped bytes) (W.contents writer.old) (W.contents writer.new))) }
 {
     let bytes = read_all(alloc, reader)?;
-    let text = dump_bytes(alloc, bytes.as_slice())?;
+    let text = formed_bytes(alloc, Form::Text, bytes.as_slice())?;
     write_all(writer, text.as_slice())
+}
+
+/// Reads streams to their end, one after another, and writes the same streams in version 2: of the same groups, items
+/// and launches, and with the same records. Streams of version 2 are written as they are.
+///
+/// # Errors
+/// `Stream` with the place of the first stream that has a fault, from 0, and that fault. `Read` if the reader fails, or
+/// does not come to its end within 4,294,967,296 calls; `Memory` if an allocation is refused. `Write` if the writer
+/// fails, which has then taken a prefix of the bytes. At every other error nothing is written.
+pub fn upgrade<A: Allocator + Copy, T: Read, W: Write>(
+    alloc: A,
+    reader: &mut T,
+    writer: &mut W,
+) -> Result<(), Fault>
+    ensures whole { OnOk result (IfSome (T.remaining reader.old) (λ bytes. Writes (upgraded bytes) (W.contents writer.old) (W.contents writer.new))) }
+    ensures fault { IfErr result (λ f. f ≢ faults.Write → IfSome (T.remaining reader.old) (λ bytes. Fails f (upgraded bytes))) }
+
+    // What a refusal leaves with the writer.
+    ensures untouched { IfErr result (λ f. f ≢ faults.Write → Keeps (W.contents writer.old) (W.contents writer.new)) }
+    ensures front { IfErr result (λ f. f ≡ faults.Write → IfSome (T.remaining reader.old) (λ bytes. WritesFront (upgraded bytes) (W.contents writer.old) (W.contents writer.new))) }
+{
+    let bytes = read_all(alloc, reader)?;
+    let long = formed_bytes(alloc, Form::Long, bytes.as_slice())?;
+    write_all(writer, long.as_slice())
 }

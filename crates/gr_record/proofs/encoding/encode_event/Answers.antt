@@ -1,9 +1,11 @@
-use Rattle.gr_record.specs.Spelling.{kind_bytes, name_bytes}
-use Rattle.gr_record.proofs.Spelled.{kind_length}
-use Rattle.gr_record.proofs.Written.{record_written}
+use Rattle.std.proofs.Common.{ℕ, List, ◌≡◌, ◌++◌, refl, ap, ◌∙◌}
+use Rattle.std.specs.List.{slice_get}
+use Rattle.gr_record.specs.Spelling.{fields_bytes, place_bytes}
+use Rattle.gr_record.proofs.Written.{one_written, fields_length, one_place}
 use Rattle.gr_record.proofs.encoding.encode_event.Goals as goal
 
 pub returns : goal.returns
 returns c =
-    rw (c.encode_name.ensures, c.write_u32.ensures, c.write_u16-2.ensures, c.write_u16.ensures, c.copy_from_slice.ensures.after, c.bytes_of_kind.ensures)
-    (record_written (kind_bytes c.args.event.now.kind c.args.event.now.space) c.args.bytes.now (name_bytes c.args.event.now.name) c.args.event.now.item c.args.event.now.word (kind_length c.args.event.now.kind c.args.event.now.space) c.told-bytes)
+    let e = c.args.event.now in
+    rw (c.encode_name.ensures, c.copy_from_slice.ensures.after, c.bytes_of_fields.ensures)
+    (one_written (fields_bytes e) c.args.bytes.now (place_bytes c.name_at.result) (fields_length e) c.told-bytes ∙ ap (λ (x : List ℕ). fields_bytes e ++ x) (rw (c.name_at.ensures, c.as_slice.ensures.names) (one_place e.names)))

@@ -20,15 +20,15 @@ invariant_of-self-in-Err g c =
 pub returns-in-Ok-clause-continues : goal.returns-in-Ok-clause-continues
 returns-in-Ok-clause-continues g c rest =
     let stop : c.self.inside.stop ≡ Inside = ap (λ (d : Standing). d.stop) c.self.view_is ∙ c.requires.place.0 in
-    let items : c.self.inside.items ≡ None = ap (λ (d : Standing). d.items) c.self.view_is ∙ c.requires.place.1 in
+    let header : c.self.inside.header ≡ None = ap (λ (d : Standing). d.header) c.self.view_is ∙ c.requires.place.1 in
     let held : c.self.inside.held.items ≡ [] = ap (λ (d : Standing). d.held) c.self.view_is ∙ c.requires.place.2 in
     let is : header_at c.args.unit.now ≡ Ok c.in-Ok.header = sym c.read_header.ensures ∙ c.in-Ok.is in
-    rw (← c.self.view_is, stop, items, held, c.push.ensures.parts) (header_continues c.self.inside.limit c.self.inside.count c.args.unit.now rest c.args.parts.now.items c.in-Ok.header c.requires.whole is)
+    rw (← c.self.view_is, stop, header, held, c.push.ensures.parts) (header_continues c.self.inside.limit c.self.inside.count c.args.unit.now rest c.args.parts.now.items c.in-Ok.header c.requires.whole is)
 
 pub returns-in-Err-clause-continues : goal.returns-in-Err-clause-continues
 returns-in-Err-clause-continues g c rest =
     let stop : c.self.inside.stop ≡ Inside = ap (λ (d : Standing). d.stop) c.self.view_is ∙ c.requires.place.0 in
-    let items : c.self.inside.items ≡ None = ap (λ (d : Standing). d.items) c.self.view_is ∙ c.requires.place.1 in
+    let header : c.self.inside.header ≡ None = ap (λ (d : Standing). d.header) c.self.view_is ∙ c.requires.place.1 in
     let held : c.self.inside.held.items ≡ [] = ap (λ (d : Standing). d.held) c.self.view_is ∙ c.requires.place.2 in
     let is : header_at c.args.unit.now ≡ Err c.in-Err.error = sym c.read_header.ensures ∙ c.in-Err.is in
-    rw (← c.self.view_is, stop, items, held) (header_fails c.self.inside.limit c.self.inside.count c.args.unit.now rest c.args.parts.now.items c.in-Err.error c.requires.whole is)
+    rw (← c.self.view_is, stop, header, held) (header_fails c.self.inside.limit c.self.inside.count c.args.unit.now rest c.args.parts.now.items c.in-Err.error c.requires.whole is)

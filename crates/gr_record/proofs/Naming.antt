@@ -1,0 +1,55 @@
+-- The names of a record, as a call gives them that makes names.
+use Rattle.std.proofs.Common.{◌≡◌, ℕ, Bool, true, false, cond, List, [], ◌∷◌, length, Option, Some, None, Ok, Err, refl, sym, ap, ◌∙◌, arith, inl, inr}
+use Rattle.std.specs.Prelude.{◌==◌, ◌↔◌, IsSome, IfSome, nat_lt, nat_le, slice_index, if◌then◌else◌}
+use Rattle.std.proofs.lemmas.Bool.{and_from, cases_Bool}
+use Rattle.gr_model.specs.declared.event.Name.{Name}
+use Rattle.gr_model.specs.declared.event.Kind.{Kind}
+use Rattle.gr_model.specs.Access.{is_acquire_kind}
+use Rattle.gr_model.specs.NameLists.{AreNames}
+use Rattle.gr_record.specs.declared.error.RecordError.TheVariants as errors
+use Rattle.gr_record.specs.declared.header.Header.{Header}
+use Rattle.gr_record.specs.Reading.{field, bad_field, kind_of, space_at, names_at, is_order_ok, is_naming_ok, naming, event_at}
+use Rattle.gr_record.proofs.Places.{naming_found, naming_back}
+
+some_names : (o : Option (List Name)) (names : List Name) → IsSome o → IfSome o (λ n. n ≡ names) → o ≡ Some names
+some_names None names some are = absurd cc
+some_names (Some n) names some are = ap (λ (x : List Name). Some x) are
+
+no_names : (o : Option (List Name)) → (IsSome o → ⊥) → o ≡ None
+no_names None none = refl
+no_names (Some n) none = absurd (none refl)
+
+chosen : (b : Bool) (names : List Name) → b ≡ true → cond b (Some names) None ≡ Some names
+chosen true names h = refl
+chosen false names h = absurd cc
+
+refused : (b : Bool) (names : List Name) → b ≡ false → cond b (Some names) None ≡ None
+refused false names h = refl
+refused true names h = absurd cc
+
+-- names that stand at an acquire
+pub named : (kind : Kind) (n : Name) (names : List Name) (o : Option (List Name)) → is_acquire_kind kind ≡ true → (IsSome o ↔ AreNames (n ∷ names)) → IfSome o (λ x. x ≡ n ∷ names) → o ≡ naming kind (n ∷ names)
+named kind n names o acquire some are =
+    elim (cases_Bool (is_naming_ok kind (n ∷ names))) [
+      | inl ok ↦
+          let good = naming_found kind (n ∷ names) ok in
+          some_names o (n ∷ names) (some.1 good.1) are ∙ sym (chosen (is_naming_ok kind (n ∷ names)) (n ∷ names) ok)
+      | inr bad ↦
+          no_names o (λ is. let k = naming_back kind (n ∷ names) (acquire, some.0 is) in not_both _ bad k) ∙ sym (refused (is_naming_ok kind (n ∷ names)) (n ∷ names) bad)
+    ]
+  where
+    not_both : (b : Bool) → b ≡ false → b ≡ true → ⊥
+    not_both b p q = absurd cc
+
+pub named_some : (kind : Kind) (names : List Name) (o : Option (List Name)) → (length names == 0) ≡ false → is_acquire_kind kind ≡ true → (IsSome o ↔ AreNames names) → IfSome o (λ x. x ≡ names) → o ≡ naming kind names
+named_some kind [] o some acquire are is = absurd cc
+named_some kind (n ∷ names) o some acquire are is = named kind n names o acquire are is
+
+-- a record whose fields and names are good: its item decides
+pub judged : (h : Header) (bytes : List ℕ) (kind : Kind) (said names : List Name) → nat_lt 6 (slice_index bytes 0) ≡ false → bad_field bytes ≡ None → kind ≡ kind_of bytes → is_order_ok kind ≡ true → said ≡ names_at h.version bytes → naming kind said ≡ Some names
+    → event_at h bytes ≡ (if nat_le h.items (field 4 2 bytes) then Err errors.UnknownItem else Ok (record { item = field 4 2 bytes; kind = kind_of bytes; space = space_at bytes; word = field 8 4 bytes; names = names }))
+unfolding event_at
+judged h bytes kind said names first fields is order are named =
+    let order_is : is_order_ok (kind_of bytes) ≡ true = rw is at order in
+    let named_is : naming (kind_of bytes) (names_at h.version bytes) ≡ Some names = rw (is, are) at named in
+    rw (first, fields, order_is, named_is) refl

@@ -1,0 +1,227 @@
+-- Names in their places: what is read from the bytes of names, and what the bytes of names that were read are.
+use Rattle.std.proofs.Common.{◌≡◌, ℕ, zero, suc, ◌+◌, ◌-◌, ◌*◌, ◌/◌, ◌%◌, ◌^◌, ◌<◌, ◌≤◌, Bool, true, false, cond, List, [], ◌∷◌, ◌++◌, length, take, drop, Option, Some, None, refl, sym, ap, subst, ◌∙◌, arith, inl, inr}
+use Rattle.std.specs.Prelude.{nat_lt, nat_le, ◌==◌, ◌||◌, ◌&&◌, slice_index_or, All}
+use Rattle.std.proofs.lemmas.Bool.{eqb-true, ltb-true, lt-ltb, leb-true, le-leb, eq-eqb, ne_eqb, and_parts, and_from, or_cases, cases_Bool}
+use Rattle.std.proofs.lemmas.List.{length-drop, length-append, take_at, drop_at, get_or-drop}
+use Rattle.gr_model.specs.declared.event.Name.{Name}
+use Rattle.gr_model.specs.declared.event.Kind.{Kind}
+use Rattle.gr_model.specs.Events.{IsNamingOk}
+use Rattle.gr_model.specs.Access.{is_acquire_kind}
+use Rattle.gr_model.specs.NameLists.{IsNameInRange, NameBelow, AreAscending, AreNames}
+use Rattle.gr_record.specs.Spelling.{name_bytes, place_bytes, names_bytes}
+use Rattle.gr_record.specs.Laws.{AreBytes}
+use Rattle.gr_record.specs.Reading.{field, are_unused, name_in, names_in, is_in_range, is_below, is_below_first, are_in_order, is_naming_ok}
+use Rattle.gr_record.proofs.Numbers.{two_low, two_high, two_again, four, four_again, eight}
+
+pub bytes_drop : (n : ℕ) (bytes : List ℕ) → AreBytes bytes → AreBytes (drop n bytes)
+bytes_drop n bytes h i = rw get_or-drop (h (n + i))
+
+-- at least so many places
+abbrev pub HasPlaces : ℕ → List ℕ → Type 0
+HasPlaces zero bytes = Unit {0}
+HasPlaces (suc n) bytes = (8 ≤ length bytes) × HasPlaces n (drop 8 bytes)
+
+pub has_places : (n : ℕ) (bytes : List ℕ) → 8 * n ≤ length bytes → HasPlaces n bytes
+has_places zero bytes le = tt
+has_places (suc n) bytes le = (omega arith, has_places n (drop 8 bytes) (omega (arith, length-drop 8 bytes)))
+
+-- the bytes behind so many places
+abbrev pub behind : ℕ → List ℕ → List ℕ
+behind zero bytes = bytes
+behind (suc n) bytes = behind n (drop 8 bytes)
+
+pub names_length : (n : ℕ) (names : List Name) → length (names_bytes n names) ≡ 8 * n
+names_length zero names = refl
+names_length (suc n) [] = let ih = names_length n [] in omega arith
+names_length (suc n) (name ∷ names) = let ih = names_length n names in omega arith
+
+-- ---- from bytes to names and back
+
+unused_found : (n : ℕ) (bytes : List ℕ) → AreBytes bytes → HasPlaces n bytes → are_unused n bytes ≡ true → bytes ≡ names_bytes n [] ++ behind n bytes
+unfolding are_unused
+unused_found zero bytes fits has h = refl
+unused_found (suc n) (a0 ∷ a1 ∷ a2 ∷ a3 ∷ a4 ∷ a5 ∷ a6 ∷ a7 ∷ rest) fits has h =
+    let p = and_parts _ _ h in
+    let k = eight a0 a1 a2 a3 a4 a5 a6 a7 (fits 0) (fits 1) (fits 2) (fits 3) (fits 4) (fits 5) (fits 6) (fits 7) (eqb-true _ _ p.0) in
+    let ih = unused_found n rest (bytes_drop 8 (a0 ∷ a1 ∷ a2 ∷ a3 ∷ a4 ∷ a5 ∷ a6 ∷ a7 ∷ rest) fits) has.1 p.1 in
+    rw (k.0, k.1, k.2, k.3, k.4, k.5, k.6, k.7) (ap (λ (x : List ℕ). 255 ∷ 255 ∷ 255 ∷ 255 ∷ 255 ∷ 255 ∷ 255 ∷ 255 ∷ x) ih)
+unused_found (suc n) _ fits has h = absurd (omega (arith, has.0))
+
+pub names_found : (n : ℕ) (bytes : List ℕ) → AreBytes bytes → HasPlaces n bytes → bytes ≡ names_bytes n (names_in n bytes) ++ behind n bytes
+unfolding names_in name_in
+names_found zero bytes fits has = refl
+names_found (suc n) (a0 ∷ a1 ∷ a2 ∷ a3 ∷ a4 ∷ a5 ∷ a6 ∷ a7 ∷ rest) fits has =
+    let bytes : List ℕ = a0 ∷ a1 ∷ a2 ∷ a3 ∷ a4 ∷ a5 ∷ a6 ∷ a7 ∷ rest in
+    let ih = names_found n rest (bytes_drop 8 bytes fits) has.1 in
+    let w = four a4 a5 a6 a7 (fits 4) (fits 5) (fits 6) (fits 7) _ refl in
+    elim (cases_Bool (are_unused (suc n) bytes)) [
+      | inl unused ↦ rw unused (unused_found (suc n) bytes fits has unused)
+      | inr used ↦
+          rw (used, two_low a0 a1 (fits 0) (fits 1), two_high a0 a1 (fits 0) (fits 1), two_low a2 a3 (fits 2) (fits 3), two_high a2 a3 (fits 2) (fits 3), w.0, w.1, w.2, w.3)
+          (ap (λ (x : List ℕ). a0 ∷ a1 ∷ a2 ∷ a3 ∷ a4 ∷ a5 ∷ a6 ∷ a7 ∷ x) ih)
+    ]
+names_found (suc n) _ fits has = absurd (omega (arith, has.0))
+
+-- what so many places have spells the bytes of these places
+pub names_front : (n : ℕ) (bytes : List ℕ) → AreBytes bytes → 8 * n ≤ length bytes → take (8 * n) bytes ≡ names_bytes n (names_in n bytes)
+names_front n bytes fits long =
+    let names = names_bytes n (names_in n bytes) in
+    ap (take (8 * n)) (names_found n bytes fits (has_places n bytes long)) ∙ take_at names (behind n bytes) (8 * n) (names_length n (names_in n bytes))
+
+pub names_few : (n : ℕ) (bytes : List ℕ) → length (names_in n bytes) ≤ n
+unfolding names_in
+names_few zero bytes = omega arith
+names_few (suc n) bytes =
+    elim (cases_Bool (are_unused (suc n) bytes)) [
+      | inl unused ↦ rw unused (omega arith)
+      | inr used ↦ let ih = names_few n (drop 8 bytes) in rw used (omega arith)
+    ]
+
+-- ---- names that one acquire may have
+
+range_found : (n : Name) → is_in_range n ≡ true → IsNameInRange n
+range_found n h =
+    let a = and_parts _ _ h in
+    let b = and_parts _ _ a.0 in
+    (ltb-true _ _ b.0, ltb-true _ _ b.1, ltb-true _ _ a.1)
+
+below_found : (m n : Name) → is_below m n ≡ true → NameBelow m n
+below_found m n h =
+    elim (or_cases _ _ h) [
+      | inl group ↦ inl (ltb-true _ _ group)
+      | inr more ↦
+          let a = and_parts _ _ more in
+          elim (or_cases _ _ a.1) [
+            | inl item ↦ inr (eqb-true _ _ a.0, inl (ltb-true _ _ item))
+            | inr last ↦ let b = and_parts _ _ last in inr (eqb-true _ _ a.0, inr (eqb-true _ _ b.0, ltb-true _ _ b.1))
+          ]
+    ]
+
+ascending_found : (names : List Name) → are_in_order names ≡ true → AreAscending names
+ascending_found [] h k d lt = absurd (omega arith)
+ascending_found (n ∷ []) h k d lt = absurd (omega arith)
+ascending_found (n ∷ m ∷ names) h zero d lt = below_found n m (and_parts _ _ (and_parts _ _ h).0).1
+ascending_found (n ∷ m ∷ names) h (suc k) d lt =
+    let e : suc k + 1 ≡ suc (k + 1) = omega arith in
+    rw e (ascending_found (m ∷ names) (and_parts _ _ h).1 k d (omega arith))
+
+each_found : (names : List Name) → are_in_order names ≡ true → All IsNameInRange names
+each_found [] h k d lt = absurd (omega arith)
+each_found (n ∷ names) h zero d lt = range_found n (and_parts _ _ (and_parts _ _ h).0).0
+each_found (n ∷ names) h (suc k) d lt = each_found names (and_parts _ _ h).1 k d (omega arith)
+
+pub naming_found : (kind : Kind) (names : List Name) → is_naming_ok kind names ≡ true → IsNamingOk kind names
+naming_found kind [] h = tt
+naming_found kind (n ∷ names) h =
+    let a = and_parts _ _ h in
+    let b = and_parts _ _ a.0 in
+    (b.0, record { few = leb-true _ _ b.1; ascending = ascending_found (n ∷ names) a.1; each = each_found (n ∷ names) a.1 })
+
+-- ---- and back
+
+range_back : (n : Name) → IsNameInRange n → is_in_range n ≡ true
+range_back n ok = and_from _ _ (and_from _ _ (lt-ltb _ _ ok.0) (lt-ltb _ _ ok.1)) (lt-ltb _ _ ok.2)
+
+or_left : (a b : Bool) → a ≡ true → (a || b) ≡ true
+or_left true b h = refl
+or_left false b h = absurd cc
+
+or_right : (a b : Bool) → b ≡ true → (a || b) ≡ true
+or_right true b h = refl
+or_right false b h = h
+
+below_back : (m n : Name) → NameBelow m n → is_below m n ≡ true
+below_back m n (inl group) = or_left _ _ (lt-ltb _ _ group)
+below_back m n (inr (group, inl item)) = or_right _ _ (and_from _ _ (eq-eqb _ _ group) (or_left _ _ (lt-ltb _ _ item)))
+below_back m n (inr (group, inr (item, last))) = or_right _ _ (and_from _ _ (eq-eqb _ _ group) (or_right _ _ (and_from _ _ (eq-eqb _ _ item) (lt-ltb _ _ last))))
+
+ascending_later : (n : Name) (names : List Name) → AreAscending (n ∷ names) → AreAscending names
+ascending_later n names ascending k d lt =
+    let e : suc k + 1 ≡ suc (k + 1) = omega arith in
+    rw e at (ascending (suc k) d (omega arith))
+
+pub order_back : (names : List Name) → AreAscending names → All IsNameInRange names → are_in_order names ≡ true
+order_back [] ascending each = refl
+order_back (n ∷ []) ascending each = and_from _ _ (and_from _ _ (range_back n (each 0 n (omega arith))) refl) refl
+order_back (n ∷ m ∷ names) ascending each =
+    and_from _ _ (and_from _ _ (range_back n (each 0 n (omega arith))) (below_back n m (ascending 0 n (omega arith))))
+    (order_back (m ∷ names) (ascending_later n (m ∷ names) ascending) (λ k d lt. each (suc k) d (omega arith)))
+
+pub names_back : (names : List Name) → AreNames names → (nat_le (length names) 4 ≡ true) × (are_in_order names ≡ true)
+names_back names ok = (le-leb _ _ ok.few, order_back names ok.ascending ok.each)
+
+pub naming_back : (kind : Kind) (names : List Name) → IsNamingOk kind names → is_naming_ok kind names ≡ true
+naming_back kind [] ok = refl
+naming_back kind (n ∷ names) ok =
+    let b = names_back (n ∷ names) ok.1 in
+    and_from _ _ (and_from _ _ ok.0 b.0) b.1
+
+-- ---- from names to bytes and back
+
+-- a name in range does not fill its bytes with 255
+not_all : (g i r : ℕ) → g < 64
+    → (g % 256 + 256 * (g / 256 % 256 + 256 * (i % 256 + 256 * (i / 256 % 256 + 256 * (r % 256 + 256 * (r / 256 % 256 + 256 * (r / 65536 % 256 + 256 * (r / 16777216 % 256 + 0)))))))) ≡ 18446744073709551615 → ⊥
+not_all g i r lt e = omega arith
+
+unused_back : (n : ℕ) (rest : List ℕ) → are_unused n (names_bytes n [] ++ rest) ≡ true
+unfolding are_unused
+unused_back zero rest = refl
+unused_back (suc n) rest = unused_back n rest
+
+used_back : (n : ℕ) (name : Name) (names : List Name) (rest : List ℕ) → IsNameInRange name → are_unused (suc n) (names_bytes (suc n) (name ∷ names) ++ rest) ≡ false
+unfolding are_unused
+used_back n name names rest ok =
+    let group : name.at.group < 64 = ok.0 in
+    rw (ne_eqb _ 18446744073709551615 (not_all name.at.group name.at.item name.release group)) refl
+
+name_back : (n : ℕ) (name : Name) (names : List Name) (rest : List ℕ) → IsNameInRange name → name_in (names_bytes (suc n) (name ∷ names) ++ rest) ≡ name
+unfolding name_in
+name_back n name names rest ok =
+    let group : name.at.group < 64 = ok.0 in
+    let item : name.at.item < 256 = ok.1 in
+    let release : name.release < 16777216 = ok.2 in
+    rw (two_again name.at.group (omega arith), two_again name.at.item (omega arith), four_again name.release (omega arith)) refl
+
+pub names_again : (n : ℕ) (names : List Name) (rest : List ℕ) → length names ≤ n → All IsNameInRange names → names_in n (names_bytes n names ++ rest) ≡ names
+unfolding names_in
+names_again zero [] rest few each = refl
+names_again zero (name ∷ names) rest few each = absurd (omega arith)
+names_again (suc n) [] rest few each = rw (unused_back (suc n) rest) refl
+names_again (suc n) (name ∷ names) rest few each =
+    let here = each 0 name (omega arith) in
+    let ih = names_again n names rest (omega arith) (λ k d lt. each (suc k) d (omega arith)) in
+    rw (used_back n name names rest here, name_back n name names rest here, ih) refl
+
+pub each_in_range : (kind : Kind) (names : List Name) → IsNamingOk kind names → All IsNameInRange names
+each_in_range kind [] ok k d lt = absurd (omega arith)
+each_in_range kind (n ∷ names) ok k d lt = ok.1.each k d lt
+
+-- ---- place by place
+
+pub used_now : (n : ℕ) (bytes : List ℕ) → (field 0 8 bytes == 2 ^ 64 - 1) ≡ false → are_unused (suc n) bytes ≡ false
+unfolding are_unused
+used_now n bytes other = rw other refl
+
+pub unused_so_far : (n : ℕ) (bytes : List ℕ) → (field 0 8 bytes == 2 ^ 64 - 1) ≡ true → are_unused (suc n) bytes ≡ are_unused n (drop 8 bytes)
+unfolding are_unused
+unused_so_far n bytes all = rw all refl
+
+pub unused_all : (bytes : List ℕ) → are_unused 0 bytes ≡ true
+unfolding are_unused
+unused_all bytes = refl
+
+pub no_names : (bytes : List ℕ) → names_in 0 bytes ≡ []
+unfolding names_in
+no_names bytes = refl
+
+pub names_end : (n : ℕ) (bytes : List ℕ) → are_unused (suc n) bytes ≡ true → names_in (suc n) bytes ≡ []
+unfolding names_in
+names_end n bytes unused = rw unused refl
+
+pub names_next : (n : ℕ) (bytes : List ℕ) → are_unused (suc n) bytes ≡ false → names_in (suc n) bytes ≡ name_in bytes ∷ names_in n (drop 8 bytes)
+unfolding names_in
+names_next n bytes used = rw used refl
+
+pub few_names : (kind : Kind) (names : List Name) → IsNamingOk kind names → length names ≤ 4
+few_names kind [] ok = omega arith
+few_names kind (n ∷ names) ok = ok.1.few
