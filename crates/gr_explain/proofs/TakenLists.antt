@@ -19,10 +19,6 @@ set_twice (x ∷ xs) (suc i) a b = ap (λ ys. x ∷ ys) (set_twice xs i a b)
 abbrev with_lists : Sequence → List (List Event) → Sequence
 with_lists q lists = record { taken = record { sizes = q.taken.sizes; lists = lists }; handled = q.handled }
 
--- the event that a loop over events names where there is none
-abbrev pub no_event : Event
-no_event = record { item = 0; kind = Read; space = Global; word = 0; name = None }
-
 -- ---- one list
 
 pub good_at : (items i : ℕ) (list : List Event) (d : Event) → IsAccepted items list → i < length list → IsEventButItem (get_or list i d)

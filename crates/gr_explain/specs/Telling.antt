@@ -3,6 +3,7 @@
 use Rattle.std.specs.Prelude.{◌↔◌, ℕ, ◌<◌, Bool, List, IsTrue}
 use Rattle.std.specs.List.{list_any}
 use Rattle.gr_model.specs.declared.event.EventId.{EventId}
+use Rattle.gr_model.specs.declared.event.Name.{Name}
 use Rattle.gr_model.specs.declared.event.Space.{Space}
 use Rattle.gr_model.specs.contracts.event.EventIdPartialEq.TheImpl as equality
 use Rattle.gr_explain.specs.declared.told.Instance.{Instance}
@@ -12,11 +13,11 @@ use Rattle.gr_model.specs.Counts.{IsSeen}
 use Rattle.gr_model.specs.HappensBefore.{IsInclusive}
 use Rattle.gr_model.specs.Instances.{Mark, flags}
 use Rattle.gr_model.specs.LawfulOrders.{IsAt}
-use Rattle.gr_model.specs.Names.{Matches}
+use Rattle.gr_model.specs.Names.{Matches, MatchesBy}
 use Rattle.gr_model.specs.Streams.{Streams}
 use Rattle.gr_model.specs.Waits.{IsPrevious}
 
--- f sees what d sees: d is directly before f in its item, or the release that f matches with inclusive scope, or a barrier of the instance directly behind which f stands
+-- f sees what d sees: d is directly before f in its item, or a release that f matches with inclusive scope, or a barrier of the instance directly behind which f stands
 pub data Tells (s : Streams) (m : Space) (d f : EventId) : Type 0 where
   in_item : IsPrevious d f → Tells s m d f
   by_release : Matches s f d → IsInclusive s m d f → Tells s m d f
@@ -54,6 +55,10 @@ ArePassed s m events instances = (g k : ℕ) → HasInstance instances g k ↔ I
 -- one of these events tells f
 abbrev pub IsTold : Streams → Space → List EventId → EventId → Type 0
 IsTold s m events f = (d : EventId) × Has events d × Tells s m d f
+
+-- one of these events is the release that f matches by this name, with inclusive scope
+abbrev pub IsReleaseBy : Streams → Space → List EventId → EventId → Name → Type 0
+IsReleaseBy s m events f n = (d : EventId) × Has events d × MatchesBy s n f d × IsInclusive s m d f
 
 -- of the first n events of an order, just those that are e or happen after it
 abbrev pub AreFollowers : Streams → Space → List EventId → ℕ → EventId → List EventId → Type 0

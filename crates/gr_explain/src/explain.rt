@@ -21,7 +21,7 @@ use std::alloc::Allocator;
 /// events of the launch, and memory that grows with the events.
 ///
 /// # Errors
-/// `Memory`.
+/// `Memory`: out of memory.
 pub fn explain<A: Allocator + Copy>(
     alloc: A,
     traces: &Traces<A>,

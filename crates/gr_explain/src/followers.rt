@@ -15,7 +15,7 @@ use std::alloc::Allocator;
 /// The events of a lawful order that are an event or happen after it in a memory.
 ///
 /// # Errors
-/// `Memory`.
+/// `Memory`: out of memory.
 pub(crate) fn followers<A: Allocator + Copy>(
     alloc: A,
     records: &Records<A>,

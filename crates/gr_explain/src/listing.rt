@@ -18,7 +18,7 @@ use std::alloc::Allocator;
 /// Lists the barriers of a convergent instance of a group, in the order of their items.
 ///
 /// # Errors
-/// `Memory`.
+/// `Memory`: out of memory.
 fn list_instance<A: Allocator>(
     listed: &mut Vec<EventId, A>,
     lanes: &Lanes<A>,
@@ -42,7 +42,7 @@ fn list_instance<A: Allocator>(
 /// Makes a step that is ready, and lists the events that it handles.
 ///
 /// # Errors
-/// `Memory`. Nothing is then handled.
+/// `Memory`: out of memory. Nothing is then handled.
 fn make<A: Allocator>(
     order: &mut Order<A>,
     listed: &mut Vec<EventId, A>,
@@ -78,7 +78,7 @@ fn make<A: Allocator>(
 /// Handles all events that can be handled, which are the grounded ones, and lists them in their order.
 ///
 /// # Errors
-/// `Memory`.
+/// `Memory`: out of memory.
 pub(crate) fn list_grounded<A: Allocator + Copy>(
     alloc: A,
     order: &mut Order<A>,

@@ -47,7 +47,7 @@ fn with_races_of<A: Allocator>(
 /// The least racing pair of a word among the events of a lawful order that has all grounded events.
 ///
 /// # Errors
-/// `Memory`.
+/// `Memory`: out of memory.
 pub(crate) fn least_race<A: Allocator + Copy>(
     alloc: A,
     records: &Records<A>,

@@ -13,7 +13,7 @@ use std::alloc::Allocator;
 /// Has an order take the whole list of a group of which it has taken nothing.
 ///
 /// # Errors
-/// `Memory`.
+/// `Memory`: out of memory.
 fn take_list<A: Allocator + Copy>(
     order: &mut Order<A>,
     group: u16,
@@ -36,7 +36,7 @@ fn take_list<A: Allocator + Copy>(
 /// An order that has taken all records of a launch, and handled nothing.
 ///
 /// # Errors
-/// `Memory`.
+/// `Memory`: out of memory.
 pub(crate) fn take_all<A: Allocator + Copy>(
     alloc: A,
     traces: &Traces<A>,

@@ -1,4 +1,4 @@
-//! What tells an event directly of earlier ones: the event before it in its item, the release that it matches, and the
+//! What tells an event directly of earlier ones: the event before it in its item, the releases that it matches, and the
 //! barriers of the instance directly behind which it stands.
 
 ghost use Rattle.std.specs.Prelude.{◌≡◌, ◌↔◌, ℕ, IsTrue, MatchOption};
@@ -6,15 +6,15 @@ ghost use Rattle.gr_model.specs.declared.event.EventId.{EventId as AnyEvent};
 ghost use Rattle.gr_model.specs.declared.event.Space.{Space as AnySpace};
 ghost use Rattle.gr_model.specs.Barriers.{StandsIn};
 ghost use Rattle.gr_model.specs.HappensBefore as order;
-ghost use Rattle.gr_model.specs.Names.{Matches};
+ghost use Rattle.gr_model.specs.Names.{HasName, Matches, MatchesBy};
 ghost use Rattle.gr_model.specs.Streams.{AreFronts, IsEvent};
 ghost use Rattle.gr_model.specs.Waits.{IsPrevious};
-ghost use Rattle.gr_explain.specs.Telling.{ArePassed, Has, IsFlagged, IsTold};
+ghost use Rattle.gr_explain.specs.Telling.{ArePassed, Has, IsFlagged, IsReleaseBy, IsTold};
 
 use crate::records::Records;
 use crate::told::{Instance, Told};
 use gr_clocks::clocks::memory_of;
-use gr_model::event::{EventId, Space};
+use gr_model::event::{EventId, Name, Space};
 use gr_scopes::access::inclusive;
 use std::alloc::Allocator;
 
@@ -32,11 +32,11 @@ fn previous(event: EventId) -> Option<EventId>
     }
 }
 
-/// The release that an event matches, if it matches one.
-fn matched<A: Allocator>(records: &Records<A>, event: EventId) -> Option<EventId>
-    ensures { MatchOption result ((d : AnyEvent) → ¬ Matches records.now event d) (λ d. Matches records.now event d) }
+/// The release that an event matches by one of its names, if it matches one by this name.
+fn matched<A: Allocator>(records: &Records<A>, event: EventId, name: Name) -> Option<EventId>
+    requires { HasName records.now event name }
+    ensures { MatchOption result ((d : AnyEvent) → ¬ MatchesBy records.now name event d) (λ d. MatchesBy records.now name event d) }
 {
-    let name = records.event_at(event)?.name?;
     let index = records.release_at(name)?;
     let release = EventId { at: name.at, index };
     if records.word_at(release) == records.word_at(event) {
@@ -68,7 +68,25 @@ fn is_inclusive<A: Allocator>(
     }
 }
 
-/// Whether the release that an event matches with inclusive scope, on a word of a memory, is told.
+/// Whether the release that an event matches by one of its names, with inclusive scope and on a word of a memory, is told.
+fn has_named<A: Allocator>(
+    records: &Records<A>,
+    told: &Told<A>,
+    space: Space,
+    event: EventId,
+    name: Name,
+) -> bool
+    requires { HasName records.now event name }
+    ensures { IsTrue result ↔ IsReleaseBy records.now space told.now.events.keys event name }
+{
+    match matched(records, event, name) {
+        None => false,
+        Some(release) => told.events.contains(&release)
+            && is_inclusive(records, space, release, event),
+    }
+}
+
+/// Whether one of the releases that an event matches with inclusive scope, on a word of a memory, is told.
 fn has_release<A: Allocator>(
     records: &Records<A>,
     told: &Told<A>,
@@ -77,11 +95,17 @@ fn has_release<A: Allocator>(
 ) -> bool
     ensures { IsTrue result ↔ ((d : AnyEvent) × Has told.now.events.keys d × Matches records.now event d × order.IsInclusive records.now space d event) }
 {
-    match matched(records, event) {
-        None => false,
-        Some(release) => told.events.contains(&release)
-            && is_inclusive(records, space, release, event),
+    let taken = match records.event_at(event) {
+        None => return false,
+        Some(taken) => taken,
+    };
+    let names = taken.names.as_slice();
+    for name in names {
+        if has_named(records, told, space, event, *name) {
+            return true;
+        }
     }
+    false
 }
 
 /// Whether some barrier of the convergent instance in which an event stands is told, where it flags the memory.

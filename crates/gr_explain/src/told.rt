@@ -108,7 +108,7 @@ impl<A: Allocator + Copy> Told<A> {
     /// Adds an event that is told in a memory.
     ///
     /// # Errors
-    /// `Memory`.
+    /// `Memory`: out of memory.
     pub(crate) fn add(
         &mut self,
         records: &Records<A>,
