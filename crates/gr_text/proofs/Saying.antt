@@ -68,6 +68,10 @@ same_pair x y e = cc
 abbrev AsRoom : Version → Result (Line × Place) Fault → Type 0
 AsRoom v r = IfOk r (λ x. HasRoom v x.0)
 
+last_false : (a b : Bool) → (a || b) ≡ false → b ≡ false
+last_false true b e = absurd cc
+last_false false b e = e
+
 record_room : (n : ℕ) (h : Header) (left : ℕ) (e : Event) → AsRoom h.version (record_at n h left e)
 record_room n h left e = by_item (nat_le h.items e.item || nat_lt (places h.version) (length e.names)) refl
   where
@@ -77,11 +81,7 @@ record_room n h left e = by_item (nat_le h.items e.item || nat_lt (places h.vers
 
     by_item : (b : Bool) → (nat_le h.items e.item || nat_lt (places h.version) (length e.names)) ≡ b → AsRoom h.version (cond b (Err (faults.BadLine n)) (cond (left == 0) (Err (faults.LongStream n)) (Ok (lines.Event e, cond (is_end e) Outside (Inside h (left - 1))))))
     by_item true is = tt
-    by_item false is = by_room (left == 0) (ltb-false _ _ (or_right (nat_le h.items e.item) _ is))
-
-    or_right : (a b : Bool) → (a || b) ≡ false → b ≡ false
-    or_right true b e = absurd cc
-    or_right false b e = e
+    by_item false is = by_room (left == 0) (ltb-false _ _ (last_false (nat_le h.items e.item) _ is))
 
 pub taken_has_room : (n : ℕ) (place : Place) (r : Option Line) → AsRoom (version_at place) (line_at n place r)
 taken_has_room n Outside None = tt

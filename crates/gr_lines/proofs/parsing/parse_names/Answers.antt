@@ -14,7 +14,7 @@ pub returns-in_err-name-clause-names : goal.returns-in_err-name-clause-names
 returns-in_err-name-clause-names c =
     let so_far = rw c.in-Some.is at c.loop-place.invariant.1 in
     let none = rw c.in_err-name.was at c.parse_name.ensures in
-    c.from_residual.ensures ∙ no_name (take c.loop-place.place c.loop-place.names) c.loop-place.place _ _ c.loop-place-test.true so_far (sym none)
+    rw c.from_residual.ensures (no_name (take c.loop-place.place c.loop-place.names) c.loop-place.place _ _ c.loop-place-test.true so_far (sym none))
 
 pub loop-place-preserved : goal.loop-place-preserved
 loop-place-preserved c =
