@@ -12,11 +12,11 @@ use Rattle.gr_report.specs.FaultText.{fault_line}
 use Rattle.gr_replay.specs.Replays.{IsExact, IsReplayFault, WritesFront}
 use Rattle.gr_input.specs.Faults.{Fails}
 use Rattle.gr_text.specs.Texts.{packed}
-use Rattle.gr_text.specs.Dumps.{dumped}
+use Rattle.gr_text.specs.Dumps.{dumped, upgraded}
 use Rattle.gr_text.specs.Writes.{Writes, WritesFront as WritesFrontOf}
 use Rattle.gr_show.specs.Opening.{IsFileFault, IsShownOfFiles, ShowsFrontOfFiles}
 use Rattle.gr_cli.specs.declared.arguments.Task.{Task}
-use Rattle.gr_cli.specs.declared.arguments.Task.TheVariants.{Replay, Pack, Dump}
+use Rattle.gr_cli.specs.declared.arguments.Task.TheVariants.{Replay, Pack, Dump, Upgrade}
 use Rattle.gr_cli.specs.declared.status.TheConstants.{NOTHING}
 use Rattle.gr_cli.specs.Statuses.{fault_status, race_status, IsReportStatus}
 
@@ -67,6 +67,7 @@ abbrev pub IsAnswerOf : Task → Option (List ℕ) → Option (List ℕ) → Opt
 IsAnswerOf Replay input old new old_errors new_errors status = IsAnswer input old new old_errors new_errors status
 IsAnswerOf Pack input old new old_errors new_errors status = IsRewriting packed input old new old_errors new_errors status
 IsAnswerOf Dump input old new old_errors new_errors status = IsRewriting dumped input old new old_errors new_errors status
+IsAnswerOf Upgrade input old new old_errors new_errors status = IsRewriting upgraded input old new old_errors new_errors status
 
 -- what is left behind where a word is to be shown of the launch whose streams the files of these names have
 module _ {T X : Type 0} (remaining : T → Option (List ℕ)) (Gives : List ℕ → Result T X → Type 0) (files : List (List ℕ)) (w : Word) (old new old_errors new_errors : Option (List ℕ)) (status : ℕ) where

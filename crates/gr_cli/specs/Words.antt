@@ -4,7 +4,7 @@ use Rattle.clap.specs.declared.builder.action.ArgAction.TheVariants.{Append}
 use Rattle.clap.specs.declared.error.kind.ErrorKind.{ErrorKind}
 use Rattle.clap.specs.declared.error.kind.ErrorKind.TheVariants.{DisplayHelp, DisplayVersion, OutOfMemory}
 use Rattle.gr_cli.specs.declared.arguments.Task.{Task}
-use Rattle.gr_cli.specs.declared.arguments.Task.TheVariants.{Replay, Pack, Dump}
+use Rattle.gr_cli.specs.declared.arguments.Task.TheVariants.{Replay, Pack, Dump, Upgrade}
 use Rattle.clap.specs.Words.{App, IsAmong, Rule, Shape, fault_of, new_app, new_rule, with_rule, with_subcommand}
 
 -- the command of a task
@@ -12,6 +12,7 @@ abbrev pub name_of : Task → List ℕ
 name_of Replay = codes "replay"
 name_of Pack = codes "pack"
 name_of Dump = codes "dump"
+name_of Upgrade = codes "upgrade"
 
 -- the command's name; and no word asks for a report
 abbrev pub AsksFor : Task → List (List ℕ) → Type 0
@@ -37,7 +38,7 @@ abbrev pub explaining : Shape
 explaining = (with_rule (with_rule (with_rule (new_app (codes "explain")) (wanted (codes "SPACE"))) (wanted (codes "WORD"))) wanted_files).top
 
 abbrev pub tasks : App
-tasks = with_subcommand (with_subcommand (with_subcommand (record { top = alone; subs = [] }) (command_named (codes "replay"))) (command_named (codes "pack"))) (command_named (codes "dump"))
+tasks = with_subcommand (with_subcommand (with_subcommand (with_subcommand (record { top = alone; subs = [] }) (command_named (codes "replay"))) (command_named (codes "pack"))) (command_named (codes "dump"))) (command_named (codes "upgrade"))
 
 abbrev pub gpurace : App
 gpurace = with_subcommand tasks explaining

@@ -26,6 +26,8 @@ pub enum Task {
     Pack,
     /// Write the text of the streams that stand one after another on standard input.
     Dump,
+    /// Write in version 2 the streams that stand one after another on standard input.
+    Upgrade,
 }
 
 /// A word of a launch, whose streams are in these files, one each.
@@ -54,7 +56,7 @@ Reports the data races of an OpenCL kernel launch, and its divergent barriers, f
 
 A race is that of the OpenCL 2.0 memory model: two accesses of different work-items to one word, at least one of
 them a write, not both atomic with inclusive scope, and neither of which happens before the other. The report is
-exact for the trace: it names each word that has a race, each divergent barrier, each acquire that never gets the
+exact for the trace: it names each word that has a race, each divergent barrier, each acquire that never gets a
 release it names, and no other.";
 
 const AFTER_HELP: &str = "\
@@ -76,6 +78,8 @@ const REPLAY: &str = "Reports on the trace on standard input; this is done witho
 const PACK: &str = "Writes the bytes of the trace whose text is on standard input";
 
 const DUMP: &str = "Writes the text of the trace on standard input";
+
+const UPGRADE: &str = "Writes the trace on standard input as streams of version 2";
 
 const EXPLAIN: &str = "Tells of one word which two accesses race on it";
 
@@ -135,6 +139,7 @@ fn command<'a>(alloc: Global) -> Result<Command<'a>, AllocError>
     let replay = plain_command(alloc, "replay", REPLAY);
     let pack = plain_command(alloc, "pack", PACK);
     let dump = plain_command(alloc, "dump", DUMP);
+    let upgrade = plain_command(alloc, "upgrade", UPGRADE);
     let explain = explain_command(alloc)?;
     Command::new(alloc, "gpurace")
         .bin_name("gpurace")?
@@ -146,6 +151,7 @@ fn command<'a>(alloc: Global) -> Result<Command<'a>, AllocError>
         .subcommand(replay)?
         .subcommand(pack)?
         .subcommand(dump)?
+        .subcommand(upgrade)?
         .subcommand(explain)
 }
 
@@ -157,6 +163,8 @@ fn task_named(name: &str) -> Task
         Task::Pack
     } else if name == "dump" {
         Task::Dump
+    } else if name == "upgrade" {
+        Task::Upgrade
     } else {
         Task::Replay
     }
@@ -185,7 +193,7 @@ fn question_of<'a>(alloc: Global, matches: &ArgMatches<'a>) -> Result<Request<'a
 /// What the words ask for, the program's name not among them.
 ///
 /// # Errors
-/// The text of help or of wrong usage, or want of memory; of words that ask for a task this alone.
+/// The text of help or of wrong usage, or `OutOfMemory`; of words that ask for a task this alone.
 pub fn request_of<'a, S: AsStr>(alloc: Global, words: &'a [S]) -> Result<Request<'a>, Error>
     ensures fails { FailsBy (faults (map S.text words.now)) result }
     ensures task { IfOk result (λ r. (u : AnyTask) → AsksFor u (map S.text words.now) → r ≡ Perform u) }

@@ -23,7 +23,7 @@ use gr_replay::replay;
 use gr_report::report::Report;
 use gr_report::write_fault;
 use gr_show::files::show_race_of_files;
-use gr_text::{dump, pack};
+use gr_text::{dump, pack, upgrade};
 use std::alloc::Global;
 use std::convert::AsStr;
 use std::io::{self, Read, Write};
@@ -105,6 +105,7 @@ fn perform<R: Read, W: Write, E: Write>(
         Task::Replay => conclude(replay(alloc, reader, writer), errors),
         Task::Pack => conclude_rewriting(pack(alloc, reader, writer), errors),
         Task::Dump => conclude_rewriting(dump(alloc, reader, writer), errors),
+        Task::Upgrade => conclude_rewriting(upgrade(alloc, reader, writer), errors),
     }
 }
 

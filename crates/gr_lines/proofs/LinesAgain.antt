@@ -83,7 +83,7 @@ not_both b p q = absurd cc
 none_named : (kind : Kind) (n : Name) (names : List Name) → IsNamingOk kind (n ∷ names) → is_acquire_kind kind ≡ false → ⊥
 none_named kind n names ok other = not_both _ other ok.0
 
-atomic_again : (key : List ℕ) (kind : Kind) (item : ℕ) (space : Space) (word : ℕ) (scope : Scope) (order : Order) (names : List Name) → kind_said key scope order ≡ Some kind → IsNamingOk kind namess
+atomic_again : (key : List ℕ) (kind : Kind) (item : ℕ) (space : Space) (word : ℕ) (scope : Scope) (order : Order) (names : List Name) → kind_said key scope order ≡ Some kind → IsNamingOk kind names
     → atomic_said key item space word (scope_word scope ++ later_text (order_word order ∷ names_words names)) ≡ Some (record { item = item; kind = kind; space = space; word = word; names = names })
 unfolding atomic_said
 atomic_again key kind item space word scope order names is ok =

@@ -372,7 +372,7 @@ read_is_text bytes l h =
     let b = bind_some _ _ _ header in
     let g = bind_some _ _ _ b.2 in
     let f = header_found b.0 g.0 g.1 in
-    let text : bytes ≡ line_text (lines.Header g.0) = joined bytes (codes "group") b.0 (decimal g.0.group) (codes "items" ∷ decimal g.0.items ∷ codes "launch" ∷ decimal g.0.launch ∷ []) (more bytes (codes "group") b.0 (same_is _ _ key) b.1) f.1 in
+    let text : bytes ≡ line_text (lines.Header g.0) = joined bytes (codes "group") b.0 (decimal g.0.group) (codes "items" ∷ decimal g.0.items ∷ codes "launch" ∷ decimal g.0.launch ∷ version_words g.0.version) (more bytes (codes "group") b.0 (same_is _ _ key) b.1) f.1 in
     subst (λ (x : Line). IsSaid x × (bytes ≡ line_text x)) (some_is _ l g.2) (f.0, text))
     (λ other. choose _ _ _ l other (IsSaid l × (bytes ≡ line_text l))
     (λ key end.

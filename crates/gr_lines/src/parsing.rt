@@ -151,7 +151,7 @@ fn make_header(version: Version, group: u16, items: u16, launch: u32) -> Option<
 
 /// The version, of which this stands behind the launch in the line of a header.
 fn parse_version(bytes: Option<&[u8]>) -> Option<Version>
-    ensures { result ≡ version_said (option_map (λ rest. rest.now) bytes) }
+    ensures { result ≡ version_said (option_map (λ rest. rest.now) bytes.entry) }
 {
     match bytes {
         None => Some(Version::One),
@@ -205,7 +205,7 @@ fn parse_name(bytes: &[u8]) -> Option<(Name, Option<&[u8]>)>
 /// The names that stand behind an acquire's order, if anything stands there, and how many places of the array they are.
 fn parse_names(bytes: Option<&[u8]>) -> Option<([Name; MOST_NAMES], usize)>
     ensures few { IfSome result (λ x. x.1 ≤ MOST_NAMES) }
-    ensures names { option_map (λ x. take x.1 x.0) result ≡ names_said (option_map (λ rest. rest.now) bytes) MOST_NAMES }
+    ensures names { option_map (λ x. take x.1 x.0) result ≡ names_said (option_map (λ rest. rest.now) bytes.entry) MOST_NAMES }
 {
     let mut names = [UNUSED; MOST_NAMES];
     let mut rest = bytes;

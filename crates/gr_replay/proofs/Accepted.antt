@@ -14,8 +14,9 @@ use Rattle.gr_model.specs.Events.{is_end, IsEventOk}
 use Rattle.gr_model.specs.Streams.{AreGood, IsAccepted, is_complete}
 use Rattle.gr_record.specs.declared.error.RecordError.{RecordError}
 use Rattle.gr_record.specs.declared.error.RecordError.TheVariants as errors
-use Rattle.gr_record.specs.declared.layout.TheConstants.{HEADER_LENGTH, RECORD_LENGTH}
-use Rattle.gr_record.specs.Fronts.{Records, behind, step, records_at}
+use Rattle.gr_record.specs.declared.layout.TheConstants.{HEADER_LENGTH}
+use Rattle.gr_record.specs.Versions.{record_length}
+use Rattle.gr_record.specs.Fronts.{Records, behind, step, records_of, records_at}
 use Rattle.gr_record.specs.declared.stop.Stop.{Stop}
 use Rattle.gr_record.specs.declared.stop.Stop.TheVariants.{AtEnd, AtFault, Inside}
 use Rattle.gr_record.specs.Laws.{AreBytes}
@@ -29,7 +30,8 @@ use Rattle.gr_replay.specs.Joined as joined_spec
 use Rattle.gr_replay.specs.Joined.{Flat, at_place, stream_at, joined_at}
 use Rattle.gr_replay.specs.Laws.{AreStreams}
 use Rattle.gr_record.proofs.Found.{read_is_spelled}
-use Rattle.gr_record.proofs.FoundFronts.{bytes_drop, bytes_take}
+use Rattle.gr_record.proofs.FoundFronts.{bytes_take}
+use Rattle.gr_record.proofs.Places.{bytes_drop}
 
 abbrev all : List Flat → Result (List Flat) Fault
 all x = Ok x
@@ -85,36 +87,40 @@ module _ (items : ℕ) where
   no_more true bytes events rest h = cc
   no_more false bytes events rest h = cc
 
-  is_ok : (bytes : List ℕ) (e : Event) → AreBytes bytes → RECORD_LENGTH ≤ length bytes → event_at items (take RECORD_LENGTH bytes) ≡ Ok e → IsEventOk e items
-  is_ok bytes e fits long h =
-      (read_is_spelled items e (take RECORD_LENGTH bytes) (bytes_take RECORD_LENGTH bytes fits) (omega (arith, length-take RECORD_LENGTH bytes)) h).1.ok
+module _ (head : Header) where
+  abbrev size : ℕ
+  size = record_length head.version
 
-  pub records_read : (most : ℕ) (bytes : List ℕ) → AreBytes bytes → (events : List Event) (rest : List ℕ) → whole (records_at (event_at items) most bytes) ≡ Ok (events, rest) → AreRead items most events rest
+  is_ok : (bytes : List ℕ) (e : Event) → AreBytes bytes → size ≤ length bytes → event_at head (take size bytes) ≡ Ok e → IsEventOk e head.items
+  is_ok bytes e fits long h =
+      (read_is_spelled head e (take size bytes) (bytes_take size bytes fits) (omega (arith, length-take size bytes)) h).1.event.ok
+
+  pub records_read : (most : ℕ) (bytes : List ℕ) → AreBytes bytes → (events : List Event) (rest : List ℕ) → whole (records_of head most bytes) ≡ Ok (events, rest) → AreRead head.items most events rest
   unfolding records_at
-  records_read zero bytes fits events rest h = absurd (no_more (ltb (length bytes) RECORD_LENGTH) bytes events rest h)
+  records_read zero bytes fits events rest h = absurd (no_more head.items (ltb (length bytes) size) bytes events rest h)
   records_read (suc most) bytes fits events rest h =
-      by_length (ltb (length bytes) RECORD_LENGTH) refl h (λ es k. records_read most (drop RECORD_LENGTH bytes) (bytes_drop RECORD_LENGTH bytes fits) es rest k)
+      by_length (ltb (length bytes) size) refl h (λ es k. records_read most (drop size bytes) (bytes_drop size bytes fits) es rest k)
     where
       next : Records
-      next = records_at (event_at items) most (drop RECORD_LENGTH bytes)
+      next = records_of head most (drop size bytes)
 
-      by_end : (e : Event) (b : Bool) → is_end e ≡ b → IsEventOk e items → whole (cond b (record { events = e ∷ []; rest = drop RECORD_LENGTH bytes; stop = AtEnd }) (behind e next)) ≡ Ok (events, rest) → ((es : List Event) → whole next ≡ Ok (es, rest) → AreRead items most es rest) → AreRead items (suc most) events rest
-      by_end e true end ok h later = let p = same_done {X = List Event × List ℕ} (e ∷ [], drop RECORD_LENGTH bytes) (events, rest) h in subst (λ (x : List Event × List ℕ). AreRead items (suc most) x.0 x.1) p (one_end most e (drop RECORD_LENGTH bytes) (bytes_drop RECORD_LENGTH bytes fits) ok end)
+      by_end : (e : Event) (b : Bool) → is_end e ≡ b → IsEventOk e head.items → whole (cond b (record { events = e ∷ []; rest = drop size bytes; stop = AtEnd }) (behind e next)) ≡ Ok (events, rest) → ((es : List Event) → whole next ≡ Ok (es, rest) → AreRead head.items most es rest) → AreRead head.items (suc most) events rest
+      by_end e true end ok h later = let p = same_done {X = List Event × List ℕ} (e ∷ [], drop size bytes) (events, rest) h in subst (λ (x : List Event × List ℕ). AreRead head.items (suc most) x.0 x.1) p (one_end head.items most e (drop size bytes) (bytes_drop size bytes fits) ok end)
       by_end e false on ok h later =
-          let p = behind_parts e next events rest h in
-          subst (λ es. AreRead items (suc most) es rest) (sym p.0) (one_more most e next.events rest ok on (later next.events p.1))
+          let p = behind_parts head.items e next events rest h in
+          subst (λ es. AreRead head.items (suc most) es rest) (sym p.0) (one_more head.items most e next.events rest ok on (later next.events p.1))
 
-      by_event : (r : Result Event RecordError) → event_at items (take RECORD_LENGTH bytes) ≡ r → RECORD_LENGTH ≤ length bytes → whole (step r bytes next) ≡ Ok (events, rest) → ((es : List Event) → whole next ≡ Ok (es, rest) → AreRead items most es rest) → AreRead items (suc most) events rest
+      by_event : (r : Result Event RecordError) → event_at head (take size bytes) ≡ r → size ≤ length bytes → whole (step size r bytes next) ≡ Ok (events, rest) → ((es : List Event) → whole next ≡ Ok (es, rest) → AreRead head.items most es rest) → AreRead head.items (suc most) events rest
       by_event (Err d) is long h later = cc
       by_event (Ok e) is long h later = by_end e (is_end e) refl (is_ok bytes e fits long is) h later
 
-      by_length : (b : Bool) → ltb (length bytes) RECORD_LENGTH ≡ b → whole (cond b (record { events = []; rest = bytes; stop = Inside }) (step (event_at items (take RECORD_LENGTH bytes)) bytes next)) ≡ Ok (events, rest) → ((es : List Event) → whole next ≡ Ok (es, rest) → AreRead items most es rest) → AreRead items (suc most) events rest
+      by_length : (b : Bool) → ltb (length bytes) size ≡ b → whole (cond b (record { events = []; rest = bytes; stop = Inside }) (step size (event_at head (take size bytes)) bytes next)) ≡ Ok (events, rest) → ((es : List Event) → whole next ≡ Ok (es, rest) → AreRead head.items most es rest) → AreRead head.items (suc most) events rest
       by_length true e h later = cc
-      by_length false e h later = by_event (event_at items (take RECORD_LENGTH bytes)) refl (ltb-false (length bytes) RECORD_LENGTH e) h later
+      by_length false e h later = by_event (event_at head (take size bytes)) refl (ltb-false (length bytes) size e) h later
 
-front_read : (items : ℕ) (bytes : List ℕ) → AreBytes bytes → (events : List Event) (rest : List ℕ) → front_records_at items bytes ≡ Ok (events, rest) → AreRead items MOST_RECORDS events rest
+front_read : (h : Header) (bytes : List ℕ) → AreBytes bytes → (events : List Event) (rest : List ℕ) → front_records_at h bytes ≡ Ok (events, rest) → AreRead h.items MOST_RECORDS events rest
 unfolding front_records_at
-front_read items bytes fits events rest h = records_read items MOST_RECORDS bytes fits events rest h
+front_read h bytes fits events rest e = records_read h MOST_RECORDS bytes fits events rest e
 
 -- the bytes after a header are bytes
 header_rest : (bytes : List ℕ) → AreBytes bytes → (h : Header) (rest : List ℕ) → front_header_at bytes ≡ Ok (h, rest) → AreBytes rest
@@ -152,12 +158,12 @@ module _ (seen : List Flat) (bytes : List ℕ) (fits : AreBytes bytes) (are : Ar
   Next r = (f : Flat) (rest : List ℕ) → r ≡ Ok (f, rest) → AreStreams (seen ++ f ∷ []) × AreBytes rest
 
   by_records : (h : Header) (middle : List ℕ) → AreBytes middle → list_any (λ s. s.header.group == h.group) seen ≡ false → list_any (λ s. not (s.header.launch == h.launch)) seen ≡ false
-      → (r : Result (List Event × List ℕ) RecordError) → front_records_at h.items middle ≡ r
+      → (r : Result (List Event × List ℕ) RecordError) → front_records_at h middle ≡ r
       → Next (joined_spec.◌>>=◌ {Y = Flat × List ℕ} (at_place (length seen) r) (λ x. Ok (record { header = h; events = x.0 }, x.1)))
   by_records h middle bytes_fit other same (Err d) is f rest k = cc
   by_records h middle bytes_fit other same (Ok (events, after)) is f rest k =
       let p = same_found (record { header = h; events = events }, after) (f, rest) k in
-      let read = front_read h.items middle bytes_fit events after is in
+      let read = front_read h middle bytes_fit events after is in
       let one = with_one seen (record { header = h; events = events }) are (record { few = read.few; good = read.good; ended = read.ended }) other same in
       (subst (λ (x : Flat × List ℕ). AreStreams (seen ++ x.0 ∷ [])) p one, subst (λ (x : Flat × List ℕ). AreBytes x.1) p read.bytes)
 
@@ -165,15 +171,15 @@ module _ (seen : List Flat) (bytes : List ℕ) (fits : AreBytes bytes) (are : Ar
   behind_header h =
       cond (list_any (λ s. s.header.group == h.0.group) seen) (Err (faults.SameGroup (length seen)))
       (cond (list_any (λ s. not (s.header.launch == h.0.launch)) seen) (Err (faults.OtherLaunch (length seen)))
-      (joined_spec.◌>>=◌ {Y = Flat × List ℕ} (at_place (length seen) (front_records_at h.0.items h.1)) (λ x. Ok (record { header = h.0; events = x.0 }, x.1))))
+      (joined_spec.◌>>=◌ {Y = Flat × List ℕ} (at_place (length seen) (front_records_at h.0 h.1)) (λ x. Ok (record { header = h.0; events = x.0 }, x.1))))
 
   by_launch : (h : Header) (middle : List ℕ) → AreBytes middle → list_any (λ s. s.header.group == h.group) seen ≡ false → (b : Bool) → list_any (λ s. not (s.header.launch == h.launch)) seen ≡ b
-      → Next (cond b (Err (faults.OtherLaunch (length seen))) (joined_spec.◌>>=◌ {Y = Flat × List ℕ} (at_place (length seen) (front_records_at h.items middle)) (λ x. Ok (record { header = h; events = x.0 }, x.1))))
+      → Next (cond b (Err (faults.OtherLaunch (length seen))) (joined_spec.◌>>=◌ {Y = Flat × List ℕ} (at_place (length seen) (front_records_at h middle)) (λ x. Ok (record { header = h; events = x.0 }, x.1))))
   by_launch h middle bytes_fit other true same f rest k = cc
-  by_launch h middle bytes_fit other false same f rest k = by_records h middle bytes_fit other same (front_records_at h.items middle) refl f rest k
+  by_launch h middle bytes_fit other false same f rest k = by_records h middle bytes_fit other same (front_records_at h middle) refl f rest k
 
   by_group : (h : Header) (middle : List ℕ) → AreBytes middle → (b : Bool) → list_any (λ s. s.header.group == h.group) seen ≡ b
-      → Next (cond b (Err (faults.SameGroup (length seen))) (cond (list_any (λ s. not (s.header.launch == h.launch)) seen) (Err (faults.OtherLaunch (length seen))) (joined_spec.◌>>=◌ {Y = Flat × List ℕ} (at_place (length seen) (front_records_at h.items middle)) (λ x. Ok (record { header = h; events = x.0 }, x.1)))))
+      → Next (cond b (Err (faults.SameGroup (length seen))) (cond (list_any (λ s. not (s.header.launch == h.launch)) seen) (Err (faults.OtherLaunch (length seen))) (joined_spec.◌>>=◌ {Y = Flat × List ℕ} (at_place (length seen) (front_records_at h middle)) (λ x. Ok (record { header = h; events = x.0 }, x.1)))))
   by_group h middle bytes_fit true other f rest k = cc
   by_group h middle bytes_fit false other f rest k = by_launch h middle bytes_fit other (list_any (λ s. not (s.header.launch == h.launch)) seen) refl f rest k
 

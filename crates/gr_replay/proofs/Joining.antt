@@ -42,13 +42,13 @@ module _ (seen : List Stream) (bytes : List ℕ) where
       other_launch t = rw (found, list_any-flats (λ h. h.group == header.group) seen, fresh, list_any-flats (λ h. not (h.launch == header.launch)) seen, t, length-map) refl
 
       module _ (same : list_any (λ s. not (s.header.launch == header.launch)) seen ≡ false) where
-        pub records_fail : (e : RecordError) → record_spec.Fails e (front_records_at header.items rest) → Fails (stream_fault (length seen) e) (stream_at (flats seen) bytes)
+        pub records_fail : (e : RecordError) → record_spec.Fails e (front_records_at header rest) → Fails (stream_fault (length seen) e) (stream_at (flats seen) bytes)
         unfolding stream_at
         records_fail e h =
-            fault_at-fails (length seen) e (front_records_at header.items rest) (stream_at (flats seen) bytes) h
+            fault_at-fails (length seen) e (front_records_at header rest) (stream_at (flats seen) bytes) h
             (λ k. rw (found, list_any-flats (λ h. h.group == header.group) seen, fresh, list_any-flats (λ h. not (h.launch == header.launch)) seen, same, k, length-map) refl)
 
-        pub one_stream : (events : List Event) (after : List ℕ) → front_records_at header.items rest ≡ Ok (events, after) → stream_at (flats seen) bytes ≡ Ok (record { header = header; events = events }, after)
+        pub one_stream : (events : List Event) (after : List ℕ) → front_records_at header rest ≡ Ok (events, after) → stream_at (flats seen) bytes ≡ Ok (record { header = header; events = events }, after)
         unfolding stream_at
         one_stream events after k =
             rw (found, list_any-flats (λ h. h.group == header.group) seen, fresh, list_any-flats (λ h. not (h.launch == header.launch)) seen, same, k) refl

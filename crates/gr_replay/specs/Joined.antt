@@ -37,7 +37,7 @@ stream_at seen bytes =
     at_place (length seen) (front_header_at bytes) >>= λ h.
     if list_any (λ s. s.header.group == h.0.group) seen then Err (faults.SameGroup (length seen))
     else if list_any (λ s. not (s.header.launch == h.0.launch)) seen then Err (faults.OtherLaunch (length seen))
-    else at_place (length seen) (front_records_at h.0.items h.1) >>= λ r. Ok (record { header = h.0; events = r.0 }, r.1)
+    else at_place (length seen) (front_records_at h.0 h.1) >>= λ r. Ok (record { header = h.0; events = r.0 }, r.1)
 
 -- these streams, and at most n that follow in the bytes
 unfoldable pub joined_at : ℕ → List Flat → List ℕ → Result (List Flat) Fault

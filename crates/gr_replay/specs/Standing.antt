@@ -2,6 +2,7 @@
 use Rattle.std.specs.Prelude.{◌≡◌, ℕ, List, [], Result, Ok, Err}
 use Rattle.gr_model.specs.declared.event.Event.{Event}
 use Rattle.gr_record.specs.declared.error.RecordError.{RecordError}
+use Rattle.gr_record.specs.declared.header.Header.{Header}
 use Rattle.gr_record.specs.WholeStreams.{front_records_at}
 
 abbrev pub events_in : Result (List Event × List ℕ) RecordError → List Event
@@ -9,9 +10,9 @@ events_in (Ok x) = x.0
 events_in (Err e) = []
 
 -- the records at the front of the bytes up to the end, if an end is there
-abbrev pub listed : ℕ → List ℕ → List Event
-listed items bytes = events_in (front_records_at items bytes)
+abbrev pub listed : Header → List ℕ → List Event
+listed h bytes = events_in (front_records_at h bytes)
 
 -- an end is there
-abbrev pub IsWhole : ℕ → List ℕ → Type 0
-IsWhole items bytes = (rest : List ℕ) × (front_records_at items bytes ≡ Ok (listed items bytes, rest))
+abbrev pub IsWhole : Header → List ℕ → Type 0
+IsWhole h bytes = (rest : List ℕ) × (front_records_at h bytes ≡ Ok (listed h bytes, rest))

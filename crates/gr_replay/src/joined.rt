@@ -54,7 +54,7 @@ pub(crate) fn read_stream<'a, A: Allocator>(
     if has_other_launch(streams, header.launch) {
         return Err(Fault::OtherLaunch(place));
     }
-    match Records::find(alloc, header.items, rest) {
+    match Records::find(alloc, header, rest) {
         Ok((events, rest)) => Ok((Stream { header, events }, rest)),
         Err(error) => Err(Fault::of_stream(place, error)),
     }

@@ -9,6 +9,7 @@ ghost use Rattle.gr_record.specs.WholeStreams.{Gives, front_records_at};
 use gr_model::event::Event;
 use gr_model::memory::Memory;
 use gr_record::error::RecordError;
+use gr_record::header::Header;
 use gr_record::stream::read_front_records;
 use std::alloc::Allocator;
 use std::marker::Model;
@@ -16,7 +17,7 @@ use std::marker::Model;
 /// The records of one stream up to its end. Contracts see their list.
 #[derive(Debug, Drop)]
 pub struct Records<'a> {
-    items: u16,
+    header: Header,
     bytes: &'a [u8],
 }
 
@@ -27,35 +28,35 @@ impl<'a> Model for Records<'a> {
 
     ghost Value = { List Event };
 
-    ghost view = { λ r. listed r.items r.bytes.now };
+    ghost view = { λ r. listed r.header r.bytes.now };
 
-    ghost invariant = { λ r. IsWhole r.items r.bytes.now };
+    ghost invariant = { λ r. IsWhole r.header r.bytes.now };
 }
 
 impl<'a> Records<'a> {
-    /// The records at the front of the bytes up to the end, in a stream of so many items, and the bytes after them.
+    /// The records at the front of the bytes up to the end, in the stream of this header, and the bytes after them.
     ///
     /// # Errors
     /// Those of `read_front_records`.
     pub fn find<A: Allocator>(
         alloc: A,
-        items: u16,
+        header: Header,
         bytes: &'a [u8],
     ) -> Result<(Records<'a>, &'a [u8]), RecordError>
-        ensures { Gives (λ x. (x.0, x.1.now)) result (front_records_at items bytes.now) }
+        ensures { Gives (λ x. (x.0, x.1.now)) result (front_records_at header bytes.now) }
     {
-        let (_events, rest) = read_front_records(alloc, items, bytes)?;
-        Ok((Records { items, bytes }, rest))
+        let (_events, rest) = read_front_records(alloc, header, bytes)?;
+        Ok((Records { header, bytes }, rest))
     }
 
     /// The list of the records.
     ///
     /// # Errors
-    /// `Memory`.
+    /// `Memory`: out of memory.
     pub fn read<A: Allocator>(&self, alloc: A) -> Result<Vec<Event, A>, Memory>
         ensures { IfOk result (λ v. v.items ≡ self.now) }
     {
-        match read_front_records(alloc, self.items, self.bytes) {
+        match read_front_records(alloc, self.header, self.bytes) {
             Ok((events, _rest)) => Ok(events),
             Err(error) => match error {
                 RecordError::Memory => Err(Memory),

@@ -61,33 +61,33 @@ stream_found : (place : ℕ) (bytes : List ℕ) → AreBytes bytes → (x : Foun
 unfolding stream_at
 stream_found place bytes fits x e = by_header (front_header_at bytes) refl e
   where
-    by_records : (h : Header) (mid : List ℕ) → front_header_at bytes ≡ Ok (h, mid) → (r : Result (List Event × List ℕ) RecordError) → front_records_at h.items mid ≡ r → (at_place place r >>= λ y. found (lines.Header h ∷ map lines.Event y.0, y.1)) ≡ Ok x → StreamFound bytes x
+    by_records : (h : Header) (mid : List ℕ) → front_header_at bytes ≡ Ok (h, mid) → (r : Result (List Event × List ℕ) RecordError) → front_records_at h mid ≡ r → (at_place place r >>= λ y. found (lines.Header h ∷ map lines.Event y.0, y.1)) ≡ Ok x → StreamFound bytes x
     by_records h mid head (Err d) is k = cc
     by_records h mid head (Ok (es, after)) is k =
         let hf = header_found bytes fits h mid head in
-        let ef = events_found h.items mid hf.fits es after is in
-        let spelled : bytes ≡ header_spelling h ++ events_spelling es ++ after = hf.parts ∙ ap (λ (v : List ℕ). header_spelling h ++ v) ef.parts ∙ sym (append_assoc (header_spelling h) (events_spelling es) after) in
+        let ef = events_found h mid hf.fits es after is in
+        let spelled : bytes ≡ header_spelling h ++ events_spelling h.version es ++ after = hf.parts ∙ ap (λ (v : List ℕ). header_spelling h ++ v) ef.parts ∙ sym (append_assoc (header_spelling h) (events_spelling h.version es) after) in
         let one : StreamFound bytes (lines.Header h ∷ map lines.Event es, after) = record {
           stream = record { header = h; events = es };
           whole = record { front = record { header = hf.header; runs = ef.runs; few = ef.few }; ended = ef.ended };
           parts = refl;
           spelled = spelled;
           fits = ef.fits;
-          shorter = omega (arith, ap length hf.parts, ap length ef.parts, length-append (header_spelling h) mid, length-append (events_spelling es) after, header_long h);
+          shorter = omega (arith, ap length hf.parts, ap length ef.parts, length-append (header_spelling h) mid, length-append (events_spelling h.version es) after, header_long h);
         } in
         subst (StreamFound bytes) (same_found (lines.Header h ∷ map lines.Event es, after) x k) one
 
-    by_header : (r : Result (Header × List ℕ) RecordError) → front_header_at bytes ≡ r → (at_place place r >>= λ h. at_place place (front_records_at h.0.items h.1) >>= λ y. found (lines.Header h.0 ∷ map lines.Event y.0, y.1)) ≡ Ok x → StreamFound bytes x
+    by_header : (r : Result (Header × List ℕ) RecordError) → front_header_at bytes ≡ r → (at_place place r >>= λ h. at_place place (front_records_at h.0 h.1) >>= λ y. found (lines.Header h.0 ∷ map lines.Event y.0, y.1)) ≡ Ok x → StreamFound bytes x
     by_header (Err d) is k = cc
-    by_header (Ok (h, mid)) is k = by_records h mid is (front_records_at h.items mid) refl k
+    by_header (Ok (h, mid)) is k = by_records h mid is (front_records_at h mid) refl k
 
 -- ---- all streams
 
-record StreamsFound (bytes : List ℕ) (xs : List Line) : Type 0 where
-  streams : List WholeStream
-  whole : All IsWhole streams
-  parts : xs ≡ flat_map parts_in streams
-  spelled : bytes ≡ bytes_of streams
+pub record StreamsFound (bytes : List ℕ) (xs : List Line) : Type 0 where
+  pub streams : List WholeStream
+  pub whole : All IsWhole streams
+  pub parts : xs ≡ flat_map parts_in streams
+  pub spelled : bytes ≡ bytes_of streams
 
 nothing : (bytes : List ℕ) (xs : List Line) → length bytes ≡ 0 → all [] ≡ all xs → StreamsFound bytes xs
 nothing bytes xs empty e = record { streams = []; whole = all_none IsWhole; parts = sym (same_all [] xs e); spelled = none bytes empty }
@@ -96,7 +96,7 @@ nothing bytes xs empty e = record { streams = []; whole = all_none IsWhole; part
 abbrev Later : ℕ → ℕ → List ℕ → Type 0
 Later most place bytes = (rest : List ℕ) → AreBytes rest → length rest < length bytes → (ys : List Line) → streams_at most (place + 1) rest ≡ Ok ys → StreamsFound rest ys
 
-streams_found : (most place : ℕ) (bytes : List ℕ) → AreBytes bytes → length bytes ≤ most → (xs : List Line) → streams_at most place bytes ≡ Ok xs → StreamsFound bytes xs
+pub streams_found : (most place : ℕ) (bytes : List ℕ) → AreBytes bytes → length bytes ≤ most → (xs : List Line) → streams_at most place bytes ≡ Ok xs → StreamsFound bytes xs
 unfolding streams_at
 streams_found zero place bytes fits le xs e = nothing bytes xs (omega arith) e
 streams_found (suc most) place bytes fits le xs e =

@@ -5,3 +5,4 @@ pub mod DumpedStreams
 pub mod PackedStreams
 pub mod SpelledStreams
 pub mod SaidStreams
+pub mod UpgradedStreams

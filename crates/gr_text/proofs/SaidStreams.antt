@@ -2,7 +2,7 @@
 use Rattle.std.proofs.Common.{◌≡◌, ℕ, suc, ◌+◌, ◌-◌, ◌^◌, ◌<◌, ◌≤◌, Bool, true, false, List, [], ◌∷◌, ◌++◌, length, map, All, Option, Some, None, Ok, refl, sym, ap, ◌∙◌, arith, inl, inr, IsTrue, true≢false}
 use Rattle.std.specs.Prelude.{nat_le, nat_lt, ◌==◌, ◌&&◌, codes, decimal, ⊤}
 use Rattle.std.specs.List.{flat_map}
-use Rattle.std.proofs.lemmas.Bool.{cases_Bool, and_parts, and_from, leb-true, ltb-true, lt-leb, lt-ltb, ne_eqb}
+use Rattle.std.proofs.lemmas.Bool.{cases_Bool, and_parts, and_from, leb-true, ltb-true, le-ltb, lt-leb, lt-ltb, ne_eqb}
 use Rattle.gr_model.specs.declared.event.Space.{Space}
 use Rattle.gr_model.specs.declared.event.Space.TheVariants.{Global, Local}
 use Rattle.gr_model.specs.declared.event.Scope.{Scope}
@@ -13,6 +13,12 @@ use Rattle.gr_model.specs.declared.event.Kind.{Kind}
 use Rattle.gr_model.specs.declared.event.Kind.TheVariants.{Read, Write, Load, Store, Rmw, Barrier, End}
 use Rattle.gr_model.specs.declared.event.Name.{Name}
 use Rattle.gr_model.specs.declared.event.Event.{Event}
+use Rattle.gr_model.specs.NameLists.{IsNameInRange}
+use Rattle.gr_record.specs.declared.header.Header.{Header}
+use Rattle.gr_record.specs.declared.header.Version.{Version}
+use Rattle.gr_record.specs.declared.header.Version.TheVariants.{One, Two}
+use Rattle.gr_record.specs.Versions.{places}
+use Rattle.gr_record.proofs.Places.{each_in_range}
 use Rattle.gr_model.specs.declared.limits.TheConstants.{MOST_ITEMS_OF_A_GROUP, MOST_RECORDS}
 use Rattle.gr_model.specs.Events.{IsNamingOk, is_end}
 use Rattle.gr_model.specs.Streams.{is_complete}
@@ -20,7 +26,7 @@ use Rattle.gr_lines.specs.declared.line.Line.{Line}
 use Rattle.gr_lines.specs.declared.line.Line.TheVariants as lines
 use Rattle.gr_record.specs.FrontLaws.{Runs}
 use Rattle.gr_lines.specs.LineLaws.{IsSaid}
-use Rattle.gr_lines.specs.LineText.{line_text, space_word, scope_word, order_word, flags_word, name_words, atomic_words, first_word, later_words, later_text, header_words}
+use Rattle.gr_lines.specs.LineText.{line_text, space_word, scope_word, order_word, flags_word, version_words, name_words, names_words, atomic_words, first_word, later_words, later_text, header_words}
 use Rattle.gr_record.specs.Spelling.{IsEvent}
 use Rattle.gr_record.proofs.FoundFronts.{complete_behind}
 use Rattle.gr_lines.proofs.LineWords.{are_digits, decimal_digits}
@@ -84,18 +90,24 @@ flags_above true false = refl
 flags_above false true = refl
 flags_above true true = refl
 
-name_above : (kind : Kind) (name : Option Name) → IsNamingOk kind name → AreAbove (name_words name)
-name_above kind None h = tt
-name_above kind (Some n) h =
-    let group : n.at.group < 64 = h.1.0 in
-    let item : n.at.item < 256 = h.1.1 in
-    let release : n.release < 16777216 = h.1.2 in
-    (refl, (number_above n.at.group (omega arith), (number_above n.at.item (omega arith), (number_above n.release (omega arith), tt))))
+name_above : (n : Name) (ws : List (List ℕ)) → IsNameInRange n → AreAbove ws → AreAbove (name_words n ++ ws)
+name_above n ws ok h =
+    let group : n.at.group < 64 = ok.0 in
+    let item : n.at.item < 256 = ok.1 in
+    let release : n.release < 16777216 = ok.2 in
+    (refl, (number_above n.at.group (omega arith), (number_above n.at.item (omega arith), (number_above n.release (omega arith), h))))
 
-atomic_above : (word : List ℕ) (kind : Kind) (scope : Scope) (order : Order) (e : Event) → Above word → e.word < 2 ^ 32 → IsNamingOk kind e.name → AreAbove (atomic_words word scope order e)
-atomic_above word kind scope order e is lt naming = (is, (space_above e.space, (number_above e.word lt, (scope_above scope, (order_above order, name_above kind e.name naming)))))
+each_above : (names : List Name) → All IsNameInRange names → AreAbove (names_words names)
+each_above [] each = tt
+each_above (n ∷ names) each = name_above n (names_words names) (each 0 n (omega arith)) (each_above names (λ k d lt. each (suc k) d (omega arith)))
 
-event_above : (kind : Kind) (e : Event) → e.item < 256 → e.word < 2 ^ 32 → IsNamingOk kind e.name → Above (first_word kind e.item ++ later_text (later_words kind e))
+names_above : (kind : Kind) (names : List Name) → IsNamingOk kind names → AreAbove (names_words names)
+names_above kind names ok = each_above names (each_in_range kind names ok)
+
+atomic_above : (word : List ℕ) (kind : Kind) (scope : Scope) (order : Order) (e : Event) → Above word → e.word < 2 ^ 32 → IsNamingOk kind e.names → AreAbove (atomic_words word scope order e)
+atomic_above word kind scope order e is lt naming = (is, (space_above e.space, (number_above e.word lt, (scope_above scope, (order_above order, names_above kind e.names naming)))))
+
+event_above : (kind : Kind) (e : Event) → e.item < 256 → e.word < 2 ^ 32 → IsNamingOk kind e.names → Above (first_word kind e.item ++ later_text (later_words kind e))
 event_above Read e item word naming = above-append (decimal e.item) _ (number_above e.item (omega arith)) (later_above (later_words Read e) (refl, (space_above e.space, (number_above e.word word, tt))))
 event_above Write e item word naming = above-append (decimal e.item) _ (number_above e.item (omega arith)) (later_above (later_words Write e) (refl, (space_above e.space, (number_above e.word word, tt))))
 event_above (Load scope order) e item word naming = above-append (decimal e.item) _ (number_above e.item (omega arith)) (later_above (later_words (Load scope order) e) (atomic_above (codes "ld") (Load scope order) scope order e refl word naming))
@@ -105,11 +117,15 @@ event_above (Barrier global local) e item word naming = above-append (decimal e.
 event_above (End true) e item word naming = refl
 event_above (End false) e item word naming = refl
 
+version_above : (v : Version) → AreAbove (version_words v)
+version_above One = tt
+version_above Two = (refl, tt)
+
 line_above : (x : Line) → IsSaid x → Above (line_text x)
 line_above (lines.Header h) ok =
     let group : h.group < 64 = ok.group in
     let items : h.items ≤ 256 = ok.items in
-    later_above (header_words h) (number_above h.group (omega arith), (refl, (number_above h.items (omega arith), (refl, (number_above h.launch ok.launch, tt)))))
+    later_above (header_words h) (number_above h.group (omega arith), (refl, (number_above h.items (omega arith), (refl, (number_above h.launch ok.launch, version_above h.version)))))
 line_above (lines.Event e) ok = event_above e.kind e ok.ok.0 ok.word ok.ok.1
 
 -- ---- the lines of a text
@@ -143,33 +159,34 @@ lines_back (x ∷ xs) h = line_before (line_text x) (flat_map whole_line xs) (li
 event_said : (items : ℕ) (e : Event) → items ≤ MOST_ITEMS_OF_A_GROUP → IsEvent items e → IsEvent MOST_ITEMS_OF_A_GROUP e
 event_said items e few ok = record { ok = (omega (arith, ok.ok.0), ok.ok.1, ok.ok.2); word = ok.word }
 
-events_said : (items : ℕ) (es : List Event) → items ≤ MOST_ITEMS_OF_A_GROUP → Runs items es → AreSaid (map lines.Event es)
-events_said items [] few runs = tt
-events_said items (e ∷ es) few runs = (event_said items e few runs.0, events_said items es few runs.2)
+events_said : (h : Header) (es : List Event) → h.items ≤ MOST_ITEMS_OF_A_GROUP → Runs h es → AreSaid (map lines.Event es)
+events_said h [] few runs = tt
+events_said h (e ∷ es) few runs = (event_said h.items e few runs.0.event, events_said h es few runs.2)
 
 streams_said : (ss : List WholeStream) → All IsWhole ss → AreSaid (flat_map parts_in ss)
 streams_said [] whole = tt
 streams_said (s ∷ ss) whole =
     let w = whole 0 s (omega arith) in
-    (w.front.header, said-append (map lines.Event s.events) (flat_map parts_in ss) (events_said s.header.items s.events w.front.header.items w.front.runs) (streams_said ss (λ k d lt. whole (suc k) d (omega arith))))
+    (w.front.header, said-append (map lines.Event s.events) (flat_map parts_in ss) (events_said s.header s.events w.front.header.items w.front.runs) (streams_said ss (λ k d lt. whole (suc k) d (omega arith))))
 
 -- ---- line by line
 
-events_back : (es : List Event) (n items left : ℕ) (rest : List Line) → items ≤ MOST_ITEMS_OF_A_GROUP → Runs items es → IsTrue (is_complete es) → length es ≤ left → ((m : ℕ) → said_from m Outside (map line_text rest) ≡ Ok rest)
-    → said_from n (Inside items left) (map line_text (map lines.Event es ++ rest)) ≡ Ok (map lines.Event es ++ rest)
+events_back : (es : List Event) (n : ℕ) (h : Header) (left : ℕ) (rest : List Line) → h.items ≤ MOST_ITEMS_OF_A_GROUP → Runs h es → IsTrue (is_complete es) → length es ≤ left → ((m : ℕ) → said_from m Outside (map line_text rest) ≡ Ok rest)
+    → said_from n (Inside h left) (map line_text (map lines.Event es ++ rest)) ≡ Ok (map lines.Event es ++ rest)
 unfolding said_from
-events_back [] n items left rest few runs complete le behind = absurd (true≢false (sym complete))
-events_back (e ∷ es) n items left rest few runs complete le behind =
-    let read = text_is_read (lines.Event e) (event_said items e few runs.0) in
-    let there : nat_le items e.item ≡ false = lt-leb items e.item runs.0.ok.0 in
+events_back [] n h left rest few runs complete le behind = absurd (true≢false (sym complete))
+events_back (e ∷ es) n h left rest few runs complete le behind =
+    let read = text_is_read (lines.Event e) (event_said h.items e few runs.0.event) in
+    let there : nat_le h.items e.item ≡ false = lt-leb h.items e.item runs.0.event.ok.0 in
+    let room : nat_lt (places h.version) (length e.names) ≡ false = le-ltb _ _ runs.0.names in
     let some : (left == 0) ≡ false = ne_eqb left 0 (λ none. absurd (omega arith)) in
     elim (cases_Bool (is_end e)) [
       | inl end ↦
           let none : es ≡ [] = runs.1 end in
-          rw (read, there, some, end, none, behind (n + 1)) refl
+          rw (read, there, room, some, end, none, behind (n + 1)) refl
       | inr on ↦
-          let ih = events_back es (n + 1) items (left - 1) rest few runs.2 (sym (complete_behind e es on) ∙ complete) (omega arith) behind in
-          rw (read, there, some, on, ih) refl
+          let ih = events_back es (n + 1) h (left - 1) rest few runs.2 (sym (complete_behind e es on) ∙ complete) (omega arith) behind in
+          rw (read, there, room, some, on, ih) refl
     ]
 
 streams_back : (ss : List WholeStream) (n : ℕ) → All IsWhole ss → said_from n Outside (map line_text (flat_map parts_in ss)) ≡ Ok (flat_map parts_in ss)
@@ -178,12 +195,12 @@ streams_back [] n whole = refl
 streams_back (s ∷ ss) n whole =
     let w = whole 0 s (omega arith) in
     let read = text_is_read (lines.Header s.header) w.front.header in
-    let later = events_back s.events (n + 1) s.header.items MOST_RECORDS (flat_map parts_in ss) w.front.header.items w.front.runs w.ended w.front.few (λ m. streams_back ss m (λ k d lt. whole (suc k) d (omega arith))) in
+    let later = events_back s.events (n + 1) s.header MOST_RECORDS (flat_map parts_in ss) w.front.header.items w.front.runs w.ended w.front.few (λ m. streams_back ss m (λ k d lt. whole (suc k) d (omega arith))) in
     rw (read, later) refl
 
 pub whole_streams_are_packed : WholeStreamsArePacked
 whole_streams_are_packed ss whole =
-    rw (lines_back (flat_map parts_in ss) (streams_said ss whole), streams_back ss 1 whole) (ap (λ (v : List ℕ). Ok v) (streams_bytes ss))
+    rw (lines_back (flat_map parts_in ss) (streams_said ss whole), streams_back ss 1 whole) (ap (λ (v : List ℕ). Ok v) (streams_bytes ss whole))
 
 pub dumped_is_packed_again : DumpedIsPackedAgain
 dumped_is_packed_again bytes text fits e =

@@ -1,10 +1,15 @@
 -- What a text says, line by line, as a loop reads it.
-use Rattle.std.proofs.Common.{◌≡◌, ℕ, ◌+◌, ◌-◌, Bool, true, false, cond, List, [], ◌∷◌, ◌++◌, Option, Some, None, Result, Ok, Err, refl, sym, ap, ◌∙◌, append_assoc}
-use Rattle.std.specs.Prelude.{IfSome, IfOk, nat_le, ◌==◌}
+use Rattle.std.proofs.Common.{◌≡◌, ℕ, ◌+◌, ◌-◌, Bool, true, false, cond, List, [], ◌∷◌, ◌++◌, Option, Some, None, Result, Ok, Err, refl, sym, ap, subst, ◌∙◌, append_assoc, ◌≤◌, length}
+use Rattle.std.specs.Prelude.{IfSome, IfOk, nat_le, nat_lt, ◌==◌, ◌||◌}
 use Rattle.std.proofs.lemmas.List.{append-nil}
-use Rattle.std.specs.List.{flat_map}
 use Rattle.gr_model.specs.declared.event.Event.{Event}
+use Rattle.std.proofs.lemmas.Bool.{ltb-false}
+use Rattle.gr_model.specs.declared.limits.TheConstants.{MOST_RECORDS}
 use Rattle.gr_model.specs.Events.{is_end}
+use Rattle.gr_record.specs.declared.header.Header.{Header}
+use Rattle.gr_record.specs.declared.header.Version.{Version}
+use Rattle.gr_record.specs.declared.header.Version.TheVariants.{One}
+use Rattle.gr_record.specs.Versions.{places}
 use Rattle.gr_record.specs.declared.fault.Fault.{Fault}
 use Rattle.gr_record.specs.declared.fault.Fault.TheVariants as faults
 use Rattle.gr_lines.specs.declared.line.Line.{Line}
@@ -16,7 +21,7 @@ use Rattle.gr_lines.proofs.LinesAgain.{text_is_read}
 use Rattle.gr_lines.proofs.LinesFound.{read_is_text}
 use Rattle.gr_text.specs.declared.place.Place.{Place}
 use Rattle.gr_text.specs.declared.place.Place.TheVariants.{Outside, Inside}
-use Rattle.gr_text.specs.Texts.{◌>>=◌, line_bytes, record_at, line_at, said_from}
+use Rattle.gr_text.specs.Texts.{◌>>=◌, HasRoom, line_bytes, version_at, version_behind, lines_bytes, record_at, line_at, said_from}
 
 -- ---- one line
 
@@ -33,52 +38,109 @@ parsed_is_said None line found only =
 abbrev AsSaid : Result (Line × Place) Fault → Type 0
 AsSaid r = IfOk r (λ x. IsSaid x.0)
 
-record_said : (n items left : ℕ) (e : Event) → IsSaid (lines.Event e) → AsSaid (record_at n items left e)
-record_said n items left e said = by_item (nat_le items e.item)
+record_said : (n : ℕ) (h : Header) (left : ℕ) (e : Event) → IsSaid (lines.Event e) → AsSaid (record_at n h left e)
+record_said n h left e said = by_item (nat_le h.items e.item || nat_lt (places h.version) (length e.names))
   where
-    by_room : (b : Bool) → AsSaid (cond b (Err (faults.LongStream n)) (Ok (lines.Event e, cond (is_end e) Outside (Inside items (left - 1)))))
+    by_room : (b : Bool) → AsSaid (cond b (Err (faults.LongStream n)) (Ok (lines.Event e, cond (is_end e) Outside (Inside h (left - 1)))))
     by_room true = tt
     by_room false = said
 
-    by_item : (b : Bool) → AsSaid (cond b (Err (faults.BadLine n)) (cond (left == 0) (Err (faults.LongStream n)) (Ok (lines.Event e, cond (is_end e) Outside (Inside items (left - 1))))))
+    by_item : (b : Bool) → AsSaid (cond b (Err (faults.BadLine n)) (cond (left == 0) (Err (faults.LongStream n)) (Ok (lines.Event e, cond (is_end e) Outside (Inside h (left - 1))))))
     by_item true = tt
     by_item false = by_room (left == 0)
 
 -- what a place takes was said
 pub taken_is_said : (n : ℕ) (place : Place) (r : Option Line) → IfSome r IsSaid → AsSaid (line_at n place r)
 taken_is_said n Outside None h = tt
-taken_is_said n (Inside items left) None h = tt
+taken_is_said n (Inside g left) None h = tt
 taken_is_said n Outside (Some (lines.Header x)) h = h
 taken_is_said n Outside (Some (lines.Event e)) h = tt
-taken_is_said n (Inside items left) (Some (lines.Header x)) h = tt
-taken_is_said n (Inside items left) (Some (lines.Event e)) h = record_said n items left e h
+taken_is_said n (Inside g left) (Some (lines.Header x)) h = tt
+taken_is_said n (Inside g left) (Some (lines.Event e)) h = record_said n g left e h
+
+abbrev pair : Line × Place → Result (Line × Place) Fault
+pair x = Ok x
+
+same_pair : (x y : Line × Place) → pair x ≡ pair y → x ≡ y
+same_pair x y e = cc
+
+-- what a place takes has room in its stream
+abbrev AsRoom : Version → Result (Line × Place) Fault → Type 0
+AsRoom v r = IfOk r (λ x. HasRoom v x.0)
+
+last_false : (a b : Bool) → (a || b) ≡ false → b ≡ false
+last_false true b e = absurd cc
+last_false false b e = e
+
+record_room : (n : ℕ) (h : Header) (left : ℕ) (e : Event) → AsRoom h.version (record_at n h left e)
+record_room n h left e = by_item (nat_le h.items e.item || nat_lt (places h.version) (length e.names)) refl
+  where
+    by_room : (b : Bool) → length e.names ≤ places h.version → AsRoom h.version (cond b (Err (faults.LongStream n)) (Ok (lines.Event e, cond (is_end e) Outside (Inside h (left - 1)))))
+    by_room true few = tt
+    by_room false few = few
+
+    by_item : (b : Bool) → (nat_le h.items e.item || nat_lt (places h.version) (length e.names)) ≡ b → AsRoom h.version (cond b (Err (faults.BadLine n)) (cond (left == 0) (Err (faults.LongStream n)) (Ok (lines.Event e, cond (is_end e) Outside (Inside h (left - 1))))))
+    by_item true is = tt
+    by_item false is = by_room (left == 0) (ltb-false _ _ (last_false (nat_le h.items e.item) _ is))
+
+pub taken_has_room : (n : ℕ) (place : Place) (r : Option Line) → AsRoom (version_at place) (line_at n place r)
+taken_has_room n Outside None = tt
+taken_has_room n (Inside g left) None = tt
+taken_has_room n Outside (Some (lines.Header x)) = tt
+taken_has_room n Outside (Some (lines.Event e)) = tt
+taken_has_room n (Inside g left) (Some (lines.Header x)) = tt
+taken_has_room n (Inside g left) (Some (lines.Event e)) = record_room n g left e
 
 -- ---- the loop over lines
 
--- bytes before those of what the lines say
-abbrev pub bytes_behind : List ℕ → Result (List Line) Fault → Result (List ℕ) Fault
-bytes_behind front r = r >>= λ xs. Ok (front ++ flat_map line_bytes xs)
+-- bytes before those of what the lines from a place on say
+abbrev pub bytes_behind : List ℕ → Version → Result (List Line) Fault → Result (List ℕ) Fault
+bytes_behind front v r = r >>= λ xs. Ok (front ++ lines_bytes v xs)
 
-regroup : (front : List ℕ) (x : Line) (r : Result (List Line) Fault) → bytes_behind front (r >>= λ xs. Ok (x ∷ xs)) ≡ bytes_behind (front ++ line_bytes x) r
-regroup front x (Ok xs) = ap (λ (v : List ℕ). Ok v) (sym (append_assoc front (line_bytes x) (flat_map line_bytes xs)))
-regroup front x (Err f) = refl
+regroup : (front : List ℕ) (v : Version) (x : Line) (r : Result (List Line) Fault) → bytes_behind front v (r >>= λ xs. Ok (x ∷ xs)) ≡ bytes_behind (front ++ line_bytes v x) (version_behind v x) r
+regroup front v x (Ok xs) = ap (λ (w : List ℕ). Ok w) (sym (append_assoc front (line_bytes v x) (lines_bytes (version_behind v x) xs)))
+regroup front v x (Err f) = refl
+
+-- a line leads to a place in a stream of the version behind it
+leads_to : (n : ℕ) (place : Place) (said : Option Line) (x : Line) (behind : Place) → line_at n place said ≡ Ok (x, behind) → version_behind (version_at place) x ≡ version_at behind
+leads_to n Outside None x behind k = cc
+leads_to n (Inside h left) None x behind k = cc
+leads_to n Outside (Some (lines.Header h)) x behind k =
+    let p = same_pair (lines.Header h, Inside h MOST_RECORDS) (x, behind) k in
+    subst (λ (y : Line × Place). version_behind One y.0 ≡ version_at y.1) p refl
+leads_to n Outside (Some (lines.Event e)) x behind k = cc
+leads_to n (Inside h left) (Some (lines.Header g)) x behind k = cc
+leads_to n (Inside h left) (Some (lines.Event e)) x behind k = by_item (nat_le h.items e.item || nat_lt (places h.version) (length e.names)) k
+  where
+    by_end : (b : Bool) → is_end e ≡ b → pair (lines.Event e, cond b Outside (Inside h (left - 1))) ≡ pair (x, behind) → version_behind h.version x ≡ version_at behind
+    by_end true is k = subst (λ (y : Line × Place). version_behind h.version y.0 ≡ version_at y.1) (same_pair (lines.Event e, Outside) (x, behind) k) (rw is refl)
+    by_end false is k = subst (λ (y : Line × Place). version_behind h.version y.0 ≡ version_at y.1) (same_pair (lines.Event e, Inside h (left - 1)) (x, behind) k) (rw is refl)
+
+    by_room : (b : Bool) → cond b (Err (faults.LongStream n)) (pair (lines.Event e, cond (is_end e) Outside (Inside h (left - 1)))) ≡ pair (x, behind) → version_behind h.version x ≡ version_at behind
+    by_room true k = cc
+    by_room false k = by_end (is_end e) refl k
+
+    by_item : (b : Bool) → cond b (Err (faults.BadLine n)) (cond (left == 0) (Err (faults.LongStream n)) (pair (lines.Event e, cond (is_end e) Outside (Inside h (left - 1))))) ≡ pair (x, behind) → version_behind h.version x ≡ version_at behind
+    by_item true k = cc
+    by_item false k = by_room (left == 0) k
 
 module _ (front : List ℕ) (n : ℕ) (place : Place) (total : Result (List ℕ) Fault) where
-  pub over_outside : bytes_behind front (said_from n place []) ≡ total → place ≡ Outside → total ≡ Ok front
+  pub over_outside : bytes_behind front (version_at place) (said_from n place []) ≡ total → place ≡ Outside → total ≡ Ok front
   unfolding said_from
   over_outside so_far is = sym so_far ∙ rw is (ap (λ (v : List ℕ). Ok v) (append-nil front))
 
-  pub over_inside : (items left : ℕ) → bytes_behind front (said_from n place []) ≡ total → place ≡ Inside items left → total ≡ Err faults.NoEnd
+  pub over_inside : (h : Header) (left : ℕ) → bytes_behind front (version_at place) (said_from n place []) ≡ total → place ≡ Inside h left → total ≡ Err faults.NoEnd
   unfolding said_from
-  over_inside items left so_far is = sym so_far ∙ rw is refl
+  over_inside h left so_far is = sym so_far ∙ rw is refl
 
-  module _ (line : List ℕ) (ls : List (List ℕ)) (so_far : bytes_behind front (said_from n place (line ∷ ls)) ≡ total) where
+  module _ (line : List ℕ) (ls : List (List ℕ)) (so_far : bytes_behind front (version_at place) (said_from n place (line ∷ ls)) ≡ total) where
     pub line_fails : (f : Fault) → line_at n place (line_said line) ≡ Err f → total ≡ Err f
     unfolding said_from
     line_fails f is = sym so_far ∙ rw is refl
 
-    pub line_goes_on : (x : Line) (behind : Place) → line_at n place (line_said line) ≡ Ok (x, behind) → bytes_behind (front ++ line_bytes x) (said_from (n + 1) behind ls) ≡ total
+    pub line_goes_on : (x : Line) (behind : Place) → line_at n place (line_said line) ≡ Ok (x, behind) → bytes_behind (front ++ line_bytes (version_at place) x) (version_at behind) (said_from (n + 1) behind ls) ≡ total
     unfolding said_from
     line_goes_on x behind is =
-        let one : bytes_behind front (said_from n place (line ∷ ls)) ≡ bytes_behind front (said_from (n + 1) behind ls >>= λ xs. Ok (x ∷ xs)) = rw is refl in
-        sym (regroup front x (said_from (n + 1) behind ls)) ∙ (sym one ∙ so_far)
+        let v = version_at place in
+        let one : bytes_behind front v (said_from n place (line ∷ ls)) ≡ bytes_behind front v (said_from (n + 1) behind ls >>= λ xs. Ok (x ∷ xs)) = rw is refl in
+        rw (← leads_to n place (line_said line) x behind is) (sym (regroup front v x (said_from (n + 1) behind ls)) ∙ (sym one ∙ so_far))

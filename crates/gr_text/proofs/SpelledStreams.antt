@@ -10,9 +10,10 @@ use Rattle.gr_model.specs.Events.{is_end}
 use Rattle.gr_model.specs.Streams.{is_complete}
 use Rattle.gr_record.specs.declared.error.RecordError.{RecordError}
 use Rattle.gr_record.specs.declared.header.Header.{Header}
-use Rattle.gr_record.specs.declared.layout.TheConstants.{HEADER_LENGTH, RECORD_LENGTH}
+use Rattle.gr_record.specs.declared.layout.TheConstants.{HEADER_LENGTH}
+use Rattle.gr_record.specs.Versions.{record_length}
 use Rattle.gr_record.specs.declared.stop.Stop.TheVariants.{AtEnd}
-use Rattle.gr_record.specs.Fronts.{Records, behind, step, records_at}
+use Rattle.gr_record.specs.Fronts.{Records, behind, step, records_of}
 use Rattle.gr_record.specs.FrontLaws.{Runs}
 use Rattle.gr_record.specs.Reading.{event_at}
 use Rattle.gr_record.specs.Spelling.{IsHeader, event_spelling, events_spelling, header_spelling}
@@ -28,31 +29,34 @@ use Rattle.gr_text.proofs.Streaming.{nothing_left}
 abbrev ended_with : List Event → List ℕ → Records
 ended_with events rest = record { events = events; rest = rest; stop = AtEnd }
 
-module _ (items : ℕ) (few : items ≤ MOST_ITEMS_OF_A_GROUP) where
-  records_before : (events : List Event) (most : ℕ) (rest : List ℕ) → Runs items events → IsTrue (is_complete events) → length events ≤ most → records_at (event_at items) most (events_spelling events ++ rest) ≡ ended_with events rest
+module _ (h : Header) (few : h.items ≤ MOST_ITEMS_OF_A_GROUP) where
+  abbrev size : ℕ
+  size = record_length h.version
+
+  records_before : (events : List Event) (most : ℕ) (rest : List ℕ) → Runs h events → IsTrue (is_complete events) → length events ≤ most → records_of h most (events_spelling h.version events ++ rest) ≡ ended_with events rest
   records_before [] most rest runs complete le = absurd (true≢false (sym complete))
   records_before (e ∷ es) zero rest runs complete le = absurd (omega arith)
   records_before (e ∷ es) (suc most) rest runs complete le =
-      let len = spelling_length e in
-      let more : List ℕ = events_spelling es ++ rest in
-      let bytes : List ℕ = event_spelling e ++ more in
-      let long : RECORD_LENGTH ≤ length (event_spelling e ++ more) = omega (arith, length-append (event_spelling e) more, len) in
-      let is : event_at items (event_spelling e) ≡ Ok e = rw (append-nil (event_spelling e)) at (spelled_is_read items e [] few runs.0) in
-      let here : records_at (event_at items) (suc most) (event_spelling e ++ more) ≡ step (Ok e) (event_spelling e ++ more) (records_at (event_at items) most more)
-      = next (event_at items) most (event_spelling e ++ more) long
-      ∙ ap (λ (x : Result Event RecordError). step x bytes (records_at (event_at items) most (drop RECORD_LENGTH bytes))) (ap (event_at items) (take_at (event_spelling e) more RECORD_LENGTH len) ∙ is)
-      ∙ ap (λ (x : List ℕ). step (Ok e) bytes (records_at (event_at items) most x)) (drop_at (event_spelling e) more RECORD_LENGTH len) in
-      rw (append_assoc (event_spelling e) (events_spelling es) rest)
+      let len = spelling_length h.version e in
+      let front : List ℕ = event_spelling h.version e in
+      let more : List ℕ = events_spelling h.version es ++ rest in
+      let long : size ≤ length (front ++ more) = omega (arith, length-append front more, len) in
+      let is : event_at h front ≡ Ok e = rw (append-nil front) at (spelled_is_read h e [] few runs.0) in
+      let here : records_of h (suc most) (front ++ more) ≡ step size (Ok e) (front ++ more) (records_of h most more)
+      = next size (event_at h) most (front ++ more) long
+      ∙ ap (λ (x : Result Event RecordError). step size x (front ++ more) (records_of h most (drop size (front ++ more)))) (ap (event_at h) (take_at front more size len) ∙ is)
+      ∙ ap (λ (x : List ℕ). step size (Ok e) (front ++ more) (records_of h most x)) (drop_at front more size len) in
+      rw (append_assoc front (events_spelling h.version es) rest)
       (elim (cases_Bool (is_end e)) [
         | inl end ↦
             let none : es ≡ [] = runs.1 end in
-            here ∙ rw (end, drop_at (event_spelling e) more RECORD_LENGTH len, none) refl
+            here ∙ rw (end, drop_at front more size len, none) refl
         | inr on ↦
             let ih = records_before es most rest runs.2 (sym (complete_behind e es on) ∙ complete) (omega arith) in
             here ∙ rw on (ap (behind e) ih)
       ])
 
-  pub events_before : (events : List Event) (rest : List ℕ) → Runs items events → IsTrue (is_complete events) → length events ≤ MOST_RECORDS → front_records_at items (events_spelling events ++ rest) ≡ Ok (events, rest)
+  pub events_before : (events : List Event) (rest : List ℕ) → Runs h events → IsTrue (is_complete events) → length events ≤ MOST_RECORDS → front_records_at h (events_spelling h.version events ++ rest) ≡ Ok (events, rest)
   unfolding front_records_at
   events_before events rest runs complete le = rw (records_before events MOST_RECORDS rest runs complete le) refl
 
@@ -66,10 +70,10 @@ stream_before : (place : ℕ) (s : WholeStream) (rest : List ℕ) → IsWhole s 
 unfolding stream_at
 stream_before place s rest whole =
     let front = whole.front in
-    let records = events_before s.header.items front.header.items s.events rest front.runs whole.ended front.few in
-    rw (append_assoc (header_spelling s.header) (events_spelling s.events) rest, header_before s.header (events_spelling s.events ++ rest) front.header, records) refl
+    let records = events_before s.header front.header.items s.events rest front.runs whole.ended front.few in
+    rw (append_assoc (header_spelling s.header) (events_spelling s.header.version s.events) rest, header_before s.header (events_spelling s.header.version s.events ++ rest) front.header, records) refl
 
-streams_before : (ss : List WholeStream) (most place : ℕ) → All IsWhole ss → length (bytes_of ss) ≤ most → streams_at most place (bytes_of ss) ≡ Ok (flat_map parts_in ss)
+pub streams_before : (ss : List WholeStream) (most place : ℕ) → All IsWhole ss → length (bytes_of ss) ≤ most → streams_at most place (bytes_of ss) ≡ Ok (flat_map parts_in ss)
 unfolding streams_at
 streams_before [] most place whole le = nothing_left most place [] refl
 streams_before (s ∷ ss) zero place whole le = absurd (omega arith)

@@ -22,18 +22,20 @@ use Rattle.gr_lines.specs.declared.line.Line.TheVariants as lines
 use Rattle.gr_record.specs.declared.stop.Stop.{Stop}
 use Rattle.gr_record.specs.declared.stop.Stop.TheVariants.{Inside, AtEnd, AtFault}
 use Rattle.gr_record.specs.Faults.{stream_fault}
-use Rattle.gr_record.specs.Fronts.{Records, records_at}
+use Rattle.gr_record.specs.Fronts.{Records, records_of}
 use Rattle.gr_record.specs.FrontLaws.{Runs}
 use Rattle.gr_record.specs.Laws.{AreBytes}
-use Rattle.gr_record.specs.Reading.{header_at, event_at}
+use Rattle.gr_record.specs.Reading.{header_at}
 use Rattle.gr_record.specs.Spelling.{IsHeader, header_spelling, events_spelling}
 use Rattle.gr_record.specs.WholeStreams as record_spec
 use Rattle.gr_record.specs.WholeStreams.{front_header_at, front_records_at, up_to}
 use Rattle.gr_record.proofs.Found.{read_header_is_spelled}
-use Rattle.gr_record.proofs.FoundFronts.{records_found, bytes_drop}
+use Rattle.gr_record.proofs.FoundFronts.{records_found}
+use Rattle.gr_record.proofs.Places.{bytes_drop}
 use Rattle.std.proofs.lemmas.List.{take-append-drop}
-use Rattle.gr_text.specs.Texts.{◌>>=◌, whole_line}
-use Rattle.gr_text.specs.Dumps.{stream_at, streams_at, with_text}
+use Rattle.gr_text.specs.declared.forming.Form.{Form}
+use Rattle.gr_text.specs.Texts.{◌>>=◌}
+use Rattle.gr_text.specs.Dumps.{stream_at, streams_at, formed, with_stream}
 
 -- ---- one stream
 
@@ -42,20 +44,20 @@ fault_at-fails : {X Y : Type 0} (place : ℕ) (e : RecordError) (read : Result X
 fault_at-fails place errors.Memory read whole h go = tt
 fault_at-fails place e read whole h go = go h
 
-module _ (text : List ℕ) (place : ℕ) (bytes : List ℕ) where
-  pub header_fails : (e : RecordError) → record_spec.Fails e (front_header_at bytes) → Fails (stream_fault place e) (with_text text (stream_at place bytes))
+module _ (form : Form) (text : List ℕ) (place : ℕ) (bytes : List ℕ) where
+  pub header_fails : (e : RecordError) → record_spec.Fails e (front_header_at bytes) → Fails (stream_fault place e) (with_stream form text (stream_at place bytes))
   unfolding stream_at
-  header_fails e h = fault_at-fails place e (front_header_at bytes) (with_text text (stream_at place bytes)) h (λ k. rw k refl)
+  header_fails e h = fault_at-fails place e (front_header_at bytes) (with_stream form text (stream_at place bytes)) h (λ k. rw k refl)
 
   module _ (header : Header) (rest : List ℕ) (found : front_header_at bytes ≡ Ok (header, rest)) where
-    pub records_fail : (e : RecordError) → record_spec.Fails e (front_records_at header.items rest) → Fails (stream_fault place e) (with_text text (stream_at place bytes))
+    pub records_fail : (e : RecordError) → record_spec.Fails e (front_records_at header rest) → Fails (stream_fault place e) (with_stream form text (stream_at place bytes))
     unfolding stream_at
-    records_fail e h = fault_at-fails place e (front_records_at header.items rest) (with_text text (stream_at place bytes)) h (λ k. rw (found, k) refl)
+    records_fail e h = fault_at-fails place e (front_records_at header rest) (with_stream form text (stream_at place bytes)) h (λ k. rw (found, k) refl)
 
-    pub one_stream : (events : List Event) (after : List ℕ) → front_records_at header.items rest ≡ Ok (events, after) → with_text text (stream_at place bytes) ≡ Ok (text ++ whole_line (lines.Header header) ++ flat_map whole_line (map lines.Event events), after)
+    pub one_stream : (events : List Event) (after : List ℕ) → front_records_at header rest ≡ Ok (events, after) → with_stream form text (stream_at place bytes) ≡ Ok (text ++ formed form (lines.Header header) ++ flat_map (formed form) (map lines.Event events), after)
     unfolding stream_at
     one_stream events after k =
-        rw (found, k) (ap (λ (v : List ℕ). Ok (v, after)) (sym (append_assoc text (whole_line (lines.Header header)) (flat_map whole_line (map lines.Event events)))))
+        rw (found, k) (ap (λ (v : List ℕ). Ok (v, after)) (sym (append_assoc text (formed form (lines.Header header)) (flat_map (formed form) (map lines.Event events)))))
 
 -- ---- what is read is spelled so
 
@@ -88,48 +90,48 @@ header_found bytes fits h rest e = by_length (ltb (length bytes) HEADER_LENGTH) 
     by_length true is k = cc
     by_length false is k = by_header (header_at bytes) refl (ltb-false (length bytes) HEADER_LENGTH is) k
 
-pub record RecordsFound (items : ℕ) (bytes : List ℕ) (events : List Event) (rest : List ℕ) : Type 0 where
-  pub parts : bytes ≡ events_spelling events ++ rest
-  pub runs : Runs items events
+pub record RecordsFound (h : Header) (bytes : List ℕ) (events : List Event) (rest : List ℕ) : Type 0 where
+  pub parts : bytes ≡ events_spelling h.version events ++ rest
+  pub runs : Runs h events
   pub few : length events ≤ MOST_RECORDS
   pub ended : IsTrue (is_complete events)
   pub fits : AreBytes rest
 
-pub events_found : (items : ℕ) (bytes : List ℕ) → AreBytes bytes → (events : List Event) (rest : List ℕ) → front_records_at items bytes ≡ Ok (events, rest) → RecordsFound items bytes events rest
+pub events_found : (h : Header) (bytes : List ℕ) → AreBytes bytes → (events : List Event) (rest : List ℕ) → front_records_at h bytes ≡ Ok (events, rest) → RecordsFound h bytes events rest
 unfolding front_records_at
-events_found items bytes fits events rest e = by_stop read.stop refl e
+events_found h bytes fits events rest e = by_stop read.stop refl e
   where
     read : Records
-    read = records_at (event_at items) MOST_RECORDS bytes
+    read = records_of h MOST_RECORDS bytes
 
-    by_stop : (s : Stop) → read.stop ≡ s → up_to s read.events read.rest ≡ Ok (events, rest) → RecordsFound items bytes events rest
+    by_stop : (s : Stop) → read.stop ≡ s → up_to s read.events read.rest ≡ Ok (events, rest) → RecordsFound h bytes events rest
     by_stop AtEnd is k =
-        let f = records_found items MOST_RECORDS bytes fits in
-        let one : RecordsFound items bytes read.events read.rest = record { parts = f.parts; runs = f.runs; few = f.few; ended = rw is at f.complete; fits = bytes_behind (events_spelling read.events) read.rest (subst AreBytes f.parts fits) } in
-        subst (λ (y : List Event × List ℕ). RecordsFound items bytes y.0 y.1) (same_done {X = List Event × List ℕ} (read.events, read.rest) (events, rest) k) one
+        let f = records_found h MOST_RECORDS bytes fits in
+        let one : RecordsFound h bytes read.events read.rest = record { parts = f.parts; runs = f.runs; few = f.few; ended = rw is at f.complete; fits = bytes_behind (events_spelling h.version read.events) read.rest (subst AreBytes f.parts fits) } in
+        subst (λ (y : List Event × List ℕ). RecordsFound h bytes y.0 y.1) (same_done {X = List Event × List ℕ} (read.events, read.rest) (events, rest) k) one
     by_stop Inside is k = cc
     by_stop (AtFault d) is k = cc
 
 -- what some stream may have has a line
-pub runs_have_lines : (items : ℕ) → items ≤ MOST_ITEMS_OF_A_GROUP → (events : List Event) → Runs items events → All (λ e. IsEventOk e MOST_ITEMS_OF_A_GROUP) events
-runs_have_lines items few [] runs k d lt = absurd (omega arith)
-runs_have_lines items few (e ∷ es) runs zero d lt = let ok = runs.0.ok in (omega (arith, ok.0), ok.1, ok.2)
-runs_have_lines items few (e ∷ es) runs (suc k) d lt = runs_have_lines items few es runs.2 k d (omega arith)
+pub runs_have_lines : (h : Header) → h.items ≤ MOST_ITEMS_OF_A_GROUP → (events : List Event) → Runs h events → All (λ e. IsEventOk e MOST_ITEMS_OF_A_GROUP) events
+runs_have_lines h few [] runs k d lt = absurd (omega arith)
+runs_have_lines h few (e ∷ es) runs zero d lt = let ok = runs.0.event.ok in (omega (arith, ok.0), ok.1, ok.2)
+runs_have_lines h few (e ∷ es) runs (suc k) d lt = runs_have_lines h few es runs.2 k d (omega arith)
 
 -- ---- the loop over streams
 
 -- a text before that of what the streams say
-abbrev pub texts_behind : List ℕ → Result (List Line) Fault → Result (List ℕ) Fault
-texts_behind front r = r >>= λ xs. Ok (front ++ flat_map whole_line xs)
+abbrev pub texts_behind : Form → List ℕ → Result (List Line) Fault → Result (List ℕ) Fault
+texts_behind form front r = r >>= λ xs. Ok (front ++ flat_map (formed form) xs)
 
 pub nothing_left : (most place : ℕ) (bytes : List ℕ) → (length bytes == 0) ≡ true → streams_at most place bytes ≡ Ok []
 unfolding streams_at
 nothing_left zero place bytes e = refl
 nothing_left (suc most) place bytes e = rw e refl
 
-regroup : (front : List ℕ) (xs : List Line) (r : Result (List Line) Fault) → texts_behind front (r >>= λ ys. Ok (xs ++ ys)) ≡ texts_behind (front ++ flat_map whole_line xs) r
-regroup front xs (Ok ys) = ap (λ (v : List ℕ). Ok v) (ap (λ (v : List ℕ). front ++ v) (flat_map-append whole_line xs ys) ∙ sym (append_assoc front (flat_map whole_line xs) (flat_map whole_line ys)))
-regroup front xs (Err f) = refl
+regroup : (form : Form) (front : List ℕ) (xs : List Line) (r : Result (List Line) Fault) → texts_behind form front (r >>= λ ys. Ok (xs ++ ys)) ≡ texts_behind form (front ++ flat_map (formed form) xs) r
+regroup form front xs (Ok ys) = ap (λ (v : List ℕ). Ok v) (ap (λ (v : List ℕ). front ++ v) (flat_map-append (formed form) xs ys) ∙ sym (append_assoc front (flat_map (formed form) xs) (flat_map (formed form) ys)))
+regroup form front xs (Err f) = refl
 
 abbrev pair : List ℕ × List ℕ → Result (List ℕ × List ℕ) Fault
 pair x = Ok x
@@ -137,7 +139,7 @@ pair x = Ok x
 same_pair : (x y : List ℕ × List ℕ) → pair x ≡ pair y → x ≡ y
 same_pair x y e = cc
 
-module _ (front : List ℕ) (stop i : ℕ) (bytes : List ℕ) (total : Result (List ℕ) Fault) (so_far : texts_behind front (streams_at (stop - i) i bytes) ≡ total) where
+module _ (form : Form) (front : List ℕ) (stop i : ℕ) (bytes : List ℕ) (total : Result (List ℕ) Fault) (so_far : texts_behind form front (streams_at (stop - i) i bytes) ≡ total) where
   pub ends : (length bytes == 0) ≡ true → total ≡ Ok front
   ends e = sym so_far ∙ rw (nothing_left (stop - i) i bytes e) (ap (λ (v : List ℕ). Ok v) (append-nil front))
 
@@ -145,30 +147,30 @@ module _ (front : List ℕ) (stop i : ℕ) (bytes : List ℕ) (total : Result (L
   unfolding streams_at
   is_full le =
       let k : stop - i ≡ 0 = omega arith in
-      let one : texts_behind front (streams_at (stop - i) i bytes) ≡ Ok front = rw k (ap (λ (v : List ℕ). Ok v) (append-nil front)) in
+      let one : texts_behind form front (streams_at (stop - i) i bytes) ≡ Ok front = rw k (ap (λ (v : List ℕ). Ok v) (append-nil front)) in
       sym so_far ∙ one
 
   module _ (lt : i < stop) (some : (length bytes == 0) ≡ false) where
-    step : (s : Result (List Line × List ℕ) Fault) → stream_at i bytes ≡ s → texts_behind front (s >>= λ x. streams_at (stop - (i + 1)) (i + 1) x.1 >>= λ xs. Ok (x.0 ++ xs)) ≡ total
+    step : (s : Result (List Line × List ℕ) Fault) → stream_at i bytes ≡ s → texts_behind form front (s >>= λ x. streams_at (stop - (i + 1)) (i + 1) x.1 >>= λ xs. Ok (x.0 ++ xs)) ≡ total
     unfolding streams_at
     step s is =
         let k : stop - i ≡ suc (stop - (i + 1)) = omega arith in
-        let one : texts_behind front (streams_at (stop - i) i bytes) ≡ texts_behind front (s >>= λ x. streams_at (stop - (i + 1)) (i + 1) x.1 >>= λ xs. Ok (x.0 ++ xs)) = rw (k, some, is) refl in
+        let one : texts_behind form front (streams_at (stop - i) i bytes) ≡ texts_behind form front (s >>= λ x. streams_at (stop - (i + 1)) (i + 1) x.1 >>= λ xs. Ok (x.0 ++ xs)) = rw (k, some, is) refl in
         sym one ∙ so_far
 
-    pub stream_fails : (f : Fault) → Fails f (with_text front (stream_at i bytes)) → Fails f total
-    stream_fails f h = fails_through f (with_text front (stream_at i bytes)) total h (λ e. by_stream (stream_at i bytes) refl e)
+    pub stream_fails : (f : Fault) → Fails f (with_stream form front (stream_at i bytes)) → Fails f total
+    stream_fails f h = fails_through f (with_stream form front (stream_at i bytes)) total h (λ e. by_stream (stream_at i bytes) refl e)
       where
-        by_stream : (s : Result (List Line × List ℕ) Fault) → stream_at i bytes ≡ s → with_text front s ≡ Err f → total ≡ Err f
+        by_stream : (s : Result (List Line × List ℕ) Fault) → stream_at i bytes ≡ s → with_stream form front s ≡ Err f → total ≡ Err f
         by_stream (Ok x) is k = cc
         by_stream (Err d) is k = let same : d ≡ f = cc in sym (step (Err d) is) ∙ ap (λ (v : Fault). Err v) same
 
-    pub goes_on : (text after : List ℕ) → with_text front (stream_at i bytes) ≡ Ok (text, after) → texts_behind text (streams_at (stop - (i + 1)) (i + 1) after) ≡ total
+    pub goes_on : (text after : List ℕ) → with_stream form front (stream_at i bytes) ≡ Ok (text, after) → texts_behind form text (streams_at (stop - (i + 1)) (i + 1) after) ≡ total
     goes_on text after e = by_stream (stream_at i bytes) refl e
       where
-        by_stream : (s : Result (List Line × List ℕ) Fault) → stream_at i bytes ≡ s → with_text front s ≡ Ok (text, after) → texts_behind text (streams_at (stop - (i + 1)) (i + 1) after) ≡ total
+        by_stream : (s : Result (List Line × List ℕ) Fault) → stream_at i bytes ≡ s → with_stream form front s ≡ Ok (text, after) → texts_behind form text (streams_at (stop - (i + 1)) (i + 1) after) ≡ total
         by_stream (Err d) is k = cc
         by_stream (Ok (xs, rest)) is k =
-            let same = same_pair (front ++ flat_map whole_line xs, rest) (text, after) k in
-            subst (λ (y : List ℕ × List ℕ). texts_behind y.0 (streams_at (stop - (i + 1)) (i + 1) y.1) ≡ total) same
-            (sym (regroup front xs (streams_at (stop - (i + 1)) (i + 1) rest)) ∙ step (Ok (xs, rest)) is)
+            let same = same_pair (front ++ flat_map (formed form) xs, rest) (text, after) k in
+            subst (λ (y : List ℕ × List ℕ). texts_behind form y.0 (streams_at (stop - (i + 1)) (i + 1) y.1) ≡ total) same
+            (sym (regroup form front xs (streams_at (stop - (i + 1)) (i + 1) rest)) ∙ step (Ok (xs, rest)) is)

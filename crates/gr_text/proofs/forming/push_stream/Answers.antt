@@ -1,19 +1,19 @@
 use Rattle.std.proofs.Common.{arith}
 use Rattle.gr_record.specs.Laws.{AreBytes}
 use Rattle.gr_text.proofs.Streaming.{header_fails, records_fail, one_stream, header_found, events_found, runs_have_lines}
-use Rattle.gr_text.proofs.dumping.dump_stream.Goals as goal
+use Rattle.gr_text.proofs.forming.push_stream.Goals as goal
 
 pub returns-in-Err-clause-exact : goal.returns-in-Err-clause-exact
-returns-in-Err-clause-exact g c = rw c.of_stream.ensures.exact (header_fails c.args.text.now.items c.args.place c.args.bytes.now _ c.in-Err.ensures.exact)
+returns-in-Err-clause-exact g c = rw c.of_stream.ensures.exact (header_fails c.args.form c.args.output.now.items c.args.place c.args.bytes.now _ c.in-Err.ensures.exact)
 
-pub push_line-requires : goal.push_line-requires
-push_line-requires g c =
+pub push_first-requires : goal.push_first-requires
+push_first-requires g c =
     let fits : AreBytes c.args.bytes.now = λ i. let b = c.type_inv.bytes i in omega arith in
     (header_found c.args.bytes.now fits _ _ c.in-Ok.ensures.exact).header
 
 pub returns-in-Err-read_front_records-clause-exact : goal.returns-in-Err-read_front_records-clause-exact
 returns-in-Err-read_front_records-clause-exact g c =
-    rw c.of_stream-in-Err-read_front_records.ensures.exact (records_fail c.args.text.now.items c.args.place c.args.bytes.now _ _ c.in-Ok.ensures.exact _ c.in-Err-read_front_records.ensures)
+    rw c.of_stream-in-Err-read_front_records.ensures.exact (records_fail c.args.form c.args.output.now.items c.args.place c.args.bytes.now _ _ c.in-Ok.ensures.exact _ c.in-Err-read_front_records.ensures)
 
 pub push_events-requires : goal.push_events-requires
 push_events-requires g c =
@@ -24,4 +24,4 @@ push_events-requires g c =
 pub returns-clause-exact : goal.returns-clause-exact
 returns-clause-exact g c =
     let events = rw c.as_slice.ensures.value at c.in_ok-push_events.ensures in
-    rw (events, c.in_ok-push_line.ensures) (one_stream c.args.text.now.items c.args.place c.args.bytes.now _ _ c.in-Ok.ensures.exact _ _ c.in-Ok-read_front_records.ensures)
+    rw (events, c.in_ok-push_first.ensures) (one_stream c.args.form c.args.output.now.items c.args.place c.args.bytes.now _ _ c.in-Ok.ensures.exact _ _ c.in-Ok-read_front_records.ensures)

@@ -18,7 +18,7 @@ pub loop-rest-preserved : goal.loop-rest-preserved
 loop-rest-preserved g c =
     let so_far = rw c.split_line.ensures.lines at c.loop-rest.invariant.so_far in
     record {
-      so_far = rw c.in_ok-push_bytes.ensures (line_goes_on c.loop-rest.bytes.items (c.loop-rest.number + 1) c.loop-rest.place (packed c.args.text.now) c.split_line.result.0.now (lines_of c.split_line.result.1.now) so_far c.in_ok-said.said c.in_ok-said.behind (sym c.in_ok-said.ensures.exact));
+      so_far = rw (c.in_ok-push_bytes.ensures, c.version.ensures) (line_goes_on c.loop-rest.bytes.items (c.loop-rest.number + 1) c.loop-rest.place (packed c.args.text.now) c.split_line.result.0.now (lines_of c.split_line.result.1.now) so_far c.in_ok-said.said c.in_ok-said.behind (sym c.in_ok-said.ensures.exact));
       few = omega (arith, c.split_line.ensures.shorter, c.loop-rest.invariant.few);
     }
 
@@ -30,4 +30,4 @@ returns-in-Outside-clause-exact g c =
 pub returns-in-Inside-clause-exact : goal.returns-in-Inside-clause-exact
 returns-in-Inside-clause-exact g c =
     let so_far = rw (no_line c.loop-rest.rest.now (eqb-true _ _ (sym c.loop-rest-test.ensures))) at c.loop-rest.invariant.so_far in
-    over_inside c.loop-rest.bytes.items (c.loop-rest.number + 1) c.loop-rest.place (packed c.args.text.now) c.in-Inside.items c.in-Inside.left so_far c.in-Inside.is
+    over_inside c.loop-rest.bytes.items (c.loop-rest.number + 1) c.loop-rest.place (packed c.args.text.now) c.in-Inside.header c.in-Inside.left so_far c.in-Inside.is

@@ -1,11 +1,11 @@
 use Rattle.std.proofs.Common.{◌≡◌, ◌+◌, ◌≤◌, length}
 use Rattle.gr_text.specs.Lines.{lines_of}
-use Rattle.gr_text.specs.Texts.{said_from, packed}
+use Rattle.gr_text.specs.Texts.{version_at, said_from, packed}
 use Rattle.gr_text.proofs.Saying.{bytes_behind}
 use Rattle.gr_text.proofs.packing.pack_text.Given as goal
 
 abbrev pub invariant-loop-rest : goal.invariant-loop-rest
-invariant-loop-rest g l = record { so_far : bytes_behind l.bytes.items (said_from (l.number + 1) l.place (lines_of l.rest)) ≡ packed l.text; few : l.number + length l.rest ≤ length l.text }
+invariant-loop-rest g l = record { so_far : bytes_behind l.bytes.items (version_at l.place) (said_from (l.number + 1) l.place (lines_of l.rest)) ≡ packed l.text; few : l.number + length l.rest ≤ length l.text }
 
 abbrev pub decreases-loop-rest : goal.decreases-loop-rest
 decreases-loop-rest g l = length l.rest

@@ -1,7 +1,7 @@
 use Rattle.std.proofs.Common.{Option, Some, None, ap, ◌∙◌}
 use Rattle.std.specs.Prelude.{IfSome}
 use Rattle.gr_text.specs.Texts.{line_at}
-use Rattle.gr_text.proofs.Saying.{parsed_is_said, taken_is_said}
+use Rattle.gr_text.proofs.Saying.{parsed_is_said, taken_is_said, taken_has_room}
 use Rattle.gr_text.proofs.place.take_line.Goals as goal
 
 first_part : {X : Type 0} (o : Option X) (P Q : X → Type 0) → IfSome o (λ x. P x × Q x) → IfSome o P
@@ -13,3 +13,6 @@ returns-clause-exact c = c.take_said.ensures ∙ ap (line_at c.args.number c.arg
 
 pub returns-clause-said : goal.returns-clause-said
 returns-clause-said c = rw c.take_said.ensures (taken_is_said c.args.number c.args.place c.parse_line.result (first_part c.parse_line.result _ _ c.parse_line.ensures.found))
+
+pub returns-clause-room : goal.returns-clause-room
+returns-clause-room c = rw c.take_said.ensures (taken_has_room c.args.number c.args.place c.parse_line.result)
