@@ -358,12 +358,13 @@ impl<A: Allocator> World<A> {
         if !self.intakes[queue].has_room() {
             return Err(StepError::Full);
         }
-        match self.sent.take(group, event) {
+        let sent = Sent { group, event };
+        match self.sent.take(group, sent.event) {
             Ok(()) => {}
             Err(SeqError::Memory) => return Err(StepError::Memory),
             Err(_) => unreachable!(),
         }
-        self.intakes[queue].push(Sent { group, event });
+        self.intakes[queue].push(sent);
         Ok(())
     }
 

@@ -1,9 +1,6 @@
 use Rattle.std.proofs.Common.{rules, ◌≡◌, ◌+◌, ◌<◌, ◌≤◌, ◌∷◌, [], ◌++◌, ℕ, slice_index_or, suc, List, length, subst, sym, take, arith}
 use Rattle.std.proofs.lemmas.List.{take_all, take_more}
-use Rattle.gr_model.specs.declared.event.Kind.TheVariants.{Read}
-use Rattle.gr_model.specs.declared.event.Space.TheVariants.{Global}
 use Rattle.gr_world.specs.declared.step.Step.{Step}
-use Rattle.gr_world.specs.declared.step.Step.TheVariants.{Send}
 use Rattle.gr_world.specs.Steps.{Runs, made, nothing_tried, refused_once}
 use Rattle.gr_world.specs.Worlds.{World}
 use Rattle.gr_world.proofs.world.World.run.Goals as goal
@@ -15,25 +12,22 @@ loop-step-init g c = record { runs = nothing_tried; few = omega arith }
 pub overflow_add-refused : goal.overflow_add-refused
 overflow_add-refused g c = search (rules, c.loop-step.invariant.few)
 
--- the step that a loop over steps names where there is none
-abbrev no_step : Step
-no_step = Send 0 (record { item = 0; kind = Read; space = Global; word = 0; names = [] })
-
 -- one step more was tried
-more_made : (old w new : World) (steps : List Step) (i refused now : ℕ) → i < length steps → Runs old (take i steps ++ slice_index_or steps i no_step ∷ []) new refused → now ≡ refused → Runs old (take (i + 1) steps) new now
-more_made old w new steps i refused now lt runs is =
-    subst (λ n. Runs old (take (i + 1) steps) new n) (sym is) (subst (λ (l : List Step). Runs old l new refused) (sym (take_more steps i no_step lt)) runs)
+more_made : (old new : World) (steps : List Step) (i refused now : ℕ) (step : Step) → i < length steps → step ≡ slice_index_or steps i step → Runs old (take i steps ++ step ∷ []) new refused → now ≡ refused → Runs old (take (i + 1) steps) new now
+more_made old new steps i refused now step lt at runs is =
+    subst (λ n. Runs old (take (i + 1) steps) new n) (sym is)
+    (subst (λ (l : List Step). Runs old l new refused) (sym (take_more steps i step lt)) (subst (λ (x : Step). Runs old (take i steps ++ x ∷ []) new refused) at runs))
 
 pub loop-step-preserved : goal.loop-step-preserved
 loop-step-preserved g c = elim c.match-step.branch [
   | in-Ok v ↦ record {
-    runs = more_made c.args.self.now c.loop-step.self c.step.new.self c.args.steps.now c.loop-step.step-index c.loop-step.refused c.match-step.refused c.loop-step-test.true
-        (made (slice_index_or c.args.steps.now c.loop-step.step-index no_step) c.loop-step.invariant.runs v.in-Ok.ensures.step) v.refused-is;
+    runs = more_made c.args.self.now c.step.new.self c.args.steps.now c.loop-step.step-index c.loop-step.refused c.match-step.refused c.step-item.result c.loop-step-test.true c.step-item.is
+        (made c.step-item.result c.loop-step.invariant.runs v.in-Ok.ensures.step) v.refused-is;
     few = omega (arith, v.refused-is, c.loop-step.invariant.few);
   }
   | in-Err v ↦ record {
-    runs = more_made c.args.self.now c.loop-step.self c.step.new.self c.args.steps.now c.loop-step.step-index (suc c.loop-step.refused) c.match-step.refused c.loop-step-test.true
-        (subst (λ (w : World). Runs c.args.self.now (take c.loop-step.step-index c.args.steps.now ++ slice_index_or c.args.steps.now c.loop-step.step-index no_step ∷ []) w (suc c.loop-step.refused)) (sym v.in-Err.ensures.unchanged) (refused_once (slice_index_or c.args.steps.now c.loop-step.step-index no_step) v.in-Err.field-0 c.loop-step.invariant.runs v.in-Err.ensures.err))
+    runs = more_made c.args.self.now c.step.new.self c.args.steps.now c.loop-step.step-index (suc c.loop-step.refused) c.match-step.refused c.step-item.result c.loop-step-test.true c.step-item.is
+        (subst (λ (w : World). Runs c.args.self.now (take c.loop-step.step-index c.args.steps.now ++ c.step-item.result ∷ []) w (suc c.loop-step.refused)) (sym v.in-Err.ensures.unchanged) (refused_once c.step-item.result v.in-Err.field-0 c.loop-step.invariant.runs v.in-Err.ensures.err))
         (omega (arith, v.refused-is));
     few = omega (arith, v.refused-is, c.loop-step.invariant.few);
   }
