@@ -1,0 +1,5 @@
+pub mod Heads
+pub mod Bodies
+pub mod Shaping
+pub mod Feeding
+pub mod Running
