@@ -35,10 +35,12 @@ fn detected(alloc: Global) -> Result<Report, Fail> {
 /// The words of the races of a report are the global words 50 to 99.
 fn names_the_shared_words(report: &Report) -> bool {
     let races = report.races.as_slice();
-    for place in 0..races.len() {
-        if races[place] != Word::Global((place as u32).wrapping_add(50)) {
+    let mut number = 50_u32;
+    for race in races {
+        if *race != Word::Global(number) {
             return false;
         }
+        number = number.saturating_add(1);
     }
     races.len() == 50
 }
