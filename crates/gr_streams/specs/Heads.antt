@@ -1,12 +1,13 @@
 -- The headers of streams that come from an input each, which are read before the records of any.
 -- Source: docs/FORMATS.md, "Several streams".
-use Rattle.std.specs.Prelude.{◌≡◌, ℕ, ◌<◌, ◌==◌, not, List, [], ◌∷◌, ◌++◌, length, drop, map, slice_index_or, Option, Some, Result, Ok, Err, if◌then◌else◌}
+use Rattle.std.specs.Prelude.{◌≡◌, ℕ, ◌<◌, ◌≤◌, ◌==◌, not, List, [], ◌∷◌, ◌++◌, length, take, map, slice_index_or, Option, Some, Result, Ok, Err, if◌then◌else◌}
 use Rattle.std.specs.List.{list_any}
 use Rattle.std.specs.Io.KnownBytes.{prepend_known}
 use Rattle.gr_record.specs.declared.header.Header.{Header}
 use Rattle.gr_record.specs.declared.layout.TheConstants.{HEADER_LENGTH}
 use Rattle.gr_record.specs.declared.fault.Fault.{Fault}
 use Rattle.gr_record.specs.declared.fault.Fault.TheVariants as faults
+use Rattle.gr_record.specs.Reading.{header_at}
 use Rattle.gr_record.specs.WholeStreams.{front_header_at}
 use Rattle.gr_input.specs.Faults.{Fails}
 use Rattle.gr_replay.specs.Joined.{◌>>=◌, at_place}
@@ -31,8 +32,9 @@ heads_of inputs = heads_at [] inputs
 -- ---- streams whose headers were read
 
 -- the bytes begin with the header
-abbrev pub HasHeader : List ℕ → Header → Type 0
-HasHeader bytes h = front_header_at bytes ≡ Ok (h, drop HEADER_LENGTH bytes)
+pub record HasHeader (bytes : List ℕ) (h : Header) : Type 0 where
+  pub long : HEADER_LENGTH ≤ length bytes
+  pub header : header_at (take HEADER_LENGTH bytes) ≡ Ok h
 
 -- all bytes of a stream: what was read of it, and what its reader has left
 abbrev pub bytes_of : {X : Type 0} → (X → Option (List ℕ)) → Opened X → Option (List ℕ)
@@ -42,7 +44,7 @@ bytes_of remaining o = prepend_known o.head.items (remaining o.reader)
 pub record IsOpened {X : Type 0} (remaining : X → Option (List ℕ)) (seen : List Header) (bytes : List ℕ) (o : Opened X) : Type 0 where
   pub place : o.place ≡ length seen
   pub header : head_at seen bytes ≡ Ok o.header
-  pub bytes : bytes_of remaining o ≡ Some bytes
+  pub whole : bytes_of remaining o ≡ Some bytes
 
 -- the streams are those of the inputs, each at its place
 pub record AreOpened {X : Type 0} (remaining : X → Option (List ℕ)) (inputs : List (List ℕ)) (opened : List (Opened X)) : Type 0 where

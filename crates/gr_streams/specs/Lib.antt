@@ -3,3 +3,4 @@ pub mod Bodies
 pub mod Shaping
 pub mod Feeding
 pub mod Running
+pub mod Runs

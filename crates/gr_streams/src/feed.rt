@@ -4,7 +4,7 @@ ghost use Rattle.std.specs.Prelude.{◌≡◌, ◌++◌, ◌∷◌, [], ℕ, Lis
 ghost use Rattle.gr_streams.specs.Feeding.{FailsInThreads, GoesOn, IsFed, IsJudged, IsOver, IsReceiptOf, IsSameSender, IsSending, events_in, whole_at};
 ghost use Rattle.gr_streams.specs.Heads.{HasHeader, bytes_of};
 ghost use Rattle.gr_model.specs.Streams.{is_complete};
-ghost use Rattle.std.specs.Io.KnownBytes.{Consumes};
+ghost use Rattle.std.specs.Io.KnownBytes.{Consumes, prepend_known};
 
 use crate::head::Opened;
 use gr_model::event::{Event, Kind};
@@ -15,8 +15,8 @@ use gr_sender::receipt::Receipt;
 use gr_sender::sender::Sender;
 use std::alloc::Allocator;
 use std::io::Read;
-use std::sync::Wait;
 use std::sync::atomic::{AtomicBool, Ordering};
+use std::sync::{Arc, Wait};
 
 /// How often a reader is asked for bytes, at most.
 const MOST_READS: u64 = 4_294_967_296;
@@ -139,10 +139,10 @@ impl<A: Allocator> Feed<A> {
         match reader.read(&mut piece) {
             Err(_) => Some(Some(Fault::Read)),
             Ok(0) => Some(self.over(place)),
-            Ok(count) => match self.take(rt, alloc, &piece[..count], place) {
-                None => None,
-                Some(fault) => Some(Some(fault)),
-            },
+            Ok(count) => {
+                let fault = self.take(rt, alloc, &piece[..count], place);
+                if fault.is_some() { Some(fault) } else { None }
+            }
         }
     }
 
@@ -164,18 +164,50 @@ impl<A: Allocator> Feed<A> {
         }
         Some(Fault::Read)
     }
+
+    /// Sends the records of the stream at a place whose first bytes were read. Gives its fault, if it has one.
+    fn send_whole<R: Wait, B: Allocator + Copy, T: Read>(
+        &mut self,
+        rt: &R,
+        alloc: B,
+        head: &[u8],
+        reader: &mut T,
+        place: u64,
+    ) -> Option<Fault>
+        ensures same { IsSameSender self.old.sender self.new.sender }
+        ensures over { IsOver place (prepend_known head.now (T.remaining reader.old)) self.old.decoder self.old.sender.sent self.old.accepted self.new.sender.sent result }
+    {
+        let fault = self.take(rt, alloc, head, place);
+        if fault.is_some() {
+            return fault;
+        }
+        self.run(rt, alloc, reader, place)
+    }
 }
 
 /// Sends the end of a stream whose end was not sent: records of it are lost.
+fn close<R: Wait, A: Allocator>(rt: &R, sender: &mut Sender<A>)
+    ensures same { IsSameSender sender.old sender.new }
+    ensures closed { IsTrue (is_complete sender.new.sent) }
+    ensures unchanged { IsTrue (is_complete sender.old.sent) → sender.new.sent ≡ sender.old.sent }
+{
+    if sender.is_closed() {
+        return;
+    }
+    match sender.close_wait(rt, true) {
+        Ok(()) => {}
+        Err(_) => unreachable!(),
+    }
+}
+
+/// What is left of a stream that has been sent, or of which all was sent that could be.
 fn end<R: Wait, A: Allocator>(rt: &R, sender: Sender<A>, fault: Option<Fault>) -> Fed
     ensures receipt { IsReceiptOf sender result.receipt }
     ensures whole { IsTrue (is_complete sender.sent) → result.receipt.pushed ≡ sender.sent }
     ensures fault { result.fault ≡ fault }
 {
     let mut sender = sender;
-    if !sender.is_closed() {
-        let _ = sender.close_wait(rt, true);
-    }
+    close(rt, &mut sender);
     let Ok(receipt) = sender.into_receipt() else {
         unreachable!()
     };
@@ -189,7 +221,7 @@ pub(crate) fn feed_whole<R: Wait, A: Allocator, B: Allocator + Copy, T: Read + D
     alloc: B,
     opened: Opened<T>,
     sender: Sender<A>,
-    given_up: &AtomicBool,
+    given_up: &Arc<AtomicBool, A>,
 ) -> Fed
     requires sent { sender.sent ≡ [] }
     requires header { IfSome (bytes_of T.remaining opened) (λ bytes. HasHeader bytes opened.header) }
@@ -209,9 +241,6 @@ pub(crate) fn feed_whole<R: Wait, A: Allocator, B: Allocator + Copy, T: Read + D
         sender,
         accepted: true,
     };
-    let fault = match feed.take(rt, alloc, head.as_slice(), place) {
-        None => feed.run(rt, alloc, &mut reader, place),
-        Some(fault) => Some(fault),
-    };
+    let fault = feed.send_whole(rt, alloc, head.as_slice(), &mut reader, place);
     end(rt, feed.sender, fault)
 }

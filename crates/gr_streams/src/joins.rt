@@ -1,10 +1,9 @@
 //! The threads that read the streams of a run: all are started, and all are joined.
 
-ghost use Rattle.std.specs.Prelude.{◌≡◌, ◌≢◌, ◌≤◌, ◌<◌, [], ℕ, List, AllPairs, All, IfNone, IfSome, Some, length, map, vec_capacity, vec_len};
-ghost use Rattle.gr_detector.specs.Runs.{Run, AreSendersOf};
+ghost use Rattle.std.specs.Prelude.{◌≡◌, ◌≤◌, [], List, IfNone, IfSome, Some, vec_capacity, vec_len};
+ghost use Rattle.gr_detector.specs.Runs.{Run};
 ghost use Rattle.gr_streams.specs.declared.head.Opened.{Opened as AnyOpened};
-ghost use Rattle.gr_streams.specs.Heads.{HasHeader, bytes_of};
-ghost use Rattle.gr_streams.specs.Running.{AreJudged, ArePosted, AreReceiptsFor, AreAtPlaces};
+ghost use Rattle.gr_streams.specs.Running.{AreJoined, AreReady, Both, IsPostedIn};
 
 use crate::head::Opened;
 use crate::slots::take_sender;
@@ -33,7 +32,8 @@ pub(crate) fn post_all<
 ) -> Vec<Posted<T, A>, A>
     requires none { posted.items ≡ [] }
     requires room { vec_len streams ≤ vec_capacity posted }
-    ensures { (run : Run) → AreAtPlaces T.remaining run slots.old streams.items → ArePosted T.remaining run streams.items result.items }
+    requires ready { (run : Run) × AreReady T.remaining run slots.old streams.items }
+    ensures { (run : Run) → AreReady T.remaining run slots.old streams.items → Both (IsPostedIn T.remaining run) streams.items result.items }
 {
     let mut posted = posted;
     for stream in streams {
@@ -62,7 +62,7 @@ pub(crate) fn join_all<R: Threads, A: Allocator, T: Read + Drop>(
 ) -> (Vec<Receipt, A>, Option<Fault>)
     requires none { receipts.items ≡ [] }
     requires room { vec_len posted ≤ vec_capacity receipts }
-    ensures { (run : Run) (streams : List (AnyOpened T)) → ArePosted T.remaining run streams posted.items → AreJoined T.remaining run streams result.0.items result.1 }
+    ensures { (run : Run) (streams : List (AnyOpened T)) → Both (IsPostedIn T.remaining run) streams posted.items → AreJoined T.remaining run streams result.0.items result.1 }
 {
     let mut receipts = receipts;
     let mut fault = None;

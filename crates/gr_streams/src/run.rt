@@ -1,12 +1,18 @@
 //! From readers to a writer, by a run in threads.
 
-ghost use Rattle.std.specs.Prelude.{◌≡◌, ◌≢◌, IfErr, IfOk, IfSome, map};
+ghost use Rattle.std.specs.Prelude.{◌≡◌, ◌≢◌, ◌⊎◌, ◌≤◌, [], ℕ, List, AllPairs, All, IfErr, IfOk, IfSome, None, OnOk, Some, length, map, vec_capacity};
 ghost use Rattle.std.specs.Io.KnownBytes.{Appends, Keeps};
 ghost use Rattle.gr_record.specs.declared.fault.Fault.TheVariants as faults;
 ghost use Rattle.gr_replay.specs.Each.{all_known};
 ghost use Rattle.gr_report.specs.ReportText.{report_text};
 ghost use Rattle.gr_report.specs.Whole.{whole_of};
-ghost use Rattle.gr_streams.specs.Runs.{IsExactEach, IsRunFault, WritesFrontOfEach};
+ghost use Rattle.gr_detector.specs.Runs.{AreReceiptsOf, IsEachOnce, sent_by};
+ghost use Rattle.gr_model.specs.Reports.{IsReportOf};
+ghost use Rattle.gr_streams.specs.Bodies.{bodies_of};
+ghost use Rattle.gr_streams.specs.Feeding.{FailsInThreads};
+ghost use Rattle.gr_streams.specs.Heads.{HasHeader, bytes_of};
+ghost use Rattle.gr_streams.specs.Runs.{IsExactOfEach, IsJudgedTo, IsRunFault, IsStreamsFault, WritesFrontOfEach};
+ghost use Rattle.gr_streams.specs.Shaping.{AreSizesOf};
 
 use crate::head::{Opened, open_all};
 use crate::joins::{join_all, post_all};
@@ -45,6 +51,8 @@ fn room_for<T: Read + Drop, A: Allocator + Copy + Drop>(
     alloc: A,
     streams: usize,
 ) -> Result<Room<T, A>, Memory>
+    ensures empty { IfOk result (λ room. (room.slots.items ≡ []) × (room.posted.items ≡ []) × (room.receipts.items ≡ [])) }
+    ensures wide { IfOk result (λ room. (streams ≤ vec_capacity room.slots) × (streams ≤ vec_capacity room.posted) × (streams ≤ vec_capacity room.receipts)) }
 {
     let slots = Vec::with_capacity(alloc, streams)?;
     let posted = Vec::with_capacity(alloc, streams)?;
@@ -59,7 +67,9 @@ fn room_for<T: Read + Drop, A: Allocator + Copy + Drop>(
 }
 
 /// The fault of a run that was not started.
-fn fault_of_start(error: StartError) -> Fault {
+fn fault_of_start(error: StartError) -> Fault
+    ensures { (result ≡ faults.Memory) ⊎ (result ≡ faults.Threads) }
+{
     match error {
         StartError::Memory => Fault::Memory,
         StartError::Threads => Fault::Threads,
@@ -74,6 +84,11 @@ fn conclude<R: Threads, A: Allocator + Copy>(
     fault: Option<Fault>,
     given_up: bool,
 ) -> Result<Report<A>, Fault>
+    requires receipts { AreReceiptsOf running receipts.items }
+    requires once { IsEachOnce (length running.sizes) receipts.items }
+    ensures report { IfOk result (λ report. IsReportOf (sent_by running.sizes receipts.items) (whole_of report)) }
+    ensures sound { OnOk result (fault ≡ None) }
+    ensures fault { IfErr result (λ f. (f ≡ faults.Memory) ⊎ (f ≡ faults.Threads) ⊎ (fault ≡ Some f)) }
 {
     let finished = running.finish(rt, receipts);
     if given_up {
@@ -103,6 +118,12 @@ where
     A: Allocator + Copy + Send + Sync + Drop + 'static,
     T: Read + Send + Drop + 'static,
     V: Watch + Send + Sync + Drop + 'static,
+    requires apart { AllPairs (λ o p. o.header.group ≢ p.header.group) streams.items }
+    requires headers { All (λ o. IfSome (bytes_of T.remaining o) (λ bytes. HasHeader bytes o.header)) streams.items }
+    requires sizes { AreSizesOf (map (λ o. o.header) streams.items) shape }
+    ensures report { IfOk result (λ r. (inputs : List (List ℕ)) → map (bytes_of T.remaining) streams.items ≡ map Some inputs → IsJudgedTo (map (λ o. o.header) streams.items) inputs (whole_of r)) }
+    ensures fault { IfErr result (λ f. (inputs : List (List ℕ)) → map (bytes_of T.remaining) streams.items ≡ map Some inputs → FailsInThreads f (bodies_of (map (λ o. o.header) streams.items) inputs)) }
+    ensures unwritten { IfErr result (λ f. f ≢ faults.Write) }
 {
     let Room {
         slots,
@@ -117,7 +138,13 @@ where
     let mut slots = slots_of(senders, slots);
     let posted = post_all(rt, alloc, streams, &mut slots, posted, &given_up);
     let (receipts, fault) = join_all(&rt, posted, receipts);
-    conclude(&rt, running, receipts, fault, given_up.load(Ordering::SeqCst))
+    conclude(
+        &rt,
+        running,
+        receipts,
+        fault,
+        given_up.load(Ordering::SeqCst),
+    )
 }
 
 /// The report of the launch whose streams the readers have, one each.
@@ -133,6 +160,9 @@ where
     A: Allocator + Copy + Send + Sync + Drop + 'static,
     T: Read + Send + Drop + 'static,
     V: Watch + Send + Sync + Drop + 'static,
+    ensures report { IfOk result (λ r. IfSome (all_known (map T.remaining readers.items)) (λ inputs. IsExactOfEach inputs (whole_of r))) }
+    ensures fault { IfErr result (λ f. IfSome (all_known (map T.remaining readers.items)) (λ inputs. IsStreamsFault inputs f)) }
+    ensures unwritten { IfErr result (λ f. f ≢ faults.Write) }
 {
     let (headers, streams) = open_all(alloc, readers)?;
     let shape = shape_of(alloc, &headers)?;
@@ -163,6 +193,13 @@ where
     T: Read + Send + Drop + 'static,
     V: Watch + Send + Sync + Drop + 'static,
     W: Write,
+    ensures report { IfOk result (λ r. IfSome (all_known (map T.remaining readers.items)) (λ inputs. IsExactOfEach inputs (whole_of r))) }
+    ensures text { IfOk result (λ r. Appends (W.contents writer.old) (W.contents writer.new) (report_text (whole_of r))) }
+    ensures fault { IfErr result (λ f. IfSome (all_known (map T.remaining readers.items)) (λ inputs. IsRunFault inputs f)) }
+
+    // What a refusal leaves with the writer.
+    ensures untouched { IfErr result (λ f. f ≢ faults.Write → Keeps (W.contents writer.old) (W.contents writer.new)) }
+    ensures front { IfErr result (λ f. f ≡ faults.Write → IfSome (all_known (map T.remaining readers.items)) (λ inputs. WritesFrontOfEach inputs (W.contents writer.old) (W.contents writer.new))) }
 {
     let report = report_of(rt, alloc, readers, config, watch)?;
     match write(&report, writer) {

@@ -30,7 +30,9 @@ fn width_of(headers: &[Header]) -> u32
 fn items_of(headers: &[Header], group: u32) -> Option<u16>
     ensures { MatchOption result (¬ HasHeader headers.now group) (λ items. (h : AnyHeader) × Contains headers.now h × (h.group ≡ group) × (h.items ≡ items)) }
 {
-    let header = headers.iter().find(|header| u32::from(header.group) == group)?;
+    let header = headers
+        .iter()
+        .find(|header| u32::from(header.group) == group)?;
     Some(header.items)
 }
 

@@ -4,6 +4,8 @@ ghost use Rattle.std.specs.Prelude.{◌≡◌, ◌∷◌, [], IfSome};
 ghost use Rattle.gr_streams.specs.Feeding.{IsFed};
 ghost use Rattle.gr_streams.specs.Heads.{HasHeader, bytes_of};
 ghost use Rattle.gr_streams.specs.Running.{IsPosted};
+ghost use Rattle.gr_streams.specs.declared.head.Opened.{Opened as AnyOpened};
+ghost use Rattle.gr_sender.specs.Senders.{Sending};
 
 use crate::feed::{Fed, feed_whole};
 use crate::head::Opened;
@@ -76,6 +78,7 @@ pub(crate) fn post<
 impl<T: Read, A: Allocator> Posted<T, A> {
     /// Waits until the stream was read.
     pub(crate) fn join<R: Threads>(self, rt: &R) -> Fed
+        ensures { (opened : AnyOpened T) (sender : Sending) → IsPosted T.remaining opened sender self → IsFed sender opened.place opened.header (bytes_of T.remaining opened) result }
     {
         match self {
             Posted::Running(handle) => handle.join(rt),
