@@ -1,0 +1,92 @@
+//! Watches that wait inside a call until something else has happened.
+
+use gr_detector::Watch;
+use gr_model::event::Word;
+use std::sync::atomic::{AtomicU64, Ordering};
+use std::thread::yield_now;
+
+/// How many turns a test waits at most, each of which yields.
+const TURNS: u32 = 10_000_000;
+
+/// Waits until a counter is at least so great. Tells whether it came to that.
+pub fn came(counter: &AtomicU64, least: u64) -> bool {
+    for _ in 0..TURNS {
+        if counter.load(Ordering::SeqCst) >= least {
+            return true;
+        }
+        yield_now();
+    }
+    false
+}
+
+/// Counts races.
+#[derive(Drop)]
+pub struct Races {
+    pub seen: AtomicU64,
+}
+
+impl Watch for Races {
+    fn at_take(&self, _group: u16) {}
+
+    fn at_access(&self, _worker: u16) {}
+
+    fn at_race(&self, _worker: u16, _word: &Word) {
+        self.seen.fetch_add(1, Ordering::SeqCst);
+    }
+}
+
+/// Holds worker 0 at its accesses until worker 1 came to one.
+#[derive(Drop)]
+pub struct Apart {
+    pub seconds: AtomicU64,
+    pub missed: AtomicU64,
+}
+
+impl Watch for Apart {
+    fn at_take(&self, _group: u16) {}
+
+    fn at_access(&self, worker: u16) {
+        if worker == 1 {
+            self.seconds.fetch_add(1, Ordering::SeqCst);
+        } else if !came(&self.seconds, 1) {
+            self.missed.fetch_add(1, Ordering::SeqCst);
+        }
+    }
+
+    fn at_race(&self, _worker: u16, _word: &Word) {}
+}
+
+/// Holds the sequencer at its first take until an event was sent, and the worker at its first access until the sequencer
+/// has taken a second event.
+#[derive(Drop)]
+pub struct Turns {
+    pub sent: AtomicU64,
+    pub takes: AtomicU64,
+    pub accesses: AtomicU64,
+    pub missed: AtomicU64,
+}
+
+impl Turns {
+    /// Waits until a counter is at least so great, and notes where it does not come to that.
+    fn wait(&self, counter: &AtomicU64, least: u64) {
+        if !came(counter, least) {
+            self.missed.fetch_add(1, Ordering::SeqCst);
+        }
+    }
+}
+
+impl Watch for Turns {
+    fn at_take(&self, _group: u16) {
+        if self.takes.fetch_add(1, Ordering::SeqCst) == 0 {
+            self.wait(&self.sent, 1);
+        }
+    }
+
+    fn at_access(&self, _worker: u16) {
+        if self.accesses.fetch_add(1, Ordering::SeqCst) == 0 {
+            self.wait(&self.takes, 2);
+        }
+    }
+
+    fn at_race(&self, _worker: u16, _word: &Word) {}
+}

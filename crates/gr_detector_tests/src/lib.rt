@@ -1,0 +1,13 @@
+//! Tests alone: runs in threads, from their start to their reports, with what a watch sees of them.
+#![tactic(auto)]
+
+#[cfg(test)]
+mod counts;
+#[cfg(test)]
+mod gates;
+#[cfg(test)]
+mod runs;
+#[cfg(test)]
+mod senders;
+#[cfg(test)]
+mod tests;

@@ -1,0 +1,5 @@
+//! Runs in threads.
+
+mod receipts;
+mod two_senders;
+mod watches;

@@ -1,0 +1,6 @@
+pub mod Heads
+pub mod Bodies
+pub mod Shaping
+pub mod Feeding
+pub mod Running
+pub mod Runs

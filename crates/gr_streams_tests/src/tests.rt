@@ -1,0 +1,5 @@
+//! Streams from readers of several kinds.
+
+mod faults;
+mod meanwhile;
+mod reports;
