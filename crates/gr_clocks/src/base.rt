@@ -82,7 +82,7 @@ impl<A: Allocator> Base<A> {
     /// Makes this the count of an item.
     ///
     /// # Errors
-    /// `Memory`. The counts are then as they were.
+    /// `Memory`: out of memory. The counts are then as they were.
     pub(crate) fn set(&mut self, item: ItemId, count: u32) -> Result<(), ClockError>
     where
         A: Clone,

@@ -228,7 +228,7 @@ impl<A: Allocator> Group<A> {
 /// Counts one more event of an item in two memories, in both of which its own count can grow.
 ///
 /// # Errors
-/// `Memory`. The clocks are then as they were.
+/// `Memory`: out of memory. The clocks are then as they were.
 pub(crate) fn tick_clocks<A: Allocator + Clone>(
     one: &mut Group<A>,
     other: &mut Group<A>,

@@ -37,7 +37,7 @@ impl<A: Allocator + Copy> Tally<A> {
     /// The tally of a shape's items that has counted nothing.
     ///
     /// # Errors
-    /// `Memory`.
+    /// `Memory`: out of memory.
     pub fn new(alloc: A, shape: &Shape<A>) -> Result<Tally<A>, ClockError>
         ensures zero { IfOk result (λ c. IsZero shape.now c) }
         ensures memory { IsOkUnless result ClockError.Memory }

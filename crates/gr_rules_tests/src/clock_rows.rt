@@ -190,11 +190,11 @@ fn acquire<A: Allocator + Copy>(clocks: &mut Clocks<A>, place: u16, snapshot: &S
     ensures { clocks.new.sizes ≡ 2 ∷ [] }
 {
     let before = all_known(clocks);
-    if clocks.acquire(item(place), snapshot).is_ok() {
+    if clocks.acquire(item(place), &[snapshot]).is_ok() {
         return true;
     }
     let stay = all_known(clocks) == before;
-    clocks.acquire(item(place), snapshot).is_ok() && stay
+    clocks.acquire(item(place), &[snapshot]).is_ok() && stay
 }
 
 fn acquire_release<A: Allocator + Copy>(
@@ -209,14 +209,14 @@ fn acquire_release<A: Allocator + Copy>(
     ensures { clocks.new.sizes ≡ 2 ∷ [] }
 {
     let before = all_known(clocks);
-    if let Ok(left) = clocks.acquire_release(item(place), snapshot, word, Scope::Device) {
+    if let Ok(left) = clocks.acquire_release(item(place), &[snapshot], word, Scope::Device) {
         return Some(left);
     }
     if all_known(clocks) != before {
         return None;
     }
     clocks
-        .acquire_release(item(place), snapshot, word, Scope::Device)
+        .acquire_release(item(place), &[snapshot], word, Scope::Device)
         .ok()
 }
 

@@ -1,4 +1,4 @@
-//! The launch of the worked rows: one group of two items.
+//! The launches of the worked rows: one group of two items, or of three.
 
 ghost use Rattle.std.specs.Prelude.{◌≡◌, ◌∷◌, [], IfSome};
 
@@ -21,5 +21,16 @@ pub(crate) fn two_items<A: Allocator + Copy>(alloc: A) -> Option<Shape<A>>
         return Shape::new(sizes).ok();
     }
     let sizes = vec![in alloc; 2_u16].ok()?;
+    Shape::new(sizes).ok()
+}
+
+/// The shape of one group of three items.
+pub(crate) fn three_items<A: Allocator + Copy>(alloc: A) -> Option<Shape<A>>
+    ensures { IfSome result (λ s. s ≡ 3 ∷ []) }
+{
+    if let Ok(sizes) = vec![in alloc; 3_u16] {
+        return Shape::new(sizes).ok();
+    }
+    let sizes = vec![in alloc; 3_u16].ok()?;
     Shape::new(sizes).ok()
 }

@@ -8,6 +8,8 @@ mod clock_rows;
 #[cfg(test)]
 mod launch;
 #[cfg(test)]
+mod names_rows;
+#[cfg(test)]
 mod scope_rows;
 #[cfg(test)]
 mod sharing_rows;

@@ -1,6 +1,7 @@
 //! Which accesses are exempt from racing, and which releases and acquires synchronize, case by case.
 
 use gr_model::event::{Event, Kind, Order, Scope, Space};
+use gr_model::names::Names;
 use gr_scopes::access::pairs_with;
 use gr_scopes::class::{Class, exempt};
 use std::test::Fail;
@@ -70,7 +71,7 @@ const fn on_global(kind: Kind, word: u32) -> Event {
         kind,
         space: Space::Global,
         word,
-        name: None,
+        names: Names::none(),
     }
 }
 

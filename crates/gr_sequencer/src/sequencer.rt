@@ -53,7 +53,7 @@ impl<A: Allocator + Copy> Sequencer<A> {
     /// A sequencer of a launch of this shape, of which nothing was taken.
     ///
     /// # Errors
-    /// `Memory`.
+    /// `Memory`: out of memory.
     pub fn new(alloc: A, shape: Shape<A>) -> Result<Sequencer<A>, Memory>
         ensures { IfOk result (λ s. s ≡ nothing shape) }
     {
@@ -69,7 +69,7 @@ impl<A: Allocator + Copy> Sequencer<A> {
     /// The divergent instances with their causes, by group and then by instance.
     ///
     /// # Errors
-    /// `Memory`.
+    /// `Memory`: out of memory.
     pub fn divergences(&self) -> Result<Vec<Divergence, A>, Memory>
         ensures { IfOk result (λ v. Lists DivergenceBelow (IsDivergence self.now.taken) v.items) }
     {
@@ -79,7 +79,7 @@ impl<A: Allocator + Copy> Sequencer<A> {
     /// The groups whose streams were cut, ascending.
     ///
     /// # Errors
-    /// `Memory`.
+    /// `Memory`: out of memory.
     pub fn cut(&self) -> Result<Vec<u16, A>, Memory>
         ensures { IfOk result (λ v. Lists (λ (g h : ℕ). g < h) (IsCut self.now.taken) v.items) }
     {
@@ -89,7 +89,7 @@ impl<A: Allocator + Copy> Sequencer<A> {
     /// The unmatched acquires with their causes, by item and then by index. The sequencer is at its end.
     ///
     /// # Errors
-    /// `Memory`.
+    /// `Memory`: out of memory.
     pub fn unmatched(&self) -> Result<Vec<Unmatched, A>, Memory>
         requires rest { IsAtRest self.now.taken self.now.handled }
         ensures { IfOk result (λ v. Lists UnmatchedBelow (IsUnmatchedAcquire self.now.taken) v.items) }

@@ -1,10 +1,11 @@
 //! The worked rows: the records of a launch, and what is told of it once all of them were taken and no step is left.
 
 use gr_model::event::{Event, ItemId, Kind, Name, Order, Scope, Space};
+use gr_model::names::Names;
 use gr_model::report::{AcquireCause, DivergenceCause};
 
-/// A record: its group, its item, its kind, its memory, its word or site, and the release that it names.
-pub(crate) type Record = (u16, u16, Kind, Space, u32, Option<Name>);
+/// A record: its group, its item, its kind, its memory, its word or site, and the releases that it names.
+pub(crate) type Record = (u16, u16, Kind, Space, u32, &'static [Name]);
 
 /// A divergent instance: its group, its number and its cause.
 pub(crate) type Divergent = (u16, u32, DivergenceCause);
@@ -26,13 +27,17 @@ pub(crate) type Row = (&'static str, &'static [u16], &'static [Record], Told);
 
 /// The record as an event.
 pub(crate) fn event_of(record: &Record) -> Event {
-    let (_, item, kind, space, word, name) = *record;
+    let (_, item, kind, space, word, names) = *record;
+    let names = match Names::new(names) {
+        None => Names::none(),
+        Some(names) => names,
+    };
     Event {
         item,
         kind,
         space,
         word,
-        name,
+        names,
     }
 }
 
@@ -74,25 +79,36 @@ pub(crate) const END: Kind = Kind::End { cut: false };
 const CUT: Kind = Kind::End { cut: true };
 
 /// The first release of an item, by its group and its place.
-pub(crate) const FIRST_0_0: Option<Name> = Some(Name {
+pub(crate) const FIRST_0_0: &[Name] = &[Name {
     at: ItemId { group: 0, item: 0 },
     release: 0,
-});
+}];
 
-const FIRST_0_1: Option<Name> = Some(Name {
+const FIRST_0_1: &[Name] = &[Name {
     at: ItemId { group: 0, item: 1 },
     release: 0,
-});
+}];
 
-const FIRST_0_2: Option<Name> = Some(Name {
+const FIRST_0_0_AND_0_1: &[Name] = &[
+    Name {
+        at: ItemId { group: 0, item: 0 },
+        release: 0,
+    },
+    Name {
+        at: ItemId { group: 0, item: 1 },
+        release: 0,
+    },
+];
+
+const FIRST_0_2: &[Name] = &[Name {
     at: ItemId { group: 0, item: 2 },
     release: 0,
-});
+}];
 
-const FIRST_1_0: Option<Name> = Some(Name {
+const FIRST_1_0: &[Name] = &[Name {
     at: ItemId { group: 1, item: 0 },
     release: 0,
-});
+}];
 
 /// Nothing is told.
 pub(crate) const NOTHING: Told = ([None; 2], [None; 3], [None; 2], 0);
@@ -101,12 +117,12 @@ const HANDED_OVER: Row = (
     "a release hands over to another group",
     &[1, 1],
     &[
-        (0, 0, WRITE, GLOBAL, 16, None),
-        (0, 0, RELEASE, GLOBAL, 20, None),
-        (0, 0, END, GLOBAL, 0, None),
+        (0, 0, WRITE, GLOBAL, 16, &[]),
+        (0, 0, RELEASE, GLOBAL, 20, &[]),
+        (0, 0, END, GLOBAL, 0, &[]),
         (1, 0, ACQUIRE, GLOBAL, 20, FIRST_0_0),
-        (1, 0, READ, GLOBAL, 16, None),
-        (1, 0, END, GLOBAL, 0, None),
+        (1, 0, READ, GLOBAL, 16, &[]),
+        (1, 0, END, GLOBAL, 0, &[]),
     ],
     NOTHING,
 );
@@ -116,11 +132,11 @@ const HANDED_OVER_LAST_FIRST: Row = (
     &[1, 1],
     &[
         (1, 0, ACQUIRE, GLOBAL, 20, FIRST_0_0),
-        (1, 0, READ, GLOBAL, 16, None),
-        (1, 0, END, GLOBAL, 0, None),
-        (0, 0, WRITE, GLOBAL, 16, None),
-        (0, 0, RELEASE, GLOBAL, 20, None),
-        (0, 0, END, GLOBAL, 0, None),
+        (1, 0, READ, GLOBAL, 16, &[]),
+        (1, 0, END, GLOBAL, 0, &[]),
+        (0, 0, WRITE, GLOBAL, 16, &[]),
+        (0, 0, RELEASE, GLOBAL, 20, &[]),
+        (0, 0, END, GLOBAL, 0, &[]),
     ],
     NOTHING,
 );
@@ -129,12 +145,12 @@ const SCOPES_OF_A_GROUP: Row = (
     "a release of another group's scope",
     &[1, 1],
     &[
-        (0, 0, WRITE, GLOBAL, 16, None),
-        (0, 0, GROUP_RELEASE, GLOBAL, 20, None),
-        (0, 0, END, GLOBAL, 0, None),
+        (0, 0, WRITE, GLOBAL, 16, &[]),
+        (0, 0, GROUP_RELEASE, GLOBAL, 20, &[]),
+        (0, 0, END, GLOBAL, 0, &[]),
         (1, 0, GROUP_ACQUIRE, GLOBAL, 20, FIRST_0_0),
-        (1, 0, READ, GLOBAL, 16, None),
-        (1, 0, END, GLOBAL, 0, None),
+        (1, 0, READ, GLOBAL, 16, &[]),
+        (1, 0, END, GLOBAL, 0, &[]),
     ],
     NOTHING,
 );
@@ -143,11 +159,11 @@ const TWO_MEMORIES: Row = (
     "a release on a global word, accesses to a local one",
     &[2],
     &[
-        (0, 0, WRITE, LOCAL, 4, None),
-        (0, 0, RELEASE, GLOBAL, 20, None),
+        (0, 0, WRITE, LOCAL, 4, &[]),
+        (0, 0, RELEASE, GLOBAL, 20, &[]),
         (0, 1, ACQUIRE, GLOBAL, 20, FIRST_0_0),
-        (0, 1, READ, LOCAL, 4, None),
-        (0, 0, END, GLOBAL, 0, None),
+        (0, 1, READ, LOCAL, 4, &[]),
+        (0, 0, END, GLOBAL, 0, &[]),
     ],
     NOTHING,
 );
@@ -156,11 +172,11 @@ const LOCAL_FLAG: Row = (
     "a barrier that flags the local memory",
     &[2],
     &[
-        (0, 0, WRITE, GLOBAL, 16, None),
-        (0, 0, LOCAL_BARRIER, GLOBAL, 1, None),
-        (0, 1, LOCAL_BARRIER, GLOBAL, 1, None),
-        (0, 1, READ, GLOBAL, 16, None),
-        (0, 0, END, GLOBAL, 0, None),
+        (0, 0, WRITE, GLOBAL, 16, &[]),
+        (0, 0, LOCAL_BARRIER, GLOBAL, 1, &[]),
+        (0, 1, LOCAL_BARRIER, GLOBAL, 1, &[]),
+        (0, 1, READ, GLOBAL, 16, &[]),
+        (0, 0, END, GLOBAL, 0, &[]),
     ],
     NOTHING,
 );
@@ -169,11 +185,11 @@ const BOTH_FLAGS: Row = (
     "a barrier that flags both memories",
     &[2],
     &[
-        (0, 0, WRITE, GLOBAL, 16, None),
-        (0, 0, BARRIER, GLOBAL, 1, None),
-        (0, 1, BARRIER, GLOBAL, 1, None),
-        (0, 1, READ, GLOBAL, 16, None),
-        (0, 0, END, GLOBAL, 0, None),
+        (0, 0, WRITE, GLOBAL, 16, &[]),
+        (0, 0, BARRIER, GLOBAL, 1, &[]),
+        (0, 1, BARRIER, GLOBAL, 1, &[]),
+        (0, 1, READ, GLOBAL, 16, &[]),
+        (0, 0, END, GLOBAL, 0, &[]),
     ],
     NOTHING,
 );
@@ -182,11 +198,11 @@ const NO_FLAGS: Row = (
     "a barrier that flags no memory",
     &[2],
     &[
-        (0, 0, WRITE, GLOBAL, 16, None),
-        (0, 0, BARE_BARRIER, GLOBAL, 1, None),
-        (0, 1, BARE_BARRIER, GLOBAL, 1, None),
-        (0, 1, READ, GLOBAL, 16, None),
-        (0, 0, END, GLOBAL, 0, None),
+        (0, 0, WRITE, GLOBAL, 16, &[]),
+        (0, 0, BARE_BARRIER, GLOBAL, 1, &[]),
+        (0, 1, BARE_BARRIER, GLOBAL, 1, &[]),
+        (0, 1, READ, GLOBAL, 16, &[]),
+        (0, 0, END, GLOBAL, 0, &[]),
     ],
     NOTHING,
 );
@@ -195,14 +211,14 @@ const MISSING_ITEM: Row = (
     "an item never comes to the second barrier",
     &[3],
     &[
-        (0, 0, BARRIER, GLOBAL, 1, None),
-        (0, 1, BARRIER, GLOBAL, 1, None),
-        (0, 2, BARRIER, GLOBAL, 1, None),
-        (0, 0, WRITE, GLOBAL, 16, None),
-        (0, 0, BARRIER, GLOBAL, 2, None),
-        (0, 1, BARRIER, GLOBAL, 2, None),
-        (0, 1, READ, GLOBAL, 16, None),
-        (0, 0, END, GLOBAL, 0, None),
+        (0, 0, BARRIER, GLOBAL, 1, &[]),
+        (0, 1, BARRIER, GLOBAL, 1, &[]),
+        (0, 2, BARRIER, GLOBAL, 1, &[]),
+        (0, 0, WRITE, GLOBAL, 16, &[]),
+        (0, 0, BARRIER, GLOBAL, 2, &[]),
+        (0, 1, BARRIER, GLOBAL, 2, &[]),
+        (0, 1, READ, GLOBAL, 16, &[]),
+        (0, 0, END, GLOBAL, 0, &[]),
     ],
     (
         [Some((0, 1, DivergenceCause::Missing)), None],
@@ -216,9 +232,9 @@ const TWO_SITES: Row = (
     "two sites",
     &[2],
     &[
-        (0, 0, BARRIER, GLOBAL, 1, None),
-        (0, 1, BARRIER, GLOBAL, 2, None),
-        (0, 0, END, GLOBAL, 0, None),
+        (0, 0, BARRIER, GLOBAL, 1, &[]),
+        (0, 1, BARRIER, GLOBAL, 2, &[]),
+        (0, 0, END, GLOBAL, 0, &[]),
     ],
     (
         [Some((0, 0, DivergenceCause::Site)), None],
@@ -232,9 +248,9 @@ const TWO_FLAGS: Row = (
     "two flags",
     &[2],
     &[
-        (0, 0, BARRIER, GLOBAL, 1, None),
-        (0, 1, LOCAL_BARRIER, GLOBAL, 1, None),
-        (0, 0, END, GLOBAL, 0, None),
+        (0, 0, BARRIER, GLOBAL, 1, &[]),
+        (0, 1, LOCAL_BARRIER, GLOBAL, 1, &[]),
+        (0, 0, END, GLOBAL, 0, &[]),
     ],
     (
         [Some((0, 0, DivergenceCause::Flags)), None],
@@ -248,13 +264,13 @@ const NO_SUCH_RELEASE: Row = (
     "a release that is not there",
     &[1, 3],
     &[
-        (0, 0, END, GLOBAL, 0, None),
+        (0, 0, END, GLOBAL, 0, &[]),
         (1, 0, ACQUIRE, GLOBAL, 20, FIRST_0_0),
-        (1, 0, WRITE, GLOBAL, 16, None),
-        (1, 1, WRITE, GLOBAL, 24, None),
-        (1, 2, READ, GLOBAL, 24, None),
-        (1, 1, READ, GLOBAL, 16, None),
-        (1, 0, END, GLOBAL, 0, None),
+        (1, 0, WRITE, GLOBAL, 16, &[]),
+        (1, 1, WRITE, GLOBAL, 24, &[]),
+        (1, 2, READ, GLOBAL, 24, &[]),
+        (1, 1, READ, GLOBAL, 16, &[]),
+        (1, 0, END, GLOBAL, 0, &[]),
     ],
     (
         [None; 2],
@@ -269,11 +285,11 @@ const CROSSED_NAMES: Row = (
     &[1, 1],
     &[
         (0, 0, ACQUIRE, GLOBAL, 20, FIRST_1_0),
-        (0, 0, RELEASE, GLOBAL, 24, None),
-        (0, 0, END, GLOBAL, 0, None),
+        (0, 0, RELEASE, GLOBAL, 24, &[]),
+        (0, 0, END, GLOBAL, 0, &[]),
         (1, 0, ACQUIRE, GLOBAL, 24, FIRST_0_0),
-        (1, 0, RELEASE, GLOBAL, 20, None),
-        (1, 0, END, GLOBAL, 0, None),
+        (1, 0, RELEASE, GLOBAL, 20, &[]),
+        (1, 0, END, GLOBAL, 0, &[]),
     ],
     (
         [None; 2],
@@ -291,16 +307,16 @@ const TWO_HANDS: Row = (
     "a release to two items, and one of them to the first",
     &[3],
     &[
-        (0, 0, WRITE, GLOBAL, 16, None),
-        (0, 0, RELEASE, GLOBAL, 20, None),
+        (0, 0, WRITE, GLOBAL, 16, &[]),
+        (0, 0, RELEASE, GLOBAL, 20, &[]),
         (0, 1, ACQUIRE, GLOBAL, 20, FIRST_0_0),
-        (0, 1, READ, GLOBAL, 16, None),
+        (0, 1, READ, GLOBAL, 16, &[]),
         (0, 2, ACQUIRE, GLOBAL, 20, FIRST_0_0),
-        (0, 2, READ, GLOBAL, 16, None),
-        (0, 2, RELEASE, GLOBAL, 24, None),
+        (0, 2, READ, GLOBAL, 16, &[]),
+        (0, 2, RELEASE, GLOBAL, 24, &[]),
         (0, 0, ACQUIRE, GLOBAL, 24, FIRST_0_2),
-        (0, 0, WRITE, GLOBAL, 16, None),
-        (0, 0, END, GLOBAL, 0, None),
+        (0, 0, WRITE, GLOBAL, 16, &[]),
+        (0, 0, END, GLOBAL, 0, &[]),
     ],
     NOTHING,
 );
@@ -308,10 +324,7 @@ const TWO_HANDS: Row = (
 const CUT_STREAM: Row = (
     "a cut stream",
     &[1],
-    &[
-        (0, 0, WRITE, GLOBAL, 16, None),
-        (0, 0, CUT, GLOBAL, 0, None),
-    ],
+    &[(0, 0, WRITE, GLOBAL, 16, &[]), (0, 0, CUT, GLOBAL, 0, &[])],
     ([None; 2], [None; 3], [Some(0), None], 0),
 );
 
@@ -320,7 +333,7 @@ const ITS_OWN_NAME: Row = (
     &[1],
     &[
         (0, 0, BOTH, GLOBAL, 20, FIRST_0_0),
-        (0, 0, END, GLOBAL, 0, None),
+        (0, 0, END, GLOBAL, 0, &[]),
     ],
     (
         [None; 2],
@@ -330,13 +343,43 @@ const ITS_OWN_NAME: Row = (
     ),
 );
 
+const TWO_RELEASES: Row = (
+    "an acquire of two releases, of which one comes after it",
+    &[3],
+    &[
+        (0, 0, RELEASE, GLOBAL, 20, &[]),
+        (0, 2, ACQUIRE, GLOBAL, 20, FIRST_0_0_AND_0_1),
+        (0, 2, READ, GLOBAL, 16, &[]),
+        (0, 1, RELEASE, GLOBAL, 20, &[]),
+        (0, 0, END, GLOBAL, 0, &[]),
+    ],
+    NOTHING,
+);
+
+const ONE_OF_TWO_RELEASES: Row = (
+    "an acquire of two releases, of which one is on another word and one never comes",
+    &[3],
+    &[
+        (0, 0, RELEASE, GLOBAL, 24, &[]),
+        (0, 2, ACQUIRE, GLOBAL, 20, FIRST_0_0_AND_0_1),
+        (0, 2, READ, GLOBAL, 16, &[]),
+        (0, 0, END, GLOBAL, 0, &[]),
+    ],
+    (
+        [None; 2],
+        [Some((0, 2, 0, AcquireCause::Absent)), None, None],
+        [None; 2],
+        2,
+    ),
+);
+
 const ANOTHER_WORD: Row = (
     "a release on another word",
     &[2],
     &[
-        (0, 0, RELEASE, GLOBAL, 20, None),
+        (0, 0, RELEASE, GLOBAL, 20, &[]),
         (0, 1, ACQUIRE, GLOBAL, 24, FIRST_0_0),
-        (0, 0, END, GLOBAL, 0, None),
+        (0, 0, END, GLOBAL, 0, &[]),
     ],
     (
         [None; 2],
@@ -351,11 +394,11 @@ const BEHIND_A_BARRIER: Row = (
     &[2],
     &[
         (0, 0, ACQUIRE, GLOBAL, 20, FIRST_0_1),
-        (0, 0, BARRIER, GLOBAL, 1, None),
-        (0, 1, WRITE, GLOBAL, 16, None),
-        (0, 1, BARRIER, GLOBAL, 1, None),
-        (0, 1, RELEASE, GLOBAL, 20, None),
-        (0, 0, END, GLOBAL, 0, None),
+        (0, 0, BARRIER, GLOBAL, 1, &[]),
+        (0, 1, WRITE, GLOBAL, 16, &[]),
+        (0, 1, BARRIER, GLOBAL, 1, &[]),
+        (0, 1, RELEASE, GLOBAL, 20, &[]),
+        (0, 0, END, GLOBAL, 0, &[]),
     ],
     (
         [None; 2],
@@ -366,7 +409,7 @@ const BEHIND_A_BARRIER: Row = (
 );
 
 /// All rows.
-pub(crate) const ROWS: [Row; 17] = [
+pub(crate) const ROWS: [Row; 19] = [
     HANDED_OVER,
     HANDED_OVER_LAST_FIRST,
     SCOPES_OF_A_GROUP,
@@ -383,5 +426,7 @@ pub(crate) const ROWS: [Row; 17] = [
     CUT_STREAM,
     ITS_OWN_NAME,
     ANOTHER_WORD,
+    TWO_RELEASES,
+    ONE_OF_TWO_RELEASES,
     BEHIND_A_BARRIER,
 ];

@@ -16,11 +16,11 @@ fn acquire() -> Event {
 }
 
 fn release() -> Event {
-    event_of(&(0, 0, RELEASE, Space::Global, 20, None))
+    event_of(&(0, 0, RELEASE, Space::Global, 20, &[]))
 }
 
 fn end() -> Event {
-    event_of(&(0, 0, END, Space::Global, 0, None))
+    event_of(&(0, 0, END, Space::Global, 0, &[]))
 }
 
 /// The event that was handled, if one was.
@@ -63,7 +63,7 @@ fn acquire_before_its_release<A: Allocator + Copy>(sequencer: &mut Sequencer<A>)
 type Refusals = [Result<(), SeqError>; 3];
 
 fn seen_and_refused<A: Allocator + Copy>(sequencer: &mut Sequencer<A>) -> Option<(Seen, Refusals)> {
-    let of_nobody = event_of(&(1, 1, READ, Space::Global, 16, None));
+    let of_nobody = event_of(&(1, 1, READ, Space::Global, 16, &[]));
     let nobody = take(sequencer, 1, of_nobody)?;
     let seen = acquire_before_its_release(sequencer)?;
     let behind = take(sequencer, 0, release())?;

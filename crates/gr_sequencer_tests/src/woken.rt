@@ -36,7 +36,7 @@ fn take_acquires<A: Allocator + Copy>(sequencer: &mut Sequencer<A>) -> Option<()
 fn one_release<A: Allocator + Copy>(sequencer: &mut Sequencer<A>) -> Option<Seen> {
     take_acquires(sequencer)?;
     let before = step(sequencer)?.is_none();
-    let release = event_of(&(0, 0, RELEASE, Space::Global, 20, None));
+    let release = event_of(&(0, 0, RELEASE, Space::Global, 20, &[]));
     let _released = take(sequencer, 0, release)?.ok()?;
     let first = handled(&step(sequencer)?);
     let groups = three_groups(sequencer)?;

@@ -1,0 +1,148 @@
+//! Worked rows of acquires that name several releases, with each growth refused in turn: what they count behind it.
+
+ghost use Rattle.std.specs.Prelude.{◌≡◌, ◌<◌, ◌∷◌, [], All, IfSome, map};
+ghost use Rattle.gr_clocks.specs.Counts.{sizes_of};
+ghost use Rattle.gr_clocks.specs.ItemClocks.{AreOfOneWord};
+
+use crate::launch::{item, three_items};
+use gr_clocks::clocks::Clocks;
+use gr_clocks::snapshot::Snapshot;
+use gr_model::event::{Scope, Space, Word};
+use gr_model::shape::Shape;
+use refusing::Refusing;
+use std::alloc::Allocator;
+use std::test::Fail;
+
+/// The counts of three items in global memory, then in local memory.
+type Counts = [[u32; 3]; 2];
+
+fn new_clocks<A: Allocator + Copy>(alloc: A, shape: &Shape<A>) -> Option<Clocks<A>>
+    requires { shape.now ≡ 3 ∷ [] }
+    ensures { IfSome result (λ c. c.sizes ≡ 3 ∷ []) }
+{
+    if let Ok(clocks) = Clocks::new(alloc, shape) {
+        return Some(clocks);
+    }
+    Clocks::new(alloc, shape).ok()
+}
+
+/// The counts of an item's clocks.
+fn known<A: Allocator>(clocks: &Clocks<A>, place: u16) -> Counts
+    requires sizes { clocks.now.sizes ≡ 3 ∷ [] }
+    requires place { place < 3 }
+{
+    let global = clocks.clock_of(item(place), Space::Global);
+    let local = clocks.clock_of(item(place), Space::Local);
+    [
+        [
+            global.get(item(0)),
+            global.get(item(1)),
+            global.get(item(2)),
+        ],
+        [local.get(item(0)), local.get(item(1)), local.get(item(2))],
+    ]
+}
+
+/// Counts a release, again where a growth was refused, which changes nothing.
+fn release<A: Allocator + Copy>(
+    clocks: &mut Clocks<A>,
+    place: u16,
+    word: Word,
+) -> Option<Snapshot<A>>
+    requires sizes { clocks.old.sizes ≡ 3 ∷ [] }
+    requires place { place < 3 }
+    ensures sizes { clocks.new.sizes ≡ 3 ∷ [] }
+    ensures shape { IfSome result (λ s. sizes_of s.clock ≡ 3 ∷ []) }
+    ensures word { IfSome result (λ s. s.word ≡ word) }
+{
+    let before = known(clocks, place);
+    if let Ok(snapshot) = clocks.release(item(place), word, Scope::Device) {
+        return Some(snapshot);
+    }
+    if known(clocks, place) != before {
+        return None;
+    }
+    clocks.release(item(place), word, Scope::Device).ok()
+}
+
+/// Counts an acquire, again where a growth was refused, which changes nothing.
+fn acquire<A: Allocator + Copy>(
+    clocks: &mut Clocks<A>,
+    place: u16,
+    snapshots: &[&Snapshot<A>],
+) -> bool
+    requires sizes { clocks.old.sizes ≡ 3 ∷ [] }
+    requires place { place < 3 }
+    requires shapes { All (λ s. sizes_of s.now.clock ≡ 3 ∷ []) snapshots.now }
+    requires word { AreOfOneWord (map (λ s. s.now) snapshots.now) }
+    ensures { clocks.new.sizes ≡ 3 ∷ [] }
+{
+    let before = known(clocks, place);
+    if clocks.acquire(item(place), snapshots).is_ok() {
+        return true;
+    }
+    let stay = known(clocks, place) == before;
+    clocks.acquire(item(place), snapshots).is_ok() && stay
+}
+
+/// Items 0 and 1 each release the word, item 1 after a release of another one. Item 2 acquires the first release, both,
+/// and none: its counts behind each.
+fn acquires_of_two_releases<A: Allocator + Copy>(alloc: A, word: Word) -> Option<[Counts; 3]> {
+    let shape = three_items(alloc)?;
+    let mut clocks = new_clocks(alloc, &shape)?;
+    let first = release(&mut clocks, 0, word)?;
+    let _other = release(&mut clocks, 1, Word::Global(28))?;
+    let second = release(&mut clocks, 1, word)?;
+    if !acquire(&mut clocks, 2, &[&first]) {
+        return None;
+    }
+    let of_one = known(&clocks, 2);
+    if !acquire(&mut clocks, 2, &[&first, &second]) {
+        return None;
+    }
+    let of_both = known(&clocks, 2);
+    if !acquire(&mut clocks, 2, &[]) {
+        return None;
+    }
+    Some([of_one, of_both, known(&clocks, 2)])
+}
+
+const GLOBAL: [Counts; 3] = [
+    [[1, 0, 1], [0, 0, 1]],
+    [[1, 2, 2], [0, 0, 2]],
+    [[1, 2, 3], [0, 0, 3]],
+];
+
+const LOCAL: [Counts; 3] = [
+    [[0, 0, 1], [1, 0, 1]],
+    [[0, 0, 2], [1, 2, 2]],
+    [[0, 0, 3], [1, 2, 3]],
+];
+
+#[test]
+fn an_acquire_learns_from_all_releases_of_a_global_word(rt: HostRuntime) -> Result<(), Fail> {
+    for at in 0..1_000_u64 {
+        let heap = Refusing::new(rt.alloc(), at);
+        let seen = acquires_of_two_releases(&heap, Word::Global(20));
+        assert_eq!(rt; seen, Some(GLOBAL), "growth {at} refused");
+        if !heap.refused() {
+            assert!(rt; at > 0, "no growth was refused");
+            return Ok(());
+        }
+    }
+    Err("no end")?
+}
+
+#[test]
+fn an_acquire_learns_from_all_releases_of_a_local_word(rt: HostRuntime) -> Result<(), Fail> {
+    for at in 0..1_000_u64 {
+        let heap = Refusing::new(rt.alloc(), at);
+        let seen = acquires_of_two_releases(&heap, Word::Local(0, 20));
+        assert_eq!(rt; seen, Some(LOCAL), "growth {at} refused");
+        if !heap.refused() {
+            assert!(rt; at > 0, "no growth was refused");
+            return Ok(());
+        }
+    }
+    Err("no end")?
+}
