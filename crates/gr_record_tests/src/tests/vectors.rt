@@ -1,9 +1,9 @@
 //! Each vector of the format is written so, and read so.
 
-use gr_model::event::{Event, ItemId, Kind, Name, Order, Scope, Space, event_ok};
 use gr_lines::line::Line;
 use gr_lines::line_text::line_text;
 use gr_lines::parsing::parse_line;
+use gr_model::event::{Event, ItemId, Kind, Name, Order, Scope, Space, event_ok};
 use gr_model::limits::MOST_ITEMS_OF_A_GROUP;
 use gr_model::names::Names;
 use gr_record::decoder::Decoder;

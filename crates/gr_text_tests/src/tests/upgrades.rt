@@ -12,10 +12,10 @@ const FIRST_LONG: &str = "group 0 items 2 launch 7 v2\n0 w g 16\n1 r g 16\nend\n
 
 const NAMED: &str = "group 0 items 5 launch 7\n4 ld g 16 dev acq < 0 3 0\nend cut\n";
 
-const NAMED_LONG: &str =
-    "group 0 items 5 launch 7 v2\n4 ld g 16 dev acq < 0 3 0\nend cut\n";
+const NAMED_LONG: &str = "group 0 items 5 launch 7 v2\n4 ld g 16 dev acq < 0 3 0\nend cut\n";
 
-const FOUR: &str = "group 1 items 3 launch 7 v2\n2 rmw l 4 grp both < 0 0 0 < 0 0 1 < 0 1 0 < 3 0 0\nend\n";
+const FOUR: &str =
+    "group 1 items 3 launch 7 v2\n2 rmw l 4 grp both < 0 0 0 < 0 0 1 < 0 1 0 < 3 0 0\nend\n";
 
 fn packed(alloc: Global, text: &str) -> Result<Vec<u8>, Fault> {
     let mut bytes = Vec::new(alloc);
