@@ -16,9 +16,9 @@ use Rattle.gr_input.specs.Faults.{Fails}
 use Rattle.gr_text.specs.Writes.{Writes, WritesFront as WritesFrontOf}
 use Rattle.gr_input.proofs.Outside.{at_any}
 use Rattle.gr_text.specs.Texts.{packed}
-use Rattle.gr_text.specs.Dumps.{dumped}
+use Rattle.gr_text.specs.Dumps.{dumped, upgraded}
 use Rattle.gr_cli.specs.declared.arguments.Task.{Task}
-use Rattle.gr_cli.specs.declared.arguments.Task.TheVariants.{Replay, Pack, Dump}
+use Rattle.gr_cli.specs.declared.arguments.Task.TheVariants.{Replay, Pack, Dump, Upgrade}
 use Rattle.gr_model.specs.declared.event.Word.{Word}
 use Rattle.gr_show.specs.Opening.{IsFileFault, IsShownOfFiles, ShowsFrontOfFiles}
 use Rattle.gr_cli.specs.Answers.{IsAnswer, IsAnswerOf, IsDisplay, IsRewriting, IsTold}
@@ -86,6 +86,8 @@ no_memory Pack input old new old_errors new_errors status told =
     inr (Memory, record { fault = λ _. at_any input (λ bytes. Fails Memory (packed bytes)) (λ bytes. tt); told = told; front = λ h. absurd cc })
 no_memory Dump input old new old_errors new_errors status told =
     inr (Memory, record { fault = λ _. at_any input (λ bytes. Fails Memory (dumped bytes)) (λ bytes. tt); told = told; front = λ h. absurd cc })
+no_memory Upgrade input old new old_errors new_errors status told =
+    inr (Memory, record { fault = λ _. at_any input (λ bytes. Fails Memory (upgraded bytes)) (λ bytes. tt); told = told; front = λ h. absurd cc })
 
 -- what holds of the error that there is
 pub if_err : {X Y : Type 0} {P Q : Y → Type 0} (r : Result X Y) → ((y : Y) → P y → Q y) → IsErrAnd r P → IfErr r Q

@@ -8,7 +8,7 @@ use Rattle.clap.specs.declared.parser.matches.SubCommand.{SubCommand}
 use Rattle.clap.specs.Words.{App, HasMatchesOf, Text, is_simple, subcommand_name_of, subcommand_of, subcommand_rows, subcommand_rows_of, takes}
 use Rattle.clap.proofs.OnLiterals.{clap_on_literals}
 use Rattle.gr_cli.specs.declared.arguments.Task.{Task}
-use Rattle.gr_cli.specs.declared.arguments.Task.TheVariants.{Replay, Pack, Dump}
+use Rattle.gr_cli.specs.declared.arguments.Task.TheVariants.{Replay, Pack, Dump, Upgrade}
 use Rattle.clap.specs.Walk.{Row}
 use Rattle.gr_cli.specs.Questions.{command_of}
 use Rattle.gr_cli.specs.Words.{gpurace, name_of, AsksFor}
@@ -24,6 +24,7 @@ unfolding clap_on_literals
 command_is_taken Replay = refl
 command_is_taken Pack = refl
 command_is_taken Dump = refl
+command_is_taken Upgrade = refl
 
 gpurace_is_simple : is_simple gpurace ≡ true
 unfolding clap_on_literals
@@ -41,6 +42,7 @@ unfolding clap_on_literals
 command_is_met Replay = refl
 command_is_met Pack = refl
 command_is_met Dump = refl
+command_is_met Upgrade = refl
 
 -- the name is that of the rows
 name_from_rows : {Z : Type 0} (o : Option (Box SubCommand Z)) → option_map (λ b. (out-SubCommand (box_value b)).name.now) o ≡ option_map (λ p. p.0) (subcommand_rows o)
@@ -65,6 +67,7 @@ not_explain : (t : Task) → name_of t ≡ codes "explain" → ⊥
 not_explain Replay e = below 101 114 (sym (ap first_letter e)) (omega arith)
 not_explain Pack e = below 101 112 (sym (ap first_letter e)) (omega arith)
 not_explain Dump e = below 100 101 (ap first_letter e) (omega arith)
+not_explain Upgrade e = below 101 117 (sym (ap first_letter e)) (omega arith)
 
 module _ (command : App) (m : ArgMatches) (is : command ≡ gpurace) (words : List Text) (matches : HasMatchesOf command words m) where
   name_is_met : subcommand_name_of m ≡ met words

@@ -53,7 +53,7 @@ type Case = (
     u8,
 );
 
-const CASES: [Case; 45] = [
+const CASES: [Case; 48] = [
     ("a race", &["replay"], &RACE, REPORT, "", 1),
     ("a race, without a command", &[], &RACE, REPORT, "", 1),
     ("no race", &["replay"], &NO_RACE, CLEAN, "", 0),
@@ -126,6 +126,23 @@ const CASES: [Case; 45] = [
     ("the text of a race", &["dump"], &RACE, RACE_TEXT, "", 0),
     ("the text of nothing", &["dump"], &[], "", "", 0),
     ("the bytes of nothing", &["pack"], &[], "", "", 0),
+    ("nothing in version 2", &["upgrade"], &[], "", "", 0),
+    (
+        "a stream that is cut off in version 2",
+        &["upgrade"],
+        &CUT_OFF,
+        "",
+        "gpurace: stream 0: truncated\n",
+        2,
+    ),
+    (
+        "a word too many behind upgrade",
+        &["upgrade", "file"],
+        &RACE,
+        "",
+        "error: unexpected argument 'file' found",
+        3,
+    ),
     (
         "the text of a stream that is cut off",
         &["dump"],

@@ -325,9 +325,7 @@ fn parse_event(item: u16, bytes: &[u8]) -> Option<Event>
 fn check(event: Event) -> Option<Event>
     ensures { result ≡ checked event }
 {
-    if event.item < MOST_ITEMS_OF_A_GROUP
-        && order_fits(event.kind)
-    {
+    if event.item < MOST_ITEMS_OF_A_GROUP && order_fits(event.kind) {
         Some(event)
     } else {
         None

@@ -179,12 +179,7 @@ impl Decoder {
     /// Takes a whole record.
     /// Requires: the stream is to go on, and this header of it was read; no bytes are kept; `unit` has the bytes of a
     /// record; there is room for the part.
-    fn take_record<A: Allocator>(
-        &mut self,
-        header: Header,
-        unit: &[u8],
-        parts: &mut Vec<Part, A>,
-    )
+    fn take_record<A: Allocator>(&mut self, header: Header, unit: &[u8], parts: &mut Vec<Part, A>)
         requires place { (self.old.stop ≡ Inside) × (self.old.header ≡ Some header) × (self.old.held ≡ []) }
         requires whole { length unit.now ≡ record_length header.version }
         requires room { vec_len parts.old < vec_capacity parts.old }

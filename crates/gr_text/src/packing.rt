@@ -12,13 +12,13 @@ ghost use Rattle.gr_text.specs.Texts.{line_bytes, packed, HasRoom};
 
 use crate::lines::split_line;
 use crate::place::{Place, take_line};
+use gr_lines::line::Line;
 use gr_model::event::Event;
 use gr_model::memory::Memory;
 use gr_record::encoding::{encode_event, encode_event2, encode_header};
 use gr_record::fault::Fault;
 use gr_record::header::{Header, Version};
 use gr_record::layout::{HEADER_LENGTH, LONG_RECORD_LENGTH, RECORD_LENGTH};
-use gr_lines::line::Line;
 use std::alloc::Allocator;
 
 /// Adds the bytes of a record in a stream of this version.

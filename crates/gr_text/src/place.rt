@@ -5,12 +5,12 @@ ghost use Rattle.gr_lines.specs.LineLaws.{IsSaid};
 ghost use Rattle.gr_lines.specs.LineReading.{line_said};
 ghost use Rattle.gr_text.specs.Texts.{HasRoom, version_at, record_at, line_at};
 
+use gr_lines::line::Line;
+use gr_lines::parsing::parse_line;
 use gr_model::event::Event;
 use gr_model::limits::MOST_RECORDS;
 use gr_record::fault::Fault;
 use gr_record::header::{Header, Version};
-use gr_lines::line::Line;
-use gr_lines::parsing::parse_line;
 
 /// Where a line of a text stands.
 #[derive(Clone, Copy, Debug, PartialEq, Eq)]
@@ -34,12 +34,7 @@ impl Place {
 }
 
 /// The record at this line of a stream, and the place after it.
-fn take_event(
-    number: u64,
-    header: Header,
-    left: u32,
-    event: Event,
-) -> Result<(Line, Place), Fault>
+fn take_event(number: u64, header: Header, left: u32, event: Event) -> Result<(Line, Place), Fault>
     ensures { result ≡ record_at number header left event }
 {
     if event.item >= header.items || event.names.as_slice().len() > header.version.places() {
@@ -75,7 +70,9 @@ fn take_said(number: u64, place: Place, line: Option<Line>) -> Result<(Line, Pla
             take_event(number, header, left, event)
         }
         (Place::Outside, Some(Line::Event(_))) => Err(Fault::BadLine(number)),
-        (Place::Inside { header: _, left: _ }, Some(Line::Header(_))) => Err(Fault::BadLine(number)),
+        (Place::Inside { header: _, left: _ }, Some(Line::Header(_))) => Err(Fault::BadLine(
+            number,
+        )),
         (_, None) => Err(Fault::BadLine(number)),
     }
 }

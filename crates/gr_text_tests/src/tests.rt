@@ -5,3 +5,4 @@ mod growths;
 mod large;
 mod pairs;
 mod refused;
+mod upgrades;

@@ -1,13 +1,13 @@
 //! Each growth is refused in turn: a decoder then stands as before, and goes on once there is memory.
 
 use super::vectors::{LARGE_HEADER, vectors};
+use gr_lines::line::Line;
+use gr_lines::line_text::line_text;
 use gr_model::event::event_ok;
 use gr_model::limits::MOST_ITEMS_OF_A_GROUP;
 use gr_model::memory::Memory;
 use gr_record::decoder::Decoder;
 use gr_record::error::RecordError;
-use gr_record::line::Line;
-use gr_record::line_text::line_text;
 use gr_record::part::Part;
 use refusing::Refusing;
 use std::alloc::Global;

@@ -1,9 +1,9 @@
 //! What a decoder refuses, and that it goes on to refuse it.
 
 use super::vectors::HEADER;
+use gr_lines::parsing::parse_line;
 use gr_record::decoder::Decoder;
 use gr_record::error::RecordError;
-use gr_record::parsing::parse_line;
 use std::test::Fail;
 
 /// What is wrong, the bytes of a record, and the fault.

@@ -1,13 +1,14 @@
 //! Each vector of the format is written so, and read so.
 
+use gr_lines::line::Line;
+use gr_lines::line_text::line_text;
+use gr_lines::parsing::parse_line;
 use gr_model::event::{Event, ItemId, Kind, Name, Order, Scope, Space, event_ok};
 use gr_model::limits::MOST_ITEMS_OF_A_GROUP;
+use gr_model::names::Names;
 use gr_record::decoder::Decoder;
 use gr_record::encoding::{encode_event, encode_header};
-use gr_record::header::Header;
-use gr_record::line::Line;
-use gr_record::line_text::line_text;
-use gr_record::parsing::parse_line;
+use gr_record::header::{Header, Version};
 use gr_record::part::Part;
 use std::test::Fail;
 
@@ -27,17 +28,23 @@ fn plain(item: u16, kind: Kind, word: u32) -> Event {
         kind,
         space: Space::Global,
         word,
-        name: None,
+        names: Names::none(),
     }
+}
+
+/// One name; none where it is not in range.
+fn one_name(group: u16, item: u16, release: u32) -> Names {
+    let at = ItemId { group, item };
+    Names::new(&[Name { at, release }]).unwrap_or(Names::none())
 }
 
 fn named(event: Event, group: u16, item: u16, release: u32) -> Event {
     Event {
-        name: Some(Name {
-            at: ItemId { group, item },
-            release,
-        }),
-        ..event
+        item: event.item,
+        kind: event.kind,
+        space: event.space,
+        word: event.word,
+        names: one_name(group, item, release),
     }
 }
 
@@ -48,13 +55,7 @@ fn greatest() -> Event {
         kind: Kind::Rmw(Scope::Group, Order::Both),
         space: Space::Local,
         word: 4_294_967_295,
-        name: Some(Name {
-            at: ItemId {
-                group: 63,
-                item: 255,
-            },
-            release: 16_777_215,
-        }),
+        names: one_name(63, 255, 16_777_215),
     }
 }
 
@@ -126,6 +127,7 @@ pub(super) fn vectors() -> [Vector; 8] {
 #[test]
 fn a_header_is_written_and_read(rt: HostRuntime) -> Result<(), Fail> {
     let header = Header {
+        version: Version::One,
         group: 0,
         items: 2,
         launch: 7,
@@ -147,6 +149,7 @@ fn a_header_is_written_and_read(rt: HostRuntime) -> Result<(), Fail> {
 fn each_record_is_written_and_read(rt: HostRuntime) -> Result<(), Fail> {
     for (text, event, bytes) in vectors() {
         assert!(rt; event_ok(&event, MOST_ITEMS_OF_A_GROUP), "{text}");
+        assert!(rt; event.names.as_slice().len() <= 1, "{text}");
         let mut written = [0; 20];
         encode_event(&event, &mut written);
         assert!(rt; written == bytes, "{text}");

@@ -10,5 +10,6 @@ returns c =
     let above_is : app_of c.after_help.result ≡ record { top = alone; subs = [] } = rw (c.after_help.ensures, c.long_about.ensures, c.about.ensures, c.version.ensures, c.no_binary_name.ensures) (ap (λ (a : App). record { top = record a.top { no_binary_name = true; has_version = true }; subs = a.subs }) named) in
     let first : app_of c.in_ok-subcommand.field-0 ≡ with_subcommand (record { top = alone; subs = [] }) (command_named (codes "replay")) = c.in_ok-subcommand.ensures.shape c.plain_command-replay.ensures.alone ∙ ap₂ with_subcommand above_is c.plain_command-replay.ensures.shape in
     let second : app_of c.in_ok-subcommand-2.field-0 ≡ with_subcommand (with_subcommand (record { top = alone; subs = [] }) (command_named (codes "replay"))) (command_named (codes "pack")) = c.in_ok-subcommand-2.ensures.shape c.plain_command-pack.ensures.alone ∙ ap₂ with_subcommand first c.plain_command-pack.ensures.shape in
-    let third : app_of c.in_ok-subcommand-3.field-0 ≡ tasks = c.in_ok-subcommand-3.ensures.shape c.plain_command-dump.ensures.alone ∙ ap₂ with_subcommand second c.plain_command-dump.ensures.shape in
-    IfOk-weaker c.subcommand-4.result _ _ (λ command added. added.shape c.in_ok-explain.ensures.alone ∙ ap₂ with_subcommand third c.in_ok-explain.ensures.shape) c.subcommand-4.ensures
+    let third : app_of c.in_ok-subcommand-3.field-0 ≡ with_subcommand (with_subcommand (with_subcommand (record { top = alone; subs = [] }) (command_named (codes "replay"))) (command_named (codes "pack"))) (command_named (codes "dump")) = c.in_ok-subcommand-3.ensures.shape c.plain_command-dump.ensures.alone ∙ ap₂ with_subcommand second c.plain_command-dump.ensures.shape in
+    let fourth : app_of c.in_ok-subcommand-4.field-0 ≡ tasks = c.in_ok-subcommand-4.ensures.shape c.plain_command-upgrade.ensures.alone ∙ ap₂ with_subcommand third c.plain_command-upgrade.ensures.shape in
+    IfOk-weaker c.subcommand-5.result _ _ (λ command added. added.shape c.in_ok-explain.ensures.alone ∙ ap₂ with_subcommand fourth c.in_ok-explain.ensures.shape) c.subcommand-5.ensures

@@ -1,5 +1,5 @@
 use Rattle.gr_text.specs.Texts.{packed}
-use Rattle.gr_text.specs.Dumps.{dumped}
+use Rattle.gr_text.specs.Dumps.{dumped, upgraded}
 use Rattle.gr_cli.proofs.AnswerLemmas.{answer_of, rewriting_of}
 use Rattle.gr_cli.proofs.execute.perform.Goals as goal
 
@@ -23,3 +23,10 @@ returns-in-Dump g c =
     (rewriting_of dumped c.dump.result (g.R.Read.remaining c.args.reader.now) _ _ _ _ _
     c.dump.ensures.whole c.dump.ensures.fault c.dump.ensures.untouched c.dump.ensures.front
     c.conclude_rewriting-in-Dump.ensures.done c.conclude_rewriting-in-Dump.ensures.silent c.conclude_rewriting-in-Dump.ensures.fault c.conclude_rewriting-in-Dump.ensures.told)
+
+pub returns-in-Upgrade : goal.returns-in-Upgrade
+returns-in-Upgrade g c =
+    rw c.in-Upgrade.is
+    (rewriting_of upgraded c.upgrade.result (g.R.Read.remaining c.args.reader.now) _ _ _ _ _
+    c.upgrade.ensures.whole c.upgrade.ensures.fault c.upgrade.ensures.untouched c.upgrade.ensures.front
+    c.conclude_rewriting-in-Upgrade.ensures.done c.conclude_rewriting-in-Upgrade.ensures.silent c.conclude_rewriting-in-Upgrade.ensures.fault c.conclude_rewriting-in-Upgrade.ensures.told)
