@@ -1,2 +1,3 @@
 pub mod HeadLemmas
 pub mod FeedLemmas
+pub mod ShapeLemmas

@@ -16,6 +16,7 @@ use std::alloc::Allocator;
 fn width_of(headers: &[Header]) -> u32
     ensures all { (h : AnyHeader) → Contains headers.now h → h.group < result }
     ensures least { (g : ℕ) → g + 1 ≡ result → HasHeader headers.now g }
+    ensures small { result ≤ 65536 }
 {
     let mut width = 0;
     for header in headers {
