@@ -358,12 +358,16 @@ impl<A: Allocator> World<A> {
         if !self.intakes[queue].has_room() {
             return Err(StepError::Full);
         }
-        match self.sent.take(group, event) {
+        let record = &event;
+        match self.sent.take(group, *record) {
             Ok(()) => {}
             Err(SeqError::Memory) => return Err(StepError::Memory),
             Err(_) => unreachable!(),
         }
-        self.intakes[queue].push(Sent { group, event });
+        self.intakes[queue].push(Sent {
+            group,
+            event: *record,
+        });
         Ok(())
     }
 
