@@ -52,12 +52,13 @@ pub(crate) fn step<A: Allocator + Copy>(
     step: Step,
 ) -> Option<Result<(), StepError>> {
     let before = world.at_rest();
-    let mut answer = world.step(step);
+    let tried = &step;
+    let mut answer = world.step(*tried);
     if answer == Err(StepError::Memory) {
         if world.at_rest() != before {
             return None;
         }
-        answer = world.step(step);
+        answer = world.step(*tried);
     }
     if answer == Err(StepError::Memory) {
         return None;
