@@ -217,10 +217,10 @@ fn end<R: Wait, A: Allocator>(rt: &R, sender: Sender<A>, fault: Option<Fault>) -
 /// Reads a stream whose header was read, and sends its records: all of it, or up to its fault, where the stream that is sent
 /// is cut. Where the run is given up it reads nothing.
 pub(crate) fn feed_whole<R: Wait, A: Allocator, B: Allocator + Copy, T: Read + Drop>(
-    rt: &R,
-    alloc: B,
     opened: Opened<T>,
     sender: Sender<A>,
+    rt: &R,
+    alloc: B,
     given_up: &Arc<AtomicBool, A>,
 ) -> Fed
     requires sent { sender.sent ≡ [] }

@@ -58,13 +58,13 @@ pub(crate) fn post<
 {
     let Ok(theirs) = Arc::try_clone(given_up) else {
         given_up.store(true, Ordering::SeqCst);
-        return Posted::GivenUp(feed_whole(&rt, alloc, opened, sender, given_up));
+        return Posted::GivenUp(feed_whole(opened, sender, &rt, alloc, given_up));
     };
     let promise = OfStream(Snapshot::of(&opened), Snapshot::of(&sender));
     let started = spawn_with(
         &rt,
         promise,
-        move || feed_whole(&rt, alloc, opened, sender, &theirs),
+        move || feed_whole(opened, sender, &rt, alloc, &theirs),
     );
     match started {
         Ok(handle) => Posted::Running(handle),
