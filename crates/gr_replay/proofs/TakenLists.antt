@@ -29,10 +29,6 @@ set_twice (x ∷ xs) (suc i) a b = ap (λ ys. x ∷ ys) (set_twice xs i a b)
 abbrev with_lists : Streams → List (List Event) → Streams
 with_lists s lists = record { sizes = s.sizes; lists = lists }
 
--- the event that a loop over events names where there is none
-abbrev pub no_event : Event
-no_event = record { item = 0; kind = Read; space = Global; word = 0; name = None }
-
 -- ---- one list
 
 pub good_at : (items i : ℕ) (list : List Event) (d : Event) → IsAccepted items list → i < length list → IsEventButItem (get_or list i d)
