@@ -36,7 +36,7 @@ fn records_of<A: Allocator>(sequencer: &Sequencer<A>, groups: u16) -> u64
 /// The report of a launch of this shape, of which all was taken and all was handled that can be.
 ///
 /// # Errors
-/// `Memory`.
+/// `Memory`: out of memory.
 fn report_of<A: Allocator + Copy>(
     sequencer: &Sequencer<A>,
     shadows: &Shadows<A>,

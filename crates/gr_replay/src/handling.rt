@@ -15,7 +15,7 @@ use std::alloc::Allocator;
 /// Gives shadows the access of a step, if it has one.
 ///
 /// # Errors
-/// `Memory`.
+/// `Memory`: out of memory.
 fn shade<A: Allocator + Copy>(shadows: &mut Shadows<A>, step: Handled<A>) -> Result<(), Memory>
     ensures { (accesses : List ClockedAccess) → StandsFor accesses shadows.old → OnOk result (StandsFor (accesses ++ accesses_of step) shadows.new) }
 {
@@ -34,7 +34,7 @@ fn shade<A: Allocator + Copy>(shadows: &mut Shadows<A>, step: Handled<A>) -> Res
 /// Handles all events that can be handled, and gives the shadows their accesses.
 ///
 /// # Errors
-/// `Memory`.
+/// `Memory`: out of memory.
 pub(crate) fn handle_ready<A: Allocator + Copy>(
     sequencer: &mut Sequencer<A>,
     shadows: &mut Shadows<A>,

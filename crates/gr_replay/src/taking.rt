@@ -26,7 +26,7 @@ const ROUND: u32 = 4096;
 /// Has a sequencer take a record of a group, and at the end of a round handle what can be.
 ///
 /// # Errors
-/// `Memory`.
+/// `Memory`: out of memory.
 fn take_record<A: Allocator + Copy>(
     sequencer: &mut Sequencer<A>,
     shadows: &mut Shadows<A>,
@@ -58,7 +58,7 @@ fn take_record<A: Allocator + Copy>(
 /// Has a sequencer take the whole list of a group of which it has taken nothing.
 ///
 /// # Errors
-/// `Memory`.
+/// `Memory`: out of memory.
 fn take_list<A: Allocator + Copy>(
     sequencer: &mut Sequencer<A>,
     shadows: &mut Shadows<A>,
@@ -83,7 +83,7 @@ fn take_list<A: Allocator + Copy>(
 /// Has a sequencer that has taken nothing take all records of a launch, and handles all that can be.
 ///
 /// # Errors
-/// `Memory`.
+/// `Memory`: out of memory.
 pub(crate) fn take_traces<A: Allocator + Copy>(
     sequencer: &mut Sequencer<A>,
     shadows: &mut Shadows<A>,
@@ -106,7 +106,7 @@ pub(crate) fn take_traces<A: Allocator + Copy>(
 /// The same of streams, whose records are read group by group.
 ///
 /// # Errors
-/// `Memory`.
+/// `Memory`: out of memory.
 pub(crate) fn take_streams<A: Allocator + Copy>(
     alloc: A,
     sequencer: &mut Sequencer<A>,

@@ -114,7 +114,7 @@ pub(crate) fn findings<A: Allocator + Copy>(
 /// The report but for its races of a launch of this shape, of which a sequencer has taken all and has no step left.
 ///
 /// # Errors
-/// `Memory`.
+/// `Memory`: out of memory.
 fn report_of<A: Allocator + Copy>(
     alloc: A,
     shape: &Shape<A>,

@@ -38,7 +38,7 @@ impl<A: Allocator + Copy> Inlet<A> {
     /// The end of a new queue with room for so many events.
     ///
     /// # Errors
-    /// `Memory`.
+    /// `Memory`: out of memory.
     pub fn new(alloc: A, capacity: u32) -> Result<Inlet<A>, Memory>
         requires { (0 < capacity) × (capacity ≤ MOST_PLACES) }
         ensures { IfOk result (λ i. i ≡ record { queue = i.queue; popped = []; sizes = no_sizes; joined = [] }) }
@@ -51,7 +51,7 @@ impl<A: Allocator + Copy> Inlet<A> {
     /// The sender of a work-group with so many items, which has had none.
     ///
     /// # Errors
-    /// `Memory`. Nothing is then changed.
+    /// `Memory`: out of memory. Nothing is then changed.
     pub fn sender(&mut self, group: u16, items: u16) -> Result<Sender<A>, Memory>
         requires group { group < MOST_GROUPS }
         requires items { (0 < items) × (items ≤ MOST_ITEMS_OF_A_GROUP) }

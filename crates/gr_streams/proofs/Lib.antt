@@ -1,3 +1,0 @@
-pub mod HeadLemmas
-pub mod FeedLemmas
-pub mod ShapeLemmas

@@ -1,5 +1,0 @@
-//! Streams from readers of several kinds.
-
-mod faults;
-mod meanwhile;
-mod reports;
