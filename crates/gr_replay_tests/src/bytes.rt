@@ -38,6 +38,11 @@ pub(crate) const WRITE_0: [u8; 20] = [
     1, 0, 0, 0, 0, 0, 0, 0, 16, 0, 0, 0, 255, 255, 255, 255, 255, 255, 255, 255,
 ];
 
+/// Item 255 writes global word 16.
+pub(crate) const WRITE_255: [u8; 20] = [
+    1, 0, 0, 0, 255, 0, 0, 0, 16, 0, 0, 0, 255, 255, 255, 255, 255, 255, 255, 255,
+];
+
 /// Item 0 reads global word 16.
 pub(crate) const READ_0: [u8; 20] = [
     0, 0, 0, 0, 0, 0, 0, 0, 16, 0, 0, 0, 255, 255, 255, 255, 255, 255, 255, 255,
@@ -249,3 +254,44 @@ pub(crate) fn joined(alloc: Global, pieces: &[&[u8]]) -> Result<Vec<u8>, AllocEr
     }
     Ok(bytes)
 }
+
+/// Group 0 of 3 items, version 2.
+pub(crate) const LONG_HEADER_0_3: [u8; 12] = [71, 82, 84, 50, 0, 0, 3, 0, 7, 0, 0, 0];
+
+/// Group 1 of 1 item, version 2.
+pub(crate) const LONG_HEADER_1_1: [u8; 12] = [71, 82, 84, 50, 1, 0, 1, 0, 7, 0, 0, 0];
+
+// The bytes of records of version 2 before their names, and names and places that are not used.
+pub(crate) const FIELDS_WRITE_0_16: [u8; 12] = [1, 0, 0, 0, 0, 0, 0, 0, 16, 0, 0, 0];
+
+pub(crate) const FIELDS_STORE_0_20_DEVICE: [u8; 12] = [3, 0, 2, 3, 0, 0, 0, 0, 20, 0, 0, 0];
+
+pub(crate) const FIELDS_WRITE_1_24: [u8; 12] = [1, 0, 0, 0, 1, 0, 0, 0, 24, 0, 0, 0];
+
+pub(crate) const FIELDS_STORE_1_20_DEVICE: [u8; 12] = [3, 0, 2, 3, 1, 0, 0, 0, 20, 0, 0, 0];
+
+pub(crate) const FIELDS_STORE_1_20_GROUP: [u8; 12] = [3, 0, 1, 3, 1, 0, 0, 0, 20, 0, 0, 0];
+
+pub(crate) const FIELDS_LOAD_2_20_DEVICE: [u8; 12] = [2, 0, 2, 2, 2, 0, 0, 0, 20, 0, 0, 0];
+
+pub(crate) const FIELDS_LOAD_0_20_DEVICE: [u8; 12] = [2, 0, 2, 2, 0, 0, 0, 0, 20, 0, 0, 0];
+
+pub(crate) const FIELDS_READ_0_16: [u8; 12] = [0, 0, 0, 0, 0, 0, 0, 0, 16, 0, 0, 0];
+
+pub(crate) const FIELDS_READ_2_16: [u8; 12] = [0, 0, 0, 0, 2, 0, 0, 0, 16, 0, 0, 0];
+
+pub(crate) const FIELDS_READ_2_24: [u8; 12] = [0, 0, 0, 0, 2, 0, 0, 0, 24, 0, 0, 0];
+
+pub(crate) const FIELDS_END: [u8; 12] = [6, 0, 0, 0, 0, 0, 0, 0, 0, 0, 0, 0];
+
+pub(crate) const NAME_0_0_0: [u8; 8] = [0, 0, 0, 0, 0, 0, 0, 0];
+
+pub(crate) const NAME_0_1_0: [u8; 8] = [0, 0, 1, 0, 0, 0, 0, 0];
+
+pub(crate) const NAME_0_1_5: [u8; 8] = [0, 0, 1, 0, 5, 0, 0, 0];
+
+pub(crate) const TWO_UNUSED: [u8; 16] = [255; 16];
+
+pub(crate) const THREE_UNUSED: [u8; 24] = [255; 24];
+
+pub(crate) const NO_NAMES: [u8; 32] = [255; 32];

@@ -90,7 +90,7 @@ fn is_replayed<A: Allocator + Copy>(
 }
 
 /// Refuses each growth in turn, until none is refused; the row where the answer is wrong, if there is one.
-fn first_wrong_growth(alloc: Global, bytes: &[u8], lines: &str) -> Option<u64> {
+pub(crate) fn first_wrong_growth(alloc: Global, bytes: &[u8], lines: &str) -> Option<u64> {
     for at in 0..10_000_u64 {
         let heap = Refusing::new(alloc, at);
         let answer = is_replayed(&heap, alloc, bytes, lines);

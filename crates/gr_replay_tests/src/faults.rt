@@ -128,6 +128,10 @@ fn is_refused(alloc: Global, pieces: &[&[u8]], fault: Fault) -> Result<bool, All
     Ok(answer.err() == Some(fault) && text.is_empty())
 }
 
+/// What is written of 64 groups of 256 items, of which the first item reads word 16 and the last one writes it.
+const LARGEST: &str =
+    "gpurace 1\ngroups 64 items 16384 records 66\nrace global 16\nend races 1 diverge 0 unmatched 0 held 0\n";
+
 #[test]
 fn the_first_fault_is_told_and_nothing_is_written(rt: HostRuntime) -> Result<(), Fail> {
     for (name, pieces, fault) in RECORD_CASES {
@@ -142,18 +146,38 @@ fn the_first_fault_is_told_and_nothing_is_written(rt: HostRuntime) -> Result<(),
     Ok(())
 }
 
-#[test]
-fn too_many_items_come_behind_a_missing_group(rt: HostRuntime) -> Result<(), Fail> {
-    let mut bytes = Vec::new(rt.alloc());
-    for group in 0..9_u8 {
+/// The streams of groups of 256 items, from the first group to before the last, each with an end alone.
+fn put_empty_groups(bytes: &mut Vec<u8>, first: u8, last: u8) -> Result<(), AllocError> {
+    for group in first..last {
         bytes.extend_from_slice(&[71, 82, 84, 49, group, 0, 0, 1, 7, 0, 0, 0])?;
         bytes.extend_from_slice(&END)?;
     }
+    Ok(())
+}
+
+#[test]
+fn the_largest_launch_is_judged(rt: HostRuntime) -> Result<(), Fail> {
+    let mut bytes = Vec::new(rt.alloc());
+    bytes.extend_from_slice(&[71, 82, 84, 49, 0, 0, 0, 1, 7, 0, 0, 0])?;
+    bytes.extend_from_slice(&READ_0)?;
+    bytes.extend_from_slice(&END)?;
+    put_empty_groups(&mut bytes, 1, 63)?;
+    bytes.extend_from_slice(&[71, 82, 84, 49, 63, 0, 0, 1, 7, 0, 0, 0])?;
+    bytes.extend_from_slice(&WRITE_255)?;
+    bytes.extend_from_slice(&END)?;
     let mut text = Vec::new(rt.alloc());
     let answer = replay(rt.alloc(), &mut bytes.as_slice(), &mut text);
-    assert_eq!(rt; answer.err(), Some(Fault::Shape(ShapeError::TooManyItems)));
-    bytes.extend_from_slice(&[71, 82, 84, 49, 10, 0, 0, 1, 7, 0, 0, 0])?;
-    bytes.extend_from_slice(&END)?;
+    assert!(rt; answer.is_ok());
+    assert_eq!(rt; text.as_slice(), LARGEST.as_bytes());
+    Ok(())
+}
+
+#[test]
+fn the_group_behind_nine_is_missing(rt: HostRuntime) -> Result<(), Fail> {
+    let mut bytes = Vec::new(rt.alloc());
+    put_empty_groups(&mut bytes, 0, 9)?;
+    put_empty_groups(&mut bytes, 10, 11)?;
+    let mut text = Vec::new(rt.alloc());
     let answer = replay(rt.alloc(), &mut bytes.as_slice(), &mut text);
     assert_eq!(rt; answer.err(), Some(Fault::MissingGroup(9)));
     assert!(rt; text.is_empty());

@@ -14,6 +14,8 @@ mod faults;
 #[cfg(test)]
 mod large;
 #[cfg(test)]
+mod long;
+#[cfg(test)]
 mod orders;
 #[cfg(test)]
 mod reports;
