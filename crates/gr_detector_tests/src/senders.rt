@@ -4,6 +4,7 @@ ghost use Rattle.std.specs.Prelude.{◌≡◌, IfSome};
 ghost use Rattle.gr_detector_tests.specs.Senders.{IsReceiptOf, IsSameSender};
 
 use gr_model::event::{Event, Kind, Space};
+use gr_model::names::Names;
 use gr_sender::receipt::Receipt;
 use gr_sender::sender::Sender;
 use std::alloc::Allocator;
@@ -17,7 +18,7 @@ pub fn plain(item: u16, kind: Kind, word: u32) -> Event {
         kind,
         space: Space::Global,
         word,
-        name: None,
+        names: Names::none(),
     }
 }
 
