@@ -58,10 +58,10 @@ fn state<A: Allocator>(sequencer: &Sequencer<A>) -> ([u32; 3], u64, bool) {
 fn take_once<A: Allocator>(
     sequencer: &mut Sequencer<A>,
     group: u16,
-    event: Event,
+    event: &Event,
 ) -> Result<(), SeqError> {
-    if is_lawful(&event) && sequencer.taken(group) < 16_777_216 {
-        sequencer.take(group, event)
+    if is_lawful(event) && sequencer.taken(group) < 16_777_216 {
+        sequencer.take(group, *event)
     } else {
         Err(SeqError::Memory)
     }
@@ -73,12 +73,12 @@ pub(crate) fn take<A: Allocator>(
     event: Event,
 ) -> Option<Result<(), SeqError>> {
     let before = state(sequencer);
-    let mut answer = take_once(sequencer, group, event);
+    let mut answer = take_once(sequencer, group, &event);
     if answer == Err(SeqError::Memory) {
         if state(sequencer) != before {
             return None;
         }
-        answer = take_once(sequencer, group, event);
+        answer = take_once(sequencer, group, &event);
     }
     if answer == Err(SeqError::Memory) {
         return None;
