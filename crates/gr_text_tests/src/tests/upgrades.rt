@@ -51,7 +51,7 @@ fn streams_become_those_of_version_2(rt: HostRuntime) -> Result<(), Fail> {
 
 #[test]
 fn the_first_race_has_144_bytes(rt: HostRuntime) -> Result<(), Fail> {
-    let Ok(bytes) = packed(rt.alloc(), FIRST) else {
+    let Ok(mut bytes) = packed(rt.alloc(), FIRST) else {
         panic!(rt; "packed");
     };
     assert_eq!(rt; bytes.len(), 72);
@@ -60,8 +60,10 @@ fn the_first_race_has_144_bytes(rt: HostRuntime) -> Result<(), Fail> {
     };
     assert_eq!(rt; long.len(), 144);
     assert!(rt; long.as_slice().starts_with(b"GRT2"));
+    bytes.truncate(31);
     assert!(rt;
-        upgraded(rt.alloc(), &bytes[..31]).err() == Some(Fault::Stream(0, RecordError::Truncated))
+        upgraded(rt.alloc(), bytes.as_slice()).err()
+            == Some(Fault::Stream(0, RecordError::Truncated))
     );
     Ok(())
 }
