@@ -12,7 +12,7 @@ use Rattle.gr_model.specs.Barriers.{StandsIn, is_barrier, mark_of_kind}
 use Rattle.gr_model.specs.LawfulOrders.{IsIn}
 use Rattle.gr_model.specs.Names.{HasName, names_of, release_place}
 use Rattle.gr_lanes.specs.Takes.{CanTake, nothing_taken, with_record}
-use Rattle.gr_model.specs.Streams.{AreFronts, IsEvent, Streams, event_at, is_of, list_of, place_of, size_of, trace_of}
+use Rattle.gr_model.specs.Streams.{ArePrefixes, IsEvent, Streams, event_at, is_of, list_of, place_of, size_of, trace_of}
 use Rattle.gr_model.proofs.Places.{places_from-there, slice_get-append}
 use Rattle.gr_steps.specs.Steps.{CanMeet, IsReady}
 use Rattle.gr_steps.proofs.BarrierPlaces.{barrier_of, barrier_there}
@@ -166,7 +166,7 @@ module _ {Z : Type 0} (q : Sequence) (is : IsSequence q) (t t2 : Steps) (lists l
 
     own_item : (d : EventId) → IsEvent s d → d.at.group ≡ g → Has t2 (Item d.at)
     own_item d there own =
-        let within : d.at.item < size_of s g = subst (λ n. d.at.item < size_of s n) own (item_of_event s is.fronts d there.0 there.1) in
+        let within : d.at.item < size_of s g = subst (λ n. d.at.item < size_of s n) own (item_of_event s is.prefixes d there.0 there.1) in
         let here : record { group = g; item = d.at.item } ≡ d.at = λ i. record { group = sym own i; item = d.at.item } in
         subst (λ j. Has t2 (Item j)) here (items d.at.item within)
 
@@ -207,7 +207,7 @@ meet_behind q is e ready q2 step t there can =
     let path : q2 ≡ record { taken = q.taken; handled = q.handled ++ e ∷ [] } = λ i. record { taken = step.taken i; handled = step.handles.order i } in
     there
     (subst {A = Sequence} (λ p. CanMeet p.taken p.handled e.at.group) (sym path) can)
-    (subst (λ (s : Streams). e.at.item < size_of s e.at.group) (sym step.taken) (item_of_event q.taken is.fronts e ready.event.0 ready.event.1))
+    (subst (λ (s : Streams). e.at.item < size_of s e.at.group) (sym step.taken) (item_of_event q.taken is.prefixes e ready.event.0 ready.event.1))
 
 -- ---- a step is looked at that can't be made
 
@@ -284,16 +284,16 @@ module _ {Z : Type 0} (q : Sequence) (t t2 : Steps) (lists : List (Vec ItemId Z)
     kept_took q2 took = subst {A = Sequence} (λ p. IsKept p t2 lists) (sym took) (record { ready = taken_ready; waits = taken_waits })
 
   module _ (is : IsSequence q) (can : CanTake q.taken g x) (q2 : Sequence) (took : q2 ≡ taking q g x) where
-    pub took_wide : Has t2 (Group g) → AreFronts q2.taken → ((i : ℕ) → i < size_of q2.taken g → Has t2 (Item (record { group = g; item = i }))) → IsKept q2 t2 lists
-    took_wide group fronts items = kept_took (λ i. i.group ≡ g) (takes_wide q.taken g x is.fronts can q.handled is.lawful) (λ i. cases_eq i.group g) (λ i own. own) each (λ can. group) q2 took
+    pub took_wide : Has t2 (Group g) → ArePrefixes q2.taken → ((i : ℕ) → i < size_of q2.taken g → Has t2 (Item (record { group = g; item = i }))) → IsKept q2 t2 lists
+    took_wide group prefixes items = kept_took (λ i. i.group ≡ g) (takes_wide q.taken g x is.prefixes can q.handled is.lawful) (λ i. cases_eq i.group g) (λ i own. own) each (λ can. group) q2 took
       where
         each : (d : EventId) → IsEvent longer d → d.at.group ≡ g → Has t2 (Item d.at)
         each d there own =
             let new : IsEvent q2.taken d = subst (λ (p : Sequence). IsEvent p.taken d) (sym took) there in
-            let within : d.at.item < size_of q2.taken g = subst (λ n. d.at.item < size_of q2.taken n) own (item_of_event q2.taken fronts d new.0 new.1) in
+            let within : d.at.item < size_of q2.taken g = subst (λ n. d.at.item < size_of q2.taken n) own (item_of_event q2.taken prefixes d new.0 new.1) in
             let here : record { group = g; item = d.at.item } ≡ d.at = λ i. record { group = sym own i; item = d.at.item } in
             subst (λ j. Has t2 (Item j)) here (items d.at.item within)
 
     pub took_own : is_barrier x ≡ false → is_end x ≡ false → Has t2 (Item (record { group = g; item = x.item })) → IsKept q2 t2 lists
-    took_own plain ends item = kept_took (λ i. i ≡ record { group = g; item = x.item }) (takes_own q.taken g x is.fronts can plain ends q.handled is.lawful) (λ i. item_cases i (record { group = g; item = x.item })) (λ i own. ap (λ (j : ItemId). j.group) own) (λ d there own. subst (λ j. Has t2 (Item j)) (sym own) item)
-        (λ meets. keeps (Group g) (kept.ready (Group g) (own_meets q.taken g x is.fronts can plain ends q.handled is.lawful meets))) q2 took
+    took_own plain ends item = kept_took (λ i. i ≡ record { group = g; item = x.item }) (takes_own q.taken g x is.prefixes can plain ends q.handled is.lawful) (λ i. item_cases i (record { group = g; item = x.item })) (λ i own. ap (λ (j : ItemId). j.group) own) (λ d there own. subst (λ j. Has t2 (Item j)) (sym own) item)
+        (λ meets. keeps (Group g) (kept.ready (Group g) (own_meets q.taken g x is.prefixes can plain ends q.handled is.lawful meets))) q2 took

@@ -3,4 +3,4 @@ pub mod TakeFrames
 pub mod Named
 pub mod ListLemmas
 pub mod KeptLemmas
-pub mod CalmLemmas
+pub mod UndivergedLemmas

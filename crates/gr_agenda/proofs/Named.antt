@@ -14,10 +14,10 @@ use Rattle.gr_agenda.proofs.KeptLemmas.{passes_there}
 use Rattle.gr_model.proofs.Cuts.{same_event}
 use Rattle.gr_clocks.specs.Counts.{Counts, count_of}
 use Rattle.gr_steps.proofs.Orders.{number_before}
-use Rattle.gr_order.specs.States.{AreFirst}
+use Rattle.gr_order.specs.States.{AreBelowFrontier}
 use Rattle.gr_agenda.specs.Kept.{IsHeldUp, IsReleaseHandled}
 
-module _ (s : Streams) (handled : List EventId) (frontier : Counts) (first : AreFirst handled frontier) (d : EventId) (n : Name) (held : IsHeldUp s handled d n) where
+module _ (s : Streams) (handled : List EventId) (frontier : Counts) (first : AreBelowFrontier handled frontier) (d : EventId) (n : Name) (held : IsHeldUp s handled d n) where
   index_is : d.index ≡ count_of frontier d.at
   index_is =
       ⊎_elim
@@ -51,7 +51,7 @@ module _ (s : Streams) (handled : List EventId) (frontier : Counts) (first : Are
     next_there none = let within = subst (λ names. Contains names n) (ap (names_at s) next_is ∙ ap names_of none) held.named in omega (arith, within.1)
 
 -- where an instance of a group may meet, the next event of each of its items is a barrier
-module _ (s : Streams) (handled : List EventId) (frontier : Counts) (first : AreFirst handled frontier) (i : ItemId) (can : CanMeet s handled i.group) (lt : i.item < size_of s i.group) (index : ℕ) (is : index ≡ count_of frontier i) where
+module _ (s : Streams) (handled : List EventId) (frontier : Counts) (first : AreBelowFrontier handled frontier) (i : ItemId) (can : CanMeet s handled i.group) (lt : i.item < size_of s i.group) (index : ℕ) (is : index ≡ count_of frontier i) where
   pub barrier_next : (x : Event) × (event_at s (record { at = i; index = index }) ≡ Some x) × (is_barrier x ≡ true)
   barrier_next =
       let stands = (meets_next s handled frontier first i.group can.0 can.1 can.2).each i.item lt in

@@ -20,7 +20,7 @@ use Rattle.gr_model.specs.Events.{is_end}
 use Rattle.gr_model.specs.Instances.{Mark}
 use Rattle.gr_model.specs.LawfulOrders.{IsIn, IsLawful}
 use Rattle.gr_model.specs.Names.{HasName, MatchesBy, names_of, release_place}
-use Rattle.gr_model.specs.Streams.{AreFronts, Grows, IsEvent, Streams, event_at, is_complete, is_of, list_of, place_of, places_from, size_of, trace_of}
+use Rattle.gr_model.specs.Streams.{ArePrefixes, Grows, IsEvent, Streams, event_at, is_complete, is_of, list_of, place_of, places_from, size_of, trace_of}
 use Rattle.gr_model.specs.Waits.{for_release}
 use Rattle.gr_model.proofs.GrowthLaws.{convergent_grows, event_grows, stands_grows, stands_shrinks, trace_grows, waits_grows, word_grows}
 use Rattle.gr_model.proofs.Places.{places_from-append, places_from-within, slice_get-append}
@@ -128,12 +128,12 @@ module _ (s t : Streams) (h : List EventId) (T : ItemId → Type 0) (takes : Tak
 
 -- ---- one record more of a group
 
-module _ (s : Streams) (g : ℕ) (x : Event) (fronts : AreFronts s) (can : CanTake s g x) where
+module _ (s : Streams) (g : ℕ) (x : Event) (prefixes : ArePrefixes s) (can : CanTake s g x) where
   abbrev more : Streams
   more = with_record s g x
 
   here : list_of more g ≡ list_of s g ++ x ∷ []
-  here = get_or-set_same s.lists g (list_of s g ++ x ∷ []) [] (omega (arith, fronts.count, can.group))
+  here = get_or-set_same s.lists g (list_of s g ++ x ∷ []) [] (omega (arith, prefixes.count, can.group))
 
   other : (k : ℕ) → (k ≡ g → ⊥) → list_of more k ≡ list_of s k
   other k apart = get_or-set_other s.lists g k (list_of s g ++ x ∷ []) [] apart
@@ -147,7 +147,7 @@ module _ (s : Streams) (g : ℕ) (x : Event) (fronts : AreFronts s) (can : CanTa
   -- it touches at most the items of its group
   pub takes_wide : (h : List EventId) → IsLawful s h → Takes s more h (λ i. i.group ≡ g)
   takes_wide h lawful = record {
-    grows = record_grows s g x fronts can;
+    grows = record_grows s g x prefixes can;
     lawful = lawful;
     trace = other_trace;
     divergent = λ d k n apart stands. other_divergent k n (λ same. apart (stands.group ∙ same));
@@ -207,7 +207,7 @@ module _ (s : Streams) (g : ℕ) (x : Event) (fronts : AreFronts s) (can : CanTa
 
     pub takes_own : (h : List EventId) → IsLawful s h → Takes s more h (λ i. i ≡ own)
     takes_own h lawful = record {
-      grows = record_grows s g x fronts can;
+      grows = record_grows s g x prefixes can;
       lawful = lawful;
       trace = own_trace;
       divergent = λ d k n apart stands divergent. divergent_was k n divergent;

@@ -13,7 +13,7 @@ use Rattle.gr_order.specs.declared.steps.Ready.{Ready}
 use Rattle.gr_order.specs.declared.steps.Ready.TheVariants.{Item}
 use Rattle.gr_order.specs.Answers.{CanMake}
 use Rattle.gr_order.specs.Sequences.{Sequence}
-use Rattle.gr_order.specs.States.{AreFirst}
+use Rattle.gr_order.specs.States.{AreBelowFrontier}
 use Rattle.gr_agenda.specs.Lists.{Has, IsWaiting, Steps}
 
 -- the release of this name was handled
@@ -40,13 +40,13 @@ pub record IsKept {Z : Type 0} (q : Sequence) (t : Steps) (lists : List (Vec Ite
 
 -- the next event of an item is its barrier of this number
 abbrev pub IsNextBarrier : Sequence → ItemId → ℕ → Type 0
-IsNextBarrier q i k = (frontier : Counts) × AreFirst q.handled frontier × (place_of q.taken is_barrier i k ≡ Some (count_of frontier i))
+IsNextBarrier q i k = (frontier : Counts) × AreBelowFrontier q.handled frontier × (place_of q.taken is_barrier i k ≡ Some (count_of frontier i))
 
 -- of each group an instance that is not divergent, if one is told
-abbrev pub AreCalm : Streams → List (Option ℕ) → Type 0
-AreCalm s calm = (g k : ℕ) → slice_get calm g ≡ Some (Some k) → ¬ IsDivergent s g k
+abbrev pub AreUndiverged : Streams → List (Option ℕ) → Type 0
+AreUndiverged s undiverged = (g k : ℕ) → slice_get undiverged g ≡ Some (Some k) → ¬ IsDivergent s g k
 
 -- none is told of a group, and of the others none that was not
-pub record IsUnsettled (old : List (Option ℕ)) (g : ℕ) (new : List (Option ℕ)) : Type 0 where
+pub record IsForgotten (old : List (Option ℕ)) (g : ℕ) (new : List (Option ℕ)) : Type 0 where
   pub none : (k : ℕ) → slice_get new g ≢ Some (Some k)
   pub others : (h k : ℕ) → slice_get new h ≡ Some (Some k) → slice_get old h ≡ Some (Some k)

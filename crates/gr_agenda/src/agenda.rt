@@ -2,7 +2,7 @@
 //!
 //! Invariant: each step that can be made stands in the list, or memory was too short for one; each item whose next event
 //! names releases that were not handled stands in the list or among those that wait for one of these; and the instances that
-//! are called calm are not divergent.
+//! are marked undiverged are not divergent.
 
 ghost use Rattle.std.specs.Prelude.{◌≡◌, false, ◌↔◌, ◌<◌, ◌⊎◌, IfOk, IfErr, IfSome, IsSomeAnd, OnOk, OnErr, IsTrue, MatchOption, All, Contains, Some, length, slice_get, ℕ};
 ghost use Rattle.gr_model.specs.declared.event.EventId.{EventId as AnyEvent};
@@ -18,7 +18,7 @@ ghost use Rattle.gr_lanes.specs.Takes.{CanTake, IsEventButItem, IsTakeFault};
 ghost use Rattle.gr_steps.specs.Steps.{CanHandle, CanMeet, IsReady};
 ghost use Rattle.gr_order.specs.Answers.{CanMake};
 ghost use Rattle.gr_order.specs.Sequences.{HandlesEvent, IsDone, IsSequence, MeetsNext, nothing, taking};
-ghost use Rattle.gr_agenda.specs.Kept.{AreCalm, IsHeldUp, IsNextBarrier, IsNoted, IsReleaseHandled, IsUnsettled};
+ghost use Rattle.gr_agenda.specs.Kept.{AreUndiverged, IsHeldUp, IsNextBarrier, IsNoted, IsReleaseHandled, IsForgotten};
 ghost use Rattle.gr_agenda.specs.Lists.{Has, IsWaiting, KeepsSteps};
 
 use crate::todo::Todo;
@@ -44,18 +44,18 @@ pub struct Agenda<A: Allocator = Global> {
     todo: Todo<A>,
     waiting: Vec<Vec<ItemId, A>, A>,
     /// Of each group an instance that is known not to be divergent, if one is.
-    calm: Vec<Option<u32>, A>,
+    undiverged: Vec<Option<u32>, A>,
 }
 
 impl<A: Allocator> Model for Agenda<A> {
     ghost use Rattle.gr_order.specs.Sequences.{Sequence};
-    ghost use Rattle.gr_agenda.specs.Kept.{AreCalm, IsKept};
+    ghost use Rattle.gr_agenda.specs.Kept.{AreUndiverged, IsKept};
 
     ghost Value = { Sequence };
 
     ghost view = { λ a. a.order };
 
-    ghost invariant = { λ a. IsKept a.order a.todo a.waiting.items × AreCalm a.order.taken a.calm.items };
+    ghost invariant = { λ a. IsKept a.order a.todo a.waiting.items × AreUndiverged a.order.taken a.undiverged.items };
 }
 
 /// Whether a record changes what the other items of its group wait for: a barrier or an end.
@@ -195,20 +195,20 @@ fn is_number(told: Option<u32>, number: u32) -> bool
     told == Some(number)
 }
 
-/// The instance of a group that is called calm, if there is one.
-fn calm_of(calm: &[Option<u32>], group: u16) -> Option<u32>
-    ensures { IfSome result (λ k. slice_get calm.now group ≡ Some (Some k)) }
+/// The instance of a group that is marked undiverged, if there is one.
+fn undiverged_of(undiverged: &[Option<u32>], group: u16) -> Option<u32>
+    ensures { IfSome result (λ k. slice_get undiverged.now group ≡ Some (Some k)) }
 {
-    match calm.get(usize::from(group)) {
+    match undiverged.get(usize::from(group)) {
         None => None,
         Some(told) => *told,
     }
 }
 
-/// Calls the instance calm at whose barrier an item stands that can't go on.
-fn calm_down<A: Allocator>(order: &Order<A>, calm: &mut Vec<Option<u32>, A>, step: Ready)
+/// Marks the instance undiverged at whose barrier an item stands that can't go on.
+fn mark_undiverged<A: Allocator>(order: &Order<A>, undiverged: &mut Vec<Option<u32>, A>, step: Ready)
     requires { ¬ CanMake order.now step }
-    ensures { AreCalm order.now.taken calm.old.items → AreCalm order.now.taken calm.new.items }
+    ensures { AreUndiverged order.now.taken undiverged.old.items → AreUndiverged order.now.taken undiverged.new.items }
 {
     let _taken = order.lanes();
     match step {
@@ -218,8 +218,8 @@ fn calm_down<A: Allocator>(order: &Order<A>, calm: &mut Vec<Option<u32>, A>, ste
             match next_barrier(order, item) {
                 None => {}
                 Some(instance) => {
-                    if place < calm.len() {
-                        calm[place] = Some(instance);
+                    if place < undiverged.len() {
+                        undiverged[place] = Some(instance);
                     }
                 }
             }
@@ -227,13 +227,13 @@ fn calm_down<A: Allocator>(order: &Order<A>, calm: &mut Vec<Option<u32>, A>, ste
     }
 }
 
-/// Calls no instance of a group calm.
-fn unsettle<A: Allocator>(calm: &mut Vec<Option<u32>, A>, group: u16)
-    ensures { IsUnsettled calm.old.items group calm.new.items }
+/// Marks no instance of a group undiverged.
+fn forget_undiverged<A: Allocator>(undiverged: &mut Vec<Option<u32>, A>, group: u16)
+    ensures { IsForgotten undiverged.old.items group undiverged.new.items }
 {
     let place = usize::from(group);
-    if place < calm.len() {
-        calm[place] = None;
+    if place < undiverged.len() {
+        undiverged[place] = None;
     }
 }
 
@@ -247,14 +247,14 @@ impl<A: Allocator + Copy> Agenda<A> {
     {
         let todo = Todo::new(alloc)?;
         let waiting = no_lists(alloc)?;
-        let mut calm = Vec::with_capacity(alloc, GROUPS)?;
-        calm.resize(GROUPS, None)?;
+        let mut undiverged = Vec::with_capacity(alloc, GROUPS)?;
+        undiverged.resize(GROUPS, None)?;
         let order = Order::new(alloc, shape)?;
         Ok(Agenda {
             order,
             todo,
             waiting,
-            calm,
+            undiverged,
         })
     }
 }
@@ -290,7 +290,7 @@ impl<A: Allocator> Agenda<A> {
         let _taken = self.order.lanes();
         self.order.take(group, event)?;
         if wide {
-            unsettle(&mut self.calm, group);
+            forget_undiverged(&mut self.undiverged, group);
             self.todo.put(Ready::Group(group));
             put_items(
                 &mut self.todo,
@@ -336,12 +336,12 @@ impl<A: Allocator> Agenda<A> {
         );
     }
 
-    /// Whether an item stands at a barrier of an instance that is calm.
-    fn is_calm_at(&self, item: ItemId) -> bool
+    /// Whether an item stands at a barrier of an instance that is marked undiverged.
+    fn is_undiverged_at(&self, item: ItemId) -> bool
         ensures { IsTrue result → ¬ CanHandle self.now.taken self.now.handled item }
     {
         let _taken = self.order.lanes();
-        match calm_of(&self.calm, item.group) {
+        match undiverged_of(&self.undiverged, item.group) {
             None => false,
             Some(instance) => is_number(next_barrier(&self.order, item), instance),
         }
@@ -352,7 +352,7 @@ impl<A: Allocator> Agenda<A> {
         ensures { IsTrue result ↔ CanMake self.now step }
     {
         match step {
-            Ready::Item(item) => !self.is_calm_at(item) && self.order.next(item).is_some(),
+            Ready::Item(item) => !self.is_undiverged_at(item) && self.order.next(item).is_some(),
             Ready::Group(group) => self.order.meeting(group).is_some(),
         }
     }
@@ -369,7 +369,7 @@ impl<A: Allocator> Agenda<A> {
         if self.can_make(step) {
             return Some(step);
         }
-        calm_down(&self.order, &mut self.calm, step);
+        mark_undiverged(&self.order, &mut self.undiverged, step);
         match note(&self.order, &mut self.waiting, step) {
             Ok(()) => self.todo.drop_last(),
             Err(_) => self.todo.miss(),

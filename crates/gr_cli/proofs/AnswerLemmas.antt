@@ -5,23 +5,23 @@ use Rattle.std.specs.Io.KnownBytes.{Appends, Keeps}
 use Rattle.gr_record.specs.declared.fault.Fault.{Fault}
 use Rattle.gr_record.specs.declared.fault.Fault.TheVariants.{Write, Memory}
 use Rattle.gr_report.specs.declared.report.Report.{Report}
-use Rattle.gr_report.specs.Putting.{AppendsFront}
+use Rattle.gr_report.specs.Putting.{AppendsPrefix}
 use Rattle.gr_report.specs.ReportText.{report_text}
 use Rattle.gr_report.specs.FaultText.{fault_line}
 use Rattle.gr_report.specs.Whole.{whole_of}
-use Rattle.gr_replay.specs.Replays.{IsExact, IsReplayFault, WritesFront}
+use Rattle.gr_replay.specs.Replays.{IsExact, IsReplayFault, WritesPrefix}
 use Rattle.clap.specs.Words.{FailsBy, HasKind, IsAmong, Kinds}
 use Rattle.clap.specs.declared.error.Error.{Error}
 use Rattle.gr_input.specs.Faults.{Fails}
-use Rattle.gr_text.specs.Writes.{Writes, WritesFront as WritesFrontOf}
+use Rattle.gr_text.specs.Writes.{Writes, WritesPrefix as WritesPrefixOf}
 use Rattle.gr_input.proofs.Outside.{at_any}
 use Rattle.gr_text.specs.Texts.{packed}
 use Rattle.gr_text.specs.Dumps.{dumped, upgraded}
 use Rattle.gr_cli.specs.declared.arguments.Task.{Task}
 use Rattle.gr_cli.specs.declared.arguments.Task.TheVariants.{Replay, Pack, Dump, Upgrade}
 use Rattle.gr_model.specs.declared.event.Word.{Word}
-use Rattle.gr_show.specs.Opening.{IsFileFault, IsShownOfFiles, ShowsFrontOfFiles}
-use Rattle.gr_cli.specs.Answers.{IsAnswer, IsAnswerOf, IsDisplay, IsRewriting, IsTold}
+use Rattle.gr_show.specs.Opening.{IsFileFault, IsShownOfFiles, ShowsPrefixOfFiles}
+use Rattle.gr_cli.specs.Answers.{IsAnswer, IsAnswerOf, IsDisplay, IsRewriting, IsFaultTold}
 use Rattle.gr_cli.specs.Statuses.{fault_status, race_status, IsReportStatus}
 use Rattle.gr_cli.specs.Words.{AreHelp, AreWrong, IsHelp, IsWrongUsage}
 use Rattle.gr_cli.specs.declared.status.TheConstants.{NOTHING, USAGE, WANTING, FAILED}
@@ -33,61 +33,61 @@ pub answer_of : {Z : Type 0} (outcome : Result (Report Z) Fault) (input old new 
     → IfOk outcome (λ r. Appends old new (report_text (whole_of r)))
     → IfErr outcome (λ f. IfSome input (λ bytes. IsReplayFault bytes f))
     → IfErr outcome (λ f. f ≢ Write → Keeps old new)
-    → IfErr outcome (λ f. f ≡ Write → IfSome input (λ bytes. WritesFront bytes old new))
+    → IfErr outcome (λ f. f ≡ Write → IfSome input (λ bytes. WritesPrefix bytes old new))
     → IfOk outcome (λ r. IsReportStatus (whole_of r) status)
     → OnOk outcome (Keeps old_errors new_errors)
     → IfErr outcome (λ f. status ≡ fault_status f)
-    → IfErr outcome (λ f. AppendsFront old_errors new_errors (fault_line f))
+    → IfErr outcome (λ f. AppendsPrefix old_errors new_errors (fault_line f))
     → IsAnswer input old new old_errors new_errors status
-answer_of (Ok r) input old new old_errors new_errors status report text fault untouched front ends silent fault_ends line =
+answer_of (Ok r) input old new old_errors new_errors status report text fault untouched prefix ends silent fault_ends line =
     inl (whole_of r, record { report = report; text = text; silent = silent; ends = ends })
-answer_of (Err f) input old new old_errors new_errors status report text fault untouched front ends silent fault_ends line =
-    inr (f, record { fault = fault; told = record { line = line; ends = fault_ends; untouched = untouched }; front = front })
+answer_of (Err f) input old new old_errors new_errors status report text fault untouched prefix ends silent fault_ends line =
+    inr (f, record { fault = fault; told = record { line = line; ends = fault_ends; untouched = untouched }; prefix = prefix })
 
 pub rewriting_of : (meaning : List ℕ → Result (List ℕ) Fault) (outcome : Result (Unit {0}) Fault) (input old new old_errors new_errors : Option (List ℕ)) (status : ℕ)
     → OnOk outcome (IfSome input (λ bytes. Writes (meaning bytes) old new))
     → IfErr outcome (λ f. f ≢ Write → IfSome input (λ bytes. Fails f (meaning bytes)))
     → IfErr outcome (λ f. f ≢ Write → Keeps old new)
-    → IfErr outcome (λ f. f ≡ Write → IfSome input (λ bytes. WritesFrontOf (meaning bytes) old new))
+    → IfErr outcome (λ f. f ≡ Write → IfSome input (λ bytes. WritesPrefixOf (meaning bytes) old new))
     → OnOk outcome (status ≡ NOTHING)
     → OnOk outcome (Keeps old_errors new_errors)
     → IfErr outcome (λ f. status ≡ fault_status f)
-    → IfErr outcome (λ f. AppendsFront old_errors new_errors (fault_line f))
+    → IfErr outcome (λ f. AppendsPrefix old_errors new_errors (fault_line f))
     → IsRewriting meaning input old new old_errors new_errors status
-rewriting_of meaning (Ok r) input old new old_errors new_errors status whole fault untouched front ends silent fault_ends line =
+rewriting_of meaning (Ok r) input old new old_errors new_errors status whole fault untouched prefix ends silent fault_ends line =
     inl (record { whole = whole; silent = silent; ends = ends })
-rewriting_of meaning (Err f) input old new old_errors new_errors status whole fault untouched front ends silent fault_ends line =
-    inr (f, record { fault = fault; told = record { line = line; ends = fault_ends; untouched = untouched }; front = front })
+rewriting_of meaning (Err f) input old new old_errors new_errors status whole fault untouched prefix ends silent fault_ends line =
+    inr (f, record { fault = fault; told = record { line = line; ends = fault_ends; untouched = untouched }; prefix = prefix })
 
 module _ {T X : Type 0} (remaining : T → Option (List ℕ)) (Gives : List ℕ → Result T X → Type 0) (files : List (List ℕ)) (w : Word) where
   pub display_of : (outcome : Result Bool Fault) (old new old_errors new_errors : Option (List ℕ)) (status : ℕ)
       → IfOk outcome (λ found. IsShownOfFiles remaining Gives files w found old new)
       → IfErr outcome (λ f. IsFileFault remaining Gives files f)
       → IfErr outcome (λ f. f ≢ Write → Keeps old new)
-      → IfErr outcome (λ f. f ≡ Write → ShowsFrontOfFiles remaining Gives files w old new)
+      → IfErr outcome (λ f. f ≡ Write → ShowsPrefixOfFiles remaining Gives files w old new)
       → IfOk outcome (λ found. status ≡ race_status found)
       → OnOk outcome (Keeps old_errors new_errors)
       → IfErr outcome (λ f. status ≡ fault_status f)
-      → IfErr outcome (λ f. AppendsFront old_errors new_errors (fault_line f))
+      → IfErr outcome (λ f. AppendsPrefix old_errors new_errors (fault_line f))
       → IsDisplay remaining Gives files w old new old_errors new_errors status
-  display_of (Ok found) old new old_errors new_errors status shown fault untouched front ends silent fault_ends line =
+  display_of (Ok found) old new old_errors new_errors status shown fault untouched prefix ends silent fault_ends line =
       inl (found, record { shown = shown; silent = silent; ends = ends })
-  display_of (Err f) old new old_errors new_errors status shown fault untouched front ends silent fault_ends line =
-      inr (f, record { fault = fault; told = record { line = line; ends = fault_ends; untouched = untouched }; front = front })
+  display_of (Err f) old new old_errors new_errors status shown fault untouched prefix ends silent fault_ends line =
+      inr (f, record { fault = fault; told = record { line = line; ends = fault_ends; untouched = untouched }; prefix = prefix })
 
-  pub no_memory_to_display : (old new old_errors new_errors : Option (List ℕ)) (status : ℕ) → IsTold old new old_errors new_errors status Memory → IsDisplay remaining Gives files w old new old_errors new_errors status
-  no_memory_to_display old new old_errors new_errors status told = inr (Memory, record { fault = inl (inl refl); told = told; front = λ h. absurd cc })
+  pub no_memory_to_display : (old new old_errors new_errors : Option (List ℕ)) (status : ℕ) → IsFaultTold old new old_errors new_errors status Memory → IsDisplay remaining Gives files w old new old_errors new_errors status
+  no_memory_to_display old new old_errors new_errors status told = inr (Memory, record { fault = inl (inl refl); told = told; prefix = λ h. absurd cc })
 
 -- where memory was wanting before the task began
-pub no_memory : (t : Task) (input old new old_errors new_errors : Option (List ℕ)) (status : ℕ) → IsTold old new old_errors new_errors status Memory → IsAnswerOf t input old new old_errors new_errors status
+pub no_memory : (t : Task) (input old new old_errors new_errors : Option (List ℕ)) (status : ℕ) → IsFaultTold old new old_errors new_errors status Memory → IsAnswerOf t input old new old_errors new_errors status
 no_memory Replay input old new old_errors new_errors status told =
-    inr (Memory, record { fault = at_any input (λ bytes. IsReplayFault bytes Memory) (λ bytes. inl (inl tt)); told = told; front = λ h. absurd cc })
+    inr (Memory, record { fault = at_any input (λ bytes. IsReplayFault bytes Memory) (λ bytes. inl (inl tt)); told = told; prefix = λ h. absurd cc })
 no_memory Pack input old new old_errors new_errors status told =
-    inr (Memory, record { fault = λ _. at_any input (λ bytes. Fails Memory (packed bytes)) (λ bytes. tt); told = told; front = λ h. absurd cc })
+    inr (Memory, record { fault = λ _. at_any input (λ bytes. Fails Memory (packed bytes)) (λ bytes. tt); told = told; prefix = λ h. absurd cc })
 no_memory Dump input old new old_errors new_errors status told =
-    inr (Memory, record { fault = λ _. at_any input (λ bytes. Fails Memory (dumped bytes)) (λ bytes. tt); told = told; front = λ h. absurd cc })
+    inr (Memory, record { fault = λ _. at_any input (λ bytes. Fails Memory (dumped bytes)) (λ bytes. tt); told = told; prefix = λ h. absurd cc })
 no_memory Upgrade input old new old_errors new_errors status told =
-    inr (Memory, record { fault = λ _. at_any input (λ bytes. Fails Memory (upgraded bytes)) (λ bytes. tt); told = told; front = λ h. absurd cc })
+    inr (Memory, record { fault = λ _. at_any input (λ bytes. Fails Memory (upgraded bytes)) (λ bytes. tt); told = told; prefix = λ h. absurd cc })
 
 -- what holds of the error that there is
 pub if_err : {X Y : Type 0} {P Q : Y → Type 0} (r : Result X Y) → ((y : Y) → P y → Q y) → IsErrAnd r P → IfErr r Q
@@ -101,7 +101,7 @@ fails_by kinds e (Err y) h k = subst (HasKind kinds) (sym h) k
 
 -- what is left behind where the words are wrong, and where they ask for help; memory may be wanting in both
 module _ (k : ErrorKind) (kinds : Kinds) (old new old_errors new_errors : Option (List ℕ)) (status : ℕ)
-    (memory : k ≡ OutOfMemory → IsTold old new old_errors new_errors status Memory) (among : (k ≡ OutOfMemory) ⊎ IsAmong k kinds) where
+    (memory : k ≡ OutOfMemory → IsFaultTold old new old_errors new_errors status Memory) (among : (k ≡ OutOfMemory) ⊎ IsAmong k kinds) where
   pub wrong_of : (IsWrongUsage k → (status ≡ USAGE) × Keeps old new) → AreWrong kinds → ((status ≡ USAGE) ⊎ (status ≡ WANTING)) × Keeps old new
   wrong_of wrong are = elim among [
     | inl e ↦ (inr (memory e).ends, (memory e).untouched (λ h. cc))

@@ -86,8 +86,8 @@ module _ (space number : Text) (space_plain : IsPlain space) (number_plain : IsP
 
   -- the last file waits for the next word, and those before it are kept
   abbrev with_files : List Text → Text → Walk
-  with_files front last =
-      record { held = record { rows = base ++ file_rows front; pending = Some (codes "FILE", last ∷ []); skip = 0 }; waiting = positional; position = 3; is_trailing = false; stopped = None }
+  with_files prefix last =
+      record { held = record { rows = base ++ file_rows prefix; pending = Some (codes "FILE", last ∷ []); skip = 0 }; waiting = positional; position = 3; is_trailing = false; stopped = None }
 
   takes_space : walked showing.rules [] (walk_from nothing_held) space ≡ waiting_at 2 [] (codes "SPACE") space
   unfolding clap_on_literals
@@ -101,32 +101,32 @@ module _ (space number : Text) (space_plain : IsPlain space) (number_plain : IsP
   unfolding clap_on_literals
   takes_file file plain = ap (λ (m : Held × Step). after_step showing.rules file (waiting_at 3 (row (codes "SPACE") (space ∷ []) ∷ []) (codes "WORD") number) m.0 m.1) (idle_value showing.rules 3 (waiting_at 3 (row (codes "SPACE") (space ∷ []) ∷ []) (codes "WORD") number).held file plain)
 
-  one_more : (front : List Text) (last : Text) → to_positional showing.rules (arg_by_index showing.rules 3) last (with_files front last) (with_files front last).held ≡ with_files (front ++ last ∷ []) last
+  one_more : (prefix : List Text) (last : Text) → to_positional showing.rules (arg_by_index showing.rules 3) last (with_files prefix last) (with_files prefix last).held ≡ with_files (prefix ++ last ∷ []) last
   unfolding clap_on_literals
   one_more [] last = refl
   one_more (f ∷ fs) last = refl
 
-  next_file : (front : List Text) (last word : Text) → IsPlain word → walked showing.rules [] (with_files front last) word ≡ with_files (front ++ last ∷ []) word
+  next_file : (prefix : List Text) (last word : Text) → IsPlain word → walked showing.rules [] (with_files prefix last) word ≡ with_files (prefix ++ last ∷ []) word
   unfolding clap_on_literals
   next_file [] last word plain = ap (λ (m : Held × Step). after_step showing.rules word (with_files [] last) m.0 m.1) (positional_value showing.rules 3 (with_files [] last).held word plain)
   next_file (f ∷ fs) last word plain = ap (λ (m : Held × Step). after_step showing.rules word (with_files (f ∷ fs) last) m.0 m.1) (positional_value showing.rules 3 (with_files (f ∷ fs) last).held word plain)
 
   -- the walk over files
-  pub record Ends (front : List Text) (last : Text) (files : List Text) : Type 0 where
+  pub record Ends (prefix : List Text) (last : Text) (files : List Text) : Type 0 where
     pub kept : List Text
     pub waits : Text
-    pub all : kept ++ waits ∷ [] ≡ front ++ last ∷ files
-    pub walks : fold (walked showing.rules []) (with_files front last) files ≡ with_files kept waits
+    pub all : kept ++ waits ∷ [] ≡ prefix ++ last ∷ files
+    pub walks : fold (walked showing.rules []) (with_files prefix last) files ≡ with_files kept waits
 
-  over_files : (front : List Text) (last : Text) (files : List Text) → ArePlain files → Ends front last files
-  over_files front last [] plain = record { kept = front; waits = last; all = refl; walks = refl }
-  over_files front last (file ∷ files) plain =
-      let rest = over_files (front ++ last ∷ []) file files plain.1 in
+  over_files : (prefix : List Text) (last : Text) (files : List Text) → ArePlain files → Ends prefix last files
+  over_files prefix last [] plain = record { kept = prefix; waits = last; all = refl; walks = refl }
+  over_files prefix last (file ∷ files) plain =
+      let rest = over_files (prefix ++ last ∷ []) file files plain.1 in
       record {
         kept = rest.kept;
         waits = rest.waits;
-        all = rest.all ∙ append_assoc front (last ∷ []) (file ∷ files);
-        walks = ap (λ (w : Walk). fold (walked showing.rules []) w files) (next_file front last file plain.0) ∙ rest.walks;
+        all = rest.all ∙ append_assoc prefix (last ∷ []) (file ∷ files);
+        walks = ap (λ (w : Walk). fold (walked showing.rules []) w files) (next_file prefix last file plain.0) ∙ rest.walks;
       }
 
   -- the faults of the words
@@ -145,18 +145,18 @@ module _ (space number : Text) (space_plain : IsPlain space) (number_plain : IsP
       let h = (waiting_at 3 (row (codes "SPACE") (space ∷ []) ∷ []) (codes "WORD") number).held in
       ap₂ (λ (k : Kinds) (m : Held × Step). or_else k (step_fault showing 3 m.0 m.1)) (idle_fault showing h file plain) (idle_value showing.rules 3 h file plain)
 
-  next_fault : (front : List Text) (last word : Text) → IsPlain word → turn_fault showing [] (with_files front last) word ≡ []
+  next_fault : (prefix : List Text) (last word : Text) → IsPlain word → turn_fault showing [] (with_files prefix last) word ≡ []
   unfolding clap_on_literals
   next_fault [] last word plain =
       ap₂ (λ (k : Kinds) (m : Held × Step). or_else k (step_fault showing 3 m.0 m.1)) (positional_no_fault showing (with_files [] last).held word plain) (positional_value showing.rules 3 (with_files [] last).held word plain)
   next_fault (f ∷ fs) last word plain =
       ap₂ (λ (k : Kinds) (m : Held × Step). or_else k (step_fault showing 3 m.0 m.1)) (positional_no_fault showing (with_files (f ∷ fs) last).held word plain) (positional_value showing.rules 3 (with_files (f ∷ fs) last).held word plain)
 
-  files_fault : (front : List Text) (last : Text) (files : List Text) → ArePlain files → walk_fault showing [] (with_files front last) files ≡ []
+  files_fault : (prefix : List Text) (last : Text) (files : List Text) → ArePlain files → walk_fault showing [] (with_files prefix last) files ≡ []
   unfolding walk_fault
-  files_fault front last [] plain = refl
-  files_fault front last (file ∷ files) plain =
-      ap₂ (λ (k : Kinds) (w : Walk). or_else k (walk_fault showing [] w files)) (next_fault front last file plain.0) (next_file front last file plain.0) ∙ files_fault (front ++ last ∷ []) file files plain.1
+  files_fault prefix last [] plain = refl
+  files_fault prefix last (file ∷ files) plain =
+      ap₂ (λ (k : Kinds) (w : Walk). or_else k (walk_fault showing [] w files)) (next_fault prefix last file plain.0) (next_file prefix last file plain.0) ∙ files_fault (prefix ++ last ∷ []) file files plain.1
 
   -- the whole command, from the end of its walk
 

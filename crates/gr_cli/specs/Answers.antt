@@ -6,15 +6,15 @@ use Rattle.gr_model.specs.declared.event.Word.{Word}
 use Rattle.gr_model.specs.Reports.{WholeReport}
 use Rattle.gr_record.specs.declared.fault.Fault.{Fault}
 use Rattle.gr_record.specs.declared.fault.Fault.TheVariants.{Write}
-use Rattle.gr_report.specs.Putting.{AppendsFront}
+use Rattle.gr_report.specs.Putting.{AppendsPrefix}
 use Rattle.gr_report.specs.ReportText.{report_text}
 use Rattle.gr_report.specs.FaultText.{fault_line}
-use Rattle.gr_replay.specs.Replays.{IsExact, IsReplayFault, WritesFront}
+use Rattle.gr_replay.specs.Replays.{IsExact, IsReplayFault, WritesPrefix}
 use Rattle.gr_input.specs.Faults.{Fails}
 use Rattle.gr_text.specs.Texts.{packed}
 use Rattle.gr_text.specs.Dumps.{dumped, upgraded}
-use Rattle.gr_text.specs.Writes.{Writes, WritesFront as WritesFrontOf}
-use Rattle.gr_show.specs.Opening.{IsFileFault, IsShownOfFiles, ShowsFrontOfFiles}
+use Rattle.gr_text.specs.Writes.{Writes, WritesPrefix as WritesPrefixOf}
+use Rattle.gr_show.specs.Opening.{IsFileFault, IsShownOfFiles, ShowsPrefixOfFiles}
 use Rattle.gr_cli.specs.declared.arguments.Task.{Task}
 use Rattle.gr_cli.specs.declared.arguments.Task.TheVariants.{Replay, Pack, Dump, Upgrade}
 use Rattle.gr_cli.specs.declared.status.TheConstants.{NOTHING}
@@ -27,17 +27,17 @@ pub record IsReported (input old new old_errors new_errors : Option (List ℕ)) 
   pub silent : Keeps old_errors new_errors
   pub ends : IsReportStatus r status
 
--- the line of f is told, or a front of it where standard error fails too; the status is that of f; and nothing is written, unless it is the writer that failed
-pub record IsTold (old new old_errors new_errors : Option (List ℕ)) (status : ℕ) (f : Fault) : Type 0 where
-  pub line : AppendsFront old_errors new_errors (fault_line f)
+-- the line of f is told, or a prefix of it where standard error fails too; the status is that of f; and nothing is written, unless it is the writer that failed
+pub record IsFaultTold (old new old_errors new_errors : Option (List ℕ)) (status : ℕ) (f : Fault) : Type 0 where
+  pub line : AppendsPrefix old_errors new_errors (fault_line f)
   pub ends : status ≡ fault_status f
   pub untouched : f ≢ Write → Keeps old new
 
--- f is why the input has no report, and is told; where the writer failed, it has a front of the text of the report
+-- f is why the input has no report, and is told; where the writer failed, it has a prefix of the text of the report
 pub record IsRefused (input old new old_errors new_errors : Option (List ℕ)) (status : ℕ) (f : Fault) : Type 0 where
   pub fault : IfSome input (λ bytes. IsReplayFault bytes f)
-  pub told : IsTold old new old_errors new_errors status f
-  pub front : f ≡ Write → IfSome input (λ bytes. WritesFront bytes old new)
+  pub told : IsFaultTold old new old_errors new_errors status f
+  pub prefix : f ≡ Write → IfSome input (λ bytes. WritesPrefix bytes old new)
 
 -- a report, or a fault
 abbrev pub IsAnswer : Option (List ℕ) → Option (List ℕ) → Option (List ℕ) → Option (List ℕ) → Option (List ℕ) → ℕ → Type 0
@@ -51,11 +51,11 @@ pub record IsRewritten (meaning : List ℕ → Result (List ℕ) Fault) (input o
   pub silent : Keeps old_errors new_errors
   pub ends : status ≡ NOTHING
 
--- f is why the input means nothing, and is told; where the writer failed, it has a front of what the input means
+-- f is why the input means nothing, and is told; where the writer failed, it has a prefix of what the input means
 pub record IsNotRewritten (meaning : List ℕ → Result (List ℕ) Fault) (input old new old_errors new_errors : Option (List ℕ)) (status : ℕ) (f : Fault) : Type 0 where
   pub fault : f ≢ Write → IfSome input (λ bytes. Fails f (meaning bytes))
-  pub told : IsTold old new old_errors new_errors status f
-  pub front : f ≡ Write → IfSome input (λ bytes. WritesFrontOf (meaning bytes) old new)
+  pub told : IsFaultTold old new old_errors new_errors status f
+  pub prefix : f ≡ Write → IfSome input (λ bytes. WritesPrefixOf (meaning bytes) old new)
 
 abbrev pub IsRewriting : (List ℕ → Result (List ℕ) Fault) → Option (List ℕ) → Option (List ℕ) → Option (List ℕ) → Option (List ℕ) → Option (List ℕ) → ℕ → Type 0
 IsRewriting meaning input old new old_errors new_errors status =
@@ -77,11 +77,11 @@ module _ {T X : Type 0} (remaining : T → Option (List ℕ)) (Gives : List ℕ 
     pub silent : Keeps old_errors new_errors
     pub ends : status ≡ race_status found
 
-  -- f is why there is no such line, and is told; where the writer failed, it has a front of the line
+  -- f is why there is no such line, and is told; where the writer failed, it has a prefix of the line
   pub record IsNotDisplayed (f : Fault) : Type 0 where
     pub fault : IsFileFault remaining Gives files f
-    pub told : IsTold old new old_errors new_errors status f
-    pub front : f ≡ Write → ShowsFrontOfFiles remaining Gives files w old new
+    pub told : IsFaultTold old new old_errors new_errors status f
+    pub prefix : f ≡ Write → ShowsPrefixOfFiles remaining Gives files w old new
 
   abbrev pub IsDisplay : Type 0
   IsDisplay = ((found : Bool) × IsDisplayed found) ⊎ ((f : Fault) × IsNotDisplayed f)

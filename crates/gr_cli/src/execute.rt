@@ -6,10 +6,10 @@ ghost use Rattle.std.specs.Io.KnownBytes.{Keeps};
 ghost use Rattle.clap.specs.Words.{kind_of};
 ghost use Rattle.gr_model.specs.declared.event.Word.{Word as AnyWord};
 ghost use Rattle.gr_report.specs.FaultText.{fault_line};
-ghost use Rattle.gr_report.specs.Putting.{AppendsFront};
+ghost use Rattle.gr_report.specs.Putting.{AppendsPrefix};
 ghost use Rattle.gr_report.specs.Whole.{whole_of};
 ghost use Rattle.gr_cli.specs.declared.arguments.Task.{Task as AnyTask};
-ghost use Rattle.gr_cli.specs.Answers.{IsAnswerOf, IsDisplay, IsTold};
+ghost use Rattle.gr_cli.specs.Answers.{IsAnswerOf, IsDisplay, IsFaultTold};
 ghost use Rattle.gr_cli.specs.Questions.{AsksToShow, IsMisnamed};
 ghost use Rattle.gr_cli.specs.Statuses.{fault_status, race_status, IsReportStatus};
 ghost use Rattle.gr_cli.specs.Words.{AreHelp, AreWrong, AsksFor, IsHelp, IsWrongUsage, faults};
@@ -38,7 +38,7 @@ For more information, try '--help'.\n";
 /// left to tell it.
 pub fn fail<E: Write>(fault: &Fault, errors: &mut E) -> u8
     ensures status { result ≡ fault_status fault.now }
-    ensures told { AppendsFront (E.contents errors.old) (E.contents errors.new) (fault_line fault.now) }
+    ensures told { AppendsPrefix (E.contents errors.old) (E.contents errors.new) (fault_line fault.now) }
 {
     let _ = write_fault(fault, errors);
     status_of(fault)
@@ -47,7 +47,7 @@ pub fn fail<E: Write>(fault: &Fault, errors: &mut E) -> u8
 /// Writes help to standard output, or what is wrong with the words to standard error, and gives the status.
 fn explain_usage<W: Write, E: Write>(error: &Error, writer: &mut W, errors: &mut E) -> u8
     ensures known { result ≤ FAILED }
-    ensures memory { kind_of error.now ≡ ErrorKind.OutOfMemory → IsTold (W.contents writer.old) (W.contents writer.new) (E.contents errors.old) (E.contents errors.new) result Fault.Memory }
+    ensures memory { kind_of error.now ≡ ErrorKind.OutOfMemory → IsFaultTold (W.contents writer.old) (W.contents writer.new) (E.contents errors.old) (E.contents errors.new) result Fault.Memory }
     ensures wrong { IsWrongUsage (kind_of error.now) → (result ≡ USAGE) × Keeps (W.contents writer.old) (W.contents writer.new) }
     ensures help { IsHelp (kind_of error.now) → (result ≡ NOTHING) ⊎ (result ≡ FAILED) }
 {
@@ -69,7 +69,7 @@ fn conclude<E: Write>(outcome: Result<Report, Fault>, errors: &mut E) -> u8
     ensures report { IfOk outcome (λ report. IsReportStatus (whole_of report) result) }
     ensures silent { OnOk outcome (Keeps (E.contents errors.old) (E.contents errors.new)) }
     ensures fault { IfErr outcome (λ fault. result ≡ fault_status fault) }
-    ensures told { IfErr outcome (λ fault. AppendsFront (E.contents errors.old) (E.contents errors.new) (fault_line fault)) }
+    ensures told { IfErr outcome (λ fault. AppendsPrefix (E.contents errors.old) (E.contents errors.new) (fault_line fault)) }
 {
     match outcome {
         Ok(report) => status_of_report(&report),
@@ -82,7 +82,7 @@ fn conclude_rewriting<E: Write>(outcome: Result<(), Fault>, errors: &mut E) -> u
     ensures done { OnOk outcome (result ≡ NOTHING) }
     ensures silent { OnOk outcome (Keeps (E.contents errors.old) (E.contents errors.new)) }
     ensures fault { IfErr outcome (λ fault. result ≡ fault_status fault) }
-    ensures told { IfErr outcome (λ fault. AppendsFront (E.contents errors.old) (E.contents errors.new) (fault_line fault)) }
+    ensures told { IfErr outcome (λ fault. AppendsPrefix (E.contents errors.old) (E.contents errors.new) (fault_line fault)) }
 {
     match outcome {
         Ok(()) => NOTHING,
@@ -114,7 +114,7 @@ fn conclude_showing<E: Write>(outcome: Result<bool, Fault>, errors: &mut E) -> u
     ensures race { IfOk outcome (λ found. result ≡ race_status found) }
     ensures silent { OnOk outcome (Keeps (E.contents errors.old) (E.contents errors.new)) }
     ensures fault { IfErr outcome (λ fault. result ≡ fault_status fault) }
-    ensures told { IfErr outcome (λ fault. AppendsFront (E.contents errors.old) (E.contents errors.new) (fault_line fault)) }
+    ensures told { IfErr outcome (λ fault. AppendsPrefix (E.contents errors.old) (E.contents errors.new) (fault_line fault)) }
 {
     match outcome {
         Ok(found) => status_of_race(found),

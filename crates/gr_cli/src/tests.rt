@@ -398,8 +398,8 @@ fn open_none(_: &str) -> io::Result<&'static [u8]> {
 }
 
 /// Whether the text begins so, or is empty too.
-fn begins(text: &[u8], front: &str) -> bool {
-    text.starts_with(front.as_bytes()) && (text.is_empty() == front.is_empty())
+fn begins(text: &[u8], prefix: &str) -> bool {
+    text.starts_with(prefix.as_bytes()) && (text.is_empty() == prefix.is_empty())
 }
 
 #[test]

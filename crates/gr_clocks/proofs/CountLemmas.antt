@@ -7,37 +7,37 @@ use Rattle.std.proofs.lemmas.List.Elements.{All-get_or, All-set, All-replicate}
 use Rattle.gr_model.specs.declared.event.ItemId.{ItemId}
 use Rattle.gr_model.specs.Shapes.{HasItem}
 use Rattle.gr_clocks.specs.declared.clock.TheConstants.{LARGEST_COUNT}
-use Rattle.gr_clocks.specs.Rows.{same_item, rows_of, AreStarts, starts_of, place_of}
+use Rattle.gr_clocks.specs.Rows.{same_item, rows_of, AreStarts, starts_of, row_place_of}
 use Rattle.gr_clocks.specs.Counts.{Counts, count_of, sizes_of, tick_at, IsZero, IsTick, IsJoin, AreCounts, IsJoinBelow}
 use Rattle.gr_clocks.proofs.RowLemmas.{same_items, cell, entry_at, entry_set, place_within, sizes_same, starts_same, length_same, starts_of_sizes, sizes_of_starts, has_place}
 
 -- ---- places, as they are found
 
-pub found_at : (starts read : List ℕ) (i : ItemId) (o : Option ℕ) (p : ℕ) → read ≡ starts → o ≡ place_of read i → o ≡ Some p → place_of starts i ≡ Some p
-found_at starts read i o p same is found = ap (λ (xs : List ℕ). place_of xs i) (sym same) ∙ sym is ∙ found
+pub found_at : (starts read : List ℕ) (i : ItemId) (o : Option ℕ) (p : ℕ) → read ≡ starts → o ≡ row_place_of read i → o ≡ Some p → row_place_of starts i ≡ Some p
+found_at starts read i o p same is found = ap (λ (xs : List ℕ). row_place_of xs i) (sym same) ∙ sym is ∙ found
 
-pub lost_at : (starts read : List ℕ) (i : ItemId) (o : Option ℕ) → read ≡ starts → o ≡ place_of read i → o ≡ None → place_of starts i ≡ None
-lost_at starts read i o same is lost = ap (λ (xs : List ℕ). place_of xs i) (sym same) ∙ sym is ∙ lost
+pub lost_at : (starts read : List ℕ) (i : ItemId) (o : Option ℕ) → read ≡ starts → o ≡ row_place_of read i → o ≡ None → row_place_of starts i ≡ None
+lost_at starts read i o same is lost = ap (λ (xs : List ℕ). row_place_of xs i) (sym same) ∙ sym is ∙ lost
 
 -- ---- what is read
 
-pub count_found : (starts counts : List ℕ) (i : ItemId) (p : ℕ) → AreCounts starts counts → place_of starts i ≡ Some p → count_of (rows_of starts counts) i ≡ get_or counts p 0
+pub count_found : (starts counts : List ℕ) (i : ItemId) (p : ℕ) → AreCounts starts counts → row_place_of starts i ≡ Some p → count_of (rows_of starts counts) i ≡ get_or counts p 0
 count_found starts counts i p are found = entry_at 0 starts counts i are.whole ∙ ap (cell 0 counts) found
 
-pub count_lost : (starts counts : List ℕ) (i : ItemId) → AreCounts starts counts → place_of starts i ≡ None → count_of (rows_of starts counts) i ≡ 0
+pub count_lost : (starts counts : List ℕ) (i : ItemId) → AreCounts starts counts → row_place_of starts i ≡ None → count_of (rows_of starts counts) i ≡ 0
 count_lost starts counts i are lost = entry_at 0 starts counts i are.whole ∙ ap (cell 0 counts) lost
 
-pub found_within : (starts counts : List ℕ) (i : ItemId) (p : ℕ) → AreCounts starts counts → place_of starts i ≡ Some p → p < length counts
+pub found_within : (starts counts : List ℕ) (i : ItemId) (p : ℕ) → AreCounts starts counts → row_place_of starts i ≡ Some p → p < length counts
 found_within starts counts i p are found = place_within starts (length counts) i p are.whole found
 
 pub count_small : (starts counts : List ℕ) (p : ℕ) → AreCounts starts counts → p < length counts → get_or counts p 0 ≤ LARGEST_COUNT
 count_small starts counts p are there = All-get_or (λ (n : ℕ). n ≤ LARGEST_COUNT) counts p 0 there are.limit
 
 -- an item of a clock has a place
-pub never_lost : (starts counts : List ℕ) (c : Counts) (i : ItemId) → AreCounts starts counts → rows_of starts counts ≡ c → HasItem (sizes_of c) i → place_of starts i ≡ None → ⊥
+pub never_lost : (starts counts : List ℕ) (c : Counts) (i : ItemId) → AreCounts starts counts → rows_of starts counts ≡ c → HasItem (sizes_of c) i → row_place_of starts i ≡ None → ⊥
 never_lost starts counts c i are is has lost =
-    let there : IsSome (place_of starts i) = has_place starts counts i are.whole (subst (λ (x : Counts). HasItem (sizes_of x) i) (sym is) has) in
-    let off : is_some (place_of starts i) ≡ false = ap is_some lost in
+    let there : IsSome (row_place_of starts i) = has_place starts counts i are.whole (subst (λ (x : Counts). HasItem (sizes_of x) i) (sym is) has) in
+    let off : is_some (row_place_of starts i) ≡ false = ap is_some lost in
     cc
 
 -- ---- a clock that has counted nothing
@@ -63,7 +63,7 @@ zero_clock sizes starts counts n is_starts is_counts total =
     let size : length counts ≡ sum sizes = ap length is_counts ∙ length-replicate n 0 ∙ total in
     record {
       shape = ap (λ (xs : List ℕ). map length (rows_of xs counts)) is_starts ∙ sizes_of_starts sizes counts size;
-      zero = λ j. entry_at 0 starts counts j are.whole ∙ ap (λ (xs : List ℕ). cell 0 xs (place_of starts j)) is_counts ∙ cell_zero n (place_of starts j);
+      zero = λ j. entry_at 0 starts counts j are.whole ∙ ap (λ (xs : List ℕ). cell 0 xs (row_place_of starts j)) is_counts ∙ cell_zero n (row_place_of starts j);
     }
 
 -- ---- a tick
@@ -81,7 +81,7 @@ tick_counts starts counts p x are small = record {
   limit = All-set (λ (n : ℕ). n ≤ LARGEST_COUNT) counts p x small are.limit;
 }
 
-pub tick_clock : (starts counts : List ℕ) (i : ItemId) (p x : ℕ) → AreCounts starts counts → place_of starts i ≡ Some p → x ≡ get_or counts p 0 → IsTick (rows_of starts counts) i (rows_of starts (set counts p (x + 1)))
+pub tick_clock : (starts counts : List ℕ) (i : ItemId) (p x : ℕ) → AreCounts starts counts → row_place_of starts i ≡ Some p → x ≡ get_or counts p 0 → IsTick (rows_of starts counts) i (rows_of starts (set counts p (x + 1)))
 tick_clock starts counts i p x are found is = record {
   shape = sizes_same starts counts (set counts p (x + 1)) are.whole (length-set counts p (x + 1));
   counts = λ j. entry_set 0 (x + 1) starts counts i p are.whole found j ∙ plus_tick i j x (count_of (rows_of starts counts) j) (λ t. is ∙ sym (count_found starts counts i p are found) ∙ ap (count_of (rows_of starts counts)) (same_items i j t));
@@ -89,9 +89,9 @@ tick_clock starts counts i p x are found is = record {
 
 -- ---- a join
 
-cell_join : (starts mine theirs now : List ℕ) (i : ItemId) → AreStarts starts (length mine) → IsJoinBelow (length mine) mine theirs now → cell 0 now (place_of starts i) ≡ max (cell 0 mine (place_of starts i)) (cell 0 theirs (place_of starts i))
+cell_join : (starts mine theirs now : List ℕ) (i : ItemId) → AreStarts starts (length mine) → IsJoinBelow (length mine) mine theirs now → cell 0 now (row_place_of starts i) ≡ max (cell 0 mine (row_place_of starts i)) (cell 0 theirs (row_place_of starts i))
 cell_join starts mine theirs now i whole join =
-    elim (place_of starts i) as (λ o. (place_of starts i ≡ o) → cell 0 now o ≡ max (cell 0 mine o) (cell 0 theirs o)) [
+    elim (row_place_of starts i) as (λ o. (row_place_of starts i ≡ o) → cell 0 now o ≡ max (cell 0 mine o) (cell 0 theirs o)) [
       | None ↦ λ e. refl
       | Some p ↦ λ e. join.greater p (place_within starts (length mine) i p whole e)
     ] refl
@@ -119,8 +119,8 @@ module _ (starts mine others theirs : List ℕ) (are : AreCounts starts mine) (a
     counts = λ j.
         let at_now = entry_at 0 starts now j (subst (AreStarts starts) (sym join.size) are.whole) in
         let at_mine = entry_at 0 starts mine j are.whole in
-        let at_theirs = entry_at 0 others theirs j are_theirs.whole ∙ ap (λ (xs : List ℕ). cell 0 theirs (place_of xs j)) one_start in
-        at_now ∙ cell_join starts mine theirs now j are.whole join ∙ sym (ap (λ (n : ℕ). max n (cell 0 theirs (place_of starts j))) at_mine ∙ refl) ∙ sym (ap (λ (n : ℕ). max (count_of (rows_of starts mine) j) n) at_theirs);
+        let at_theirs = entry_at 0 others theirs j are_theirs.whole ∙ ap (λ (xs : List ℕ). cell 0 theirs (row_place_of xs j)) one_start in
+        at_now ∙ cell_join starts mine theirs now j are.whole join ∙ sym (ap (λ (n : ℕ). max n (cell 0 theirs (row_place_of starts j))) at_mine ∙ refl) ∙ sym (ap (λ (n : ℕ). max (count_of (rows_of starts mine) j) n) at_theirs);
   }
 
   pub join_counts : (now : List ℕ) → IsJoinBelow (length mine) mine theirs now → AreCounts starts now

@@ -6,7 +6,7 @@ use Rattle.std.proofs.Math.Seq.{map-set_same}
 use Rattle.gr_model.specs.declared.event.ItemId.{ItemId}
 use Rattle.gr_clocks.specs.declared.clock.TheConstants.{LARGEST_COUNT}
 use Rattle.gr_clocks.specs.Counts.{Counts, count_of, sizes_of, tick_at, IsTick, IsJoin}
-use Rattle.gr_clocks.specs.Groups.{item_of, greatest, GroupClocks, clock_in_group, Keeps, IsGroup, IsShared, IsGrown, GathersFirst, Gathers, raised_count, AreRaised, met_count, IsMetBase, TickFirst, MeetsEach}
+use Rattle.gr_clocks.specs.Groups.{item_of, greatest, GroupClocks, clock_in_group, Keeps, IsGroup, IsShared, IsGrown, MergesFirst, Merges, raised_count, AreRaised, met_count, IsMetBase, TickFirst, MeetsEach}
 use Rattle.gr_clocks.proofs.RowLemmas.{same_item_self}
 use Rattle.gr_clocks.proofs.BlockLemmas.{length_sizes, size_at}
 use Rattle.gr_clocks.proofs.OwnLemmas.{not_ticked}
@@ -119,8 +119,8 @@ module _ (number : ℕ) (met : Counts) (clocks : List Counts) (learned : List Bo
 
   -- ---- what was met, and what items have learned since
 
-  pub gathers_none : (base : Counts) → base ≡ met → GathersFirst met Whole 0 base
-  gathers_none base is = record {
+  pub merges_none : (base : Counts) → base ≡ met → MergesFirst met Whole 0 base
+  merges_none base is = record {
     shape = ap sizes_of is;
     above = λ j. let same : count_of base j ≡ count_of met j = ap (λ (c : Counts). count_of c j) is in omega arith;
     least = λ k j below other. absurd (omega arith);
@@ -132,8 +132,8 @@ module _ (number : ℕ) (met : Counts) (clocks : List Counts) (learned : List Bo
         omega arith;
   }
 
-  gathers_step : (n : ℕ) (base more : Counts) → GathersFirst met Whole n base → sizes_of more ≡ sizes_of base → ((j : ItemId) → count_of base j ≤ count_of more j) → ((j : ItemId) → item_of number n ≢ j → count_of (get_or clocks n []) j ≤ count_of more j) → ((j : ItemId) → 0 < length clocks → count_of more j ≤ greatest (length clocks) (λ k. count_of (get_or clocks k []) j)) → GathersFirst met Whole (n + 1) more
-  gathers_step n base more first shape grows last most = record {
+  merges_step : (n : ℕ) (base more : Counts) → MergesFirst met Whole n base → sizes_of more ≡ sizes_of base → ((j : ItemId) → count_of base j ≤ count_of more j) → ((j : ItemId) → item_of number n ≢ j → count_of (get_or clocks n []) j ≤ count_of more j) → ((j : ItemId) → 0 < length clocks → count_of more j ≤ greatest (length clocks) (λ k. count_of (get_or clocks k []) j)) → MergesFirst met Whole (n + 1) more
+  merges_step n base more first shape grows last most = record {
     shape = shape ∙ first.shape;
     above = λ j. let was = first.above j in let now = grows j in omega arith;
     least = λ k j below other.
@@ -144,16 +144,16 @@ module _ (number : ℕ) (met : Counts) (clocks : List Counts) (learned : List Bo
     most = most;
   }
 
-  pub gathers_kept : (n : ℕ) (base : Counts) → n < length clocks → get_or learned n false ≡ false → GathersFirst met Whole n base → GathersFirst met Whole (n + 1) base
-  gathers_kept n base there off first =
-      gathers_step n base base first refl (λ j. omega arith)
+  pub merges_kept : (n : ℕ) (base : Counts) → n < length clocks → get_or learned n false ≡ false → MergesFirst met Whole n base → MergesFirst met Whole (n + 1) base
+  merges_kept n base there off first =
+      merges_step n base base first refl (λ j. omega arith)
       (λ j other. let kept = (are.each n there).most off j other in let was = first.above j in omega arith)
       first.most
 
-  pub gathers_more : (n : ℕ) (base x more : Counts) → n < length clocks → GathersFirst met Whole n base → IsJoin base x more → x ≡ get_or clocks n [] → GathersFirst met Whole (n + 1) more
-  gathers_more n base x more there first join is =
+  pub merges_more : (n : ℕ) (base x more : Counts) → n < length clocks → MergesFirst met Whole n base → IsJoin base x more → x ≡ get_or clocks n [] → MergesFirst met Whole (n + 1) more
+  merges_more n base x more there first join is =
       let joined : (j : ItemId) → count_of more j ≡ max (count_of base j) (count_of (get_or clocks n []) j) = λ j. join.counts j ∙ ap (λ (c : Counts). max (count_of base j) (count_of c j)) is in
-      gathers_step n base more first join.shape
+      merges_step n base more first join.shape
       (λ j. let at = joined j in omega arith)
       (λ j other. let at = joined j in omega arith)
       (λ j some.
@@ -163,8 +163,8 @@ module _ (number : ℕ) (met : Counts) (clocks : List Counts) (learned : List Bo
       let top : f n ≤ greatest (length clocks) f = greatest_above (length clocks) f n there in
       omega arith)
 
-  pub gathers_all : (n : ℕ) (base : Counts) → n ≡ length clocks → GathersFirst met Whole n base → Gathers Whole base
-  gathers_all n base is first = record { shape = first.shape; least = λ k j below other. first.least k j (omega arith) other; most = first.most }
+  pub merges_all : (n : ℕ) (base : Counts) → n ≡ length clocks → MergesFirst met Whole n base → Merges Whole base
+  merges_all n base is first = record { shape = first.shape; least = λ k j below other. first.least k j (omega arith) other; most = first.most }
 
 -- ---- the counts behind the barrier
 
@@ -184,7 +184,7 @@ pub count_past : (c : Counts) (j : ItemId) → slice_index (sizes_of c) j.group 
 count_past c j past = get_or_past (get_or c j.group []) j.item 0 (let size = size_at c j.group in omega arith)
 
 -- base has learned all that the clocks count, and then gets the raised counts of the group's own items
-module _ (g : GroupClocks) (some : 0 < length g.clocks) (there : g.number < length g.sizes) (group_size : slice_index g.sizes g.number ≡ length g.clocks) (shapes : (k : ℕ) → k < length g.clocks → sizes_of (clock_in_group g k) ≡ g.sizes) (base : Counts) (gathered : Gathers g base) (counts : List ℕ) (raised : AreRaised g base (length g.clocks) counts) where
+module _ (g : GroupClocks) (some : 0 < length g.clocks) (there : g.number < length g.sizes) (group_size : slice_index g.sizes g.number ≡ length g.clocks) (shapes : (k : ℕ) → k < length g.clocks → sizes_of (clock_in_group g k) ≡ g.sizes) (base : Counts) (merged : Merges g base) (counts : List ℕ) (raised : AreRaised g base (length g.clocks) counts) where
   abbrev Known : ItemId → ℕ → ℕ
   Known j k = count_of (clock_in_group g k) j
 
@@ -200,7 +200,7 @@ module _ (g : GroupClocks) (some : 0 < length g.clocks) (there : g.number < leng
   base_small : (j : ItemId) → count_of base j ≤ met_count g j
   base_small j =
       let n = length g.clocks in
-      let was : count_of base j ≤ greatest n (Known j) = gathered.most j some in
+      let was : count_of base j ≤ greatest n (Known j) = merged.most j some in
       let up : greatest n (Known j) ≤ greatest n (Counted j) = greatest_least n (Known j) (greatest n (Counted j)) (λ k within. let top : Counted j k ≤ greatest n (Counted j) = greatest_above n (Counted j) k within in omega arith) in
       let is : met_count g j ≡ greatest n (Counted j) = refl in
       omega arith
@@ -220,7 +220,7 @@ module _ (g : GroupClocks) (some : 0 < length g.clocks) (there : g.number < leng
       (λ (apart : k ≡ m → ⊥).
       let other : item_of g.number k ≢ j = λ (same : item_of g.number k ≡ j). apart (ap (λ (i : ItemId). i.item) same) in
       let here : Counted j k ≡ Known j k = counted_other j k other in
-      let known : Known j k ≤ count_of base j = gathered.least k j within other in
+      let known : Known j k ≤ count_of base j = merged.least k j within other in
       omega arith)
       (cases_eq k m)) in
       omega arith
@@ -232,7 +232,7 @@ module _ (g : GroupClocks) (some : 0 < length g.clocks) (there : g.number < leng
       let small : count_of base j ≤ greatest n (Counted j) = base_small j in
       let down : greatest n (Counted j) ≤ count_of base j = greatest_least n (Counted j) (count_of base j) (λ k within.
       let here : Counted j k ≡ Known j k = counted_other j k (other k within) in
-      let known : Known j k ≤ count_of base j = gathered.least k j within (other k within) in
+      let known : Known j k ≤ count_of base j = merged.least k j within (other k within) in
       omega arith) in
       omega arith
 
@@ -240,10 +240,10 @@ module _ (g : GroupClocks) (some : 0 < length g.clocks) (there : g.number < leng
   Met = set base g.number counts
 
   in_base : g.number < length base
-  in_base = let same : length (sizes_of base) ≡ length g.sizes = ap length gathered.shape in omega (arith, length_sizes base)
+  in_base = let same : length (sizes_of base) ≡ length g.sizes = ap length merged.shape in omega (arith, length_sizes base)
 
   row_count : length counts ≡ length (get_or base g.number [])
-  row_count = raised.size ∙ sym group_size ∙ ap (λ (sizes : List ℕ). slice_index sizes g.number) (sym gathered.shape) ∙ size_at base g.number
+  row_count = raised.size ∙ sym group_size ∙ ap (λ (sizes : List ℕ). slice_index sizes g.number) (sym merged.shape) ∙ size_at base g.number
 
   met_here : (j : ItemId) → j.group ≡ g.number → count_of Met j ≡ slice_index counts j.item
   met_here j here = ap (λ (row : List ℕ). slice_index row j.item) (ap (λ (n : ℕ). get_or Met n []) here ∙ get_or-set_same base g.number counts [] in_base)
@@ -257,7 +257,7 @@ module _ (g : GroupClocks) (some : 0 < length g.clocks) (there : g.number < leng
       let none : slice_index counts j.item ≡ 0 = get_or_past counts j.item 0 (let size = raised.size in omega arith) in
       let other : (k : ℕ) → k < length g.clocks → item_of g.number k ≢ j = λ k below same. let at : k ≡ j.item = ap (λ (i : ItemId). i.item) same in absurd (omega arith) in
       let all : count_of base j ≡ met_count g j = known_all j other in
-      let size : slice_index (sizes_of base) j.group ≡ length g.clocks = ap (λ (sizes : List ℕ). slice_index sizes j.group) gathered.shape ∙ ap (slice_index g.sizes) here ∙ group_size in
+      let size : slice_index (sizes_of base) j.group ≡ length g.clocks = ap (λ (sizes : List ℕ). slice_index sizes j.group) merged.shape ∙ ap (slice_index g.sizes) here ∙ group_size in
       let zero_here : count_of base j ≡ 0 = count_past base j (omega arith) in
       omega arith)
       (cases_lt j.item (length g.clocks))
@@ -272,7 +272,7 @@ module _ (g : GroupClocks) (some : 0 < length g.clocks) (there : g.number < leng
 
   pub met_base : (behind : Counts) → behind ≡ Met → IsMetBase g behind
   met_base behind is = record {
-    shape = ap sizes_of is ∙ map-set_same length base g.number counts [] row_count ∙ gathered.shape;
+    shape = ap sizes_of is ∙ map-set_same length base g.number counts [] row_count ∙ merged.shape;
     counts = λ j. ap (λ (c : Counts). count_of c j) is ∙ count_met j;
   }
 

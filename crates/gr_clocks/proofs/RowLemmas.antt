@@ -7,7 +7,7 @@ use Rattle.std.proofs.Common.{◌++◌}
 use Rattle.std.proofs.Math.ListN.{get_or-map}
 use Rattle.gr_model.specs.declared.event.ItemId.{ItemId}
 use Rattle.gr_model.specs.Shapes.{HasItem}
-use Rattle.gr_clocks.specs.Rows.{entry_of, same_item, rows_after, rows_of, RisesTo, AreStarts, ends_from, starts_of, place_in, place_of}
+use Rattle.gr_clocks.specs.Rows.{entry_of, same_item, rows_after, rows_of, RisesTo, AreStarts, ends_from, starts_of, place_in, row_place_of}
 
 pub rises_within : (s : ℕ) (ends : List ℕ) (n : ℕ) → RisesTo s ends n → s ≤ n
 rises_within s [] n r = omega arith
@@ -31,7 +31,7 @@ entry_after d s (e ∷ ends) xs zero i r = entry_in_row d xs s e i r.0 (rises_wi
 entry_after d s (e ∷ ends) xs (suc g) i r = entry_after d e ends xs g i r.1
 
 -- what stands in a table at an item is what stands at its place in the list
-pub entry_at : {X : Type 0} (d : X) (starts : List ℕ) (xs : List X) (i : ItemId) → AreStarts starts (length xs) → entry_of d (rows_of starts xs) i ≡ cell d xs (place_of starts i)
+pub entry_at : {X : Type 0} (d : X) (starts : List ℕ) (xs : List X) (i : ItemId) → AreStarts starts (length xs) → entry_of d (rows_of starts xs) i ≡ cell d xs (row_place_of starts i)
 entry_at d [] xs i r = absurd r
 entry_at d (s ∷ ends) xs i r = entry_after d s ends xs i.group i.item r.1
 
@@ -48,7 +48,7 @@ place_bounds s [] n g i p r is = cc
 place_bounds s (e ∷ ends) n zero i p r is = let here = place_here s e i p is in let rest = rises_within e ends n r.1 in (omega arith, omega arith)
 place_bounds s (e ∷ ends) n (suc g) i p r is = let rest = place_bounds e ends n g i p r.1 is in (omega arith, rest.1)
 
-pub place_within : (starts : List ℕ) (n : ℕ) (i : ItemId) (p : ℕ) → AreStarts starts n → place_of starts i ≡ Some p → p < n
+pub place_within : (starts : List ℕ) (n : ℕ) (i : ItemId) (p : ℕ) → AreStarts starts n → row_place_of starts i ≡ Some p → p < n
 place_within [] n i p r is = cc
 place_within (s ∷ ends) n i p r is = (place_bounds s ends n i.group i.item p r.1 is).1
 
@@ -66,7 +66,7 @@ place_in_none s [] g i le = refl
 place_in_none s (e ∷ ends) zero i le = absurd (omega arith)
 place_in_none s (e ∷ ends) (suc g) i le = place_in_none e ends g i (omega arith)
 
-pub place_none : (starts : List ℕ) (i : ItemId) → length starts ≤ i.group + 1 → place_of starts i ≡ None
+pub place_none : (starts : List ℕ) (i : ItemId) → length starts ≤ i.group + 1 → row_place_of starts i ≡ None
 place_none [] i le = refl
 place_none (s ∷ ends) i le = place_in_none s ends i.group i.item (omega arith)
 
@@ -75,13 +75,13 @@ place_in_test s [] g i lt = absurd (omega arith)
 place_in_test s (e ∷ ends) zero i lt = refl
 place_in_test s (e ∷ ends) (suc g) i lt = place_in_test e ends g i (omega arith)
 
-pub place_some : (starts : List ℕ) (i : ItemId) → i.group + 1 < length starts → get_or starts i.group 0 + i.item < get_or starts (i.group + 1) 0 → place_of starts i ≡ Some (get_or starts i.group 0 + i.item)
+pub place_some : (starts : List ℕ) (i : ItemId) → i.group + 1 < length starts → get_or starts i.group 0 + i.item < get_or starts (i.group + 1) 0 → row_place_of starts i ≡ Some (get_or starts i.group 0 + i.item)
 place_some [] i there within = absurd (omega arith)
 place_some (s ∷ ends) i there within =
     let lt : get_or (s ∷ ends) i.group 0 + i.item < get_or ends i.group 0 = subst (λ (n : ℕ). get_or (s ∷ ends) i.group 0 + i.item < get_or (s ∷ ends) n 0) (add-one i.group) within in
     place_in_test s ends i.group i.item (omega arith) ∙ ap (λ b. if b then Some (get_or (s ∷ ends) i.group 0 + i.item) else None) (lt-ltb _ _ lt)
 
-pub place_over : (starts : List ℕ) (i : ItemId) → i.group + 1 < length starts → get_or starts (i.group + 1) 0 ≤ get_or starts i.group 0 + i.item → place_of starts i ≡ None
+pub place_over : (starts : List ℕ) (i : ItemId) → i.group + 1 < length starts → get_or starts (i.group + 1) 0 ≤ get_or starts i.group 0 + i.item → row_place_of starts i ≡ None
 place_over [] i there over = refl
 place_over (s ∷ ends) i there over =
     let le : get_or ends i.group 0 ≤ get_or (s ∷ ends) i.group 0 + i.item = subst (λ (n : ℕ). get_or (s ∷ ends) n 0 ≤ get_or (s ∷ ends) i.group 0 + i.item) (add-one i.group) over in
@@ -95,13 +95,13 @@ module _ (starts : List ℕ) (i : ItemId) (g start offset end : ℕ) (is_group :
   next_group : get_or starts (g + 1) 0 ≡ get_or starts (i.group + 1) 0
   next_group = ap (λ n. get_or starts (n + 1) 0) is_group
 
-  pub place_found : start + offset < end → Some (start + offset) ≡ place_of starts i
+  pub place_found : start + offset < end → Some (start + offset) ≡ row_place_of starts i
   place_found within =
       let at : get_or starts i.group 0 + i.item ≡ start + offset = omega (arith, same_group) in
-      let found : place_of starts i ≡ Some (get_or starts i.group 0 + i.item) = place_some starts i (omega arith) (omega (arith, same_group, next_group)) in
+      let found : row_place_of starts i ≡ Some (get_or starts i.group 0 + i.item) = place_some starts i (omega arith) (omega (arith, same_group, next_group)) in
       cc
 
-  pub place_lost : end ≤ start + offset → None ≡ place_of starts i
+  pub place_lost : end ≤ start + offset → None ≡ row_place_of starts i
   place_lost over = sym (place_over starts i (omega arith) (omega (arith, same_group, next_group)))
 
 -- ---- a table with another entry
@@ -122,7 +122,7 @@ apart_items : (i j : ItemId) → same_item i j ≡ false → (i.group ≡ j.grou
 apart_items i j f (group, item) =
     both_ways (same_item i j) f (and_from (i.group == j.group) (i.item == j.item) (eq-eqb i.group j.group group) (eq-eqb i.item j.item item))
 
-pub places_apart : (starts : List ℕ) (n : ℕ) (i j : ItemId) (p : ℕ) → AreStarts starts n → place_of starts i ≡ Some p → place_of starts j ≡ Some p → (i.group ≡ j.group) × (i.item ≡ j.item)
+pub places_apart : (starts : List ℕ) (n : ℕ) (i j : ItemId) (p : ℕ) → AreStarts starts n → row_place_of starts i ≡ Some p → row_place_of starts j ≡ Some p → (i.group ≡ j.group) × (i.item ≡ j.item)
 places_apart [] n i j p r is_i is_j = cc
 places_apart (s ∷ ends) n i j p r is_i is_j = place_apart s ends n i.group i.item j.group j.item p r.1 is_i is_j
 
@@ -131,13 +131,13 @@ cell_set_other d x xs p None other = refl
 cell_set_other d x xs p (Some q) other = get_or-set_other xs p q x d (λ (same : q ≡ p). other (ap (λ (n : ℕ). Some n) same))
 
 -- an item's entry is written, and the others stay
-pub entry_set : {X : Type 0} (d x : X) (starts : List ℕ) (xs : List X) (i : ItemId) (p : ℕ) → AreStarts starts (length xs) → place_of starts i ≡ Some p → (j : ItemId) → entry_of d (rows_of starts (set xs p x)) j ≡ (if same_item i j then x else entry_of d (rows_of starts xs) j)
+pub entry_set : {X : Type 0} (d x : X) (starts : List ℕ) (xs : List X) (i : ItemId) (p : ℕ) → AreStarts starts (length xs) → row_place_of starts i ≡ Some p → (j : ItemId) → entry_of d (rows_of starts (set xs p x)) j ≡ (if same_item i j then x else entry_of d (rows_of starts xs) j)
 entry_set d x starts xs i p whole is j =
     let whole_set : AreStarts starts (length (set xs p x)) = rw length-set whole in
     entry_at d starts (set xs p x) j whole_set ∙
-    (elim (same_item i j) as (λ b. (same_item i j ≡ b) → cell d (set xs p x) (place_of starts j) ≡ (if b then x else entry_of d (rows_of starts xs) j)) [
-      | true ↦ λ t. ap (cell d (set xs p x)) (ap (place_of starts) (sym (same_items i j t)) ∙ is) ∙ get_or-set_same xs p x d (place_within starts (length xs) i p whole is)
-      | false ↦ λ f. cell_set_other d x xs p (place_of starts j) (λ same. apart_items i j f (places_apart starts (length xs) i j p whole is same)) ∙ sym (entry_at d starts xs j whole)
+    (elim (same_item i j) as (λ b. (same_item i j ≡ b) → cell d (set xs p x) (row_place_of starts j) ≡ (if b then x else entry_of d (rows_of starts xs) j)) [
+      | true ↦ λ t. ap (cell d (set xs p x)) (ap (row_place_of starts) (sym (same_items i j t)) ∙ is) ∙ get_or-set_same xs p x d (place_within starts (length xs) i p whole is)
+      | false ↦ λ f. cell_set_other d x xs p (row_place_of starts j) (λ same. apart_items i j f (places_apart starts (length xs) i j p whole is same)) ∙ sym (entry_at d starts xs j whole)
     ] refl)
 
 -- ---- the sizes of rows
@@ -227,7 +227,7 @@ has_place_in s [] g i there within = absurd (omega arith)
 has_place_in s (e ∷ ends) zero i there within = (s + i, ap (λ b. if b then Some (s + i) else None) (lt-ltb (s + i) e (omega arith)))
 has_place_in s (e ∷ ends) (suc g) i there within = has_place_in e ends g i (omega arith) within
 
-pub has_place : {X : Type 0} (starts : List ℕ) (xs : List X) (i : ItemId) → AreStarts starts (length xs) → HasItem (map length (rows_of starts xs)) i → IsSome (place_of starts i)
+pub has_place : {X : Type 0} (starts : List ℕ) (xs : List X) (i : ItemId) → AreStarts starts (length xs) → HasItem (map length (rows_of starts xs)) i → IsSome (row_place_of starts i)
 has_place [] xs i r has = absurd r
 has_place (s ∷ ends) xs i r has =
     let moved : HasItem (gaps s ends) i = subst (λ (sizes : List ℕ). HasItem sizes i) (length_rows_after s ends xs r.1) has in

@@ -12,7 +12,7 @@ use Rattle.gr_model.specs.Shapes.{IsShape}
 use Rattle.gr_clocks.specs.Counts.{Counts, count_of, sizes_of, IsTick}
 use Rattle.gr_clocks.specs.Tables.{item_of, ClockTable, AreZero, IsTickOfJoin, MeetsGroup, group_at}
 use Rattle.gr_clocks.specs.Groups.{GroupClocks, IsSameGroup, IsBehind}
-use Rattle.gr_clocks.specs.ItemClocks.{ItemClocks, clocks_in, clock_in, AreNew, Ticks, ReleaseClock, release_of, clocks_left, Acquires, Meets, clocks_of, orders, AreOfOneShape}
+use Rattle.gr_clocks.specs.ItemClocks.{ItemClocks, clocks_in, clock_in, AreNew, Ticks, ReleaseClock, release_of, clocks_left, Acquires, MeetsClocks, clocks_of, orders, AreOfOneShape}
 use Rattle.gr_clocks.proofs.TableLemmas.{meets_group, behind_same}
 
 same_counts : (c d : Counts) → sizes_of c ≡ sizes_of d → ((j : ItemId) → count_of c j ≡ count_of d j) → c ≡ d
@@ -54,7 +54,7 @@ are_new sizes global local g l = record {
 }
 
 -- a barrier, from what it does in each memory
-pub meets : (group : ℕ) (global local : Bool) (old_global old_local new_global new_local : ClockTable) (for_global for_local : GroupClocks) → group < length old_global → group < length old_local → IsBehind (group_at old_global group) global for_global → new_global ≡ set old_global group for_global.clocks → IsBehind (group_at old_local group) local for_local → new_local ≡ set old_local group for_local.clocks → Meets (clocks_of old_global old_local) group global local (clocks_of new_global new_local)
+pub meets : (group : ℕ) (global local : Bool) (old_global old_local new_global new_local : ClockTable) (for_global for_local : GroupClocks) → group < length old_global → group < length old_local → IsBehind (group_at old_global group) global for_global → new_global ≡ set old_global group for_global.clocks → IsBehind (group_at old_local group) local for_local → new_local ≡ set old_local group for_local.clocks → MeetsClocks (clocks_of old_global old_local) group global local (clocks_of new_global new_local)
 meets group global local old_global old_local new_global new_local for_global for_local there there_local behind_global put_global behind_local put_local =
     let first = meets_group group global old_global new_global for_global there behind_global put_global in
     let second = meets_group group local old_local new_local for_local there_local behind_local put_local in

@@ -82,14 +82,14 @@ pub record IsSameGroup (old new : GroupClocks) : Type 0 where
   pub size : length new.clocks ≡ length old.clocks
 
 -- base counts what was met, and what the first n clocks do, their own items aside, and no more than some clock does
-pub record GathersFirst (met : Counts) (g : GroupClocks) (n : ℕ) (base : Counts) : Type 0 where
+pub record MergesFirst (met : Counts) (g : GroupClocks) (n : ℕ) (base : Counts) : Type 0 where
   pub shape : sizes_of base ≡ g.sizes
   pub above : (j : ItemId) → count_of met j ≤ count_of base j
   pub least : (k : ℕ) (j : ItemId) → k < n → item_of g.number k ≢ j → count_of (clock_in_group g k) j ≤ count_of base j
   pub most : (j : ItemId) → 0 < length g.clocks → count_of base j ≤ greatest (length g.clocks) (λ k. count_of (clock_in_group g k) j)
 
 -- base counts what all clocks do, their own items aside, and no more than some clock does
-pub record Gathers (g : GroupClocks) (base : Counts) : Type 0 where
+pub record Merges (g : GroupClocks) (base : Counts) : Type 0 where
   pub shape : sizes_of base ≡ g.sizes
   pub least : (k : ℕ) (j : ItemId) → k < length g.clocks → item_of g.number k ≢ j → count_of (clock_in_group g k) j ≤ count_of base j
   pub most : (j : ItemId) → 0 < length g.clocks → count_of base j ≤ greatest (length g.clocks) (λ k. count_of (clock_in_group g k) j)

@@ -11,7 +11,7 @@ use Rattle.gr_model.specs.Access.{memory_of}
 use Rattle.gr_model.specs.Shapes.{IsShape}
 use Rattle.gr_clocks.specs.declared.clock.TheConstants.{LARGEST_COUNT}
 use Rattle.gr_clocks.specs.Counts.{Counts, count_of}
-use Rattle.gr_clocks.specs.Tables.{ClockTable, clock_at, AreZero, IsFull, TicksItem, IsGroupFull, LearnsAndTicks, MeetsGroup}
+use Rattle.gr_clocks.specs.Tables.{ClockTable, clock_at, AreZero, IsItemFull, TicksItem, IsGroupFull, LearnsAndTicks, MeetsGroup}
 
 -- the sizes of the groups, and the clocks of their items in each memory
 pub record ItemClocks : Type 0 where
@@ -34,7 +34,7 @@ pub record AreNew (sizes : List ℕ) (v : ItemClocks) : Type 0 where
 
 -- an item's count of its own events is as great as it may be, in one of the memories
 abbrev pub IsSpent : ItemClocks → ItemId → Type 0
-IsSpent v i = (m : Space) × IsFull (clocks_in v m) i
+IsSpent v i = (m : Space) × IsItemFull (clocks_in v m) i
 
 -- some item of a group is
 abbrev pub IsGroupSpent : ItemClocks → ℕ → Type 0
@@ -90,7 +90,7 @@ orders global local Global = global
 orders global local Local = local
 
 -- each item of the group ticks in both memories, and learns in each flagged one what all of them count
-pub record Meets (old : ItemClocks) (group : ℕ) (global local : Bool) (new : ItemClocks) : Type 0 where
+pub record MeetsClocks (old : ItemClocks) (group : ℕ) (global local : Bool) (new : ItemClocks) : Type 0 where
   pub shape : new.sizes ≡ old.sizes
   pub groups : (m : Space) → MeetsGroup (clocks_in old m) group (orders global local m) (clocks_in new m)
 

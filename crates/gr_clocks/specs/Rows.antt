@@ -46,6 +46,6 @@ place_in s [] group item = None
 place_in s (e ∷ ends) zero item = if nat_lt (s + item) e then Some (s + item) else None
 place_in s (e ∷ ends) (suc group) item = place_in e ends group item
 
-abbrev pub place_of : List ℕ → ItemId → Option ℕ
-place_of [] i = None
-place_of (s ∷ ends) i = place_in s ends i.group i.item
+abbrev pub row_place_of : List ℕ → ItemId → Option ℕ
+row_place_of [] i = None
+row_place_of (s ∷ ends) i = place_in s ends i.group i.item

@@ -23,11 +23,11 @@ pub record AreZero (sizes : List ℕ) (t : ClockTable) : Type 0 where
   pub clocks : (i : ItemId) → HasItem sizes i → IsZero sizes (clock_at t i)
 
 -- an item's count of its own events is as great as it may be
-abbrev pub IsFull : ClockTable → ItemId → Type 0
-IsFull t i = count_of (clock_at t i) i ≡ LARGEST_COUNT
+abbrev pub IsItemFull : ClockTable → ItemId → Type 0
+IsItemFull t i = count_of (clock_at t i) i ≡ LARGEST_COUNT
 
 abbrev pub IsGroupFull : ClockTable → ℕ → Type 0
-IsGroupFull t group = (k : ℕ) × (k < slice_index (map length t) group) × IsFull t (item_of group k)
+IsGroupFull t group = (k : ℕ) × (k < slice_index (map length t) group) × IsItemFull t (item_of group k)
 
 -- ---- an event of one item: no other clock changes
 

@@ -9,7 +9,7 @@ ghost use Rattle.gr_clocks.specs.declared.clock.ClockError.TheVariants.{Memory a
 ghost use Rattle.gr_model.specs.Access as model;
 ghost use Rattle.gr_model.specs.Shapes.{HasItem, IsShape};
 ghost use Rattle.gr_clocks.specs.Counts.{count_of, sizes_of};
-ghost use Rattle.gr_clocks.specs.ItemClocks.{clock_in, clocks_in, clocks_left, AreNew, IsSpent, AreSpent, AreOfOneWord, IsGroupSpent, Ticks, release_of, Acquires, Meets};
+ghost use Rattle.gr_clocks.specs.ItemClocks.{clock_in, clocks_in, clocks_left, AreNew, IsSpent, AreSpent, AreOfOneWord, IsGroupSpent, Ticks, release_of, Acquires, MeetsClocks};
 ghost use Rattle.gr_clocks.specs.Tables.{IsTickOfJoin};
 
 use crate::clock::{Clock, ClockError, LARGEST_COUNT};
@@ -344,7 +344,7 @@ impl<A: Allocator> Clocks<A> {
     where
         A: Clone,
         requires { group < length self.old.sizes }
-        ensures ok { OnOk result (Meets self.old group global local self.new) }
+        ensures ok { OnOk result (MeetsClocks self.old group global local self.new) }
         ensures spent { (result ≡ Err ClockError.Spent) ↔ IsGroupSpent self.old group }
         ensures err { OnErr result (self.new ≡ self.old) }
     {

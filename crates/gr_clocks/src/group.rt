@@ -8,7 +8,7 @@ ghost use Rattle.std.specs.Prelude.{◌≡◌, ◌↔◌, ◌<◌, ◌≢◌, Is
 ghost use Rattle.gr_clocks.specs.declared.clock.ClockError.TheVariants.{Memory as OutOfMemory};
 ghost use Rattle.gr_model.specs.Shapes.{HasItem};
 ghost use Rattle.gr_clocks.specs.Counts.{count_of, sizes_of, IsTick, IsJoin};
-ghost use Rattle.gr_clocks.specs.Groups.{item_of, GroupClocks, clock_in_group, with_clock, IsFullClock, HasFullClock, IsShared, TicksClock, IsGrown, Gathers, AreRaised, IsMetBase, TicksEach, MeetsEach};
+ghost use Rattle.gr_clocks.specs.Groups.{item_of, GroupClocks, clock_in_group, with_clock, IsFullClock, HasFullClock, IsShared, TicksClock, IsGrown, Merges, AreRaised, IsMetBase, TicksEach, MeetsEach};
 
 use crate::base::Base;
 use crate::clock::{Clock, ClockError, raise_both};
@@ -161,10 +161,10 @@ impl<A: Allocator> Group<A> {
     }
 
     /// What the group counted when it last met, and what its items have learned since.
-    fn gathered(&self) -> Result<Base<A>, ClockError>
+    fn merged(&self) -> Result<Base<A>, ClockError>
     where
         A: Clone,
-        ensures gathered { IfOk result (λ b. Gathers self.now b) }
+        ensures merged { IfOk result (λ b. Merges self.now b) }
         ensures memory { IsOkUnless result ClockError.Memory }
     {
         let mut base = self.met.copy()?;
@@ -204,7 +204,7 @@ impl<A: Allocator> Group<A> {
         ensures met { IfOk result (λ b. IsMetBase self.now b) }
         ensures memory { IsOkUnless result ClockError.Memory }
     {
-        let mut base = self.gathered()?;
+        let mut base = self.merged()?;
         let counts = self.raised(&base)?;
         base.set_group(self.number, counts)?;
         Ok(base)

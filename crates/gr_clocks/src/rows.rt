@@ -30,7 +30,7 @@ pub(crate) fn starts_of<A: Allocator, B: Allocator>(
 
 /// The place of an item's entry, or `None` where there is no such item.
 pub(crate) fn place_of(starts: &[u16], item: ItemId) -> Option<usize>
-    ensures { result ≡ spec.place_of starts.now item }
+    ensures { result ≡ spec.row_place_of starts.now item }
 {
     let group = usize::from(item.group);
     if group + 1 >= starts.len() {

@@ -7,7 +7,7 @@ ghost use Rattle.gr_clocks.specs.declared.clock.ClockError.TheVariants.{Memory a
 ghost use Rattle.gr_model.specs.Shapes.{HasItem};
 ghost use Rattle.gr_clocks.specs.Counts.{count_of, sizes_of, IsTick};
 ghost use Rattle.gr_clocks.specs.Groups.{item_of, IsSameGroup, IsBehind};
-ghost use Rattle.gr_clocks.specs.Tables.{clock_at, group_at, AreZero, IsFull, IsGroupFull, TicksItem, IsTickOfJoin, LearnsAndTicks};
+ghost use Rattle.gr_clocks.specs.Tables.{clock_at, group_at, AreZero, IsItemFull, IsGroupFull, TicksItem, IsTickOfJoin, LearnsAndTicks};
 
 use crate::base::Base;
 use crate::clock::{Clock, ClockError, LARGEST_COUNT};
@@ -63,8 +63,8 @@ pub(crate) fn tick_both<A: Allocator + Clone>(
 ) -> Result<(), ClockError>
     requires item { HasItem (map length one.old) item }
     requires same { map length other.old ≡ map length one.old }
-    requires room { ¬ IsFull one.old item }
-    requires other_room { ¬ IsFull other.old item }
+    requires room { ¬ IsItemFull one.old item }
+    requires other_room { ¬ IsItemFull other.old item }
     ensures ok { OnOk result (TicksItem one.old item one.new × TicksItem other.old item other.new) }
     ensures memory { IsOkUnless result ClockError.Memory }
     ensures err { OnErr result ((one.new ≡ one.old) × (other.new ≡ other.old)) }
@@ -95,7 +95,7 @@ impl<A: Allocator> Table<A> {
     /// Whether the item's own count can't grow.
     pub(crate) fn is_spent(&self, item: ItemId) -> bool
         requires { HasItem (map length self.now) item }
-        ensures { IsTrue result ↔ IsFull self.now item }
+        ensures { IsTrue result ↔ IsItemFull self.now item }
     {
         self.clock_of(item).is_spent(item)
     }
@@ -105,7 +105,7 @@ impl<A: Allocator> Table<A> {
     where
         A: Clone,
         requires item { HasItem (map length self.now) item }
-        requires room { ¬ IsFull self.now item }
+        requires room { ¬ IsItemFull self.now item }
         ensures tick { IfOk result (λ c. IsTick (clock_at self.now item) item c) }
         ensures shape { IfOk result (λ c. sizes_of c ≡ map length self.now) }
         ensures memory { IsOkUnless result ClockError.Memory }
@@ -133,7 +133,7 @@ impl<A: Allocator> Table<A> {
         A: Clone,
         requires item { HasItem (map length self.now) item }
         requires shapes { All (λ s. sizes_of s.now.clock ≡ map length self.now) snapshots.now }
-        requires room { ¬ IsFull self.now item }
+        requires room { ¬ IsItemFull self.now item }
         requires their_room { All (λ s. count_of s.now.clock item ≢ LARGEST_COUNT) snapshots.now }
         ensures counts { IfOk result (λ c. IsTickOfJoin (clock_at self.now item) (map (λ s. s.now.clock) snapshots.now) item c) }
         ensures shape { IfOk result (λ c. sizes_of c ≡ map length self.now) }
@@ -157,7 +157,7 @@ impl<A: Allocator> Table<A> {
         A: Clone,
         requires item { HasItem (map length self.old) item }
         requires shapes { All (λ s. sizes_of s.now.clock ≡ map length self.old) snapshots.now }
-        requires room { ¬ IsFull self.old item }
+        requires room { ¬ IsItemFull self.old item }
         requires their_room { All (λ s. count_of s.now.clock item ≢ LARGEST_COUNT) snapshots.now }
         ensures ok { OnOk result (LearnsAndTicks self.old item (map (λ s. s.now.clock) snapshots.now) self.new) }
         ensures memory { IsOkUnless result ClockError.Memory }

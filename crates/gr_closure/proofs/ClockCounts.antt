@@ -8,7 +8,7 @@ use Rattle.gr_model.specs.declared.event.EventId.{EventId}
 use Rattle.gr_model.specs.Counts.{IsCount, IsSeen}
 use Rattle.gr_model.specs.LawfulOrders.{IsIn, IsLawful}
 use Rattle.gr_model.specs.Streams.{Streams, trace_of}
-use Rattle.gr_model.proofs.Numbers.{number_of_front}
+use Rattle.gr_model.proofs.Numbers.{number_of_prefix}
 use Rattle.gr_clocks.specs.Counts.{Counts, count_of}
 use Rattle.gr_closure.specs.Accesses.{CountsJust}
 use Rattle.gr_closure.proofs.HandledKnowledge.{seen_handled}
@@ -25,4 +25,4 @@ clocks_count s m order e c j lawful there just =
     absurd (omega arith))
     (λ (le : count_of c j ≤ size). le)
     (cases_lt size (count_of c j)) in
-    number_of_front (λ k. IsSeen s m e (at k)) size (count_of c j) within (λ k _. ((just (at k)).1, (just (at k)).0))
+    number_of_prefix (λ k. IsSeen s m e (at k)) size (count_of c j) within (λ k _. ((just (at k)).1, (just (at k)).0))

@@ -11,7 +11,7 @@ use Rattle.gr_model.specs.Streams.{Streams}
 use Rattle.gr_model.proofs.GrowthLaws.{not_both}
 use Rattle.gr_steps.specs.Steps.{Handles}
 use Rattle.gr_closure.specs.Knowledge.{Knows, Learns, by_event, by_instance}
-use Rattle.gr_closure.proofs.LongerOrders.{in_back, in_front, in_longer, knows_more}
+use Rattle.gr_closure.proofs.LongerOrders.{in_back, in_prefix, in_longer, knows_more}
 use Rattle.gr_closure.proofs.NextInItem.{known_before, next_sees, ready_event_is_next}
 
 module _ (s : Streams) (m : Space) (old new : List EventId) (e : EventId) (lawful : IsLawful s old) (handles : Handles s old e new) where
@@ -19,7 +19,7 @@ module _ (s : Streams) (m : Space) (old new : List EventId) (e : EventId) (lawfu
   handled_sees d = next_sees s m old e handles.ready.event (ready_event_is_next s old lawful e handles.ready) d
 
   pub handled_stays : (x : EventId) → IsIn old x → IsIn new x
-  handled_stays x h = subst (λ l. IsIn l x) (sym handles.order) (in_front old (e ∷ []) x h)
+  handled_stays x h = subst (λ l. IsIn l x) (sym handles.order) (in_prefix old (e ∷ []) x h)
 
   pub handled_now : IsIn new e
   handled_now = subst (λ l. IsIn l e) (sym handles.order) (in_back old (e ∷ []) e (0, refl))

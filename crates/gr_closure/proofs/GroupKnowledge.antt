@@ -8,16 +8,16 @@ use Rattle.gr_model.specs.Counts.{IsSeen}
 use Rattle.gr_model.specs.Instances.{Mark, flags}
 use Rattle.gr_model.specs.LawfulOrders.{IsIn, IsLawful}
 use Rattle.gr_model.specs.Names.{names_of}
-use Rattle.gr_model.specs.Streams.{AreFronts, IsEvent, Streams, size_of}
+use Rattle.gr_model.specs.Streams.{ArePrefixes, IsEvent, Streams, size_of}
 use Rattle.gr_steps.specs.Steps.{Meets}
 use Rattle.gr_steps.proofs.BarrierPlaces.{barrier_of, barrier_there, moved, same_instance, stands_same}
 use Rattle.gr_steps.proofs.EventRecords.{barriers_name_nothing}
 use Rattle.gr_steps.proofs.Orders.{there_is}
 use Rattle.gr_closure.specs.Knowledge.{Knows, Learns, by_event, by_instance}
-use Rattle.gr_closure.proofs.LongerOrders.{in_back, in_front, in_longer, knows_more}
+use Rattle.gr_closure.proofs.LongerOrders.{in_back, in_prefix, in_longer, knows_more}
 use Rattle.gr_closure.proofs.NextInItem.{barrier_is_next, known_before, next_sees}
 
-module _ (s : Streams) (m : Space) (old new : List EventId) (g k : ℕ) (fronts : AreFronts s) (lawful : IsLawful s old) (met : Meets s old g k new) where
+module _ (s : Streams) (m : Space) (old new : List EventId) (g k : ℕ) (prefixes : ArePrefixes s) (lawful : IsLawful s old) (met : Meets s old g k new) where
   event_of : (b : EventId) → StandsIn s b g k → IsEvent s b
   event_of b stands = let there = barrier_there s b g k stands in (there.0, there.1)
 
@@ -25,7 +25,7 @@ module _ (s : Streams) (m : Space) (old new : List EventId) (g k : ℕ) (fronts 
   learns_nothing : (b d : EventId) → StandsIn s b g k → Learns s m b d → ⊥
   learns_nothing b d stands l =
       let there = barrier_there s b g k stands in
-      barriers_name_nothing s fronts b there.0 l.matches.name there.1 there.2 (subst (λ names. Contains names l.matches.name) (ap names_of there.1) l.matches.by.named)
+      barriers_name_nothing s prefixes b there.0 l.matches.name there.1 there.2 (subst (λ names. Contains names l.matches.name) (ap names_of there.1) l.matches.by.named)
 
   pub met_sees : (b d : EventId) → StandsIn s b g k → IsSeen s m b d ↔ ((d ≡ b) ⊎ Knows s m old b.at d)
   met_sees b d stands =
@@ -37,7 +37,7 @@ module _ (s : Streams) (m : Space) (old new : List EventId) (g k : ℕ) (fronts 
   -- ---- the longer order
 
   pub met_stays : (x : EventId) → IsIn old x → IsIn new x
-  met_stays x h = subst (λ l. IsIn l x) (sym met.order) (in_front old met.barriers x h)
+  met_stays x h = subst (λ l. IsIn l x) (sym met.order) (in_prefix old met.barriers x h)
 
   pub met_now : (b : EventId) → StandsIn s b g k → IsIn new b
   met_now b stands =

@@ -9,8 +9,8 @@ use Rattle.gr_model.proofs.Places.{slice_get-append}
 use Rattle.gr_steps.proofs.Orders.{at_behind, split_last}
 use Rattle.gr_closure.specs.Knowledge.{Knows, by_event, by_instance}
 
-pub in_front : (old more : List EventId) (e : EventId) → IsIn old e → IsIn (old ++ more) e
-in_front old more e h = (h.0, slice_get-append old more h.0 e h.1)
+pub in_prefix : (old more : List EventId) (e : EventId) → IsIn old e → IsIn (old ++ more) e
+in_prefix old more e h = (h.0, slice_get-append old more h.0 e h.1)
 
 pub in_back : (old more : List EventId) (e : EventId) → IsIn more e → IsIn (old ++ more) e
 in_back old more e h = (length old + h.0, at_behind old more h.0 e h.1)

@@ -5,7 +5,7 @@ use Rattle.gr_model.specs.declared.event.Space.{Space}
 use Rattle.gr_model.specs.declared.event.ItemId.{ItemId}
 use Rattle.gr_model.specs.declared.event.EventId.{EventId}
 use Rattle.gr_model.specs.Instances.{flags}
-use Rattle.gr_model.specs.Streams.{Streams, AreFronts, Grows, size_of}
+use Rattle.gr_model.specs.Streams.{Streams, ArePrefixes, Grows, size_of}
 use Rattle.gr_model.specs.Barriers.{StandsIn}
 use Rattle.gr_model.specs.LawfulOrders.{IsLawful, IsIn}
 use Rattle.gr_model.specs.Counts.{IsCount, IsSeen}
@@ -43,19 +43,19 @@ OthersKnowAfterHandle = (s : Streams) (m : Space) (old new : List EventId) (e : 
 
 -- each of its barriers sees itself and what its item knew
 abbrev pub MetSees : Type 0
-MetSees = (s : Streams) (m : Space) (old new : List EventId) (g k : ℕ) (b d : EventId) → AreFronts s → IsLawful s old → Meets s old g k new → StandsIn s b g k → IsSeen s m b d ↔ ((d ≡ b) ⊎ Knows s m old b.at d)
+MetSees = (s : Streams) (m : Space) (old new : List EventId) (g k : ℕ) (b d : EventId) → ArePrefixes s → IsLawful s old → Meets s old g k new → StandsIn s b g k → IsSeen s m b d ↔ ((d ≡ b) ⊎ Knows s m old b.at d)
 
 -- in a memory that it flags, each item of the group then knows what any of the barriers sees
 abbrev pub FlaggedKnows : Type 0
-FlaggedKnows = (s : Streams) (m : Space) (old new : List EventId) (g k : ℕ) (i : ItemId) (d : EventId) → AreFronts s → IsLawful s old → (met : Meets s old g k new) → IsTrue (flags met.mark m) → i.group ≡ g → i.item < size_of s g → Knows s m new i d ↔ ((b : EventId) × StandsIn s b g k × IsSeen s m b d)
+FlaggedKnows = (s : Streams) (m : Space) (old new : List EventId) (g k : ℕ) (i : ItemId) (d : EventId) → ArePrefixes s → IsLawful s old → (met : Meets s old g k new) → IsTrue (flags met.mark m) → i.group ≡ g → i.item < size_of s g → Knows s m new i d ↔ ((b : EventId) × StandsIn s b g k × IsSeen s m b d)
 
 -- in the other, each knows what its own barrier sees
 abbrev pub UnflaggedKnows : Type 0
-UnflaggedKnows = (s : Streams) (m : Space) (old new : List EventId) (g k : ℕ) (b d : EventId) → AreFronts s → IsLawful s old → (met : Meets s old g k new) → IsFalse (flags met.mark m) → StandsIn s b g k → Knows s m new b.at d ↔ IsSeen s m b d
+UnflaggedKnows = (s : Streams) (m : Space) (old new : List EventId) (g k : ℕ) (b d : EventId) → ArePrefixes s → IsLawful s old → (met : Meets s old g k new) → IsFalse (flags met.mark m) → StandsIn s b g k → Knows s m new b.at d ↔ IsSeen s m b d
 
 -- the items of other groups know what they did
 abbrev pub OthersKnowAfterMeet : Type 0
-OthersKnowAfterMeet = (s : Streams) (m : Space) (old new : List EventId) (g k : ℕ) (i : ItemId) (d : EventId) → AreFronts s → IsLawful s old → Meets s old g k new → i.group ≢ g → Knows s m new i d ↔ Knows s m old i d
+OthersKnowAfterMeet = (s : Streams) (m : Space) (old new : List EventId) (g k : ℕ) (i : ItemId) (d : EventId) → ArePrefixes s → IsLawful s old → Meets s old g k new → i.group ≢ g → Knows s m new i d ↔ Knows s m old i d
 
 -- ---- lists that are not complete grow
 

@@ -16,7 +16,7 @@ use Rattle.gr_route.specs.WorkSeats.{Giver}
 use Rattle.gr_shadow.specs.Clashes.{ClockedAccess, IsHitIn, clashes}
 use Rattle.gr_threads.specs.Given.{accesses_in}
 use Rattle.gr_world.proofs.RestLemmas.{lists_as}
-use Rattle.gr_sequencer_thread.specs.Feeds.{IsWhole, accesses_for, given_of}
+use Rattle.gr_sequencer_thread.specs.Feeds.{IsFeedWhole, accesses_for, given_of}
 use Rattle.gr_sequencer_thread.proofs.StepLemmas.{worker_below}
 use Rattle.gr_detector.specs.Settling.{IsHitAmong}
 
@@ -63,7 +63,7 @@ hit_goes workers k v accesses (p, q, x, y, before, first, second, clash) =
     let there = filter-there (λ z. worker_number z.word workers == k) accesses p x first in
     ap (λ u. worker_number u workers == k) (sym clash.first) ∙ there.2
 
-module _ {A : Type 0} (config : Settings) (is : IsConfig config) (seq : Sequence) (takers : List Taker) (givers : List (Giver A)) (crew : length givers ≡ config.workers) (whole : IsWhole (record { config = config; sequence = seq; takers = takers; givers = givers; way = None; failed = false })) where
+module _ {A : Type 0} (config : Settings) (is : IsConfig config) (seq : Sequence) (takers : List Taker) (givers : List (Giver A)) (worker_count : length givers ≡ config.workers) (whole : IsFeedWhole (record { config = config; sequence = seq; takers = takers; givers = givers; in_flight = None; failed = false })) where
   -- what a worker was given are the accesses to its words
   given_is : (k : ℕ) → k < config.workers → get_or (given_of givers) k [] ≡ accesses_for config.workers k whole.good.passed.accesses
   given_is k lt = sym (whole.good.passed.each k lt ∙ append-nil (get_or (given_of givers) k []))
@@ -76,13 +76,13 @@ module _ {A : Type 0} (config : Settings) (is : IsConfig config) (seq : Sequence
   hit_among v = (
     λ hit.
         let within = hit.1 in
-        let lt : hit.0 < config.workers = omega (arith, within, crew, length-map givers (λ (g : Giver A). accesses_in g.pushed)) in
+        let lt : hit.0 < config.workers = omega (arith, within, worker_count, length-map givers (λ (g : Giver A). accesses_in g.pushed)) in
         let mine = hit_goes config.workers hit.0 v whole.good.passed.accesses (subst (λ (l : List ClockedAccess). IsHitIn l v) (given_is hit.0 lt) hit.2) in
         (hit_here v hit.0 lt mine).1 hit.2,
     λ hit.
         let k = worker_number v config.workers in
         let lt : k < config.workers = worker_below v config.workers (let some = is.workers.0 in omega (arith, some)) in
-        (k, omega (arith, lt, crew, length-map givers (λ (g : Giver A). accesses_in g.pushed)), (hit_here v k lt (eq-eqb k k refl)).0 hit),
+        (k, omega (arith, lt, worker_count, length-map givers (λ (g : Giver A). accesses_in g.pushed)), (hit_here v k lt (eq-eqb k k refl)).0 hit),
   )
 
   pub races_are : (words : List Word) → Lists WordBelow (IsHitAmong (given_of givers)) words → AreRaces seq.taken words

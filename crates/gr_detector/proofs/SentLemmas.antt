@@ -15,10 +15,10 @@ use Rattle.gr_order.specs.Sequences.{IsSequence, Sequence}
 use Rattle.gr_route.specs.IntakeSeats.{Seat, Taker, popped_of}
 use Rattle.gr_sequencer_thread.specs.Feeds.{AreTaken}
 use Rattle.gr_detector.specs.Runs.{IsEachOnce, IsOfRun, Run, sent_by, sent_of}
-use Rattle.gr_detector.specs.Settling.{AreHere, AreTold, popped_at, pops_of}
+use Rattle.gr_detector.specs.Settling.{AreHere, ArePoppedWhole, popped_at, pops_of}
 
 -- of a group that is there once, what was popped is what its receipt has
-sent_is : (pops : List (List Sent)) (g : ℕ) (receipts : List Seat) → IsTrue (is_complete (popped_at pops g)) → AreTold pops receipts → length (filter (λ (r : Seat). r.group == g) receipts) ≡ 1 → popped_at pops g ≡ sent_of g receipts
+sent_is : (pops : List (List Sent)) (g : ℕ) (receipts : List Seat) → IsTrue (is_complete (popped_at pops g)) → ArePoppedWhole pops receipts → length (filter (λ (r : Seat). r.group == g) receipts) ≡ 1 → popped_at pops g ≡ sent_of g receipts
 sent_is pops g [] whole told once = absurd (omega (arith, once))
 sent_is pops g (r ∷ receipts) whole told once = ⊎_elim
     (λ (same : r.group ≡ g).
@@ -43,13 +43,13 @@ module _ (config : Settings) (is : IsConfig config) (seq : Sequence) (sequence :
       popped_here takers (g % config.queues) g (omega (arith, below, queues)) (list_of seq.taken g) (taken g)
       ∙ ap (λ n. events_of g (get_or (pops_of takers) (g % n) [])) (sym pops_count)
 
-  pub taken_is_sent : (receipts : List Seat) → IsEachOnce (length seq.taken.sizes) receipts → AreTold (pops_of takers) receipts → seq.taken ≡ sent_by seq.taken.sizes receipts
+  pub taken_is_sent : (receipts : List Seat) → IsEachOnce (length seq.taken.sizes) receipts → ArePoppedWhole (pops_of takers) receipts → seq.taken ≡ sent_by seq.taken.sizes receipts
   taken_is_sent receipts once told =
       let n = length seq.taken.sizes in
       let lists : seq.taken.lists ≡ map (λ g. sent_of g receipts) (range_with_len 0 n) = ext_get_or [] seq.taken.lists (map (λ g. sent_of g receipts) (range_with_len 0 n))
-      (sequence.fronts.count ∙ sym (length-map-range_with_len (λ g. sent_of g receipts) 0 n))
+      (sequence.prefixes.count ∙ sym (length-map-range_with_len (λ g. sent_of g receipts) 0 n))
       (λ g lt.
-      let there : g < n = omega (arith, lt, sequence.fronts.count) in
+      let there : g < n = omega (arith, lt, sequence.prefixes.count) in
       popped_is g
       ∙ (sent_is (pops_of takers) g receipts (subst (λ (l : List Event). IsTrue (is_complete l)) (popped_is g) (complete g there)) told (once g there)
       ∙ sym (get_or-map-range_with_len (λ h. sent_of h receipts) 0 n g g [] there (omega arith)))) in

@@ -23,12 +23,12 @@ AreHere intakes [] = ⊤
 AreHere intakes (r ∷ receipts) = (slice_get intakes (r.group % length intakes) ≡ Some r.queue) × AreHere intakes receipts
 
 -- of each receipt's group, what was popped is all that was pushed, where it is complete
-abbrev pub IsTold : List (List Sent) → Seat → Type 0
-IsTold pops r = IsTrue (is_complete (popped_at pops r.group)) → popped_at pops r.group ≡ r.pushed
+abbrev pub IsPoppedWhole : List (List Sent) → Seat → Type 0
+IsPoppedWhole pops r = IsTrue (is_complete (popped_at pops r.group)) → popped_at pops r.group ≡ r.pushed
 
-abbrev pub AreTold : List (List Sent) → List Seat → Type 0
-AreTold pops [] = ⊤
-AreTold pops (r ∷ receipts) = IsTold pops r × AreTold pops receipts
+abbrev pub ArePoppedWhole : List (List Sent) → List Seat → Type 0
+ArePoppedWhole pops [] = ⊤
+ArePoppedWhole pops (r ∷ receipts) = IsPoppedWhole pops r × ArePoppedWhole pops receipts
 
 -- a word is hit in the accesses that some worker was given
 abbrev pub IsHitAmong : List (List ClockedAccess) → Word → Type 0

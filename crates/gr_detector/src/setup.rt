@@ -77,13 +77,13 @@ fn line_of<A: Allocator + Copy>(
 }
 
 /// The ends of the workers' queues, which are new, and the workers, in order.
-pub(crate) fn crew_of<A: Allocator + Copy>(
+pub(crate) fn workers_of<A: Allocator + Copy>(
     alloc: A,
     config: Config,
 ) -> Result<(Vec<Outlet<A>, A>, Vec<Worker<A>, A>), Memory>
-    ensures count { IfOk result (λ crew. (length crew.0.items ≡ config.workers) × (length crew.1.items ≡ config.workers)) }
-    ensures queues { IfOk result (λ crew. worker_queues crew.1.items ≡ works_of crew.0.items) }
-    ensures ungiven { IfOk result (λ crew. AreUngiven crew.0.items) }
+    ensures count { IfOk result (λ worker_count. (length worker_count.0.items ≡ config.workers) × (length worker_count.1.items ≡ config.workers)) }
+    ensures queues { IfOk result (λ worker_count. worker_queues worker_count.1.items ≡ works_of worker_count.0.items) }
+    ensures ungiven { IfOk result (λ worker_count. AreUngiven worker_count.0.items) }
 {
     let mut outlets = Vec::new(alloc);
     let mut workers = Vec::new(alloc);

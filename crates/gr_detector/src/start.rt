@@ -6,7 +6,7 @@ ghost use Rattle.gr_detector.specs.Runs.{AreSendersOf, run_of, worker_queues};
 
 use crate::error::StartError;
 use crate::running::Running;
-use crate::setup::{crew_of, inlets_of, senders_of};
+use crate::setup::{workers_of, inlets_of, senders_of};
 use gr_model::config::Config;
 use gr_model::memory::Memory;
 use gr_model::shape::Shape;
@@ -43,7 +43,7 @@ fn set_up<A: Allocator + Copy>(
 {
     let mut inlets = inlets_of(alloc, config)?;
     let senders = senders_of(alloc, &shape, &mut inlets)?;
-    let (outlets, workers) = crew_of(alloc, config)?;
+    let (outlets, workers) = workers_of(alloc, config)?;
     let threads = Vec::with_capacity(alloc, workers.len())?;
     let begin = Begin::new(config, shape, inlets, outlets);
     Ok(Setup {

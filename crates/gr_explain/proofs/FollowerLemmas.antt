@@ -7,8 +7,8 @@ use Rattle.gr_model.specs.LawfulOrders.{IsAt, IsLawful}
 use Rattle.gr_model.specs.Streams.{IsEvent, Streams}
 use Rattle.gr_model.specs.Waits.{IsPrevious, for_previous}
 use Rattle.gr_model.proofs.Descent.{below_by_pair, lawful_descends}
-use Rattle.gr_explain.specs.Telling.{AreFollowers, Has, IsTold}
-use Rattle.gr_explain.proofs.TellingLemmas.{pair_of, seen_by_telling, seen_through}
+use Rattle.gr_explain.specs.Edges.{AreFollowers, Has, IsReached}
+use Rattle.gr_explain.proofs.EdgeLemmas.{pair_of, seen_by_edges, seen_through}
 
 module _ (s : Streams) (m : Space) (order : List EventId) (lawful : IsLawful s order) where
   -- the event before one of the order is there
@@ -19,19 +19,19 @@ module _ (s : Streams) (m : Space) (order : List EventId) (lawful : IsLawful s o
   at_one n f g at bt = let same : Some g ≡ Some f = sym bt ∙ at in cc
 
   module _ (e : EventId) (n : ℕ) (f : EventId) (at : IsAt order n f) (events : List EventId) (are : AreFollowers s m order n e events) where
-    pub told_sees : IsTold s m events f → IsSeen s m f e
-    told_sees told =
-        let there = (are told.0).0 told.1 in
-        inr (seen_through s m e told.0 f there.3 (pair_of s m told.0 f (lawful.event n f at).0 told.2))
+    pub reached_sees : IsReached s m events f → IsSeen s m f e
+    reached_sees reached =
+        let there = (are reached.0).0 reached.1 in
+        inr (seen_through s m e reached.0 f there.3 (pair_of s m reached.0 f (lawful.event n f at).0 reached.2))
 
-    pub sees_told : IsSeen s m f e → (e ≡ f) ⊎ IsTold s m events f
-    sees_told seen =
+    pub sees_reached : IsSeen s m f e → (e ≡ f) ⊎ IsReached s m events f
+    sees_reached seen =
         let event = (lawful.event n f at).0 in
         ⊎_elim (λ (same : e ≡ f). inl same)
-        (λ told.
-        let lower = below_by_pair s (IsAt order) (lawful_descends s order lawful) m n told.0 f at (pair_of s m told.0 f event told.1) in
-        inr (told.0, (are told.0).1 (lower.0, lower.1, lower.2, told.2), told.1))
-        (seen_by_telling s m e f event seen)
+        (λ reached.
+        let lower = below_by_pair s (IsAt order) (lawful_descends s order lawful) m n reached.0 f at (pair_of s m reached.0 f event reached.1) in
+        inr (reached.0, (are reached.0).1 (lower.0, lower.1, lower.2, reached.2), reached.1))
+        (seen_by_edges s m e f event seen)
 
     -- the event does not follow
     pub same_followers : ¬ IsSeen s m f e → AreFollowers s m order (n + 1) e events

@@ -8,7 +8,7 @@ use Rattle.gr_model.specs.Barriers.{IsConvergent, IsDivergent, StandsIn, Togethe
 use Rattle.gr_model.specs.HappensBefore.{IsInclusive}
 use Rattle.gr_model.specs.Instances.{Mark, flags}
 use Rattle.gr_model.specs.Names.{Matches}
-use Rattle.gr_model.specs.Streams.{AreFronts, Streams, event_at, place_of, trace_of}
+use Rattle.gr_model.specs.Streams.{ArePrefixes, Streams, event_at, place_of, trace_of}
 use Rattle.gr_model.specs.Waits.{CanGo, IsPrevious}
 use Rattle.gr_model.proofs.GrowthLaws.{not_both}
 use Rattle.gr_lanes.proofs.InstanceLemmas.{barrier_mark}
@@ -17,7 +17,7 @@ use Rattle.gr_steps.proofs.BarrierPlaces.{barrier_there, places_from-once, same_
 use Rattle.gr_model.proofs.Cuts.{same_event}
 use Rattle.gr_steps.proofs.Orders.{split_last}
 use Rattle.gr_steps.specs.Steps.{AreBarriers}
-use Rattle.gr_explain.specs.Telling.{Has, IsFlagged, Tells, by_instance, by_release, in_item}
+use Rattle.gr_explain.specs.Edges.{Has, IsFlagged, IsEdge, by_instance, by_release, in_item}
 
 -- ---- listed barriers
 
@@ -33,7 +33,7 @@ pub one_below : (s : Streams) (g k n : ℕ) (bs : List EventId) (b : EventId) �
 one_below s g k n bs b are item stands = record {
   count = length-append bs (b ∷ []) ∙ (let e : length bs + 1 ≡ n + 1 = omega (arith, are.count) in e);
   each = λ i c at. ⊎_elim
-      (λ (front : slice_get bs i ≡ Some c). are.each i c front)
+      (λ (prefix : slice_get bs i ≡ Some c). are.each i c prefix)
       (λ (last : (j : ℕ) × (i ≡ length bs + j) × (slice_get (b ∷ []) j ≡ Some c)). is_last i c last.0 last.1 last.2)
       (split_last bs (b ∷ []) i c at);
 }
@@ -59,9 +59,9 @@ same_barriers s g k bs cs a b = same_lists bs cs (a.count ∙ sym b.count) (λ i
 
 -- ---- flagged instances
 
-module _ (s : Streams) (fronts : AreFronts s) (m : Space) (e : EventId) (x : Event) (at : event_at s e ≡ Some x) (k : ℕ) (place : place_of s is_barrier e.at k ≡ Some e.index) where
+module _ (s : Streams) (prefixes : ArePrefixes s) (m : Space) (e : EventId) (x : Event) (at : event_at s e ≡ Some x) (k : ℕ) (place : place_of s is_barrier e.at k ≡ Some e.index) where
   stands : StandsIn s e e.at.group k
-  stands = stands_there s fronts e x at k place
+  stands = stands_there s prefixes e x at k place
 
   -- the mark of the instance is that of the event
   mark_is : (a : Mark) → IsConvergent s e.at.group k a → mark_of x ≡ Some a
@@ -104,9 +104,9 @@ flagged_is_there s m e k h = let there = barrier_there s e e.at.group k h.stands
 
 -- ---- companions
 
--- what stands in a flagged instance with the event before f tells f
-pub companion_tells : (s : Streams) (m : Space) (d c f : EventId) (k : ℕ) → IsPrevious c f → IsFlagged s m c k → StandsIn s d c.at.group k → Tells s m d f
-companion_tells s m d c f k previous h stands = by_instance h.mark c h.flagged previous (record { group = c.at.group; instance = k; convergent = h.convergent; first = stands; second = h.stands })
+-- from what stands in a flagged instance with the event before f, an edge leads to f
+pub instance_reaches : (s : Streams) (m : Space) (d c f : EventId) (k : ℕ) → IsPrevious c f → IsFlagged s m c k → StandsIn s d c.at.group k → IsEdge s m d f
+instance_reaches s m d c f k previous h stands = by_instance h.mark c h.flagged previous (record { group = c.at.group; instance = k; convergent = h.convergent; first = stands; second = h.stands })
 
 pub companion_of : (s : Streams) (m : Space) (a : Mark) (d c : EventId) → IsTrue (flags a m) → Together s a d c → (k : ℕ) × IsFlagged s m c k × StandsIn s d c.at.group k
 companion_of s m a d c flag met =
@@ -125,7 +125,7 @@ companion_of s m a d c flag met =
 pub one_before : (c d f : EventId) → IsPrevious c f → IsPrevious d f → c ≡ d
 one_before c d f a b = same_event c d (a.item ∙ sym b.item) (omega (arith, a.next, b.next))
 
--- ---- what tells an event
+-- ---- the edges that lead to an event
 
 -- a release that it matches
 abbrev pub IsReleaseIn : Streams → Space → List EventId → EventId → Type 0
@@ -135,7 +135,7 @@ IsReleaseIn s m events f = (d : EventId) × Has events d × Matches s f d × IsI
 abbrev pub IsCompanionIn : Streams → Space → List EventId → EventId → Type 0
 IsCompanionIn s m events c = (d : EventId) × (k : ℕ) × Has events d × IsFlagged s m c k × StandsIn s d c.at.group k
 
-pub told_cases : (s : Streams) (m : Space) (events : List EventId) (f d : EventId) → Has events d → Tells s m d f → IsReleaseIn s m events f ⊎ ((c : EventId) × IsPrevious c f × (Has events c ⊎ IsCompanionIn s m events c))
-told_cases s m events f d has (in_item previous) = inr (d, previous, inl has)
-told_cases s m events f d has (by_release match inclusive) = inl (d, has, match, inclusive)
-told_cases s m events f d has (by_instance a c flag previous met) = let h = companion_of s m a d c flag met in inr (c, previous, inr (d, h.0, has, h.1, h.2))
+pub reached_cases : (s : Streams) (m : Space) (events : List EventId) (f d : EventId) → Has events d → IsEdge s m d f → IsReleaseIn s m events f ⊎ ((c : EventId) × IsPrevious c f × (Has events c ⊎ IsCompanionIn s m events c))
+reached_cases s m events f d has (in_item previous) = inr (d, previous, inl has)
+reached_cases s m events f d has (by_release match inclusive) = inl (d, has, match, inclusive)
+reached_cases s m events f d has (by_instance a c flag previous met) = let h = companion_of s m a d c flag met in inr (c, previous, inr (d, h.0, has, h.1, h.2))

@@ -1,6 +1,6 @@
 pub mod TakenLists
 pub mod RecordLemmas
-pub mod TellingLemmas
+pub mod EdgeLemmas
 pub mod Sets
 pub mod FollowerLemmas
 pub mod PairOrder

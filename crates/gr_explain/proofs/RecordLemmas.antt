@@ -3,11 +3,11 @@ use Rattle.std.proofs.Common.{◌≡◌, List, [], Some, slice_get, arith, ap, s
 use Rattle.gr_model.specs.declared.event.Event.{Event}
 use Rattle.gr_model.specs.declared.event.EventId.{EventId}
 use Rattle.gr_model.specs.Streams.{Streams, event_at}
-use Rattle.gr_order.specs.States.{AreFirst}
+use Rattle.gr_order.specs.States.{AreBelowFrontier}
 use Rattle.gr_windows.specs.Windows.{AreWaiting, Table, window_of}
 
 -- no event was handled, and the clock that counts none says so
-pub none_first : (handled : List EventId) → handled ≡ [] → AreFirst handled []
+pub none_first : (handled : List EventId) → handled ≡ [] → AreBelowFrontier handled []
 none_first handled none e = (λ h. absurd (let at : slice_get [] h.0 ≡ Some e = subst (λ (l : List EventId). slice_get l h.0 ≡ Some e) none h.1 in cc), λ lt. absurd (omega arith))
 
 -- so each is still kept

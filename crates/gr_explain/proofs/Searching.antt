@@ -15,7 +15,7 @@ use Rattle.gr_model.proofs.Descent.{below_before, lawful_descends}
 use Rattle.gr_model.proofs.HitsAreRaces.{conflicts_swap}
 use Rattle.gr_explain.specs.LeastRaces.{IsLeastOf, IsLeastRace, IsRacePair, Pair}
 use Rattle.gr_explain.specs.Searching.{IsFound, StandsBefore}
-use Rattle.gr_explain.specs.Telling.{AreFollowers, Has}
+use Rattle.gr_explain.specs.Edges.{AreFollowers, Has}
 use Rattle.gr_explain.specs.Turning.{IsTurned}
 use Rattle.gr_explain.proofs.PairOrder.{either_way, one_turn}
 

@@ -3,9 +3,9 @@ use Rattle.std.proofs.Common.{◌≡◌, ◌⊎◌, Bool, true, false, cond, Lis
 use Rattle.std.specs.List.{list_any}
 use Rattle.gr_model.specs.declared.event.EventId.{EventId}
 use Rattle.gr_model.specs.contracts.event.EventIdEq.TheImpl.Laws as equal
-use Rattle.gr_explain.specs.declared.told.Instance.{Instance}
-use Rattle.gr_explain.specs.contracts.told.InstanceEq.TheImpl.Laws as instance_equal
-use Rattle.gr_explain.specs.Telling.{Has, same_event, same_instance}
+use Rattle.gr_explain.specs.declared.reached.Instance.{Instance}
+use Rattle.gr_explain.specs.contracts.reached.InstanceEq.TheImpl.Laws as instance_equal
+use Rattle.gr_explain.specs.Edges.{Has, same_event, same_instance}
 
 -- the event that a loop over events names where there is none
 abbrev pub no_id : EventId

@@ -1,5 +1,5 @@
 pub mod LeastRaces
 pub mod Searching
 pub mod Taking
-pub mod Telling
+pub mod Edges
 pub mod Turning

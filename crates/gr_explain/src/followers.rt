@@ -2,12 +2,12 @@
 
 ghost use Rattle.std.specs.Prelude.{IfOk, length};
 ghost use Rattle.gr_model.specs.LawfulOrders.{IsLawful};
-ghost use Rattle.gr_model.specs.Streams.{AreFronts};
-ghost use Rattle.gr_explain.specs.Telling.{AreFollowers};
+ghost use Rattle.gr_model.specs.Streams.{ArePrefixes};
+ghost use Rattle.gr_explain.specs.Edges.{AreFollowers};
 
 use crate::records::Records;
-use crate::telling::is_told;
-use crate::told::Told;
+use crate::edges::is_reached;
+use crate::reached::Reached;
 use gr_model::event::{EventId, Space};
 use gr_model::memory::Memory;
 use std::alloc::Allocator;
@@ -22,14 +22,14 @@ pub(crate) fn followers<A: Allocator + Copy>(
     order: &[EventId],
     space: Space,
     first: EventId,
-) -> Result<Told<A>, Memory>
-    requires fronts { AreFronts records.now }
+) -> Result<Reached<A>, Memory>
+    requires prefixes { ArePrefixes records.now }
     requires lawful { IsLawful records.now order.now }
     ensures { IfOk result (λ followers. AreFollowers records.now space order.now (length order.now) first followers.events.keys) }
 {
-    let mut followers = Told::new(alloc);
+    let mut followers = Reached::new(alloc);
     for event in order {
-        if *event == first || is_told(records, &followers, space, *event) {
+        if *event == first || is_reached(records, &followers, space, *event) {
             followers.add(records, space, *event)?;
         }
     }

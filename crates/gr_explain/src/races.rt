@@ -3,16 +3,16 @@
 ghost use Rattle.std.specs.Prelude.{◌≡◌, ◌+◌, ◌<◌, Some, IfOk, length, slice_get};
 ghost use Rattle.gr_model.specs.Access as model;
 ghost use Rattle.gr_model.specs.LawfulOrders.{IsAt, IsLawful, IsWholeOrder};
-ghost use Rattle.gr_model.specs.Streams.{AreFronts};
+ghost use Rattle.gr_model.specs.Streams.{ArePrefixes};
 ghost use Rattle.gr_explain.specs.LeastRaces.{IsLeastOf, IsRacePair};
 ghost use Rattle.gr_explain.specs.Searching.{IsFound};
-ghost use Rattle.gr_explain.specs.Telling.{AreFollowers};
+ghost use Rattle.gr_explain.specs.Edges.{AreFollowers};
 
 use crate::conflict::{access_to, are_conflicting};
 use crate::followers::followers;
 use crate::pairs::{lesser, turned};
 use crate::records::Records;
-use crate::told::Told;
+use crate::reached::Reached;
 use gr_clocks::clocks::memory_of;
 use gr_model::event::{EventId, Word};
 use gr_model::memory::Memory;
@@ -24,7 +24,7 @@ fn with_races_of<A: Allocator>(
     order: &[EventId],
     word: Word,
     place: usize,
-    followers: &Told<A>,
+    followers: &Reached<A>,
     least: Option<(EventId, EventId)>,
 ) -> Option<(EventId, EventId)>
     requires lawful { IsLawful records.now order.now }
@@ -54,7 +54,7 @@ pub(crate) fn least_race<A: Allocator + Copy>(
     order: &[EventId],
     word: Word,
 ) -> Result<Option<(EventId, EventId)>, Memory>
-    requires fronts { AreFronts records.now }
+    requires prefixes { ArePrefixes records.now }
     requires whole { IsWholeOrder records.now order.now }
     ensures { IfOk result (λ least. IsLeastOf (IsRacePair records.now word) least) }
 {

@@ -12,10 +12,10 @@ use Rattle.gr_model.specs.declared.report.AcquireCause.TheVariants.{Absent, Behi
 use Rattle.gr_model.specs.declared.report.Unmatched.{Unmatched}
 use Rattle.gr_model.specs.Names.{HasAcquireCause, HasName, IsAbsent, IsOfItsWord, IsOfOtherWord, names_at, names_of, release_place}
 use Rattle.gr_model.specs.Reports.{IsUnmatched, IsUnmatchedAcquire, Lists, UnmatchedBelow}
-use Rattle.gr_model.specs.Streams.{AreFronts, Streams, event_at, size_of, word_at}
+use Rattle.gr_model.specs.Streams.{ArePrefixes, Streams, event_at, size_of, word_at}
 use Rattle.gr_model.proofs.Cuts.{same_event}
 use Rattle.gr_clocks.specs.Counts.{Counts, count_of}
-use Rattle.gr_findings.specs.Acquires.{AreUnmatchedBefore, IsElsewhere, IsGroundedFront, IsItemBefore}
+use Rattle.gr_findings.specs.Acquires.{AreUnmatchedBefore, IsElsewhere, IsGroundedFrontier, IsItemBefore}
 use Rattle.gr_findings.proofs.Lists.{listed_push, listed_same, none_listed}
 use Rattle.gr_steps.proofs.Deciding.{by_cases, option_dec, word_dec}
 use Rattle.gr_steps.proofs.EventRecords.{group_of_event, item_of_event}
@@ -76,7 +76,7 @@ module _ (s : Streams) where
       let cause = one_cause s v.event u.cause v.cause (subst (λ e. HasAcquireCause s e u.cause) event a.cause) b.cause in
       λ d. record { event = event d; cause = cause d }
 
-module _ (s : Streams) (frontier : Counts) (front : IsGroundedFront s frontier) (item : ItemId) (index : ℕ) (is : index ≡ count_of frontier item) where
+module _ (s : Streams) (frontier : Counts) (prefix : IsGroundedFrontier s frontier) (item : ItemId) (index : ℕ) (is : index ≡ count_of frontier item) where
   abbrev next : EventId
   next = record { at = item; index = index }
 
@@ -86,10 +86,10 @@ module _ (s : Streams) (frontier : Counts) (front : IsGroundedFront s frontier) 
       let count : count_of frontier e.at ≡ index = ap (count_of frontier) at ∙ sym is in
       let this : EventId = record { at = e.at; index = index } in
       ⊎_elim
-      (λ (lt : e.index < index). absurd (unmatched.held ((front e).1 (omega arith))))
+      (λ (lt : e.index < index). absurd (unmatched.held ((prefix e).1 (omega arith))))
       (λ (ge : index ≤ e.index). ⊎_elim
       (λ (same : index ≡ e.index). same_event e next at (sym same))
-      (λ (past : index < e.index). let below : index < count_of frontier e.at = (front this).0 (unmatched.before this refl past) in absurd (omega arith))
+      (λ (past : index < e.index). let below : index < count_of frontier e.at = (prefix this).0 (unmatched.before this refl past) in absurd (omega arith))
       (eq-or-lt_of_le ge))
       (cases_lt e.index index)
 
@@ -116,8 +116,8 @@ module _ (s : Streams) (frontier : Counts) (front : IsGroundedFront s frontier) 
         event = (x, at_next);
         name = get_or x.names 0 (record { at = item; release = 0 });
         named = subst (λ xs. Contains xs (get_or x.names 0 (record { at = item; release = 0 }))) (sym names_are) (Contains-get_or x.names 0 (record { at = item; release = 0 }) some);
-        held = λ grounded. let lt : index < count_of frontier item = (front next).0 grounded in omega arith;
-        before = λ d at lt. let count : count_of frontier d.at ≡ index = ap (count_of frontier) at ∙ sym is in (front d).1 (omega arith);
+        held = λ grounded. let lt : index < count_of frontier item = (prefix next).0 grounded in omega arith;
+        before = λ d at lt. let count : count_of frontier d.at ≡ index = ap (count_of frontier) at ∙ sym is in (prefix d).1 (omega arith);
       };
       cause = cause;
     }
@@ -176,8 +176,8 @@ module _ (s : Streams) where
         below u (inr here) = inr (here.0 ∙ sym group, inl (let lt : u.event.at.item < v.event.at.item = omega (arith, item, here.1) in lt))
 
     -- behind its last item a group is done
-    pub group_done : AreFronts s → size_of s g ≤ i → AreUnmatchedBefore s (g + 1) 0 us
-    group_done fronts all = listed_same UnmatchedBelow (Found g i) (Found (g + 1) 0) us found (λ u p. (p.0, earlier u.event.at p.1)) (λ u p. (p.0, later u p.0 p.1))
+    pub group_done : ArePrefixes s → size_of s g ≤ i → AreUnmatchedBefore s (g + 1) 0 us
+    group_done prefixes all = listed_same UnmatchedBelow (Found g i) (Found (g + 1) 0) us found (λ u p. (p.0, earlier u.event.at p.1)) (λ u p. (p.0, later u p.0 p.1))
       where
         earlier : (at : ItemId) → IsItemBefore g i at → IsItemBefore (g + 1) 0 at
         earlier at (inl lower) = inl (let lt : at.group < g + 1 = omega arith in lt)
@@ -188,13 +188,13 @@ module _ (s : Streams) where
         later u p (inl lower) =
             ⊎_elim
             (λ (same : u.event.at.group ≡ g).
-            let within = item_of_event s fronts u.event p.unmatched.event.0 p.unmatched.event.1 in
+            let within = item_of_event s prefixes u.event p.unmatched.event.0 p.unmatched.event.1 in
             let size : size_of s u.event.at.group ≡ size_of s g = ap (size_of s) same in
             inr (same, let lt : u.event.at.item < i = omega arith in lt))
             (λ (other : u.event.at.group ≡ g → ⊥). inl (let lt : u.event.at.group < g = omega arith in lt))
             (cases_eq u.event.at.group g)
 
     -- and behind the last group all are found
-    pub all_found : AreFronts s → length s.sizes ≤ g → Lists UnmatchedBelow (IsUnmatchedAcquire s) us
-    all_found fronts all = listed_same UnmatchedBelow (Found g i) (IsUnmatchedAcquire s) us found (λ u p. p.0)
-        (λ u p. (p, inl (let lt : u.event.at.group < g = omega (arith, group_of_event s fronts u.event p.unmatched.event.0 p.unmatched.event.1) in lt)))
+    pub all_found : ArePrefixes s → length s.sizes ≤ g → Lists UnmatchedBelow (IsUnmatchedAcquire s) us
+    all_found prefixes all = listed_same UnmatchedBelow (Found g i) (IsUnmatchedAcquire s) us found (λ u p. p.0)
+        (λ u p. (p, inl (let lt : u.event.at.group < g = omega (arith, group_of_event s prefixes u.event p.unmatched.event.0 p.unmatched.event.1) in lt)))

@@ -12,8 +12,8 @@ use Rattle.gr_model.specs.Waits.{IsGrounded}
 use Rattle.gr_clocks.specs.Counts.{Counts, count_of}
 
 -- the grounded events of each item are its first ones, as many as the clock counts
-abbrev pub IsGroundedFront : Streams → Counts → Type 0
-IsGroundedFront s frontier = (e : EventId) → IsGrounded s e ↔ (e.index < count_of frontier e.at)
+abbrev pub IsGroundedFrontier : Streams → Counts → Type 0
+IsGroundedFrontier s frontier = (e : EventId) → IsGrounded s e ↔ (e.index < count_of frontier e.at)
 
 -- the release of this name is there, with another word than this
 abbrev pub IsElsewhere : Streams → Option Word → Name → Type 0

@@ -9,7 +9,7 @@ ghost use Rattle.gr_model.specs.Names.{HasAcquireCause, IsAbsent, names_at, rele
 ghost use Rattle.gr_model.specs.Streams.{word_at};
 ghost use Rattle.gr_model.specs.Reports.{IsUnmatchedAcquire, Lists, UnmatchedBelow};
 ghost use Rattle.gr_windows.specs.Windows.{AreWaiting};
-ghost use Rattle.gr_findings.specs.Acquires.{AreUnmatchedBefore, IsElsewhere, IsGroundedFront};
+ghost use Rattle.gr_findings.specs.Acquires.{AreUnmatchedBefore, IsElsewhere, IsGroundedFrontier};
 
 use gr_clocks::tally::Tally;
 use gr_lanes::lanes::Lanes;
@@ -86,7 +86,7 @@ fn unmatched_of<B: Allocator>(
     item: ItemId,
 ) -> Option<Unmatched>
     requires waiting { AreWaiting lanes.now frontier.now windows.now }
-    requires grounded { IsGroundedFront lanes.now frontier.now }
+    requires grounded { IsGroundedFrontier lanes.now frontier.now }
     ensures { MatchOption result ((u : Finding) → IsUnmatchedAcquire lanes.now u → u.event.at ≢ item) (λ u. (u.event.at ≡ item) × IsUnmatchedAcquire lanes.now u) }
 {
     let event = EventId {
@@ -113,7 +113,7 @@ fn add_group<A: Allocator, B: Allocator>(
     list: &mut Vec<Unmatched, A>,
 ) -> Result<(), Memory>
     requires group { group < length lanes.now.sizes }
-    requires grounded { IsGroundedFront lanes.now frontier.now }
+    requires grounded { IsGroundedFrontier lanes.now frontier.now }
     requires waiting { AreWaiting lanes.now frontier.now windows.now }
     requires before { AreUnmatchedBefore lanes.now group 0 list.old.items }
     ensures { OnOk result (AreUnmatchedBefore lanes.now (group + 1) 0 list.new.items) }
@@ -137,7 +137,7 @@ pub fn unmatched<A: Allocator, B: Allocator>(
     frontier: &Tally<B>,
     windows: &Windows<B>,
 ) -> Result<Vec<Unmatched, A>, Memory>
-    requires grounded { IsGroundedFront lanes.now frontier.now }
+    requires grounded { IsGroundedFrontier lanes.now frontier.now }
     requires waiting { AreWaiting lanes.now frontier.now windows.now }
     ensures { IfOk result (λ v. Lists UnmatchedBelow (IsUnmatchedAcquire lanes.now) v.items) }
 {

@@ -7,9 +7,9 @@ use Rattle.std.proofs.Math.Seq.{map-set_same}
 use Rattle.gr_model.specs.declared.event.Event.{Event}
 use Rattle.gr_model.specs.declared.limits.TheConstants.{MOST_RECORDS}
 use Rattle.gr_model.specs.Shapes.{IsShape}
-use Rattle.gr_model.specs.Streams.{AreFronts, IsFront, Streams, is_complete, list_of, size_of}
+use Rattle.gr_model.specs.Streams.{ArePrefixes, IsPrefix, Streams, is_complete, list_of, size_of}
 use Rattle.gr_model.specs.Reports.{IsCut}
-use Rattle.gr_model.proofs.StreamFronts.{front_push}
+use Rattle.gr_model.proofs.StreamPrefixes.{prefix_push}
 use Rattle.gr_lanes.specs.Indices.{AreGroups, EndsCut, GroupList, taken_of}
 use Rattle.gr_lanes.specs.Takes.{CanTake, IsEventButItem, nothing_taken, with_record}
 
@@ -36,10 +36,10 @@ nothing_is sizes groups are = let lists = ap (map (λ (g : GroupList). g.list)) 
 pub nothing_groups : (sizes : List ℕ) (groups : List GroupList) → IsShape sizes → groups ≡ map empty sizes → AreGroups sizes groups
 nothing_groups sizes groups shape are = subst (AreGroups sizes) (sym are) (record {
   same = sizes_empty sizes;
-  fronts = record {
+  prefixes = record {
     shape = shape;
     count = ap length (lists_empty sizes) ∙ length-map sizes (λ n. []);
-    each = λ g within. subst (IsFront (get_or sizes g 0)) (sym (none_at sizes g)) (record { few = omega arith; good = λ p x at. cc });
+    each = λ g within. subst (IsPrefix (get_or sizes g 0)) (sym (none_at sizes g)) (record { few = omega arith; good = λ p x at. cc });
   };
 })
 
@@ -109,23 +109,23 @@ module _ {sizes : List ℕ} {groups : List GroupList} {g : ℕ} {now : GroupList
   list_there : g < length lists
   list_there = omega (arith, length-map groups (λ (x : GroupList). x.list), within)
 
-  front_here : IsFront (get_or sizes g 0) (get_or (set lists g longer) g [])
-  front_here =
-      subst (IsFront (get_or sizes g 0)) (sym (get_or-set_same lists g longer [] list_there))
-      (front_push (get_or sizes g 0) (list_of (taken_of sizes groups) g) x (t.are.fronts.each g t.there) (can_take.item, t.good.0, t.good.1) (false_from_ne_true (is_complete (list_of (taken_of sizes groups) g)) can_take.before_end) (subst (λ l. length l < MOST_RECORDS) list t.room))
+  prefix_here : IsPrefix (get_or sizes g 0) (get_or (set lists g longer) g [])
+  prefix_here =
+      subst (IsPrefix (get_or sizes g 0)) (sym (get_or-set_same lists g longer [] list_there))
+      (prefix_push (get_or sizes g 0) (list_of (taken_of sizes groups) g) x (t.are.prefixes.each g t.there) (can_take.item, t.good.0, t.good.1) (false_from_ne_true (is_complete (list_of (taken_of sizes groups) g)) can_take.before_end) (subst (λ l. length l < MOST_RECORDS) list t.room))
 
-  pub fronts_grow : AreFronts (with_record (taken_of sizes groups) g x)
-  fronts_grow = record {
-    shape = t.are.fronts.shape;
-    count = length-set lists g longer ∙ t.are.fronts.count;
+  pub prefixes_grow : ArePrefixes (with_record (taken_of sizes groups) g x)
+  prefixes_grow = record {
+    shape = t.are.prefixes.shape;
+    count = length-set lists g longer ∙ t.are.prefixes.count;
     each = λ h there. ⊎_elim
-        (λ (here : h ≡ g). subst (λ n. IsFront (get_or sizes n 0) (get_or (set lists g longer) n [])) (sym here) front_here)
-        (λ (apart : h ≡ g → ⊥). subst (IsFront (get_or sizes h 0)) (sym (get_or-set_other lists g h longer [] apart)) (t.are.fronts.each h there))
+        (λ (here : h ≡ g). subst (λ n. IsPrefix (get_or sizes n 0) (get_or (set lists g longer) n [])) (sym here) prefix_here)
+        (λ (apart : h ≡ g → ⊥). subst (IsPrefix (get_or sizes h 0)) (sym (get_or-set_other lists g h longer [] apart)) (t.are.prefixes.each h there))
         (cases_eq h g);
   }
 
   pub set_groups : AreGroups sizes (set groups g new)
-  set_groups = record { same = sizes_stay; fronts = subst AreFronts (sym set_taken) fronts_grow }
+  set_groups = record { same = sizes_stay; prefixes = subst ArePrefixes (sym set_taken) prefixes_grow }
 
   -- the same of the lists and the group by other names
   pub taken_so : (s : Streams) (h : ℕ) → taken_of sizes groups ≡ s → g ≡ h → CanTake s h x × (taken_of sizes (set groups g new) ≡ with_record s h x)
@@ -134,8 +134,8 @@ module _ {sizes : List ℕ} {groups : List GroupList} {g : ℕ} {now : GroupList
     set_taken ∙ (ap (λ r. with_record r g x) is ∙ ap (λ k. with_record s k x) same),
   )
 
-  pub fronts_so : AreFronts (taken_of sizes (set groups g new))
-  fronts_so = set_groups.fronts
+  pub prefixes_so : ArePrefixes (taken_of sizes (set groups g new))
+  prefixes_so = set_groups.prefixes
 
 -- ---- cut streams
 

@@ -3,12 +3,12 @@ use Rattle.std.proofs.Common.{◌≡◌, ℕ, [], ◌∷◌, ◌++◌, refl, sym
 use Rattle.std.proofs.lemmas.Bool.{cases_eq}
 use Rattle.std.proofs.lemmas.List.{get_or-set_same, get_or-set_other}
 use Rattle.gr_model.specs.declared.event.Event.{Event}
-use Rattle.gr_model.specs.Streams.{AreFronts, Grows, Streams, is_complete, list_of}
+use Rattle.gr_model.specs.Streams.{ArePrefixes, Grows, Streams, is_complete, list_of}
 use Rattle.gr_lanes.specs.Takes.{CanTake, with_record}
 
-module _ (s : Streams) (g : ℕ) (x : Event) (fronts : AreFronts s) (can : CanTake s g x) where
+module _ (s : Streams) (g : ℕ) (x : Event) (prefixes : ArePrefixes s) (can : CanTake s g x) where
   pub here : list_of (with_record s g x) g ≡ list_of s g ++ x ∷ []
-  here = get_or-set_same s.lists g (list_of s g ++ x ∷ []) [] (omega (arith, fronts.count, can.group))
+  here = get_or-set_same s.lists g (list_of s g ++ x ∷ []) [] (omega (arith, prefixes.count, can.group))
 
   pub other : (h : ℕ) → (h ≡ g → ⊥) → list_of (with_record s g x) h ≡ list_of s h
   other h apart = get_or-set_other s.lists g h (list_of s g ++ x ∷ []) [] apart

@@ -14,9 +14,9 @@ use Rattle.gr_model.specs.Access.{is_release}
 use Rattle.gr_model.specs.Barriers.{is_barrier}
 use Rattle.gr_model.specs.declared.event.Kind.TheVariants.{End}
 use Rattle.gr_model.specs.Events.{IsEventOk, is_end, is_end_kind}
-use Rattle.gr_model.specs.Streams.{IsFront, AreGood, Streams, event_at, is_complete, is_of, place_of, places_from, trace_of}
+use Rattle.gr_model.specs.Streams.{IsPrefix, AreGood, Streams, event_at, is_complete, is_of, place_of, places_from, trace_of}
 use Rattle.gr_model.proofs.Places.{places_from-append}
-use Rattle.gr_model.proofs.StreamFronts.{front_push}
+use Rattle.gr_model.proofs.StreamPrefixes.{prefix_push}
 use Rattle.gr_lanes.specs.Indices.{EndsCut, Index, index_of, no_index, with_if, with_event, indexed, record_of, AreIndices, AreRising}
 
 -- an element more at the end of a list
@@ -90,7 +90,7 @@ module _ (lanes : List Index) (list : List Event) (x : Event) (are : AreIndices 
   pub few_events : (get_or lanes x.item no_index).count < 4_294_967_295
   few_events =
       let same : (get_or lanes x.item no_index).count ≡ length (filter (is_of x.item) list) = ap (λ (l : Index). l.count) (are.each x.item ok.0) in
-      omega (arith, few-places (is_of x.item) 0 list, length-places (is_of x.item) 0 list, are.front.few)
+      omega (arith, few-places (is_of x.item) 0 list, length-places (is_of x.item) 0 list, are.prefix.few)
 
   abbrev event : Index
   event = with_event (get_or lanes x.item no_index) x (is_release x) (is_barrier x)
@@ -98,8 +98,8 @@ module _ (lanes : List Index) (list : List Event) (x : Event) (are : AreIndices 
   pub indices_more : ¬ IsTrue (is_complete list) → length list < MOST_RECORDS → AreIndices (indexed lanes x) (list ++ x ∷ [])
   indices_more open_list room = by_end (is_end x) refl
     where
-      front : IsFront (length lanes) (list ++ x ∷ [])
-      front = front_push (length lanes) list x are.front ok (false_from_ne_true (is_complete list) open_list) room
+      prefix : IsPrefix (length lanes) (list ++ x ∷ [])
+      prefix = prefix_push (length lanes) list x are.prefix ok (false_from_ne_true (is_complete list) open_list) room
 
       here : is_end x ≡ false → get_or (set lanes x.item event) x.item no_index ≡ index_of (list ++ x ∷ []) x.item
       here on =
@@ -110,10 +110,10 @@ module _ (lanes : List Index) (list : List Event) (x : Event) (are : AreIndices 
       other on i apart within = get_or-set_other lanes x.item i event no_index apart ∙ (are.each i within ∙ sym (index_other list x i (is_of_item x i on ∙ ne_eqb x.item i (λ e. apart (sym e)))))
 
       by_end : (b : Bool) → is_end x ≡ b → AreIndices (cond b lanes (set lanes x.item event)) (list ++ x ∷ [])
-      by_end true end = record { front = front; each = λ i within. are.each i within ∙ sym (index_other list x i (end_is_of x i end)) }
+      by_end true end = record { prefix = prefix; each = λ i within. are.each i within ∙ sym (index_other list x i (end_is_of x i end)) }
       by_end false on =
           let size : length (set lanes x.item event) ≡ length lanes = length-set lanes x.item event in record {
-            front = subst (λ n. IsFront n (list ++ x ∷ [])) (sym size) front;
+            prefix = subst (λ n. IsPrefix n (list ++ x ∷ [])) (sym size) prefix;
             each = λ i within. ⊎_elim
                 (λ (same : i ≡ x.item). subst (λ n. get_or (set lanes x.item event) n no_index ≡ index_of (list ++ x ∷ []) n) (sym same) (here on))
                 (λ (apart : i ≡ x.item → ⊥). other on i apart (omega arith))
@@ -128,7 +128,7 @@ module _ (lanes : List Index) (list : List Event) (x : Event) (are : AreIndices 
 
 -- lanes of items without events
 pub no_events : (lanes : List Index) → ((i : ℕ) → i < length lanes → get_or lanes i no_index ≡ no_index) → AreIndices lanes []
-no_events lanes none = record { front = record { few = omega arith; good = λ p x at. cc }; each = none }
+no_events lanes none = record { prefix = record { few = omega arith; good = λ p x at. cc }; each = none }
 
 pub one_lane_more : (old new : List Index) (n : ℕ) → length old ≡ n → ((i : ℕ) → i < n → get_or old i no_index ≡ no_index) → new ≡ old ++ no_index ∷ [] → (i : ℕ) → i < n + 1 → get_or new i no_index ≡ no_index
 one_lane_more old new n count none is i within =
@@ -151,8 +151,8 @@ none_of i (x ∷ l) all =
     let other : is_of i x ≡ false = ap (λ b. b && not (is_end x)) (ne_eqb x.item i (λ e. omega arith)) in
     ap (λ b. cond b (x ∷ filter (is_of i) l) (filter (is_of i) l)) other ∙ none_of i l (λ p y at. all (suc p) y at)
 
-pub no_trace : (n : ℕ) (list : List Event) → IsFront n list → (i : ℕ) → n ≤ i → filter (is_of i) list ≡ []
-no_trace n list front i beyond = none_of i list (λ p x at. let ok = (front.good p x at).0.0 in omega arith)
+pub no_trace : (n : ℕ) (list : List Event) → IsPrefix n list → (i : ℕ) → n ≤ i → filter (is_of i) list ≡ []
+no_trace n list prefix i beyond = none_of i list (λ p x at. let ok = (prefix.good p x at).0.0 in omega arith)
 
 at_least : {X : Type 0} (test : X → Bool) (i : ℕ) (xs : List X) (b : ℕ) → b < length (places_from test i xs) → i ≤ get_or (places_from test i xs) b 0
 at_least test i [] b within = absurd (omega arith)
@@ -195,10 +195,10 @@ module _ (lanes : List Index) (list : List Event) (are : AreIndices lanes list) 
   behind beyond = let past = ltb-false j (length read) (sym beyond) in omega (arith, ap length same)
 
   pub lacks_places : false ≡ ltb j (length read) → (test : Event → Bool) (k : ℕ) → None ≡ slice_get (places_from test 0 (filter (is_of i) list)) k
-  lacks_places beyond test k = sym (ap (λ l. slice_get (places_from test 0 l) k) (no_trace (length lanes) list are.front i (behind beyond)))
+  lacks_places beyond test k = sym (ap (λ l. slice_get (places_from test 0 l) k) (no_trace (length lanes) list are.prefix i (behind beyond)))
 
   pub lacks_records : false ≡ ltb j (length read) → (test : Event → Bool) (k : ℕ) → None ≡ slice_get (filter test (filter (is_of i) list)) k
-  lacks_records beyond test k = sym (ap (λ l. slice_get (filter test l) k) (no_trace (length lanes) list are.front i (behind beyond)))
+  lacks_records beyond test k = sym (ap (λ l. slice_get (filter test l) k) (no_trace (length lanes) list are.prefix i (behind beyond)))
 
   module _ (lane : Index) (there : true ≡ ltb j (length read)) (reads : lane ≡ get_or read j lane) where
     pub lane_is : lane ≡ index_of list i
@@ -208,7 +208,7 @@ module _ (lanes : List Index) (list : List Event) (are : AreIndices lanes list) 
         get_or_read lanes i lane within (reads ∙ (ap (λ l. get_or l j lane) same ∙ ap (λ n. get_or lanes n lane) here)) no_index ∙ are.each i within
 
     few_that : (test : Event → Bool) → length (places_from test 0 (filter (is_of i) list)) < 4_294_967_296
-    few_that test = omega (arith, few-places test 0 (filter (is_of i) list), length-places (is_of i) 0 list, few-places (is_of i) 0 list, are.front.few)
+    few_that test = omega (arith, few-places test 0 (filter (is_of i) list), length-places (is_of i) 0 list, few-places (is_of i) 0 list, are.prefix.few)
 
     pub few_releases : length lane.releases < 4_294_967_296
     few_releases = subst (λ (l : Index). length l.releases < 4_294_967_296) (sym lane_is) (few_that is_release)

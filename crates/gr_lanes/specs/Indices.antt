@@ -6,7 +6,7 @@ use Rattle.gr_model.specs.declared.event.Kind.TheVariants.{End}
 use Rattle.gr_model.specs.Access.{is_release}
 use Rattle.gr_model.specs.Barriers.{is_barrier}
 use Rattle.gr_model.specs.Events.{is_end}
-use Rattle.gr_model.specs.Streams.{Streams, AreFronts, IsFront, is_of, places_from, trace_of}
+use Rattle.gr_model.specs.Streams.{Streams, ArePrefixes, IsPrefix, is_of, places_from, trace_of}
 
 -- how many events an item has, the places of its releases and its barriers among them, and the records of these
 pub record Index : Type 0 where
@@ -63,7 +63,7 @@ pub record GroupList : Type 0 where
 
 -- each item has its index in the list, and its group may have such a list
 pub record AreIndices (lanes : List Index) (list : List Event) : Type 0 where
-  pub front : IsFront (length lanes) list
+  pub prefix : IsPrefix (length lanes) list
   pub each : (i : ℕ) → i < length lanes → slice_index_or lanes i no_index ≡ index_of list i
 
 -- what is kept of a group: the indices of its items, how many records were taken, and the last of them
@@ -83,4 +83,4 @@ taken_of sizes groups = record { sizes = sizes; lists = map (λ g. g.list) group
 -- the groups are those of the shape, and each has a list that it may have
 pub record AreGroups (sizes : List ℕ) (groups : List GroupList) : Type 0 where
   pub same : map (λ g. g.size) groups ≡ sizes
-  pub fronts : AreFronts (taken_of sizes groups)
+  pub prefixes : ArePrefixes (taken_of sizes groups)

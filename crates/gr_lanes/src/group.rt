@@ -1,6 +1,6 @@
 //! What was taken of one work-group: how many records, the last of them, and a lane for each of its items.
 //!
-//! Invariant: the records are a front of a list that the group may have, and each lane is the index of its item's events
+//! Invariant: the records are a prefix of a list that the group may have, and each lane is the index of its item's events
 //! in it. The list itself exists in proofs alone.
 
 ghost use Rattle.std.specs.Prelude.{◌≡◌, ◌≢◌, ◌↔◌, ◌∷◌, ◌++◌, ◌<◌, ℕ, [], true, IsTrue, IfOk, MatchOption, OnOk, OnErr, filter, length, slice_get, slice_index_or};

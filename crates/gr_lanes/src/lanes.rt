@@ -1,10 +1,10 @@
 //! What was taken of a launch's streams.
 //!
-//! Invariant: there is a group for each of the shape, of its size, and each has a front of a list that it may have.
+//! Invariant: there is a group for each of the shape, of its size, and each has a prefix of a list that it may have.
 
 ghost use Rattle.std.specs.Prelude.{◌≡◌, ◌≢◌, ◌↔◌, ◌<◌, ℕ, Some, IsTrue, IfOk, IfErr, MatchOption, OnOk, OnErr, length, option_and_then};
 ghost use Rattle.gr_model.specs.declared.limits.TheConstants.{MOST_RECORDS};
-ghost use Rattle.gr_model.specs.Streams.{AreFronts, is_complete, list_of, place_of};
+ghost use Rattle.gr_model.specs.Streams.{ArePrefixes, is_complete, list_of, place_of};
 ghost use Rattle.gr_model.specs.Access.{event_word, is_release};
 ghost use Rattle.gr_model.specs.Barriers.{is_barrier};
 ghost use Rattle.gr_lanes.specs.Indices.{record_of};
@@ -48,7 +48,7 @@ impl<A: Allocator + Copy> Lanes<A> {
     /// `Memory`: out of memory.
     pub fn new(alloc: A, shape: Shape<A>) -> Result<Lanes<A>, Memory>
         ensures nothing { IfOk result (λ l. l ≡ nothing_taken shape) }
-        ensures fronts { IfOk result (λ l. AreFronts l) }
+        ensures prefixes { IfOk result (λ l. ArePrefixes l) }
     {
         let mut groups = Vec::new(alloc);
         for group in 0..shape.groups() {
@@ -62,7 +62,7 @@ impl<A: Allocator> Lanes<A> {
     /// The sizes of the groups.
     pub fn shape(&self) -> &Shape<A>
         ensures sizes { result.now ≡ self.now.sizes }
-        ensures fronts { AreFronts self.now }
+        ensures prefixes { ArePrefixes self.now }
     {
         &self.shape
     }
@@ -196,7 +196,7 @@ impl<A: Allocator> Lanes<A> {
         ensures ok { OnOk result (CanTake self.old group event × (self.new ≡ with_record self.old group event)) }
         ensures err { IfErr result (λ e. IsTakeFault self.old group event e) }
         ensures unchanged { OnErr result (self.new ≡ self.old) }
-        ensures fronts { AreFronts self.new }
+        ensures prefixes { ArePrefixes self.new }
     {
         match self.refusal(group, &event) {
             None => {}

@@ -139,7 +139,7 @@ header_found bytes h e =
     let items = short_found _ i.0 i.1 in
     let launch = number_found _ l.0 l.1 in
     let range = and_parts _ _ m.0 in
-    let range_front = and_parts _ _ range.0 in
+    let range_prefix = and_parts _ _ range.0 in
     let end = version_words v.0 in
     let t5 = last_with f.0 (decimal l.0) end launch.0 (version_found _ v.0 v.1) in
     let t4 = joined d.0 (codes "launch") f.0 (decimal l.0) end (more d.0 (codes "launch") f.0 (same_is _ _ keys.1) f.1) t5 in
@@ -147,7 +147,7 @@ header_found bytes h e =
     let t2 = joined b.0 (codes "items") c.0 (decimal i.0) (codes "launch" ∷ decimal l.0 ∷ end) (more b.0 (codes "items") c.0 (same_is _ _ keys.0) c.1) t3 in
     let t1 = joined bytes (decimal g.0) b.0 (codes "items") (decimal i.0 ∷ codes "launch" ∷ decimal l.0 ∷ end) (more bytes (decimal g.0) b.0 group.0 b.1) t2 in
     subst (λ (x : Header). IsHeader x × (bytes ≡ decimal x.group ++ later_text (codes "items" ∷ decimal x.items ∷ codes "launch" ∷ decimal x.launch ∷ version_words x.version))) same_h
-    (record { group = ltb-true _ _ range_front.0; some = leb-true _ _ range_front.1; items = leb-true _ _ range.1; launch = launch.1 }, t1)
+    (record { group = ltb-true _ _ range_prefix.0; some = leb-true _ _ range_prefix.1; items = leb-true _ _ range.1; launch = launch.1 }, t1)
 
 abbrev Named : Type 0
 Named = Name × Option (List ℕ)

@@ -7,35 +7,35 @@ use Rattle.gr_lines.specs.LineReading.{◌>>=◌, name_said, names_said}
 
 -- names before others
 abbrev pub names_before : List Name → Option (List Name) → Option (List Name)
-names_before front o = o >>= λ names. Some (front ++ names)
+names_before prefix o = o >>= λ names. Some (prefix ++ names)
 
 abbrev pub names_behind : List Name → ℕ → Option (List Name) → Option (List Name)
 names_behind names place o = names_before (take place names) o
 
-regroup : (front : List Name) (n : Name) (o : Option (List Name)) → names_before front (o >>= λ names. Some (n ∷ names)) ≡ names_before (front ++ n ∷ []) o
-regroup front n (Some names) = ap (λ (x : List Name). Some x) (sym (append_assoc front (n ∷ []) names))
-regroup front n None = refl
+regroup : (prefix : List Name) (n : Name) (o : Option (List Name)) → names_before prefix (o >>= λ names. Some (n ∷ names)) ≡ names_before (prefix ++ n ∷ []) o
+regroup prefix n (Some names) = ap (λ (x : List Name). Some x) (sym (append_assoc prefix (n ∷ []) names))
+regroup prefix n None = refl
 
-module _ (front : List Name) (place : ℕ) (total : Option (List Name)) where
-  pub over : names_before front (names_said None (4 - place)) ≡ total → Some front ≡ total
+module _ (prefix : List Name) (place : ℕ) (total : Option (List Name)) where
+  pub over : names_before prefix (names_said None (4 - place)) ≡ total → Some prefix ≡ total
   unfolding names_said
-  over so_far = ap (λ (x : List Name). Some x) (sym (append-nil front)) ∙ so_far
+  over so_far = ap (λ (x : List Name). Some x) (sym (append-nil prefix)) ∙ so_far
 
-  pub too_many : (bytes : List ℕ) → 4 ≤ place → names_before front (names_said (Some bytes) (4 - place)) ≡ total → None ≡ total
+  pub too_many : (bytes : List ℕ) → 4 ≤ place → names_before prefix (names_said (Some bytes) (4 - place)) ≡ total → None ≡ total
   unfolding names_said
   too_many bytes le so_far =
       let k : 4 - place ≡ 0 = omega arith in
       rw k at so_far
 
-  module _ (bytes : List ℕ) (lt : place < 4) (so_far : names_before front (names_said (Some bytes) (4 - place)) ≡ total) where
+  module _ (bytes : List ℕ) (lt : place < 4) (so_far : names_before prefix (names_said (Some bytes) (4 - place)) ≡ total) where
     pub no_name : name_said bytes ≡ None → None ≡ total
     unfolding names_said
     no_name is =
         let k : 4 - place ≡ suc (4 - (place + 1)) = omega arith in
         rw (k, is) at so_far
 
-    pub one_more : (n : Name) (behind : Option (List ℕ)) → name_said bytes ≡ Some (n, behind) → names_before (front ++ n ∷ []) (names_said behind (4 - (place + 1))) ≡ total
+    pub one_more : (n : Name) (behind : Option (List ℕ)) → name_said bytes ≡ Some (n, behind) → names_before (prefix ++ n ∷ []) (names_said behind (4 - (place + 1))) ≡ total
     unfolding names_said
     one_more n behind is =
         let k : 4 - place ≡ suc (4 - (place + 1)) = omega arith in
-        sym (regroup front n (names_said behind (4 - (place + 1)))) ∙ (rw (k, is) at so_far)
+        sym (regroup prefix n (names_said behind (4 - (place + 1)))) ∙ (rw (k, is) at so_far)

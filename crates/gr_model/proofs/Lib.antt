@@ -11,8 +11,8 @@ pub mod AscendingLists
 pub mod ReportLaws
 pub mod Cuts
 pub mod HitsAreRaces
-pub mod Fronts
+pub mod Prefixes
 pub mod WordLemmas
 pub mod Sending
 pub mod Causes
-pub mod StreamFronts
+pub mod StreamPrefixes

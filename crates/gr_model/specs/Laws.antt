@@ -4,7 +4,7 @@ use Rattle.gr_model.specs.declared.event.Space.{Space}
 use Rattle.gr_model.specs.declared.event.ItemId.{ItemId}
 use Rattle.gr_model.specs.declared.event.EventId.{EventId}
 use Rattle.gr_model.specs.declared.event.Word.{Word}
-use Rattle.gr_model.specs.Streams.{Streams, AreAccepted, AreFronts, AreComplete, Grows}
+use Rattle.gr_model.specs.Streams.{Streams, AreAccepted, ArePrefixes, AreComplete, Grows}
 use Rattle.gr_model.specs.HappensBefore.{BasePair, HappensBefore}
 use Rattle.gr_model.specs.Waits.{Waits, Stage, IsGrounded}
 use Rattle.gr_model.specs.LawfulOrders.{IsLawful, IsWholeOrder, IsAt, IsIn}
@@ -15,7 +15,7 @@ use Rattle.gr_model.specs.Reports.{WholeReport, IsReportOf}
 
 -- lists are accepted exactly where they may have come and are complete
 abbrev pub AcceptedAreComplete : Type 0
-AcceptedAreComplete = (s : Streams) → AreAccepted s ↔ (AreFronts s × AreComplete s)
+AcceptedAreComplete = (s : Streams) → AreAccepted s ↔ (ArePrefixes s × AreComplete s)
 
 -- in a lawful order a base pair goes forwards
 abbrev pub PairsGoForwards : Type 0

@@ -74,15 +74,15 @@ pub record AreAccepted (s : Streams) : Type 0 where
   pub each : (g : ℕ) → g < length s.sizes → IsAccepted (size_of s g) (list_of s g)
 
 -- what may have come so far of a list that a group of so many items may have
-pub record IsFront (items : ℕ) (list : List Event) : Type 0 where
+pub record IsPrefix (items : ℕ) (list : List Event) : Type 0 where
   pub few : length list ≤ MOST_RECORDS
   pub good : AreGood items list
 
 -- what may have come so far of the lists of the groups of a shape
-pub record AreFronts (s : Streams) : Type 0 where
+pub record ArePrefixes (s : Streams) : Type 0 where
   pub shape : IsShape s.sizes
   pub count : length s.lists ≡ length s.sizes
-  pub each : (g : ℕ) → g < length s.sizes → IsFront (size_of s g) (list_of s g)
+  pub each : (g : ℕ) → g < length s.sizes → IsPrefix (size_of s g) (list_of s g)
 
 -- every group's list is complete
 abbrev pub AreComplete : Streams → Type 0

@@ -17,12 +17,12 @@ use Rattle.gr_steps.proofs.HeldEvents.{held_at_rest}
 use Rattle.gr_steps.proofs.NextEvents.{ready_is_next}
 use Rattle.gr_steps.proofs.Resting.{rest_grounded}
 use Rattle.gr_order.specs.Sequences.{Sequence}
-use Rattle.gr_order.specs.States.{IsState}
+use Rattle.gr_order.specs.States.{IsOrderState}
 use Rattle.gr_order.proofs.StateLemmas.{item_cases, item_there, tick_here, tick_there}
 use Rattle.gr_order.proofs.SumLemmas.{group_more, item_more, items_at_most}
 use Rattle.gr_order.proofs.TakenLemmas.{events_most, taken_events, trace_most}
 
-module _ (q : Sequence) (frontier : Counts) (held : ℕ) (state : IsState q frontier held) where
+module _ (q : Sequence) (frontier : Counts) (held : ℕ) (state : IsOrderState q frontier held) where
   abbrev traces : ItemId → ℕ
   traces i = length (trace_of q.taken i)
 
@@ -44,12 +44,12 @@ module _ (q : Sequence) (frontier : Counts) (held : ℕ) (state : IsState q fron
   held_sum : held ≡ sum_by (λ i. traces i - counts i) (items_of q.taken.sizes)
   held_sum =
       let sum = items_at_most counts traces q.taken.sizes (λ i there. taken_first i) in
-      let taken = taken_events q.taken state.sequence.fronts in
+      let taken = taken_events q.taken state.sequence.prefixes in
       let handled = state.counts in
       let rest = state.rest in omega arith
 
   pub held_most : held ≤ 1073741824
-  held_most = let most = events_most q.taken state.sequence.fronts in let rest = state.rest in omega arith
+  held_most = let most = events_most q.taken state.sequence.prefixes in let rest = state.rest in omega arith
 
   -- where no step is left, the held events are those that are not grounded
   pub held_at : IsAtRest q.taken q.handled → IsHeld q.taken held
@@ -59,7 +59,7 @@ module _ (q : Sequence) (frontier : Counts) (held : ℕ) (state : IsState q fron
   are_held : (more : ItemId → ℕ) (n : ℕ) → ((i : ItemId) → HasItem q.taken.sizes i → more i ≤ traces i) → sum_by more (items_of q.taken.sizes) ≡ sum_by counts (items_of q.taken.sizes) + n → n ≤ held
   are_held more n within sum =
       let most = items_at_most more traces q.taken.sizes within in
-      let taken = taken_events q.taken state.sequence.fronts in
+      let taken = taken_events q.taken state.sequence.prefixes in
       let handled = state.counts in
       let rest = state.rest in omega arith
 
@@ -76,7 +76,7 @@ module _ (q : Sequence) (frontier : Counts) (held : ℕ) (state : IsState q fron
 
     pub ready_can_count : count_of frontier e.at ≢ LARGEST_COUNT
     ready_can_count full =
-        let most = trace_most q.taken state.sequence.fronts e.at ready_item.0 in
+        let most = trace_most q.taken state.sequence.prefixes e.at ready_item.0 in
         let index = index_is in
         let taken = is_taken in omega arith
 

@@ -8,7 +8,7 @@ use Rattle.gr_model.specs.declared.event.EventId.{EventId}
 use Rattle.gr_model.specs.declared.event.ItemId.{ItemId}
 use Rattle.gr_model.specs.Barriers.{IsConvergent, StandsIn, arrivals, is_barrier, mark_of}
 use Rattle.gr_model.specs.Instances.{Mark}
-use Rattle.gr_model.specs.Streams.{AreFronts, Streams, event_at, place_of, size_of, trace_of}
+use Rattle.gr_model.specs.Streams.{ArePrefixes, Streams, event_at, place_of, size_of, trace_of}
 use Rattle.gr_clocks.specs.Counts.{Counts, count_of}
 use Rattle.gr_steps.specs.Steps.{CanMeet, IsMeeting}
 use Rattle.gr_steps.proofs.BarrierPlaces.{barrier_of, places_from-once, stands_before}
@@ -16,7 +16,7 @@ use Rattle.gr_steps.proofs.Orders.{number_before}
 use Rattle.gr_lanes.proofs.InstanceLemmas.{barrier_mark}
 use Rattle.gr_lanes.specs.Instances.{HasCome}
 use Rattle.gr_order.specs.Readiness.{IsNextInstance, StandsNext}
-use Rattle.gr_order.specs.States.{AreFirst}
+use Rattle.gr_order.specs.States.{AreBelowFrontier}
 use Rattle.gr_order.proofs.ReadyLemmas.{come_of}
 
 -- the item of a group at a place, and its next event
@@ -38,9 +38,9 @@ module _ (s : Streams) (frontier : Counts) (g : ℕ) where
   pub first_numbered : ((k : ℕ) → place_of s is_barrier (item_at g 0) k ≡ Some (count_of frontier (item_at g 0)) → ⊥) → (k : ℕ) → IsNextInstance s frontier g k → ⊥
   first_numbered none k h = none k (h.each 0 h.some).place
 
-  module _ (fronts : AreFronts s) (x : Event) (at : event_at s (next_of frontier (item_at g 0)) ≡ Some x) (number : ℕ) (place : place_of s is_barrier (item_at g 0) number ≡ Some (count_of frontier (item_at g 0))) where
+  module _ (prefixes : ArePrefixes s) (x : Event) (at : event_at s (next_of frontier (item_at g 0)) ≡ Some x) (number : ℕ) (place : place_of s is_barrier (item_at g 0) number ≡ Some (count_of frontier (item_at g 0))) where
     come : HasCome s g number x
-    come = come_of s fronts (next_of frontier (item_at g 0)) x at number place
+    come = come_of s prefixes (next_of frontier (item_at g 0)) x at number place
 
     pub is_mark : is_some (mark_of x) ≡ true
     is_mark = come.barrier
@@ -64,7 +64,7 @@ module _ (s : Streams) (frontier : Counts) (g : ℕ) where
 
 -- ---- that instance is the one that may meet
 
-module _ (s : Streams) (order : List EventId) (frontier : Counts) (first_ones : AreFirst order frontier) (g : ℕ) where
+module _ (s : Streams) (order : List EventId) (frontier : Counts) (first_ones : AreBelowFrontier order frontier) (g : ℕ) where
   stands_at : (k : ℕ) (b : EventId) → IsNextInstance s frontier g k → StandsIn s b g k → b.index ≡ count_of frontier b.at
   stands_at k b h stands =
       let item : item_at g b.at.item ≡ b.at = λ d. record { group = sym stands.group d; item = b.at.item } in

@@ -21,7 +21,7 @@ use Rattle.gr_steps.proofs.Meeting.{lawful_meet}
 use Rattle.gr_steps.proofs.Orders.{at_behind, split_last, there_is}
 use Rattle.gr_order.specs.Readiness.{IsNextInstance}
 use Rattle.gr_order.specs.Sequences.{MeetsInstance, MeetsNext, Sequence}
-use Rattle.gr_order.specs.States.{AreFirst, IsState, TicksItems, counted_in, next_event, next_events}
+use Rattle.gr_order.specs.States.{AreBelowFrontier, IsOrderState, TicksItems, counted_in, next_event, next_events}
 use Rattle.gr_order.proofs.HeldLemmas.{group_is_held}
 use Rattle.gr_order.proofs.MeetLemmas.{meets_next}
 use Rattle.gr_lanes.proofs.InstanceLemmas.{barrier_mark}
@@ -91,7 +91,7 @@ module _ (frontier : Counts) (g n : ℕ) where
 
   -- ---- the handled events and the clock behind them
 
-  module _ (order : List EventId) (first : AreFirst order frontier) (new : Counts) (ticks : TicksItems frontier g n new) where
+  module _ (order : List EventId) (first : AreBelowFrontier order frontier) (new : Counts) (ticks : TicksItems frontier g n new) where
     -- whether an item is one of those that tick
     cases_of : (j : ItemId) → ((j.group ≡ g) × (j.item < n)) ⊎ IsBeyond g n j
     cases_of j = ⊎_elim
@@ -132,12 +132,12 @@ module _ (frontier : Counts) (g n : ℕ) where
         (λ (beyond : IsBeyond g n e.at). let same = ticks.others e.at beyond in was_there e (omega arith))
         (cases_of e.at)
 
-    pub first_behind : AreFirst (order ++ next_events frontier g n) new
+    pub first_behind : AreBelowFrontier (order ++ next_events frontier g n) new
     first_behind e = (counted e, found e)
 
 -- ---- an instance meets
 
-module _ (q : Sequence) (frontier : Counts) (held : ℕ) (state : IsState q frontier held) (g k : ℕ) (a : Mark) (meeting : IsMeeting q.taken q.handled g k a) where
+module _ (q : Sequence) (frontier : Counts) (held : ℕ) (state : IsOrderState q frontier held) (g k : ℕ) (a : Mark) (meeting : IsMeeting q.taken q.handled g k a) where
   next : IsNextInstance q.taken frontier g k
   next = meets_next q.taken q.handled frontier state.first g k a meeting
 
@@ -151,7 +151,7 @@ module _ (q : Sequence) (frontier : Counts) (held : ℕ) (state : IsState q fron
       omega (arith, there.2, within)
 
   pub below_largest : (i : ℕ) → i < size_of q.taken g → count_of frontier (item_of g i) < LARGEST_COUNT
-  below_largest i lt = let below = below_trace i lt in let most = trace_most q.taken state.sequence.fronts (item_of g i) group_there in omega arith
+  below_largest i lt = let below = below_trace i lt in let most = trace_most q.taken state.sequence.prefixes (item_of g i) group_there in omega arith
 
   pub barriers_are_held : size_of q.taken g ≤ held
   barriers_are_held = group_is_held q frontier held state g group_there below_trace
@@ -168,7 +168,7 @@ module _ (q : Sequence) (frontier : Counts) (held : ℕ) (state : IsState q fron
   pub passes : (new : Counts) (items : List EventId) → TicksItems frontier g (size_of q.taken g) new → items ≡ q.handled ++ next_events frontier g (size_of q.taken g) → MeetsInstance q g k (record { taken = q.taken; handled = items })
   passes new items ticks is = record { taken = refl; meets = record { mark = a; meeting = meeting; barriers = next_events frontier g (size_of q.taken g); are = are_barriers; order = is } }
 
-  pub after_pass : (new : Counts) (items : List EventId) (less : ℕ) → TicksItems frontier g (size_of q.taken g) new → items ≡ q.handled ++ next_events frontier g (size_of q.taken g) → less + size_of q.taken g ≡ held → IsState (record { taken = q.taken; handled = items }) new less
+  pub after_pass : (new : Counts) (items : List EventId) (less : ℕ) → TicksItems frontier g (size_of q.taken g) new → items ≡ q.handled ++ next_events frontier g (size_of q.taken g) → less + size_of q.taken g ≡ held → IsOrderState (record { taken = q.taken; handled = items }) new less
   after_pass new items less ticks is rest =
       let size : length items ≡ length q.handled + length (next_events frontier g (size_of q.taken g)) = ap (λ (l : List EventId). length l) is ∙ length-append q.handled (next_events frontier g (size_of q.taken g)) in
       let each = next_count frontier g (size_of q.taken g) in
@@ -177,18 +177,18 @@ module _ (q : Sequence) (frontier : Counts) (held : ℕ) (state : IsState q fron
       let handled = state.counts in
       let taken = state.rest in record {
         sequence = record {
-          fronts = state.sequence.fronts;
-          lawful = subst (IsLawful q.taken) (sym is) (lawful_meet q.taken state.sequence.fronts q.handled state.sequence.lawful g k a meeting (next_events frontier g (size_of q.taken g)) are_barriers);
+          prefixes = state.sequence.prefixes;
+          lawful = subst (IsLawful q.taken) (sym is) (lawful_meet q.taken state.sequence.prefixes q.handled state.sequence.lawful g k a meeting (next_events frontier g (size_of q.taken g)) are_barriers);
         };
         shape = ticks.shape ∙ state.shape;
-        first = subst (λ (l : List EventId). AreFirst l new) (sym is) (first_behind frontier g (size_of q.taken g) q.handled state.first new ticks);
+        first = subst (λ (l : List EventId). AreBelowFrontier l new) (sym is) (first_behind frontier g (size_of q.taken g) q.handled state.first new ticks);
         counts = omega arith;
         rest = omega arith;
       }
 
 -- what was done to the order and the clock of a state, of which the group could meet
 pub record Passing (q : Sequence) (frontier : Counts) (held g n : ℕ) (items : List EventId) (new : Counts) (less : ℕ) : Type 0 where
-  pub state : IsState q frontier held
+  pub state : IsOrderState q frontier held
   pub can : CanMeet q.taken q.handled g
   pub size : n ≡ size_of q.taken g
   pub added : items ≡ q.handled ++ next_events frontier g n
@@ -202,7 +202,7 @@ module _ {q : Sequence} {frontier : Counts} {held g n : ℕ} {items : List Event
   ticked : TicksItems frontier g (size_of q.taken g) new
   ticked = subst (λ (m : ℕ). TicksItems frontier g m new) p.size p.ticks
 
-  pub state_behind : IsState (record { taken = q.taken; handled = items }) new less
+  pub state_behind : IsOrderState (record { taken = q.taken; handled = items }) new less
   state_behind = after_pass q frontier held p.state g p.can.0 p.can.1 p.can.2 new items less ticked order (let size = p.size in let rest = p.rest in omega arith)
 
   -- the same of the sequence by another name

@@ -8,7 +8,7 @@ use Rattle.gr_model.specs.declared.event.Name.{Name}
 use Rattle.gr_model.specs.Access.{event_word}
 use Rattle.gr_model.specs.LawfulOrders.{IsLawful}
 use Rattle.gr_model.specs.Names.{HasName, names_of, release_place}
-use Rattle.gr_model.specs.Streams.{AreFronts, Streams, event_at, place_of, trace_of, word_at}
+use Rattle.gr_model.specs.Streams.{ArePrefixes, Streams, event_at, place_of, trace_of, word_at}
 use Rattle.gr_model.specs.declared.event.EventId.{EventId}
 use Rattle.gr_model.proofs.Cuts.{same_event}
 use Rattle.gr_steps.proofs.BarrierPlaces.{same_instance}
@@ -19,11 +19,11 @@ use Rattle.gr_clocks.specs.Counts.{Counts, count_of}
 use Rattle.gr_lanes.proofs.InstanceLemmas.{barrier_mark}
 use Rattle.gr_lanes.specs.Instances.{HasCome}
 use Rattle.gr_order.specs.Readiness.{AreReleased, IsReleased, MayPass}
-use Rattle.gr_order.specs.States.{AreFirst}
+use Rattle.gr_order.specs.States.{AreBelowFrontier}
 
 -- ---- an event that was taken
 
-module _ (s : Streams) (fronts : AreFronts s) (e : EventId) (x : Event) (at : event_at s e ≡ Some x) where
+module _ (s : Streams) (prefixes : ArePrefixes s) (e : EventId) (x : Event) (at : event_at s e ≡ Some x) where
   -- a barrier has come to its instance
   pub come_of : (k : ℕ) → place_of s is_barrier e.at k ≡ Some e.index → HasCome s e.at.group k x
   come_of k place =
@@ -31,13 +31,13 @@ module _ (s : Streams) (fronts : AreFronts s) (e : EventId) (x : Event) (at : ev
       let index : e.index ≡ h.0 = omega (arith, h.2) in
       let same : h.1 ≡ x = let is : Some h.1 ≡ Some x = sym h.3 ∙ (ap (slice_get (trace_of s e.at)) (sym index) ∙ at) in cc in record {
         item = e.at.item;
-        within = item_of_event s fronts e x at;
+        within = item_of_event s prefixes e x at;
         barrier = subst (λ y. is_some (mark_of y) ≡ true) same h.5;
         came = h.4 ∙ ap mark_of same;
       }
 
   pub stands_there : (k : ℕ) → place_of s is_barrier e.at k ≡ Some e.index → StandsIn s e e.at.group k
-  stands_there k place = record { group = refl; item = item_of_event s fronts e x at; place = place }
+  stands_there k place = record { group = refl; item = item_of_event s prefixes e x at; place = place }
 
   pub passes_if : (k : ℕ) → place_of s is_barrier e.at k ≡ Some e.index → IsDivergent s e.at.group k → MayPass s e
   passes_if k place divergent h l stands =
@@ -60,7 +60,7 @@ module _ (s : Streams) (frontier : Counts) (group : ℕ) (x : Event) (n : Name) 
 
 -- ---- the next event of an item
 
-module _ (s : Streams) (order : List EventId) (lawful : IsLawful s order) (frontier : Counts) (first_ones : AreFirst order frontier) (e : EventId) (next : e.index ≡ count_of frontier e.at) where
+module _ (s : Streams) (order : List EventId) (lawful : IsLawful s order) (frontier : Counts) (first_ones : AreBelowFrontier order frontier) (e : EventId) (next : e.index ≡ count_of frontier e.at) where
   abbrev counts : ItemId → ℕ
   counts i = count_of frontier i
 

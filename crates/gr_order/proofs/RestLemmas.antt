@@ -17,8 +17,8 @@ module _ (q : Sequence) (is : IsSequence q) where
     handles = λ i can.
         let e = can.0 in
         let there = can.2.event in
-        let group = group_of_event q.taken is.fronts e there.0 there.1 in
-        let item = item_of_event q.taken is.fronts e there.0 there.1 in
+        let group = group_of_event q.taken is.prefixes e there.0 there.1 in
+        let item = item_of_event q.taken is.prefixes e there.0 there.1 in
         (rest e.at.group group).handles e.at.item item (subst (CanHandle q.taken q.handled) (sym can.1) can);
     meets = λ g. ⊎_elim (λ (within : g < length q.taken.sizes). (rest g within).meets) (λ (past : length q.taken.sizes ≤ g). no_group_meets q.taken q.handled g past) (cases_lt g (length q.taken.sizes));
   }

@@ -7,7 +7,7 @@ use Rattle.gr_model.specs.Events.{is_end}
 use Rattle.gr_model.specs.declared.event.Event.{Event}
 use Rattle.gr_model.specs.declared.event.EventId.{EventId}
 use Rattle.gr_model.specs.declared.event.ItemId.{ItemId}
-use Rattle.gr_model.specs.Streams.{AreFronts, Streams}
+use Rattle.gr_model.specs.Streams.{ArePrefixes, Streams}
 use Rattle.gr_model.specs.LawfulOrders.{IsIn, IsLawful}
 use Rattle.gr_steps.proofs.StepGrowth.{lawful_grows}
 use Rattle.gr_steps.proofs.Handling.{lawful_handle}
@@ -23,17 +23,17 @@ use Rattle.gr_clocks.specs.Counts.{Counts, IsTick, IsZero, count_of, tick_at}
 use Rattle.gr_clocks.proofs.RowLemmas.{same_items}
 use Rattle.gr_lanes.specs.Takes.{CanTake, nothing_taken, with_record}
 use Rattle.gr_lanes.proofs.Growth.{record_grows}
-use Rattle.gr_order.specs.Sequences.{Sequence, events_of}
-use Rattle.gr_order.specs.States.{AreFirst, IsState, counted_in}
+use Rattle.gr_order.specs.Sequences.{Sequence, event_count}
+use Rattle.gr_order.specs.States.{AreBelowFrontier, IsOrderState, counted_in}
 use Rattle.gr_order.proofs.SumLemmas.{item_more, sum_none}
 use Rattle.gr_order.proofs.TakenLemmas.{events_more, no_events, one_at_most, one_if}
 
 -- nothing was taken
-pub new_state : (sizes : List ℕ) (taken : Streams) → taken ≡ nothing_taken sizes → AreFronts taken → (frontier : Counts) → IsZero sizes frontier → (items : List EventId) → items ≡ [] → IsState (record { taken = taken; handled = items }) frontier 0
-new_state sizes taken is fronts frontier clock items none =
-    let events : events_of taken ≡ 0 = ap (λ (s : Streams). events_of s) is ∙ no_events sizes in
+pub new_state : (sizes : List ℕ) (taken : Streams) → taken ≡ nothing_taken sizes → ArePrefixes taken → (frontier : Counts) → IsZero sizes frontier → (items : List EventId) → items ≡ [] → IsOrderState (record { taken = taken; handled = items }) frontier 0
+new_state sizes taken is prefixes frontier clock items none =
+    let events : event_count taken ≡ 0 = ap (λ (s : Streams). event_count s) is ∙ no_events sizes in
     let size : length items ≡ 0 = ap (λ (l : List EventId). length l) none in record {
-      sequence = record { fronts = fronts; lawful = subst (IsLawful taken) (sym none) (lawful_empty taken) };
+      sequence = record { prefixes = prefixes; lawful = subst (IsLawful taken) (sym none) (lawful_empty taken) };
       shape = clock.shape ∙ ap (λ (s : Streams). s.sizes) (sym is);
       first = λ e. (
         λ there. absurd (nowhere (subst (λ (l : List EventId). IsIn l e) none there)),
@@ -47,15 +47,15 @@ new_state sizes taken is fronts frontier clock items none =
     nowhere there = let at = there.1 in cc
 
 -- a record is taken
-module _ (q : Sequence) (frontier : Counts) (held : ℕ) (state : IsState q frontier held) where
-  pub took : (g : ℕ) (x : Event) (new : Streams) → AreFronts new → CanTake q.taken g x → new ≡ with_record q.taken g x → (more : ℕ) → more ≡ held + one_if (not (is_end x)) → IsState (record { taken = new; handled = q.handled }) frontier more
-  took g x new fronts can is more counts =
-      let events : events_of new ≡ events_of q.taken + one_if (not (is_end x)) = ap (λ (s : Streams). events_of s) is ∙ events_more q.taken g x state.sequence.fronts can in
+module _ (q : Sequence) (frontier : Counts) (held : ℕ) (state : IsOrderState q frontier held) where
+  pub took : (g : ℕ) (x : Event) (new : Streams) → ArePrefixes new → CanTake q.taken g x → new ≡ with_record q.taken g x → (more : ℕ) → more ≡ held + one_if (not (is_end x)) → IsOrderState (record { taken = new; handled = q.handled }) frontier more
+  took g x new prefixes can is more counts =
+      let events : event_count new ≡ event_count q.taken + one_if (not (is_end x)) = ap (λ (s : Streams). event_count s) is ∙ events_more q.taken g x state.sequence.prefixes can in
       let rest = state.rest in
       let one = one_at_most (not (is_end x)) in record {
         sequence = record {
-          fronts = fronts;
-          lawful = subst (λ (s : Streams). IsLawful s q.handled) (sym is) (lawful_grows q.taken (with_record q.taken g x) (record_grows q.taken g x state.sequence.fronts can) q.handled state.sequence.lawful);
+          prefixes = prefixes;
+          lawful = subst (λ (s : Streams). IsLawful s q.handled) (sym is) (lawful_grows q.taken (with_record q.taken g x) (record_grows q.taken g x state.sequence.prefixes can) q.handled state.sequence.lawful);
         };
         shape = state.shape ∙ sym (ap (λ (s : Streams). s.sizes) is);
         first = state.first;
@@ -98,14 +98,14 @@ item_cases i j = elim (same_item i j) as (λ b. same_item i j ≡ b → (i ≡ j
   | false ↦ λ f. inr (λ same. true≢false (sym (same_true i j same) ∙ f))
 ] refl
 
-module _ (q : Sequence) (frontier : Counts) (held : ℕ) (state : IsState q frontier held) (e : EventId) (ready : IsReady q.taken q.handled e) where
+module _ (q : Sequence) (frontier : Counts) (held : ℕ) (state : IsOrderState q frontier held) (e : EventId) (ready : IsReady q.taken q.handled e) where
   abbrev counts : ItemId → ℕ
   counts i = count_of frontier i
 
   index_is : e.index ≡ count_of frontier e.at
   index_is = ready_is_next q.taken q.handled state.sequence.lawful counts state.first e ready
 
-  first_more : (new : Counts) → IsTick frontier e.at new → AreFirst (q.handled ++ e ∷ []) new
+  first_more : (new : Counts) → IsTick frontier e.at new → AreBelowFrontier (q.handled ++ e ∷ []) new
   first_more new tick d = ⊎_elim
       (λ (here : e.at ≡ d.at).
       let now : count_of new d.at ≡ e.index + 1 = tick.counts d.at ∙ (ap (λ n. count_of frontier d.at + n) (tick_here e.at d.at here) ∙ ap (λ n. n + 1) (ap (count_of frontier) (sym here) ∙ sym index_is)) in
@@ -121,9 +121,9 @@ module _ (q : Sequence) (frontier : Counts) (held : ℕ) (state : IsState q fron
       (item_cases e.at d.at)
 
   pub item_there : HasItem q.taken.sizes e.at
-  item_there = (group_of_event q.taken state.sequence.fronts e ready.event.0 ready.event.1, item_of_event q.taken state.sequence.fronts e ready.event.0 ready.event.1)
+  item_there = (group_of_event q.taken state.sequence.prefixes e ready.event.0 ready.event.1, item_of_event q.taken state.sequence.prefixes e ready.event.0 ready.event.1)
 
-  pub after_handle : (new : Counts) (items : List EventId) (less : ℕ) → IsTick frontier e.at new → items ≡ q.handled ++ e ∷ [] → less + 1 ≡ held → IsState (record { taken = q.taken; handled = items }) new less
+  pub after_handle : (new : Counts) (items : List EventId) (less : ℕ) → IsTick frontier e.at new → items ≡ q.handled ++ e ∷ [] → less + 1 ≡ held → IsOrderState (record { taken = q.taken; handled = items }) new less
   after_handle new items less tick is one =
       let size : length items ≡ length q.handled + 1 = ap (λ (l : List EventId). length l) is ∙ length_push q.handled e in
       let rest = state.rest in
@@ -132,9 +132,9 @@ module _ (q : Sequence) (frontier : Counts) (held : ℕ) (state : IsState q fron
       (let ticks = tick.counts e.at in let here = tick_here e.at e.at refl in omega arith)
       (λ j apart. let ticks = tick.counts j in let none = tick_there e.at j apart in omega arith) in
       let handled = state.counts in record {
-        sequence = record { fronts = state.sequence.fronts; lawful = subst (IsLawful q.taken) (sym is) (lawful_handle q.taken q.handled state.sequence.lawful e ready) };
+        sequence = record { prefixes = state.sequence.prefixes; lawful = subst (IsLawful q.taken) (sym is) (lawful_handle q.taken q.handled state.sequence.lawful e ready) };
         shape = tick.shape ∙ state.shape;
-        first = subst (λ l. AreFirst l new) (sym is) (first_more new tick);
+        first = subst (λ l. AreBelowFrontier l new) (sym is) (first_more new tick);
         counts = omega arith;
         rest = omega arith;
       }

@@ -11,10 +11,10 @@ use Rattle.gr_model.specs.declared.event.ItemId.{ItemId}
 use Rattle.gr_model.specs.declared.limits.TheConstants.{MOST_GROUPS, MOST_RECORDS}
 use Rattle.gr_model.specs.Events.{is_end}
 use Rattle.gr_model.specs.Shapes.{items_of}
-use Rattle.gr_model.specs.Streams.{AreFronts, Streams, is_of, list_of, size_of, trace_of}
+use Rattle.gr_model.specs.Streams.{ArePrefixes, Streams, is_of, list_of, size_of, trace_of}
 use Rattle.gr_model.proofs.ListsOfRecords.{length-filter_le}
 use Rattle.gr_lanes.specs.Takes.{CanTake, nothing_taken, with_record}
-use Rattle.gr_order.specs.Sequences.{events_of}
+use Rattle.gr_order.specs.Sequences.{event_count}
 use Rattle.gr_order.proofs.SumLemmas.{group_sum, items_sum, sum_places, total, total_more, total_same}
 
 -- how many events a list has, ends aside
@@ -61,25 +61,25 @@ group_events n (x ∷ list) within =
     let one = filter_one (λ y. not (is_end y)) x list in omega arith
 
 -- so the events that were taken are those of all items
-pub taken_events : (s : Streams) → AreFronts s → sum_by (λ i. length (trace_of s i)) (items_of s.sizes) ≡ events_of s
-taken_events s fronts =
+pub taken_events : (s : Streams) → ArePrefixes s → sum_by (λ i. length (trace_of s i)) (items_of s.sizes) ≡ event_count s
+taken_events s prefixes =
     let groups = total_same (λ g. events_in (list_of s g)) (group_sum (λ i. length (trace_of s i)) s.sizes) 0 (length s.sizes) (λ g from there.
-    group_events (size_of s g) (list_of s g) (λ p x at. ((fronts.each g (omega arith)).good p x at).0.0)) in
-    let lists : events_of s ≡ total (λ g. events_in (list_of s g)) 0 (length s.sizes) = sum_places events_in s.lists [] ∙ ap (λ (n : ℕ). total (λ g. events_in (list_of s g)) 0 n) fronts.count in
+    group_events (size_of s g) (list_of s g) (λ p x at. ((prefixes.each g (omega arith)).good p x at).0.0)) in
+    let lists : event_count s ≡ total (λ g. events_in (list_of s g)) 0 (length s.sizes) = sum_places events_in s.lists [] ∙ ap (λ (n : ℕ). total (λ g. events_in (list_of s g)) 0 n) prefixes.count in
     let items = items_sum (λ i. length (trace_of s i)) s.sizes in omega arith
 
 -- one record more
-pub events_more : (s : Streams) (g : ℕ) (x : Event) → AreFronts s → CanTake s g x → events_of (with_record s g x) ≡ events_of s + one_if (not (is_end x))
-events_more s g x fronts can =
+pub events_more : (s : Streams) (g : ℕ) (x : Event) → ArePrefixes s → CanTake s g x → event_count (with_record s g x) ≡ event_count s + one_if (not (is_end x))
+events_more s g x prefixes can =
     let grown : events_in (list_of s g ++ x ∷ []) ≡ events_in (list_of s g) + one_if (not (is_end x)) =
     ap (λ (l : List Event). length l) (filter-append (λ y. not (is_end y)) (list_of s g) (x ∷ [])) ∙ (length-append (filter (λ y. not (is_end y)) (list_of s g)) (filter (λ y. not (is_end y)) (x ∷ [])) ∙ last) in
-    let there : g < length s.lists = omega (arith, fronts.count, can.group) in
+    let there : g < length s.lists = omega (arith, prefixes.count, can.group) in
     let sum = sum_by-set events_in s.lists g (list_of s g ++ x ∷ []) [] there in omega arith
   where
     last : events_in (list_of s g) + length (filter (λ y. not (is_end y)) (x ∷ [])) ≡ events_in (list_of s g) + one_if (not (is_end x))
     last = let one = filter_one (λ y. not (is_end y)) x [] in omega arith
 
-pub no_events : (sizes : List ℕ) → events_of (nothing_taken sizes) ≡ 0
+pub no_events : (sizes : List ℕ) → event_count (nothing_taken sizes) ≡ 0
 no_events [] = refl
 no_events (n ∷ sizes) = let rest = no_events sizes in let one = sum_by-cons events_in [] (map (λ m. []) sizes) in omega arith
 
@@ -91,15 +91,15 @@ total_most f a (suc n) most =
     let first = most a (omega arith) (omega arith) in
     let rest = total_most f (a + 1) n (λ k from lt. most k (omega arith) (omega arith)) in omega arith
 
-pub trace_most : (s : Streams) → AreFronts s → (i : ItemId) → i.group < length s.sizes → length (trace_of s i) ≤ 16777216
-trace_most s fronts i there =
-    let few : length (list_of s i.group) ≤ MOST_RECORDS = (fronts.each i.group there).few in
+pub trace_most : (s : Streams) → ArePrefixes s → (i : ItemId) → i.group < length s.sizes → length (trace_of s i) ≤ 16777216
+trace_most s prefixes i there =
+    let few : length (list_of s i.group) ≤ MOST_RECORDS = (prefixes.each i.group there).few in
     let part = length-filter_le (is_of i.item) (list_of s i.group) in omega arith
 
-pub events_most : (s : Streams) → AreFronts s → events_of s ≤ 1073741824
-events_most s fronts =
-    let lists : events_of s ≡ total (λ g. events_in (list_of s g)) 0 (length s.sizes) = sum_places events_in s.lists [] ∙ ap (λ (n : ℕ). total (λ g. events_in (list_of s g)) 0 n) fronts.count in
+pub events_most : (s : Streams) → ArePrefixes s → event_count s ≤ 1073741824
+events_most s prefixes =
+    let lists : event_count s ≡ total (λ g. events_in (list_of s g)) 0 (length s.sizes) = sum_places events_in s.lists [] ∙ ap (λ (n : ℕ). total (λ g. events_in (list_of s g)) 0 n) prefixes.count in
     let most = total_most (λ g. events_in (list_of s g)) 0 (length s.sizes) (λ g from there.
-    let few : length (list_of s g) ≤ MOST_RECORDS = (fronts.each g (omega arith)).few in
+    let few : length (list_of s g) ≤ MOST_RECORDS = (prefixes.each g (omega arith)).few in
     let part = length-filter_le (λ x. not (is_end x)) (list_of s g) in omega arith) in
-    let groups : length s.sizes ≤ MOST_GROUPS = fronts.shape.groups in omega arith
+    let groups : length s.sizes ≤ MOST_GROUPS = prefixes.shape.groups in omega arith

@@ -7,7 +7,7 @@ use Rattle.gr_model.specs.declared.event.EventId.{EventId}
 use Rattle.gr_model.specs.declared.event.ItemId.{ItemId}
 use Rattle.gr_model.specs.Events.{is_end}
 use Rattle.gr_model.specs.Shapes.{HasItem}
-use Rattle.gr_model.specs.Streams.{AreFronts, Streams, is_of, list_of, trace_of}
+use Rattle.gr_model.specs.Streams.{ArePrefixes, Streams, is_of, list_of, trace_of}
 use Rattle.gr_clocks.specs.Counts.{Counts, IsTick, count_of}
 use Rattle.gr_clocks.specs.Tables.{IsBeyond, item_of}
 use Rattle.gr_lanes.specs.Takes.{CanTake, nothing_taken, with_record}
@@ -16,7 +16,7 @@ use Rattle.gr_lanes.proofs.IndexLemmas.{end_is_of, trace_more}
 use Rattle.gr_windows.specs.Windows.{AreWaiting, Changes, DropsItems, IsEmpty, Table, window_of}
 use Rattle.gr_windows.proofs.WindowLemmas.{drop_none, drop_one, take_pushed}
 use Rattle.gr_order.specs.Sequences.{Sequence}
-use Rattle.gr_order.specs.States.{AreFirst, TicksItems}
+use Rattle.gr_order.specs.States.{AreBelowFrontier, TicksItems}
 use Rattle.gr_order.specs.Waiting.{AreSame, IsKept, Keeps, added, is_at}
 use Rattle.gr_order.proofs.HeldLemmas.{taken_first}
 use Rattle.gr_order.proofs.StateLemmas.{item_cases, tick_here, tick_there}
@@ -75,15 +75,15 @@ forgets_event before g x old new on keeps changes =
 
 -- ---- a record is taken
 
-trace_grows : (s : Streams) (g : ℕ) (x : Event) → AreFronts s → CanTake s g x → (i : ItemId) → trace_of (with_record s g x) i ≡ trace_of s i ++ added g x i
-trace_grows s g x fronts can i = ⊎_elim
+trace_grows : (s : Streams) (g : ℕ) (x : Event) → ArePrefixes s → CanTake s g x → (i : ItemId) → trace_of (with_record s g x) i ≡ trace_of s i ++ added g x i
+trace_grows s g x prefixes can i = ⊎_elim
     (λ (same : i.group ≡ g).
-    let list : list_of (with_record s g x) i.group ≡ list_of s i.group ++ x ∷ [] = ap (list_of (with_record s g x)) same ∙ (here s g x fronts can ∙ ap (λ n. list_of s n ++ x ∷ []) (sym same)) in
+    let list : list_of (with_record s g x) i.group ≡ list_of s i.group ++ x ∷ [] = ap (list_of (with_record s g x)) same ∙ (here s g x prefixes can ∙ ap (λ n. list_of s n ++ x ∷ []) (sym same)) in
     let test : is_at g x i ≡ is_of i.item x = ap (λ b. b && is_of i.item x) (eq-eqb i.group g same) in
     ap (filter (is_of i.item)) list ∙ (trace_more (list_of s i.group) x i.item ∙ sym (ap (λ b. trace_of s i ++ cond b (x ∷ []) []) test)))
     (λ (apart : i.group ≡ g → ⊥).
     let none : added g x i ≡ [] = none_added g x i (ap (λ b. b && is_of i.item x) (ne_eqb i.group g apart)) in
-    ap (filter (is_of i.item)) (other s g x fronts can i.group apart) ∙ sym (ap (λ l. trace_of s i ++ l) none ∙ append-nil (trace_of s i)))
+    ap (filter (is_of i.item)) (other s g x prefixes can i.group apart) ∙ sym (ap (λ l. trace_of s i ++ l) none ∙ append-nil (trace_of s i)))
     (cases_eq i.group g)
 
 module _ (q : Sequence) (frontier : Counts) (windows : Table) (held : ℕ) (kept : IsKept q frontier windows held) where
@@ -96,7 +96,7 @@ module _ (q : Sequence) (frontier : Counts) (windows : Table) (held : ℕ) (kept
     each = λ i.
         keeps.each i ∙ (ap (λ l. l ++ added g x i) (kept.waits.each i)
         ∙ (sym (drop-append-le (count_of frontier i) (trace_of q.taken i) (added g x i) (taken_first q frontier held kept.state i))
-        ∙ ap (drop (count_of frontier i)) (sym (trace_grows q.taken g x kept.state.sequence.fronts can i))));
+        ∙ ap (drop (count_of frontier i)) (sym (trace_grows q.taken g x kept.state.sequence.prefixes can i))));
   })
 
   pub waits_again : (now : Table) → AreSame windows now → AreWaiting q.taken frontier now
@@ -145,7 +145,7 @@ module _ (q : Sequence) (frontier : Counts) (windows : Table) (held : ℕ) (kept
   pub group_is_kept : (g : ℕ) → g < length q.taken.sizes → g < length windows
   group_is_kept g there = omega (arith, there, ap length kept.waits.shape, length-map windows (λ (row : List (List Event)). length row))
 
-  pub waits_as : (c : Counts) → AreFirst q.handled c → AreWaiting q.taken c windows
+  pub waits_as : (c : Counts) → AreBelowFrontier q.handled c → AreWaiting q.taken c windows
   waits_as c first = record { shape = kept.waits.shape; each = λ i. kept.waits.each i ∙ ap (λ n. drop n (trace_of q.taken i)) (same i) }
     where
       same : (i : ItemId) → count_of frontier i ≡ count_of c i

@@ -7,7 +7,7 @@ use Rattle.gr_model.specs.declared.event.EventId.{EventId}
 use Rattle.gr_model.specs.declared.event.ItemId.{ItemId}
 use Rattle.gr_model.specs.Events.{is_end}
 use Rattle.gr_model.specs.Instances.{Mark}
-use Rattle.gr_model.specs.Streams.{Streams, AreFronts, size_of}
+use Rattle.gr_model.specs.Streams.{Streams, ArePrefixes, size_of}
 use Rattle.gr_model.specs.LawfulOrders.{IsLawful}
 use Rattle.gr_lanes.specs.Takes.{nothing_taken, with_record}
 use Rattle.gr_steps.specs.Steps.{Handles, Meets, CanHandle, CanMeet, IsAtRest, IsMeeting, AreGrounded}
@@ -16,9 +16,9 @@ pub record Sequence : Type 0 where
   pub taken : Streams
   pub handled : List EventId
 
--- what is so of every sequence: the lists are fronts of lists that the groups may have, and the order is lawful
+-- what is so of every sequence: the lists are prefixes of lists that the groups may have, and the order is lawful
 pub record IsSequence (q : Sequence) : Type 0 where
-  pub fronts : AreFronts q.taken
+  pub prefixes : ArePrefixes q.taken
   pub lawful : IsLawful q.taken q.handled
 
 -- groups of these sizes, of which nothing was taken
@@ -62,5 +62,5 @@ pub record IsDone (q : Sequence) : Type 0 where
 -- ---- what is counted
 
 -- how many events were taken, ends aside
-abbrev pub events_of : Streams → ℕ
-events_of s = sum_by (λ list. length (filter (λ x. not (is_end x)) list)) s.lists
+abbrev pub event_count : Streams → ℕ
+event_count s = sum_by (λ list. length (filter (λ x. not (is_end x)) list)) s.lists

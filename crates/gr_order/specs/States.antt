@@ -7,23 +7,23 @@ use Rattle.gr_model.specs.LawfulOrders.{IsIn}
 use Rattle.gr_clocks.specs.Counts.{Counts, count_of, sizes_of}
 use Rattle.gr_clocks.specs.Tables.{IsBeyond, item_of}
 use Rattle.gr_model.specs.Shapes.{items_of}
-use Rattle.gr_order.specs.Sequences.{Sequence, IsSequence, events_of}
+use Rattle.gr_order.specs.Sequences.{Sequence, IsSequence, event_count}
 
 -- how many events a clock counts of the items of a shape
 abbrev pub counted_in : Counts → List ℕ → ℕ
 counted_in frontier sizes = sum_by (λ i. count_of frontier i) (items_of sizes)
 
 -- the handled events of each item are its first ones, as many as the clock counts
-abbrev pub AreFirst : List EventId → Counts → Type 0
-AreFirst handled frontier = (e : EventId) → IsIn handled e ↔ (e.index < count_of frontier e.at)
+abbrev pub AreBelowFrontier : List EventId → Counts → Type 0
+AreBelowFrontier handled frontier = (e : EventId) → IsIn handled e ↔ (e.index < count_of frontier e.at)
 
 -- the clock counts the handled events, and held is how many were taken besides
-pub record IsState (q : Sequence) (frontier : Counts) (held : ℕ) : Type 0 where
+pub record IsOrderState (q : Sequence) (frontier : Counts) (held : ℕ) : Type 0 where
   pub sequence : IsSequence q
   pub shape : sizes_of frontier ≡ q.taken.sizes
-  pub first : AreFirst q.handled frontier
+  pub first : AreBelowFrontier q.handled frontier
   pub counts : counted_in frontier q.taken.sizes ≡ length q.handled
-  pub rest : held + length q.handled ≡ events_of q.taken
+  pub rest : held + length q.handled ≡ event_count q.taken
 
 -- ---- the next events of a group
 

@@ -6,7 +6,7 @@ use Rattle.gr_model.specs.Streams.{is_of}
 use Rattle.gr_clocks.specs.Counts.{Counts}
 use Rattle.gr_windows.specs.Windows.{AreWaiting, Table, window_of}
 use Rattle.gr_order.specs.Sequences.{Sequence}
-use Rattle.gr_order.specs.States.{IsState}
+use Rattle.gr_order.specs.States.{IsOrderState}
 
 -- a record of a group is one of the item's trace
 abbrev pub is_at : ℕ → Event → ItemId → Bool
@@ -28,5 +28,5 @@ pub record AreSame (old new : Table) : Type 0 where
 
 -- the clock counts the handled events, and those that it does not count wait
 pub record IsKept (q : Sequence) (frontier : Counts) (windows : Table) (held : ℕ) : Type 0 where
-  pub state : IsState q frontier held
+  pub state : IsOrderState q frontier held
   pub waits : AreWaiting q.taken frontier windows

@@ -16,8 +16,8 @@ ghost use Rattle.gr_model.specs.Instances.{Mark};
 ghost use Rattle.gr_order.specs.Answers.{CanMake, IsHandleFault, IsMeetFault};
 ghost use Rattle.gr_clocks.specs.Counts.{Counts, count_of, sizes_of};
 ghost use Rattle.gr_windows.specs.Windows.{AreWaiting};
-ghost use Rattle.gr_order.specs.States.{AreFirst};
-ghost use Rattle.gr_order.specs.Sequences.{HandlesEvent, IsDone, IsGroupAtRest, IsSequence, MeetsInstance, MeetsNext, events_of, nothing, taking};
+ghost use Rattle.gr_order.specs.States.{AreBelowFrontier};
+ghost use Rattle.gr_order.specs.Sequences.{HandlesEvent, IsDone, IsGroupAtRest, IsSequence, MeetsInstance, MeetsNext, event_count, nothing, taking};
 
 use crate::go_error::GoError;
 use crate::meeting::{add_next_events, count_next_events};
@@ -102,21 +102,21 @@ impl<A: Allocator> Order<A> {
     /// How many events of each item were handled: these are its first ones.
     pub fn frontier(&self) -> &Tally<A>
         ensures shape { sizes_of result.now ≡ self.now.taken.sizes }
-        ensures first { AreFirst self.now.handled result.now }
+        ensures first { AreBelowFrontier self.now.handled result.now }
     {
         &self.frontier
     }
 
     /// Of each item the events that were taken and not handled.
     pub fn windows(&self) -> &Windows<A>
-        ensures { (c : Counts) → AreFirst self.now.handled c → AreWaiting self.now.taken c result.now }
+        ensures { (c : Counts) → AreBelowFrontier self.now.handled c → AreWaiting self.now.taken c result.now }
     {
         &self.windows
     }
 
     /// The record of an item's first event that was not handled, if it was taken.
     pub fn waiting(&self, item: ItemId) -> Option<Event>
-        ensures { (c : Counts) → AreFirst self.now.handled c → result ≡ event_at self.now.taken (record { at = item; index = count_of c item }) }
+        ensures { (c : Counts) → AreBelowFrontier self.now.handled c → result ≡ event_at self.now.taken (record { at = item; index = count_of c item }) }
     {
         self.windows.waiting(item, 0)
     }
@@ -329,7 +329,7 @@ impl<A: Allocator> Order<A> {
 
     /// How many events were taken and not handled. Where no step is left, these are the events that are not grounded.
     pub fn held(&self) -> u64
-        ensures count { result + length self.now.handled ≡ events_of self.now.taken }
+        ensures count { result + length self.now.handled ≡ event_count self.now.taken }
         ensures held { IsAtRest self.now.taken self.now.handled → IsHeld self.now.taken result }
     {
         u64::from(self.held)

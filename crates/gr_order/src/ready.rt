@@ -59,7 +59,7 @@ fn has_its_releases<A: Allocator>(
 /// Whether an event that was taken is no barrier, or one of a divergent instance.
 fn may_pass<A: Allocator>(lanes: &Lanes<A>, event: EventId, taken: &Event) -> bool
     requires there { model.event_at lanes.now event ≡ Some taken.now }
-    requires fronts { model.AreFronts lanes.now }
+    requires prefixes { model.ArePrefixes lanes.now }
     ensures { IsTrue result ↔ MayPass lanes.now event }
 {
     if !is_barrier(taken) {
@@ -79,7 +79,7 @@ pub(crate) fn is_ready<A: Allocator>(
     taken: &Event,
 ) -> bool
     requires there { model.event_at lanes.now event ≡ Some taken.now }
-    requires fronts { model.AreFronts lanes.now }
+    requires prefixes { model.ArePrefixes lanes.now }
     ensures { IsTrue result ↔ (AreReleased lanes.now frontier.now event.at.group taken.now × MayPass lanes.now event) }
 {
     has_its_releases(lanes, frontier, event.at.group, taken) && may_pass(lanes, event, taken)
@@ -142,7 +142,7 @@ pub(crate) fn next_instance<A: Allocator>(
 ) -> Option<u32>
     requires group { group < length lanes.now.sizes }
     requires waiting { AreWaiting lanes.now frontier.now windows.now }
-    requires fronts { model.AreFronts lanes.now }
+    requires prefixes { model.ArePrefixes lanes.now }
     ensures { MatchOption result ((k : ℕ) → ¬ IsNextInstance lanes.now frontier.now group k) (λ k. IsNextInstance lanes.now frontier.now group k) }
 {
     let first = ItemId { group, item: 0 };

@@ -14,7 +14,7 @@ use Rattle.gr_record.specs.Versions.{places, record_length}
 use Rattle.gr_record.specs.Spelling.{kind_bytes, names_bytes, version_byte, header_spelling, IsHeader}
 use Rattle.gr_record.specs.Reading.{field, is_field_ok, unless_bad, unless_bad_names, bad_field, bad_field_from, kind_of, space_at, names_in, names_at, naming, is_order_ok, is_naming_ok, event_at, version_of, header_behind, header_at}
 use Rattle.gr_record.specs.Laws.{AreBytes, ReadIsSpelled, ReadHeaderIsSpelled}
-use Rattle.gr_record.proofs.Places.{bytes_drop, names_front, names_few, naming_found}
+use Rattle.gr_record.proofs.Places.{bytes_drop, names_prefix, names_few, naming_found}
 use Rattle.gr_record.proofs.Numbers.{two_low, two_high, four, space_again, scope_again, order_again, bit_again, flags_again}
 
 abbrev done : {A : Type 0} → A → Result A RecordError
@@ -125,8 +125,8 @@ module _ (b0 b1 b2 b3 b4 b5 b6 b7 b8 b9 b10 b11 : ℕ) (rest : List ℕ) where
   -- the bytes behind the first twelve
   names_taken : (v : Version) → AreBytes rest → record_length v ≤ length cells
       → take (record_length v) cells ≡ b0 ∷ b1 ∷ b2 ∷ b3 ∷ b4 ∷ b5 ∷ b6 ∷ b7 ∷ b8 ∷ b9 ∷ b10 ∷ b11 ∷ names_bytes (places v) (names_in (places v) rest)
-  names_taken One fits long = ap (λ (x : List ℕ). b0 ∷ b1 ∷ b2 ∷ b3 ∷ b4 ∷ b5 ∷ b6 ∷ b7 ∷ b8 ∷ b9 ∷ b10 ∷ b11 ∷ x) (names_front 1 rest fits (omega arith))
-  names_taken Two fits long = ap (λ (x : List ℕ). b0 ∷ b1 ∷ b2 ∷ b3 ∷ b4 ∷ b5 ∷ b6 ∷ b7 ∷ b8 ∷ b9 ∷ b10 ∷ b11 ∷ x) (names_front 4 rest fits (omega arith))
+  names_taken One fits long = ap (λ (x : List ℕ). b0 ∷ b1 ∷ b2 ∷ b3 ∷ b4 ∷ b5 ∷ b6 ∷ b7 ∷ b8 ∷ b9 ∷ b10 ∷ b11 ∷ x) (names_prefix 1 rest fits (omega arith))
+  names_taken Two fits long = ap (λ (x : List ℕ). b0 ∷ b1 ∷ b2 ∷ b3 ∷ b4 ∷ b5 ∷ b6 ∷ b7 ∷ b8 ∷ b9 ∷ b10 ∷ b11 ∷ x) (names_prefix 4 rest fits (omega arith))
 
 -- an end has no item and no word
 no_end : (b : ℕ) → (not (6 == 6) || (b == 0)) ≡ true → b ≡ 0

@@ -8,11 +8,11 @@ use Rattle.gr_record.specs.declared.error.RecordError.{RecordError}
 use Rattle.gr_record.specs.declared.stop.Stop.{Stop}
 use Rattle.gr_record.specs.declared.stop.Stop.TheVariants.{Inside, AtEnd, AtFault}
 use Rattle.gr_record.specs.Fronts.{Records, behind, step, records_at}
-use Rattle.gr_record.proofs.Loop.{with_front, short, too_many, next}
+use Rattle.gr_record.proofs.Loop.{with_prefix, short, too_many, next}
 
 -- the records of bytes that others follow, where next is what is read of those that were left and the others
 abbrev pub grown : Stop → Records → (ℕ → Records) → List ℕ → Records
-grown Inside r further b = with_front r.events (further (length r.events))
+grown Inside r further b = with_prefix r.events (further (length r.events))
 grown AtEnd r further b = record { events = r.events; rest = r.rest ++ b; stop = AtEnd }
 grown (AtFault e) r further b = record { events = r.events; rest = r.rest ++ b; stop = AtFault e }
 
@@ -27,8 +27,8 @@ module _ (size : ℕ) (read : List ℕ → Result Event RecordError) (b : List �
   behind_grown AtEnd e r most = refl
   behind_grown (AtFault d) e r most = refl
 
-  front_same : (a : List ℕ) → size ≤ length a → take size (a ++ b) ≡ take size a
-  front_same a long = take-append-le size a b long
+  prefix_same : (a : List ℕ) → size ≤ length a → take size (a ++ b) ≡ take size a
+  prefix_same a long = take-append-le size a b long
 
   rest_same : (a : List ℕ) → size ≤ length a → drop size (a ++ b) ≡ drop size a ++ b
   rest_same a long = drop-append-le size a b long
@@ -61,5 +61,5 @@ module _ (size : ℕ) (read : List ℕ → Result Event RecordError) (b : List �
         | inr long ↦
             let longer : size ≤ length (a ++ b) = simp length-append (omega arith) in
             let ih = records_grow most (drop size a) in
-            rw (next size read most a long, next size read most (a ++ b) longer, front_same a long) (step_grows most a long ih (read (take size a)))
+            rw (next size read most a long, next size read most (a ++ b) longer, prefix_same a long) (step_grows most a long ih (read (take size a)))
       ]

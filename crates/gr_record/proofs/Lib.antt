@@ -1,7 +1,7 @@
 pub mod Apart
 pub mod Fields
 pub mod Found
-pub mod FoundFronts
+pub mod FoundPrefixes
 pub mod Growing
 pub mod Loop
 pub mod Naming
@@ -9,6 +9,6 @@ pub mod Numbers
 pub mod Places
 pub mod Resuming
 pub mod Spelled
-pub mod SpelledFronts
+pub mod SpelledPrefixes
 pub mod Steps
 pub mod Written

@@ -10,11 +10,11 @@ use Rattle.gr_record.specs.declared.stop.Stop.TheVariants.{Inside, AtFault}
 use Rattle.gr_record.specs.WholeStreams.{Fails, whole}
 
 -- events before those of a reading
-abbrev pub with_front : List Event → Records → Records
-with_front front r = record { events = front ++ r.events; rest = r.rest; stop = r.stop }
+abbrev pub with_prefix : List Event → Records → Records
+with_prefix prefix r = record { events = prefix ++ r.events; rest = r.rest; stop = r.stop }
 
-pub regroup : (front : List Event) (e : Event) (r : Records) → with_front front (behind e r) ≡ with_front (front ++ e ∷ []) r
-regroup front e r = ap (λ (es : List Event). record { events = es; rest = r.rest; stop = r.stop }) (sym (append_assoc front (e ∷ []) r.events))
+pub regroup : (prefix : List Event) (e : Event) (r : Records) → with_prefix prefix (behind e r) ≡ with_prefix (prefix ++ e ∷ []) r
+regroup prefix e r = ap (λ (es : List Event). record { events = es; rest = r.rest; stop = r.stop }) (sym (append_assoc prefix (e ∷ []) r.events))
 
 -- what a call that reads one record answered for the whole
 pub fails : {Y : Type 0} (e : RecordError) (total : Result Y RecordError) → total ≡ Err e → Fails e total
@@ -38,31 +38,31 @@ module _ (size : ℕ) (read : List ℕ → Result Event RecordError) where
   unfolding records_at
   next most bytes le = rw (le-ltb (length bytes) size le) refl
 
-module _ (size : ℕ) (read : List ℕ → Result Event RecordError) (front : List Event) (stop i : ℕ) (bytes : List ℕ) (total : Result (List Event × List ℕ) RecordError) (so_far : whole (with_front front (records_at size read (stop - i) bytes)) ≡ total) where
+module _ (size : ℕ) (read : List ℕ → Result Event RecordError) (prefix : List Event) (stop i : ℕ) (bytes : List ℕ) (total : Result (List Event × List ℕ) RecordError) (so_far : whole (with_prefix prefix (records_at size read (stop - i) bytes)) ≡ total) where
   pub stops_short : length bytes < size → total ≡ Err errors.Truncated
-  stops_short lt = sym so_far ∙ ap (λ (r : Records). whole (with_front front r)) (short size read (stop - i) bytes lt)
+  stops_short lt = sym so_far ∙ ap (λ (r : Records). whole (with_prefix prefix r)) (short size read (stop - i) bytes lt)
 
   pub none_left : stop ≤ i → size ≤ length bytes → total ≡ Err errors.TooManyRecords
   none_left le long =
       let k : stop - i ≡ 0 = omega arith in
-      sym so_far ∙ rw k (ap (λ (r : Records). whole (with_front front r)) (too_many size read bytes long))
+      sym so_far ∙ rw k (ap (λ (r : Records). whole (with_prefix prefix r)) (too_many size read bytes long))
 
   module _ (lt : i < stop) (long : size ≤ length bytes) where
-    one_more : (r : Result Event RecordError) → read (take size bytes) ≡ r → whole (with_front front (step size r bytes (records_at size read (stop - (i + 1)) (drop size bytes)))) ≡ total
+    one_more : (r : Result Event RecordError) → read (take size bytes) ≡ r → whole (with_prefix prefix (step size r bytes (records_at size read (stop - (i + 1)) (drop size bytes)))) ≡ total
     one_more r is =
         let k : stop - i ≡ suc (stop - (i + 1)) = omega arith in
         let at : records_at size read (stop - i) bytes ≡ step size r bytes (records_at size read (stop - (i + 1)) (drop size bytes)) = rw (k, ← is) (next size read (stop - (i + 1)) bytes long) in
-        ap (λ (x : Records). whole (with_front front x)) (sym at) ∙ so_far
+        ap (λ (x : Records). whole (with_prefix prefix x)) (sym at) ∙ so_far
 
     -- a record at fault
     pub refused : (d : RecordError) → read (take size bytes) ≡ Err d → total ≡ Err d
     refused d is = sym (one_more (Err d) is)
 
     -- the end
-    pub ended : (e : Event) → read (take size bytes) ≡ Ok e → is_end e ≡ true → total ≡ Ok (front ++ e ∷ [], drop size bytes)
+    pub ended : (e : Event) → read (take size bytes) ≡ Ok e → is_end e ≡ true → total ≡ Ok (prefix ++ e ∷ [], drop size bytes)
     ended e is end = sym (rw end at (one_more (Ok e) is))
 
     -- any other record
-    pub goes_on : (e : Event) → read (take size bytes) ≡ Ok e → is_end e ≡ false → whole (with_front (front ++ e ∷ []) (records_at size read (stop - (i + 1)) (drop size bytes))) ≡ total
+    pub goes_on : (e : Event) → read (take size bytes) ≡ Ok e → is_end e ≡ false → whole (with_prefix (prefix ++ e ∷ []) (records_at size read (stop - (i + 1)) (drop size bytes))) ≡ total
     goes_on e is end =
-        ap whole (sym (regroup front e (records_at size read (stop - (i + 1)) (drop size bytes)))) ∙ (rw end at (one_more (Ok e) is))
+        ap whole (sym (regroup prefix e (records_at size read (stop - (i + 1)) (drop size bytes)))) ∙ (rw end at (one_more (Ok e) is))

@@ -63,8 +63,8 @@ names_found (suc n) (a0 ∷ a1 ∷ a2 ∷ a3 ∷ a4 ∷ a5 ∷ a6 ∷ a7 ∷ res
 names_found (suc n) _ fits has = absurd (omega (arith, has.0))
 
 -- what so many places have spells the bytes of these places
-pub names_front : (n : ℕ) (bytes : List ℕ) → AreBytes bytes → 8 * n ≤ length bytes → take (8 * n) bytes ≡ names_bytes n (names_in n bytes)
-names_front n bytes fits long =
+pub names_prefix : (n : ℕ) (bytes : List ℕ) → AreBytes bytes → 8 * n ≤ length bytes → take (8 * n) bytes ≡ names_bytes n (names_in n bytes)
+names_prefix n bytes fits long =
     let names = names_bytes n (names_in n bytes) in
     ap (take (8 * n)) (names_found n bytes fits (has_places n bytes long)) ∙ take_at names (behind n bytes) (8 * n) (names_length n (names_in n bytes))
 

@@ -15,7 +15,7 @@ use Rattle.gr_record.specs.Versions.{record_length}
 use Rattle.gr_record.specs.Reading.{header_at, event_at}
 use Rattle.gr_record.specs.Fronts.{records_of}
 use Rattle.gr_record.specs.Decoding.{Reading, Standing, closed, under, read_from, reading, parts_of, standing, still, still_at, standing_after}
-use Rattle.gr_record.specs.FrontLaws.{FaultStays}
+use Rattle.gr_record.specs.PrefixLaws.{FaultStays}
 use Rattle.gr_record.proofs.Growing.{grown, records_grow}
 
 -- a reading of more bytes goes on from a reading of fewer

@@ -130,10 +130,10 @@ pub holding_continues : (limit count : ℕ) (h : Option Header) (held piece : Li
 holding_continues limit count h held piece listed = record { stands = rw (append-nil (held ++ piece)) refl; parts = rw (append-nil (held ++ piece)) refl }
 
 -- what was kept comes before the rest
-pub held_continues : (limit count : ℕ) (h : Option Header) (held front rest : List ℕ) (listed : List Part)
-    → Continues (record { limit = limit; header = h; count = count; held = held; stop = Inside }) (front ++ rest) listed
-    (record { limit = limit; header = h; count = count; held = []; stop = Inside }) ((held ++ front) ++ rest) listed
-held_continues limit count h held front rest listed = record { stands = rw (append_assoc held front rest) refl; parts = rw (append_assoc held front rest) refl }
+pub held_continues : (limit count : ℕ) (h : Option Header) (held prefix rest : List ℕ) (listed : List Part)
+    → Continues (record { limit = limit; header = h; count = count; held = held; stop = Inside }) (prefix ++ rest) listed
+    (record { limit = limit; header = h; count = count; held = []; stop = Inside }) ((held ++ prefix) ++ rest) listed
+held_continues limit count h held prefix rest listed = record { stands = rw (append_assoc held prefix rest) refl; parts = rw (append_assoc held prefix rest) refl }
 
 -- bytes behind an end
 pub after_end_continues : (limit count : ℕ) (h : Option Header) (b : ℕ) (bytes : List ℕ) (listed : List Part)

@@ -1,4 +1,4 @@
--- What is read of the front of a list of bytes: records up to an end, up to bytes that are no whole record, or up to a fault.
+-- What is read of the prefix of a list of bytes: records up to an end, up to bytes that are no whole record, or up to a fault.
 -- Source: docs/FORMATS.md, "Stream" and "Faults of a whole record".
 use Rattle.std.specs.Prelude.{ℕ, zero, suc, List, [], ◌∷◌, length, take, drop, nat_lt, Result, Ok, Err, if◌then◌else◌}
 use Rattle.gr_model.specs.declared.event.Event.{Event}

@@ -1,6 +1,6 @@
 pub mod Decoding
 pub mod Faults
-pub mod FrontLaws
+pub mod PrefixLaws
 pub mod Fronts
 pub mod Laws
 pub mod Reading

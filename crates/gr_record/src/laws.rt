@@ -2,21 +2,21 @@
 //! words in docs/FORMATS.md, "Stream".
 
 ghost use Rattle.gr_record.specs.Laws.{SpelledIsRead, SpelledHeaderIsRead, ReadIsSpelled, ReadHeaderIsSpelled, NoSpellingBeginsAnother};
-ghost use Rattle.gr_record.specs.FrontLaws.{SpelledFrontIsRead, ReadFrontIsSpelled, FaultStays};
+ghost use Rattle.gr_record.specs.PrefixLaws.{SpelledPrefixIsRead, ReadPrefixIsSpelled, FaultStays};
 
 /// A record or header in range is read from the bytes that spell it, whatever follows those. A header and the records
 /// behind it are read from the bytes that spell them.
 pub fn spelled_is_read()
     ensures event { SpelledIsRead }
     ensures header { SpelledHeaderIsRead }
-    ensures front { SpelledFrontIsRead }
+    ensures prefix { SpelledPrefixIsRead }
 {}
 
 /// What is read is in range, and the bytes from which it was read are those that spell it.
 pub fn read_is_spelled()
     ensures event { ReadIsSpelled }
     ensures header { ReadHeaderIsSpelled }
-    ensures front { ReadFrontIsSpelled }
+    ensures prefix { ReadPrefixIsSpelled }
 {}
 
 /// Bytes after a fault change neither the fault nor the parts before it.

@@ -30,7 +30,7 @@ use Rattle.gr_replay.specs.Joined as joined_spec
 use Rattle.gr_replay.specs.Joined.{Flat, at_place, stream_at, joined_at}
 use Rattle.gr_replay.specs.Laws.{AreStreams}
 use Rattle.gr_record.proofs.Found.{read_is_spelled}
-use Rattle.gr_record.proofs.FoundFronts.{bytes_take}
+use Rattle.gr_record.proofs.FoundPrefixes.{bytes_take}
 use Rattle.gr_record.proofs.Places.{bytes_drop}
 
 abbrev all : List Flat → Result (List Flat) Fault
@@ -118,9 +118,9 @@ module _ (head : Header) where
       by_length true e h later = cc
       by_length false e h later = by_event (event_at head (take size bytes)) refl (ltb-false (length bytes) size e) h later
 
-front_read : (h : Header) (bytes : List ℕ) → AreBytes bytes → (events : List Event) (rest : List ℕ) → front_records_at h bytes ≡ Ok (events, rest) → AreRead h.items MOST_RECORDS events rest
+prefix_read : (h : Header) (bytes : List ℕ) → AreBytes bytes → (events : List Event) (rest : List ℕ) → front_records_at h bytes ≡ Ok (events, rest) → AreRead h.items MOST_RECORDS events rest
 unfolding front_records_at
-front_read h bytes fits events rest e = records_read h MOST_RECORDS bytes fits events rest e
+prefix_read h bytes fits events rest e = records_read h MOST_RECORDS bytes fits events rest e
 
 -- the bytes after a header are bytes
 header_rest : (bytes : List ℕ) → AreBytes bytes → (h : Header) (rest : List ℕ) → front_header_at bytes ≡ Ok (h, rest) → AreBytes rest
@@ -163,7 +163,7 @@ module _ (seen : List Flat) (bytes : List ℕ) (fits : AreBytes bytes) (are : Ar
   by_records h middle bytes_fit other same (Err d) is f rest k = cc
   by_records h middle bytes_fit other same (Ok (events, after)) is f rest k =
       let p = same_found (record { header = h; events = events }, after) (f, rest) k in
-      let read = front_read h middle bytes_fit events after is in
+      let read = prefix_read h middle bytes_fit events after is in
       let one = with_one seen (record { header = h; events = events }) are (record { few = read.few; good = read.good; ended = read.ended }) other same in
       (subst (λ (x : Flat × List ℕ). AreStreams (seen ++ x.0 ∷ [])) p one, subst (λ (x : Flat × List ℕ). AreBytes x.1) p read.bytes)
 

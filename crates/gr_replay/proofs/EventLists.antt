@@ -10,7 +10,7 @@ use Rattle.gr_model.specs.declared.event.EventId.{EventId}
 use Rattle.gr_model.specs.Events.{is_end}
 use Rattle.gr_model.specs.LawfulOrders.{IsLawful}
 use Rattle.gr_model.specs.Streams.{Streams, IsEvent, is_of}
-use Rattle.gr_order.specs.Sequences.{events_of}
+use Rattle.gr_order.specs.Sequences.{event_count}
 
 -- ---- lists without repeats
 
@@ -157,7 +157,7 @@ has_event s e event =
     let group : 0 + e.at.group ≡ e.at.group = omega arith in
     subst (λ (n : ℕ). Has (record { at = record { group = n; item = e.at.item }; index = e.index }) (events_in 0 s.lists)) group h
 
-pub order_is_short : (s : Streams) (order : List EventId) → IsLawful s order → length order ≤ events_of s
+pub order_is_short : (s : Streams) (order : List EventId) → IsLawful s order → length order ≤ event_count s
 order_is_short s order lawful =
     let short : length order ≤ length (events_in 0 s.lists) = no_longer order (events_in 0 s.lists) lawful.once (λ p e at. has_event s e (lawful.event p e at).0) in
     omega (arith, short, count_in 0 s.lists)

@@ -5,7 +5,7 @@ use Rattle.gr_model.specs.Streams.{Streams, word_at}
 use Rattle.gr_closure.specs.Accesses.{IsAccessOf}
 use Rattle.gr_hits.specs.Accesses.{AreAccesses}
 use Rattle.gr_hits.proofs.Adding.{bare_access, handled_adds, met_add_none, others_add_none}
-use Rattle.gr_order.specs.Sequences.{Sequence, IsSequence, events_of}
+use Rattle.gr_order.specs.Sequences.{Sequence, IsSequence, event_count}
 use Rattle.gr_sequencer.specs.Answers.{IsStep}
 use Rattle.gr_sequencer.specs.declared.handled.Handled.{Handled}
 use Rattle.gr_sequencer.specs.declared.handled.Handled.TheVariants.{One, Meet}
@@ -39,8 +39,8 @@ longer old new (Meet g k) h =
     omega (arith, ap length h.meets.order, length-append old.handled h.meets.barriers, some)
 
 -- so fewer are left
-pub fewer_left : {Z : Type 0} (old new : Sequence) (step : Handled Z) → IsStep old new step → IsSequence new → events_of new.taken - length new.handled < events_of old.taken - length old.handled
+pub fewer_left : {Z : Type 0} (old new : Sequence) (step : Handled Z) → IsStep old new step → IsSequence new → event_count new.taken - length new.handled < event_count old.taken - length old.handled
 fewer_left old new step h sequence =
-    let same : events_of new.taken ≡ events_of old.taken = ap events_of (taken_stays old new step h) in
-    let few : length new.handled ≤ events_of new.taken = order_is_short new.taken new.handled sequence.lawful in
+    let same : event_count new.taken ≡ event_count old.taken = ap event_count (taken_stays old new step h) in
+    let few : length new.handled ≤ event_count new.taken = order_is_short new.taken new.handled sequence.lawful in
     omega (arith, longer old new step h, few, same)

@@ -7,8 +7,8 @@ use Rattle.gr_model.specs.declared.event.Event.{Event}
 use Rattle.gr_model.specs.declared.event.Kind.TheVariants.{Read}
 use Rattle.gr_model.specs.declared.event.Space.TheVariants.{Global}
 use Rattle.gr_model.specs.declared.limits.TheConstants.{MOST_RECORDS}
-use Rattle.gr_model.specs.Streams.{Streams, AreAccepted, IsAccepted, list_of, size_of, IsFront, is_complete}
-use Rattle.gr_model.proofs.StreamFronts.{front_whole}
+use Rattle.gr_model.specs.Streams.{Streams, AreAccepted, IsAccepted, list_of, size_of, IsPrefix, is_complete}
+use Rattle.gr_model.proofs.StreamPrefixes.{prefix_whole}
 use Rattle.gr_steps.proofs.Orders.{lawful_empty}
 use Rattle.gr_lanes.specs.Takes.{CanTake, IsEventButItem, IsTakeFault, nothing_taken, with_record}
 use Rattle.gr_lanes.specs.declared.seq_error.SeqError.{SeqError}
@@ -57,11 +57,11 @@ can_take_next s before g i list d there accepted lt so_far = subst (λ (t : Stre
     item : (get_or list i d).item < size_of s g
     item = (accepted.good i (get_or list i d) (slice_get-get_or list i d lt)).0.0
 
-    front : IsFront (size_of s g) (take i list ++ drop i list)
-    front = subst (IsFront (size_of s g)) (sym (take-append-drop i list)) (record { few = accepted.few; good = accepted.good })
+    prefix : IsPrefix (size_of s g) (take i list ++ drop i list)
+    prefix = subst (IsPrefix (size_of s g)) (sym (take-append-drop i list)) (record { few = accepted.few; good = accepted.good })
 
     unended : IsTrue (is_complete (take i list)) → ⊥
-    unended ended = let rest = front_whole (size_of s g) (take i list) (drop i list) front ended in let none : length (drop i list) ≡ 0 = ap length rest in omega (arith, length-drop i list)
+    unended ended = let rest = prefix_whole (size_of s g) (take i list) (drop i list) prefix ended in let none : length (drop i list) ≡ 0 = ap length rest in omega (arith, length-drop i list)
 
 -- and there is room for it
 pub room_for_next : (s before : Streams) (g i : ℕ) (list : List Event) → g < length s.lists → IsAccepted (size_of s g) list → i < length list → before ≡ with_list s g (take i list) → length (list_of before g) < MOST_RECORDS
@@ -80,7 +80,7 @@ only_memory s g x Memory can fault = refl
 pub shadows_stay : (q new : Sequence) (g : ℕ) (x : Event) (kept : Kept) → IsSequence q → CanTake q.taken g x → new ≡ taking q g x → AreShadowsOf q kept → AreShadowsOf new kept
 shadows_stay q new g x kept sequence can is shadows = subst (λ (p : Sequence). AreShadowsOf p kept) (sym is) (
   shadows.0,
-  accesses_stay q.taken (with_record q.taken g x) (record_grows q.taken g x sequence.fronts can) q.handled shadows.0 sequence.lawful shadows.1,
+  accesses_stay q.taken (with_record q.taken g x) (record_grows q.taken g x sequence.prefixes can) q.handled shadows.0 sequence.lawful shadows.1,
   shadows.2,
 )
 
@@ -103,10 +103,10 @@ empty_at (x ∷ xs) (suc i) = empty_at xs i
 
 pub nothing_is_sequence : (s : Streams) (q : Sequence) → AreAccepted s → q ≡ nothing s.sizes → IsSequence q
 nothing_is_sequence s q accepted is = subst IsSequence (sym is) (record {
-  fronts = record {
+  prefixes = record {
     shape = accepted.shape;
     count = length-map s.sizes (λ n. []);
-    each = λ g within. subst (IsFront (get_or s.sizes g 0)) (sym (empty_at s.sizes g)) (record { few = omega arith; good = λ p x at. cc });
+    each = λ g within. subst (IsPrefix (get_or s.sizes g 0)) (sym (empty_at s.sizes g)) (record { few = omega arith; good = λ p x at. cc });
   };
   lawful = lawful_empty (nothing_taken s.sizes);
 })

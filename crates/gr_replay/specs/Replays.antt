@@ -5,7 +5,7 @@ use Rattle.gr_model.specs.Streams.{Streams}
 use Rattle.gr_model.specs.Reports.{WholeReport, IsReportOf}
 use Rattle.gr_record.specs.declared.fault.Fault.{Fault}
 use Rattle.gr_record.specs.declared.fault.Fault.TheVariants as faults
-use Rattle.gr_report.specs.Putting.{AppendsFront}
+use Rattle.gr_report.specs.Putting.{AppendsPrefix}
 use Rattle.gr_report.specs.ReportText.{report_text}
 use Rattle.gr_replay.specs.Launch.{Reads, IsReadFault}
 
@@ -19,6 +19,6 @@ pub record IsExact (bytes : List ℕ) (report : WholeReport) : Type 0 where
 abbrev pub IsReplayFault : List ℕ → Fault → Type 0
 IsReplayFault bytes f = IsReadFault bytes f ⊎ (f ≡ faults.Write)
 
--- a front of the text of the report was written
-abbrev pub WritesFront : List ℕ → Option (List ℕ) → Option (List ℕ) → Type 0
-WritesFront bytes old new = (r : WholeReport) × IsExact bytes r × AppendsFront old new (report_text r)
+-- a prefix of the text of the report was written
+abbrev pub WritesPrefix : List ℕ → Option (List ℕ) → Option (List ℕ) → Type 0
+WritesPrefix bytes old new = (r : WholeReport) × IsExact bytes r × AppendsPrefix old new (report_text r)

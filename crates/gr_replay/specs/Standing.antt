@@ -14,5 +14,5 @@ abbrev pub listed : Header → List ℕ → List Event
 listed h bytes = events_in (front_records_at h bytes)
 
 -- an end is there
-abbrev pub IsWhole : Header → List ℕ → Type 0
-IsWhole h bytes = (rest : List ℕ) × (front_records_at h bytes ≡ Ok (listed h bytes, rest))
+abbrev pub IsWholeStream : Header → List ℕ → Type 0
+IsWholeStream h bytes = (rest : List ℕ) × (front_records_at h bytes ≡ Ok (listed h bytes, rest))

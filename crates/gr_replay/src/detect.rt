@@ -3,7 +3,7 @@
 ghost use Rattle.std.specs.Prelude.{◌≡◌, IfOk, length};
 ghost use Rattle.std.specs.List.{sum_by};
 ghost use Rattle.gr_model.specs.Reports.{IsReportOf};
-ghost use Rattle.gr_model.specs.Streams.{AreAccepted, AreFronts};
+ghost use Rattle.gr_model.specs.Streams.{AreAccepted, ArePrefixes};
 ghost use Rattle.gr_order.specs.Sequences.{IsDone, IsSequence};
 ghost use Rattle.gr_replay.specs.Launch.{streams_of};
 ghost use Rattle.gr_replay.specs.Sequencing.{AreShadowsOf};
@@ -23,7 +23,7 @@ use std::alloc::Allocator;
 /// How many records were taken of so many groups, which are all; ends are among them.
 fn records_of<A: Allocator>(sequencer: &Sequencer<A>, groups: u16) -> u64
     requires groups { groups ≡ length sequencer.now.taken.lists }
-    requires fronts { AreFronts sequencer.now.taken }
+    requires prefixes { ArePrefixes sequencer.now.taken }
     ensures { result ≡ sum_by length sequencer.now.taken.lists }
 {
     let mut records: u64 = 0;

@@ -24,13 +24,13 @@ pub struct Records<'a> {
 impl<'a> Model for Records<'a> {
     ghost use Rattle.std.specs.Prelude.{List};
     ghost use Rattle.gr_model.specs.declared.event.Event.{Event};
-    ghost use Rattle.gr_replay.specs.Standing.{IsWhole, listed};
+    ghost use Rattle.gr_replay.specs.Standing.{IsWholeStream, listed};
 
     ghost Value = { List Event };
 
     ghost view = { λ r. listed r.header r.bytes.now };
 
-    ghost invariant = { λ r. IsWhole r.header r.bytes.now };
+    ghost invariant = { λ r. IsWholeStream r.header r.bytes.now };
 }
 
 impl<'a> Records<'a> {

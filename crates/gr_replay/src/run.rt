@@ -3,7 +3,7 @@
 ghost use Rattle.std.specs.Prelude.{◌≡◌, ◌≢◌, IfOk, IfErr, IfSome};
 ghost use Rattle.std.specs.Io.KnownBytes.{Appends, Keeps};
 ghost use Rattle.gr_record.specs.declared.fault.Fault.TheVariants as faults;
-ghost use Rattle.gr_replay.specs.Replays.{IsExact, IsReplayFault, WritesFront};
+ghost use Rattle.gr_replay.specs.Replays.{IsExact, IsReplayFault, WritesPrefix};
 ghost use Rattle.gr_report.specs.ReportText.{report_text};
 ghost use Rattle.gr_report.specs.Whole.{whole_of};
 
@@ -19,7 +19,7 @@ use std::io::{Read, Write};
 /// Reads streams to their end, and writes the text of the report on them and nothing else.
 ///
 /// # Errors
-/// Those of `read_joined`; `Write` where the writer fails, which then has a front of the text. In every other case of an
+/// Those of `read_joined`; `Write` where the writer fails, which then has a prefix of the text. In every other case of an
 /// error nothing is written.
 pub fn replay<A: Allocator + Copy, T: Read, W: Write>(
     alloc: A,
@@ -32,7 +32,7 @@ pub fn replay<A: Allocator + Copy, T: Read, W: Write>(
 
     // What a refusal leaves with the writer.
     ensures untouched { IfErr result (λ f. f ≢ faults.Write → Keeps (W.contents writer.old) (W.contents writer.new)) }
-    ensures front { IfErr result (λ f. f ≡ faults.Write → IfSome (T.remaining reader.old) (λ bytes. WritesFront bytes (W.contents writer.old) (W.contents writer.new))) }
+    ensures prefix { IfErr result (λ f. f ≡ faults.Write → IfSome (T.remaining reader.old) (λ bytes. WritesPrefix bytes (W.contents writer.old) (W.contents writer.new))) }
 {
     let bytes = read_all(alloc, reader)?;
     let launch = read_launch(alloc, bytes.as_slice())?;

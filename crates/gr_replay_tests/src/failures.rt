@@ -46,7 +46,7 @@ fn a_reader_that_fails_is_a_read_fault(rt: HostRuntime) -> Result<(), Fail> {
 }
 
 #[test]
-fn a_writer_that_fails_has_a_front_of_the_text(rt: HostRuntime) -> Result<(), Fail> {
+fn a_writer_that_fails_has_a_prefix_of_the_text(rt: HostRuntime) -> Result<(), Fail> {
     let bytes = race(rt.alloc())?;
     assert_eq!(rt; TEXT.len(), 93);
     for room in 0..93 {

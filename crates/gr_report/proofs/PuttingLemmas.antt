@@ -7,17 +7,17 @@ use Rattle.std.specs.List.{flat_map}
 use Rattle.std.proofs.lemmas.List.Concat.{flat_map-cons}
 use Rattle.std.proofs.lemmas.List.{at_drop_more, at_drop_all, append-nil, length-drop, take-append-drop, take_all}
 use Rattle.gr_report.specs.declared.putting.WriteFault.{WriteFault}
-use Rattle.gr_report.specs.Putting.{AppendsFront, Puts}
+use Rattle.gr_report.specs.Putting.{AppendsPrefix, Puts}
 
-pub AppendsFront-then : (old mid new : Option (List ℕ)) (a b : List ℕ) → Appends old mid a → AppendsFront mid new b → AppendsFront old new (a ++ b)
-AppendsFront-then old mid new a b h k = (a ++ k.0, k.1, ap (λ (v : List ℕ). a ++ v) k.2 ∙ sym (append_assoc a k.0 k.1), Appends-trans old mid new a k.0 h k.3)
+pub AppendsPrefix-then : (old mid new : Option (List ℕ)) (a b : List ℕ) → Appends old mid a → AppendsPrefix mid new b → AppendsPrefix old new (a ++ b)
+AppendsPrefix-then old mid new a b h k = (a ++ k.0, k.1, ap (λ (v : List ℕ). a ++ v) k.2 ∙ sym (append_assoc a k.0 k.1), Appends-trans old mid new a k.0 h k.3)
 
-pub AppendsFront-more : (old new : Option (List ℕ)) (a b : List ℕ) → AppendsFront old new a → AppendsFront old new (a ++ b)
-AppendsFront-more old new a b k = (k.0, k.1 ++ b, ap (λ (v : List ℕ). v ++ b) k.2 ∙ append_assoc k.0 k.1 b, k.3)
+pub AppendsPrefix-more : (old new : Option (List ℕ)) (a b : List ℕ) → AppendsPrefix old new a → AppendsPrefix old new (a ++ b)
+AppendsPrefix-more old new a b k = (k.0, k.1 ++ b, ap (λ (v : List ℕ). v ++ b) k.2 ∙ append_assoc k.0 k.1 b, k.3)
 
 then_by_cases : (old mid new : Option (List ℕ)) (r : Result (Unit {0}) WriteFault) (a b : List ℕ) → Appends old mid a → Puts mid new r b → Puts old new r (a ++ b)
-then_by_cases old mid new (Ok y) a b h k = record { whole = Appends-trans old mid new a b h k.whole; front = tt }
-then_by_cases old mid new (Err e) a b h k = record { whole = tt; front = AppendsFront-then old mid new a b h k.front }
+then_by_cases old mid new (Ok y) a b h k = record { whole = Appends-trans old mid new a b h k.whole; prefix = tt }
+then_by_cases old mid new (Err e) a b h k = record { whole = tt; prefix = AppendsPrefix-then old mid new a b h k.prefix }
 
 -- a text that was written whole, and then the next
 pub puts_then : {old mid new : Option (List ℕ)} {x : Unit {0}} {r : Result (Unit {0}) WriteFault} {a b : List ℕ} → Puts old mid (Ok x) a → Puts mid new r b → Puts old new r (a ++ b)
@@ -25,49 +25,49 @@ puts_then h k = then_by_cases _ _ _ _ _ _ h.whole k
 
 -- a text that failed, before another that is due
 pub puts_more : {old new : Option (List ℕ)} {e : WriteFault} {a : List ℕ} (b : List ℕ) → Puts old new (Err e) a → Puts old new (Err e) (a ++ b)
-puts_more b h = record { whole = tt; front = AppendsFront-more _ _ _ b h.front }
+puts_more b h = record { whole = tt; prefix = AppendsPrefix-more _ _ _ b h.prefix }
 
 -- an error that is passed on
 pub puts_err : {old new : Option (List ℕ)} {e : WriteFault} {a : List ℕ} (r : Result (Unit {0}) WriteFault) → IsErr r → Puts old new (Err e) a → Puts old new r a
 puts_err (Ok x) i h = absurd cc
-puts_err (Err d) i h = record { whole = tt; front = h.front }
+puts_err (Err d) i h = record { whole = tt; prefix = h.prefix }
 
 -- what was written of the text before the rest of it
-abbrev pub Front : Option (List ℕ) → Option (List ℕ) → List ℕ → List ℕ → Type 0
-Front old new text rest = (front : List ℕ) × (text ≡ front ++ rest) × Appends old new front
+abbrev pub Prefix : Option (List ℕ) → Option (List ℕ) → List ℕ → List ℕ → Type 0
+Prefix old new text rest = (prefix : List ℕ) × (text ≡ prefix ++ rest) × Appends old new prefix
 
 -- a call that keeps what was written
 pub puts_kept : {old mid new : Option (List ℕ)} {x : Unit {0}} {text : List ℕ} (r : Result (Unit {0}) WriteFault) → Puts old mid (Ok x) text → Keeps mid new → Puts old new r text
-puts_kept (Ok y) h k = record { whole = Appends-kept _ _ _ _ h.whole k; front = tt }
-puts_kept {text = text} (Err e) h k = record { whole = tt; front = (text, [], sym (append-nil text), Appends-kept _ _ _ _ h.whole k) }
+puts_kept (Ok y) h k = record { whole = Appends-kept _ _ _ _ h.whole k; prefix = tt }
+puts_kept {text = text} (Err e) h k = record { whole = tt; prefix = (text, [], sym (append-nil text), Appends-kept _ _ _ _ h.whole k) }
 
-pub Front-more : (old mid new : Option (List ℕ)) (text rest : List ℕ) (n : ℕ) → Front old mid text rest → Appends mid new (take n rest) → Front old new text (take (length rest - n) (drop n rest))
-Front-more old mid new text rest n f h =
+pub Prefix-more : (old mid new : Option (List ℕ)) (text rest : List ℕ) (n : ℕ) → Prefix old mid text rest → Appends mid new (take n rest) → Prefix old new text (take (length rest - n) (drop n rest))
+Prefix-more old mid new text rest n f h =
     let whole : take (length rest - n) (drop n rest) ≡ drop n rest = take_all (length rest - n) (drop n rest) (omega (arith, length-drop n rest)) in
     rw whole (f.0 ++ take n rest, f.1 ∙ ap (λ (v : List ℕ). f.0 ++ v) (sym (take-append-drop n rest)) ∙ sym (append_assoc f.0 (take n rest) (drop n rest)), Appends-trans old mid new f.0 (take n rest) f.2 h)
 
-pub puts_whole : (old new : Option (List ℕ)) (text rest : List ℕ) → length rest ≡ 0 → Front old new text rest → Puts old new (Ok tt) text
-puts_whole old new text [] e f = record { whole = rw (f.1 ∙ append-nil f.0) f.2; front = tt }
+pub puts_whole : (old new : Option (List ℕ)) (text rest : List ℕ) → length rest ≡ 0 → Prefix old new text rest → Puts old new (Ok tt) text
+puts_whole old new text [] e f = record { whole = rw (f.1 ∙ append-nil f.0) f.2; prefix = tt }
 puts_whole old new text (b ∷ rest) e f = absurd (omega arith)
 
-pub puts_some : (old mid new : Option (List ℕ)) (text rest : List ℕ) (n : ℕ) → Front old mid text rest → Appends mid new (take n rest) → Puts old new (Err (record {})) text
+pub puts_some : (old mid new : Option (List ℕ)) (text rest : List ℕ) (n : ℕ) → Prefix old mid text rest → Appends mid new (take n rest) → Puts old new (Err (record {})) text
 puts_some old mid new text rest n f h =
-    let g = Front-more old mid new text rest n f h in
-    record { whole = tt; front = (g.0, take (length rest - n) (drop n rest), g.1, g.2) }
+    let g = Prefix-more old mid new text rest n f h in
+    record { whole = tt; prefix = (g.0, take (length rest - n) (drop n rest), g.1, g.2) }
 
-pub puts_failed : (old mid new : Option (List ℕ)) (text rest : List ℕ) → Front old mid text rest → Keeps mid new → Puts old new (Err (record {})) text
-puts_failed old mid new text rest f h = record { whole = tt; front = (f.0, rest, f.1, Appends-kept old mid new f.0 f.2 h) }
+pub puts_failed : (old mid new : Option (List ℕ)) (text rest : List ℕ) → Prefix old mid text rest → Keeps mid new → Puts old new (Err (record {})) text
+puts_failed old mid new text rest f h = record { whole = tt; prefix = (f.0, rest, f.1, Appends-kept old mid new f.0 f.2 h) }
 
 -- ---- a list of lines
 
 flat_map-drop : {X : Type 0} (f : X → List ℕ) (xs : List X) (i : ℕ) (d : X) → i < length xs → flat_map f (drop i xs) ≡ f (get_or xs i d) ++ flat_map f (drop (i + 1) xs)
 flat_map-drop f xs i d lt = at_drop_more (flat_map f) xs i d lt ∙ flat_map-cons f (get_or xs i d) (drop (i + 1) xs)
 
-pub lines_start : {X : Type 0} (f : X → List ℕ) (xs : List X) (old : Option (List ℕ)) → Front old old (flat_map f xs) (flat_map f (drop 0 xs))
+pub lines_start : {X : Type 0} (f : X → List ℕ) (xs : List X) (old : Option (List ℕ)) → Prefix old old (flat_map f xs) (flat_map f (drop 0 xs))
 lines_start f xs old = ([], refl, Appends-nil old)
 
-module _ {X : Type 0} (f : X → List ℕ) (xs : List X) (i : ℕ) (d : X) (old mid new : Option (List ℕ)) (text : List ℕ) (so_far : Front old mid text (flat_map f (drop i xs))) where
-  pub lines_next : (x : Unit {0}) → i < length xs → Puts mid new (Ok x) (f (get_or xs i d)) → Front old new text (flat_map f (drop (i + 1) xs))
+module _ {X : Type 0} (f : X → List ℕ) (xs : List X) (i : ℕ) (d : X) (old mid new : Option (List ℕ)) (text : List ℕ) (so_far : Prefix old mid text (flat_map f (drop i xs))) where
+  pub lines_next : (x : Unit {0}) → i < length xs → Puts mid new (Ok x) (f (get_or xs i d)) → Prefix old new text (flat_map f (drop (i + 1) xs))
   lines_next x lt h =
       let a = f (get_or xs i d) in
       let rest = flat_map f (drop (i + 1) xs) in
@@ -77,10 +77,10 @@ module _ {X : Type 0} (f : X → List ℕ) (xs : List X) (i : ℕ) (d : X) (old 
   lines_fail e lt h =
       let a = f (get_or xs i d) in
       let rest = flat_map f (drop (i + 1) xs) in
-      let k = h.front in
+      let k = h.prefix in
       record {
         whole = tt;
-        front = (
+        prefix = (
           so_far.0 ++ k.0,
           k.1 ++ rest,
           so_far.1 ∙ ap (λ (v : List ℕ). so_far.0 ++ v) (flat_map-drop f xs i d lt ∙ ap (λ (v : List ℕ). v ++ rest) k.2 ∙ append_assoc k.0 k.1 rest) ∙ sym (append_assoc so_far.0 k.0 (k.1 ++ rest)),
@@ -91,4 +91,4 @@ module _ {X : Type 0} (f : X → List ℕ) (xs : List X) (i : ℕ) (d : X) (old 
   pub lines_end : length xs ≤ i → Puts old mid (Ok tt) text
   lines_end le =
       let none : flat_map f (drop i xs) ≡ [] = at_drop_all (flat_map f) xs i le in
-      record { whole = rw (so_far.1 ∙ ap (λ (v : List ℕ). so_far.0 ++ v) none ∙ append-nil so_far.0) so_far.2; front = tt }
+      record { whole = rw (so_far.1 ∙ ap (λ (v : List ℕ). so_far.0 ++ v) none ∙ append-nil so_far.0) so_far.2; prefix = tt }

@@ -2,7 +2,7 @@
 
 ghost use Rattle.std.specs.Prelude.{◌++◌, OnOk, OnErr, codes};
 ghost use Rattle.std.specs.Io.KnownBytes.{Appends};
-ghost use Rattle.gr_report.specs.Putting.{Puts, AppendsFront, field};
+ghost use Rattle.gr_report.specs.Putting.{Puts, AppendsPrefix, field};
 ghost use Rattle.gr_report.specs.FaultText.{between, error_text, shape_text, fault_text, fault_line};
 
 use crate::putting::{WriteFault, finish, put, put_field};
@@ -94,7 +94,7 @@ fn put_fault<W: Write>(writer: &mut W, fault: Fault) -> Result<(), WriteFault>
 /// `WriteFault` if the writer fails, which has then taken a prefix of the line.
 pub fn write_fault<W: Write>(fault: &Fault, writer: &mut W) -> Result<(), WriteFault>
     ensures whole { OnOk result (Appends (W.contents writer.old) (W.contents writer.new) (fault_line fault.now)) }
-    ensures front { OnErr result (AppendsFront (W.contents writer.old) (W.contents writer.new) (fault_line fault.now)) }
+    ensures prefix { OnErr result (AppendsPrefix (W.contents writer.old) (W.contents writer.new) (fault_line fault.now)) }
 {
     put_fault(writer, *fault)?;
     finish(writer)

@@ -3,7 +3,7 @@
 ghost use Rattle.std.specs.Prelude.{◌≡◌, OnOk, OnErr};
 ghost use Rattle.std.specs.List.{flat_map};
 ghost use Rattle.std.specs.Io.KnownBytes.{Appends};
-ghost use Rattle.gr_report.specs.Putting.{Puts, AppendsFront};
+ghost use Rattle.gr_report.specs.Putting.{Puts, AppendsPrefix};
 ghost use Rattle.gr_report.specs.Whole.{whole_of};
 ghost use Rattle.gr_report.specs.ReportText.{head_text, cut_line, race_line, divergence_line, unmatched_line, end_line, report_text, divergence_end, unmatched_end};
 
@@ -136,7 +136,7 @@ fn put_all<A: Allocator, W: Write>(writer: &mut W, report: &Report<A>) -> Result
 /// `WriteFault` if the writer fails, which has then taken a prefix of the text.
 pub fn write<A: Allocator, W: Write>(report: &Report<A>, writer: &mut W) -> Result<(), WriteFault>
     ensures whole { OnOk result (Appends (W.contents writer.old) (W.contents writer.new) (report_text (whole_of report.now))) }
-    ensures front { OnErr result (AppendsFront (W.contents writer.old) (W.contents writer.new) (report_text (whole_of report.now))) }
+    ensures prefix { OnErr result (AppendsPrefix (W.contents writer.old) (W.contents writer.new) (report_text (whole_of report.now))) }
 {
     put_all(writer, report)?;
     finish(writer)

@@ -318,15 +318,15 @@ fn a_fault_has_its_line(rt: HostRuntime) -> Result<(), Fail> {
 }
 
 /// What a call answered and wrote over a writer that fails after `room` bytes.
-fn is_front(writer: &Failing, answer: Result<(), WriteFault>, text: &[u8], room: usize) -> bool {
+fn is_prefix(writer: &Failing, answer: Result<(), WriteFault>, text: &[u8], room: usize) -> bool {
     let is_whole = room >= text.len();
     let is_fault = !is_whole || writer.failure == Failure::Flush;
-    let front = text.get(..room).unwrap_or(text);
-    answer.is_err() == is_fault && writer.taken.as_slice() == front
+    let prefix = text.get(..room).unwrap_or(text);
+    answer.is_err() == is_fault && writer.taken.as_slice() == prefix
 }
 
 #[test]
-fn a_writer_that_fails_has_a_front(rt: HostRuntime) -> Result<(), Fail> {
+fn a_writer_that_fails_has_a_prefix(rt: HostRuntime) -> Result<(), Fail> {
     let report = report_of(rt.alloc(), &CASES[7])?;
     let text = CASES[7].text.as_bytes();
     let line = b"gpurace: stream 3: bad field 11\n";
@@ -340,7 +340,7 @@ fn a_writer_that_fails_has_a_front(rt: HostRuntime) -> Result<(), Fail> {
             };
             let answer = write(&report, &mut writer);
             assert!(rt;
-                is_front(&writer, answer, text, room),
+                is_prefix(&writer, answer, text, room),
                 "report, {failure:?} at {room}"
             );
             let taken = Vec::new(rt.alloc());
@@ -351,7 +351,7 @@ fn a_writer_that_fails_has_a_front(rt: HostRuntime) -> Result<(), Fail> {
             };
             let answer = write_fault(&FAULTS[3].0, &mut writer);
             assert!(rt;
-                is_front(&writer, answer, line, room),
+                is_prefix(&writer, answer, line, room),
                 "line, {failure:?} at {room}"
             );
         }

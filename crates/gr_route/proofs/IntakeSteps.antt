@@ -13,14 +13,14 @@ use Rattle.gr_model.specs.declared.event.Event.{Event}
 use Rattle.gr_model.specs.declared.event.Sent.{Sent}
 use Rattle.gr_model.specs.declared.limits.TheConstants.{MOST_RECORDS}
 use Rattle.gr_model.specs.Events.{IsEventOk}
-use Rattle.gr_model.specs.Streams.{IsFront, events_of, is_complete}
+use Rattle.gr_model.specs.Streams.{IsPrefix, events_of, is_complete}
 use Rattle.gr_route.specs.declared.intake_rule.Joined.{Joined}
 use Rattle.gr_route.specs.declared.intake_rule.IntakeView.{IntakeView}
 use Rattle.gr_model.proofs.Sending.{events_append, events_else, events_here}
-use Rattle.gr_model.proofs.StreamFronts.{front_front, front_nil, front_push, next_ok, next_unended, next_room}
+use Rattle.gr_model.proofs.StreamPrefixes.{prefix_prefix, prefix_nil, prefix_push, next_ok, next_unended, next_room}
 use Rattle.gr_route.specs.IntakeRule.{FitsJoined, FitsSeat, FitsTaker, Pops, Pushes, SeatLearns, SeatsAgree, TakerLearns, after_join, after_split, first_view, joined_from, no_sizes, seat_of, spent_view, taker_of}
-use Rattle.gr_route.specs.IntakeSeats.{IsDelivered, IsDelivery, IsNext, Seat, Taker}
-use Rattle.gr_route.proofs.FrontLemmas.{nil_front, not_nil}
+use Rattle.gr_route.specs.IntakeSeats.{IsDelivered, IsDelivery, IsNextPopped, Seat, Taker}
+use Rattle.gr_route.proofs.PrefixLemmas.{nil_prefix, not_nil}
 use Rattle.gr_route.proofs.GroupLemmas.{by_place, changed, changed_else, changed_here}
 use Rattle.gr_route.proofs.Views.{Each, each_one, each_set, each_snoc, held, none_holds, same_holder}
 
@@ -41,7 +41,7 @@ begins =
       size = size;
       popped = [];
       queued = λ g. refl;
-      fronts = λ g. front_nil (size g);
+      prefixes = λ g. prefix_nil (size g);
       unseated = λ g none. (refl, refl);
       fits = each_one (Fits holder sent size 0 []) first_view ((λ e. none_holds e), (λ _. (refl, refl, (λ g. refl), All-nil (FitsJoined holder sent size))));
     }
@@ -65,13 +65,13 @@ pushes n pass g size l e ok unended room items views _ h at =
         size = h.size;
         popped = h.popped;
         queued = λ k. ap (events_of k) (sym (append_assoc h.popped items (x ∷ []))) ∙ events_append k (h.popped ++ items) (x ∷ []) ∙ ap (λ m. m ++ events_of k (x ∷ [])) (h.queued k);
-        fronts = λ k. by_place k g
-            (λ same. subst (IsFront (h.size k)) (sym (here k same))
-            (front_push (h.size k) (h.sent k) e (h.fronts k)
+        prefixes = λ k. by_place k g
+            (λ same. subst (IsPrefix (h.size k)) (sym (here k same))
+            (prefix_push (h.size k) (h.sent k) e (h.prefixes k)
             (subst (λ (s : ℕ). IsEventOk e s) (mine.2 ∙ ap h.size (sym same)) ok)
             (subst (λ (m : List Event). IsFalse (is_complete m)) (mine.1 ∙ ap h.sent (sym same)) unended)
             (subst (λ (m : List Event). length m < MOST_RECORDS) (mine.1 ∙ ap h.sent (sym same)) room)))
-            (λ other. subst (IsFront (h.size k)) (sym (else k other)) (h.fronts k));
+            (λ other. subst (IsPrefix (h.size k)) (sym (else k other)) (h.prefixes k));
         unseated = λ k none. let old = h.unseated k none in (old.0, else k (λ same. held mine.0 (ap h.holder (sym same) ∙ old.0)) ∙ old.1);
         fits = each_set (Fits h.holder sent h.size h.taker h.popped) views pass w
             ((λ _. (mine.0, ap (λ m. m ++ e ∷ []) mine.1 ∙ sym (here g refl), mine.2)), (λ q. none_holds q))
@@ -94,11 +94,11 @@ seat_learns pass g size l items views h at = (events_of g h.popped, ((h.fits pas
 -- ---- a pop
 
 learned : (holder : ℕ → seat.Option ℕ) (sent : ℕ → List Event) (size : ℕ → ℕ) (popped items p : List Sent) (s : List ℕ) (js : List Joined)
-    → ((g : ℕ) → events_of g (popped ++ items) ≡ sent g) → ((g : ℕ) → IsFront (size g) (sent g)) → ((g : ℕ) → size g ≡ 0 → (holder g ≡ seat.none) × (sent g ≡ []))
+    → ((g : ℕ) → events_of g (popped ++ items) ≡ sent g) → ((g : ℕ) → IsPrefix (size g) (sent g)) → ((g : ℕ) → size g ≡ 0 → (holder g ≡ seat.none) × (sent g ≡ []))
     → p ≡ popped → ((g : ℕ) → slice_index s g ≡ size g) → All (FitsJoined holder sent size) js → TakerLearns (taker_of p s js) items
-learned holder sent size popped items p s js queued fronts unseated same sizes back =
+learned holder sent size popped items p s js queued prefixes unseated same sizes back =
     let e : (g : ℕ) → events_of g (p ++ items) ≡ sent g = λ g. ap (λ k. events_of g (k ++ items)) same ∙ queued g in (
-      (λ g. subst (λ (y : ℕ × List Event). IsFront y.0 y.1) (λ i. (sym (sizes g) i, sym (e g) i)) (fronts g)),
+      (λ g. subst (λ (y : ℕ × List Event). IsPrefix y.0 y.1) (λ i. (sym (sizes g) i, sym (e g) i)) (prefixes g)),
       (λ g none. e g ∙ (unseated g (sym (sizes g) ∙ none)).1),
       All-weaker (FitsJoined holder sent size) (λ j. (j.pushed ≡ events_of j.group (p ++ items)) × (j.items ≡ slice_index s j.group)) (λ j t. (t.1 ∙ sym (e j.group), t.2 ∙ sym (sizes j.group))) js back,
     )
@@ -118,18 +118,18 @@ pops pass p s js x items views h at =
         size = h.size;
         popped = got;
         queued = queued;
-        fronts = h.fronts;
+        prefixes = h.prefixes;
         unseated = h.unseated;
         fits = each_set (Fits h.holder h.sent h.size h.taker got) views pass w ((λ q. none_holds q), (λ _. (mine.0, same, mine.2, mine.3)))
             (λ j u apart there. let old = h.fits j u there in (old.0, (λ q. absurd (apart ((old.1 q).0 ∙ sym mine.0)))));
       },
-      (refl, (items, learned h.holder h.sent h.size got items (p ++ x ∷ []) s js queued h.fronts h.unseated same mine.2 mine.3)),
+      (refl, (items, learned h.holder h.sent h.size got items (p ++ x ∷ []) s js queued h.prefixes h.unseated same mine.2 mine.3)),
     )
 
 taker_learns : (pass : ℕ) (p : List Sent) (s : List ℕ) (js : List Joined) → queue.Learns SeatsAgree pass (taker_of p s js) (TakerLearns (taker_of p s js))
 taker_learns pass p s js items views h at =
     let mine = (h.fits pass (taker_of p s js) at).1 refl in
-    learned h.holder h.sent h.size h.popped items p s js h.queued h.fronts h.unseated mine.1 mine.2 mine.3
+    learned h.holder h.sent h.size h.popped items p s js h.queued h.prefixes h.unseated mine.1 mine.2 mine.3
 
 -- ---- a split
 
@@ -152,9 +152,9 @@ splits pass g n p s js within vacant some_items items views h at =
       size = size;
       popped = h.popped;
       queued = h.queued;
-      fronts = λ k. by_place k g
-          (λ same. subst (IsFront (size k)) (sym (ap h.sent same ∙ gone.1)) (front_nil (size k)))
-          (λ other. subst (λ (m : ℕ). IsFront m (h.sent k)) (sym (changed_else h.size g n k other)) (h.fronts k));
+      prefixes = λ k. by_place k g
+          (λ same. subst (IsPrefix (size k)) (sym (ap h.sent same ∙ gone.1)) (prefix_nil (size k)))
+          (λ other. subst (λ (m : ℕ). IsPrefix m (h.sent k)) (sym (changed_else h.size g n k other)) (h.prefixes k));
       unseated = λ k none. by_place k g
           (λ same. absurd (some_items (sym (changed_here h.size g n k same) ∙ none)))
           (λ other. let old = h.unseated k (sym (changed_else h.size g n k other) ∙ none) in (changed_else h.holder g (seat.some (length vs)) k other ∙ old.0, old.1));
@@ -225,7 +225,7 @@ joins pass p s js other g n l items views h at two at' =
       size = h.size;
       popped = h.popped;
       queued = h.queued;
-      fronts = h.fronts;
+      prefixes = h.prefixes;
       unseated = λ k z. let old = h.unseated k z in (freed k old.0, old.1);
       fits = each_set F vs other spent_view ((λ q. none_holds q), (λ q. none_holds q)) (λ j y apart there. now j y there apart);
     }
@@ -259,13 +259,13 @@ taker_again v u w s is now = subst (λ (y : IntakeView). y ≡ taker_of y.popped
 
 delivery : (q : TableId) (p : List Sent) (s : List ℕ) (js : List Joined) (items : List Sent) → TakerLearns (taker_of p s js) items → IsDelivery record { queue = q; popped = p; sizes = s; joined = js }
 delivery q p s js items t = record {
-  streams = λ g. front_front (slice_index s g) (events_of g p) (events_of g items) (subst (IsFront (slice_index s g)) (events_append g p items) (t.0 g));
-  unseated = λ g none. nil_front (events_of g p) (events_of g items) (sym (events_append g p items) ∙ t.1 g none);
+  streams = λ g. prefix_prefix (slice_index s g) (events_of g p) (events_of g items) (subst (IsPrefix (slice_index s g)) (events_append g p items) (t.0 g));
+  unseated = λ g none. nil_prefix (events_of g p) (events_of g items) (sym (events_append g p items) ∙ t.1 g none);
   joined = All-weaker (λ j. (j.pushed ≡ events_of j.group (p ++ items)) × (j.items ≡ slice_index s j.group)) (IsDelivered record { queue = q; popped = p; sizes = s; joined = js })
       (λ j e. record {
         items = e.1;
-        stream = subst (λ (y : ℕ × List Event). IsFront y.0 y.1) (λ i. (sym e.1 i, sym e.0 i)) (t.0 j.group);
-        front = (events_of j.group items, e.0 ∙ events_append j.group p items);
+        stream = subst (λ (y : ℕ × List Event). IsPrefix y.0 y.1) (λ i. (sym e.1 i, sym e.0 i)) (t.0 j.group);
+        prefix = (events_of j.group items, e.0 ∙ events_append j.group p items);
       }) js t.2;
 }
 
@@ -284,13 +284,13 @@ delivered_last t k q v u w g n is now same seen d =
     (subst (λ (y : Joined). IsDelivered t y) (ap joined_from is)
     (All-last (IsDelivered t) v.joined (joined_from u) (subst (All (IsDelivered t)) (same ∙ ap (λ (y : IntakeView). y.joined) now) d.joined)))
 
-next : (q : TableId) (p : List Sent) (s : List ℕ) (js : List Joined) (x : Sent) (items : List Sent) → TakerLearns (taker_of (p ++ x ∷ []) s js) items → IsNext record { queue = q; popped = p; sizes = s; joined = js } x
+next : (q : TableId) (p : List Sent) (s : List ℕ) (js : List Joined) (x : Sent) (items : List Sent) → TakerLearns (taker_of (p ++ x ∷ []) s js) items → IsNextPopped record { queue = q; popped = p; sizes = s; joined = js } x
 next q p s js x items t =
     let g : ℕ = x.group in
     let size : ℕ = slice_index s g in
     let e : events_of g ((p ++ x ∷ []) ++ items) ≡ events_of g p ++ x.event ∷ events_of g items =
     events_append g (p ++ x ∷ []) items ∙ ap (λ l. l ++ events_of g items) (events_append g p (x ∷ []) ∙ ap (λ l. events_of g p ++ l) (events_here x)) ∙ append_assoc (events_of g p) (x.event ∷ []) (events_of g items) in
-    let all : IsFront size (events_of g p ++ x.event ∷ events_of g items) = subst (IsFront size) e (t.0 g) in
+    let all : IsPrefix size (events_of g p ++ x.event ∷ events_of g items) = subst (IsPrefix size) e (t.0 g) in
     record {
       seated = λ none. not_nil (events_of g p) x.event (events_of g items) (sym e ∙ t.1 g none);
       good = next_ok size (events_of g p) x.event (events_of g items) all;
@@ -303,7 +303,7 @@ popped_view : (v w : IntakeView) (s : List ℕ) (x : Sent) → v ≡ taker_of v.
 popped_view v w s x is told = told.0 ∙ ap (λ b. taker_of (v.popped ++ x ∷ []) b v.joined) (ap (λ (y : IntakeView). y.sizes) is)
 
 pub popped_next : (q : TableId) (o : Option Sent) (v w : IntakeView) (s : List ℕ) → v ≡ taker_of v.popped s v.joined → MatchOption o ((w ≡ v) × queue.Held 0 (TakerLearns v)) (λ x. Pops v x w)
-    → IfSome o (IsNext record { queue = q; popped = v.popped; sizes = s; joined = v.joined })
+    → IfSome o (IsNextPopped record { queue = q; popped = v.popped; sizes = s; joined = v.joined })
 popped_next q None v w s is h = tt
 popped_next q (Some x) v w s is h = next q v.popped s v.joined x h.1.0 (subst (λ (y : IntakeView). TakerLearns y h.1.0) (popped_view v w s x is h) h.1.1)
 

@@ -1,4 +1,4 @@
-pub mod FrontLemmas
+pub mod PrefixLemmas
 pub mod GroupLemmas
 pub mod IntakeSteps
 pub mod Views

@@ -9,10 +9,10 @@ use Rattle.crossbeam_queue.specs.Fifo as queue
 use Rattle.crossbeam_queue.proofs.Lists.{at_set}
 use Rattle.gr_route.specs.declared.work.Work.{Work}
 use Rattle.gr_route.specs.declared.work_rule.WorkView.{WorkView}
-use Rattle.gr_route.specs.Fronts.{StartsWith}
+use Rattle.gr_route.specs.Prefixes.{StartsWith}
 use Rattle.gr_route.specs.WorkRule.{FitsGiver, FitsWorker, GiverLearns, Pops, Pushes, SeatsAgree, StopMakesWhole, StopsLast, WorkerLearns, after_join, after_split, first_view, giver_of, is_stop, is_stopped, spent_view, worker_of}
 use Rattle.gr_route.specs.WorkSeats.{Giver, IsDelivery}
-use Rattle.gr_route.proofs.FrontLemmas.{nil_front}
+use Rattle.gr_route.proofs.PrefixLemmas.{nil_prefix}
 use Rattle.gr_route.proofs.Views.{Each, each_one, each_set, each_snoc, held, none_holds, same_holder}
 
 nil_back : {T : Type 0} (xs ys : List T) → xs ++ ys ≡ [] → ys ≡ []
@@ -36,11 +36,11 @@ module _ {A : Type 0} where
       let neither = or_false (is_stop y) (is_stopped ys) unstopped in
       ((λ stop. absurd (true≢false (sym stop ∙ neither.0))), stops_push ys x neither.1)
 
-  stops_front : (xs ys : List (Work A)) → StopsLast (xs ++ ys) → StopsLast xs
-  stops_front [] ys h = tt
-  stops_front (x ∷ xs) ys h = ((λ stop. nil_front xs ys (h.0 stop)), stops_front xs ys h.1)
+  stops_prefix : (xs ys : List (Work A)) → StopsLast (xs ++ ys) → StopsLast xs
+  stops_prefix [] ys h = tt
+  stops_prefix (x ∷ xs) ys h = ((λ stop. nil_prefix xs ys (h.0 stop)), stops_prefix xs ys h.1)
 
-  none_after : (front rest : List (Work A)) → StopsLast (front ++ rest) → IsTrue (is_stopped front) → rest ≡ []
+  none_after : (prefix rest : List (Work A)) → StopsLast (prefix ++ rest) → IsTrue (is_stopped prefix) → rest ≡ []
   none_after [] rest h stopped = absurd (true≢false (sym stopped))
   none_after (x ∷ xs) rest h stopped = ⊎_elim (λ stop. nil_back xs rest (h.0 stop)) (λ later. none_after xs rest h.1 later) (or_true (is_stop x) (is_stopped xs) stopped)
 
@@ -53,9 +53,9 @@ module _ {A : Type 0} where
       by_cases true is = absurd (let none = none_after xs (x ∷ ys) h is in cc)
 
   pub stop_makes_whole : StopMakesWhole A
-  stop_makes_whole list front stops starts stopped =
-      let none = none_after front starts.0 (subst StopsLast starts.1 stops) stopped in
-      sym (starts.1 ∙ ap (λ r. front ++ r) none ∙ append-nil front)
+  stop_makes_whole list prefix stops starts stopped =
+      let none = none_after prefix starts.0 (subst StopsLast starts.1 stops) stopped in
+      sym (starts.1 ∙ ap (λ r. prefix ++ r) none ∙ append-nil prefix)
 
   abbrev Fits : ℕ → seat.Option ℕ → List (Work A) → List (Work A) → ℕ → WorkView A → Type 0
   Fits worker holder sent popped pass v = FitsGiver holder sent pass v × FitsWorker worker holder sent popped pass v
@@ -215,9 +215,9 @@ module _ {A : Type 0} where
 
   delivery : (q : TableId) (p : List (Work A)) (s : Bool) (g : Option (List (Work A))) (items : List (Work A)) → WorkerLearns (worker_of p s g) items → IsDelivery record { queue = q; popped = p; split = s; given = g }
   delivery q p s g items t = record {
-    stops = stops_front p items t.0;
-    unsplit = λ f. nil_front p items (t.1 f);
-    front = IfSome_then g t.2 (λ all e. ((items, e), subst StopsLast (sym e) t.0));
+    stops = stops_prefix p items t.0;
+    unsplit = λ f. nil_prefix p items (t.1 f);
+    prefix = IfSome_then g t.2 (λ all e. ((items, e), subst StopsLast (sym e) t.0));
   }
 
   pub delivery_as : (q : TableId) (v : WorkView A) (s : Bool) (items : List (Work A)) → v ≡ worker_of v.popped s v.given → WorkerLearns v items → IsDelivery record { queue = q; popped = v.popped; split = s; given = v.given }
@@ -241,8 +241,8 @@ module _ {A : Type 0} where
   joined_all : (v u w : WorkView A) (items : List (Work A)) → w ≡ after_join v u → WorkerLearns w items → u.pushed ≡ w.popped ++ items
   joined_all v u w items now t = subst (λ (o : Option (List (Work A))). IfSome o (λ all. all ≡ w.popped ++ items)) (ap (λ (y : WorkView A). y.given) now) t.2
 
-  pub front_as : (k : Giver A) (q : TableId) (v u w : WorkView A) (items : List (Work A)) → record { queue = q; pushed = u.pushed } ≡ k → w ≡ after_join v u → WorkerLearns w items → StartsWith k.pushed w.popped
-  front_as k q v u w items seen now t = subst (λ (y : Giver A). StartsWith y.pushed w.popped) seen (items, joined_all v u w items now t)
+  pub prefix_as : (k : Giver A) (q : TableId) (v u w : WorkView A) (items : List (Work A)) → record { queue = q; pushed = u.pushed } ≡ k → w ≡ after_join v u → WorkerLearns w items → StartsWith k.pushed w.popped
+  prefix_as k q v u w items seen now t = subst (λ (y : Giver A). StartsWith y.pushed w.popped) seen (items, joined_all v u w items now t)
 
   pub whole_as : (k : Giver A) (q : TableId) (v u w : WorkView A) (items : List (Work A)) → record { queue = q; pushed = u.pushed } ≡ k → w ≡ after_join v u → WorkerLearns w items → IsTrue (is_stopped w.popped) → w.popped ≡ k.pushed
   whole_as k q v u w items seen now t stopped =

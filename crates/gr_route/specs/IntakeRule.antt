@@ -7,10 +7,10 @@ use lib.ListN.{get_elem?}
 use Rattle.gr_model.specs.declared.event.Event.{Event}
 use Rattle.gr_model.specs.declared.event.Sent.{Sent}
 use Rattle.gr_model.specs.declared.limits.TheConstants.{MOST_GROUPS}
-use Rattle.gr_model.specs.Streams.{IsFront, events_of}
+use Rattle.gr_model.specs.Streams.{IsPrefix, events_of}
 use Rattle.gr_route.specs.declared.intake_rule.Joined.{Joined}
 use Rattle.gr_route.specs.declared.intake_rule.IntakeView.{IntakeView}
-use Rattle.gr_route.specs.Fronts.{EndsWith}
+use Rattle.gr_route.specs.Prefixes.{EndsWith}
 
 -- ---- the views
 
@@ -58,7 +58,7 @@ module _ (holder : ℕ → seat.Option ℕ) (sent : ℕ → List Event) (size : 
   abbrev pub FitsTaker : ℕ → List Sent → ℕ → IntakeView → Type 0
   FitsTaker taker popped pass v = v.pops ≡ true → (pass ≡ taker) × (v.popped ≡ popped) × ((g : ℕ) → slice_index v.sizes g ≡ size g) × All FitsJoined v.joined
 
--- of each group, what was popped, followed by what is queued, is what was sent, and that is the front of a stream; of a group that has had no seat nothing was sent
+-- of each group, what was popped, followed by what is queued, is what was sent, and that is the prefix of a stream; of a group that has had no seat nothing was sent
 pub record SeatsAgree (items : List Sent) (views : List IntakeView) : Type 0 where
   pub taker : ℕ
   pub holder : ℕ → seat.Option ℕ
@@ -66,7 +66,7 @@ pub record SeatsAgree (items : List Sent) (views : List IntakeView) : Type 0 whe
   pub size : ℕ → ℕ
   pub popped : List Sent
   pub queued : (g : ℕ) → events_of g (popped ++ items) ≡ sent g
-  pub fronts : (g : ℕ) → IsFront (size g) (sent g)
+  pub prefixes : (g : ℕ) → IsPrefix (size g) (sent g)
   pub unseated : (g : ℕ) → size g ≡ 0 → (holder g ≡ seat.none) × (sent g ≡ [])
   pub fits : (pass : ℕ) (v : IntakeView) → get_elem? views pass ≡ seat.some v → FitsSeat holder sent size pass v × FitsTaker holder sent size taker popped pass v
 
@@ -80,10 +80,10 @@ Pushes v x w = w ≡ seat_of v.group v.items (v.pushed ++ x.event ∷ [])
 abbrev pub SeatLearns : IntakeView → List Sent → Type 0
 SeatLearns v items = EndsWith v.pushed (events_of v.group items)
 
--- what was popped and what is queued make the front of a stream, of each group; of one without a seat, nothing; of one whose seat was joined back, all that it pushed
+-- what was popped and what is queued make the prefix of a stream, of each group; of one without a seat, nothing; of one whose seat was joined back, all that it pushed
 abbrev pub TakerLearns : IntakeView → List Sent → Type 0
 TakerLearns v items =
-    ((g : ℕ) → IsFront (slice_index v.sizes g) (events_of g (v.popped ++ items)))
+    ((g : ℕ) → IsPrefix (slice_index v.sizes g) (events_of g (v.popped ++ items)))
     × ((g : ℕ) → slice_index v.sizes g ≡ 0 → events_of g (v.popped ++ items) ≡ [])
     × All (λ j. (j.pushed ≡ events_of j.group (v.popped ++ items)) × (j.items ≡ slice_index v.sizes j.group)) v.joined
 

@@ -8,10 +8,10 @@ use Rattle.gr_model.specs.declared.event.Event.{Event}
 use Rattle.gr_model.specs.declared.event.Sent.{Sent}
 use Rattle.gr_model.specs.declared.limits.TheConstants.{MOST_RECORDS}
 use Rattle.gr_model.specs.Events.{IsEventOk}
-use Rattle.gr_model.specs.Streams.{IsFront, events_of, is_complete}
+use Rattle.gr_model.specs.Streams.{IsPrefix, events_of, is_complete}
 use Rattle.gr_route.specs.declared.intake_rule.IntakeView.{IntakeView}
 use Rattle.gr_route.specs.declared.intake_rule.Joined.{Joined}
-use Rattle.gr_route.specs.Fronts.{StartsWith}
+use Rattle.gr_route.specs.Prefixes.{StartsWith}
 use Rattle.gr_route.specs.IntakeRule.{seat_of, taker_of}
 
 -- the queue that the seat is of, its group, the group's number of items, and the events that it pushed
@@ -32,20 +32,20 @@ pub record Taker : Type 0 where
 abbrev pub popped_of : Taker → ℕ → List Event
 popped_of t g = events_of g t.popped
 
--- a seat that was joined back had the items that its group has; what it pushed is the front of a stream, and begins with what was popped of the group
+-- a seat that was joined back had the items that its group has; what it pushed is the prefix of a stream, and begins with what was popped of the group
 pub record IsDelivered (t : Taker) (j : Joined) : Type 0 where
   pub items : j.items ≡ slice_index t.sizes j.group
-  pub stream : IsFront j.items j.pushed
-  pub front : StartsWith j.pushed (popped_of t j.group)
+  pub stream : IsPrefix j.items j.pushed
+  pub prefix : StartsWith j.pushed (popped_of t j.group)
 
--- what was popped of a group is the front of a stream, and of a group that has had no seat nothing was popped
+-- what was popped of a group is the prefix of a stream, and of a group that has had no seat nothing was popped
 pub record IsDelivery (t : Taker) : Type 0 where
-  pub streams : (g : ℕ) → IsFront (slice_index t.sizes g) (popped_of t g)
+  pub streams : (g : ℕ) → IsPrefix (slice_index t.sizes g) (popped_of t g)
   pub unseated : (g : ℕ) → slice_index t.sizes g ≡ 0 → popped_of t g ≡ []
   pub joined : All (IsDelivered t) t.joined
 
 -- the next event to be popped is one of a group that has had a seat, and may follow what was popped of the group
-pub record IsNext (t : Taker) (s : Sent) : Type 0 where
+pub record IsNextPopped (t : Taker) (s : Sent) : Type 0 where
   pub seated : slice_index t.sizes s.group ≢ 0
   pub good : IsEventOk s.event (slice_index t.sizes s.group)
   pub unended : IsFalse (is_complete (popped_of t s.group))

@@ -1,4 +1,4 @@
-pub mod Fronts
+pub mod Prefixes
 pub mod IntakeRule
 pub mod IntakeSeats
 pub mod Rooms

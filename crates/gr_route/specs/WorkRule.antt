@@ -6,7 +6,7 @@ use lib.ListN.{get_elem?}
 use Rattle.gr_route.specs.declared.work.Work.{Work}
 use Rattle.gr_route.specs.declared.work.Work.TheVariants.{Access, Stop}
 use Rattle.gr_route.specs.declared.work_rule.WorkView.{WorkView}
-use Rattle.gr_route.specs.Fronts.{EndsWith, StartsWith}
+use Rattle.gr_route.specs.Prefixes.{EndsWith, StartsWith}
 
 module _ {A : Type 0} where
   -- whether it is the word that there are no more
@@ -95,6 +95,6 @@ module _ {A : Type 0} where
 
 -- ---- laws
 
--- a front that has the word that there are no more is the whole
+-- a prefix that has the word that there are no more is the whole
 abbrev pub StopMakesWhole : Type 0 → Type 0
-StopMakesWhole A = (list front : List (Work A)) → StopsLast list → StartsWith list front → IsTrue (is_stopped front) → front ≡ list
+StopMakesWhole A = (list prefix : List (Work A)) → StopsLast list → StartsWith list prefix → IsTrue (is_stopped prefix) → prefix ≡ list

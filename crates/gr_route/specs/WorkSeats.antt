@@ -5,7 +5,7 @@ use Rattle.atomic_table.specs.Seated.{TableId}
 use Rattle.crossbeam_queue.specs.Passes.{Pass, view}
 use Rattle.gr_route.specs.declared.work.Work.{Work}
 use Rattle.gr_route.specs.declared.work_rule.WorkView.{WorkView}
-use Rattle.gr_route.specs.Fronts.{StartsWith}
+use Rattle.gr_route.specs.Prefixes.{StartsWith}
 use Rattle.gr_route.specs.WorkRule.{StopsLast, giver_of, worker_of}
 
 -- the queue that the seat is of, and what it pushed
@@ -25,7 +25,7 @@ module _ {A : Type 0} where
   pub record IsDelivery (w : Worker A) : Type 0 where
     pub stops : StopsLast w.popped
     pub unsplit : w.split ≡ false → w.popped ≡ []
-    pub front : IfSome w.given (λ all. StartsWith all w.popped × StopsLast all)
+    pub prefix : IfSome w.given (λ all. StartsWith all w.popped × StopsLast all)
 
   -- what the worker knows of the work that the queue holds: there is none where there was no giver, and where its seat was joined back it is all that was pushed and not popped
   pub record IsQueued (w : Worker A) (items : List (Work A)) : Type 0 where

@@ -10,9 +10,9 @@ ghost use Rattle.crossbeam_queue.specs.Fifo.{Forks, Held};
 ghost use Rattle.crossbeam_queue.specs.Passes.{view as known, IsSamePass, IsPassOf};
 ghost use Rattle.gr_model.specs.Events.{IsEventOk};
 ghost use Rattle.gr_model.specs.Streams.{events_of, is_complete};
-ghost use Rattle.gr_route.specs.Fronts.{EndsWith};
+ghost use Rattle.gr_route.specs.Prefixes.{EndsWith};
 ghost use Rattle.gr_route.specs.IntakeRule.{SeatsAgree, after_split, no_sizes, seat_of};
-ghost use Rattle.gr_route.specs.IntakeSeats.{IsDelivered, IsDelivery, IsNext, IsQueued, popped_of};
+ghost use Rattle.gr_route.specs.IntakeSeats.{IsDelivered, IsDelivery, IsNextPopped, IsQueued, popped_of};
 
 use crate::intake_rule::{
     IntakeRule, IntakeView, JoinStep, NamesGroup, PopStep, PushStep, SplitStep,
@@ -211,7 +211,7 @@ impl<A: Allocator> Intake<A> {
         requires { taker.old.queue ≡ self.now.queue }
 
         ensures some { IfSome result (λ sent. taker.new ≡ record taker.old { popped = taker.old.popped ++ sent ∷ [] }) }
-        ensures next { IfSome result (IsNext taker.old) }
+        ensures next { IfSome result (IsNextPopped taker.old) }
 
         ensures unchanged { IfNone result (taker.new ≡ taker.old) }
         ensures empty { IfNone result (Held 0 (IsQueued taker.old)) }

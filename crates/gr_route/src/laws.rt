@@ -1,6 +1,6 @@
 //! Laws of what the queues hand over. Each is the contract of a function that does nothing.
 
-ghost use Rattle.gr_route.specs.Fronts.{EndMakesWhole, EndMakesAccepted};
+ghost use Rattle.gr_route.specs.Prefixes.{EndMakesWhole, EndMakesAccepted};
 ghost use Rattle.gr_route.specs.WorkRule.{StopMakesWhole};
 
 use std::alloc::Allocator;

@@ -6,7 +6,7 @@
 
 ghost use Rattle.std.specs.Prelude.{◌≡◌, ◌<◌, ◌≤◌, true, false, [], ◌∷◌, ◌++◌, None, Some, IfOk, IfErr, OnOk, IfSome, IfNone, IsTrue, IsFalse};
 ghost use Rattle.crossbeam_queue.specs.Fifo.{Held};
-ghost use Rattle.gr_route.specs.Fronts.{EndsWith, StartsWith};
+ghost use Rattle.gr_route.specs.Prefixes.{EndsWith, StartsWith};
 ghost use Rattle.gr_route.specs.WorkRule.{is_stopped};
 ghost use Rattle.gr_route.specs.WorkSeats.{IsDelivery, IsQueued};
 
@@ -170,7 +170,7 @@ impl<A: Allocator> WorkQueue<A> {
         requires giver { giver.queue ≡ self.now.queue }
         ensures given { worker.new ≡ record worker.old { given = Some giver.pushed } }
 
-        ensures front { StartsWith giver.pushed worker.new.popped }
+        ensures prefix { StartsWith giver.pushed worker.new.popped }
         ensures whole { IsTrue (is_stopped worker.new.popped) → worker.new.popped ≡ giver.pushed }
 
         ensures delivery { IsDelivery worker.new }

@@ -5,7 +5,7 @@ use Rattle.crossbeam_queue.specs.Fifo.{Held}
 use Rattle.gr_model.specs.declared.event.Event.{Event}
 use Rattle.gr_model.specs.Events.{IsEventOk, end_of, is_end}
 use Rattle.gr_model.specs.Streams.{events_of, is_complete}
-use Rattle.gr_route.specs.Fronts.{EndsWith}
+use Rattle.gr_route.specs.Prefixes.{EndsWith}
 use Rattle.gr_sender.specs.declared.sender.SendError.{SendError}
 use Rattle.gr_sender.specs.declared.sender.SendError.TheVariants.{Closed, UnknownItem, BadEvent, StreamFull, Full}
 use Rattle.gr_sender.specs.Senders.{Sending}
@@ -25,12 +25,12 @@ abbrev pub WasFull : Sending → Type 0
 WasFull s = Held s.queue.places (λ items. EndsWith s.sent (events_of s.group items))
 
 -- why an event was refused: each cause stands where none before it does
-abbrev pub IsRefusal : Sending → Event → SendError → Type 0
-IsRefusal s e Closed = IsTrue (is_complete s.sent)
-IsRefusal s e UnknownItem = IsFalse (is_complete s.sent) × (s.items ≤ e.item)
-IsRefusal s e BadEvent = IsFalse (is_complete s.sent) × (e.item < s.items) × ¬ IsSendable e s.items
-IsRefusal s e StreamFull = IsFalse (is_complete s.sent) × IsSendable e s.items × (s.records ≤ length s.sent + 1)
-IsRefusal s e (Full x) = (x ≡ e) × MaySend s e × WasFull s
+abbrev pub IsSendRefusal : Sending → Event → SendError → Type 0
+IsSendRefusal s e Closed = IsTrue (is_complete s.sent)
+IsSendRefusal s e UnknownItem = IsFalse (is_complete s.sent) × (s.items ≤ e.item)
+IsSendRefusal s e BadEvent = IsFalse (is_complete s.sent) × (e.item < s.items) × ¬ IsSendable e s.items
+IsSendRefusal s e StreamFull = IsFalse (is_complete s.sent) × IsSendable e s.items × (s.records ≤ length s.sent + 1)
+IsSendRefusal s e (Full x) = (x ≡ e) × MaySend s e × WasFull s
 
 -- why an end was refused
 abbrev pub IsRefusalOfEnd : Sending → Bool → SendError → Type 0

@@ -9,7 +9,7 @@ ghost use Rattle.std.specs.Prelude.{◌≡◌, ◌+◌, ◌<◌, ◌≤◌, [], 
 ghost use Rattle.std.specs.Arc.{arc_value};
 ghost use Rattle.gr_model.specs.Events.{IsEventOk, end_of, is_end};
 ghost use Rattle.gr_model.specs.Streams.{is_complete};
-ghost use Rattle.gr_sender.specs.Refusals.{IsFull, IsRefusal, IsRefusalOfEnd, MaySend, is_full};
+ghost use Rattle.gr_sender.specs.Refusals.{IsFull, IsSendRefusal, IsRefusalOfEnd, MaySend, is_full};
 
 use crate::receipt::Receipt;
 use crossbeam_utils::Backoff;
@@ -139,7 +139,7 @@ impl<A: Allocator> Sender<A> {
 
     /// Why an event is refused before the queue is asked: the first cause that is there.
     fn refusal(&self, event: &Event) -> Option<SendError>
-        ensures { MatchOption result (MaySend self.now event.now) (IsRefusal self.now event.now) }
+        ensures { MatchOption result (MaySend self.now event.now) (IsSendRefusal self.now event.now) }
     {
         if self.closed {
             return Some(SendError::Closed);
@@ -179,7 +179,7 @@ impl<A: Allocator> Sender<A> {
         ensures ok { OnOk result (self.new ≡ record self.old { sent = self.old.sent ++ event ∷ [] }) }
         ensures accepted { OnOk result (MaySend self.old event) }
         ensures unchanged { OnErr result (self.new ≡ self.old) }
-        ensures refused { IfErr result (λ error. IsRefusal self.old event error) }
+        ensures refused { IfErr result (λ error. IsSendRefusal self.old event error) }
     {
         match self.refusal(&event) {
             Some(error) => Err(error),
@@ -212,7 +212,7 @@ impl<A: Allocator> Sender<A> {
         ensures ok { OnOk result (self.new ≡ record self.old { sent = self.old.sent ++ event ∷ [] }) }
         ensures accepted { OnOk result (MaySend self.old event) }
         ensures unchanged { OnErr result (self.new ≡ self.old) }
-        ensures refused { IfErr result (λ error. IsRefusal self.old event error) }
+        ensures refused { IfErr result (λ error. IsSendRefusal self.old event error) }
         ensures never_full { IfErr result (λ error. IsFalse (is_full error)) }
     {
         let backoff = Backoff::new();

@@ -31,9 +31,9 @@ use Rattle.gr_closure.specs.Knowledge.{Knows, Learns}
 use Rattle.gr_closure.proofs.EventKnowledge.{handled_cases, handled_knows, handled_sees, others_know_after_handle}
 use Rattle.gr_closure.proofs.HandledKnowledge.{known_handled, seen_handled}
 use Rattle.gr_closure.proofs.NextInItem.{IsNextInItem, ready_event_is_next}
-use Rattle.gr_sequencer.specs.Known.{AreLeft, AreTrue, IsGathered, IsLeftBy, IsNext, Known, Left, left_at}
-use Rattle.gr_sequencer.specs.Lessons.{AreLessons}
-use Rattle.gr_sequencer.proofs.SeenCounts.{below_max, lesson_count, own_count, seen_count}
+use Rattle.gr_sequencer.specs.Known.{AreLeft, AreTrue, KnowsOrLearns, IsLeftBy, IsNext, Known, Left, left_at}
+use Rattle.gr_sequencer.specs.Sources.{AreSources}
+use Rattle.gr_sequencer.proofs.SeenCounts.{below_max, source_count, own_count, seen_count}
 
 module _ (s : Streams) (order : List EventId) (known : Known) (e : EventId) (next : IsNext s order known e) where
   abbrev pub own_clock : Space → Counts
@@ -42,7 +42,7 @@ module _ (s : Streams) (order : List EventId) (known : Known) (e : EventId) (nex
   pub has_item : HasItem s.sizes e.at
   has_item =
       let there = next.ready.event in
-      (group_of_event s next.fronts e there.0 there.1, item_of_event s next.fronts e there.0 there.1)
+      (group_of_event s next.prefixes e there.0 there.1, item_of_event s next.prefixes e there.0 there.1)
 
   pub has_clock : HasItem known.clocks.sizes e.at
   has_clock = subst (λ sizes. HasItem sizes e.at) (sym next.follows.clocks.shape) has_item
@@ -64,7 +64,7 @@ module _ (s : Streams) (order : List EventId) (known : Known) (e : EventId) (nex
   pub index_small : e.index < LARGEST_COUNT
   index_small =
       let there = next.ready.event in
-      let few : length (list_of s e.at.group) ≤ MOST_RECORDS = (next.fronts.each e.at.group has_item.0).few in
+      let few : length (list_of s e.at.group) ≤ MOST_RECORDS = (next.prefixes.each e.at.group has_item.0).few in
       let within : e.index < length (trace_of s e.at) = slice_get_within (trace_of s e.at) e.index there.0 there.1 in
       let part : length (trace_of s e.at) ≡ count_by (is_of e.at.item) (list_of s e.at.group) = length-filter (is_of e.at.item) (list_of s e.at.group) in
       let most : count_by (is_of e.at.item) (list_of s e.at.group) ≤ length (list_of s e.at.group) = count_by-le-length (is_of e.at.item) (list_of s e.at.group) in
@@ -78,82 +78,82 @@ module _ (s : Streams) (order : List EventId) (known : Known) (e : EventId) (nex
 
   -- ---- what the event sees
 
-  module _ (lessons : List ReleaseClock) (are : AreLessons s e lessons) where
-    -- what the lessons count together in a memory
+  module _ (sources : List ReleaseClock) (are : AreSources s e sources) where
+    -- what the sources count together in a memory
     abbrev told : Space → ItemId → ℕ
-    told m j = greatest_count (clocks_left m lessons) j
+    told m j = greatest_count (clocks_left m sources) j
 
     told_below : (m : Space) → told m e.at ≤ e.index
-    told_below m = lesson_count s m order e next.lawful is_next (count_of (own_clock m)) (counts m) (Learns s m e) (learned m) (told m) (are.counts m)
+    told_below m = source_count s m order e next.lawful is_next (count_of (own_clock m)) (counts m) (Learns s m e) (learned m) (told m) (are.counts m)
 
-    pub lessons_unspent : ¬ AreSpent lessons e.at
-    lessons_unspent (k, l, below, at, full) =
-        let counted = left_counted lessons e.at k l below at in
+    pub sources_unspent : ¬ AreSpent sources e.at
+    sources_unspent (k, l, below, at, full) =
+        let counted = left_counted sources e.at k l below at in
         let less = told_below (memory_of l.word) in
         let small = index_small in
         omega (arith, counted, less, small, full)
 
-    lessons_see : (m : Space) (n : ItemId → ℕ) → ((j : ItemId) → n j ≡ max (count_of (own_clock m) j) (told m j) + tick_at e.at j) → (d : EventId) → (d.index < n d.at) ↔ IsSeen s m e d
-    lessons_see m n behind = seen_count s m order e next.lawful is_next (count_of (own_clock m)) (counts m) (Learns s m e) (learned m) (told m) (are.counts m) (sees m) n behind
+    sources_see : (m : Space) (n : ItemId → ℕ) → ((j : ItemId) → n j ≡ max (count_of (own_clock m) j) (told m j) + tick_at e.at j) → (d : EventId) → (d.index < n d.at) ↔ IsSeen s m e d
+    sources_see m n behind = seen_count s m order e next.lawful is_next (count_of (own_clock m)) (counts m) (Learns s m e) (learned m) (told m) (are.counts m) (sees m) n behind
 
-  -- ---- what is gathered for it
+  -- ---- what its item knew, or the event learns
 
-  gathered_in : (m : Space) (d : EventId) → IsGathered s order m e d → IsIn order d
-  gathered_in m d h = ⊎_elim (λ known. known_handled s m order next.lawful e.at d known) (λ l. learned m d l) h
+  known_or_learned_in : (m : Space) (d : EventId) → KnowsOrLearns s order m e d → IsIn order d
+  known_or_learned_in m d h = ⊎_elim (λ known. known_handled s m order next.lawful e.at d known) (λ l. learned m d l) h
 
-  pub gathered_below : (m : Space) (c : Counts) → CountsJust c (IsGathered s order m e) → count_of c e.at ≤ e.index
-  gathered_below m c gathered = lesson_count s m order e next.lawful is_next (count_of (own_clock m)) (counts m) (IsGathered s order m e) (gathered_in m) (count_of c) gathered
+  pub known_or_learned_below : (m : Space) (c : Counts) → CountsJust c (KnowsOrLearns s order m e) → count_of c e.at ≤ e.index
+  known_or_learned_below m c known_or_learned = source_count s m order e next.lawful is_next (count_of (own_clock m)) (counts m) (KnowsOrLearns s order m e) (known_or_learned_in m) (count_of c) known_or_learned
 
-  pub gathered_room : (m : Space) (c : Counts) → CountsJust c (IsGathered s order m e) → count_of c e.at ≢ LARGEST_COUNT
-  gathered_room m c gathered full = let below = gathered_below m c gathered in let small = index_small in omega arith
+  pub known_or_learned_room : (m : Space) (c : Counts) → CountsJust c (KnowsOrLearns s order m e) → count_of c e.at ≢ LARGEST_COUNT
+  known_or_learned_room m c known_or_learned full = let below = known_or_learned_below m c known_or_learned in let small = index_small in omega arith
 
   -- it counts all that the item's clock counts
-  gathered_more : (m : Space) (c : Counts) → CountsJust c (IsGathered s order m e) → (j : ItemId) → count_of (own_clock m) j ≤ count_of c j
-  gathered_more m c gathered j =
+  known_or_learned_more : (m : Space) (c : Counts) → CountsJust c (KnowsOrLearns s order m e) → (j : ItemId) → count_of (own_clock m) j ≤ count_of c j
+  known_or_learned_more m c known_or_learned j =
       ⊎_elim
       (λ (lt : count_of c j < count_of (own_clock m) j).
       let d : EventId = record { at = j; index = count_of c j } in
-      absurd (let no : count_of c j < count_of c j = (gathered d).1 (inl ((counts m d).0 lt)) in omega (arith, no)))
+      absurd (let no : count_of c j < count_of c j = (known_or_learned d).1 (inl ((counts m d).0 lt)) in omega (arith, no)))
       (λ (le : count_of (own_clock m) j ≤ count_of c j). le)
       (cases_lt (count_of c j) (count_of (own_clock m) j))
 
-  pub gathered_sees : (m : Space) (c n : Counts) → CountsJust c (IsGathered s order m e) → IsTick c e.at n → CountsJust n (IsSeen s m e)
-  gathered_sees m c n gathered tick =
-      seen_count s m order e next.lawful is_next (count_of (own_clock m)) (counts m) (IsGathered s order m e) (gathered_in m) (count_of c) gathered again (count_of n) (λ j.
+  pub known_or_learned_sees : (m : Space) (c n : Counts) → CountsJust c (KnowsOrLearns s order m e) → IsTick c e.at n → CountsJust n (IsSeen s m e)
+  known_or_learned_sees m c n known_or_learned tick =
+      seen_count s m order e next.lawful is_next (count_of (own_clock m)) (counts m) (KnowsOrLearns s order m e) (known_or_learned_in m) (count_of c) known_or_learned again (count_of n) (λ j.
       let o : ℕ = count_of (own_clock m) j in
       let k : ℕ = count_of c j in
       let t : ℕ = tick_at e.at j in
-      let more : o ≤ k = gathered_more m c gathered j in
+      let more : o ≤ k = known_or_learned_more m c known_or_learned j in
       let is : count_of n j ≡ k + t = tick.counts j in
       let same : count_of n j ≡ max o k + t = omega arith in
       same)
     where
-      again : (d : EventId) → IsSeen s m e d ↔ ((d ≡ e) ⊎ Knows s m order e.at d ⊎ IsGathered s order m e d)
+      again : (d : EventId) → IsSeen s m e d ↔ ((d ≡ e) ⊎ Knows s m order e.at d ⊎ KnowsOrLearns s order m e d)
       again d =
           let h = sees m d in (
             λ seen. ⊎_elim (λ same. inl same) (λ rest. inr (inr rest)) (h.0 seen),
             ⊎_elim (λ same. h.1 (inl same)) (λ rest. ⊎_elim (λ known. h.1 (inr (inl known))) (λ g. h.1 (inr g)) rest),
           )
 
-  -- the item's clock, joined with the lessons, which are all on words of the memory
-  pub gathered_lessons : (m : Space) (c joined : Counts) (lessons : List ReleaseClock) → AreLessons s e lessons → c ≡ own_clock m → All (λ l. m ≡ memory_of l.word) lessons → IsJoinOfAll c (map (λ (l : ReleaseClock). l.clock) lessons) joined → CountsJust joined (IsGathered s order m e)
-  gathered_lessons m c joined lessons are same here join d =
+  -- the item's clock, joined with the sources, which are all on words of the memory
+  pub known_or_learned_sources : (m : Space) (c joined : Counts) (sources : List ReleaseClock) → AreSources s e sources → c ≡ own_clock m → All (λ l. m ≡ memory_of l.word) sources → IsJoinOfAll c (map (λ (l : ReleaseClock). l.clock) sources) joined → CountsJust joined (KnowsOrLearns s order m e)
+  known_or_learned_sources m c joined sources are same here join d =
       let o : ℕ = count_of (own_clock m) d.at in
-      let l : ℕ = greatest_count (clocks_left m lessons) d.at in
-      let all : clocks_left m lessons ≡ map (λ (r : ReleaseClock). r.clock) lessons = ap (clocks_left m) (sym (map-id lessons)) ∙ left_all (λ r. r) m lessons here in
-      let counted : count_of joined d.at ≡ max o l = join.counts d.at ∙ ap (λ k. max (count_of k d.at) (greatest_count (map (λ (r : ReleaseClock). r.clock) lessons) d.at)) same ∙ ap (λ cs. max o (greatest_count cs d.at)) (sym all) in
-      let lesson : (d.index < l) ↔ Learns s m e d = are.counts m d in (
-        λ below. ⊎_elim (λ h. inl ((counts m d).0 h)) (λ h. inr (lesson.0 h)) (below_max d.index o l (omega (arith, below, counted))),
+      let l : ℕ = greatest_count (clocks_left m sources) d.at in
+      let all : clocks_left m sources ≡ map (λ (r : ReleaseClock). r.clock) sources = ap (clocks_left m) (sym (map-id sources)) ∙ left_all (λ r. r) m sources here in
+      let counted : count_of joined d.at ≡ max o l = join.counts d.at ∙ ap (λ k. max (count_of k d.at) (greatest_count (map (λ (r : ReleaseClock). r.clock) sources) d.at)) same ∙ ap (λ cs. max o (greatest_count cs d.at)) (sym all) in
+      let source : (d.index < l) ↔ Learns s m e d = are.counts m d in (
+        λ below. ⊎_elim (λ h. inl ((counts m d).0 h)) (λ h. inr (source.0 h)) (below_max d.index o l (omega (arith, below, counted))),
         λ h.
             ⊎_elim
             (λ known. let under : d.index < o = (counts m d).1 known in omega (arith, under, counted))
-            (λ l. let under = lesson.1 l in omega (arith, under, counted))
+            (λ l. let under = source.1 l in omega (arith, under, counted))
             h,
       )
 
   -- where there are none
-  pub gathered_alone : (m : Space) (c : Counts) → AreLessons s e [] → c ≡ own_clock m → CountsJust c (IsGathered s order m e)
-  gathered_alone m c are same = gathered_lessons m c c [] are same (λ k d below. absurd (omega (arith, below))) (joined_none c)
+  pub known_or_learned_alone : (m : Space) (c : Counts) → AreSources s e [] → c ≡ own_clock m → CountsJust c (KnowsOrLearns s order m e)
+  known_or_learned_alone m c are same = known_or_learned_sources m c c [] are same (λ k d below. absurd (omega (arith, below))) (joined_none c)
 
   -- ---- what is known behind it
 
@@ -164,16 +164,16 @@ module _ (s : Streams) (order : List EventId) (known : Known) (e : EventId) (nex
     pub item : (m : Space) → CountsJust (clock_in new m e.at) (IsSeen s m e)
     pub others : (m : Space) (j : ItemId) → j ≢ e.at → clock_in new m j ≡ clock_in known.clocks m j
 
-  pub lessons_steps : (new : ItemClocks) (lessons : List ReleaseClock) → AreLessons s e lessons → Acquires known.clocks e.at lessons new → Steps new
-  lessons_steps new lessons are acquires = record {
+  pub sources_steps : (new : ItemClocks) (sources : List ReleaseClock) → AreSources s e sources → Acquires known.clocks e.at sources new → Steps new
+  sources_steps new sources are acquires = record {
     shape = acquires.shape;
     tables = λ m. (acquires.learns m).shape;
-    item = λ m. lessons_see lessons are m (count_of (clock_in new m e.at)) (λ j. (acquires.learns m).item.counts j);
+    item = λ m. sources_see sources are m (count_of (clock_in new m e.at)) (λ j. (acquires.learns m).item.counts j);
     others = λ m j other. (acquires.learns m).others j other;
   }
 
-  pub untaught_steps : (new : ItemClocks) → AreLessons s e [] → Ticks known.clocks e.at new → Steps new
-  untaught_steps new are ticks = lessons_steps new [] are (acquires_none known.clocks e.at [] new refl ticks)
+  pub learns_nothing_steps : (new : ItemClocks) → AreSources s e [] → Ticks known.clocks e.at new → Steps new
+  learns_nothing_steps new are ticks = sources_steps new [] are (acquires_none known.clocks e.at [] new refl ticks)
 
   pub steps_true : (new : ItemClocks) → Steps new → AreTrue s (order ++ e ∷ []) new
   steps_true new steps = record {

@@ -18,13 +18,13 @@ use Rattle.gr_model.specs.Counts.{IsSeen}
 use Rattle.gr_model.specs.Instances.{Mark, flags}
 use Rattle.gr_model.specs.LawfulOrders.{IsLawful}
 use Rattle.gr_model.specs.Shapes.{HasItem}
-use Rattle.gr_model.specs.Streams.{AreFronts, Streams, is_of, list_of, size_of, trace_of}
-use Rattle.gr_steps.specs.Steps.{AreBarriers, IsMeeting, Meets}
+use Rattle.gr_model.specs.Streams.{ArePrefixes, Streams, is_of, list_of, size_of, trace_of}
+use Rattle.gr_steps.specs.Steps.{AreBarriers, IsMeeting, MeetsClocks}
 use Rattle.gr_steps.proofs.BarrierPlaces.{barrier_of, barrier_there}
 use Rattle.gr_steps.proofs.EventRecords.{group_of_event, item_of_event}
 use Rattle.gr_clocks.specs.declared.clock.TheConstants.{LARGEST_COUNT}
 use Rattle.gr_clocks.specs.Counts.{count_of, tick_at}
-use Rattle.gr_clocks.specs.ItemClocks.{IsGroupSpent, ItemClocks, Meets as MeetsClocks, clock_in, clocks_in, orders}
+use Rattle.gr_clocks.specs.ItemClocks.{IsGroupSpent, ItemClocks, MeetsClocks as MeetsClocks, clock_in, clocks_in, orders}
 use Rattle.gr_clocks.specs.Tables.{JoinsGroup, MeetsGroup, TicksGroup, clock_at, greatest, item_of}
 use Rattle.gr_closure.specs.Accesses.{CountsJust}
 use Rattle.gr_closure.specs.Knowledge.{Knows}
@@ -57,7 +57,7 @@ below_greatest (suc n) f x =
           (number_cases h.0 n),
     )
 
-module _ (s : Streams) (order : List EventId) (g k : ℕ) (clocks : ItemClocks) (fronts : AreFronts s) (lawful : IsLawful s order) (are : AreTrue s order clocks) (a : Mark) (meeting : IsMeeting s order g k a) where
+module _ (s : Streams) (order : List EventId) (g k : ℕ) (clocks : ItemClocks) (prefixes : ArePrefixes s) (lawful : IsLawful s order) (are : AreTrue s order clocks) (a : Mark) (meeting : IsMeeting s order g k a) where
   -- the barrier of each item of the group
   abbrev barrier : (i : ℕ) → i < size_of s g → EventId
   barrier i within = record { at = item_of g i; index = (barrier_of s g k a meeting.convergent i within).0 }
@@ -68,7 +68,7 @@ module _ (s : Streams) (order : List EventId) (g k : ℕ) (clocks : ItemClocks) 
   has_item : (b : EventId) → StandsIn s b g k → HasItem s.sizes b.at
   has_item b h =
       let there = barrier_there s b g k h in
-      (group_of_event s fronts b there.0 there.1, item_of_event s fronts b there.0 there.1)
+      (group_of_event s prefixes b there.0 there.1, item_of_event s prefixes b there.0 there.1)
 
   is_next : (b : EventId) → StandsIn s b g k → IsNextInItem order b
   is_next b h = barrier_is_next s order lawful g k a meeting b h
@@ -84,7 +84,7 @@ module _ (s : Streams) (order : List EventId) (g k : ℕ) (clocks : ItemClocks) 
   index_small : (b : EventId) → StandsIn s b g k → b.index < LARGEST_COUNT
   index_small b h =
       let there = barrier_there s b g k h in
-      let few : length (list_of s b.at.group) ≤ MOST_RECORDS = (fronts.each b.at.group (has_item b h).0).few in
+      let few : length (list_of s b.at.group) ≤ MOST_RECORDS = (prefixes.each b.at.group (has_item b h).0).few in
       let within : b.index < length (trace_of s b.at) = slice_get_within (trace_of s b.at) b.index there.0 there.1 in
       let part : length (trace_of s b.at) ≡ count_by (is_of b.at.item) (list_of s b.at.group) = length-filter (is_of b.at.item) (list_of s b.at.group) in
       let most : count_by (is_of b.at.item) (list_of s b.at.group) ≤ length (list_of s b.at.group) = count_by-le-length (is_of b.at.item) (list_of s b.at.group) in
@@ -109,7 +109,7 @@ module _ (s : Streams) (order : List EventId) (g k : ℕ) (clocks : ItemClocks) 
   -- ---- the instance meets
 
   module _ (new barriers : List EventId) (are_barriers : AreBarriers s g k barriers) (is_order : new ≡ order ++ barriers) where
-    abbrev met : Meets s order g k new
+    abbrev met : MeetsClocks s order g k new
     met = record { mark = a; meeting = meeting; barriers = barriers; are = are_barriers; order = is_order }
 
     -- what a barrier sees, as a count
@@ -124,7 +124,7 @@ module _ (s : Streams) (order : List EventId) (g k : ℕ) (clocks : ItemClocks) 
       where
         sees : (d : EventId) → IsSeen s m b d ↔ ((d ≡ b) ⊎ Knows s m order b.at d ⊎ ⊥)
         sees d =
-            let h = met_sees s m order new g k fronts lawful met b d h in (
+            let h = met_sees s m order new g k prefixes lawful met b d h in (
               λ seen. ⊎_elim (λ same. inl same) (λ known. inr (inl known)) (h.0 seen),
               ⊎_elim (λ same. h.1 (inl same)) (λ rest. ⊎_elim (λ known. h.1 (inr known)) (λ none. absurd none) rest),
             )
@@ -168,7 +168,7 @@ module _ (s : Streams) (order : List EventId) (g k : ℕ) (clocks : ItemClocks) 
       flagged_now : (m : Space) (i : ItemId) (d : EventId) → i.group ≡ g → i.item < size_of s g → IsTrue (flags a m) → JoinsGroup (clocks_in clocks m) g (clocks_in new_clocks m) → (d.index < count_of (clock_in new_clocks m i) d.at) ↔ Knows s m new i d
       flagged_now m i d group within flagged joins =
           let seen = all_seen m i d group within joins in
-          let knows = flagged_knows s m order new g k fronts lawful met i d flagged group within in
+          let knows = flagged_knows s m order new g k prefixes lawful met i d flagged group within in
           (λ below. knows.1 (seen.0 below), λ known. seen.1 (knows.0 known))
 
       unflagged_now : (m : Space) (i : ItemId) (d : EventId) → i.group ≡ g → i.item < size_of s g → IsFalse (flags a m) → TicksGroup (clocks_in clocks m) g (clocks_in new_clocks m) → (d.index < count_of (clock_in new_clocks m i) d.at) ↔ Knows s m new i d
@@ -178,7 +178,7 @@ module _ (s : Streams) (order : List EventId) (g k : ℕ) (clocks : ItemClocks) 
           let here : i.item < slice_index (map length (clocks_in clocks m)) g = subst (λ n. i.item < n) (sym (size_here m)) within in
           let same : item_of g i.item ≡ i = λ t. record { group = sym group t; item = i.item } in
           let seen = barrier_sees m b own (count_of (clock_in new_clocks m b.at)) (λ j. (ticks.items i.item here).counts j) d in
-          let knows = unflagged_knows s m order new g k fronts lawful met b d apart own in
+          let knows = unflagged_knows s m order new g k prefixes lawful met b d apart own in
           subst (λ j. (d.index < count_of (clock_in new_clocks m j) d.at) ↔ Knows s m new j d) same (λ below. knows.1 (seen.0 below), λ known. seen.1 (knows.0 known))
 
       group_now : (m : Space) (i : ItemId) (d : EventId) → i.group ≡ g → i.item < size_of s g → (d.index < count_of (clock_in new_clocks m i) d.at) ↔ Knows s m new i d
@@ -198,7 +198,7 @@ module _ (s : Streams) (order : List EventId) (g k : ℕ) (clocks : ItemClocks) 
       other_now : (m : Space) (i : ItemId) (d : EventId) → HasItem s.sizes i → i.group ≢ g → (d.index < count_of (clock_in new_clocks m i) d.at) ↔ Knows s m new i d
       other_now m i d has other =
           let was = are.counts m i has d in
-          let knows = others_know_after_meet s m order new g k fronts lawful met i d other in
+          let knows = others_know_after_meet s m order new g k prefixes lawful met i d other in
           subst (λ c. (d.index < count_of c d.at) ↔ Knows s m new i d) (sym (other_clock m i other)) (λ below. knows.1 (was.0 below), λ known. was.1 (knows.0 known))
 
       pub meets_true : AreTrue s new new_clocks
@@ -231,4 +231,4 @@ module _ (s : Streams) (order : List EventId) (g k : ℕ) (clocks : ItemClocks) 
         let there = barrier_there s r g k now in
         let same : there.0 ≡ x = let e : Some there.0 ≡ Some x = sym there.1 ∙ at in cc in
         absurd (no_release x.kind x.word (subst (λ y. is_barrier y ≡ true) same there.2) releases))
-        (met_cases s Global order new g k fronts lawful met r h)
+        (met_cases s Global order new g k prefixes lawful met r h)

@@ -1,4 +1,4 @@
--- What an event that is next in its item sees, as a count: the greater of what its item's clock and its lesson count, and one more of its item.
+-- What an event that is next in its item sees, as a count: the greater of what its item's clock and its source count, and one more of its item.
 use Rattle.std.proofs.Common.{◌≡◌, ◌⊎◌, ◌↔◌, ℕ, ◌+◌, ◌<◌, ◌≤◌, max, Bool, true, false, List, if◌then◌else◌, refl, sym, ap, ◌∙◌, subst, inl, inr, ⊎_elim, arith, true≢false}
 use Rattle.std.proofs.lemmas.Bool.{cases_lt}
 use Rattle.gr_model.specs.declared.event.EventId.{EventId}
@@ -46,12 +46,12 @@ module _ (s : Streams) (m : Space) (order : List EventId) (e : EventId) (lawful 
         λ below. (counts d).1 (own_known s m order e.at d refl ((next d refl).1 below)),
       ))
 
-  module _ (L : EventId → Type 0) (learned : (d : EventId) → L d → IsIn order d) (l : ItemId → ℕ) (lesson : (d : EventId) → (d.index < l d.at) ↔ L d) where
+  module _ (L : EventId → Type 0) (learned : (d : EventId) → L d → IsIn order d) (l : ItemId → ℕ) (source : (d : EventId) → (d.index < l d.at) ↔ L d) where
     -- what is learned of the item was handled
-    pub lesson_count : l e.at ≤ e.index
-    lesson_count =
+    pub source_count : l e.at ≤ e.index
+    source_count =
         ⊎_elim
-        (λ (lt : e.index < l e.at). absurd (let no : e.index < e.index = (next e refl).0 (learned e ((lesson e).0 lt)) in omega (arith, no)))
+        (λ (lt : e.index < l e.at). absurd (let no : e.index < e.index = (next e refl).0 (learned e ((source e).0 lt)) in omega (arith, no)))
         (λ (le : l e.at ≤ e.index). le)
         (cases_lt e.index (l e.at))
 
@@ -59,7 +59,7 @@ module _ (s : Streams) (m : Space) (order : List EventId) (e : EventId) (lawful 
       own_cases : (d : EventId) → d.at ≡ e.at → (d.index < max (c d.at) (l d.at) + 1) ↔ IsSeen s m e d
       own_cases d item =
           let own : c d.at ≡ e.index = ap c item ∙ own_count in
-          let less : l d.at ≤ e.index = subst (λ i. l i ≤ e.index) (sym item) lesson_count in (
+          let less : l d.at ≤ e.index = subst (λ i. l i ≤ e.index) (sym item) source_count in (
             λ below.
                 (sees d).1 (⊎_elim
                 (λ (lt : d.index < e.index). inr (inl ((counts d).0 (let under : d.index < c d.at = omega (arith, own, lt) in under))))
@@ -71,7 +71,7 @@ module _ (s : Streams) (m : Space) (order : List EventId) (e : EventId) (lawful 
                 (λ h.
                 ⊎_elim
                 (λ known. let below : d.index < c d.at = (counts d).1 known in omega (arith, below))
-                (λ h. let below : d.index < l d.at = (lesson d).1 h in omega (arith, below))
+                (λ h. let below : d.index < l d.at = (source d).1 h in omega (arith, below))
                 h)
                 ((sees d).0 seen),
           )
@@ -81,7 +81,7 @@ module _ (s : Streams) (m : Space) (order : List EventId) (e : EventId) (lawful 
         λ below.
             (sees d).1 (inr (⊎_elim
             (λ h. inl ((counts d).0 h))
-            (λ h. inr ((lesson d).0 h))
+            (λ h. inr ((source d).0 h))
             (below_max d.index (c d.at) (l d.at) (omega (arith, below))))),
         λ seen.
             ⊎_elim
@@ -89,7 +89,7 @@ module _ (s : Streams) (m : Space) (order : List EventId) (e : EventId) (lawful 
             (λ h.
             ⊎_elim
             (λ known. let below : d.index < c d.at = (counts d).1 known in omega (arith, below))
-            (λ h. let below : d.index < l d.at = (lesson d).1 h in omega (arith, below))
+            (λ h. let below : d.index < l d.at = (source d).1 h in omega (arith, below))
             h)
             ((sees d).0 seen),
       )

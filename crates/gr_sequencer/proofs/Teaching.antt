@@ -23,7 +23,7 @@ use Rattle.gr_clocks.specs.ItemClocks.{ReleaseClock, AreOfOneWord, clocks_left}
 use Rattle.gr_clocks.proofs.ReleaseLemmas.{left_elsewhere, left_here}
 use Rattle.gr_closure.specs.Knowledge.{Learns}
 use Rattle.gr_sequencer.specs.Known.{IsLeft}
-use Rattle.gr_sequencer.specs.Lessons.{AreLessons, IsLesson, IsUntaught, LearnsBy}
+use Rattle.gr_sequencer.specs.Sources.{AreSources, IsSource, LearnsNothing, LearnsBy}
 use Rattle.gr_sequencer.proofs.SeenCounts.{below_max}
 use Rattle.gr_sequencer.proofs.Spaces.{space_cases}
 
@@ -57,8 +57,8 @@ module _ (s : Streams) (order : List EventId) (e r : EventId) (x given : Event) 
   from_release : (m : Space) (d : EventId) (l : LearnsBy s m e n d) → l.release ≡ r
   from_release m d l = one_release s n e l.release r l.by matches_by
 
-  pub lesson_of : IsTrue (inclusive given.kind r.at.group x.kind e.at.group) → (left : ReleaseClock) → IsLeft s r left → IsLesson s e n left
-  lesson_of scopes left is = record {
+  pub source_of : IsTrue (inclusive given.kind r.at.group x.kind e.at.group) → (left : ReleaseClock) → IsLeft s r left → IsSource s e n left
+  source_of scopes left is = record {
     word = matches_by.word ∙ is.word;
     shape = is.shape;
     counts = λ d. (
@@ -73,22 +73,22 @@ module _ (s : Streams) (order : List EventId) (e r : EventId) (x given : Event) 
       within : IsInclusive s (memory_of left.word) r e
       within = record { first = given; second = x; at_first = there; at_second = event; word = left.word; has_word = is.word; memory = refl; scopes = scopes }
 
--- ---- the lessons of several names
+-- ---- the sources of several names
 
 -- in a memory, e learns of d from the release of one of these names
 abbrev pub LearnsFrom : Streams → Space → EventId → List Name → EventId → Type 0
 LearnsFrom s m e names d = (n : Name) × Contains names n × LearnsBy s m e n d
 
 -- what an event learns from the releases of these names
-pub record AreLessonsOf (s : Streams) (e : EventId) (names : List Name) (lessons : List ReleaseClock) : Type 0 where
-  pub few : length lessons ≤ length names
-  pub words : All (λ l. word_at s e ≡ Some l.word) lessons
-  pub shapes : All (λ l. sizes_of l.clock ≡ s.sizes) lessons
-  pub counts : (m : Space) (d : EventId) → (d.index < greatest_count (clocks_left m lessons) d.at) ↔ LearnsFrom s m e names d
+pub record AreSourcesOf (s : Streams) (e : EventId) (names : List Name) (sources : List ReleaseClock) : Type 0 where
+  pub few : length sources ≤ length names
+  pub words : All (λ l. word_at s e ≡ Some l.word) sources
+  pub shapes : All (λ l. sizes_of l.clock ≡ s.sizes) sources
+  pub counts : (m : Space) (d : EventId) → (d.index < greatest_count (clocks_left m sources) d.at) ↔ LearnsFrom s m e names d
 
 module _ (s : Streams) (e : EventId) where
-  pub lessons_none : AreLessonsOf s e [] []
-  lessons_none = record {
+  pub sources_none : AreSourcesOf s e [] []
+  sources_none = record {
     few = omega arith;
     words = λ k d below. absurd (omega (arith, below));
     shapes = λ k d below. absurd (omega (arith, below));
@@ -110,10 +110,10 @@ module _ (s : Streams) (e : EventId) where
           h,
     )
 
-    module _ (lessons : List ReleaseClock) (are : AreLessonsOf s e names lessons) where
+    module _ (sources : List ReleaseClock) (are : AreSourcesOf s e names sources) where
       -- a name from whose release nothing is learned
-      pub lessons_same : IsUntaught s e n → AreLessonsOf s e (names ++ n ∷ []) lessons
-      lessons_same none = record {
+      pub sources_same : LearnsNothing s e n → AreSourcesOf s e (names ++ n ∷ []) sources
+      sources_same none = record {
         few = let size = length-append names (n ∷ []) in omega (arith, are.few, size);
         words = are.words;
         shapes = are.shapes;
@@ -124,26 +124,26 @@ module _ (s : Streams) (e : EventId) where
       }
 
       -- a name from whose release something is
-      pub lessons_more : (l : ReleaseClock) → IsLesson s e n l → AreLessonsOf s e (names ++ n ∷ []) (lessons ++ l ∷ [])
-      lessons_more l is = record {
-        few = let size = length-append names (n ∷ []) in let more = length-append lessons (l ∷ []) in omega (arith, are.few, size, more);
-        words = All-push (λ r. word_at s e ≡ Some r.word) lessons l are.words is.word;
-        shapes = All-push (λ r. sizes_of r.clock ≡ s.sizes) lessons l are.shapes is.shape;
+      pub sources_more : (l : ReleaseClock) → IsSource s e n l → AreSourcesOf s e (names ++ n ∷ []) (sources ++ l ∷ [])
+      sources_more l is = record {
+        few = let size = length-append names (n ∷ []) in let more = length-append sources (l ∷ []) in omega (arith, are.few, size, more);
+        words = All-push (λ r. word_at s e ≡ Some r.word) sources l are.words is.word;
+        shapes = All-push (λ r. sizes_of r.clock ≡ s.sizes) sources l are.shapes is.shape;
         counts = λ m d. ⊎_elim (λ same. in_its_memory m d same) (λ other. in_another m d other) (space_cases m (memory_of l.word));
       }
         where
           all : Space → EventId → ℕ
-          all m d = greatest_count (clocks_left m (lessons ++ l ∷ [])) d.at
+          all m d = greatest_count (clocks_left m (sources ++ l ∷ [])) d.at
 
           in_its_memory : (m : Space) (d : EventId) → m ≡ memory_of l.word → (d.index < all m d) ↔ LearnsFrom s m e (names ++ n ∷ []) d
           in_its_memory m d same =
-              let most = left_here m lessons l d.at same in
+              let most = left_here m sources l d.at same in
               let by : (d.index < count_of l.clock d.at) ↔ LearnsBy s m e n d = subst (λ o. (d.index < count_of l.clock d.at) ↔ LearnsBy s o e n d) (sym same) (is.counts d) in (
                 λ below.
                     (longer m d).1 (⊎_elim
                     (λ had. inl ((are.counts m d).0 had))
                     (λ has. inr (by.0 has))
-                    (below_max d.index (greatest_count (clocks_left m lessons) d.at) (count_of l.clock d.at) (omega (arith, below, most)))),
+                    (below_max d.index (greatest_count (clocks_left m sources) d.at) (count_of l.clock d.at) (omega (arith, below, most)))),
                 λ learned.
                     ⊎_elim
                     (λ had. let under = (are.counts m d).1 had in omega (arith, under, most))
@@ -153,7 +153,7 @@ module _ (s : Streams) (e : EventId) where
 
           in_another : (m : Space) (d : EventId) → m ≢ memory_of l.word → (d.index < all m d) ↔ LearnsFrom s m e (names ++ n ∷ []) d
           in_another m d other =
-              let same = left_elsewhere m lessons l d.at other in (
+              let same = left_elsewhere m sources l d.at other in (
                 λ below. (longer m d).1 (inl ((are.counts m d).0 (omega (arith, below, same)))),
                 λ learned.
                     ⊎_elim
@@ -163,8 +163,8 @@ module _ (s : Streams) (e : EventId) where
               )
 
   -- all names
-  pub lessons_all : (x : Event) → event_at s e ≡ Some x → (lessons : List ReleaseClock) → AreLessonsOf s e x.names lessons → AreLessons s e lessons
-  lessons_all x event lessons are = record {
+  pub sources_all : (x : Event) → event_at s e ≡ Some x → (sources : List ReleaseClock) → AreSourcesOf s e x.names sources → AreSources s e sources
+  sources_all x event sources are = record {
     words = are.words;
     shapes = are.shapes;
     counts = λ m d. (
@@ -174,15 +174,15 @@ module _ (s : Streams) (e : EventId) where
   }
 
   -- they are all on the event's word
-  pub of_one_word : (lessons : List ReleaseClock) → All (λ l. word_at s e ≡ Some l.word) lessons → AreOfOneWord lessons
+  pub of_one_word : (sources : List ReleaseClock) → All (λ l. word_at s e ≡ Some l.word) sources → AreOfOneWord sources
   of_one_word [] words = tt
-  of_one_word (l ∷ lessons) words = one_word l lessons words
+  of_one_word (l ∷ sources) words = one_word l sources words
     where
-      one_word : (l : ReleaseClock) (lessons : List ReleaseClock) → All (λ r. word_at s e ≡ Some r.word) (l ∷ lessons) → All (λ r. r.word ≡ l.word) lessons
-      one_word l lessons words k d below =
+      one_word : (l : ReleaseClock) (sources : List ReleaseClock) → All (λ r. word_at s e ≡ Some r.word) (l ∷ sources) → All (λ r. r.word ≡ l.word) sources
+      one_word l sources words k d below =
           let first : word_at s e ≡ Some l.word = words 0 l (omega arith) in
-          let this : word_at s e ≡ Some (get_or lessons k d).word = words (suc k) d (omega (arith, below)) in
-          let both : Some (get_or lessons k d).word ≡ Some l.word = sym this ∙ first in
+          let this : word_at s e ≡ Some (get_or sources k d).word = words (suc k) d (omega (arith, below)) in
+          let both : Some (get_or sources k d).word ≡ Some l.word = sym this ∙ first in
           cc
 
 -- the names up to the next one
@@ -192,15 +192,15 @@ next_names names read p d same below =
     ap (λ n. take n names) (let next : p + 1 ≡ suc p = omega arith in next) ∙ take-suc names p d there ∙ ap (λ ns. take p names ++ get_or ns p d ∷ []) (sym same)
 
 -- what holds of all releases holds of all references to them
-pub each_referred : {X : Type 0} (release : X → ReleaseClock) (P : ReleaseClock → Type 0) (xs : List X) (lessons : List ReleaseClock) → map release xs ≡ lessons → All P lessons → All (λ x. P (release x)) xs
-each_referred release P xs lessons same all k d below =
-    let within : k < length lessons = let size = length-map xs release in subst (λ ls. k < length ls) same (omega (arith, below, size)) in
-    let at : get_or lessons k (release d) ≡ release (get_or xs k d) = ap (λ ls. get_or ls k (release d)) (sym same) ∙ get_or-map release xs k d (release d) below in
+pub each_referred : {X : Type 0} (release : X → ReleaseClock) (P : ReleaseClock → Type 0) (xs : List X) (sources : List ReleaseClock) → map release xs ≡ sources → All P sources → All (λ x. P (release x)) xs
+each_referred release P xs sources same all k d below =
+    let within : k < length sources = let size = length-map xs release in subst (λ ls. k < length ls) same (omega (arith, below, size)) in
+    let at : get_or sources k (release d) ≡ release (get_or xs k d) = ap (λ ls. get_or ls k (release d)) (sym same) ∙ get_or-map release xs k d (release d) below in
     subst P at (all k (release d) within)
 
 -- and so of their clocks
-pub clocks_referred : {X : Type 0} (release : X → ReleaseClock) (xs : List X) (lessons : List ReleaseClock) → map release xs ≡ lessons → map (λ x. (release x).clock) xs ≡ map (λ (l : ReleaseClock). l.clock) lessons
-clocks_referred release xs lessons same = twice xs ∙ ap (map (λ (l : ReleaseClock). l.clock)) same
+pub clocks_referred : {X : Type 0} (release : X → ReleaseClock) (xs : List X) (sources : List ReleaseClock) → map release xs ≡ sources → map (λ x. (release x).clock) xs ≡ map (λ (l : ReleaseClock). l.clock) sources
+clocks_referred release xs sources same = twice xs ∙ ap (map (λ (l : ReleaseClock). l.clock)) same
   where
     twice : (ys : List _) → map (λ y. (release y).clock) ys ≡ map (λ (l : ReleaseClock). l.clock) (map release ys)
     twice [] = refl

@@ -11,7 +11,7 @@ use Rattle.gr_model.specs.Access.{is_release, memory_of}
 use Rattle.gr_model.specs.Counts.{IsSeen}
 use Rattle.gr_model.specs.LawfulOrders.{IsIn, IsLawful}
 use Rattle.gr_model.specs.Shapes.{HasItem}
-use Rattle.gr_model.specs.Streams.{Streams, AreFronts, event_at, word_at}
+use Rattle.gr_model.specs.Streams.{Streams, ArePrefixes, event_at, word_at}
 use Rattle.gr_steps.specs.Steps.{IsReady}
 use Rattle.gr_clocks.specs.Counts.{sizes_of}
 use Rattle.gr_clocks.specs.ItemClocks.{ItemClocks, ReleaseClock, clock_in, clocks_in}
@@ -61,11 +61,11 @@ pub record IsKnown (s : Streams) (order : List EventId) (known : Known) : Type 0
 
 -- an event may be handled behind a lawful order of which this is known
 pub record IsNext (s : Streams) (order : List EventId) (known : Known) (e : EventId) : Type 0 where
-  pub fronts : AreFronts s
+  pub prefixes : ArePrefixes s
   pub lawful : IsLawful s order
   pub follows : IsKnown s order known
   pub ready : IsReady s order e
 
 -- d is known to the event's item, or the event learns of it
-abbrev pub IsGathered : Streams → List EventId → Space → EventId → EventId → Type 0
-IsGathered s order m e d = Knows s m order e.at d ⊎ Learns s m e d
+abbrev pub KnowsOrLearns : Streams → List EventId → Space → EventId → EventId → Type 0
+KnowsOrLearns s order m e d = Knows s m order e.at d ⊎ Learns s m e d

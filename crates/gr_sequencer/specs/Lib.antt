@@ -1,3 +1,3 @@
 pub mod Answers
 pub mod Known
-pub mod Lessons
+pub mod Sources

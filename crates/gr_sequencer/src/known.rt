@@ -8,12 +8,12 @@ ghost use Rattle.gr_model.specs.Instances.{Mark};
 ghost use Rattle.gr_model.specs.Streams.{event_at, word_at};
 ghost use Rattle.gr_model.specs.Counts.{IsSeen};
 ghost use Rattle.gr_clocks.specs.Counts.{sizes_of};
-ghost use Rattle.gr_clocks.specs.ItemClocks.{IsGroupSpent, Meets};
+ghost use Rattle.gr_clocks.specs.ItemClocks.{IsGroupSpent, MeetsClocks};
 ghost use Rattle.gr_closure.specs.Accesses.{CountsJust, IsAccessOf};
 ghost use Rattle.gr_lanes.specs.Takes.{nothing_taken};
-ghost use Rattle.gr_sequencer.specs.Known.{AreTrue, IsGathered, IsKnown, IsLeftBy, IsNext, left_at};
+ghost use Rattle.gr_sequencer.specs.Known.{AreTrue, KnowsOrLearns, IsKnown, IsLeftBy, IsNext, left_at};
 
-use crate::lessons::lessons_of;
+use crate::sources::sources_of;
 use gr_clocks::access::Access;
 use gr_clocks::clock::{Clock, ClockError};
 use gr_clocks::clocks::{Clocks, memory_of};
@@ -81,7 +81,7 @@ fn flags_of<A: Allocator>(order: &Order<A>, group: u16, instance: u32) -> (bool,
 
 impl<A: Allocator> Known<A> {
     /// What an event that may be handled next learns and what its item knows, in its word's memory, as a clock.
-    fn gathered(
+    fn known_or_learned(
         &self,
         order: &Order<A>,
         event: EventId,
@@ -94,15 +94,15 @@ impl<A: Allocator> Known<A> {
         requires there { event_at order.now.taken event ≡ Some taken.now }
         requires word { word_at order.now.taken event ≡ Some word }
         ensures shape { IfOk result (λ c. sizes_of c ≡ order.now.taken.sizes) }
-        ensures counts { IfOk result (λ c. CountsJust c (IsGathered order.now.taken order.now.handled (model.memory_of word) event)) }
+        ensures counts { IfOk result (λ c. CountsJust c (KnowsOrLearns order.now.taken order.now.handled (model.memory_of word) event)) }
     {
         let clock = self.clocks.clock_of(event.at, memory_of(word));
-        match lessons_of(order, &self.left, event, taken) {
+        match sources_of(order, &self.left, event, taken) {
             None => match clock.copy() {
                 Ok(copied) => Ok(copied),
                 Err(_) => Err(Memory),
             },
-            Some(lessons) => match clock.learned(lessons.as_slice()) {
+            Some(sources) => match clock.learned(sources.as_slice()) {
                 Ok(learned) => Ok(learned),
                 Err(_) => Err(Memory),
             },
@@ -125,7 +125,7 @@ impl<A: Allocator> Known<A> {
         ensures shape { IfOk result (λ c. sizes_of c ≡ order.now.taken.sizes) }
         ensures counts { IfOk result (λ c. CountsJust c (IsSeen order.now.taken (model.memory_of word) event)) }
     {
-        let mut clock = self.gathered(order, event, taken, word)?;
+        let mut clock = self.known_or_learned(order, event, taken, word)?;
         match clock.tick(event.at) {
             Ok(()) => Ok(clock),
             Err(error) => match error {
@@ -217,9 +217,9 @@ impl<A: Allocator> Known<A> {
         ensures clocks { OnOk result (AreTrue order.now.taken (order.now.handled ++ event ∷ []) self.new.clocks) }
         ensures err { OnErr result (self.new.clocks ≡ self.old.clocks) }
     {
-        let answer = match lessons_of(order, &self.left, event, taken) {
+        let answer = match sources_of(order, &self.left, event, taken) {
             None => self.clocks.access(event.at),
-            Some(lessons) => self.clocks.acquire(event.at, lessons.as_slice()),
+            Some(sources) => self.clocks.acquire(event.at, sources.as_slice()),
         };
         match answer {
             Ok(()) => Ok(()),
@@ -242,7 +242,7 @@ impl<A: Allocator> Known<A> {
         requires group { group < length order.now.taken.sizes }
         requires free { ¬ IsGroupSpent self.old.clocks group }
         requires convergent { (a : Mark) × IsConvergent order.now.taken group instance a }
-        ensures meets { OnOk result ((a : Mark) → IsConvergent order.now.taken group instance a → Meets self.old.clocks group a.global a.local self.new.clocks) }
+        ensures meets { OnOk result ((a : Mark) → IsConvergent order.now.taken group instance a → MeetsClocks self.old.clocks group a.global a.local self.new.clocks) }
         ensures left { self.new.left ≡ self.old.left }
         ensures err { OnErr result (self.new.clocks ≡ self.old.clocks) }
     {

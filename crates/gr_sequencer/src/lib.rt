@@ -4,5 +4,5 @@
 
 pub mod handled;
 mod known;
-mod lessons;
+mod sources;
 pub mod sequencer;

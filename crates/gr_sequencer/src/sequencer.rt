@@ -9,7 +9,7 @@ ghost use Rattle.gr_model.specs.Streams.{AreComplete, list_of};
 ghost use Rattle.gr_model.specs.Reports.{Lists, DivergenceBelow, IsDivergence, IsCut, IsHeld, IsUnmatchedAcquire, UnmatchedBelow};
 ghost use Rattle.gr_lanes.specs.Takes.{CanTake, IsEventButItem, IsTakeFault};
 ghost use Rattle.gr_steps.specs.Steps.{IsAtRest};
-ghost use Rattle.gr_order.specs.Sequences.{CanStep, IsDone, IsSequence, events_of, nothing, taking};
+ghost use Rattle.gr_order.specs.Sequences.{CanStep, IsDone, IsSequence, event_count, nothing, taking};
 ghost use Rattle.gr_order.specs.Answers.{IsHandleFault, IsMeetFault};
 ghost use Rattle.gr_sequencer.specs.Answers.{IsOfGroup, IsOfItem, IsStep};
 
@@ -216,7 +216,7 @@ impl<A: Allocator> Sequencer<A> {
 
     /// How many events were taken and not handled. Where no step is left, these are the events that are not grounded.
     pub fn held(&self) -> u64
-        ensures count { result + length self.now.handled ≡ events_of self.now.taken }
+        ensures count { result + length self.now.handled ≡ event_count self.now.taken }
         ensures held { IsAtRest self.now.taken self.now.handled → IsHeld self.now.taken result }
     {
         self.agenda.order().held()

@@ -14,7 +14,7 @@ use Rattle.gr_route.specs.WorkRule.{is_stopped}
 use Rattle.gr_route.specs.WorkSeats.{Giver}
 use Rattle.gr_shadow.specs.Clashes.{ClockedAccess}
 use Rattle.gr_threads.specs.Given.{accesses_in}
-use Rattle.gr_sequencer_thread.specs.Feeds.{AreOpen, ArePassed, AreTaken, IsFresh, IsGood, given_of}
+use Rattle.gr_sequencer_thread.specs.Feeds.{AreOpen, ArePassedOn, AreTaken, IsFresh, IsGood, given_of}
 
 abbrev pub no_events : ℕ → List Event
 no_events n = []
@@ -32,7 +32,7 @@ module _ {A : Type 0} (config : Settings) (is : IsConfig config) (seq : Sequence
       ∙ (nothing_at seq.taken.sizes g
       ∙ sym (ap (events_of g) (fresh.popped (g % config.queues) d (mod-lt g (let some = is.queues.0 in omega (arith, some))))))
 
-  fresh_passed : ArePassed config seq (given_of givers) None
+  fresh_passed : ArePassedOn config seq (given_of givers) None
   fresh_passed = record {
     accesses = [];
     along = subst (λ (s : Sequence). AreAccesses seq.taken s.handled []) (sym from) of_none;
@@ -44,10 +44,10 @@ module _ {A : Type 0} (config : Settings) (is : IsConfig config) (seq : Sequence
       none_given k (g ∷ gs) none lt = get_or-map (λ (u : Giver A). accesses_in u.pushed) (g ∷ gs) k g [] lt ∙ ap accesses_in (none k g lt)
 
       each : (k : ℕ) → k < config.workers → get_or (given_of givers) k [] ++ [] ≡ []
-      each k lt = ap (λ (l : List ClockedAccess). l ++ []) (none_given k givers (λ j d below. fresh.pushed j d (omega (arith, below, fresh.crew))) (omega (arith, lt, fresh.crew)))
+      each k lt = ap (λ (l : List ClockedAccess). l ++ []) (none_given k givers (λ j d below. fresh.pushed j d (omega (arith, below, fresh.worker_count))) (omega (arith, lt, fresh.worker_count)))
 
-  pub fresh_good : IsGood (record { config = config; sequence = seq; takers = takers; givers = givers; way = None; failed = false })
+  pub fresh_good : IsGood (record { config = config; sequence = seq; takers = takers; givers = givers; in_flight = None; failed = false })
   fresh_good = record { sequence = sequence; taken = fresh_taken; passed = fresh_passed }
 
   pub fresh_unstopped : AreOpen givers
-  fresh_unstopped k d lt = ap is_stopped (fresh.pushed k d (omega (arith, lt, fresh.crew)))
+  fresh_unstopped k d lt = ap is_stopped (fresh.pushed k d (omega (arith, lt, fresh.worker_count)))

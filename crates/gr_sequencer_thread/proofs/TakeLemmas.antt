@@ -14,15 +14,15 @@ use Rattle.gr_hits.proofs.Growing.{accesses_stay}
 use Rattle.gr_lanes.specs.Takes.{CanTake, with_record}
 use Rattle.gr_lanes.proofs.Growth.{record_grows}
 use Rattle.gr_order.specs.Sequences.{IsSequence, Sequence, taking}
-use Rattle.gr_route.specs.IntakeSeats.{IsNext, Taker, popped_of}
+use Rattle.gr_route.specs.IntakeSeats.{IsNextPopped, Taker, popped_of}
 use Rattle.gr_shadow.specs.Clashes.{ClockedAccess}
-use Rattle.gr_sequencer_thread.specs.Feeds.{ArePassed, AreSeated, AreTaken, MayTake}
+use Rattle.gr_sequencer_thread.specs.Feeds.{ArePassedOn, AreSeated, AreTaken, MayTake}
 
 -- the seat after one event more was popped
 abbrev pub popping : Taker → Sent → Taker
 popping t s = record { queue = t.queue; popped = t.popped ++ s ∷ []; sizes = t.sizes; joined = t.joined }
 
-module _ (config : Settings) (sizes : List ℕ) (takers : List Taker) (seated : AreSeated config sizes takers) (q : ℕ) (t : Taker) (at : t ≡ get_or takers q t) (there : q < config.queues) (queues : length takers ≡ config.queues) (s : Sent) (next : IsNext t s) where
+module _ (config : Settings) (sizes : List ℕ) (takers : List Taker) (seated : AreSeated config sizes takers) (q : ℕ) (t : Taker) (at : t ≡ get_or takers q t) (there : q < config.queues) (queues : length takers ≡ config.queues) (s : Sent) (next : IsNextPopped t s) where
   seat_size : get_or t.sizes s.group 0 ≡ cond (s.group % config.queues == q) (get_or sizes s.group 0) 0
   seat_size = ap (λ (u : Taker). get_or u.sizes s.group 0) at ∙ seated q s.group t there
 
@@ -100,9 +100,9 @@ module _ (config : Settings) (sizes : List ℕ) (takers : List Taker) (seated : 
       (cases_eq p q)
 
   -- the accesses along the handled order stay
-  pub taken_passed : (seq : Sequence) → IsSequence seq → seq.taken.sizes ≡ sizes → AreTaken config seq.taken takers → (given : List (List ClockedAccess)) (way : Option ClockedAccess) → ArePassed config seq given way → ArePassed config (taking seq s.group s.event) given way
+  pub taken_passed : (seq : Sequence) → IsSequence seq → seq.taken.sizes ≡ sizes → AreTaken config seq.taken takers → (given : List (List ClockedAccess)) (in_flight : Option ClockedAccess) → ArePassedOn config seq given way → ArePassedOn config (taking seq s.group s.event) given way
   taken_passed seq sequence same are given way passed = record {
     accesses = passed.accesses;
-    along = accesses_stay seq.taken (with_record seq.taken s.group s.event) (record_grows seq.taken s.group s.event sequence.fronts (may_take seq same are).can) seq.handled passed.accesses sequence.lawful passed.along;
+    along = accesses_stay seq.taken (with_record seq.taken s.group s.event) (record_grows seq.taken s.group s.event sequence.prefixes (may_take seq same are).can) seq.handled passed.accesses sequence.lawful passed.along;
     each = passed.each;
   }

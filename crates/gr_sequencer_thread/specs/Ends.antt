@@ -7,7 +7,7 @@ use Rattle.gr_model.specs.Reports.{IsReportButRaces, WholeReport}
 use Rattle.gr_order.specs.Sequences.{Sequence}
 use Rattle.gr_route.specs.IntakeSeats.{Taker}
 use Rattle.gr_route.specs.WorkSeats.{Giver}
-use Rattle.gr_sequencer_thread.specs.Feeds.{Feed, IsWhole, intakes_of, works_of}
+use Rattle.gr_sequencer_thread.specs.Feeds.{Feed, IsFeedWhole, intakes_of, works_of}
 
 -- how a run is set up, the items of each work-group, its intake queues and its workers' queues
 pub record Line : Type 0 where
@@ -44,11 +44,11 @@ end_line e = record { config = e.config; sizes = e.sizes; intakes = intakes_of e
 pub record IsFound {A : Type 0} (config : Settings) (sizes : List ℕ) (takers : List Taker) (givers : List (Giver A)) (report : WholeReport) : Type 0 where
   pub sequence : Sequence
   pub sizes_are : sequence.taken.sizes ≡ sizes
-  pub whole : IsWhole (record { config = config; sequence = sequence; takers = takers; givers = givers; way = None; failed = false })
+  pub whole : IsFeedWhole (record { config = config; sequence = sequence; takers = takers; givers = givers; in_flight = None; failed = false })
   pub report_is : IsReportButRaces sequence.taken report
 
 pub record IsEnd {A : Type 0} (e : End A) : Type 0 where
   pub config : IsConfig e.config
   pub queues : length e.takers ≡ e.config.queues
-  pub crew : length e.givers ≡ e.config.workers
+  pub worker_count : length e.givers ≡ e.config.workers
   pub found : IfSome e.report (IsFound e.config e.sizes e.takers e.givers)

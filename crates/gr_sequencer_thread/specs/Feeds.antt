@@ -14,7 +14,7 @@ use Rattle.gr_route.specs.WorkRule.{is_stopped}
 use Rattle.gr_route.specs.WorkSeats.{Giver}
 use Rattle.gr_shadow.specs.Clashes.{ClockedAccess}
 use Rattle.gr_threads.specs.Given.{accesses_in}
-use Rattle.gr_world.specs.Worlds.{way_list}
+use Rattle.gr_world.specs.Worlds.{in_flight_list}
 
 -- how the run is set up; what was taken, and what of it was handled, in which order; the seats that pop, by queue; the seats that push, by worker; the access that was handled and pushed to no worker yet; whether memory was wanting
 pub record Feed (A : Type 0) : Type 0 where
@@ -55,21 +55,21 @@ abbrev pub AreTaken : Settings → Streams → List Taker → Type 0
 AreTaken config taken takers = (g : ℕ) (d : Taker) → list_of taken g ≡ popped_of (slice_index_or takers (g % config.queues) d) g
 
 -- what each worker was given, and what is on its way to it, are the accesses along the handled order that go to it
-pub record ArePassed (config : Settings) (sequence : Sequence) (given : List (List ClockedAccess)) (way : Option ClockedAccess) : Type 0 where
+pub record ArePassedOn (config : Settings) (sequence : Sequence) (given : List (List ClockedAccess)) (in_flight : Option ClockedAccess) : Type 0 where
   pub accesses : List ClockedAccess
   pub along : AreAccesses sequence.taken sequence.handled accesses
-  pub each : (k : ℕ) → k < config.workers → accesses_for config.workers k accesses ≡ slice_index_or given k [] ++ accesses_for config.workers k (way_list way)
+  pub each : (k : ℕ) → k < config.workers → accesses_for config.workers k accesses ≡ slice_index_or given k [] ++ accesses_for config.workers k (in_flight_list way)
 
 -- memory was never wanting
 pub record IsGood {A : Type 0} (f : Feed A) : Type 0 where
   pub sequence : IsSequence f.sequence
   pub taken : AreTaken f.config f.sequence.taken f.takers
-  pub passed : ArePassed f.config f.sequence (given_of f.givers) f.way
+  pub passed : ArePassedOn f.config f.sequence (given_of f.givers) f.in_flight
 
 pub record IsFeed {A : Type 0} (f : Feed A) : Type 0 where
   pub config : IsConfig f.config
   pub queues : length f.takers ≡ f.config.queues
-  pub crew : length f.givers ≡ f.config.workers
+  pub worker_count : length f.givers ≡ f.config.workers
   pub seated : AreSeated f.config f.sequence.taken.sizes f.takers
   pub unstopped : AreOpen f.givers
   pub good : f.failed ≡ false → IsGood f
@@ -85,7 +85,7 @@ pub record MayTake (q : Sequence) (s : Sent) : Type 0 where
 -- of groups of these sizes nothing was popped, and nothing was pushed
 pub record IsFresh {A : Type 0} (config : Settings) (sizes : List ℕ) (takers : List Taker) (givers : List (Giver A)) : Type 0 where
   pub queues : length takers ≡ config.queues
-  pub crew : length givers ≡ config.workers
+  pub worker_count : length givers ≡ config.workers
   pub seated : AreSeated config sizes takers
   pub popped : (q : ℕ) (d : Taker) → q < config.queues → (slice_index_or takers q d).popped ≡ []
   pub pushed : (k : ℕ) (d : Giver A) → k < config.workers → (slice_index_or givers k d).pushed ≡ []
@@ -105,9 +105,9 @@ pub record IsSameRun {A : Type 0} (old new : Feed A) : Type 0 where
 pub record IsOver {A : Type 0} (f : Feed A) : Type 0 where
   pub complete : AreComplete f.sequence.taken
   pub done : IsDone f.sequence
-  pub way : f.way ≡ None
+  pub way : f.in_flight ≡ None
 
 -- memory was never wanting, and all was taken, handled and passed on
-pub record IsWhole {A : Type 0} (f : Feed A) : Type 0 where
+pub record IsFeedWhole {A : Type 0} (f : Feed A) : Type 0 where
   pub good : IsGood f
   pub over : IsOver f

@@ -40,7 +40,7 @@ pub struct Feed<A: Allocator = Global> {
     sequencer: Sequencer<A>,
     inlets: Vec<Inlet<A>, A>,
     outlets: Vec<Outlet<A>, A>,
-    way: Option<Access<A>>,
+    in_flight: Option<Access<A>>,
     // Of how many groups the end was not popped.
     open: u16,
     failed: bool,
@@ -53,9 +53,9 @@ impl<A: Allocator> Model for Feed<A> {
 
     ghost Value = { spec.Feed A };
 
-    ghost view = { λ f. record { config = f.config; sequence = f.sequencer; takers = f.inlets.items; givers = f.outlets.items; way = option_map clocked f.way; failed = f.failed } };
+    ghost view = { λ f. record { config = f.config; sequence = f.sequencer; takers = f.inlets.items; givers = f.outlets.items; in_flight = option_map clocked f.in_flight; failed = f.failed } };
 
-    ghost invariant = { λ f. spec.IsFeed {A = A} (record { config = f.config; sequence = f.sequencer; takers = f.inlets.items; givers = f.outlets.items; way = option_map clocked f.way; failed = f.failed }) };
+    ghost invariant = { λ f. spec.IsFeed {A = A} (record { config = f.config; sequence = f.sequencer; takers = f.inlets.items; givers = f.outlets.items; in_flight = option_map clocked f.in_flight; failed = f.failed }) };
 }
 
 /// Of how many groups the end was not popped, after an event that was.
@@ -95,7 +95,7 @@ impl<A: Allocator> Feed<A> {
     ) -> Feed<A>
         requires sequencer { sequencer ≡ nothing sequencer.taken.sizes }
         requires fresh { IsFresh config sequencer.taken.sizes inlets.items outlets.items }
-        ensures { result ≡ record { config = config; sequence = sequencer; takers = inlets.items; givers = outlets.items; way = None; failed = false } }
+        ensures { result ≡ record { config = config; sequence = sequencer; takers = inlets.items; givers = outlets.items; in_flight = None; failed = false } }
     {
         // The order of a sequencer's handled events is lawful, and the numbers of a configuration are in range.
         let _ = (sequencer.at_end(), config.queues());
@@ -104,7 +104,7 @@ impl<A: Allocator> Feed<A> {
             sequencer,
             inlets,
             outlets,
-            way: None,
+            in_flight: None,
             open: groups,
             failed: false,
         }
@@ -125,14 +125,14 @@ impl<A: Allocator> Feed<A> {
     pub(crate) fn pass<R: Wait>(&mut self, rt: &R) -> bool
         ensures { IsSameRun self.old self.new }
     {
-        let Some(access) = self.way.take() else {
+        let Some(access) = self.in_flight.take() else {
             return false;
         };
         let worker = usize::from(worker_of(&access.word, self.config.workers()));
         match self.outlets[worker].push(rt, Work::Access(access)) {
             Ok(()) => true,
             Err(Full(Work::Access(access))) => {
-                self.way = Some(access);
+                self.in_flight = Some(access);
                 false
             }
             Err(Full(Work::Stop)) => unreachable!(),
@@ -143,7 +143,7 @@ impl<A: Allocator> Feed<A> {
     pub(crate) fn is_over(&self) -> bool
         ensures { IsTrue result → self.now.failed ≡ false → IsOver self.now }
     {
-        self.open == 0 && (self.failed || (self.way.is_none() && self.sequencer.at_end()))
+        self.open == 0 && (self.failed || (self.in_flight.is_none() && self.sequencer.at_end()))
     }
 
     /// Takes events of an intake queue, a burst of them at most. Tells whether there was one.
@@ -179,13 +179,13 @@ impl<A: Allocator> Feed<A> {
 impl<A: Allocator + Copy> Feed<A> {
     /// Handles an event or has an instance meet, if nothing is on its way. Tells whether something was done.
     pub(crate) fn handle(&mut self) -> bool
-        requires { (self.old.way ≡ None) × (self.old.failed ≡ false) }
+        requires { (self.old.in_flight ≡ None) × (self.old.failed ≡ false) }
         ensures { IsSameRun self.old self.new }
     {
         match self.sequencer.step() {
             Ok(None) => false,
             Ok(Some(Handled::One { event: _, access })) => {
-                self.way = access;
+                self.in_flight = access;
                 true
             }
             Ok(
@@ -209,7 +209,7 @@ impl<A: Allocator + Copy> Feed<A> {
     {
         if self.failed {
             false
-        } else if self.way.is_some() {
+        } else if self.in_flight.is_some() {
             self.pass(rt)
         } else {
             self.handle()
@@ -241,7 +241,7 @@ impl<A: Allocator + Copy> Feed<A> {
             sequencer,
             inlets,
             mut outlets,
-            way: _,
+            in_flight: _,
             open: _,
             failed,
         } = self;

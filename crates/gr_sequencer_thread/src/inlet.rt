@@ -4,7 +4,7 @@ ghost use Rattle.std.specs.Prelude.{◌≡◌, ◌<◌, ◌≤◌, ◌++◌, ◌
 ghost use Rattle.std.specs.Arc.{arc_value};
 ghost use Rattle.gr_model.specs.Streams.{is_complete};
 ghost use Rattle.gr_route.specs.IntakeRule.{no_sizes};
-ghost use Rattle.gr_route.specs.IntakeSeats.{IsNext, popped_of};
+ghost use Rattle.gr_route.specs.IntakeSeats.{IsNextPopped, popped_of};
 
 use gr_model::event::Sent;
 use gr_model::limits::{MOST_GROUPS, MOST_ITEMS_OF_A_GROUP, MOST_PLACES, MOST_RECORDS};
@@ -73,7 +73,7 @@ impl<A: Allocator> Inlet<A> {
     /// Pops the event that was pushed first, if there is one.
     pub fn pop<R: Wait>(&mut self, rt: &R) -> Option<Sent>
         ensures some { IfSome result (λ sent. self.new ≡ record self.old { popped = self.old.popped ++ sent ∷ [] }) }
-        ensures next { IfSome result (IsNext self.old) }
+        ensures next { IfSome result (IsNextPopped self.old) }
         ensures unchanged { IfNone result (self.new ≡ self.old) }
     {
         self.queue.pop(rt, &mut self.seat)

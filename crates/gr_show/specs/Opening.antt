@@ -5,7 +5,7 @@ use Rattle.gr_model.specs.declared.event.Word.{Word}
 use Rattle.gr_record.specs.declared.fault.Fault.{Fault}
 use Rattle.gr_record.specs.declared.fault.Fault.TheVariants as faults
 use Rattle.gr_replay.specs.Each.{all_known}
-use Rattle.gr_show.specs.Shown.{IsShown, IsShowFault, ShowsFront}
+use Rattle.gr_show.specs.Shown.{IsShown, IsShowFault, ShowsPrefix}
 
 module _ {T E : Type 0} (Gives : List ℕ → Result T E → Type 0) where
   -- by what is given at each name, the files are those of the names, in their order
@@ -35,8 +35,8 @@ module _ {T E : Type 0} (remaining : T → Option (List ℕ)) (Gives : List ℕ 
   abbrev pub IsShownOfFiles : Word → Bool → Option (List ℕ) → Option (List ℕ) → Type 0
   IsShownOfFiles w found old new = (files : List T) × AreOpened Gives names files × IsShown (all_known (map remaining files)) w found old new
 
-  abbrev pub ShowsFrontOfFiles : Word → Option (List ℕ) → Option (List ℕ) → Type 0
-  ShowsFrontOfFiles w old new = (files : List T) × AreOpened Gives names files × ShowsFront (all_known (map remaining files)) w old new
+  abbrev pub ShowsPrefixOfFiles : Word → Option (List ℕ) → Option (List ℕ) → Type 0
+  ShowsPrefixOfFiles w old new = (files : List T) × AreOpened Gives names files × ShowsPrefix (all_known (map remaining files)) w old new
 
   abbrev pub IsFileFault : Fault → Type 0
   IsFileFault f = IsOpeningFault Gives names f ⊎ ((files : List T) × AreOpened Gives names files × IfSome (all_known (map remaining files)) (λ inputs. IsShowFault inputs f))

@@ -8,7 +8,7 @@ use Rattle.gr_model.specs.Streams.{Streams}
 use Rattle.gr_model.specs.Waits.{IsGrounded}
 use Rattle.gr_record.specs.declared.fault.Fault.{Fault}
 use Rattle.gr_record.specs.declared.fault.Fault.TheVariants as faults
-use Rattle.gr_report.specs.Putting.{AppendsFront}
+use Rattle.gr_report.specs.Putting.{AppendsPrefix}
 use Rattle.gr_replay.specs.Each.{IsEachFault, ReadsEach}
 use Rattle.gr_explain.specs.LeastRaces.{IsLeastRace, Pair}
 use Rattle.gr_show.specs.Explanations.{explanation_line}
@@ -26,13 +26,13 @@ pub record IsShown (known : Option (List (List ℕ))) (w : Word) (found : Bool) 
   pub line : Appends old new (explanation_line w pair)
   pub said : IsTrue found ↔ IsRacy launch (IsGrounded launch) w
 
--- a front of that line was written
-pub record ShowsFront (known : Option (List (List ℕ))) (w : Word) (old new : Option (List ℕ)) : Type 0 where
+-- a prefix of that line was written
+pub record ShowsPrefix (known : Option (List (List ℕ))) (w : Word) (old new : Option (List ℕ)) : Type 0 where
   pub launch : Streams
   pub spelled : IfSome known (λ inputs. ReadsEach inputs launch)
   pub pair : Option Pair
   pub exact : IsExplanation launch w pair
-  pub front : AppendsFront old new (explanation_line w pair)
+  pub prefix : AppendsPrefix old new (explanation_line w pair)
 
 -- why nothing is shown of inputs: they are no launch, or else the writer failed
 abbrev pub IsShowFault : List (List ℕ) → Fault → Type 0

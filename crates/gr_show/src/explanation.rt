@@ -2,7 +2,7 @@
 
 ghost use Rattle.std.specs.Prelude.{◌++◌, OnErr, OnOk, codes};
 ghost use Rattle.std.specs.Io.KnownBytes.{Appends};
-ghost use Rattle.gr_report.specs.Putting.{AppendsFront, Puts};
+ghost use Rattle.gr_report.specs.Putting.{AppendsPrefix, Puts};
 ghost use Rattle.gr_show.specs.Explanations.{answer_text, event_text, explanation_line, pair_text, word_text};
 
 use gr_model::event::{EventId, Word};
@@ -77,14 +77,14 @@ fn put_explanation<W: Write>(
 /// Writes the line of a word and its least racing pair, or of a word that has none, and flushes. It takes no memory.
 ///
 /// # Errors
-/// `WriteFault` where the writer fails; what it took is then a front of the line.
+/// `WriteFault` where the writer fails; what it took is then a prefix of the line.
 pub fn write_explanation<W: Write>(
     writer: &mut W,
     word: Word,
     pair: Option<(EventId, EventId)>,
 ) -> Result<(), WriteFault>
     ensures whole { OnOk result (Appends (W.contents writer.old) (W.contents writer.new) (explanation_line word pair)) }
-    ensures front { OnErr result (AppendsFront (W.contents writer.old) (W.contents writer.new) (explanation_line word pair)) }
+    ensures prefix { OnErr result (AppendsPrefix (W.contents writer.old) (W.contents writer.new) (explanation_line word pair)) }
 {
     put_explanation(writer, word, pair)?;
     finish(writer)

@@ -4,7 +4,7 @@ ghost use Rattle.std.specs.Prelude.{◌≡◌, ◌≢◌, ◌⊎◌, ◌++◌, �
 ghost use Rattle.std.specs.Fn.{FnReturnsAt};
 ghost use Rattle.std.specs.Io.KnownBytes.{Keeps};
 ghost use Rattle.gr_record.specs.declared.fault.Fault.TheVariants as faults;
-ghost use Rattle.gr_show.specs.Opening.{AreOpened, IsFileFault, IsOpeningFault, IsShownOfFiles, ShowsFrontOfFiles};
+ghost use Rattle.gr_show.specs.Opening.{AreOpened, IsFileFault, IsOpeningFault, IsShownOfFiles, ShowsPrefixOfFiles};
 
 use crate::show::show_race;
 use gr_model::event::Word;
@@ -76,7 +76,7 @@ where
     ensures shown { IfOk result (λ found. IsShownOfFiles T.remaining (FnReturnsAt O.Fn opener) (map (λ s. s.now) names.now) word found (W.contents writer.old) (W.contents writer.new)) }
     ensures fault { IfErr result (λ f. IsFileFault T.remaining (FnReturnsAt O.Fn opener) (map (λ s. s.now) names.now) f) }
     ensures untouched { IfErr result (λ f. f ≢ faults.Write → Keeps (W.contents writer.old) (W.contents writer.new)) }
-    ensures front { IfErr result (λ f. f ≡ faults.Write → ShowsFrontOfFiles T.remaining (FnReturnsAt O.Fn opener) (map (λ s. s.now) names.now) word (W.contents writer.old) (W.contents writer.new)) }
+    ensures prefix { IfErr result (λ f. f ≡ faults.Write → ShowsPrefixOfFiles T.remaining (FnReturnsAt O.Fn opener) (map (λ s. s.now) names.now) word (W.contents writer.old) (W.contents writer.new)) }
     ensures threads { IfErr result (λ f. f ≢ faults.Threads) }
 {
     let files = open_all(alloc, names, opener)?;

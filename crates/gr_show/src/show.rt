@@ -4,7 +4,7 @@ ghost use Rattle.std.specs.Prelude.{◌≡◌, ◌≢◌, IfErr, IfOk, IfSome, m
 ghost use Rattle.std.specs.Io.KnownBytes.{Keeps};
 ghost use Rattle.gr_record.specs.declared.fault.Fault.TheVariants as faults;
 ghost use Rattle.gr_replay.specs.Each.{all_known};
-ghost use Rattle.gr_show.specs.Shown.{IsShowFault, IsShown, ShowsFront};
+ghost use Rattle.gr_show.specs.Shown.{IsShowFault, IsShown, ShowsPrefix};
 
 use crate::explanation::write_explanation;
 use gr_explain::explain::explain;
@@ -18,7 +18,7 @@ use std::io::{Read, Write};
 /// the word has a race.
 ///
 /// # Errors
-/// Those of `read_each`; `Write` where the writer fails, which then has a front of the line. In every other case of an
+/// Those of `read_each`; `Write` where the writer fails, which then has a prefix of the line. In every other case of an
 /// error nothing is written.
 pub fn show_race<A: Allocator + Copy, T: Read + Drop, W: Write>(
     alloc: A,
@@ -31,7 +31,7 @@ pub fn show_race<A: Allocator + Copy, T: Read + Drop, W: Write>(
 
     // What a refusal leaves with the writer.
     ensures untouched { IfErr result (λ f. f ≢ faults.Write → Keeps (W.contents writer.old) (W.contents writer.new)) }
-    ensures front { IfErr result (λ f. f ≡ faults.Write → ShowsFront (all_known (map T.remaining readers.items)) word (W.contents writer.old) (W.contents writer.new)) }
+    ensures prefix { IfErr result (λ f. f ≡ faults.Write → ShowsPrefix (all_known (map T.remaining readers.items)) word (W.contents writer.old) (W.contents writer.new)) }
     ensures threads { IfErr result (λ f. f ≢ faults.Threads) }
 {
     let traces = read_each(alloc, readers)?;

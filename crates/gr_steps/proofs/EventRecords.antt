@@ -12,7 +12,7 @@ use Rattle.gr_model.specs.Access.{is_acquire_kind}
 use Rattle.gr_model.specs.Barriers.{is_barrier, mark_of_kind}
 use Rattle.gr_model.specs.Events.{IsNamingOk, is_end}
 use Rattle.gr_model.specs.Names.{MatchesBy}
-use Rattle.gr_model.specs.Streams.{AreFronts, IsEvent, Streams, event_at, is_of, list_of, size_of}
+use Rattle.gr_model.specs.Streams.{ArePrefixes, IsEvent, Streams, event_at, is_of, list_of, size_of}
 use Rattle.gr_model.proofs.Cuts.{same_event}
 
 -- what a filter keeps is there
@@ -43,15 +43,15 @@ group_there s e there =
     absurd (let no : None ≡ Some there.0 = sym (slice_get_past [] listed.0 (omega arith)) ∙ gone in cc))
     (cases_lt e.at.group (length s.lists))
 
-module _ (s : Streams) (fronts : AreFronts s) (e : EventId) (x : Event) (at : event_at s e ≡ Some x) where
+module _ (s : Streams) (prefixes : ArePrefixes s) (e : EventId) (x : Event) (at : event_at s e ≡ Some x) where
   -- an event is of a group and an item of the shape
   pub group_of_event : e.at.group < length s.sizes
-  group_of_event = omega (arith, group_there s e (x, at), fronts.count)
+  group_of_event = omega (arith, group_there s e (x, at), prefixes.count)
 
   pub item_of_event : e.at.item < size_of s e.at.group
   item_of_event =
       let kept = filter-there (is_of e.at.item) (list_of s e.at.group) e.index x at in
-      let ok = ((fronts.each e.at.group group_of_event).good kept.0 x kept.1).0 in
+      let ok = ((prefixes.each e.at.group group_of_event).good kept.0 x kept.1).0 in
       subst (λ n. n < size_of s e.at.group) (eqb-true x.item e.at.item (and_parts (x.item == e.at.item) (not (is_end x)) kept.2).0) ok.0
 
 -- a name is that of one release
@@ -66,11 +66,11 @@ named_acquires : (kind : Kind) (names : List Name) (n : Name) → Contains names
 named_acquires kind [] n named ok = absurd (omega (arith, named.1))
 named_acquires kind (m ∷ names) n named ok = ok.0
 
-pub barriers_name_nothing : (s : Streams) → AreFronts s → (e : EventId) (x : Event) (n : Name) → event_at s e ≡ Some x → is_barrier x ≡ true → Contains x.names n → ⊥
-barriers_name_nothing s fronts e x n at barrier named =
+pub barriers_name_nothing : (s : Streams) → ArePrefixes s → (e : EventId) (x : Event) (n : Name) → event_at s e ≡ Some x → is_barrier x ≡ true → Contains x.names n → ⊥
+barriers_name_nothing s prefixes e x n at barrier named =
     let there = record_there s e x at in
-    let group = group_of_event s fronts e x at in
-    let good = (fronts.each e.at.group group).good there.0 x there.1 in
+    let group = group_of_event s prefixes e x at in
+    let good = (prefixes.each e.at.group group).good there.0 x there.1 in
     clash x.kind x.word barrier (named_acquires x.kind x.names n named good.0.1)
   where
     clash : (kind : Kind) (word : ℕ) → is_some (mark_of_kind kind word) ≡ true → IsTrue (is_acquire_kind kind) → ⊥

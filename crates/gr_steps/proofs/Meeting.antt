@@ -7,7 +7,7 @@ use Rattle.gr_model.specs.Barriers.{IsConvergent, StandsIn, Together}
 use Rattle.gr_model.specs.Instances.{Mark}
 use Rattle.gr_model.specs.LawfulOrders.{IsAt, IsIn, IsLawful}
 use Rattle.gr_model.specs.Names.{HasName, names_of}
-use Rattle.gr_model.specs.Streams.{AreFronts, IsEvent, Streams}
+use Rattle.gr_model.specs.Streams.{ArePrefixes, IsEvent, Streams}
 use Rattle.gr_model.specs.Waits.{CanGo, IsPrevious, Waits, for_arrival, for_meeting, for_previous, for_release}
 use Rattle.gr_model.proofs.Places.{slice_get-append}
 use Rattle.gr_model.proofs.Cuts.{same_event}
@@ -16,7 +16,7 @@ use Rattle.gr_steps.proofs.BarrierPlaces.{barrier_of, barrier_there, moved, same
 use Rattle.gr_steps.proofs.EventRecords.{barriers_name_nothing}
 use Rattle.gr_steps.proofs.Orders.{at_behind, handled_before, number_before, split_last, there_is}
 
-module _ (s : Streams) (fronts : AreFronts s) (order : List EventId) (lawful : IsLawful s order) (g k : ℕ) (a : Mark) (meeting : IsMeeting s order g k a) (bs : List EventId) (are : AreBarriers s g k bs) where
+module _ (s : Streams) (prefixes : ArePrefixes s) (order : List EventId) (lawful : IsLawful s order) (g k : ℕ) (a : Mark) (meeting : IsMeeting s order g k a) (bs : List EventId) (are : AreBarriers s g k bs) where
   -- what stands in the longer order: what stood there, or one of the barriers
   abbrev IsOneOf : ℕ → EventId → Type 0
   IsOneOf p x = IsAt order p x ⊎ ((i : ℕ) × (p ≡ length order + i) × (slice_get bs i ≡ Some x))
@@ -24,7 +24,7 @@ module _ (s : Streams) (fronts : AreFronts s) (order : List EventId) (lawful : I
   no_name : (x : EventId) (n : Name) → StandsIn s x g k → HasName s x n → ⊥
   no_name x n stands named =
       let there = barrier_there s x g k stands in
-      barriers_name_nothing s fronts x there.0 n there.1 there.2 (subst (λ names. Contains names n) (ap names_of there.1) named)
+      barriers_name_nothing s prefixes x there.0 n there.1 there.2 (subst (λ names. Contains names n) (ap names_of there.1) named)
 
   met_event : (p : ℕ) (x : EventId) → IsOneOf p x → IsEvent s x × CanGo s x
   met_event p x (inl at) = lawful.event p x at

@@ -8,7 +8,7 @@ use Rattle.gr_model.proofs.Descent.{below_in_item, lawful_descends}
 
 -- ---- lists
 
--- an element of a list stands in its front, or so far behind it
+-- an element of a list stands in its prefix, or so far behind it
 pub split_last : {X : Type 0} (xs ys : List X) (p : ℕ) (x : X) → slice_get (xs ++ ys) p ≡ Some x → (slice_get xs p ≡ Some x) ⊎ ((i : ℕ) × (p ≡ length xs + i) × (slice_get ys i ≡ Some x))
 split_last [] ys p x at = inr (p, omega arith, at)
 split_last (y ∷ xs) ys zero x at = inl at

@@ -5,7 +5,7 @@ use Rattle.gr_model.specs.declared.event.EventId.{EventId}
 use Rattle.gr_model.specs.declared.event.ItemId.{ItemId}
 use Rattle.gr_model.specs.declared.event.Word.{Word}
 use Rattle.gr_model.specs.Shapes.{items_of}
-use Rattle.gr_model.specs.Streams.{Streams, AreFronts, AreComplete, Grows, IsEvent, trace_of}
+use Rattle.gr_model.specs.Streams.{Streams, ArePrefixes, AreComplete, Grows, IsEvent, trace_of}
 use Rattle.gr_model.specs.Waits.{IsGrounded}
 use Rattle.gr_model.specs.LawfulOrders.{IsLawful, IsIn}
 use Rattle.gr_model.specs.Races.{IsRacy}
@@ -21,7 +21,7 @@ abbrev pub HandleStaysLawful : Type 0
 HandleStaysLawful = (s : Streams) (old new : List EventId) (e : EventId) → IsLawful s old → Handles s old e new → IsLawful s new
 
 abbrev pub MeetStaysLawful : Type 0
-MeetStaysLawful = (s : Streams) (old new : List EventId) (g k : ℕ) → AreFronts s → IsLawful s old → Meets s old g k new → IsLawful s new
+MeetStaysLawful = (s : Streams) (old new : List EventId) (g k : ℕ) → ArePrefixes s → IsLawful s old → Meets s old g k new → IsLawful s new
 
 -- a lawful order is one where lists that are not complete grow
 abbrev pub GrowthStaysLawful : Type 0

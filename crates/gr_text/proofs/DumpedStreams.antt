@@ -69,7 +69,7 @@ stream_found place bytes fits x e = by_header (front_header_at bytes) refl e
         let spelled : bytes ≡ header_spelling h ++ events_spelling h.version es ++ after = hf.parts ∙ ap (λ (v : List ℕ). header_spelling h ++ v) ef.parts ∙ sym (append_assoc (header_spelling h) (events_spelling h.version es) after) in
         let one : StreamFound bytes (lines.Header h ∷ map lines.Event es, after) = record {
           stream = record { header = h; events = es };
-          whole = record { front = record { header = hf.header; runs = ef.runs; few = ef.few }; ended = ef.ended };
+          whole = record { prefix = record { header = hf.header; runs = ef.runs; few = ef.few }; ended = ef.ended };
           parts = refl;
           spelled = spelled;
           fits = ef.fits;

@@ -17,12 +17,12 @@ use Rattle.gr_lines.specs.declared.line.Line.TheVariants as lines
 use Rattle.gr_record.specs.declared.header.Version.{Version}
 use Rattle.gr_record.specs.declared.header.Version.TheVariants.{One}
 use Rattle.gr_record.specs.Versions.{places}
-use Rattle.gr_record.specs.FrontLaws.{Runs}
+use Rattle.gr_record.specs.PrefixLaws.{Runs}
 use Rattle.gr_lines.specs.LineLaws.{IsSaid}
 use Rattle.gr_lines.specs.LineReading.{line_said}
 use Rattle.gr_lines.specs.LineText.{line_text}
 use Rattle.gr_record.specs.Spelling.{IsHeader, IsRecord, header_spelling, event_spelling, events_spelling}
-use Rattle.gr_record.proofs.FoundFronts.{complete_behind}
+use Rattle.gr_record.proofs.FoundPrefixes.{complete_behind}
 use Rattle.gr_lines.proofs.LinesFound.{read_is_text}
 use Rattle.gr_text.specs.declared.place.Place.{Place}
 use Rattle.gr_text.specs.declared.place.Place.TheVariants.{Outside, Inside}
@@ -88,7 +88,7 @@ begins h xs ok r =
     let s : WholeStream = record { header = h; events = r.events } in
     record {
       streams = s ∷ r.streams;
-      whole = all_before IsWhole s r.streams (record { front = record { header = ok; runs = r.runs; few = r.few }; ended = r.complete }) r.whole;
+      whole = all_before IsWhole s r.streams (record { prefix = record { header = ok; runs = r.runs; few = r.few }; ended = r.complete }) r.whole;
       parts = ap (λ (v : List Line). lines.Header h ∷ v) r.parts;
     }
 
@@ -222,7 +222,7 @@ streams_bytes [] whole = refl
 streams_bytes (s ∷ ss) whole =
     let w = whole 0 s (omega arith) in
     let rest = streams_bytes ss (λ k d lt. whole (suc k) d (omega arith)) in
-    let one = events_bytes s.header s.events (flat_map parts_in ss) w.front.runs w.ended in
+    let one = events_bytes s.header s.events (flat_map parts_in ss) w.prefix.runs w.ended in
     ap (λ (v : List ℕ). header_spelling s.header ++ v) (one ∙ ap (λ (v : List ℕ). events_spelling s.header.version s.events ++ v) rest)
     ∙ sym (append_assoc (header_spelling s.header) (events_spelling s.header.version s.events) (bytes_of ss))
 

@@ -24,11 +24,11 @@ use Rattle.gr_model.specs.Events.{IsNamingOk, is_end}
 use Rattle.gr_model.specs.Streams.{is_complete}
 use Rattle.gr_lines.specs.declared.line.Line.{Line}
 use Rattle.gr_lines.specs.declared.line.Line.TheVariants as lines
-use Rattle.gr_record.specs.FrontLaws.{Runs}
+use Rattle.gr_record.specs.PrefixLaws.{Runs}
 use Rattle.gr_lines.specs.LineLaws.{IsSaid}
 use Rattle.gr_lines.specs.LineText.{line_text, space_word, scope_word, order_word, flags_word, version_words, name_words, names_words, atomic_words, first_word, later_words, later_text, header_words}
 use Rattle.gr_record.specs.Spelling.{IsEvent}
-use Rattle.gr_record.proofs.FoundFronts.{complete_behind}
+use Rattle.gr_record.proofs.FoundPrefixes.{complete_behind}
 use Rattle.gr_lines.proofs.LineWords.{are_digits, decimal_digits}
 use Rattle.gr_lines.proofs.LinesAgain.{text_is_read}
 use Rattle.gr_text.specs.declared.place.Place.TheVariants.{Outside, Inside}
@@ -167,7 +167,7 @@ streams_said : (ss : List WholeStream) → All IsWhole ss → AreSaid (flat_map 
 streams_said [] whole = tt
 streams_said (s ∷ ss) whole =
     let w = whole 0 s (omega arith) in
-    (w.front.header, said-append (map lines.Event s.events) (flat_map parts_in ss) (events_said s.header s.events w.front.header.items w.front.runs) (streams_said ss (λ k d lt. whole (suc k) d (omega arith))))
+    (w.prefix.header, said-append (map lines.Event s.events) (flat_map parts_in ss) (events_said s.header s.events w.prefix.header.items w.prefix.runs) (streams_said ss (λ k d lt. whole (suc k) d (omega arith))))
 
 -- ---- line by line
 
@@ -194,8 +194,8 @@ unfolding said_from
 streams_back [] n whole = refl
 streams_back (s ∷ ss) n whole =
     let w = whole 0 s (omega arith) in
-    let read = text_is_read (lines.Header s.header) w.front.header in
-    let later = events_back s.events (n + 1) s.header MOST_RECORDS (flat_map parts_in ss) w.front.header.items w.front.runs w.ended w.front.few (λ m. streams_back ss m (λ k d lt. whole (suc k) d (omega arith))) in
+    let read = text_is_read (lines.Header s.header) w.prefix.header in
+    let later = events_back s.events (n + 1) s.header MOST_RECORDS (flat_map parts_in ss) w.prefix.header.items w.prefix.runs w.ended w.prefix.few (λ m. streams_back ss m (λ k d lt. whole (suc k) d (omega arith))) in
     rw (read, later) refl
 
 pub whole_streams_are_packed : WholeStreamsArePacked

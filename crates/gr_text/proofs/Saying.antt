@@ -95,11 +95,11 @@ taken_has_room n (Inside g left) (Some (lines.Event e)) = record_room n g left e
 
 -- bytes before those of what the lines from a place on say
 abbrev pub bytes_behind : List ℕ → Version → Result (List Line) Fault → Result (List ℕ) Fault
-bytes_behind front v r = r >>= λ xs. Ok (front ++ lines_bytes v xs)
+bytes_behind prefix v r = r >>= λ xs. Ok (prefix ++ lines_bytes v xs)
 
-regroup : (front : List ℕ) (v : Version) (x : Line) (r : Result (List Line) Fault) → bytes_behind front v (r >>= λ xs. Ok (x ∷ xs)) ≡ bytes_behind (front ++ line_bytes v x) (version_behind v x) r
-regroup front v x (Ok xs) = ap (λ (w : List ℕ). Ok w) (sym (append_assoc front (line_bytes v x) (lines_bytes (version_behind v x) xs)))
-regroup front v x (Err f) = refl
+regroup : (prefix : List ℕ) (v : Version) (x : Line) (r : Result (List Line) Fault) → bytes_behind prefix v (r >>= λ xs. Ok (x ∷ xs)) ≡ bytes_behind (prefix ++ line_bytes v x) (version_behind v x) r
+regroup prefix v x (Ok xs) = ap (λ (w : List ℕ). Ok w) (sym (append_assoc prefix (line_bytes v x) (lines_bytes (version_behind v x) xs)))
+regroup prefix v x (Err f) = refl
 
 -- a line leads to a place in a stream of the version behind it
 leads_to : (n : ℕ) (place : Place) (said : Option Line) (x : Line) (behind : Place) → line_at n place said ≡ Ok (x, behind) → version_behind (version_at place) x ≡ version_at behind
@@ -124,23 +124,23 @@ leads_to n (Inside h left) (Some (lines.Event e)) x behind k = by_item (nat_le h
     by_item true k = cc
     by_item false k = by_room (left == 0) k
 
-module _ (front : List ℕ) (n : ℕ) (place : Place) (total : Result (List ℕ) Fault) where
-  pub over_outside : bytes_behind front (version_at place) (said_from n place []) ≡ total → place ≡ Outside → total ≡ Ok front
+module _ (prefix : List ℕ) (n : ℕ) (place : Place) (total : Result (List ℕ) Fault) where
+  pub over_outside : bytes_behind prefix (version_at place) (said_from n place []) ≡ total → place ≡ Outside → total ≡ Ok prefix
   unfolding said_from
-  over_outside so_far is = sym so_far ∙ rw is (ap (λ (v : List ℕ). Ok v) (append-nil front))
+  over_outside so_far is = sym so_far ∙ rw is (ap (λ (v : List ℕ). Ok v) (append-nil prefix))
 
-  pub over_inside : (h : Header) (left : ℕ) → bytes_behind front (version_at place) (said_from n place []) ≡ total → place ≡ Inside h left → total ≡ Err faults.NoEnd
+  pub over_inside : (h : Header) (left : ℕ) → bytes_behind prefix (version_at place) (said_from n place []) ≡ total → place ≡ Inside h left → total ≡ Err faults.NoEnd
   unfolding said_from
   over_inside h left so_far is = sym so_far ∙ rw is refl
 
-  module _ (line : List ℕ) (ls : List (List ℕ)) (so_far : bytes_behind front (version_at place) (said_from n place (line ∷ ls)) ≡ total) where
+  module _ (line : List ℕ) (ls : List (List ℕ)) (so_far : bytes_behind prefix (version_at place) (said_from n place (line ∷ ls)) ≡ total) where
     pub line_fails : (f : Fault) → line_at n place (line_said line) ≡ Err f → total ≡ Err f
     unfolding said_from
     line_fails f is = sym so_far ∙ rw is refl
 
-    pub line_goes_on : (x : Line) (behind : Place) → line_at n place (line_said line) ≡ Ok (x, behind) → bytes_behind (front ++ line_bytes (version_at place) x) (version_at behind) (said_from (n + 1) behind ls) ≡ total
+    pub line_goes_on : (x : Line) (behind : Place) → line_at n place (line_said line) ≡ Ok (x, behind) → bytes_behind (prefix ++ line_bytes (version_at place) x) (version_at behind) (said_from (n + 1) behind ls) ≡ total
     unfolding said_from
     line_goes_on x behind is =
         let v = version_at place in
-        let one : bytes_behind front v (said_from n place (line ∷ ls)) ≡ bytes_behind front v (said_from (n + 1) behind ls >>= λ xs. Ok (x ∷ xs)) = rw is refl in
-        rw (← leads_to n place (line_said line) x behind is) (sym (regroup front v x (said_from (n + 1) behind ls)) ∙ (sym one ∙ so_far))
+        let one : bytes_behind prefix v (said_from n place (line ∷ ls)) ≡ bytes_behind prefix v (said_from (n + 1) behind ls >>= λ xs. Ok (x ∷ xs)) = rw is refl in
+        rw (← leads_to n place (line_said line) x behind is) (sym (regroup prefix v x (said_from (n + 1) behind ls)) ∙ (sym one ∙ so_far))

@@ -14,11 +14,11 @@ use Rattle.gr_record.specs.declared.layout.TheConstants.{HEADER_LENGTH}
 use Rattle.gr_record.specs.Versions.{record_length}
 use Rattle.gr_record.specs.declared.stop.Stop.TheVariants.{AtEnd}
 use Rattle.gr_record.specs.Fronts.{Records, behind, step, records_of}
-use Rattle.gr_record.specs.FrontLaws.{Runs}
+use Rattle.gr_record.specs.PrefixLaws.{Runs}
 use Rattle.gr_record.specs.Reading.{event_at}
 use Rattle.gr_record.specs.Spelling.{IsHeader, event_spelling, events_spelling, header_spelling}
 use Rattle.gr_record.specs.WholeStreams.{front_header_at, front_records_at, stream_spelling}
-use Rattle.gr_record.proofs.FoundFronts.{complete_behind}
+use Rattle.gr_record.proofs.FoundPrefixes.{complete_behind}
 use Rattle.gr_record.proofs.Loop.{next}
 use Rattle.gr_record.proofs.Spelled.{spelled_is_read, spelled_header_is_read, spelling_length}
 use Rattle.gr_text.specs.Dumps.{stream_at, streams_at, dumped}
@@ -38,19 +38,19 @@ module _ (h : Header) (few : h.items ≤ MOST_ITEMS_OF_A_GROUP) where
   records_before (e ∷ es) zero rest runs complete le = absurd (omega arith)
   records_before (e ∷ es) (suc most) rest runs complete le =
       let len = spelling_length h.version e in
-      let front : List ℕ = event_spelling h.version e in
+      let prefix : List ℕ = event_spelling h.version e in
       let more : List ℕ = events_spelling h.version es ++ rest in
-      let long : size ≤ length (front ++ more) = omega (arith, length-append front more, len) in
-      let is : event_at h front ≡ Ok e = rw (append-nil front) at (spelled_is_read h e [] few runs.0) in
-      let here : records_of h (suc most) (front ++ more) ≡ step size (Ok e) (front ++ more) (records_of h most more)
-      = next size (event_at h) most (front ++ more) long
-      ∙ ap (λ (x : Result Event RecordError). step size x (front ++ more) (records_of h most (drop size (front ++ more)))) (ap (event_at h) (take_at front more size len) ∙ is)
-      ∙ ap (λ (x : List ℕ). step size (Ok e) (front ++ more) (records_of h most x)) (drop_at front more size len) in
-      rw (append_assoc front (events_spelling h.version es) rest)
+      let long : size ≤ length (prefix ++ more) = omega (arith, length-append prefix more, len) in
+      let is : event_at h prefix ≡ Ok e = rw (append-nil prefix) at (spelled_is_read h e [] few runs.0) in
+      let here : records_of h (suc most) (prefix ++ more) ≡ step size (Ok e) (prefix ++ more) (records_of h most more)
+      = next size (event_at h) most (prefix ++ more) long
+      ∙ ap (λ (x : Result Event RecordError). step size x (prefix ++ more) (records_of h most (drop size (prefix ++ more)))) (ap (event_at h) (take_at prefix more size len) ∙ is)
+      ∙ ap (λ (x : List ℕ). step size (Ok e) (prefix ++ more) (records_of h most x)) (drop_at prefix more size len) in
+      rw (append_assoc prefix (events_spelling h.version es) rest)
       (elim (cases_Bool (is_end e)) [
         | inl end ↦
             let none : es ≡ [] = runs.1 end in
-            here ∙ rw (end, drop_at front more size len, none) refl
+            here ∙ rw (end, drop_at prefix more size len, none) refl
         | inr on ↦
             let ih = records_before es most rest runs.2 (sym (complete_behind e es on) ∙ complete) (omega arith) in
             here ∙ rw on (ap (behind e) ih)
@@ -69,9 +69,9 @@ header_before h rest ok =
 stream_before : (place : ℕ) (s : WholeStream) (rest : List ℕ) → IsWhole s → stream_at place (stream_spelling s.header s.events ++ rest) ≡ Ok (parts_in s, rest)
 unfolding stream_at
 stream_before place s rest whole =
-    let front = whole.front in
-    let records = events_before s.header front.header.items s.events rest front.runs whole.ended front.few in
-    rw (append_assoc (header_spelling s.header) (events_spelling s.header.version s.events) rest, header_before s.header (events_spelling s.header.version s.events ++ rest) front.header, records) refl
+    let prefix = whole.prefix in
+    let records = events_before s.header prefix.header.items s.events rest prefix.runs whole.ended prefix.few in
+    rw (append_assoc (header_spelling s.header) (events_spelling s.header.version s.events) rest, header_before s.header (events_spelling s.header.version s.events ++ rest) prefix.header, records) refl
 
 pub streams_before : (ss : List WholeStream) (most place : ℕ) → All IsWhole ss → length (bytes_of ss) ≤ most → streams_at most place (bytes_of ss) ≡ Ok (flat_map parts_in ss)
 unfolding streams_at

@@ -23,14 +23,14 @@ use Rattle.gr_record.specs.declared.stop.Stop.{Stop}
 use Rattle.gr_record.specs.declared.stop.Stop.TheVariants.{Inside, AtEnd, AtFault}
 use Rattle.gr_record.specs.Faults.{stream_fault}
 use Rattle.gr_record.specs.Fronts.{Records, records_of}
-use Rattle.gr_record.specs.FrontLaws.{Runs}
+use Rattle.gr_record.specs.PrefixLaws.{Runs}
 use Rattle.gr_record.specs.Laws.{AreBytes}
 use Rattle.gr_record.specs.Reading.{header_at}
 use Rattle.gr_record.specs.Spelling.{IsHeader, header_spelling, events_spelling}
 use Rattle.gr_record.specs.WholeStreams as record_spec
 use Rattle.gr_record.specs.WholeStreams.{front_header_at, front_records_at, up_to}
 use Rattle.gr_record.proofs.Found.{read_header_is_spelled}
-use Rattle.gr_record.proofs.FoundFronts.{records_found}
+use Rattle.gr_record.proofs.FoundPrefixes.{records_found}
 use Rattle.gr_record.proofs.Places.{bytes_drop}
 use Rattle.std.proofs.lemmas.List.{take-append-drop}
 use Rattle.gr_text.specs.declared.forming.Form.{Form}
@@ -122,16 +122,16 @@ runs_have_lines h few (e ∷ es) runs (suc k) d lt = runs_have_lines h few es ru
 
 -- a text before that of what the streams say
 abbrev pub texts_behind : Form → List ℕ → Result (List Line) Fault → Result (List ℕ) Fault
-texts_behind form front r = r >>= λ xs. Ok (front ++ flat_map (formed form) xs)
+texts_behind form prefix r = r >>= λ xs. Ok (prefix ++ flat_map (formed form) xs)
 
 pub nothing_left : (most place : ℕ) (bytes : List ℕ) → (length bytes == 0) ≡ true → streams_at most place bytes ≡ Ok []
 unfolding streams_at
 nothing_left zero place bytes e = refl
 nothing_left (suc most) place bytes e = rw e refl
 
-regroup : (form : Form) (front : List ℕ) (xs : List Line) (r : Result (List Line) Fault) → texts_behind form front (r >>= λ ys. Ok (xs ++ ys)) ≡ texts_behind form (front ++ flat_map (formed form) xs) r
-regroup form front xs (Ok ys) = ap (λ (v : List ℕ). Ok v) (ap (λ (v : List ℕ). front ++ v) (flat_map-append (formed form) xs ys) ∙ sym (append_assoc front (flat_map (formed form) xs) (flat_map (formed form) ys)))
-regroup form front xs (Err f) = refl
+regroup : (form : Form) (prefix : List ℕ) (xs : List Line) (r : Result (List Line) Fault) → texts_behind form prefix (r >>= λ ys. Ok (xs ++ ys)) ≡ texts_behind form (prefix ++ flat_map (formed form) xs) r
+regroup form prefix xs (Ok ys) = ap (λ (v : List ℕ). Ok v) (ap (λ (v : List ℕ). prefix ++ v) (flat_map-append (formed form) xs ys) ∙ sym (append_assoc prefix (flat_map (formed form) xs) (flat_map (formed form) ys)))
+regroup form prefix xs (Err f) = refl
 
 abbrev pair : List ℕ × List ℕ → Result (List ℕ × List ℕ) Fault
 pair x = Ok x
@@ -139,38 +139,38 @@ pair x = Ok x
 same_pair : (x y : List ℕ × List ℕ) → pair x ≡ pair y → x ≡ y
 same_pair x y e = cc
 
-module _ (form : Form) (front : List ℕ) (stop i : ℕ) (bytes : List ℕ) (total : Result (List ℕ) Fault) (so_far : texts_behind form front (streams_at (stop - i) i bytes) ≡ total) where
-  pub ends : (length bytes == 0) ≡ true → total ≡ Ok front
-  ends e = sym so_far ∙ rw (nothing_left (stop - i) i bytes e) (ap (λ (v : List ℕ). Ok v) (append-nil front))
+module _ (form : Form) (prefix : List ℕ) (stop i : ℕ) (bytes : List ℕ) (total : Result (List ℕ) Fault) (so_far : texts_behind form prefix (streams_at (stop - i) i bytes) ≡ total) where
+  pub ends : (length bytes == 0) ≡ true → total ≡ Ok prefix
+  ends e = sym so_far ∙ rw (nothing_left (stop - i) i bytes e) (ap (λ (v : List ℕ). Ok v) (append-nil prefix))
 
-  pub is_full : stop ≤ i → total ≡ Ok front
+  pub is_full : stop ≤ i → total ≡ Ok prefix
   unfolding streams_at
   is_full le =
       let k : stop - i ≡ 0 = omega arith in
-      let one : texts_behind form front (streams_at (stop - i) i bytes) ≡ Ok front = rw k (ap (λ (v : List ℕ). Ok v) (append-nil front)) in
+      let one : texts_behind form prefix (streams_at (stop - i) i bytes) ≡ Ok prefix = rw k (ap (λ (v : List ℕ). Ok v) (append-nil prefix)) in
       sym so_far ∙ one
 
   module _ (lt : i < stop) (some : (length bytes == 0) ≡ false) where
-    step : (s : Result (List Line × List ℕ) Fault) → stream_at i bytes ≡ s → texts_behind form front (s >>= λ x. streams_at (stop - (i + 1)) (i + 1) x.1 >>= λ xs. Ok (x.0 ++ xs)) ≡ total
+    step : (s : Result (List Line × List ℕ) Fault) → stream_at i bytes ≡ s → texts_behind form prefix (s >>= λ x. streams_at (stop - (i + 1)) (i + 1) x.1 >>= λ xs. Ok (x.0 ++ xs)) ≡ total
     unfolding streams_at
     step s is =
         let k : stop - i ≡ suc (stop - (i + 1)) = omega arith in
-        let one : texts_behind form front (streams_at (stop - i) i bytes) ≡ texts_behind form front (s >>= λ x. streams_at (stop - (i + 1)) (i + 1) x.1 >>= λ xs. Ok (x.0 ++ xs)) = rw (k, some, is) refl in
+        let one : texts_behind form prefix (streams_at (stop - i) i bytes) ≡ texts_behind form prefix (s >>= λ x. streams_at (stop - (i + 1)) (i + 1) x.1 >>= λ xs. Ok (x.0 ++ xs)) = rw (k, some, is) refl in
         sym one ∙ so_far
 
-    pub stream_fails : (f : Fault) → Fails f (with_stream form front (stream_at i bytes)) → Fails f total
-    stream_fails f h = fails_through f (with_stream form front (stream_at i bytes)) total h (λ e. by_stream (stream_at i bytes) refl e)
+    pub stream_fails : (f : Fault) → Fails f (with_stream form prefix (stream_at i bytes)) → Fails f total
+    stream_fails f h = fails_through f (with_stream form prefix (stream_at i bytes)) total h (λ e. by_stream (stream_at i bytes) refl e)
       where
-        by_stream : (s : Result (List Line × List ℕ) Fault) → stream_at i bytes ≡ s → with_stream form front s ≡ Err f → total ≡ Err f
+        by_stream : (s : Result (List Line × List ℕ) Fault) → stream_at i bytes ≡ s → with_stream form prefix s ≡ Err f → total ≡ Err f
         by_stream (Ok x) is k = cc
         by_stream (Err d) is k = let same : d ≡ f = cc in sym (step (Err d) is) ∙ ap (λ (v : Fault). Err v) same
 
-    pub goes_on : (text after : List ℕ) → with_stream form front (stream_at i bytes) ≡ Ok (text, after) → texts_behind form text (streams_at (stop - (i + 1)) (i + 1) after) ≡ total
+    pub goes_on : (text after : List ℕ) → with_stream form prefix (stream_at i bytes) ≡ Ok (text, after) → texts_behind form text (streams_at (stop - (i + 1)) (i + 1) after) ≡ total
     goes_on text after e = by_stream (stream_at i bytes) refl e
       where
-        by_stream : (s : Result (List Line × List ℕ) Fault) → stream_at i bytes ≡ s → with_stream form front s ≡ Ok (text, after) → texts_behind form text (streams_at (stop - (i + 1)) (i + 1) after) ≡ total
+        by_stream : (s : Result (List Line × List ℕ) Fault) → stream_at i bytes ≡ s → with_stream form prefix s ≡ Ok (text, after) → texts_behind form text (streams_at (stop - (i + 1)) (i + 1) after) ≡ total
         by_stream (Err d) is k = cc
         by_stream (Ok (xs, rest)) is k =
-            let same = same_pair (front ++ flat_map (formed form) xs, rest) (text, after) k in
+            let same = same_pair (prefix ++ flat_map (formed form) xs, rest) (text, after) k in
             subst (λ (y : List ℕ × List ℕ). texts_behind form y.0 (streams_at (stop - (i + 1)) (i + 1) y.1) ≡ total) same
-            (sym (regroup form front xs (streams_at (stop - (i + 1)) (i + 1) rest)) ∙ step (Ok (xs, rest)) is)
+            (sym (regroup form prefix xs (streams_at (stop - (i + 1)) (i + 1) rest)) ∙ step (Ok (xs, rest)) is)

@@ -6,7 +6,7 @@ use Rattle.gr_model.specs.declared.event.Event.{Event}
 use Rattle.gr_record.specs.declared.fault.Fault.{Fault}
 use Rattle.gr_record.specs.declared.header.Header.{Header}
 use Rattle.gr_record.specs.declared.header.Version.TheVariants.{Two}
-use Rattle.gr_record.specs.FrontLaws.{Runs}
+use Rattle.gr_record.specs.PrefixLaws.{Runs}
 use Rattle.gr_record.specs.Laws.{AreBytes}
 use Rattle.gr_record.specs.Spelling.{event_spelling, events_spelling, header_spelling}
 use Rattle.gr_record.proofs.Places.{few_names}
@@ -26,9 +26,9 @@ runs_upgraded h (e ∷ es) runs = (record { event = runs.0.event; names = few_na
 
 whole_upgraded : (s : WholeStream) → IsWhole s → IsWhole (upgraded_stream s)
 whole_upgraded s w =
-    let f = w.front in
+    let f = w.prefix in
     record {
-      front = record { header = record { group = f.header.group; some = f.header.some; items = f.header.items; launch = f.header.launch }; runs = runs_upgraded s.header s.events f.runs; few = f.few };
+      prefix = record { header = record { group = f.header.group; some = f.header.some; items = f.header.items; launch = f.header.launch }; runs = runs_upgraded s.header s.events f.runs; few = f.few };
       ended = w.ended;
     }
 

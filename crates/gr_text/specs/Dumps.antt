@@ -67,4 +67,4 @@ upgraded bytes = formed_of Long bytes
 
 -- what was written, with a stream in this form, and the bytes after the stream
 abbrev pub with_stream : Form → List ℕ → Result (List Line × List ℕ) Fault → Result (List ℕ × List ℕ) Fault
-with_stream form front s = s >>= λ x. Ok (front ++ flat_map (formed form) x.0, x.1)
+with_stream form prefix s = s >>= λ x. Ok (prefix ++ flat_map (formed form) x.0, x.1)

@@ -8,7 +8,7 @@ use Rattle.gr_model.specs.Streams.{is_complete}
 use Rattle.gr_record.specs.declared.header.Header.{Header}
 use Rattle.gr_lines.specs.declared.line.Line.{Line}
 use Rattle.gr_lines.specs.declared.line.Line.TheVariants as lines
-use Rattle.gr_record.specs.FrontLaws.{IsFront}
+use Rattle.gr_record.specs.PrefixLaws.{IsPrefix}
 use Rattle.gr_record.specs.Laws.{AreBytes}
 use Rattle.gr_record.specs.WholeStreams.{stream_spelling}
 use Rattle.gr_text.specs.Texts.{packed, whole_line}
@@ -21,7 +21,7 @@ pub record WholeStream : Type 0 where
 
 -- all in range and not too many, and the last record is an end, and no other
 pub record IsWhole (s : WholeStream) : Type 0 where
-  pub front : IsFront MOST_RECORDS s.header s.events
+  pub prefix : IsPrefix MOST_RECORDS s.header s.events
   pub ended : IsTrue (is_complete s.events)
 
 abbrev pub parts_in : WholeStream → List Line

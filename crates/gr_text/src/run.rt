@@ -4,10 +4,10 @@ ghost use Rattle.std.specs.Prelude.{◌≡◌, ◌≢◌, IfErr, IfSome, OnOk};
 ghost use Rattle.std.specs.Io.KnownBytes.{Appends, Keeps};
 ghost use Rattle.gr_input.specs.Faults.{Fails};
 ghost use Rattle.gr_record.specs.declared.fault.Fault.TheVariants as faults;
-ghost use Rattle.gr_report.specs.Putting.{AppendsFront};
+ghost use Rattle.gr_report.specs.Putting.{AppendsPrefix};
 ghost use Rattle.gr_text.specs.Texts.{packed};
 ghost use Rattle.gr_text.specs.Dumps.{dumped, upgraded};
-ghost use Rattle.gr_text.specs.Writes.{Writes, WritesFront};
+ghost use Rattle.gr_text.specs.Writes.{Writes, WritesPrefix};
 
 use crate::forming::{Form, formed_bytes};
 use crate::packing::pack_text;
@@ -20,7 +20,7 @@ use std::io::{Read, Write};
 /// Writes the bytes, and flushes.
 fn write_all<W: Write>(writer: &mut W, bytes: &[u8]) -> Result<(), Fault>
     ensures whole { OnOk result (Appends (W.contents writer.old) (W.contents writer.new) bytes.now) }
-    ensures front { IfErr result (λ _. AppendsFront (W.contents writer.old) (W.contents writer.new) bytes.now) }
+    ensures prefix { IfErr result (λ _. AppendsPrefix (W.contents writer.old) (W.contents writer.new) bytes.now) }
     ensures fault { IfErr result (λ f. f ≡ faults.Write) }
 {
     match put(writer, bytes) {
@@ -61,7 +61,7 @@ pub fn pack<A: Allocator + Copy, T: Read, W: Write>(
 
     // What a refusal leaves with the writer.
     ensures untouched { IfErr result (λ f. f ≢ faults.Write → Keeps (W.contents writer.old) (W.contents writer.new)) }
-    ensures front { IfErr result (λ f. f ≡ faults.Write → IfSome (T.remaining reader.old) (λ text. WritesFront (packed text) (W.contents writer.old) (W.contents writer.new))) }
+    ensures prefix { IfErr result (λ f. f ≡ faults.Write → IfSome (T.remaining reader.old) (λ text. WritesPrefix (packed text) (W.contents writer.old) (W.contents writer.new))) }
 {
     let text = read_all(alloc, reader)?;
     let bytes = pack_text(alloc, text.as_slice())?;
@@ -84,7 +84,7 @@ pub fn dump<A: Allocator + Copy, T: Read, W: Write>(
 
     // What a refusal leaves with the writer.
     ensures untouched { IfErr result (λ f. f ≢ faults.Write → Keeps (W.contents writer.old) (W.contents writer.new)) }
-    ensures front { IfErr result (λ f. f ≡ faults.Write → IfSome (T.remaining reader.old) (λ bytes. WritesFront (dumped bytes) (W.contents writer.old) (W.contents writer.new))) }
+    ensures prefix { IfErr result (λ f. f ≡ faults.Write → IfSome (T.remaining reader.old) (λ bytes. WritesPrefix (dumped bytes) (W.contents writer.old) (W.contents writer.new))) }
 {
     let bytes = read_all(alloc, reader)?;
     let text = formed_bytes(alloc, Form::Text, bytes.as_slice())?;
@@ -108,7 +108,7 @@ pub fn upgrade<A: Allocator + Copy, T: Read, W: Write>(
 
     // What a refusal leaves with the writer.
     ensures untouched { IfErr result (λ f. f ≢ faults.Write → Keeps (W.contents writer.old) (W.contents writer.new)) }
-    ensures front { IfErr result (λ f. f ≡ faults.Write → IfSome (T.remaining reader.old) (λ bytes. WritesFront (upgraded bytes) (W.contents writer.old) (W.contents writer.new))) }
+    ensures prefix { IfErr result (λ f. f ≡ faults.Write → IfSome (T.remaining reader.old) (λ bytes. WritesPrefix (upgraded bytes) (W.contents writer.old) (W.contents writer.new))) }
 {
     let bytes = read_all(alloc, reader)?;
     let long = formed_bytes(alloc, Form::Long, bytes.as_slice())?;

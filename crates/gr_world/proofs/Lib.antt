@@ -1,6 +1,6 @@
 pub mod SendLemmas
 pub mod TakeLemmas
-pub mod WayLemmas
+pub mod InFlightLemmas
 pub mod RestLemmas
 pub mod NewLemmas
 pub mod ReceivedHits

@@ -7,7 +7,7 @@ use Rattle.std.specs.Prelude.{Contains}
 use Rattle.gr_model.specs.declared.event.Event.{Event}
 use Rattle.gr_model.specs.declared.event.Sent.{Sent}
 use Rattle.gr_model.specs.Configs.{IsConfig, Settings}
-use Rattle.gr_model.specs.Streams.{AreFronts, events_of, list_of}
+use Rattle.gr_model.specs.Streams.{ArePrefixes, events_of, list_of}
 use Rattle.gr_steps.proofs.Orders.{lawful_empty}
 use Rattle.gr_hits.specs.Accesses.{of_none}
 use Rattle.gr_lanes.specs.Takes.{nothing_taken}
@@ -19,7 +19,7 @@ none_sent [] g = refl
 none_sent (n ∷ sizes) zero = refl
 none_sent (n ∷ sizes) (suc g) = none_sent sizes g
 
-module _ (sizes : List ℕ) (config : Settings) (fronts : AreFronts (nothing_taken sizes)) (ok : IsConfig config) where
+module _ (sizes : List ℕ) (config : Settings) (prefixes : ArePrefixes (nothing_taken sizes)) (ok : IsConfig config) where
   abbrev w : World
   w = new_world sizes config
 
@@ -37,13 +37,13 @@ module _ (sizes : List ℕ) (config : Settings) (fronts : AreFronts (nothing_tak
   pub new_is_world : IsWorld (new_world sizes config)
   new_is_world = record {
     config = ok;
-    sent = fronts;
+    sent = prefixes;
     room = λ g unclosed. omega (arith, ap length (none_sent sizes g));
-    sequence = record { fronts = fronts; lawful = lawful_empty (nothing_taken sizes) };
+    sequence = record { prefixes = prefixes; lawful = lawful_empty (nothing_taken sizes) };
     sizes = refl;
     queues = length-replicate config.queues (empty_queue config.capacity);
     intakes = λ q lt. ap (λ (b : Bounded Sent). b.places) (intake_is q lt);
-    crew = length-replicate config.workers (no_work config.capacity);
+    worker_count = length-replicate config.workers (no_work config.capacity);
     workers = λ k lt. ap (λ (x : Work). x.queue.places) (work_is k lt);
     delivered = record {
       whole = λ g. none_sent sizes g ∙ sym (ap (λ (l : List Event). l ++ events_of g (intake_at w (g % config.queues)).items) (none_sent sizes g) ∙ ap (events_of g) (none_queued (g % config.queues)));
@@ -57,5 +57,5 @@ module _ (sizes : List ℕ) (config : Settings) (fronts : AreFronts (nothing_tak
   }
 
 -- the same, where its parts are told by equations
-pub newly_made : (w : World) (sizes : List ℕ) (config : Settings) → w ≡ new_world sizes config → AreFronts (nothing_taken sizes) → IsConfig config → IsWorld w
-newly_made w sizes config is fronts ok = subst IsWorld (sym is) (new_is_world sizes config fronts ok)
+pub newly_made : (w : World) (sizes : List ℕ) (config : Settings) → w ≡ new_world sizes config → ArePrefixes (nothing_taken sizes) → IsConfig config → IsWorld w
+newly_made w sizes config is prefixes ok = subst IsWorld (sym is) (new_is_world sizes config prefixes ok)

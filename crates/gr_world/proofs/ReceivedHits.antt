@@ -11,11 +11,11 @@ use Rattle.gr_model.proofs.RaceGrowth.{races_stay}
 use Rattle.gr_steps.proofs.EventRecords.{filter-there}
 use Rattle.gr_shadow.specs.Clashes.{ClockedAccess, IsHitIn, clashes}
 use Rattle.gr_hits.proofs.Clashing.{lawful_hits_are_races}
-use Rattle.gr_world.specs.Worlds.{IsPassedOn, IsWorld, World, accesses_for, way_list, work_at, worker_of}
+use Rattle.gr_world.specs.Worlds.{IsPassedOn, IsWorld, World, accesses_for, in_flight_list, work_at, worker_of}
 
 -- a word that is hit in the front of a list is hit in the list
-hit_in_front : (xs ys : List ClockedAccess) (v : Word) → IsHitIn xs v → IsHitIn (xs ++ ys) v
-hit_in_front xs ys v (p, q, x, y, before, first, second, clash) =
+hit_in_prefix : (xs ys : List ClockedAccess) (v : Word) → IsHitIn xs v → IsHitIn (xs ++ ys) v
+hit_in_prefix xs ys v (p, q, x, y, before, first, second, clash) =
     (p, q, x, y, before, slice_get-append xs ys p x first, slice_get-append xs ys q y second, clash)
 
 -- a word that is hit in the accesses that go to a worker goes to the worker
@@ -28,8 +28,8 @@ hit_goes w k v accesses (p, q, x, y, before, first, second, clash) =
 received_hit_is_hit : (w : World) (k : ℕ) (v : Word) (accesses : List ClockedAccess) → IsPassedOn w accesses k → IsHitIn (work_at w k).received v → IsHitIn accesses v
 received_hit_is_hit w k v accesses passed hit =
     let work = work_at w k in
-    let front : IsHitIn (work.received ++ work.queue.items) v = hit_in_front work.received work.queue.items v hit in
-    let whole = hit_in_front (work.received ++ work.queue.items) (accesses_for w k (way_list w.way)) v front in
+    let front : IsHitIn (work.received ++ work.queue.items) v = hit_in_prefix work.received work.queue.items v hit in
+    let whole = hit_in_prefix (work.received ++ work.queue.items) (accesses_for w k (in_flight_list w.in_flight)) v front in
     let mine : IsHitIn (accesses_for w k accesses) v = subst (λ (xs : List ClockedAccess). IsHitIn xs v) (sym passed) whole in
     (IsHit-filter (λ (x : ClockedAccess). x.word) clashes (λ u. worker_number u w.config.workers == k) accesses v (hit_goes w k v accesses mine)).1 mine
 

@@ -14,11 +14,11 @@ use Rattle.gr_steps.specs.Steps.{IsAtRest}
 use Rattle.gr_hits.proofs.Clashing.{whole_hits_are_races}
 use Rattle.gr_order.specs.Sequences.{IsDone}
 use Rattle.gr_world.proofs.ReceivedHits.{hit_goes}
-use Rattle.gr_world.proofs.WayLemmas.{word_below}
+use Rattle.gr_world.proofs.InFlightLemmas.{word_below}
 use Rattle.gr_shadow.specs.Clashes.{ClockedAccess, IsHitIn, clashes}
 use Rattle.gr_world.specs.Queues.{Bounded, Work, no_work}
 use Rattle.gr_world.specs.Resting.{AreEmpty, AreIdle, IsHitAtWork}
-use Rattle.gr_world.specs.Worlds.{IsWorld, IsWorldAtRest, World, accesses_for, intake_at, no_queue, way_list, work_at}
+use Rattle.gr_world.specs.Worlds.{IsWorld, IsWorldAtRest, World, accesses_for, intake_at, no_queue, in_flight_list, work_at}
 
 -- ---- queues that hold nothing
 
@@ -42,17 +42,17 @@ all_idle w idle k d lt = ap (λ (x : Work). x.queue.items) (get_or_default w.wor
 pub drained_is_sent : (w : World) → IsWorld w → ((q : ℕ) → (intake_at w q).items ≡ []) → w.sequence.taken ≡ w.sent
 drained_is_sent w world empty =
     let lists : w.sequence.taken.lists ≡ w.sent.lists = ext_get_or [] w.sequence.taken.lists w.sent.lists
-    (world.sequence.fronts.count ∙ (ap length world.sizes ∙ sym world.sent.count))
+    (world.sequence.prefixes.count ∙ (ap length world.sizes ∙ sym world.sent.count))
     (λ g lt. sym (world.delivered.whole g
     ∙ (ap (λ l. list_of w.sequence.taken g ++ events_of g l) (empty _)
     ∙ append-nil (list_of w.sequence.taken g)))) in
     λ k. record { sizes = world.sizes k; lists = lists k }
 
-pub rests : (w : World) → IsWorld w → AreEmpty w.intakes → AreIdle w.workers → w.way ≡ None → AreComplete w.sequence.taken → IsAtRest w.sequence.taken w.sequence.handled → IsWorldAtRest w
+pub rests : (w : World) → IsWorld w → AreEmpty w.intakes → AreIdle w.workers → w.in_flight ≡ None → AreComplete w.sequence.taken → IsAtRest w.sequence.taken w.sequence.handled → IsWorldAtRest w
 rests w world empty idle way complete rest = record {
   closed = subst AreComplete (drained_is_sent w world (empty_at w empty)) complete;
   intakes = empty_at w empty;
-  way = way;
+  in_flight = in_flight;
   work = idle_at w idle;
   rest = rest;
 }
@@ -95,8 +95,8 @@ module _ (w : World) (world : IsWorld w) (rest : IsWorldAtRest w) where
   -- what a worker received are the accesses to its words
   pub received_is : (k : ℕ) → k < w.config.workers → (work_at w k).received ≡ accesses_for w k world.passed.accesses
   received_is k lt = sym (world.passed.each k lt
-      ∙ (ap (λ (l : List ClockedAccess). (work_at w k).received ++ l ++ accesses_for w k (way_list w.way)) (rest.work k)
-      ∙ (ap (λ (o : Option ClockedAccess). (work_at w k).received ++ [] ++ accesses_for w k (way_list o)) rest.way
+      ∙ (ap (λ (l : List ClockedAccess). (work_at w k).received ++ l ++ accesses_for w k (in_flight_list w.in_flight)) (rest.work k)
+      ∙ (ap (λ (o : Option ClockedAccess). (work_at w k).received ++ [] ++ accesses_for w k (in_flight_list o)) rest.in_flight
       ∙ (append-nil ((work_at w k).received ++ []) ∙ append-nil (work_at w k).received))))
 
   hit_here : (v : Word) (k : ℕ) → k < w.config.workers → worker_number v w.config.workers ≡ k → IsHitIn world.passed.accesses v ↔ IsHitIn (work_at w k).received v
@@ -111,13 +111,13 @@ module _ (w : World) (world : IsWorld w) (rest : IsWorldAtRest w) where
   hit_at_work : (v : Word) → IsHitAtWork w.workers v ↔ IsHitIn world.passed.accesses v
   hit_at_work v = (
     λ at.
-        let lt : at.1.0 < w.config.workers = let within = at.1.1 in omega (arith, within, world.crew) in
+        let lt : at.1.0 < w.config.workers = let within = at.1.1 in omega (arith, within, world.worker_count) in
         let hit : IsHitIn (work_at w at.1.0).received v = subst (λ (x : Work). IsHitIn x.received v) (sym (get_or_default w.workers at.1.0 (no_work 0) at.0 at.1.1 ∙ at.1.2)) at.2 in
         (hit_here v at.1.0 lt (mine_if_hit v at.1.0 lt hit)).1 hit,
     λ hit.
         let k = worker_number v w.config.workers in
         let lt : k < w.config.workers = word_below w world v in
-        let within : k < length w.workers = omega (arith, lt, world.crew) in
+        let within : k < length w.workers = omega (arith, lt, world.worker_count) in
         (work_at w k, (k, within, get_or_default w.workers k (work_at w k) (no_work 0) within), (hit_here v k lt refl).0 hit),
   )
 

@@ -9,7 +9,7 @@ use Rattle.gr_model.specs.declared.event.Event.{Event}
 use Rattle.gr_model.specs.declared.event.Sent.{Sent}
 use Rattle.gr_model.specs.declared.limits.TheConstants.{MOST_RECORDS}
 use Rattle.gr_model.specs.Events.{is_end}
-use Rattle.gr_model.specs.Streams.{AreFronts, Streams, events_of, is_complete, list_of}
+use Rattle.gr_model.specs.Streams.{ArePrefixes, Streams, events_of, is_complete, list_of}
 use Rattle.gr_model.proofs.Sending.{events_append, events_else, events_here, is_complete-push}
 use Rattle.gr_lanes.specs.Takes.{with_record}
 use Rattle.gr_world.specs.Queues.{Bounded, pushed}
@@ -99,24 +99,24 @@ module _ (w : World) (world : IsWorld w) (g : ℕ) (x : Event) (there : g < leng
       (λ apart. ap (λ (b : Bounded Sent). b.places) (intake_else q apart) ∙ world.intakes q lt)
       (cases_eq q (queue_of w g))
 
-  pub sending_is_world : AreFronts new.sent → IsWorld new
-  sending_is_world fronts = record {
+  pub sending_is_world : ArePrefixes new.sent → IsWorld new
+  sending_is_world prefixes = record {
     config = world.config;
-    sent = fronts;
+    sent = prefixes;
     room = room_left;
     sequence = world.sequence;
     sizes = world.sizes;
     queues = length-set w.intakes (queue_of w g) (pushed (intake_at w (queue_of w g)) sent) ∙ world.queues;
     intakes = places;
-    crew = world.crew;
+    worker_count = world.worker_count;
     workers = world.workers;
     delivered = record { whole = whole; own = own };
     passed = record { accesses = world.passed.accesses; along = world.passed.along; each = world.passed.each };
   }
 
 -- the same, where the two lists are told by equations
-pub sent_is_world : (w : World) (world : IsWorld w) (g : ℕ) (x : Event) → g < length w.sent.sizes → MayPut w g → (IsFalse (is_end x) → length (list_of w.sent g) + 1 < MOST_RECORDS) → (s : Streams) (intakes : List (Bounded Sent)) → s ≡ with_record w.sent g x → AreFronts s → intakes ≡ set w.intakes (queue_of w g) (pushed (intake_at w (queue_of w g)) (record { group = g; event = x })) → IsWorld (record { config = w.config; sent = s; intakes = intakes; sequence = w.sequence; way = w.way; workers = w.workers })
-sent_is_world w world g x there may room s intakes is fronts are =
-    subst (λ (t : Streams). IsWorld (record { config = w.config; sent = t; intakes = intakes; sequence = w.sequence; way = w.way; workers = w.workers })) (sym is)
-    (subst (λ (l : List (Bounded Sent)). IsWorld (record { config = w.config; sent = with_record w.sent g x; intakes = l; sequence = w.sequence; way = w.way; workers = w.workers })) (sym are)
-    (sending_is_world w world g x there may room (subst AreFronts is fronts)))
+pub sent_is_world : (w : World) (world : IsWorld w) (g : ℕ) (x : Event) → g < length w.sent.sizes → MayPut w g → (IsFalse (is_end x) → length (list_of w.sent g) + 1 < MOST_RECORDS) → (s : Streams) (intakes : List (Bounded Sent)) → s ≡ with_record w.sent g x → ArePrefixes s → intakes ≡ set w.intakes (queue_of w g) (pushed (intake_at w (queue_of w g)) (record { group = g; event = x })) → IsWorld (record { config = w.config; sent = s; intakes = intakes; sequence = w.sequence; in_flight = w.in_flight; workers = w.workers })
+sent_is_world w world g x there may room s intakes is prefixes are =
+    subst (λ (t : Streams). IsWorld (record { config = w.config; sent = t; intakes = intakes; sequence = w.sequence; in_flight = w.in_flight; workers = w.workers })) (sym is)
+    (subst (λ (l : List (Bounded Sent)). IsWorld (record { config = w.config; sent = with_record w.sent g x; intakes = l; sequence = w.sequence; in_flight = w.in_flight; workers = w.workers })) (sym are)
+    (sending_is_world w world g x there may room (subst ArePrefixes is prefixes)))

@@ -9,16 +9,16 @@ use Rattle.gr_model.specs.declared.event.Event.{Event}
 use Rattle.gr_model.specs.declared.event.Sent.{Sent}
 use Rattle.gr_model.specs.declared.limits.TheConstants.{MOST_RECORDS}
 use Rattle.gr_model.specs.Events.{IsEventOk}
-use Rattle.gr_model.specs.Streams.{IsFront, events_of, list_of, size_of}
+use Rattle.gr_model.specs.Streams.{IsPrefix, events_of, list_of, size_of}
 use Rattle.gr_model.proofs.Sending.{events_append, events_else, events_here}
-use Rattle.gr_model.proofs.StreamFronts.{next_ok, next_room, next_unended}
+use Rattle.gr_model.proofs.StreamPrefixes.{next_ok, next_room, next_unended}
 use Rattle.gr_hits.proofs.Growing.{accesses_stay}
 use Rattle.gr_lanes.specs.Takes.{CanTake}
 use Rattle.gr_lanes.proofs.Growth.{record_grows}
 use Rattle.gr_order.specs.Sequences.{IsSequence, Sequence, taking}
 use Rattle.gr_world.specs.declared.step.Step.TheVariants.{Take}
 use Rattle.gr_world.specs.Queues.{Bounded, leaving}
-use Rattle.gr_world.specs.Steps.{IsStep}
+use Rattle.gr_world.specs.Steps.{IsWorldStep}
 use Rattle.gr_world.specs.Worlds.{IsWorld, World, intake_at, no_queue, queue_of, taking_front}
 
 module _ (w : World) (world : IsWorld w) (q : ℕ) (s : Sent) (rest : List Sent) (front : (intake_at w q).items ≡ s ∷ rest) where
@@ -43,19 +43,19 @@ module _ (w : World) (world : IsWorld w) (q : ℕ) (s : Sent) (rest : List Sent)
       omega (arith, long, ap length none)))
       (cases_lt s.group (length w.sent.sizes))
 
-  is_front : IsFront (size_of w.sent s.group) (list_of w.sequence.taken s.group ++ s.event ∷ events_of s.group rest)
-  is_front = subst (IsFront (size_of w.sent s.group)) sent_is (world.sent.each s.group group_there)
+  is_prefix : IsPrefix (size_of w.sent s.group) (list_of w.sequence.taken s.group ++ s.event ∷ events_of s.group rest)
+  is_prefix = subst (IsPrefix (size_of w.sent s.group)) sent_is (world.sent.each s.group group_there)
 
   pub event_good : IsEventOk s.event (size_of w.sent s.group)
-  event_good = next_ok (size_of w.sent s.group) (list_of w.sequence.taken s.group) s.event (events_of s.group rest) is_front
+  event_good = next_ok (size_of w.sent s.group) (list_of w.sequence.taken s.group) s.event (events_of s.group rest) is_prefix
 
   pub room_there : length (list_of w.sequence.taken s.group) < MOST_RECORDS
-  room_there = next_room (size_of w.sent s.group) (list_of w.sequence.taken s.group) s.event (events_of s.group rest) is_front
+  room_there = next_room (size_of w.sent s.group) (list_of w.sequence.taken s.group) s.event (events_of s.group rest) is_prefix
 
   pub may_take : CanTake w.sequence.taken s.group s.event
   may_take = record {
     group = subst (λ (sizes : List ℕ). s.group < length sizes) (sym world.sizes) group_there;
-    before_end = λ whole. absurd (true≢false (sym whole ∙ next_unended (size_of w.sent s.group) (list_of w.sequence.taken s.group) s.event (events_of s.group rest) is_front));
+    before_end = λ whole. absurd (true≢false (sym whole ∙ next_unended (size_of w.sent s.group) (list_of w.sequence.taken s.group) s.event (events_of s.group rest) is_prefix));
     item = subst (λ (sizes : List ℕ). s.event.item < get_or sizes s.group 0) (sym world.sizes) event_good.0;
   }
 
@@ -75,7 +75,7 @@ module _ (w : World) (world : IsWorld w) (q : ℕ) (s : Sent) (rest : List Sent)
 
   list_here : list_of new.sequence.taken s.group ≡ list_of w.sequence.taken s.group ++ s.event ∷ []
   list_here = get_or-set_same w.sequence.taken.lists s.group (list_of w.sequence.taken s.group ++ s.event ∷ []) []
-      (let there = may_take.group in omega (arith, world.sequence.fronts.count, there))
+      (let there = may_take.group in omega (arith, world.sequence.prefixes.count, there))
 
   list_else : (h : ℕ) → h ≢ s.group → list_of new.sequence.taken h ≡ list_of w.sequence.taken h
   list_else h apart = get_or-set_other w.sequence.taken.lists s.group h (list_of w.sequence.taken s.group ++ s.event ∷ []) [] apart
@@ -123,21 +123,21 @@ module _ (w : World) (world : IsWorld w) (q : ℕ) (s : Sent) (rest : List Sent)
     sizes = world.sizes;
     queues = length-set w.intakes q (leaving (intake_at w q) rest) ∙ world.queues;
     intakes = places;
-    crew = world.crew;
+    worker_count = world.worker_count;
     workers = world.workers;
     delivered = record { whole = whole; own = own };
     passed = record {
       accesses = world.passed.accesses;
-      along = accesses_stay w.sequence.taken new.sequence.taken (record_grows w.sequence.taken s.group s.event world.sequence.fronts may_take) w.sequence.handled world.passed.accesses world.sequence.lawful world.passed.along;
+      along = accesses_stay w.sequence.taken new.sequence.taken (record_grows w.sequence.taken s.group s.event world.sequence.prefixes may_take) w.sequence.handled world.passed.accesses world.sequence.lawful world.passed.along;
       each = world.passed.each;
     };
   }
 
 -- the same, where the lists are told by equations
-pub taken_is_world : (w : World) (world : IsWorld w) (q : ℕ) (s : Sent) (rest : List Sent) → (intake_at w q).items ≡ s ∷ rest → (sequence : Sequence) (intakes : List (Bounded Sent)) → sequence ≡ taking w.sequence s.group s.event → IsSequence sequence → intakes ≡ set w.intakes q (leaving (intake_at w q) rest) → IsWorld (record { config = w.config; sent = w.sent; intakes = intakes; sequence = sequence; way = w.way; workers = w.workers })
+pub taken_is_world : (w : World) (world : IsWorld w) (q : ℕ) (s : Sent) (rest : List Sent) → (intake_at w q).items ≡ s ∷ rest → (sequence : Sequence) (intakes : List (Bounded Sent)) → sequence ≡ taking w.sequence s.group s.event → IsSequence sequence → intakes ≡ set w.intakes q (leaving (intake_at w q) rest) → IsWorld (record { config = w.config; sent = w.sent; intakes = intakes; sequence = sequence; in_flight = w.in_flight; workers = w.workers })
 taken_is_world w world q s rest front sequence intakes is lawful are =
-    subst (λ (p : Sequence). IsWorld (record { config = w.config; sent = w.sent; intakes = intakes; sequence = p; way = w.way; workers = w.workers })) (sym is)
-    (subst (λ (l : List (Bounded Sent)). IsWorld (record { config = w.config; sent = w.sent; intakes = l; sequence = taking w.sequence s.group s.event; way = w.way; workers = w.workers })) (sym are)
+    subst (λ (p : Sequence). IsWorld (record { config = w.config; sent = w.sent; intakes = intakes; sequence = p; in_flight = w.in_flight; workers = w.workers })) (sym is)
+    (subst (λ (l : List (Bounded Sent)). IsWorld (record { config = w.config; sent = w.sent; intakes = l; sequence = taking w.sequence s.group s.event; in_flight = w.in_flight; workers = w.workers })) (sym are)
     (taking_is_world w world q s rest front (subst IsSequence is lawful)))
 
 -- what is left of a queue whose front was taken off
@@ -149,7 +149,7 @@ popped_is old new (Some y) x rest front h = h.1 ∙ ap (leaving old) (ap tail (s
     tail [] = []
     tail (z ∷ zs) = zs
 
-pub taken_is_step : (w : World) (q : ℕ) (s : Sent) (rest : List Sent) (new : World) → q < w.config.queues → (intake_at w q).items ≡ s ∷ rest → new ≡ taking_front w q s rest → IsStep w (Take q) new
+pub taken_is_step : (w : World) (q : ℕ) (s : Sent) (rest : List Sent) (new : World) → q < w.config.queues → (intake_at w q).items ≡ s ∷ rest → new ≡ taking_front w q s rest → IsWorldStep w (Take q) new
 taken_is_step w q s rest new there front is = record {
   allowed = record {
     good = λ bad. omega (arith, bad, there);

@@ -13,7 +13,7 @@ pub record MayPut (w : World) (g : ℕ) : Type 0 where
   pub room : HasRoom (intake_at w (queue_of w g))
 
 -- a record was sent
-pub record Puts (old : World) (g : ℕ) (x : Event) (new : World) : Type 0 where
+pub record Queues (old : World) (g : ℕ) (x : Event) (new : World) : Type 0 where
   pub may : MayPut old g
   pub sends : new ≡ sending old g x
 

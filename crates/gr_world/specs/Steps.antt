@@ -43,26 +43,26 @@ IsClosed w (Close g cut) = IsTrue (is_complete (list_of w.sent g))
 IsClosed w _ = ⊥
 
 -- the queue that is pushed into has no room
-abbrev pub IsWayFull : World → Option ClockedAccess → Type 0
-IsWayFull w None = ⊥
-IsWayFull w (Some x) = ¬ HasRoom (work_at w (worker_of w x)).queue
+abbrev pub IsInFlightFull : World → Option ClockedAccess → Type 0
+IsInFlightFull w None = ⊥
+IsInFlightFull w (Some x) = ¬ HasRoom (work_at w (worker_of w x)).queue
 
-abbrev pub IsFull : World → Step → Type 0
-IsFull w (Send g x) = ¬ HasRoom (intake_at w (queue_of w g))
-IsFull w (Close g cut) = ¬ HasRoom (intake_at w (queue_of w g))
-IsFull w Pass = IsWayFull w w.way
-IsFull w _ = ⊥
+abbrev pub IsStepFull : World → Step → Type 0
+IsStepFull w (Send g x) = ¬ HasRoom (intake_at w (queue_of w g))
+IsStepFull w (Close g cut) = ¬ HasRoom (intake_at w (queue_of w g))
+IsStepFull w Pass = IsInFlightFull w w.in_flight
+IsStepFull w _ = ⊥
 
 -- there is nothing to take or to pass on
-abbrev pub IsEmpty : World → Step → Type 0
-IsEmpty w (Take q) = (intake_at w q).items ≡ []
-IsEmpty w Pass = w.way ≡ None
-IsEmpty w (WorkTake k) = (work_at w k).queue.items ≡ []
-IsEmpty w _ = ⊥
+abbrev pub IsStepEmpty : World → Step → Type 0
+IsStepEmpty w (Take q) = (intake_at w q).items ≡ []
+IsStepEmpty w Pass = w.in_flight ≡ None
+IsStepEmpty w (WorkTake k) = (work_at w k).queue.items ≡ []
+IsStepEmpty w _ = ⊥
 
 -- an access is on its way, and an event is to be handled
 abbrev pub IsBusy : World → Step → Type 0
-IsBusy w (Handle i) = IsTrue (is_some w.way)
+IsBusy w (Handle i) = IsTrue (is_some w.in_flight)
 IsBusy w _ = ⊥
 
 -- nothing of the item may be handled, or no instance of the group may meet
@@ -75,27 +75,27 @@ IsNotReady w _ = ⊥
 pub record IsAllowed (w : World) (step : Step) : Type 0 where
   pub good : ¬ IsBad w step
   pub unclosed : ¬ IsClosed w step
-  pub room : ¬ IsFull w step
-  pub some : ¬ IsEmpty w step
+  pub room : ¬ IsStepFull w step
+  pub some : ¬ IsStepEmpty w step
   pub free : ¬ IsBusy w step
   pub ready : ¬ IsNotReady w step
 
 -- each cause stands where none before it does; memory can be wanting for a step that is allowed
-abbrev pub IsRefusal : World → Step → StepError → Type 0
-IsRefusal w step BadStep = IsBad w step
-IsRefusal w step NotOpen = ¬ IsBad w step × IsClosed w step
-IsRefusal w step Full = ¬ IsBad w step × ¬ IsClosed w step × IsFull w step
-IsRefusal w step Empty = ¬ IsBad w step × IsEmpty w step
-IsRefusal w step Busy = ¬ IsBad w step × IsBusy w step
-IsRefusal w step NotReady = ¬ IsBad w step × ¬ IsBusy w step × IsNotReady w step
-IsRefusal w step Memory = IsAllowed w step
+abbrev pub IsStepRefusal : World → Step → StepError → Type 0
+IsStepRefusal w step BadStep = IsBad w step
+IsStepRefusal w step NotOpen = ¬ IsBad w step × IsClosed w step
+IsStepRefusal w step Full = ¬ IsBad w step × ¬ IsClosed w step × IsStepFull w step
+IsStepRefusal w step Empty = ¬ IsBad w step × IsStepEmpty w step
+IsStepRefusal w step Busy = ¬ IsBad w step × IsBusy w step
+IsStepRefusal w step NotReady = ¬ IsBad w step × ¬ IsBusy w step × IsNotReady w step
+IsStepRefusal w step Memory = IsAllowed w step
 
 -- ---- what a step does
 
 -- an event has this access, or none where it has no word
-abbrev pub IsWayOf : Streams → EventId → Option ClockedAccess → Type 0
-IsWayOf s e None = word_at s e ≡ None
-IsWayOf s e (Some x) = IsAccess s e (bare x)
+abbrev pub IsInFlightOf : Streams → EventId → Option ClockedAccess → Type 0
+IsInFlightOf s e None = word_at s e ≡ None
+IsInFlightOf s e (Some x) = IsAccess s e (bare x)
 
 -- what the step leads to
 abbrev pub LeadsTo : World → Step → World → Type 0
@@ -106,17 +106,17 @@ LeadsTo w (Close g cut) new = new ≡ sending w g (end_of cut)
 LeadsTo w (Take q) new = (s : Sent) × (rest : List Sent) × ((intake_at w q).items ≡ s ∷ rest) × (new ≡ taking_front w q s rest)
 -- an event of the item was handled, and its access, if it has one, is on its way
 LeadsTo w (Handle i) new =
-    (e : EventId) × (way : Option ClockedAccess) × (sequence : Sequence)
-    × (e.at ≡ i) × HandlesEvent w.sequence e sequence × IsWayOf sequence.taken e way × (new ≡ going_on w sequence way)
+    (e : EventId) × (in_flight : Option ClockedAccess) × (sequence : Sequence)
+    × (e.at ≡ i) × HandlesEvent w.sequence e sequence × IsInFlightOf sequence.taken e way × (new ≡ going_on w sequence way)
 -- an instance of the group has met
-LeadsTo w (Meet g) new = (k : ℕ) × (sequence : Sequence) × MeetsInstance w.sequence g k sequence × (new ≡ going_on w sequence w.way)
+LeadsTo w (Meet g) new = (k : ℕ) × (sequence : Sequence) × MeetsInstance w.sequence g k sequence × (new ≡ going_on w sequence w.in_flight)
 -- the access on its way was queued for its word's worker
-LeadsTo w Pass new = (x : ClockedAccess) × (w.way ≡ Some x) × (new ≡ passing w x)
+LeadsTo w Pass new = (x : ClockedAccess) × (w.in_flight ≡ Some x) × (new ≡ passing w x)
 -- the worker received the access at the front of its queue
 LeadsTo w (WorkTake k) new = (x : ClockedAccess) × (rest : List ClockedAccess) × ((work_at w k).queue.items ≡ x ∷ rest) × (new ≡ working w k x rest)
 
 -- a step that is allowed was made
-pub record IsStep (old : World) (step : Step) (new : World) : Type 0 where
+pub record IsWorldStep (old : World) (step : Step) (new : World) : Type 0 where
   pub allowed : IsAllowed old step
   pub leads : LeadsTo old step new
 
@@ -125,5 +125,5 @@ pub record IsStep (old : World) (step : Step) (new : World) : Type 0 where
 -- the steps were tried one after another, and so many of them were refused
 pub data Runs (old : World) : List Step → World → ℕ → Type 0 where
   nothing_tried : Runs old [] old 0
-  made : {steps : List Step} {w new : World} {refused : ℕ} (step : Step) → Runs old steps w refused → IsStep w step new → Runs old (steps ++ step ∷ []) new refused
-  refused_once : {steps : List Step} {w : World} {refused : ℕ} (step : Step) (error : StepError) → Runs old steps w refused → IsRefusal w step error → Runs old (steps ++ step ∷ []) w (suc refused)
+  made : {steps : List Step} {w new : World} {refused : ℕ} (step : Step) → Runs old steps w refused → IsWorldStep w step new → Runs old (steps ++ step ∷ []) new refused
+  refused_once : {steps : List Step} {w : World} {refused : ℕ} (step : Step) (error : StepError) → Runs old steps w refused → IsStepRefusal w step error → Runs old (steps ++ step ∷ []) w (suc refused)

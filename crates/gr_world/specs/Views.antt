@@ -17,6 +17,6 @@ world_of config sent intakes sequence way workers =
       sent = sent;
       intakes = intakes;
       sequence = sequence;
-      way = option_map clocked way;
+      in_flight = option_map clocked way;
       workers = workers;
     }

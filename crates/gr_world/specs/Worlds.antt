@@ -5,7 +5,7 @@ use Rattle.gr_model.specs.declared.event.Event.{Event}
 use Rattle.gr_model.specs.declared.event.Sent.{Sent}
 use Rattle.gr_model.specs.Configs.{IsConfig, Settings, worker_number}
 use Rattle.gr_model.specs.declared.limits.TheConstants.{MOST_RECORDS}
-use Rattle.gr_model.specs.Streams.{AreComplete, AreFronts, Streams, events_of, is_complete, list_of}
+use Rattle.gr_model.specs.Streams.{AreComplete, ArePrefixes, Streams, events_of, is_complete, list_of}
 use Rattle.gr_steps.specs.Steps.{IsAtRest}
 use Rattle.gr_lanes.specs.Takes.{nothing_taken, with_record}
 use Rattle.gr_order.specs.Sequences.{IsSequence, Sequence, nothing, taking}
@@ -49,7 +49,7 @@ new_world sizes config =
       sent = nothing_taken sizes;
       intakes = replicate config.queues (empty_queue config.capacity);
       sequence = nothing sizes;
-      way = None;
+      in_flight = None;
       workers = replicate config.workers (no_work config.capacity);
     }
 
@@ -63,7 +63,7 @@ sending w g x =
       sent = with_record w.sent g x;
       intakes = slice_set w.intakes (queue_of w g) (pushed (intake_at w (queue_of w g)) (record { group = g; event = x }));
       sequence = w.sequence;
-      way = w.way;
+      in_flight = w.in_flight;
       workers = w.workers;
     }
 
@@ -75,7 +75,7 @@ taking_front w q s rest =
       sent = w.sent;
       intakes = slice_set w.intakes q (leaving (intake_at w q) rest);
       sequence = taking w.sequence s.group s.event;
-      way = w.way;
+      in_flight = w.in_flight;
       workers = w.workers;
     }
 
@@ -87,7 +87,7 @@ going_on w sequence way =
       sent = w.sent;
       intakes = w.intakes;
       sequence = sequence;
-      way = way;
+      in_flight = in_flight;
       workers = w.workers;
     }
 
@@ -99,7 +99,7 @@ passing w x =
       sent = w.sent;
       intakes = w.intakes;
       sequence = w.sequence;
-      way = None;
+      in_flight = None;
       workers = slice_set w.workers (worker_of w x) (queueing (work_at w (worker_of w x)) x);
     }
 
@@ -111,7 +111,7 @@ working w k x rest =
       sent = w.sent;
       intakes = w.intakes;
       sequence = w.sequence;
-      way = w.way;
+      in_flight = w.in_flight;
       workers = slice_set w.workers k (receiving (work_at w k) x rest);
     }
 
@@ -123,8 +123,8 @@ accesses_for w k accesses = filter (λ x. worker_of w x == k) accesses
 
 -- the access on its way, as a list
 abbrev pub way_list : Option ClockedAccess → List ClockedAccess
-way_list None = []
-way_list (Some x) = x ∷ []
+in_flight_list None = []
+in_flight_list (Some x) = x ∷ []
 
 -- what was taken of a group, followed by what is queued of it, is what was sent; and each queue has records of its groups alone
 pub record AreDelivered (w : World) : Type 0 where
@@ -133,7 +133,7 @@ pub record AreDelivered (w : World) : Type 0 where
 
 -- what a worker received, what is queued for it and what is on its way to it are, in this order, the accesses along the handled order that go to it
 abbrev pub IsPassedOn : World → List ClockedAccess → ℕ → Type 0
-IsPassedOn w accesses k = accesses_for w k accesses ≡ (work_at w k).received ++ (work_at w k).queue.items ++ accesses_for w k (way_list w.way)
+IsPassedOn w accesses k = accesses_for w k accesses ≡ (work_at w k).received ++ (work_at w k).queue.items ++ accesses_for w k (in_flight_list w.in_flight)
 
 pub record ArePassedOn (w : World) : Type 0 where
   pub accesses : List ClockedAccess
@@ -143,7 +143,7 @@ pub record ArePassedOn (w : World) : Type 0 where
 pub record IsWorld (w : World) : Type 0 where
   pub config : IsConfig w.config
   -- each list that was sent is a front of one that its group may have: an end stands last and nowhere else
-  pub sent : AreFronts w.sent
+  pub sent : ArePrefixes w.sent
   -- and one that has no end has room for it
   pub room : (g : ℕ) → ¬ IsTrue (is_complete (list_of w.sent g)) → length (list_of w.sent g) < MOST_RECORDS
   -- so is each list that was taken, and the order of the handled events is lawful
@@ -151,7 +151,7 @@ pub record IsWorld (w : World) : Type 0 where
   pub sizes : w.sequence.taken.sizes ≡ w.sent.sizes
   pub queues : length w.intakes ≡ w.config.queues
   pub intakes : (q : ℕ) → q < w.config.queues → (intake_at w q).places ≡ w.config.capacity
-  pub crew : length w.workers ≡ w.config.workers
+  pub worker_count : length w.workers ≡ w.config.workers
   pub workers : (k : ℕ) → k < w.config.workers → (work_at w k).queue.places ≡ w.config.capacity
   pub delivered : AreDelivered w
   pub passed : ArePassedOn w
@@ -162,6 +162,6 @@ pub record IsWorld (w : World) : Type 0 where
 pub record IsWorldAtRest (w : World) : Type 0 where
   pub closed : AreComplete w.sent
   pub intakes : (q : ℕ) → (intake_at w q).items ≡ []
-  pub way : w.way ≡ None
+  pub way : w.in_flight ≡ None
   pub work : (k : ℕ) → (work_at w k).queue.items ≡ []
   pub rest : IsAtRest w.sequence.taken w.sequence.handled

@@ -13,9 +13,9 @@ ghost use Rattle.gr_model.specs.Streams.{list_of, size_of};
 ghost use Rattle.gr_steps.specs.Steps.{AreGrounded};
 ghost use Rattle.gr_report.specs.Whole.{whole_of};
 ghost use Rattle.gr_world.specs.declared.step.Step.TheVariants as steps;
-ghost use Rattle.gr_world.specs.Putting.{IsPutFault, Puts};
+ghost use Rattle.gr_world.specs.Putting.{IsPutFault, Queues};
 ghost use Rattle.gr_world.specs.Queues.{empty_queue, no_work};
-ghost use Rattle.gr_world.specs.Steps.{IsBadEvent, IsRefusal, IsStep, Runs};
+ghost use Rattle.gr_world.specs.Steps.{IsBadEvent, IsStepRefusal, IsWorldStep, Runs};
 ghost use Rattle.gr_world.specs.Resting.{AreEmpty, AreIdle, IsHitAtWork};
 ghost use Rattle.gr_world.specs.Worlds.{IsWorld, IsWorldAtRest, new_world};
 
@@ -49,7 +49,7 @@ pub struct World<A: Allocator = Global> {
     sent: Lanes<A>,
     intakes: Vec<Queue<Sent, A>, A>,
     sequencer: Sequencer<A>,
-    way: Option<Access<A>>,
+    in_flight: Option<Access<A>>,
     workers: Vec<Worker<A>, A>,
 }
 
@@ -59,9 +59,9 @@ impl<A: Allocator> Model for World<A> {
 
     ghost Value = { WorldLists };
 
-    ghost view = { λ w. world_of w.config w.sent w.intakes.items w.sequencer w.way w.workers.items };
+    ghost view = { λ w. world_of w.config w.sent w.intakes.items w.sequencer w.in_flight w.workers.items };
 
-    ghost invariant = { λ w. IsWorld (world_of w.config w.sent w.intakes.items w.sequencer w.way w.workers.items) };
+    ghost invariant = { λ w. IsWorld (world_of w.config w.sent w.intakes.items w.sequencer w.in_flight w.workers.items) };
 }
 
 /// `count` empty queues, each with room for `places` records.
@@ -80,7 +80,7 @@ fn queues_of<A: Allocator + Copy>(
 }
 
 /// `count` workers that received nothing, each with room in its queue for `places` accesses.
-fn crew_of<A: Allocator + Copy>(
+fn workers_of<A: Allocator + Copy>(
     alloc: A,
     count: u16,
     places: u32,
@@ -106,7 +106,7 @@ impl<A: Allocator + Copy> World<A> {
         ensures world { IfOk result (λ w. IsWorld w) }
     {
         let intakes = queues_of(alloc, config.queues(), config.capacity())?;
-        let workers = crew_of(alloc, config.workers(), config.capacity())?;
+        let workers = workers_of(alloc, config.workers(), config.capacity())?;
         let sent = Lanes::new(alloc, shape.copy()?)?;
         let sequencer = Sequencer::new(alloc, shape)?;
         Ok(World {
@@ -115,7 +115,7 @@ impl<A: Allocator + Copy> World<A> {
             sent,
             intakes,
             sequencer,
-            way: None,
+            in_flight: None,
             workers,
         })
     }
@@ -128,8 +128,8 @@ impl<A: Allocator + Copy> World<A> {
     pub fn step(&mut self, step: Step) -> Result<(), StepError>
     where
         A: Clone,
-        ensures step { OnOk result (IsStep self.old step self.new) }
-        ensures err { IfErr result (IsRefusal self.old step) }
+        ensures step { OnOk result (IsWorldStep self.old step self.new) }
+        ensures err { IfErr result (IsStepRefusal self.old step) }
         ensures pass { result ≡ Err StepError.Memory → step ≢ steps.Pass }
         ensures unchanged { OnErr result (self.new ≡ self.old) }
     {
@@ -185,18 +185,18 @@ impl<A: Allocator + Copy> World<A> {
     fn handle(&mut self, item: ItemId) -> Result<(), StepError>
     where
         A: Clone,
-        ensures step { OnOk result (IsStep self.old (steps.Handle item) self.new) }
-        ensures err { IfErr result (IsRefusal self.old (steps.Handle item)) }
+        ensures step { OnOk result (IsWorldStep self.old (steps.Handle item) self.new) }
+        ensures err { IfErr result (IsStepRefusal self.old (steps.Handle item)) }
         ensures unchanged { OnErr result (self.new ≡ self.old) }
     {
         if !self.sent.shape().has(item) {
             return Err(StepError::BadStep);
         }
-        if self.way.is_some() {
+        if self.in_flight.is_some() {
             return Err(StepError::Busy);
         }
         match self.sequencer.handle(item)? {
-            Handled::One { event: _, access } => self.way = access,
+            Handled::One { event: _, access } => self.in_flight = access,
             Handled::Meet {
                 group: _,
                 instance: _,
@@ -209,8 +209,8 @@ impl<A: Allocator + Copy> World<A> {
     fn meet(&mut self, group: u16) -> Result<(), StepError>
     where
         A: Clone,
-        ensures step { OnOk result (IsStep self.old (steps.Meet group) self.new) }
-        ensures err { IfErr result (IsRefusal self.old (steps.Meet group)) }
+        ensures step { OnOk result (IsWorldStep self.old (steps.Meet group) self.new) }
+        ensures err { IfErr result (IsStepRefusal self.old (steps.Meet group)) }
         ensures unchanged { OnErr result (self.new ≡ self.old) }
     {
         if group >= self.sent.shape().groups() {
@@ -222,8 +222,8 @@ impl<A: Allocator + Copy> World<A> {
 
     /// The worker receives the access at the front of its queue.
     fn work_take(&mut self, worker: u16) -> Result<(), StepError>
-        ensures step { OnOk result (IsStep self.old (steps.WorkTake worker) self.new) }
-        ensures err { IfErr result (IsRefusal self.old (steps.WorkTake worker)) }
+        ensures step { OnOk result (IsWorldStep self.old (steps.WorkTake worker) self.new) }
+        ensures err { IfErr result (IsStepRefusal self.old (steps.WorkTake worker)) }
         ensures unchanged { OnErr result (self.new ≡ self.old) }
     {
         let worker = match self.workers.get_mut(usize::from(worker)) {
@@ -280,7 +280,7 @@ impl<A: Allocator> World<A> {
         ensures done { IsTrue result → AreGrounded self.now.sent self.now.sequence.handled }
         ensures world { IsWorld self.now }
     {
-        let on_its_way = self.way.is_some();
+        let on_its_way = self.in_flight.is_some();
         if on_its_way {
             return false;
         }
@@ -318,8 +318,8 @@ impl<A: Allocator> World<A> {
 
     /// A group's sender sends an event.
     fn send(&mut self, group: u16, event: Event) -> Result<(), StepError>
-        ensures step { OnOk result (IsStep self.old (steps.Send group event) self.new) }
-        ensures err { IfErr result (IsRefusal self.old (steps.Send group event)) }
+        ensures step { OnOk result (IsWorldStep self.old (steps.Send group event) self.new) }
+        ensures err { IfErr result (IsStepRefusal self.old (steps.Send group event)) }
         ensures unchanged { OnErr result (self.new ≡ self.old) }
     {
         if group >= self.sent.shape().groups() || self.is_bad(group, &event) {
@@ -330,8 +330,8 @@ impl<A: Allocator> World<A> {
 
     /// A group's sender sends the end of its stream.
     fn close(&mut self, group: u16, cut: bool) -> Result<(), StepError>
-        ensures step { OnOk result (IsStep self.old (steps.Close group cut) self.new) }
-        ensures err { IfErr result (IsRefusal self.old (steps.Close group cut)) }
+        ensures step { OnOk result (IsWorldStep self.old (steps.Close group cut) self.new) }
+        ensures err { IfErr result (IsStepRefusal self.old (steps.Close group cut)) }
         ensures unchanged { OnErr result (self.new ≡ self.old) }
     {
         if group >= self.sent.shape().groups() {
@@ -340,14 +340,14 @@ impl<A: Allocator> World<A> {
         self.put(group, Event::end(cut))
     }
 
-    /// Puts a record at the end of what the group sent and of its queue.
+    /// Queues a record at the end of what the group sent and of its queue.
     /// Requires: there is such a group, and it may have the record; if that is no end, there is room for the end behind
     /// it.
     fn put(&mut self, group: u16, event: Event) -> Result<(), StepError>
         requires group { group < length self.old.sent.sizes }
         requires good { IsEventOk event (size_of self.old.sent group) }
         requires room { IsFalse (is_end event) → length (list_of self.old.sent group) + 1 < MOST_RECORDS }
-        ensures ok { OnOk result (Puts self.old group event self.new) }
+        ensures ok { OnOk result (Queues self.old group event self.new) }
         ensures err { IfErr result (IsPutFault self.old group) }
         ensures unchanged { OnErr result (self.new ≡ self.old) }
     {
@@ -370,8 +370,8 @@ impl<A: Allocator> World<A> {
 
     /// The sequencer takes the record at the front of an intake queue.
     fn take(&mut self, queue: u16) -> Result<(), StepError>
-        ensures step { OnOk result (IsStep self.old (steps.Take queue) self.new) }
-        ensures err { IfErr result (IsRefusal self.old (steps.Take queue)) }
+        ensures step { OnOk result (IsWorldStep self.old (steps.Take queue) self.new) }
+        ensures err { IfErr result (IsStepRefusal self.old (steps.Take queue)) }
         ensures unchanged { OnErr result (self.new ≡ self.old) }
     {
         let intake = match self.intakes.get_mut(usize::from(queue)) {
@@ -393,12 +393,12 @@ impl<A: Allocator> World<A> {
 
     /// The access on its way goes to the queue of its word's worker. It takes no memory.
     fn pass(&mut self) -> Result<(), StepError>
-        ensures step { OnOk result (IsStep self.old steps.Pass self.new) }
-        ensures err { IfErr result (IsRefusal self.old steps.Pass) }
+        ensures step { OnOk result (IsWorldStep self.old steps.Pass self.new) }
+        ensures err { IfErr result (IsStepRefusal self.old steps.Pass) }
         ensures memory { result ≢ Err StepError.Memory }
         ensures unchanged { OnErr result (self.new ≡ self.old) }
     {
-        let number = match &self.way {
+        let number = match &self.in_flight {
             None => return Err(StepError::Empty),
             Some(access) => worker_of(&access.word, self.config.workers()),
         };
@@ -406,7 +406,7 @@ impl<A: Allocator> World<A> {
         if !worker.has_room() {
             return Err(StepError::Full);
         }
-        match self.way.take() {
+        match self.in_flight.take() {
             None => unreachable!(),
             Some(access) => worker.push(access),
         }

@@ -33,10 +33,10 @@ fn two_pieces_give_what_one_gives(rt: HostRuntime) -> Result<(), Fail> {
     Decoder::new().feed(&TWO_STREAMS[..72], &mut whole)?;
     assert_eq!(rt; whole.len(), 4);
     for cut in 0..145 {
-        let (front, back) = TWO_STREAMS.split_at(cut);
+        let (prefix, back) = TWO_STREAMS.split_at(cut);
         let mut parts = Vec::new(rt.alloc());
         let mut decoder = Decoder::new();
-        let first = decoder.feed(front, &mut parts);
+        let first = decoder.feed(prefix, &mut parts);
         let second = decoder.feed(back, &mut parts);
         assert!(rt; first.is_ok() == (cut <= 72), "first piece, cut at {cut}");
         assert!(rt;

@@ -140,8 +140,8 @@ fn each_bad_header_is_refused_once_it_is_whole(rt: HostRuntime) -> Result<(), Fa
     for (wrong, bytes, fault) in refused_headers() {
         let mut parts = Vec::new(rt.alloc());
         let mut decoder = Decoder::new();
-        let (front, last) = but_last(&bytes);
-        decoder.feed(front, &mut parts)?;
+        let (prefix, last) = but_last(&bytes);
+        decoder.feed(prefix, &mut parts)?;
         assert!(rt;
             decoder.finish() == Err(RecordError::Truncated),
             "{wrong}: 11 bytes"

@@ -83,7 +83,7 @@ fn a_reader_that_fails_is_a_read_fault(rt: HostRuntime) -> Result<(), Fail> {
 }
 
 #[test]
-fn a_writer_that_fails_has_a_front(rt: HostRuntime) -> Result<(), Fail> {
+fn a_writer_that_fails_has_a_prefix(rt: HostRuntime) -> Result<(), Fail> {
     let (_, text, bytes) = RACE;
     for room in [0, 1, 40] {
         let mut writer = FullWriter {

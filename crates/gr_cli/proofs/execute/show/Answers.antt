@@ -5,5 +5,5 @@ pub returns : goal.returns
 returns g c =
     rw (← c.as_slice-files.ensures.value)
     (display_of g.T.Read.remaining _ _ _ c.show_race_of_files-outcome.result _ _ _ _ _
-    c.show_race_of_files-outcome.ensures.shown c.show_race_of_files-outcome.ensures.fault c.show_race_of_files-outcome.ensures.untouched c.show_race_of_files-outcome.ensures.front
+    c.show_race_of_files-outcome.ensures.shown c.show_race_of_files-outcome.ensures.fault c.show_race_of_files-outcome.ensures.untouched c.show_race_of_files-outcome.ensures.prefix
     c.conclude_showing.ensures.race c.conclude_showing.ensures.silent c.conclude_showing.ensures.fault c.conclude_showing.ensures.told)

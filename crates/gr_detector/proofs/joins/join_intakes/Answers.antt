@@ -8,7 +8,7 @@ use Rattle.gr_model.specs.declared.event.Sent.{Sent}
 use Rattle.gr_model.specs.Streams.{events_of, is_complete}
 use Rattle.gr_route.specs.IntakeSeats.{Seat, Taker, popped_of}
 use Rattle.gr_sequencer_thread.specs.Feeds.{intakes_of}
-use Rattle.gr_detector.specs.Settling.{AreHere, AreTold, IsTold, popped_at, pops_of}
+use Rattle.gr_detector.specs.Settling.{AreHere, ArePoppedWhole, IsPoppedWhole, popped_at, pops_of}
 use Rattle.gr_detector.proofs.joins.join_intakes.Goals as goal
 
 pub loop-receipt-preserved : goal.loop-receipt-preserved
@@ -31,9 +31,9 @@ loop-receipt-preserved g c =
     ∙ (ap (λ n. events_of r.group (get_or (pops_of inlets) (n % length inlets) [])) (sym group)
     ∙ (ap (events_of r.group) (get_or-map (λ (t : Taker). t.popped) inlets q item [] lt)
     ∙ ap (λ (s : Seat). popped_of (get_or inlets q item) s.group) (sym seat)))) in
-    let mine : IsTold (pops_of init) r = λ whole. popped ∙ (c.join_back.ensures.whole (subst (λ (l : List Event). IsTrue (is_complete l)) popped whole) ∙ ap (λ (s : Seat). s.pushed) seat) in (
+    let mine : IsPoppedWhole (pops_of init) r = λ whole. popped ∙ (c.join_back.ensures.whole (subst (λ (l : List Event). IsTrue (is_complete l)) popped whole) ∙ ap (λ (s : Seat). s.pushed) seat) in (
       map-set_same (λ (t : Taker). t.queue) _ _ _ _ c.join_back.ensures.same.0 ∙ inv.0,
       map-set_same (λ (t : Taker). t.popped) _ _ _ _ c.join_back.ensures.same.1 ∙ inv.1,
       here.1,
-      λ rest. inv.3 (subst (AreTold (pops_of init)) (sym items) (mine, rest)),
+      λ rest. inv.3 (subst (ArePoppedWhole (pops_of init)) (sym items) (mine, rest)),
     )

@@ -19,7 +19,7 @@ new-begin-requires g c =
     let len : length was ≡ c.in_ok-inlets.inlets.len = search rules in
     let fresh : IsFresh {A = g.row.A.Denot} c.args.config c.args.shape now c.in_ok-outlets.outlets.items = record {
       queues = count;
-      crew = c.in_ok-outlets.ensures.count.0;
+      worker_count = c.in_ok-outlets.ensures.count.0;
       seated = all_seated c.args.config c.args.shape now count c.in_ok-senders.ensures.seated;
       popped = λ q d lt. c.in_ok-senders.ensures.unpopped q d (omega (arith, lt, count));
       pushed = λ k d lt. c.in_ok-outlets.ensures.ungiven k d (omega (arith, lt, c.in_ok-outlets.ensures.count.0));

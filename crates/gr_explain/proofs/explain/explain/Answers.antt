@@ -2,18 +2,18 @@ use Rattle.std.proofs.Common.{◌≡◌, ◌∙◌, Err, IfOk, List, MatchOption
 use Rattle.gr_model.specs.declared.event.EventId.{EventId}
 use Rattle.gr_model.specs.LawfulOrders.{IsWholeOrder}
 use Rattle.gr_model.specs.Races.{IsRacy}
-use Rattle.gr_model.specs.Streams.{AreFronts, Streams}
+use Rattle.gr_model.specs.Streams.{ArePrefixes, Streams}
 use Rattle.gr_model.specs.Waits.{IsGrounded}
 use Rattle.gr_order.specs.Sequences.{Sequence}
 use Rattle.gr_explain.specs.LeastRaces.{IsLeastOf, IsLeastRace, IsRacePair}
 use Rattle.gr_explain.proofs.Searching.{least_or_none}
 use Rattle.gr_explain.proofs.explain.explain.Goals as goal
 
-pub least_race-requires-clause-fronts : goal.least_race-requires-clause-fronts
-least_race-requires-clause-fronts g c =
+pub least_race-requires-clause-prefixes : goal.least_race-requires-clause-prefixes
+least_race-requires-clause-prefixes g c =
     let recorded : c.of-records.result ≡ c.args.traces.now = c.of-records.ensures ∙ ap (λ (q : Sequence). q.taken) c.in_ok-take_all.ensures in
     let taken : c.list_grounded.new.order.taken ≡ c.args.traces.now = c.in_ok-listed.ensures.taken ∙ ap (λ (q : Sequence). q.taken) c.in_ok-order.ensures in
-    subst AreFronts (taken ∙ sym recorded) c.in_ok-listed.ensures.sequence.fronts
+    subst ArePrefixes (taken ∙ sym recorded) c.in_ok-listed.ensures.sequence.prefixes
 
 pub least_race-requires-clause-whole : goal.least_race-requires-clause-whole
 least_race-requires-clause-whole g c =

@@ -6,7 +6,7 @@ use Rattle.gr_model.specs.Access.{memory_of}
 use Rattle.gr_model.specs.LawfulOrders.{IsAt}
 use Rattle.gr_explain.specs.LeastRaces.{IsRacePair}
 use Rattle.gr_explain.specs.Searching.{IsFound}
-use Rattle.gr_explain.specs.Telling.{AreFollowers}
+use Rattle.gr_explain.specs.Edges.{AreFollowers}
 use Rattle.gr_explain.proofs.PairOrder.{least_same}
 use Rattle.gr_explain.proofs.Sets.{no_id}
 use Rattle.gr_explain.proofs.Searching.{all_found, none_found, skip_place, skipped_place}

@@ -18,4 +18,4 @@ pub returns : goal.returns
 returns g c =
     let s = c.args.lanes.now in
     let size : c.items-item-end.result ≡ size_of s c.args.group = c.items-item-end.ensures.size ∙ ap (λ (sizes : List ℕ). slice_index sizes c.args.group) c.shape.ensures.sizes in
-    group_done s c.args.group c.loop-item.item c.loop-item.list.items c.loop-item.invariant c.shape.ensures.fronts (omega arith)
+    group_done s c.args.group c.loop-item.item c.loop-item.list.items c.loop-item.invariant c.shape.ensures.prefixes (omega arith)

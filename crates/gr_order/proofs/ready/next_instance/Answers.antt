@@ -20,7 +20,7 @@ all_stand_next-requires-clause-barrier g c =
     let group = c.args.group in
     let at : event_at s (next_of c.args.frontier.now (item_at group 0)) ≡ Some c.in-Some.mine = sym (first_waits s c.args.frontier.now c.args.windows.now c.requires.waiting (next_of c.args.frontier.now (item_at group 0)) refl) ∙ sym c.in-Some.ensures in
     let place : place_of s is_barrier (item_at group 0) c.in-Some-barrier_number.number ≡ Some (count_of c.args.frontier.now (item_at group 0)) = c.in-Some-barrier_number.ensures ∙ ap (λ (n : ℕ). Some n) c.get-index.ensures.count in
-    is_mark s c.args.frontier.now group c.requires.fronts c.in-Some.mine at c.in-Some-barrier_number.number place
+    is_mark s c.args.frontier.now group c.requires.prefixes c.in-Some.mine at c.in-Some-barrier_number.number place
 
 pub returns-then-all_stand_next : goal.returns-then-all_stand_next
 returns-then-all_stand_next g c =
@@ -28,9 +28,9 @@ returns-then-all_stand_next g c =
     let group = c.args.group in
     let at : event_at s (next_of c.args.frontier.now (item_at group 0)) ≡ Some c.in-Some.mine = sym (first_waits s c.args.frontier.now c.args.windows.now c.requires.waiting (next_of c.args.frontier.now (item_at group 0)) refl) ∙ sym c.in-Some.ensures in
     let place : place_of s is_barrier (item_at group 0) c.in-Some-barrier_number.number ≡ Some (count_of c.args.frontier.now (item_at group 0)) = c.in-Some-barrier_number.ensures ∙ ap (λ (n : ℕ). Some n) c.get-index.ensures.count in
-    let mark = some_mark (mark_of c.in-Some.mine) (is_mark s c.args.frontier.now group c.requires.fronts c.in-Some.mine at c.in-Some-barrier_number.number place) in
-    next_if s c.args.frontier.now group c.requires.fronts c.in-Some.mine at c.in-Some-barrier_number.number place mark.0 mark.1
-    (item_of_event s c.requires.fronts (next_of c.args.frontier.now (item_at group 0)) c.in-Some.mine at) (c.all_stand_next.ensures.0 c.if-all_stand_next.true)
+    let mark = some_mark (mark_of c.in-Some.mine) (is_mark s c.args.frontier.now group c.requires.prefixes c.in-Some.mine at c.in-Some-barrier_number.number place) in
+    next_if s c.args.frontier.now group c.requires.prefixes c.in-Some.mine at c.in-Some-barrier_number.number place mark.0 mark.1
+    (item_of_event s c.requires.prefixes (next_of c.args.frontier.now (item_at group 0)) c.in-Some.mine at) (c.all_stand_next.ensures.0 c.if-all_stand_next.true)
 
 pub returns-else-all_stand_next : goal.returns-else-all_stand_next
 returns-else-all_stand_next g c k h =
@@ -38,4 +38,4 @@ returns-else-all_stand_next g c k h =
     let group = c.args.group in
     let at : event_at s (next_of c.args.frontier.now (item_at group 0)) ≡ Some c.in-Some.mine = sym (first_waits s c.args.frontier.now c.args.windows.now c.requires.waiting (next_of c.args.frontier.now (item_at group 0)) refl) ∙ sym c.in-Some.ensures in
     let place : place_of s is_barrier (item_at group 0) c.in-Some-barrier_number.number ≡ Some (count_of c.args.frontier.now (item_at group 0)) = c.in-Some-barrier_number.ensures ∙ ap (λ (n : ℕ). Some n) c.get-index.ensures.count in
-    true≢false (sym (c.all_stand_next.ensures.1 (next_only s c.args.frontier.now group c.requires.fronts c.in-Some.mine at c.in-Some-barrier_number.number place k h)) ∙ c.if-all_stand_next.false)
+    true≢false (sym (c.all_stand_next.ensures.1 (next_only s c.args.frontier.now group c.requires.prefixes c.in-Some.mine at c.in-Some-barrier_number.number place k h)) ∙ c.if-all_stand_next.false)

@@ -9,8 +9,8 @@ returns-then-are_unused-clause-names c =
     let k : c.args.count - c.loop-place.place ≡ suc (c.args.count - (c.loop-place.place + 1)) = omega (arith, c.loop-place-test.true) in
     let unused = rw k at (sym c.are_unused.ensures ∙ c.if-are_unused.true) in
     let so_far = rw k at c.loop-place.invariant.2 in
-    let front = take c.loop-place.place c.loop-place.names in
-    sym (append-nil front) ∙ (rw (names_end (c.args.count - (c.loop-place.place + 1)) c.loop-place.rest.now unused) at so_far)
+    let prefix = take c.loop-place.place c.loop-place.names in
+    sym (append-nil prefix) ∙ (rw (names_end (c.args.count - (c.loop-place.place + 1)) c.loop-place.rest.now unused) at so_far)
 
 pub loop-place-preserved : goal.loop-place-preserved
 loop-place-preserved c =
@@ -20,11 +20,11 @@ loop-place-preserved c =
     let long = rw k at c.loop-place.invariant.0 in
     let so_far = rw (k, names_next n c.loop-place.rest.now used) at c.loop-place.invariant.2 in
     let room : c.loop-place.place < length c.loop-place.names = omega (arith, c.loop-place-test.true, c.requires.few, c.loop-place.invariant.1) in
-    let front = take c.loop-place.place c.loop-place.names in
+    let prefix = take c.loop-place.place c.loop-place.names in
     rw (take_rest c.loop-place.rest.now 8, c.read_name.ensures, take_more_set c.loop-place.names c.loop-place.place (name_in c.loop-place.rest.now) room) (
       omega (arith, long, length-drop 8 c.loop-place.rest.now),
       omega (arith, c.loop-place.invariant.1, length-set c.loop-place.names c.loop-place.place (name_in c.loop-place.rest.now)),
-      append_assoc front (name_in c.loop-place.rest.now ∷ []) (names_in n (drop 8 c.loop-place.rest.now)) ∙ so_far,
+      append_assoc prefix (name_in c.loop-place.rest.now ∷ []) (names_in n (drop 8 c.loop-place.rest.now)) ∙ so_far,
     )
 
 pub returns-clause-names : goal.returns-clause-names

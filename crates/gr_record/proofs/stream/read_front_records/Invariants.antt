@@ -2,8 +2,8 @@ use Rattle.std.proofs.Common.{◌≡◌, ◌-◌}
 use Rattle.gr_model.specs.declared.limits.TheConstants.{MOST_RECORDS}
 use Rattle.gr_record.specs.Fronts.{records_of}
 use Rattle.gr_record.specs.WholeStreams.{whole, front_records_at}
-use Rattle.gr_record.proofs.Loop.{with_front}
+use Rattle.gr_record.proofs.Loop.{with_prefix}
 use Rattle.gr_record.proofs.stream.read_front_records.Given as goal
 
 abbrev pub invariant-loop : goal.invariant-loop
-invariant-loop g l = whole (with_front l.events.items (records_of l.header (MOST_RECORDS - l.counter) l.rest)) ≡ front_records_at l.header l.bytes
+invariant-loop g l = whole (with_prefix l.events.items (records_of l.header (MOST_RECORDS - l.counter) l.rest)) ≡ front_records_at l.header l.bytes

@@ -3,7 +3,7 @@ use Rattle.gr_replay.proofs.Reporting.{races_are_listed}
 use Rattle.gr_replay.proofs.detect.report_of.Goals as goal
 
 pub records_of-requires-clause-groups : goal.records_of-requires-clause-groups
-records_of-requires-clause-groups g c = c.groups-2.ensures.count ∙ (ap length c.requires.shape ∙ sym c.requires.sequence.fronts.count)
+records_of-requires-clause-groups g c = c.groups-2.ensures.count ∙ (ap length c.requires.shape ∙ sym c.requires.sequence.prefixes.count)
 
 pub returns : goal.returns
 returns g c =

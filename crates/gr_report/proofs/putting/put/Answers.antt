@@ -1,10 +1,10 @@
 use Rattle.std.proofs.Common.{sym}
 use Rattle.std.proofs.lemmas.Bool.{eqb-true}
-use Rattle.gr_report.proofs.PuttingLemmas.{Front-more, puts_whole, puts_some, puts_failed}
+use Rattle.gr_report.proofs.PuttingLemmas.{Prefix-more, puts_whole, puts_some, puts_failed}
 use Rattle.gr_report.proofs.putting.put.Goals as goal
 
 pub loop-rest-preserved : goal.loop-rest-preserved
-loop-rest-preserved g c = Front-more _ _ _ _ c.loop-rest.rest.now c.in-Ok.n c.loop-rest.invariant c.in-Ok.ensures.bytes
+loop-rest-preserved g c = Prefix-more _ _ _ _ c.loop-rest.rest.now c.in-Ok.n c.loop-rest.invariant c.in-Ok.ensures.bytes
 
 pub returns-in-Err-clause-puts : goal.returns-in-Err-clause-puts
 returns-in-Err-clause-puts g c = puts_failed _ _ _ _ c.loop-rest.rest.now c.loop-rest.invariant c.in-Err.ensures.bytes

@@ -1,4 +1,4 @@
-use Rattle.gr_route.proofs.FrontLemmas.{end_makes_whole, end_makes_accepted}
+use Rattle.gr_route.proofs.PrefixLemmas.{end_makes_whole, end_makes_accepted}
 use Rattle.gr_route.proofs.laws.end_makes_whole.Goals as goal
 
 pub returns-clause-whole : goal.returns-clause-whole

@@ -3,7 +3,7 @@ use Rattle.gr_model.specs.declared.event.Name.{Name}
 use Rattle.gr_model.specs.Streams.{Streams}
 use Rattle.gr_order.specs.Sequences.{Sequence}
 use Rattle.gr_steps.specs.Steps.{IsReady}
-use Rattle.gr_agenda.specs.Kept.{AreCalm}
+use Rattle.gr_agenda.specs.Kept.{AreUndiverged}
 use Rattle.gr_agenda.specs.Lists.{IsWaiting}
 use Rattle.gr_agenda.proofs.KeptLemmas.{kept_handled, meet_behind}
 use Rattle.gr_agenda.proofs.agenda.Agenda.add.Goals as goal
@@ -23,7 +23,7 @@ invariant_of-self g c =
           (λ n i waits. inr waits)
           (λ n at place. absurd (let clash : None ≡ Some n = sym c.in-None.is ∙ c.name_of-released.ensures n at place in cc))
           c.add.new.self c.add.ensures.step,
-      subst (λ (s : Streams). AreCalm s c.self.inside.calm.items) (sym c.add.ensures.step.taken) c.self.invariant.1,
+      subst (λ (s : Streams). AreUndiverged s c.self.inside.undiverged.items) (sym c.add.ensures.step.taken) c.self.invariant.1,
     )
 
 pub invariant_of-self-in-Some : goal.invariant_of-self-in-Some
@@ -42,5 +42,5 @@ invariant_of-self-in-Some g c =
           let same : c.in-Some.name ≡ n = let both : Some c.in-Some.name ≡ Some n = sym c.in-Some.is ∙ c.name_of-released.ensures n at place in cc in
           c.wake.ensures.woken i (subst (λ (m : Name). IsWaiting c.self.inside.waiting.items m i) (sym same) waits))
           c.add.new.self c.add.ensures.step,
-      subst (λ (s : Streams). AreCalm s c.self.inside.calm.items) (sym c.add.ensures.step.taken) c.self.invariant.1,
+      subst (λ (s : Streams). AreUndiverged s c.self.inside.undiverged.items) (sym c.add.ensures.step.taken) c.self.invariant.1,
     )

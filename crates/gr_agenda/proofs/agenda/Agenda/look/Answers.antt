@@ -15,11 +15,11 @@ invariant_of-self g c =
           (λ r has apart. c.drop_last.ensures r has (λ last. apart (one_last t r step last c.in-Some.ensures)))
           c.note.ensures.keeps
           (λ d n held same. inr (c.in-Ok.ensures.noted d n held same)),
-      c.calm_down.ensures c.self.invariant.1,
+      c.mark_undiverged.ensures c.self.invariant.1,
     )
 
 pub invariant_of-self-in-Err : goal.invariant_of-self-in-Err
-invariant_of-self-in-Err g c = (record { ready = λ r can. c.miss.ensures r; waits = λ d n held. inl (c.miss.ensures (Item d.at)) }, c.calm_down.ensures c.self.invariant.1)
+invariant_of-self-in-Err g c = (record { ready = λ r can. c.miss.ensures r; waits = λ d n held. inl (c.miss.ensures (Item d.at)) }, c.mark_undiverged.ensures c.self.invariant.1)
 
-pub calm_down-requires : goal.calm_down-requires
-calm_down-requires g c can = true≢false (sym (c.can_make.ensures.1 (subst (λ p. CanMake p c.in-Some.step) c.self.view_is can)) ∙ c.if-can_make.false)
+pub mark_undiverged-requires : goal.mark_undiverged-requires
+mark_undiverged-requires g c can = true≢false (sym (c.can_make.ensures.1 (subst (λ p. CanMake p c.in-Some.step) c.self.view_is can)) ∙ c.if-can_make.false)

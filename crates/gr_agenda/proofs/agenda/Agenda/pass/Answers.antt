@@ -4,7 +4,7 @@ use Rattle.gr_model.specs.Streams.{Streams, size_of}
 use Rattle.gr_order.specs.Sequences.{MeetsInstance, Sequence}
 use Rattle.gr_steps.specs.Steps.{CanMeet, IsMeeting}
 use Rattle.gr_order.proofs.MeetLemmas.{no_group_meets}
-use Rattle.gr_agenda.specs.Kept.{AreCalm}
+use Rattle.gr_agenda.specs.Kept.{AreUndiverged}
 use Rattle.gr_agenda.proofs.KeptLemmas.{kept_met}
 use Rattle.gr_agenda.proofs.agenda.Agenda.pass.Goals as goal
 
@@ -31,7 +31,7 @@ invariant_of-self g c =
           c.args.group can.0 c.pass.new.self met
           (c.put_items.ensures.keeps _ c.put.ensures.there)
           (λ i lt. c.put_items.ensures.there i (omega (arith, lt, size))),
-      subst (λ (s : Streams). AreCalm s c.self.inside.calm.items) (sym met.taken) c.self.invariant.1,
+      subst (λ (s : Streams). AreUndiverged s c.self.inside.undiverged.items) (sym met.taken) c.self.invariant.1,
     )
 
 pub returns-clause-step : goal.returns-clause-step

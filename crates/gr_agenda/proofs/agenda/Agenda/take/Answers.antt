@@ -1,6 +1,6 @@
 use Rattle.std.proofs.Common.{◌≡◌, ◌∙◌, List, ℕ, ap, arith, get_or, sym, ⊎_elim, true≢false}
 use Rattle.gr_model.specs.Streams.{Streams, size_of}
-use Rattle.gr_agenda.proofs.CalmLemmas.{calm_own, calm_wide}
+use Rattle.gr_agenda.proofs.UndivergedLemmas.{undiverged_own, undiverged_wide}
 use Rattle.gr_agenda.proofs.KeptLemmas.{took_own, took_wide}
 use Rattle.gr_agenda.proofs.agenda.Agenda.take.Goals as goal
 
@@ -8,8 +8,8 @@ pub invariant_of-self-then-wide : goal.invariant_of-self-then-wide
 invariant_of-self-then-wide g c =
     let size : c.items.result ≡ size_of c.take.new.self.taken c.args.group = c.items.ensures.size ∙ ap (λ (l : List ℕ). get_or l c.args.group 0) (c.shape.ensures.sizes ∙ ap (λ (s : Streams). s.sizes) c.lanes.ensures.taken) in (
       took_wide c.self.inside.order c.self.inside.todo c.put_items.new.todo c.self.inside.waiting.items c.self.invariant.0 (λ r has. c.put_items.ensures.keeps r (c.put.ensures.keeps r has)) c.args.group c.args.event
-          c.lanes-taken.ensures.sequence c.in_ok-take.ensures.ok.0 c.take.new.self c.in_ok-take.ensures.ok.1 (c.put_items.ensures.keeps _ c.put.ensures.there) c.take.ensures.sequence.fronts (λ i lt. c.put_items.ensures.there i (omega (arith, lt, size))),
-      calm_wide c.self.inside.order c.take.new.self c.lanes-taken.ensures.sequence c.args.group c.args.event c.in_ok-take.ensures.ok.0 c.in_ok-take.ensures.ok.1 c.self.inside.calm.items c.self.invariant.1 c.unsettle.new.calm.items c.unsettle.ensures,
+          c.lanes-taken.ensures.sequence c.in_ok-take.ensures.ok.0 c.take.new.self c.in_ok-take.ensures.ok.1 (c.put_items.ensures.keeps _ c.put.ensures.there) c.take.ensures.sequence.prefixes (λ i lt. c.put_items.ensures.there i (omega (arith, lt, size))),
+      undiverged_wide c.self.inside.order c.take.new.self c.lanes-taken.ensures.sequence c.args.group c.args.event c.in_ok-take.ensures.ok.0 c.in_ok-take.ensures.ok.1 c.self.inside.undiverged.items c.self.invariant.1 c.forget_undiverged.new.undiverged.items c.forget_undiverged.ensures,
     )
 
 pub invariant_of-self-else-wide : goal.invariant_of-self-else-wide
@@ -19,6 +19,6 @@ invariant_of-self-else-wide g c =
     (λ plain. (
       took_own c.self.inside.order c.self.inside.todo c.put-else-wide.new.self c.self.inside.waiting.items c.self.invariant.0 c.put-else-wide.ensures.keeps c.args.group c.args.event
           c.lanes-taken.ensures.sequence c.in_ok-take.ensures.ok.0 c.take.new.self c.in_ok-take.ensures.ok.1 plain.0 plain.1 c.put-else-wide.ensures.there,
-      calm_own c.self.inside.order c.take.new.self c.lanes-taken.ensures.sequence c.args.group c.args.event c.in_ok-take.ensures.ok.0 c.in_ok-take.ensures.ok.1 c.self.inside.calm.items c.self.invariant.1 plain.0 plain.1,
+      undiverged_own c.self.inside.order c.take.new.self c.lanes-taken.ensures.sequence c.args.group c.args.event c.in_ok-take.ensures.ok.0 c.in_ok-take.ensures.ok.1 c.self.inside.undiverged.items c.self.invariant.1 plain.0 plain.1,
     ))
     c.is_wide-wide.ensures

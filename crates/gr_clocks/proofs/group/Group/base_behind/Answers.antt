@@ -12,4 +12,4 @@ returns-clause-met g c =
     let size : slice_index c.args.self.now.sizes c.args.self.now.number ≡ length c.args.self.now.clocks = subst (λ (x : GroupClocks). slice_index x.sizes x.number ≡ length x.clocks) is c.self.invariant.size in
     let shapes : (k : ℕ) → k < length c.args.self.now.clocks → sizes_of (clock_in_group c.args.self.now k) ≡ c.args.self.now.sizes = subst (λ (x : GroupClocks). (k : ℕ) → k < length x.clocks → sizes_of (clock_in_group x k) ≡ x.sizes) is (clock_sizes c.self.inside.number met c.self.inside.clocks.items c.self.inside.learned.items c.self.invariant) in
     let made : c.set_group.new.self ≡ set c.in_ok-base.base c.args.self.now.number c.in_ok-counts.counts.items = subst (λ (x : GroupClocks). c.set_group.new.self ≡ set c.in_ok-base.base x.number c.in_ok-counts.counts.items) is c.in_ok-set_group.ensures.ok in
-    met_base c.args.self.now c.requires.some there size shapes c.in_ok-base.base c.in_ok-base.ensures.gathered c.in_ok-counts.counts.items c.in_ok-counts.ensures.raised c.set_group.new.self made
+    met_base c.args.self.now c.requires.some there size shapes c.in_ok-base.base c.in_ok-base.ensures.merged c.in_ok-counts.counts.items c.in_ok-counts.ensures.raised c.set_group.new.self made

@@ -13,5 +13,5 @@ returns-in-Some g c =
     let list = c.self.inside.list in
     let last = sym c.self.invariant.ending ∙ c.in-Some.is in (
       λ cut. subst (λ (v : GroupList). EndsCut v.list) c.self.view_is (cut_if_last list c.in-Some.event last (c.is_cut.ensures.0 cut)),
-      λ cut. c.is_cut.ensures.1 (last_if_cut list c.self.invariant.indices.front.good c.in-Some.event last (subst (λ (v : GroupList). EndsCut v.list) (sym c.self.view_is) cut)),
+      λ cut. c.is_cut.ensures.1 (last_if_cut list c.self.invariant.indices.prefix.good c.in-Some.event last (subst (λ (v : GroupList). EndsCut v.list) (sym c.self.view_is) cut)),
     )

@@ -18,5 +18,5 @@ returns-clause-nothing g c =
     let whole : take c.loop-group.group c.args.shape ≡ c.args.shape = take_all c.loop-group.group c.args.shape (omega (arith, c.groups-group-end.ensures.count)) in
     nothing_is c.args.shape c.loop-group.groups.items (c.loop-group.invariant ∙ ap (map empty) whole)
 
-pub returns-clause-fronts : goal.returns-clause-fronts
-returns-clause-fronts g c = (invariant_of-result g c).fronts
+pub returns-clause-prefixes : goal.returns-clause-prefixes
+returns-clause-prefixes g c = (invariant_of-result g c).prefixes

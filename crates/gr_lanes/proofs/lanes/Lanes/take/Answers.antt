@@ -4,7 +4,7 @@ use Rattle.gr_model.specs.declared.limits.TheConstants.{MOST_RECORDS}
 use Rattle.gr_model.specs.Streams.{Streams, is_complete, list_of, size_of}
 use Rattle.std.specs.Prelude.{IsTrue}
 use Rattle.gr_lanes.specs.Indices.{taken_of}
-use Rattle.gr_lanes.proofs.GroupLemmas.{Taking, fronts_so, group_list, group_size, group_there, set_groups, taken_so}
+use Rattle.gr_lanes.proofs.GroupLemmas.{Taking, prefixes_so, group_list, group_size, group_there, set_groups, taken_so}
 use Rattle.gr_lanes.proofs.lanes.Lanes.take.Given as given
 use Rattle.gr_lanes.proofs.lanes.Lanes.take.Goals as goal
 
@@ -38,5 +38,5 @@ invariant_of-self-2 g c = set_groups (at_hand g c)
 pub returns-clause-ok : goal.returns-clause-ok
 returns-clause-ok g c = taken_so (at_hand g c) c.args.self.now c.args.group c.self.view_is c.from.ensures
 
-pub returns-clause-fronts : goal.returns-clause-fronts
-returns-clause-fronts g c = fronts_so (at_hand g c)
+pub returns-clause-prefixes : goal.returns-clause-prefixes
+returns-clause-prefixes g c = prefixes_so (at_hand g c)

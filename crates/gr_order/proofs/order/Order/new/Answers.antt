@@ -4,6 +4,6 @@ use Rattle.gr_order.proofs.order.Order.new.Goals as goal
 
 pub invariant_of-result : goal.invariant_of-result
 invariant_of-result g c = record {
-  state = new_state c.args.shape c.in_ok-lanes.lanes c.in_ok-lanes.ensures.nothing c.in_ok-lanes.ensures.fronts c.in-Ok.clock c.in-Ok.ensures.zero c.new-handled.result c.new-handled.ensures;
+  state = new_state c.args.shape c.in_ok-lanes.lanes c.in_ok-lanes.ensures.nothing c.in_ok-lanes.ensures.prefixes c.in-Ok.clock c.in-Ok.ensures.zero c.new-handled.result c.new-handled.ensures;
   waits = none_wait c.args.shape c.in_ok-lanes.lanes c.in_ok-lanes.ensures.nothing c.in-Ok.clock c.in_ok-windows.windows c.in_ok-windows.ensures;
 }

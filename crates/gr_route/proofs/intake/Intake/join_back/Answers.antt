@@ -2,7 +2,7 @@ use Rattle.std.proofs.Common.{sym, subst, ◌∙◌, refl}
 use Rattle.crossbeam_queue.specs.Passes.{view as known}
 use Rattle.gr_route.specs.declared.intake_rule.IntakeView.{IntakeView}
 use Rattle.gr_route.specs.IntakeRule.{TakerLearns}
-use Rattle.gr_route.proofs.FrontLemmas.{end_makes_whole}
+use Rattle.gr_route.proofs.PrefixLemmas.{end_makes_whole}
 use Rattle.gr_route.proofs.IntakeSteps.{joins_as, taker_learns_as, taker_again, delivery_as, delivered_last}
 use Rattle.gr_route.proofs.intake.Intake.join_back.Goals as goal
 
@@ -27,4 +27,4 @@ returns-clause-delivered g c =
 pub returns-clause-whole : goal.returns-clause-whole
 returns-clause-whole g c =
     let last = returns-clause-delivered g c in
-    end_makes_whole _ _ _ last.stream last.front
+    end_makes_whole _ _ _ last.stream last.prefix

@@ -2,7 +2,7 @@ use Rattle.std.proofs.Common.{sym, subst, ◌∙◌}
 use Rattle.crossbeam_queue.specs.Passes.{view as known}
 use Rattle.gr_route.specs.declared.work_rule.WorkView.{WorkView}
 use Rattle.gr_route.specs.WorkRule.{WorkerLearns}
-use Rattle.gr_route.proofs.WorkSteps.{joins_as, worker_learns_as, worker_again, delivery_as, front_as, whole_as}
+use Rattle.gr_route.proofs.WorkSteps.{joins_as, worker_learns_as, worker_again, delivery_as, prefix_as, whole_as}
 use Rattle.gr_route.proofs.work.WorkQueue.join_back.Goals as goal
 
 pub absorb-requires-clause-rule : goal.absorb-requires-clause-rule
@@ -19,11 +19,11 @@ returns-clause-delivery g c =
     (worker_again (known c.worker.inside.pass) (known c.giver.inside.pass) _ _ c.worker.invariant.known (same ∙ c.absorb.ensures.rule))
     (subst (λ (v : WorkView _). WorkerLearns v told.0) (sym same) told.1)
 
-pub returns-clause-front : goal.returns-clause-front
-returns-clause-front g c =
+pub returns-clause-prefix : goal.returns-clause-prefix
+returns-clause-prefix g c =
     let told = c.learn_as.ensures.rule in
     let same = c.learn_as.ensures.queue.1 in
-    front_as _ _ (known c.worker.inside.pass) (known c.giver.inside.pass) (known c.learn_as.new.pass) told.0 c.giver.view_is (same ∙ c.absorb.ensures.rule) (subst (λ (v : WorkView _). WorkerLearns v told.0) (sym same) told.1)
+    prefix_as _ _ (known c.worker.inside.pass) (known c.giver.inside.pass) (known c.learn_as.new.pass) told.0 c.giver.view_is (same ∙ c.absorb.ensures.rule) (subst (λ (v : WorkView _). WorkerLearns v told.0) (sym same) told.1)
 
 pub returns-clause-whole : goal.returns-clause-whole
 returns-clause-whole g c =

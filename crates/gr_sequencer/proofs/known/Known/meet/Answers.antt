@@ -1,5 +1,5 @@
 use Rattle.std.proofs.Common.{Err, ap, ◌∙◌, subst, sym}
-use Rattle.gr_clocks.specs.ItemClocks.{IsGroupSpent, ItemClocks, Meets}
+use Rattle.gr_clocks.specs.ItemClocks.{IsGroupSpent, ItemClocks, MeetsClocks}
 use Rattle.gr_model.specs.Barriers.{IsConvergent}
 use Rattle.gr_model.specs.Instances.{Mark}
 use Rattle.std.specs.Prelude.{OnOk}
@@ -11,14 +11,14 @@ unreachable-requires g c = c.requires.free (subst (λ k. IsGroupSpent k.clocks c
 
 pub returns-clause-meets : goal.returns-clause-meets
 returns-clause-meets g c =
-    let Told : ItemClocks → Type 0 = λ new. (a : Mark) → IsConvergent c.args.order.now.taken c.args.group c.args.instance a → Meets c.args.self.now.clocks c.args.group a.global a.local new in
+    let Told : ItemClocks → Type 0 = λ new. (a : Mark) → IsConvergent c.args.order.now.taken c.args.group c.args.instance a → MeetsClocks c.args.self.now.clocks c.args.group a.global a.local new in
     elim c.match-meet.branch [
       | in-Ok v ↦ subst (λ r. OnOk r (Told c.meet.new.self)) (sym v.result-is) (λ a convergent.
           let flags = c.flags_of-global.ensures a convergent in
           let clocks = c.self.inside.clocks in
           let new = c.meet.new.self in
           let group = c.args.group in
-          let met = subst (λ r. OnOk r (Meets clocks group c.flags_of-global.result.0 c.flags_of-global.result.1 new)) v.in-Ok.is c.meet.ensures.ok in
-          subst (λ k. Meets k.clocks group a.global a.local new) c.self.view_is (subst (λ b. Meets clocks group a.global b new) flags.1 (subst (λ b. Meets clocks group b c.flags_of-global.result.1 new) flags.0 met)))
+          let met = subst (λ r. OnOk r (MeetsClocks clocks group c.flags_of-global.result.0 c.flags_of-global.result.1 new)) v.in-Ok.is c.meet.ensures.ok in
+          subst (λ k. MeetsClocks k.clocks group a.global a.local new) c.self.view_is (subst (λ b. MeetsClocks clocks group a.global b new) flags.1 (subst (λ b. MeetsClocks clocks group b c.flags_of-global.result.1 new) flags.0 met)))
       | in-Err+in-Memory v ↦ subst (λ r. OnOk r (Told c.meet.new.self)) (sym v.result-is) tt
     ]

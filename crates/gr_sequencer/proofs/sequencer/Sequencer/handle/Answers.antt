@@ -16,14 +16,14 @@ advance-requires-clause-next g c =
     let known = c.self.inside.known in
     let kept = c.keep.new.self in
     let next : IsNext s q.handled known e = record {
-      fronts = c.in-Some.ensures.sequence.fronts;
+      prefixes = c.in-Some.ensures.sequence.prefixes;
       lawful = c.in-Some.ensures.sequence.lawful;
       follows = subst {A = Sequence} (λ p. IsKnown p.taken p.handled known) (sym c.order-order.ensures.order) c.self.invariant;
       ready = c.in-Some.ensures.next.1;
     } in
     let clocks = subst (AreTrue s q.handled) (sym c.keep.ensures.clocks) next.follows.clocks in
     let left = left_early s q.handled known e next kept.left c.keep.ensures.others in
-    record { fronts = next.fronts; lawful = next.lawful; follows = record { clocks = clocks; left = left }; ready = next.ready }
+    record { prefixes = next.prefixes; lawful = next.lawful; follows = record { clocks = clocks; left = left }; ready = next.ready }
 
 pub invariant_of-self-2 : goal.invariant_of-self-2
 invariant_of-self-2 g c =
@@ -35,7 +35,7 @@ invariant_of-self-2 g c =
     let now = c.advance.new.self in
     let longer : List EventId = q.handled ++ e ∷ [] in
     let next : IsNext s q.handled known e = record {
-      fronts = c.in-Some.ensures.sequence.fronts;
+      prefixes = c.in-Some.ensures.sequence.prefixes;
       lawful = c.in-Some.ensures.sequence.lawful;
       follows = subst {A = Sequence} (λ p. IsKnown p.taken p.handled known) (sym c.order-order.ensures.order) c.self.invariant;
       ready = c.in-Some.ensures.next.1;

@@ -9,7 +9,7 @@ meet-requires-clause-free g c =
     let q = c.order-order.result.now in
     let known_is = subst {A = Sequence} (λ p. IsKnown p.taken p.handled c.self.inside.known) (sym c.order-order.ensures.order) c.self.invariant in
     let can = c.in-Some.ensures.meeting in
-    group_unspent q.taken q.handled c.args.group c.in-Some.instance c.self.inside.known.clocks c.in-Some.ensures.sequence.fronts c.in-Some.ensures.sequence.lawful known_is.clocks can.0 can.1
+    group_unspent q.taken q.handled c.args.group c.in-Some.instance c.self.inside.known.clocks c.in-Some.ensures.sequence.prefixes c.in-Some.ensures.sequence.lawful known_is.clocks can.0 can.1
 
 pub invariant_of-self-2 : goal.invariant_of-self-2
 invariant_of-self-2 g c =
@@ -21,11 +21,11 @@ invariant_of-self-2 g c =
     let can = c.in-Some.ensures.meeting in
     let step = subst {A = Sequence} (λ p. MeetsNext p c.args.group c.pass.new.self) (sym c.order-order.ensures.order) c.pass.ensures.step k can.0 can.1 in
     let met = step.meets in
-    let fronts = c.in-Some.ensures.sequence.fronts in
+    let prefixes = c.in-Some.ensures.sequence.prefixes in
     let lawful = c.in-Some.ensures.sequence.lawful in
     let meets = c.in_ok-meet.ensures.meets met.mark met.meeting.convergent in
-    let clocks = meets_true q.taken q.handled c.args.group k known.clocks fronts lawful known_is.clocks met.mark met.meeting new.handled met.barriers met.are met.order c.meet.new.self.clocks met.mark.global met.mark.local refl refl meets in
-    let left = left_behind q.taken q.handled c.args.group k known.clocks fronts lawful known_is.clocks met.mark met.meeting new.handled met.barriers met.are met.order c.meet.new.self.left (subst (AreLeft q.taken q.handled) (sym c.in_ok-meet.ensures.left) known_is.left) in
+    let clocks = meets_true q.taken q.handled c.args.group k known.clocks prefixes lawful known_is.clocks met.mark met.meeting new.handled met.barriers met.are met.order c.meet.new.self.clocks met.mark.global met.mark.local refl refl meets in
+    let left = left_behind q.taken q.handled c.args.group k known.clocks prefixes lawful known_is.clocks met.mark met.meeting new.handled met.barriers met.are met.order c.meet.new.self.left (subst (AreLeft q.taken q.handled) (sym c.in_ok-meet.ensures.left) known_is.left) in
     subst (λ s. IsKnown s new.handled c.meet.new.self) (sym step.taken) (record { clocks = clocks; left = left })
 
 pub returns-clause-step : goal.returns-clause-step

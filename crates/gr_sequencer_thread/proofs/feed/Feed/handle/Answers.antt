@@ -4,18 +4,18 @@ use Rattle.gr_clocks.specs.ClockedAccess.{ClockedAccess, clocked}
 use Rattle.gr_model.specs.Streams.{Streams}
 use Rattle.gr_sequencer.specs.Answers.{IsStep}
 use Rattle.gr_sequencer.specs.declared.handled.Handled.TheVariants.{Meet, One}
-use Rattle.gr_sequencer_thread.specs.Feeds.{ArePassed, AreSeated, AreTaken, Feed, given_of}
+use Rattle.gr_sequencer_thread.specs.Feeds.{ArePassedOn, AreSeated, AreTaken, Feed, given_of}
 use Rattle.gr_sequencer_thread.proofs.StepLemmas.{handled_passed, met_passed}
 use Rattle.gr_sequencer_thread.proofs.feed.Feed.handle.Goals as goal
 
 pub invariant_of-self-in-Ok-Some-One : goal.invariant_of-self-in-Ok-Some-One
 invariant_of-self-in-Ok-Some-One g c =
     let step : IsStep c.self.inside.sequencer c.step.new.self (One c.in-Ok-Some-One.field-0-0-0 c.in-Ok-Some-One.access) = search rules in
-    let none : option_map clocked c.self.inside.way ≡ None = ap (λ (f : Feed g.row.A.Denot). f.way) c.self.view_is ∙ c.requires.0 in
+    let none : option_map clocked c.self.inside.in_flight ≡ None = ap (λ (f : Feed g.row.A.Denot). f.in_flight) c.self.view_is ∙ c.requires.0 in
     record {
       config = c.self.invariant.config;
       queues = c.self.invariant.queues;
-      crew = c.self.invariant.crew;
+      worker_count = c.self.invariant.worker_count;
       seated = subst (λ (s : Streams). AreSeated c.self.inside.config s.sizes c.self.inside.inlets.items) (sym step.0.taken) c.self.invariant.seated;
       unstopped = c.self.invariant.unstopped;
       good = λ f.
@@ -24,7 +24,7 @@ invariant_of-self-in-Ok-Some-One g c =
             sequence = c.step.ensures.sequence;
             taken = subst (λ (s : Streams). AreTaken c.self.inside.config s c.self.inside.inlets.items) (sym step.0.taken) was.taken;
             passed = handled_passed c.self.inside.config c.self.inside.sequencer c.step.new.self (given_of c.self.inside.outlets.items) c.in-Ok-Some-One.field-0-0-0 c.in-Ok-Some-One.access step.0 step.1
-                (subst (ArePassed c.self.inside.config c.self.inside.sequencer (given_of c.self.inside.outlets.items)) none was.passed);
+                (subst (ArePassedOn c.self.inside.config c.self.inside.sequencer (given_of c.self.inside.outlets.items)) none was.passed);
           };
     }
 
@@ -34,7 +34,7 @@ invariant_of-self-in-Ok-Some-Meet g c =
     record {
       config = c.self.invariant.config;
       queues = c.self.invariant.queues;
-      crew = c.self.invariant.crew;
+      worker_count = c.self.invariant.worker_count;
       seated = subst (λ (s : Streams). AreSeated c.self.inside.config s.sizes c.self.inside.inlets.items) (sym step.taken) c.self.invariant.seated;
       unstopped = c.self.invariant.unstopped;
       good = λ f.
@@ -42,6 +42,6 @@ invariant_of-self-in-Ok-Some-Meet g c =
           record {
             sequence = c.step.ensures.sequence;
             taken = subst (λ (s : Streams). AreTaken c.self.inside.config s c.self.inside.inlets.items) (sym step.taken) was.taken;
-            passed = met_passed c.self.inside.config c.self.inside.sequencer c.step.new.self (given_of c.self.inside.outlets.items) (option_map clocked c.self.inside.way) c.in-Ok-Some-Meet.field-0-0-0 c.in-Ok-Some-Meet.field-0-0-1 step was.passed;
+            passed = met_passed c.self.inside.config c.self.inside.sequencer c.step.new.self (given_of c.self.inside.outlets.items) (option_map clocked c.self.inside.in_flight) c.in-Ok-Some-Meet.field-0-0-0 c.in-Ok-Some-Meet.field-0-0-1 step was.passed;
           };
     }

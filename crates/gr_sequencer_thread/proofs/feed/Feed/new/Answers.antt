@@ -5,7 +5,7 @@ pub invariant_of-result : goal.invariant_of-result
 invariant_of-result g c = record {
   config = c.queues.ensures.config;
   queues = c.requires.fresh.queues;
-  crew = c.requires.fresh.crew;
+  worker_count = c.requires.fresh.worker_count;
   seated = c.requires.fresh.seated;
   unstopped = fresh_unstopped c.args.config c.queues.ensures.config c.args.sequencer c.at_end.ensures.sequence c.requires.sequencer c.args.inlets.items c.args.outlets.items c.requires.fresh;
   good = λ f. fresh_good c.args.config c.queues.ensures.config c.args.sequencer c.at_end.ensures.sequence c.requires.sequencer c.args.inlets.items c.args.outlets.items c.requires.fresh;

@@ -5,7 +5,7 @@ use Rattle.std.proofs.Math.Seq.{map-set_same}
 use Rattle.gr_clocks.specs.ClockedAccess.{ClockedAccess, clocked}
 use Rattle.gr_model.specs.Configs.{worker_number}
 use Rattle.gr_route.specs.WorkSeats.{Giver}
-use Rattle.gr_sequencer_thread.specs.Feeds.{AreOpen, ArePassed, Feed, IsFeed, given_of, intakes_of, works_of}
+use Rattle.gr_sequencer_thread.specs.Feeds.{AreOpen, ArePassedOn, Feed, IsFeed, given_of, intakes_of, works_of}
 use Rattle.gr_sequencer_thread.proofs.StepLemmas.{giving, pushed_passed, still_unstopped, worker_below}
 use Rattle.gr_sequencer_thread.proofs.feed.Feed.pass.Goals as goal
 
@@ -19,24 +19,24 @@ invariant_of-self-in-Ok g c =
     let there : k < config.workers = subst (λ n. n < config.workers) (sym to) (worker_below x.word config.workers (let some = c.self.invariant.config.workers.0 in omega (arith, some))) in
     let at : o ≡ get_or c.self.inside.outlets.items k o = c.index_mut.ensures.value in
     let pushed : c.push.new.self ≡ giving o x = search rules in
-    let was_way : option_map clocked c.self.inside.way ≡ Some (clocked x) = ap (option_map clocked) (let is : c.self.inside.way ≡ Some x = search rules in is) in
-    let now_way : option_map clocked c.take.new.self ≡ None = ap (option_map clocked) c.take.ensures.after in
+    let was_in_flight : option_map clocked c.self.inside.in_flight ≡ Some (clocked x) = ap (option_map clocked) (let is : c.self.inside.in_flight ≡ Some x = search rules in is) in
+    let now_in_flight : option_map clocked c.take.new.self ≡ None = ap (option_map clocked) c.take.ensures.after in
     record {
       config = c.self.invariant.config;
       queues = c.self.invariant.queues;
-      crew = length-set c.self.inside.outlets.items k c.push.new.self ∙ c.self.invariant.crew;
+      worker_count = length-set c.self.inside.outlets.items k c.push.new.self ∙ c.self.invariant.worker_count;
       seated = c.self.invariant.seated;
       unstopped = subst (λ (g' : Giver g.row.A.Denot). AreOpen (set c.self.inside.outlets.items k g')) (sym pushed)
-          (still_unstopped config c.self.inside.sequencer c.self.inside.outlets.items c.self.invariant.crew x k to there o at c.self.invariant.unstopped);
+          (still_unstopped config c.self.inside.sequencer c.self.inside.outlets.items c.self.invariant.worker_count x k to there o at c.self.invariant.unstopped);
       good = λ f.
           let was = c.self.invariant.good f in
           record {
             sequence = was.sequence;
             taken = was.taken;
-            passed = subst (λ (w : Option ClockedAccess). ArePassed config c.self.inside.sequencer (given_of (set c.self.inside.outlets.items k c.push.new.self)) w) (sym now_way)
-                (subst (λ (g' : Giver g.row.A.Denot). ArePassed config c.self.inside.sequencer (given_of (set c.self.inside.outlets.items k g')) None) (sym pushed)
-                (pushed_passed config c.self.inside.sequencer c.self.inside.outlets.items c.self.invariant.crew x k to there o at
-                (subst (ArePassed config c.self.inside.sequencer (given_of c.self.inside.outlets.items)) was_way was.passed)));
+            passed = subst (λ (w : Option ClockedAccess). ArePassedOn config c.self.inside.sequencer (given_of (set c.self.inside.outlets.items k c.push.new.self)) w) (sym now_in_flight)
+                (subst (λ (g' : Giver g.row.A.Denot). ArePassedOn config c.self.inside.sequencer (given_of (set c.self.inside.outlets.items k g')) None) (sym pushed)
+                (pushed_passed config c.self.inside.sequencer c.self.inside.outlets.items c.self.invariant.worker_count x k to there o at
+                (subst (ArePassedOn config c.self.inside.sequencer (given_of c.self.inside.outlets.items)) was_in_flight was.passed)));
           };
     }
 
@@ -50,9 +50,9 @@ invariant_of-self-in-Err-Access g c =
     let back : c.push.new.self ≡ o = search rules in
     let kept : set outlets k c.push.new.self ≡ outlets = ap (set outlets k) (back ∙ at) ∙ set-get_or outlets k o in
     let same : c.in-Err-Access.access ≡ x = search rules in
-    let way : option_map clocked c.self.inside.way ≡ Some (clocked c.in-Err-Access.access) = ap (option_map clocked) (let is : c.self.inside.way ≡ Some x = search rules in is) ∙ ap (λ a. Some (clocked a)) (sym same) in
-    subst (λ (gs : List (Giver g.row.A.Denot)). IsFeed (record { config = c.self.inside.config; sequence = c.self.inside.sequencer; takers = c.self.inside.inlets.items; givers = gs; way = Some (clocked c.in-Err-Access.access); failed = c.self.inside.failed })) (sym kept)
-    (subst (λ (w : Option ClockedAccess). IsFeed {A = g.row.A.Denot} (record { config = c.self.inside.config; sequence = c.self.inside.sequencer; takers = c.self.inside.inlets.items; givers = outlets; way = w; failed = c.self.inside.failed })) way c.self.invariant)
+    let way : option_map clocked c.self.inside.in_flight ≡ Some (clocked c.in-Err-Access.access) = ap (option_map clocked) (let is : c.self.inside.in_flight ≡ Some x = search rules in is) ∙ ap (λ a. Some (clocked a)) (sym same) in
+    subst (λ (gs : List (Giver g.row.A.Denot)). IsFeed (record { config = c.self.inside.config; sequence = c.self.inside.sequencer; takers = c.self.inside.inlets.items; givers = gs; in_flight = Some (clocked c.in-Err-Access.access); failed = c.self.inside.failed })) (sym kept)
+    (subst (λ (w : Option ClockedAccess). IsFeed {A = g.row.A.Denot} (record { config = c.self.inside.config; sequence = c.self.inside.sequencer; takers = c.self.inside.inlets.items; givers = outlets; in_flight = w; failed = c.self.inside.failed })) in_flight c.self.invariant)
 
 pub returns-in-Ok : goal.returns-in-Ok
 returns-in-Ok g c =

@@ -10,7 +10,7 @@ use Rattle.gr_report.specs.declared.report.Report.{Report}
 use Rattle.gr_report.specs.Whole.{whole_of}
 use Rattle.gr_route.specs.WorkSeats.{Giver}
 use Rattle.gr_sequencer_thread.specs.Ends.{IsEnd, IsFound}
-use Rattle.gr_sequencer_thread.specs.Feeds.{ArePassed, Feed, IsOver, IsWhole, given_of, works_of}
+use Rattle.gr_sequencer_thread.specs.Feeds.{ArePassedOn, Feed, IsOver, IsFeedWhole, given_of, works_of}
 use Rattle.gr_sequencer_thread.proofs.feed.Feed.stop.Goals as goal
 
 whole_back : {X : Type 0} (n : ℕ) (was now : List X) → length was ≡ n → length now ≡ length was → take n (now ++ drop (length now) was) ≡ now
@@ -35,20 +35,20 @@ of-requires g c =
     let count : length now ≡ length was = sym (length-map now (λ (u : Giver g.row.A.Denot). u.queue)) ∙ (ap length queues ∙ length-map was (λ (u : Giver g.row.A.Denot). u.queue)) in
     let len : length was ≡ c.self.inside.outlets.len = search rules in
     let sizes : seq.taken.sizes ≡ c.args.shape = ap (λ (u : Feed g.row.A.Denot). u.sequence.taken.sizes) c.self.view_is ∙ c.requires.shape in
-    let whole : c.self.inside.failed ≡ false → IsWhole (record { config = config; sequence = seq; takers = takers; givers = now; way = None; failed = false }) = λ f.
+    let whole : c.self.inside.failed ≡ false → IsFeedWhole (record { config = config; sequence = seq; takers = takers; givers = now; in_flight = None; failed = false }) = λ f.
     let good = c.self.invariant.good f in
     let over : IsOver c.args.self = c.requires.over (sym (ap (λ (u : Feed g.row.A.Denot). u.failed) c.self.view_is) ∙ f) in
-    let way : option_map clocked c.self.inside.way ≡ None = ap (λ (u : Feed g.row.A.Denot). u.way) c.self.view_is ∙ over.way in
+    let way : option_map clocked c.self.inside.in_flight ≡ None = ap (λ (u : Feed g.row.A.Denot). u.in_flight) c.self.view_is ∙ over.in_flight in
     record {
       good = record {
         sequence = good.sequence;
         taken = good.taken;
-        passed = subst (λ (gs : List (List ClockedAccess)). ArePassed config seq gs None) (sym given) (subst (ArePassed config seq (given_of was)) way good.passed);
+        passed = subst (λ (gs : List (List ClockedAccess)). ArePassedOn config seq gs None) (sym given) (subst (ArePassedOn config seq (given_of was)) in_flight good.passed);
       };
       over = record {
         complete = subst (λ (u : Feed g.row.A.Denot). AreComplete u.sequence.taken) (sym c.self.view_is) over.complete;
         done = subst (λ (u : Feed g.row.A.Denot). IsDone u.sequence) (sym c.self.view_is) over.done;
-        way = refl;
+        in_flight = refl;
       };
     } in
     subst (λ (gs : List (Giver g.row.A.Denot)). IsEnd (record { config = config; sizes = c.args.shape; takers = takers; givers = gs; report = option_map whole_of c.findings-report.result }))
@@ -56,7 +56,7 @@ of-requires g c =
     (record {
       config = c.self.invariant.config;
       queues = c.self.invariant.queues;
-      crew = count ∙ c.self.invariant.crew;
+      worker_count = count ∙ c.self.invariant.worker_count;
       found = found_is c.findings-report.result (c.self.inside.failed ≡ false) (IsReportButRaces seq.taken) (IsFound config c.args.shape takers now) c.findings-report.ensures.failed c.findings-report.ensures.report
           (λ f w is. record { sequence = seq; sizes_are = sizes; whole = whole f; report_is = is });
     })

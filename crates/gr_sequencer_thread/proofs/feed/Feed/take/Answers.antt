@@ -5,8 +5,8 @@ use Rattle.std.proofs.Math.Seq.{map-set_same}
 use Rattle.gr_clocks.specs.ClockedAccess.{clocked}
 use Rattle.gr_model.specs.Streams.{Streams}
 use Rattle.gr_order.specs.Sequences.{Sequence, taking}
-use Rattle.gr_route.specs.IntakeSeats.{IsNext, Taker}
-use Rattle.gr_sequencer_thread.specs.Feeds.{ArePassed, AreSeated, AreTaken, Feed, given_of, intakes_of, works_of}
+use Rattle.gr_route.specs.IntakeSeats.{IsNextPopped, Taker}
+use Rattle.gr_sequencer_thread.specs.Feeds.{ArePassedOn, AreSeated, AreTaken, Feed, given_of, intakes_of, works_of}
 use Rattle.gr_sequencer_thread.proofs.TakeLemmas.{may_take, popping, still_seated, still_taken, taken_passed}
 use Rattle.gr_sequencer_thread.proofs.feed.Feed.take.Goals as goal
 
@@ -20,14 +20,14 @@ invariant_of-self-2 g c =
     let seq = c.self.inside.sequencer in
     let at : t ≡ get_or takers q t = c.index_mut.ensures.value in
     let there : q < config.queues = omega (arith, c.requires, ap (λ (f : Feed g.row.A.Denot). length f.takers) c.self.view_is, c.self.invariant.queues) in
-    let next : IsNext t s = search rules in
+    let next : IsNextPopped t s = search rules in
     let popped : c.pop.new.self ≡ popping t s = search rules in
     let seated = c.self.invariant.seated in
     let queues = c.self.invariant.queues in
     record {
       config = c.self.invariant.config;
       queues = length-set takers q c.pop.new.self ∙ queues;
-      crew = c.self.invariant.crew;
+      worker_count = c.self.invariant.worker_count;
       seated = subst (λ (sizes : List ℕ). AreSeated config sizes (set takers q c.pop.new.self)) (sym c.note-self-inside.ensures.sizes)
           (subst (λ (u : Taker). AreSeated config seq.taken.sizes (set takers q u)) (sym popped) (still_seated config seq.taken.sizes takers seated q t at there queues s next));
       unstopped = c.self.invariant.unstopped;
@@ -38,9 +38,9 @@ invariant_of-self-2 g c =
             sequence = now.2;
             taken = subst (λ (p : Sequence). AreTaken config p.taken (set takers q c.pop.new.self)) (sym now.1)
                 (subst (λ (u : Taker). AreTaken config (taking seq s.group s.event).taken (set takers q u)) (sym popped)
-                (still_taken config seq.taken.sizes takers seated q t at there queues s next seq.taken (let count = was.sequence.fronts.count in omega (arith, count)) was.taken));
-            passed = subst (λ (p : Sequence). ArePassed config p (given_of c.self.inside.outlets.items) (option_map clocked c.self.inside.way)) (sym now.1)
-                (taken_passed config seq.taken.sizes takers seated q t at there queues s next seq was.sequence (λ i. seq.taken.sizes) was.taken (given_of c.self.inside.outlets.items) (option_map clocked c.self.inside.way) was.passed);
+                (still_taken config seq.taken.sizes takers seated q t at there queues s next seq.taken (let count = was.sequence.prefixes.count in omega (arith, count)) was.taken));
+            passed = subst (λ (p : Sequence). ArePassedOn config p (given_of c.self.inside.outlets.items) (option_map clocked c.self.inside.in_flight)) (sym now.1)
+                (taken_passed config seq.taken.sizes takers seated q t at there queues s next seq was.sequence (λ i. seq.taken.sizes) was.taken (given_of c.self.inside.outlets.items) (option_map clocked c.self.inside.in_flight) was.passed);
           };
     }
 

@@ -1,5 +1,5 @@
 use Rattle.std.proofs.Common.{◌≡◌, ◌∙◌, None, ap, replicate, subst}
-use Rattle.gr_model.specs.Streams.{AreFronts}
+use Rattle.gr_model.specs.Streams.{ArePrefixes}
 use Rattle.gr_lanes.specs.Takes.{nothing_taken}
 use Rattle.gr_world.specs.Queues.{empty_queue, no_work}
 use Rattle.gr_world.specs.Views.{world_of}
@@ -16,8 +16,8 @@ invariant_of-result g c =
     let workers : w.workers ≡ replicate c.args.config.workers (no_work c.args.config.capacity) =
     c.in_ok-workers.ensures ∙ (ap (λ n. replicate n (no_work c.capacity-2.result)) c.workers.ensures.number ∙ ap (λ n. replicate c.args.config.workers (no_work n)) c.capacity-2.ensures.number) in
     newly_made w c.args.shape c.args.config
-    (λ k. record { config = c.args.config; sent = sent k; intakes = intakes k; sequence = c.in_ok-sequencer.ensures k; way = None; workers = workers k })
-    (subst AreFronts sent c.in_ok-sent.ensures.fronts)
+    (λ k. record { config = c.args.config; sent = sent k; intakes = intakes k; sequence = c.in_ok-sequencer.ensures k; in_flight = None; workers = workers k })
+    (subst ArePrefixes sent c.in_ok-sent.ensures.prefixes)
     c.queues.ensures.config
 
 pub returns-clause-world : goal.returns-clause-world

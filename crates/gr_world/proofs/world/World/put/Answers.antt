@@ -12,7 +12,7 @@ use Rattle.gr_world.proofs.world.World.put.Goals as goal
 
 pub invariant_of-self-2 : goal.invariant_of-self-2
 invariant_of-self-2 g c =
-    let w : World = world_of c.self.inside.config c.self.inside.sent c.self.inside.intakes.items c.self.inside.sequencer c.self.inside.way c.self.inside.workers.items in
+    let w : World = world_of c.self.inside.config c.self.inside.sent c.self.inside.intakes.items c.self.inside.sequencer c.self.inside.in_flight c.self.inside.workers.items in
     let sent : Sent = record { group = c.args.group; event = c.args.event } in
     let queue : c.from-queue.result ≡ queue_of w c.args.group = search rules in
     let there : c.from-queue.result < length c.self.inside.intakes.items = subst (λ n. n < length c.self.inside.intakes.items) (sym queue) (queue_there w c.self.invariant c.args.group) in
@@ -25,6 +25,6 @@ invariant_of-self-2 g c =
     (subst (λ (v : World). IsFalse (is_end c.args.event) → length (list_of v.sent c.args.group) + 1 < MOST_RECORDS) (sym c.self.view_is) c.requires.room)
     c.take.new.self
     (set c.self.inside.intakes.items c.from-queue.result c.push.new.self)
-    c.in-Ok.ensures.ok.1 c.in-Ok.ensures.fronts
+    c.in-Ok.ensures.ok.1 c.in-Ok.ensures.prefixes
     (ap (λ (b : Bounded Sent). set c.self.inside.intakes.items c.from-queue.result b) (c.push.ensures ∙ ap (λ (b : Bounded Sent). pushed b sent) now)
     ∙ ap (λ n. set c.self.inside.intakes.items n (pushed (intake_at w (queue_of w c.args.group)) sent)) queue)

@@ -1,6 +1,0 @@
-use Rattle.gr_clocks.specs.Counts.{sizes_of}
-use Rattle.gr_clocks.specs.Groups.{GathersFirst}
-use Rattle.gr_clocks.proofs.group.Group.gathered.Given as goal
-
-abbrev pub invariant-loop-item : goal.invariant-loop-item
-invariant-loop-item g l = GathersFirst l.self-inside.met.value (record { number = l.self-inside.number; sizes = sizes_of l.self-inside.met.value; clocks = l.self-inside.clocks.items }) l.item l.base

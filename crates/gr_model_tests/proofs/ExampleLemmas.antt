@@ -1,0 +1,231 @@
+-- The definitions, tried on small lists.
+use Rattle.std.proofs.Common.{◌≡◌, ℕ, zero, suc, ◌<◌, true, false, Option, Some, None, Contains, [], ◌∷◌, refl, sym, ◌∙◌, ap, inl, inr, lit<, option_map, subst, arith, IsTrue}
+use Rattle.gr_model.specs.declared.event.Space.TheVariants.{Global, Local}
+use Rattle.gr_model.specs.declared.event.Scope.TheVariants.{Group, Device}
+use Rattle.gr_model.specs.declared.event.Order.TheVariants.{Acquire, Both, Release}
+use Rattle.gr_model.specs.declared.event.Kind.TheVariants.{Load, Rmw, Store}
+use Rattle.gr_model.specs.declared.event.Name.{Name}
+use Rattle.gr_model.specs.declared.event.Event.{Event}
+use Rattle.gr_model.specs.declared.event.EventId.{EventId}
+use Rattle.gr_model.specs.declared.event.Word.{Word}
+use Rattle.gr_model.specs.declared.event.Word.TheVariants.{Global as GlobalWord, Local as LocalWord}
+use Rattle.gr_model.specs.declared.report.AcquireCause.TheVariants.{Absent, OtherWord, Behind}
+use Rattle.gr_model.specs.declared.report.DivergenceCause.TheVariants.{Missing}
+use Rattle.gr_model.specs.Access.{inclusive}
+use Rattle.gr_model.specs.Barriers.{IsConvergent, IsDivergent, Together, arrivals}
+use Rattle.gr_model.specs.HappensBefore.{HappensBefore, BasePair, IsInclusive, sequenced, synchronized, behind_barrier, by_pair, through}
+use Rattle.gr_model.specs.Instances.{HasDivergenceCause, Mark}
+use Rattle.gr_model.specs.Names.{Matches, HasAcquireCause, HasName, IsAbsent, IsOfItsWord}
+use Rattle.gr_model.specs.Reports.{IsCut}
+use Rattle.gr_model.specs.Streams.{Streams}
+use Rattle.gr_model.specs.Waits.{Stage, IsGrounded, IsPrevious, Waits, for_previous, for_release}
+use Rattle.gr_model.proofs.Descent.{stage_descends}
+use Rattle.gr_model_tests.specs.Examples.{access, acquire, acquire_of, the_end, release, event, half_there, handed_by_two, handed_over, names_itself, crossed, scopes_differ, two_releases, mixed, waiting, met, the_mark}
+
+handed_match : Matches handed_over (event 1 0 0) (event 0 0 1)
+handed_match = record { name = release 0 0 0; by = record { named = (0, lit< tt, refl); item = refl; place = refl; word = refl } }
+
+handed_inclusive : IsInclusive handed_over Global (event 0 0 1) (event 1 0 0)
+handed_inclusive = record {
+  first = access 0 (Store Device Release) Global 20;
+  second = acquire 0 (Load Device Acquire) 20 (release 0 0 0);
+  at_first = refl;
+  at_second = refl;
+  word = _;
+  has_word = refl;
+  memory = refl;
+  scopes = refl;
+}
+
+pub write_before_read : HappensBefore handed_over Global (event 0 0 0) (event 1 0 1)
+write_before_read =
+    through (through (by_pair (sequenced refl (lit< tt) (_, refl))) (synchronized handed_match handed_inclusive)) (sequenced refl (lit< tt) (_, refl))
+
+pub second_is_cut : IsCut handed_over 1
+second_is_cut = (lit< tt, 2, the_end true, refl, refl)
+
+-- ---- circles
+
+-- an event is not reached where each stage that has it has a lower one that has it
+no_lower : (s : Streams) (e : EventId) → ((n : ℕ) → Stage s n e → (q : ℕ) × (q < n) × Stage s q e) → (bound n : ℕ) → n < bound → Stage s n e → ⊥
+no_lower s e down zero n lt h = omega arith
+no_lower s e down (suc bound) n lt h = let low = down n h in no_lower s e down bound low.0 (omega (arith, low.1)) low.2
+
+itself_match : Matches names_itself (event 0 0 0) (event 0 0 0)
+itself_match = record { name = release 0 0 0; by = record { named = (0, lit< tt, refl); item = refl; place = refl; word = refl } }
+
+pub itself_is_held : ¬ IsGrounded names_itself (event 0 0 0)
+itself_is_held h = no_lower names_itself (event 0 0 0) (λ n k. stage_descends names_itself n (event 0 0 0) (event 0 0 0) k (for_release itself_match)) (suc h.0) h.0 (omega arith) h.1
+
+only_name : (m n : Name) → Contains (m ∷ []) n → m ≡ n
+only_name m n (zero, within, is) = is
+only_name m n (suc k, within, is) = absurd (omega (arith, within))
+
+pub itself_is_behind : HasAcquireCause names_itself (event 0 0 0) Behind
+itself_is_behind n named = subst (λ m. IsOfItsWord names_itself (event 0 0 0) m) (only_name (release 0 0 0) n named) (0, refl, refl)
+
+crossed_match : Matches crossed (event 0 0 0) (event 1 0 1)
+crossed_match = record { name = release 1 0 0; by = record { named = (0, lit< tt, refl); item = refl; place = refl; word = refl } }
+
+crossed_back : Matches crossed (event 1 0 0) (event 0 0 1)
+crossed_back = record { name = release 0 0 0; by = record { named = (0, lit< tt, refl); item = refl; place = refl; word = refl } }
+
+-- from an acquire to the release that it names, and on to the event before that
+half_round : (e d c : EventId) → Matches crossed e d → IsPrevious c d → (n : ℕ) → Stage crossed n e → (q : ℕ) × (q < n) × Stage crossed q c
+half_round e d c match previous n h =
+    let a = stage_descends crossed n e d h (for_release match) in
+    let b = stage_descends crossed a.0 d c a.2 (for_previous previous) in
+    (b.0, omega (arith, a.1, b.1), b.2)
+
+all_round : (e d c f g : EventId) → Matches crossed e d → IsPrevious c d → Matches crossed c f → IsPrevious e f → (n : ℕ) → Stage crossed n e → (q : ℕ) × (q < n) × Stage crossed q e
+all_round e d c f g there previous back last n h =
+    let a = half_round e d c there previous n h in
+    let b = half_round c f e back last a.0 a.2 in
+    (b.0, omega (arith, a.1, b.1), b.2)
+
+previous : (group : ℕ) → IsPrevious (event group 0 0) (event group 0 1)
+previous group = record { item = refl; next = refl }
+
+pub first_is_held : ¬ IsGrounded crossed (event 0 0 0)
+first_is_held h = no_lower crossed (event 0 0 0) (all_round (event 0 0 0) (event 1 0 1) (event 1 0 0) (event 0 0 1) (event 0 0 0) crossed_match (previous 1) crossed_back (previous 0)) (suc h.0) h.0 (omega arith) h.1
+
+pub second_is_held : ¬ IsGrounded crossed (event 1 0 0)
+second_is_held h = no_lower crossed (event 1 0 0) (all_round (event 1 0 0) (event 0 0 1) (event 0 0 0) (event 1 0 1) (event 1 0 0) crossed_back (previous 0) crossed_match (previous 1)) (suc h.0) h.0 (omega arith) h.1
+
+-- ---- scopes
+
+pub waits_all_the_same : Waits scopes_differ (event 0 1 0) (event 0 0 0)
+waits_all_the_same = for_release (record { name = release 0 0 0; by = record { named = (0, lit< tt, refl); item = refl; place = refl; word = refl } })
+
+zero_is_no_one : ◌≡◌ {A = ℕ} 0 1 → ⊥
+zero_is_no_one e = omega arith
+
+same_event : (m n : Event) → Some m ≡ Some n → m ≡ n
+same_event m n e = cc
+
+no_scope : (first second : Event) → access 0 (Store Group Release) Global 20 ≡ first → acquire 1 (Load Device Acquire) 20 (release 0 0 0) ≡ second → IsTrue (inclusive first.kind 0 second.kind 0) → ⊥
+no_scope first second a b scopes = let no : false ≡ true = (λ i. inclusive (a i).kind 0 (b i).kind 0) ∙ scopes in cc
+
+pub gives_no_pair : ¬ BasePair scopes_differ Global (event 0 0 0) (event 0 1 0)
+gives_no_pair (sequenced item below there) = zero_is_no_one (λ i. (item i).item)
+gives_no_pair (synchronized match inc) = no_scope inc.first inc.second (same_event _ inc.first inc.at_first) (same_event _ inc.second inc.at_second) inc.scopes
+gives_no_pair (behind_barrier a b flagged together item below there) = absurd (omega (arith, below))
+
+-- ---- releases
+
+zero_is_there : ◌≡◌ {A = Option ℕ} (Some 0) None → ⊥
+zero_is_there e = cc
+
+one_is_there : ◌≡◌ {A = Option ℕ} (Some 1) None → ⊥
+one_is_there e = cc
+
+other_words : (n : Name) → Contains (release 0 0 1 ∷ []) n → ¬ IsAbsent two_releases n
+other_words n named absent = one_is_there (subst (IsAbsent two_releases) (sym (only_name (release 0 0 1) n named)) absent)
+
+twenty_four : ◌≡◌ {A = Option (Option ℕ)} (Some (Some 20)) (Some (Some 24)) → ⊥
+twenty_four e = let n : ◌≡◌ {A = ℕ} 20 24 = cc in omega arith
+
+abbrev number_of : Word → Option ℕ
+number_of (GlobalWord w) = Some w
+number_of (LocalWord g w) = None
+
+pub of_another_word : HasAcquireCause two_releases (event 0 1 0) OtherWord
+of_another_word = (other_words, (release 0 0 1, (0, lit< tt, refl), (1, refl, λ same. twenty_four (ap (option_map number_of) same))))
+
+-- ---- several names
+
+by_first : Matches handed_by_two (event 2 0 0) (event 0 0 1)
+by_first = record { name = release 0 0 0; by = record { named = (0, lit< tt, refl); item = refl; place = refl; word = refl } }
+
+by_second : Matches handed_by_two (event 2 0 0) (event 1 0 1)
+by_second = record { name = release 1 0 0; by = record { named = (1, lit< tt, refl); item = refl; place = refl; word = refl } }
+
+first_inclusive : IsInclusive handed_by_two Global (event 0 0 1) (event 2 0 0)
+first_inclusive = record {
+  first = access 0 (Store Device Release) Global 20;
+  second = acquire_of 0 (Load Device Acquire) 20 (release 0 0 0 ∷ release 1 0 0 ∷ []);
+  at_first = refl;
+  at_second = refl;
+  word = _;
+  has_word = refl;
+  memory = refl;
+  scopes = refl;
+}
+
+second_inclusive : IsInclusive handed_by_two Global (event 1 0 1) (event 2 0 0)
+second_inclusive = record {
+  first = access 0 (Rmw Device Both) Global 20;
+  second = acquire_of 0 (Load Device Acquire) 20 (release 0 0 0 ∷ release 1 0 0 ∷ []);
+  at_first = refl;
+  at_second = refl;
+  word = _;
+  has_word = refl;
+  memory = refl;
+  scopes = refl;
+}
+
+pub first_before_read : HappensBefore handed_by_two Global (event 0 0 0) (event 2 0 1)
+first_before_read =
+    through (through (by_pair (sequenced refl (lit< tt) (_, refl))) (synchronized by_first first_inclusive)) (sequenced refl (lit< tt) (_, refl))
+
+pub second_before_read : HappensBefore handed_by_two Global (event 1 0 0) (event 2 0 2)
+second_before_read =
+    through (through (by_pair (sequenced refl (lit< tt) (_, refl))) (synchronized by_second second_inclusive)) (sequenced refl (lit< tt) (_, refl))
+
+pub one_is_absent : HasAcquireCause half_there (event 1 0 0) Absent
+one_is_absent = (release 0 0 2, (1, lit< tt, refl), refl)
+
+both_there : (n : Name) → HasName half_there (event 2 0 0) n → ¬ IsAbsent half_there n
+both_there n (zero, within, is) absent = zero_is_there (subst (IsAbsent half_there) (sym is) absent)
+both_there n (suc zero, within, is) absent = one_is_there (subst (IsAbsent half_there) (sym is) absent)
+both_there n (suc (suc k), within, is) absent = omega (arith, within)
+
+pub one_is_of_another_word : HasAcquireCause half_there (event 2 0 0) OtherWord
+one_is_of_another_word = (both_there, (release 0 0 0, (0, lit< tt, refl), (0, refl, λ same. twenty_four (sym (ap (option_map number_of) same)))))
+
+-- ---- instances
+
+pub mixed_first : IsDivergent mixed 0 0
+mixed_first = inl (0, 1, _, _, (lit< tt, refl), (lit< tt, refl), λ same. let sites : 1 ≡ 2 = (λ i. (same i).site) in omega arith)
+
+pub mixed_second : HasDivergenceCause true 2 (arrivals mixed 0 1) Missing
+mixed_second = (refl, (0, 1, _, (lit< tt, refl), lit< tt, refl))
+
+pub waiting_is_open : (a : Mark) → ¬ IsConvergent waiting 0 0 a
+waiting_is_open a c = let no : None ≡ Some a = c.1 1 (lit< tt) in cc
+
+-- one item has come, and the other has not
+came_first : (i : ℕ) (a : Mark) → arrivals waiting 0 0 i ≡ Some a → (i < 2) → i ≡ 0
+came_first zero a at lt = refl
+came_first (suc zero) a at lt = let no : None ≡ Some a = at in cc
+came_first (suc (suc i)) a at lt = absurd (omega arith)
+
+pub waiting_is_not_divergent : ¬ IsDivergent waiting 0 0
+waiting_is_not_divergent (inl both) =
+    let i : both.0 ≡ 0 = came_first both.0 both.2 both.4.1 both.4.0 in
+    let j : both.1 ≡ 0 = came_first both.1 both.3 both.5.1 both.5.0 in
+    let same : Some both.2 ≡ Some both.3 = sym both.4.1 ∙ (ap (arrivals waiting 0 0) (i ∙ sym j) ∙ both.5.1) in
+    both.6 (let e : both.2 ≡ both.3 = cc in e)
+waiting_is_not_divergent (inr missing) = let no : false ≡ true = missing.0 in cc
+
+-- ---- barriers
+
+pub met_converges : IsConvergent met 0 0 the_mark
+met_converges = (lit< tt, came)
+  where
+    came : (i : ℕ) → i < 2 → arrivals met 0 0 i ≡ Some the_mark
+    came zero lt = refl
+    came (suc zero) lt = refl
+    came (suc (suc i)) lt = absurd (omega arith)
+
+met_together : Together met the_mark (event 0 0 1) (event 0 1 0)
+met_together = record {
+  group = 0;
+  instance = 0;
+  convergent = met_converges;
+  first = record { group = refl; item = lit< tt; place = refl };
+  second = record { group = refl; item = lit< tt; place = refl };
+}
+
+pub write_meets_read : HappensBefore met Local (event 0 0 0) (event 0 1 1)
+write_meets_read = through (by_pair (sequenced refl (lit< tt) (_, refl))) (behind_barrier the_mark (event 0 1 0) refl met_together refl (lit< tt) (_, refl))

@@ -1,0 +1,80 @@
+//! The definitions, tried on small lists. Each clause is a worked example, proved.
+
+ghost use Rattle.std.specs.Prelude.{◌≡◌, true, Some, None, IsFalse};
+ghost use Rattle.gr_model.specs.Access.{word_in};
+ghost use Rattle.gr_model.specs.Barriers.{IsConvergent, IsDivergent, arrivals};
+ghost use Rattle.gr_model.specs.HappensBefore.{BasePair, HappensBefore};
+ghost use Rattle.gr_model.specs.Instances.{HasDivergenceCause, Mark, flags};
+ghost use Rattle.gr_model.specs.Names.{HasAcquireCause, release_place};
+ghost use Rattle.gr_model.specs.Reports.{IsCut};
+ghost use Rattle.gr_model.specs.Streams.{word_at};
+ghost use Rattle.gr_model.specs.Waits.{IsGrounded, Waits};
+ghost use Rattle.gr_model.specs.declared.event.Space.TheVariants.{Global, Local};
+ghost use Rattle.gr_model.specs.declared.report.AcquireCause.TheVariants.{Absent, OtherWord, Behind};
+ghost use Rattle.gr_model.specs.declared.report.DivergenceCause.TheVariants.{Missing};
+ghost use Rattle.gr_model_tests.specs.Examples.{event, release, half_there, handed_by_two, handed_over, names_itself, crossed, scopes_differ, two_releases, mixed, waiting, met, the_mark, local_words};
+
+/// What is handed over by a release and an acquire is ordered, from before the release to behind the acquire.
+pub fn a_release_hands_over()
+    ensures ordered { HappensBefore handed_over Global (event 0 0 0) (event 1 0 1) }
+    ensures cut { IsCut handed_over 1 }
+{}
+
+/// A name may point at an item or at a release that is not there.
+pub fn a_name_may_point_nowhere()
+    ensures no_item { release_place handed_over (release 5 0 0) ≡ None }
+    ensures no_release { release_place handed_over (release 0 0 1) ≡ None }
+{}
+
+/// What waits for itself is never reached, be it in one step or in many.
+pub fn circles_are_held()
+    ensures itself { ¬ IsGrounded names_itself (event 0 0 0) }
+    ensures cause { HasAcquireCause names_itself (event 0 0 0) Behind }
+    ensures first { ¬ IsGrounded crossed (event 0 0 0) }
+    ensures second { ¬ IsGrounded crossed (event 1 0 0) }
+{}
+
+/// An acquire waits for a release of another scope, which does not order it.
+pub fn another_scope_does_not_order()
+    ensures waits { Waits scopes_differ (event 0 1 0) (event 0 0 0) }
+    ensures unordered { ¬ BasePair scopes_differ Global (event 0 0 0) (event 0 1 0) }
+{}
+
+/// Releases are counted over all words and both memories.
+pub fn releases_are_counted_over_all_words()
+    ensures second { release_place two_releases (release 0 0 1) ≡ Some 1 }
+    ensures other_word { HasAcquireCause two_releases (event 0 1 0) OtherWord }
+{}
+
+/// An acquire that names two releases is ordered behind both.
+pub fn two_releases_hand_over()
+    ensures first { HappensBefore handed_by_two Global (event 0 0 0) (event 2 0 1) }
+    ensures second { HappensBefore handed_by_two Global (event 1 0 0) (event 2 0 2) }
+{}
+
+/// One release that is absent, or else one of another word, is enough for the cause, whatever the other names.
+pub fn one_name_gives_the_cause()
+    ensures absent { HasAcquireCause half_there (event 1 0 0) Absent }
+    ensures other_word { HasAcquireCause half_there (event 2 0 0) OtherWord }
+{}
+
+/// Instances count on after a divergent one, and an instance waits as long as its group's list is not complete.
+pub fn instances_are_told_apart()
+    ensures first { IsDivergent mixed 0 0 }
+    ensures second { HasDivergenceCause true 2 (arrivals mixed 0 1) Missing }
+    ensures waiting { (a : Mark) → ¬ IsConvergent waiting 0 0 a }
+    ensures not_yet { ¬ IsDivergent waiting 0 0 }
+{}
+
+/// A barrier orders the memory that it flags.
+pub fn a_barrier_orders_the_memory_that_it_flags()
+    ensures convergent { IsConvergent met 0 0 the_mark }
+    ensures flagged { HappensBefore met Local (event 0 0 0) (event 0 1 1) }
+    ensures other { IsFalse (flags the_mark Global) }
+{}
+
+/// Local words of two groups are two words.
+pub fn local_words_belong_to_their_groups()
+    ensures first { word_at local_words (event 0 0 0) ≡ Some (word_in Local 0 4) }
+    ensures second { word_at local_words (event 1 0 0) ≡ Some (word_in Local 1 4) }
+{}

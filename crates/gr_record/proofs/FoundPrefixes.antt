@@ -1,0 +1,142 @@
+-- What is read of bytes is a prefix, and is spelled so.
+use Rattle.std.proofs.Common.{◌≡◌, ℕ, zero, suc, ◌+◌, ◌<◌, ◌≤◌, Bool, true, false, List, [], ◌∷◌, ◌++◌, length, take, drop, Result, Ok, Err, refl, sym, ap, subst, ◌∙◌, append_assoc, arith, inl, inr}
+use Rattle.std.specs.Prelude.{IsTrue}
+use Rattle.std.proofs.lemmas.Bool.{lt-ltb, le-ltb, cases_lt, cases_Bool, both_ways}
+use Rattle.std.proofs.lemmas.List.{take-append-drop, append-nil, length-take, get_or-take, get_or_past}
+use Rattle.std.proofs.Math.Seq.{take-length}
+use Rattle.gr_model.specs.declared.event.Event.{Event}
+use Rattle.gr_model.specs.Events.{is_end}
+use Rattle.gr_model.specs.Streams.{is_complete}
+use Rattle.gr_record.specs.declared.error.RecordError.{RecordError}
+use Rattle.gr_record.specs.declared.header.Header.{Header}
+use Rattle.gr_record.specs.declared.stop.Stop.{Stop}
+use Rattle.gr_record.specs.declared.stop.Stop.TheVariants.{Inside, AtEnd, AtFault}
+use Rattle.gr_record.specs.declared.layout.TheConstants.{HEADER_LENGTH}
+use Rattle.gr_record.specs.Versions.{record_length}
+use Rattle.gr_record.specs.Spelling.{event_spelling, events_spelling, header_spelling, IsRecord}
+use Rattle.gr_record.specs.Reading.{header_at, event_at}
+use Rattle.gr_record.specs.Fronts.{Records, step, records_of}
+use Rattle.gr_record.specs.Laws.{AreBytes}
+use Rattle.gr_record.specs.Decoding.{close, under, read_from}
+use Rattle.gr_record.specs.PrefixLaws.{Runs, IsReadingOf, ReadPrefixIsSpelled}
+use Rattle.gr_record.proofs.Loop.{short, too_many, next}
+use Rattle.gr_record.proofs.Places.{bytes_drop}
+use Rattle.gr_record.proofs.Found.{read_is_spelled, read_header_is_spelled}
+
+pub bytes_take : (n : ℕ) (bytes : List ℕ) → AreBytes bytes → AreBytes (take n bytes)
+bytes_take n bytes h i =
+    elim (cases_lt i n) [
+      | inl lt ↦ rw (get_or-take n bytes i 0 lt) (h i)
+      | inr le ↦ rw (get_or_past (take n bytes) i 0 (omega (arith, length-take n bytes))) (omega arith)
+    ]
+
+take_whole : (xs : List ℕ) (n : ℕ) → length xs ≡ n → take n xs ≡ xs
+take_whole xs n len = subst (λ (k : ℕ). take k xs ≡ xs) len (take-length xs)
+
+fault_apart : (e : RecordError) → AtFault e ≡ Inside → ⊥
+fault_apart e h = absurd cc
+
+end_apart : AtEnd ≡ Inside → ⊥
+end_apart h = absurd cc
+
+-- ---- records
+
+abbrev pub is_at_end : Stop → Bool
+is_at_end Inside = false
+is_at_end AtEnd = true
+is_at_end (AtFault e) = false
+
+-- what is read is spelled so, and ends where reading stops at an end
+pub record Found (h : Header) (most : ℕ) (bytes : List ℕ) (r : Records) : Type 0 where
+  pub parts : bytes ≡ events_spelling h.version r.events ++ r.rest
+  pub runs : Runs h r.events
+  pub few : length r.events ≤ most
+  pub complete : is_complete r.events ≡ is_at_end r.stop
+  pub short : r.stop ≡ Inside → length r.rest < record_length h.version
+
+pub complete_behind : (e : Event) (es : List Event) → is_end e ≡ false → is_complete (e ∷ es) ≡ is_complete es
+complete_behind e [] on = on
+complete_behind e (f ∷ es) on = refl
+
+module _ (h : Header) where
+  abbrev size : ℕ
+  size = record_length h.version
+
+  -- a whole record, and what follows it
+  spelled : (e : Event) (bytes : List ℕ) → AreBytes bytes → size ≤ length bytes → event_at h (take size bytes) ≡ Ok e → (take size bytes ≡ event_spelling h.version e) × IsRecord h e
+  spelled e bytes fits long is =
+      let len : length (take size bytes) ≡ size = omega (arith, length-take size bytes) in
+      let s = read_is_spelled h e (take size bytes) (bytes_take size bytes fits) (omega arith) is in
+      (sym (take_whole (take size bytes) size len) ∙ s.0, s.1)
+
+  step_found : (most : ℕ) (bytes : List ℕ) → AreBytes bytes → size ≤ length bytes → (further : Records) → Found h most (drop size bytes) further
+      → (x : Result Event RecordError) → event_at h (take size bytes) ≡ x → Found h (suc most) bytes (step size x bytes further)
+  step_found most bytes fits long further found (Err e) is = record { parts = refl; runs = tt; few = omega arith; complete = refl; short = λ is_inside. absurd (fault_apart e is_inside) }
+  step_found most bytes fits long further found (Ok e) is =
+      let s = spelled e bytes fits long is in
+      let split : bytes ≡ event_spelling h.version e ++ drop size bytes = sym (take-append-drop size bytes) ∙ ap (λ (x : List ℕ). x ++ drop size bytes) s.0 in
+      elim (cases_Bool (is_end e)) [
+        | inl end ↦ rw end (record { parts = rw (append-nil (event_spelling h.version e)) split; runs = (s.1, λ _. refl, tt); few = omega arith; complete = end; short = λ is_inside. absurd (end_apart is_inside) })
+        | inr on ↦ rw on (record {
+          parts = split ∙ ap (λ (x : List ℕ). event_spelling h.version e ++ x) found.parts ∙ sym (append_assoc (event_spelling h.version e) (events_spelling h.version further.events) further.rest);
+          runs = (s.1, λ is_inside. absurd (both_ways (is_end e) on is_inside), found.runs);
+          few = omega (arith, found.few);
+          complete = complete_behind e further.events on ∙ found.complete;
+          short = found.short;
+        })
+      ]
+
+  short_found : (most : ℕ) (bytes : List ℕ) → length bytes < size → Found h most bytes (records_of h most bytes)
+  short_found most bytes lt = rw (short size (event_at h) most bytes lt) (record { parts = refl; runs = tt; few = omega arith; complete = refl; short = λ _. lt })
+
+  pub records_found : (most : ℕ) (bytes : List ℕ) → AreBytes bytes → Found h most bytes (records_of h most bytes)
+  records_found zero bytes fits =
+      elim (cases_lt (length bytes) size) [
+        | inl lt ↦ short_found zero bytes lt
+        | inr long ↦ rw (too_many size (event_at h) bytes long) (record { parts = refl; runs = tt; few = omega arith; complete = refl; short = λ is_inside. absurd (fault_apart _ is_inside) })
+      ]
+  records_found (suc most) bytes fits =
+      elim (cases_lt (length bytes) size) [
+        | inl lt ↦ short_found (suc most) bytes lt
+        | inr long ↦ rw (next size (event_at h) most bytes long) (step_found most bytes fits long (records_of h most (drop size bytes)) (records_found most (drop size bytes) (bytes_drop size bytes fits)) (event_at h (take size bytes)) refl)
+      ]
+
+-- ---- a header and its records
+
+closed_stop : (stop : Stop) (rest : List ℕ) → close stop rest ≡ AtEnd → (stop ≡ AtEnd) × (rest ≡ [])
+closed_stop Inside rest h = absurd cc
+closed_stop AtEnd [] h = (refl, refl)
+closed_stop AtEnd (b ∷ rest) h = absurd cc
+closed_stop (AtFault e) rest h = absurd cc
+
+closed_inside : (stop : Stop) (rest : List ℕ) → close stop rest ≡ Inside → stop ≡ Inside
+closed_inside Inside rest h = refl
+closed_inside AtEnd [] h = absurd cc
+closed_inside AtEnd (b ∷ rest) h = absurd cc
+closed_inside (AtFault e) rest h = absurd cc
+
+completed : (r : Records) → is_complete r.events ≡ is_at_end r.stop → r.stop ≡ AtEnd → IsTrue (is_complete r.events)
+completed r complete end = complete ∙ ap is_at_end end
+
+under_found : (limit : ℕ) (bytes : List ℕ) → AreBytes bytes → HEADER_LENGTH ≤ length bytes → (x : Result Header RecordError) → header_at (take HEADER_LENGTH bytes) ≡ x → IsReadingOf limit bytes (under x limit bytes)
+under_found limit bytes fits long (Err e) is = record { parts = refl; prefix = refl; ended = λ is_inside. absurd cc; short = λ is_inside. absurd (fault_apart e is_inside) }
+under_found limit bytes fits long (Ok h) is =
+    let len : length (take HEADER_LENGTH bytes) ≡ HEADER_LENGTH = omega (arith, length-take HEADER_LENGTH bytes) in
+    let s = read_header_is_spelled h (take HEADER_LENGTH bytes) (bytes_take HEADER_LENGTH bytes fits) (omega arith) is in
+    let r = records_of h limit (drop HEADER_LENGTH bytes) in
+    let f = records_found h limit (drop HEADER_LENGTH bytes) (bytes_drop HEADER_LENGTH bytes fits) in
+    let header : take HEADER_LENGTH bytes ≡ header_spelling h = sym (take_whole (take HEADER_LENGTH bytes) HEADER_LENGTH len) ∙ s.0 in
+    record {
+      parts = sym (take-append-drop HEADER_LENGTH bytes) ∙ ap (λ (x : List ℕ). x ++ drop HEADER_LENGTH bytes) header ∙ ap (λ (x : List ℕ). header_spelling h ++ x) f.parts ∙ sym (append_assoc (header_spelling h) (events_spelling h.version r.events) r.rest);
+      prefix = record { header = s.1; runs = f.runs; few = f.few };
+      ended = λ e. let c = closed_stop r.stop r.rest e in (completed r f.complete c.0, c.1);
+      short = λ e. f.short (closed_inside r.stop r.rest e);
+    }
+
+pub read_prefix_is_spelled : ReadPrefixIsSpelled
+unfolding read_from
+read_prefix_is_spelled limit bytes fits =
+    elim (cases_lt (length bytes) HEADER_LENGTH) [
+      | inl lt ↦ rw (lt-ltb (length bytes) HEADER_LENGTH lt) (record { parts = refl; prefix = refl; ended = λ is_inside. absurd cc; short = λ _. lt })
+      | inr long ↦ rw (le-ltb (length bytes) HEADER_LENGTH long) (under_found limit bytes fits long (header_at (take HEADER_LENGTH bytes)) refl)
+    ]

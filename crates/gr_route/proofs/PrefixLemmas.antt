@@ -1,0 +1,23 @@
+-- Prefixes of lists, and what a prefix of a work-group's stream says.
+use Rattle.std.proofs.Common.{◌≡◌, ◌≢◌, List, [], ◌∷◌, ◌++◌, refl, sym, ap, ◌∙◌, subst, append-nil}
+use Rattle.gr_model.specs.Streams.{IsPrefix}
+use Rattle.gr_model.proofs.StreamPrefixes.{prefix_whole}
+use Rattle.gr_route.specs.Prefixes.{EndMakesAccepted, EndMakesWhole}
+
+pub nil_prefix : {T : Type 0} (xs ys : List T) → xs ++ ys ≡ [] → xs ≡ []
+nil_prefix [] ys e = refl
+nil_prefix (x ∷ xs) ys e = absurd (cc)
+
+pub not_nil : {T : Type 0} (xs : List T) (y : T) (ys : List T) → xs ++ y ∷ ys ≢ []
+not_nil [] y ys e = cc
+not_nil (x ∷ xs) y ys e = cc
+
+-- ---- laws
+
+pub end_makes_whole : EndMakesWhole
+end_makes_whole n list xs prefix starts whole =
+    let none = prefix_whole n xs starts.0 (subst (IsPrefix n) starts.1 prefix) whole in
+    sym (starts.1 ∙ ap (λ r. xs ++ r) none ∙ append-nil xs)
+
+pub end_makes_accepted : EndMakesAccepted
+end_makes_accepted n list prefix whole = record { few = prefix.few; good = prefix.good; ended = whole }

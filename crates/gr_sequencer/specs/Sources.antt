@@ -1,0 +1,44 @@
+-- What an event learns from the releases that it names.
+-- Source: docs/MODEL.md, "Clocks".
+use Rattle.std.specs.Prelude.{◌≡◌, ◌≢◌, ◌↔◌, ℕ, ◌<◌, All, List, [], Option, None, Some}
+use Rattle.gr_model.specs.declared.event.EventId.{EventId}
+use Rattle.gr_model.specs.declared.event.Name.{Name}
+use Rattle.gr_model.specs.declared.event.Space.{Space}
+use Rattle.gr_model.specs.Access.{memory_of}
+use Rattle.gr_model.specs.Counts.{IsSeen}
+use Rattle.gr_model.specs.HappensBefore.{IsInclusive}
+use Rattle.gr_model.specs.Names.{MatchesBy}
+use Rattle.gr_model.specs.Streams.{Streams, word_at}
+use Rattle.gr_clocks.specs.Counts.{greatest_count, sizes_of}
+use Rattle.gr_clocks.specs.ItemClocks.{ReleaseClock, clocks_left}
+use Rattle.gr_closure.specs.Accesses.{CountsJust}
+use Rattle.gr_closure.specs.Knowledge.{Learns}
+
+-- in a memory, e learns of d from the release of this name
+pub record LearnsBy (s : Streams) (m : Space) (e : EventId) (n : Name) (d : EventId) : Type 0 where
+  pub release : EventId
+  pub by : MatchesBy s n e release
+  pub inclusive : IsInclusive s m release e
+  pub seen : IsSeen s m release d
+
+-- the event learns nothing from the release of this name
+abbrev pub LearnsNothing : Streams → EventId → Name → Type 0
+LearnsNothing s e n = (m : Space) (d : EventId) → ¬ LearnsBy s m e n d
+
+-- what an event learns from the release of this name: it has the event's word, and counts just what is learned in the word's memory, where alone something is
+pub record IsSource (s : Streams) (e : EventId) (n : Name) (left : ReleaseClock) : Type 0 where
+  pub word : word_at s e ≡ Some left.word
+  pub shape : sizes_of left.clock ≡ s.sizes
+  pub counts : CountsJust left.clock (LearnsBy s (memory_of left.word) e n)
+  pub others : (m : Space) (d : EventId) → m ≢ memory_of left.word → ¬ LearnsBy s m e n d
+
+-- what an event learns from the releases that it matches: all are on the event's word, and in each memory they count together just what is learned
+pub record AreSources (s : Streams) (e : EventId) (sources : List ReleaseClock) : Type 0 where
+  pub words : All (λ l. word_at s e ≡ Some l.word) sources
+  pub shapes : All (λ l. sizes_of l.clock ≡ s.sizes) sources
+  pub counts : (m : Space) (d : EventId) → (d.index < greatest_count (clocks_left m sources) d.at) ↔ Learns s m e d
+
+-- the sources that there are
+abbrev pub sources_in : Option (List ReleaseClock) → List ReleaseClock
+sources_in None = []
+sources_in (Some sources) = sources
