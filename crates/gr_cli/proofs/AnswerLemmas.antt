@@ -78,7 +78,7 @@ module _ {T X : Type 0} (remaining : T → Option (List ℕ)) (Gives : List ℕ 
   pub no_memory_to_display : (old new old_errors new_errors : Option (List ℕ)) (status : ℕ) → IsFaultTold old new old_errors new_errors status Memory → IsDisplay remaining Gives files w old new old_errors new_errors status
   no_memory_to_display old new old_errors new_errors status told = inr (Memory, record { fault = inl (inl refl); told = told; prefix = λ h. absurd cc })
 
--- where memory was wanting before the task began
+-- where memory ran out before the task began
 pub no_memory : (t : Task) (input old new old_errors new_errors : Option (List ℕ)) (status : ℕ) → IsFaultTold old new old_errors new_errors status Memory → IsAnswerOf t input old new old_errors new_errors status
 no_memory Replay input old new old_errors new_errors status told =
     inr (Memory, record { fault = at_any input (λ bytes. IsReplayFault bytes Memory) (λ bytes. inl (inl tt)); told = told; prefix = λ h. absurd cc })
@@ -99,7 +99,7 @@ pub fails_by : {T : Type 0} (kinds : Kinds) (e : Error) (r : Result T Error) →
 fails_by kinds e (Ok x) h k = absurd h
 fails_by kinds e (Err y) h k = subst (HasKind kinds) (sym h) k
 
--- what is left behind where the words are wrong, and where they ask for help; memory may be wanting in both
+-- what is left behind where the words are wrong, and where they ask for help; memory may run out in both
 module _ (k : ErrorKind) (kinds : Kinds) (old new old_errors new_errors : Option (List ℕ)) (status : ℕ)
     (memory : k ≡ OutOfMemory → IsFaultTold old new old_errors new_errors status Memory) (among : (k ≡ OutOfMemory) ⊎ IsAmong k kinds) where
   pub wrong_of : (IsWrongUsage k → (status ≡ USAGE) × Keeps old new) → AreWrong kinds → ((status ≡ USAGE) ⊎ (status ≡ WANTING)) × Keeps old new
@@ -111,7 +111,7 @@ module _ (k : ErrorKind) (kinds : Kinds) (old new old_errors new_errors : Option
   pub help_of : (IsHelp k → (status ≡ NOTHING) ⊎ (status ≡ FAILED)) → AreHelp kinds → (status ≡ NOTHING) ⊎ (status ≡ WANTING) ⊎ (status ≡ FAILED)
   help_of help are = elim among [ inl e ↦ inr (inl (memory e).ends) | inr a ↦ elim (help (are.1 k a)) [ inl n ↦ inl n | inr f ↦ inr (inr f) ] ]
 
--- words that are taken fail for want of memory alone
+-- words that are taken fail only where memory runs out
 pub only_memory : (k : ErrorKind) (kinds : Kinds) → kinds ≡ [] → (k ≡ OutOfMemory) ⊎ IsAmong k kinds → k ≡ OutOfMemory
 only_memory k kinds none (inl memory) = memory
 only_memory k kinds none (inr among) = let nothing : IsAmong k [] = rw none at among in absurd nothing

@@ -22,7 +22,7 @@ pub const REFUSED: u8 = 2;
 /// The arguments are wrong.
 pub const USAGE: u8 = 3;
 
-/// Memory or a thread was wanting.
+/// Memory ran out, or a thread could not be started.
 pub const WANTING: u8 = 4;
 
 /// Reading or writing failed.

@@ -54,7 +54,7 @@ pub(crate) fn join_intakes<A: Allocator>(inlets: &mut [Inlet<A>], receipts: Vec<
     }
 }
 
-/// The words of two lists, where memory was wanting for neither.
+/// The words of two lists, where memory sufficed for both.
 fn merge_all<A: Allocator + Copy>(
     alloc: A,
     words: Result<Vec<Word, A>, Memory>,
@@ -71,7 +71,7 @@ fn merge_all<A: Allocator + Copy>(
 /// given, in ascending order, each once.
 ///
 /// # Errors
-/// `Memory`, where it was wanting in whichever worker, too. All workers are joined all the same.
+/// `Memory`, where it ran out in whichever worker, too. All workers are joined all the same.
 pub(crate) fn settle_all<R: Threads, A: Allocator + Copy>(
     rt: &R,
     alloc: A,

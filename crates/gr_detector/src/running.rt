@@ -67,7 +67,7 @@ impl<A: Allocator + Copy> Running<A> {
     ///
     /// # Errors
     /// `Receipts` where not every work-group has one receipt, with the run and the receipts: nothing has then happened.
-    /// Else `Memory`, where it was wanting in whichever thread; the run is then over.
+    /// Else `Memory`, where it ran out in whichever thread; the run is then over.
     pub fn finish<R: Threads>(
         self,
         rt: &R,

@@ -138,7 +138,7 @@ fn first_wrong_growth(alloc: Global, inputs: &[Vec<u8>], case: &Case) -> Option<
 }
 
 #[test]
-fn words_are_shown_or_memory_is_wanting(rt: HostRuntime) -> Result<(), Fail> {
+fn words_are_shown_or_memory_runs_out(rt: HostRuntime) -> Result<(), Fail> {
     for case in CASES {
         let name = case.0;
         let inputs = inputs_of(rt.alloc(), case.1)?;

@@ -24,7 +24,7 @@ fails_through faults.Memory part total h go = tt
 fails_through faults.Read part total h go = tt
 fails_through f part total h go = go h
 
--- what an input means, want of memory and of the reader aside, is a fault that was answered
+-- what an input means, faults of memory and of the reader aside, is a fault that was answered
 pub fails : {Y : Type 0} (f : Fault) (meaning : Result Y Fault) → meaning ≡ Err f → Fails f meaning
 fails faults.Memory meaning h = tt
 fails faults.Read meaning h = tt

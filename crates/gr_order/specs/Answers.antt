@@ -13,12 +13,12 @@ abbrev pub CanMake : Sequence → Ready → Type 0
 CanMake q (Item i) = CanHandle q.taken q.handled i
 CanMake q (Group g) = CanMeet q.taken q.handled g
 
--- no event of the item may be handled; for want of memory one that may is not
+-- no event of the item may be handled; where memory runs out, one that may be is not
 abbrev pub IsHandleFault : Sequence → ItemId → GoError → Type 0
 IsHandleFault q i NotReady = ¬ CanHandle q.taken q.handled i
 IsHandleFault q i Memory = CanHandle q.taken q.handled i
 
--- no instance of the group may meet; for want of memory one that may does not
+-- no instance of the group may meet; where memory runs out, one that may does not
 abbrev pub IsMeetFault : Sequence → ℕ → GoError → Type 0
 IsMeetFault q g NotReady = ¬ CanMeet q.taken q.handled g
 IsMeetFault q g Memory = CanMeet q.taken q.handled g

@@ -1,4 +1,4 @@
--- Reading answers no want of memory: that is no fault of a stream.
+-- Reading never answers that memory ran out: that is no fault of a stream.
 use Rattle.std.proofs.Common.{◌≢◌, ℕ, Bool, true, false, cond, List, Option, Some, None, Result, Ok, Err}
 use Rattle.std.specs.Prelude.{nat_lt, nat_le, not, slice_index}
 use Rattle.gr_record.specs.declared.error.RecordError.{RecordError}

@@ -6,7 +6,7 @@ use Rattle.gr_record.specs.declared.error.RecordError.TheVariants as errors
 use Rattle.gr_record.specs.declared.fault.Fault.{Fault}
 use Rattle.gr_record.specs.declared.fault.Fault.TheVariants.{Stream, Read, Write, Memory, Threads}
 
--- the fault of the stream at a place; want of memory is no stream's
+-- the fault of the stream at a place; that memory ran out is no stream's
 abbrev pub stream_fault : ℕ → RecordError → Fault
 stream_fault place errors.Memory = Memory
 stream_fault place error = Stream place error

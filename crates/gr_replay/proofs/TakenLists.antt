@@ -69,7 +69,7 @@ room_for_next s before g i list there accepted lt so_far =
     let same : list_of before g ≡ take i list = ap (λ (t : Streams). list_of t g) so_far ∙ get_or-set_same s.lists g (take i list) [] there in
     omega (arith, ap length same, length-take-le i list (omega arith), accepted.few)
 
--- what may be taken is refused for want of memory alone
+-- what may be taken is refused only where memory runs out
 pub only_memory : (s : Streams) (g : ℕ) (x : Event) (e : SeqError) → CanTake s g x → IsTakeFault s g x e → e ≡ Memory
 only_memory s g x UnknownGroup can past = absurd (omega (arith, can.group))
 only_memory s g x (AfterEnd h) can (same, group, ended) = absurd (can.before_end ended)

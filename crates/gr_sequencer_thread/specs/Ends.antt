@@ -23,7 +23,7 @@ pub record Begin (A : Type 0) : Type 0 where
   pub takers : List Taker
   pub givers : List (Giver A)
 
--- what it leaves; the report is there unless memory was wanting, and has no races yet
+-- what it leaves; the report is there unless memory ran out, and has no races yet
 pub record End (A : Type 0) : Type 0 where
   pub config : Settings
   pub sizes : List ℕ

@@ -16,7 +16,7 @@ use Rattle.gr_shadow.specs.Clashes.{ClockedAccess}
 use Rattle.gr_threads.specs.Given.{accesses_in}
 use Rattle.gr_world.specs.Worlds.{in_flight_list}
 
--- how the run is set up; what was taken, and what of it was handled, in which order; the seats that pop, by queue; the seats that push, by worker; the access that was handled and pushed to no worker yet; whether memory was wanting
+-- how the run is set up; what was taken, and what of it was handled, in which order; the seats that pop, by queue; the seats that push, by worker; the access that was handled and pushed to no worker yet; whether memory ran out
 pub record Feed (A : Type 0) : Type 0 where
   pub config : Settings
   pub sequence : Sequence
@@ -60,7 +60,7 @@ pub record ArePassedOn (config : Settings) (sequence : Sequence) (given : List (
   pub along : AreAccesses sequence.taken sequence.handled accesses
   pub each : (k : ℕ) → k < config.workers → accesses_for config.workers k accesses ≡ slice_index_or given k [] ++ accesses_for config.workers k (in_flight_list way)
 
--- memory was never wanting
+-- memory never ran out
 pub record IsGood {A : Type 0} (f : Feed A) : Type 0 where
   pub sequence : IsSequence f.sequence
   pub taken : AreTaken f.config f.sequence.taken f.takers
@@ -107,7 +107,7 @@ pub record IsOver {A : Type 0} (f : Feed A) : Type 0 where
   pub done : IsDone f.sequence
   pub way : f.in_flight ≡ None
 
--- memory was never wanting, and all was taken, handled and passed on
+-- memory never ran out, and all was taken, handled and passed on
 pub record IsFeedWhole {A : Type 0} (f : Feed A) : Type 0 where
   pub good : IsGood f
   pub over : IsOver f

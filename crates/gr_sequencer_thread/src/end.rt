@@ -20,7 +20,7 @@ use std::alloc::{Allocator, Global};
 use std::marker::Model;
 
 /// What the sequencer's thread leaves. Contracts see how the run is set up, the items of each work-group, the seats of all
-/// queues, and the report but for its races, which is there unless memory was wanting.
+/// queues, and the report but for its races, which is there unless memory ran out.
 #[derive(Drop)]
 pub struct SequencerEnd<A: Allocator = Global> {
     config: Config,
@@ -43,7 +43,7 @@ impl<A: Allocator> Model for SequencerEnd<A> {
 }
 
 /// What the sequencer's thread leaves, taken apart: the ends of all intake queues and those of all workers' queues, in order,
-/// and the report but for its races, which is there unless memory was wanting.
+/// and the report but for its races, which is there unless memory ran out.
 #[derive(Drop)]
 pub struct Parts<A: Allocator = Global> {
     pub inlets: Vec<Inlet<A>, A>,
@@ -52,7 +52,7 @@ pub struct Parts<A: Allocator = Global> {
 }
 
 impl<A: Allocator> SequencerEnd<A> {
-    /// The end of a thread in which memory was wanting, or else all was taken, handled and passed on.
+    /// The end of a thread in which memory ran out, or else all was taken, handled and passed on.
     pub(crate) fn of(
         config: Config,
         shape: Shape<A>,
@@ -93,7 +93,7 @@ impl<A: Allocator> SequencerEnd<A> {
 }
 
 /// The report but for its races of a launch of this shape, of which a sequencer has taken all and has no step left, unless
-/// memory was wanting before, or is now.
+/// memory ran out before, or does now.
 pub(crate) fn findings<A: Allocator + Copy>(
     alloc: A,
     shape: &Shape<A>,

@@ -1,8 +1,8 @@
 //! What the sequencer's thread has, and its steps.
 //!
-//! Invariant, unless memory was wanting: what was taken of each group is what was popped of it, the handled order is
+//! Invariant, unless memory ran out: what was taken of each group is what was popped of it, the handled order is
 //! lawful, and what each worker was given, with what is on its way to it, are the accesses along that order that go to it.
-//! Where memory was wanting, events are popped and go nowhere.
+//! Where memory ran out, events are popped and go nowhere.
 
 ghost use Rattle.std.specs.Prelude.{◌≡◌, ◌<◌, false, None, IsTrue, length};
 ghost use Rattle.gr_model.specs.Streams.{AreComplete};
@@ -33,7 +33,7 @@ use std::time::Clock;
 const BURST: u32 = 64;
 
 /// What the sequencer's thread has. Contracts see how the run is set up, what was taken and handled, the seats of all
-/// queues, the access on its way, and whether memory was wanting.
+/// queues, the access on its way, and whether memory ran out.
 #[derive(Drop)]
 pub struct Feed<A: Allocator = Global> {
     config: Config,
@@ -67,7 +67,7 @@ pub(crate) fn left_open(open: u16, sent: &Sent) -> u16 {
     }
 }
 
-/// Has a sequencer take an event, which may be taken, unless memory was wanting before. Tells whether it was, before or now.
+/// Has a sequencer take an event, which may be taken, unless memory ran out before. Tells whether it was, before or now.
 fn note<A: Allocator>(sequencer: &mut Sequencer<A>, failed: bool, sent: &Sent) -> bool
     requires { failed ≡ false → MayTake sequencer.old sent.now }
     ensures taken { result ≡ false → failed ≡ false × (sequencer.new ≡ taking sequencer.old sent.now.group sent.now.event) × IsSequence sequencer.new }

@@ -24,7 +24,7 @@ use std::thread::{Promise, PromisedHandle, Threads};
 use std::time::Clock;
 
 /// Takes the events of all intake queues, handles them, and passes their accesses to the workers, until the end of every
-/// group was taken and nothing is left to do; then it tells the workers to stop. Where memory is wanting it goes on popping,
+/// group was taken and nothing is left to do; then it tells the workers to stop. Where memory runs out it goes on popping,
 /// and passes nothing more.
 fn run<R: Wait + Clock, A: Allocator + Copy, W: Watch>(
     rt: &R,
@@ -64,7 +64,7 @@ fn pop_any<R: Wait, A: Allocator>(rt: &R, inlets: &mut [Inlet<A>]) -> Option<Sen
     None
 }
 
-/// Pops the events of so many groups until the end of every one was popped, where memory was wanting from the beginning.
+/// Pops the events of so many groups until the end of every one was popped, where memory had run out from the beginning.
 fn pop_all<R: Wait + Clock, A: Allocator, W: Watch>(
     rt: &R,
     inlets: &mut [Inlet<A>],

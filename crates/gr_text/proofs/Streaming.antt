@@ -39,7 +39,7 @@ use Rattle.gr_text.specs.Dumps.{stream_at, streams_at, formed, with_stream}
 
 -- ---- one stream
 
--- want of memory aside, the error in its place is that of the whole
+-- where memory suffices, the error in its place is that of the whole
 fault_at-fails : {X Y : Type 0} (place : ℕ) (e : RecordError) (read : Result X RecordError) (whole : Result Y Fault) → record_spec.Fails e read → (read ≡ Err e → whole ≡ Err (faults.Stream place e)) → Fails (stream_fault place e) whole
 fault_at-fails place errors.Memory read whole h go = tt
 fault_at-fails place e read whole h go = go h

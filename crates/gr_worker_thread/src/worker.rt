@@ -1,7 +1,7 @@
 //! A worker, at its start and at its end.
 //!
-//! Invariant of its end: it popped the word that there are no more accesses, and its shadows, where memory was never
-//! wanting, stand for all accesses that it popped.
+//! Invariant of its end: it popped the word that there are no more accesses, and its shadows, where memory never
+//! ran out, stand for all accesses that it popped.
 
 ghost use Rattle.std.specs.Prelude.{◌≡◌, ◌<◌, ◌++◌, ◌∷◌, [], true, false, IfOk, IfSome, List, MatchOption};
 ghost use Rattle.std.specs.Arc.{arc_value};
@@ -49,7 +49,7 @@ impl<A: Allocator> Model for Worker<A> {
 pub struct WorkerEnd<A: Allocator = Global> {
     queue: Arc<WorkQueue<A>, A>,
     seat: WorkerSeat<A>,
-    // None where memory was wanting.
+    // None where memory ran out.
     shadows: Option<Shadows<A>>,
 }
 
@@ -83,7 +83,7 @@ impl<A: Allocator> Worker<A> {
     }
 }
 
-/// Gives shadows an access, if memory was never wanting before. They are gone where it is wanting now.
+/// Gives shadows an access, if memory never ran out before. They are gone where it runs out now.
 fn shade<A: Allocator + Copy, W: Watch>(
     shadows: Option<Shadows<A>>,
     number: u16,
@@ -104,7 +104,7 @@ fn shade<A: Allocator + Copy, W: Watch>(
     }
 }
 
-/// Applies the accesses that come through the worker's queue, until it is told to stop. Where memory is wanting it goes on
+/// Applies the accesses that come through the worker's queue, until it is told to stop. Where memory runs out it goes on
 /// popping, and applies nothing more.
 pub fn work<R: Wait + Clock, A: Allocator + Copy, W: Watch>(
     rt: &R,
@@ -145,7 +145,7 @@ impl<A: Allocator + Copy> WorkerEnd<A> {
     /// once.
     ///
     /// # Errors
-    /// `Memory`, also where memory was wanting while the worker worked.
+    /// `Memory`, also where memory ran out while the worker worked.
     pub fn settle(self, giver: GiverSeat<A>) -> Result<Vec<Word, A>, Memory>
         requires { giver.queue ≡ self.queue }
         ensures { IfOk result (λ words. Lists WordBelow (IsHitIn (accesses_in giver.pushed)) words.items) }

@@ -80,7 +80,7 @@ pub record IsAllowed (w : World) (step : Step) : Type 0 where
   pub free : ¬ IsBusy w step
   pub ready : ¬ IsNotReady w step
 
--- each cause stands where none before it does; memory can be wanting for a step that is allowed
+-- each cause stands where none before it does; memory can run out at a step that is allowed
 abbrev pub IsStepRefusal : World → Step → StepError → Type 0
 IsStepRefusal w step BadStep = IsBad w step
 IsStepRefusal w step NotOpen = ¬ IsBad w step × IsClosed w step
