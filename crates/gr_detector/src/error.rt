@@ -9,7 +9,7 @@ use thiserror::Error;
 #[derive(Clone, Copy, Debug, PartialEq, Eq, Error)]
 pub enum StartError {
     /// An allocation was refused before any thread was started.
-    #[error("memory is wanting")]
+    #[error("out of memory")]
     Memory,
     /// A thread could not be started, for whatever cause.
     #[error("a thread could not be started")]
