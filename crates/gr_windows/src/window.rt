@@ -61,7 +61,7 @@ impl<A: Allocator> Window<A> {
     pub(crate) fn pop_first(&mut self)
         ensures { self.new ≡ drop 1 self.old }
     {
-        let _ = self.events.pop_prefix();
+        let _ = self.events.pop_front();
     }
 
     /// Forgets the last event.

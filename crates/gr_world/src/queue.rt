@@ -77,6 +77,6 @@ impl<T, A: Allocator> Queue<T, A> {
     pub fn pop(&mut self) -> Option<T>
         ensures { MatchOption result ((self.old.items ≡ []) × (self.new ≡ self.old)) (λ x. (self.old.items ≡ x ∷ self.new.items) × (self.new ≡ leaving self.old self.new.items)) }
     {
-        self.items.pop_prefix()
+        self.items.pop_front()
     }
 }

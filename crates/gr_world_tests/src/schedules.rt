@@ -68,7 +68,7 @@ fn send(world: &mut World, sends: &mut VecDeque<Step>) -> Option<()> {
     };
     let tried = *front;
     if is_made(world, tried)? {
-        let _sent = sends.pop_prefix();
+        let _sent = sends.pop_front();
     }
     Some(())
 }
