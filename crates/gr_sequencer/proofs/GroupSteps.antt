@@ -19,12 +19,12 @@ use Rattle.gr_model.specs.Instances.{Mark, flags}
 use Rattle.gr_model.specs.LawfulOrders.{IsLawful}
 use Rattle.gr_model.specs.Shapes.{HasItem}
 use Rattle.gr_model.specs.Streams.{ArePrefixes, Streams, is_of, list_of, size_of, trace_of}
-use Rattle.gr_steps.specs.Steps.{AreBarriers, IsMeeting, MeetsClocks}
+use Rattle.gr_steps.specs.Steps.{AreBarriers, IsMeeting, Meets}
 use Rattle.gr_steps.proofs.BarrierPlaces.{barrier_of, barrier_there}
 use Rattle.gr_steps.proofs.EventRecords.{group_of_event, item_of_event}
 use Rattle.gr_clocks.specs.declared.clock.TheConstants.{LARGEST_COUNT}
 use Rattle.gr_clocks.specs.Counts.{count_of, tick_at}
-use Rattle.gr_clocks.specs.ItemClocks.{IsGroupSpent, ItemClocks, MeetsClocks as MeetsClocks, clock_in, clocks_in, orders}
+use Rattle.gr_clocks.specs.ItemClocks.{IsGroupSpent, ItemClocks, MeetsClocks, clock_in, clocks_in, orders}
 use Rattle.gr_clocks.specs.Tables.{JoinsGroup, MeetsGroup, TicksGroup, clock_at, greatest, item_of}
 use Rattle.gr_closure.specs.Accesses.{CountsJust}
 use Rattle.gr_closure.specs.Knowledge.{Knows}
@@ -109,7 +109,7 @@ module _ (s : Streams) (order : List EventId) (g k : ℕ) (clocks : ItemClocks) 
   -- ---- the instance meets
 
   module _ (new barriers : List EventId) (are_barriers : AreBarriers s g k barriers) (is_order : new ≡ order ++ barriers) where
-    abbrev met : MeetsClocks s order g k new
+    abbrev met : Meets s order g k new
     met = record { mark = a; meeting = meeting; barriers = barriers; are = are_barriers; order = is_order }
 
     -- what a barrier sees, as a count
