@@ -59,7 +59,7 @@ impl<A: Allocator> Model for Agenda<A> {
 }
 
 /// Whether a record changes what the other items of its group wait for: a barrier or an end.
-fn is_wide(event: &Event) -> bool
+fn concerns_group(event: &Event) -> bool
     ensures { IsTrue result ⊎ ((is_barrier event.now ≡ false) × (is_end event.now ≡ false)) }
 {
     matches!(
@@ -136,7 +136,7 @@ fn is_handled<A: Allocator>(order: &Order<A>, name: Name) -> bool
 }
 
 /// The first of an event's names whose release was not handled, if there is one.
-fn first_free<A: Allocator>(order: &Order<A>, event: &Event) -> Option<Name>
+fn first_unhandled<A: Allocator>(order: &Order<A>, event: &Event) -> Option<Name>
     ensures { MatchOption result (All (IsReleaseHandled order.now.taken order.now.handled) event.now.names) (λ n. Contains event.now.names n × ¬ IsReleaseHandled order.now.taken order.now.handled n) }
 {
     let names = event.names.as_slice();
@@ -155,7 +155,7 @@ fn named_by<A: Allocator>(order: &Order<A>, item: ItemId) -> Option<Name>
     let _frontier = order.frontier();
     match order.waiting(item) {
         None => None,
-        Some(event) => first_free(order, &event),
+        Some(event) => first_unhandled(order, &event),
     }
 }
 
@@ -286,7 +286,7 @@ impl<A: Allocator> Agenda<A> {
             group,
             item: event.item,
         };
-        let wide = is_wide(&event);
+        let wide = concerns_group(&event);
         let _taken = self.order.lanes();
         self.order.take(group, event)?;
         if wide {
@@ -358,7 +358,7 @@ impl<A: Allocator> Agenda<A> {
     }
 
     /// The last step of the list, if it can be made; otherwise it leaves the list.
-    fn look(&mut self) -> Option<Ready>
+    fn try_last(&mut self) -> Option<Ready>
         ensures found { IfSome result (λ r. CanMake self.old r) }
         ensures unchanged { self.new ≡ self.old }
     {
@@ -372,7 +372,7 @@ impl<A: Allocator> Agenda<A> {
         mark_undiverged(&self.order, &mut self.undiverged, step);
         match note(&self.order, &mut self.waiting, step) {
             Ok(()) => self.todo.drop_last(),
-            Err(_) => self.todo.miss(),
+            Err(_) => self.todo.note_shortage(),
         }
         None
     }
@@ -385,7 +385,7 @@ impl<A: Allocator> Agenda<A> {
     {
         let _taken = self.order.lanes();
         for _ in 0..self.todo.len() {
-            match self.look() {
+            match self.try_last() {
                 None => {}
                 Some(step) => return Some(step),
             }
