@@ -24,7 +24,7 @@ pub fn has_mark_of(mine: &Event, other: &Event) -> bool
     other.kind == mine.kind && other.word == mine.word
 }
 
-/// Whether an item parts the instance of a barrier: it came with another mark, or it never comes.
+/// Whether an item makes the instance of a barrier divergent: it came with another site or other flags, or it never comes.
 fn makes_divergent<A: Allocator>(lanes: &Lanes<A>, item: ItemId, number: u32, mine: &Event) -> bool
     requires { is_some (mark_of mine.now) ≡ true }
     ensures { IsTrue result ↔ MakesDivergent lanes.now item.group number (mark_of mine.now) item.item }

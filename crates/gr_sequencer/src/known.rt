@@ -80,7 +80,8 @@ fn flags_of<A: Allocator>(order: &Order<A>, group: u16, instance: u32) -> (bool,
 }
 
 impl<A: Allocator> Known<A> {
-    /// What an event that may be handled next learns and what its item knows, in its word's memory, as a clock.
+    /// The clock, in its word's memory, of what the item of an event that may be handled next knows, joined with the event's
+    /// sources, before the event's own tick.
     fn known_or_learned(
         &self,
         order: &Order<A>,
@@ -230,8 +231,8 @@ impl<A: Allocator> Known<A> {
         }
     }
 
-    /// Gives the items of a group the clocks that they have behind a meeting of a convergent instance, none of whose clocks
-    /// is spent.
+    /// Gives the items of a group the clocks that they have after the barriers of a convergent instance. No clock of the
+    /// group is at its limit.
     ///
     /// # Errors
     /// `Memory`: out of memory. What is known is then as before.

@@ -98,7 +98,7 @@ fn source<'a, A: Allocator>(
     }
 }
 
-/// One source more.
+/// The sources with one more.
 fn with<'a, A: Allocator>(
     sources: Option<Sources<'a, A>>,
     source: &'a Snapshot<A>,
@@ -115,8 +115,7 @@ fn with<'a, A: Allocator>(
     }
 }
 
-/// What the releases left from which an event learns, or `None` where it learns from none: from each release that it names
-/// and that is of inclusive scope.
+/// The snapshots that an event joins: those of the releases that it names with inclusive scope. `None` if there are none.
 pub(crate) fn sources_of<'a, A: Allocator>(
     order: &Order<A>,
     left: &'a Left<A>,
