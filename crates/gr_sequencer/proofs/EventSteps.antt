@@ -24,7 +24,7 @@ use Rattle.gr_clocks.specs.Counts.{Counts, IsJoinOfAll, IsTick, count_of, greate
 use Rattle.gr_clocks.specs.Rows.{same_item}
 use Rattle.gr_clocks.specs.ItemClocks.{Acquires, AreSpent, IsSpent, ItemClocks, ReleaseClock, Ticks, clock_in, clocks_in, clocks_left}
 use Rattle.gr_clocks.proofs.JoinLemmas.{joined_none}
-use Rattle.gr_clocks.proofs.ReleaseLemmas.{acquires_none, snapshots_all, snapshots_counted}
+use Rattle.gr_clocks.proofs.ReleaseLemmas.{acquires_none, left_all, left_counted}
 use Rattle.gr_clocks.proofs.RowLemmas.{same_items, same_item_self}
 use Rattle.gr_closure.specs.Accesses.{CountsJust}
 use Rattle.gr_closure.specs.Knowledge.{Knows, Learns}
@@ -88,7 +88,7 @@ module _ (s : Streams) (order : List EventId) (known : Known) (e : EventId) (nex
 
     pub sources_unspent : ¬ AreSpent sources e.at
     sources_unspent (k, l, below, at, full) =
-        let counted = snapshots_counted sources e.at k l below at in
+        let counted = left_counted sources e.at k l below at in
         let less = told_below (memory_of l.word) in
         let small = index_small in
         omega (arith, counted, less, small, full)
@@ -140,7 +140,7 @@ module _ (s : Streams) (order : List EventId) (known : Known) (e : EventId) (nex
   known_or_learned_sources m c joined sources are same here join d =
       let o : ℕ = count_of (own_clock m) d.at in
       let l : ℕ = greatest_count (clocks_left m sources) d.at in
-      let all : clocks_left m sources ≡ map (λ (r : ReleaseClock). r.clock) sources = ap (clocks_left m) (sym (map-id sources)) ∙ snapshots_all (λ r. r) m sources here in
+      let all : clocks_left m sources ≡ map (λ (r : ReleaseClock). r.clock) sources = ap (clocks_left m) (sym (map-id sources)) ∙ left_all (λ r. r) m sources here in
       let counted : count_of joined d.at ≡ max o l = join.counts d.at ∙ ap (λ k. max (count_of k d.at) (greatest_count (map (λ (r : ReleaseClock). r.clock) sources) d.at)) same ∙ ap (λ cs. max o (greatest_count cs d.at)) (sym all) in
       let source : (d.index < l) ↔ Learns s m e d = are.counts m d in (
         λ below. ⊎_elim (λ h. inl ((counts m d).0 h)) (λ h. inr (source.0 h)) (below_max d.index o l (omega (arith, below, counted))),

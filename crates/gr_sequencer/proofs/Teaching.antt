@@ -20,7 +20,7 @@ use Rattle.gr_steps.specs.Steps.{IsReady}
 use Rattle.gr_steps.proofs.EventRecords.{one_release}
 use Rattle.gr_clocks.specs.Counts.{count_of, greatest_count, sizes_of}
 use Rattle.gr_clocks.specs.ItemClocks.{ReleaseClock, AreOfOneWord, clocks_left}
-use Rattle.gr_clocks.proofs.ReleaseLemmas.{snapshots_elsewhere, snapshots_here}
+use Rattle.gr_clocks.proofs.ReleaseLemmas.{left_elsewhere, left_here}
 use Rattle.gr_closure.specs.Knowledge.{Learns}
 use Rattle.gr_sequencer.specs.Known.{IsSnapshotOf}
 use Rattle.gr_sequencer.specs.Sources.{AreSources, IsSource, LearnsNothing, LearnsBy}
@@ -137,7 +137,7 @@ module _ (s : Streams) (e : EventId) where
 
           in_its_memory : (m : Space) (d : EventId) → m ≡ memory_of l.word → (d.index < all m d) ↔ LearnsFrom s m e (names ++ n ∷ []) d
           in_its_memory m d same =
-              let most = snapshots_here m sources l d.at same in
+              let most = left_here m sources l d.at same in
               let by : (d.index < count_of l.clock d.at) ↔ LearnsBy s m e n d = subst (λ o. (d.index < count_of l.clock d.at) ↔ LearnsBy s o e n d) (sym same) (is.counts d) in (
                 λ below.
                     (longer m d).1 (⊎_elim
@@ -153,7 +153,7 @@ module _ (s : Streams) (e : EventId) where
 
           in_another : (m : Space) (d : EventId) → m ≢ memory_of l.word → (d.index < all m d) ↔ LearnsFrom s m e (names ++ n ∷ []) d
           in_another m d other =
-              let same = snapshots_elsewhere m sources l d.at other in (
+              let same = left_elsewhere m sources l d.at other in (
                 λ below. (longer m d).1 (inl ((are.counts m d).0 (omega (arith, below, same)))),
                 λ learned.
                     ⊎_elim
