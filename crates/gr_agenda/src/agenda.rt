@@ -206,7 +206,11 @@ fn undiverged_of(undiverged: &[Option<u32>], group: u16) -> Option<u32>
 }
 
 /// Notes that the instance is not divergent at whose barrier an item stands that can't go on.
-fn mark_undiverged<A: Allocator>(order: &Order<A>, undiverged: &mut Vec<Option<u32>, A>, step: Ready)
+fn mark_undiverged<A: Allocator>(
+    order: &Order<A>,
+    undiverged: &mut Vec<Option<u32>, A>,
+    step: Ready,
+)
     requires { ¬ CanMake order.now step }
     ensures { AreUndiverged order.now.taken undiverged.old.items → AreUndiverged order.now.taken undiverged.new.items }
 {

@@ -6,7 +6,7 @@ ghost use Rattle.gr_detector.specs.Runs.{AreSendersOf, run_of, worker_queues};
 
 use crate::error::StartError;
 use crate::running::Running;
-use crate::setup::{workers_of, inlets_of, senders_of};
+use crate::setup::{inlets_of, senders_of, workers_of};
 use gr_model::config::Config;
 use gr_model::memory::Memory;
 use gr_model::shape::Shape;

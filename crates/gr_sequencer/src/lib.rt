@@ -4,5 +4,5 @@
 
 pub mod handled;
 mod known;
-mod sources;
 pub mod sequencer;
+mod sources;
