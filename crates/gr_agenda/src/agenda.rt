@@ -347,7 +347,10 @@ impl<A: Allocator> Agenda<A> {
         let _taken = self.order.lanes();
         match undiverged_of(&self.undiverged, item.group) {
             None => false,
-            Some(instance) => is_number(next_barrier(&self.order, item), instance),
+            Some(instance) => {
+                is_at_barrier(&self.order, item)
+                    && is_number(next_barrier(&self.order, item), instance)
+            }
         }
     }
 

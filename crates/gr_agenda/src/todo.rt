@@ -132,6 +132,7 @@ impl<A: Allocator> Todo<A> {
     }
 
     /// Puts a step into the list.
+    #[inline(always)]
     pub(crate) fn put(&mut self, step: Ready)
         ensures there { Has self.new step }
         ensures keeps { KeepsSteps self.old self.new }

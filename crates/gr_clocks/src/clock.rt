@@ -180,6 +180,7 @@ impl<A: Allocator> Clock<A> {
     ///
     /// # Errors
     /// `Memory`: out of memory. The clock is then as it was.
+    #[inline(always)]
     pub(crate) fn raise(&mut self, item: ItemId) -> Result<(), ClockError>
     where
         A: Clone,

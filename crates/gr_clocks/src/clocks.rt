@@ -129,6 +129,7 @@ impl<A: Allocator> Clocks<A> {
     ///
     /// # Errors
     /// `Memory`: out of memory. The clocks are then as they were.
+    #[inline(always)]
     fn tick(&mut self, item: ItemId) -> Result<(), ClockError>
     where
         A: Clone,

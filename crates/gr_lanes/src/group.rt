@@ -55,6 +55,7 @@ fn is_cut(event: &Event) -> bool
 fn index<A: Allocator>(lanes: &mut [Lane<A>], event: &Event) -> Result<(), Memory>
     requires item { event.now.item < length lanes.old }
     requires few { (slice_index_or lanes.old event.now.item no_index).count < 4_294_967_295 }
+    requires bare { model_barriers.is_barrier event.now ≡ true → event.now.names ≡ [] }
     ensures ok { OnOk result (lanes.new ≡ indexed lanes.old event.now) }
     ensures err { OnErr result (lanes.new ≡ lanes.old) }
 {

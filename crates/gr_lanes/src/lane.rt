@@ -3,9 +3,10 @@
 //! A lane knows how many events an item has, and which of them are releases and barriers: of these it has the records, and
 //! of no other event.
 
-ghost use Rattle.std.specs.Prelude.{◌≡◌, ◌≢◌, ◌<◌, ℕ, MatchOption, OnOk, OnErr, length, slice_get};
+ghost use Rattle.std.specs.Prelude.{◌≡◌, ◌≢◌, ◌<◌, ℕ, [], true, MatchOption, OnOk, OnErr, length, slice_get};
 ghost use Rattle.gr_lanes.specs.Indices.{AreRising, no_index, with_event};
 
+use crate::bare::Bare;
 use gr_model::event::Event;
 use gr_model::memory::Memory;
 use std::alloc::{Allocator, Global};
@@ -19,7 +20,7 @@ pub(crate) struct Lane<A: Allocator = Global> {
     releases: Vec<u32, A>,
     barriers: Vec<u32, A>,
     released: Vec<Event, A>,
-    arrived: Vec<Event, A>,
+    arrived: Vec<Bare, A>,
 }
 
 impl<A: Allocator> Model for Lane<A> {
@@ -92,7 +93,10 @@ impl<A: Allocator> Lane<A> {
     pub(crate) fn barrier_event(&self, number: u32) -> Option<Event>
         ensures { result ≡ slice_get self.now.arrived number }
     {
-        self.arrived.get(number as usize).copied()
+        match self.arrived.get(number as usize) {
+            None => None,
+            Some(barrier) => Some(barrier.event()),
+        }
     }
 
     /// The number among the item's barriers of the one with this index.
@@ -104,12 +108,13 @@ impl<A: Allocator> Lane<A> {
         number_of(&self.barriers, index)
     }
 
-    /// Adds the item's next event.
+    /// Adds the item's next event. A barrier names no releases.
     ///
     /// # Errors
     /// `Memory`: out of memory. The lane is then as it was.
     pub(crate) fn add(&mut self, event: &Event, release: bool, barrier: bool) -> Result<(), Memory>
-        requires { self.old.count < 4_294_967_295 }
+        requires few { self.old.count < 4_294_967_295 }
+        requires bare { barrier ≡ true → event.now.names ≡ [] }
         ensures ok { OnOk result (self.new ≡ with_event self.old event.now release barrier) }
         ensures err { OnErr result (self.new ≡ self.old) }
     {
@@ -125,7 +130,7 @@ impl<A: Allocator> Lane<A> {
         }
         if barrier {
             self.barriers.push_reserved(index);
-            self.arrived.push_reserved(*event);
+            self.arrived.push_reserved(Bare::new(event));
         }
         Ok(())
     }

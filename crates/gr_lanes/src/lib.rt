@@ -2,6 +2,7 @@
 //! barriers. Of other records nothing is kept.
 #![tactic(auto)]
 
+mod bare;
 mod group;
 pub mod instance;
 pub mod kinds;

@@ -136,7 +136,20 @@ impl<A: Allocator> Order<A> {
         self.lanes.taken(group)
     }
 
+    /// The next event of an item, which may be handled.
+    pub fn ready_event(&self, item: ItemId) -> EventId
+        requires { CanHandle self.now.taken self.now.handled item }
+        ensures next { (result.at ≡ item) × IsReady self.now.taken self.now.handled result }
+        ensures sequence { IsSequence self.now }
+    {
+        EventId {
+            at: item,
+            index: self.frontier.get(item),
+        }
+    }
+
     /// The event of an item that may be handled, if there is one.
+    #[inline(always)]
     pub fn next(&self, item: ItemId) -> Option<EventId>
         ensures next { MatchOption result (¬ CanHandle self.now.taken self.now.handled item) (λ e. (e.at ≡ item) × IsReady self.now.taken self.now.handled e) }
         ensures sequence { IsSequence self.now }

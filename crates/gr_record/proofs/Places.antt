@@ -1,16 +1,15 @@
 -- Names in their places: what is read from the bytes of names, and what the bytes of names that were read are.
-use Rattle.std.proofs.Common.{◌≡◌, ℕ, zero, suc, ◌+◌, ◌-◌, ◌*◌, ◌/◌, ◌%◌, ◌^◌, ◌<◌, ◌≤◌, Bool, true, false, cond, List, [], ◌∷◌, ◌++◌, length, take, drop, Option, Some, None, refl, sym, ap, subst, ◌∙◌, arith, inl, inr}
-use Rattle.std.specs.Prelude.{nat_lt, nat_le, ◌==◌, ◌||◌, ◌&&◌, slice_index_or, All}
+use Rattle.std.proofs.Common.{◌≡◌, ℕ, zero, suc, ◌+◌, ◌-◌, ◌*◌, ◌/◌, ◌%◌, ◌^◌, ◌<◌, ◌≤◌, Bool, true, false, List, [], ◌∷◌, ◌++◌, length, take, drop, refl, ap, ◌∙◌, arith, inl, inr}
+use Rattle.std.specs.Prelude.{nat_le, ◌==◌, ◌||◌, All}
 use Rattle.std.proofs.lemmas.Bool.{eqb-true, ltb-true, lt-ltb, leb-true, le-leb, eq-eqb, ne_eqb, and_parts, and_from, or_cases, cases_Bool}
-use Rattle.std.proofs.lemmas.List.{length-drop, length-append, take_at, drop_at, get_or-drop}
+use Rattle.std.proofs.lemmas.List.{length-drop, take_at, get_or-drop}
 use Rattle.gr_model.specs.declared.event.Name.{Name}
 use Rattle.gr_model.specs.declared.event.Kind.{Kind}
 use Rattle.gr_model.specs.Events.{IsNamingOk}
-use Rattle.gr_model.specs.Access.{is_acquire_kind}
 use Rattle.gr_model.specs.NameLists.{IsNameInRange, NameBelow, AreAscending, AreNames}
-use Rattle.gr_record.specs.Spelling.{name_bytes, place_bytes, names_bytes}
+use Rattle.gr_record.specs.Spelling.{names_bytes}
 use Rattle.gr_record.specs.Laws.{AreBytes}
-use Rattle.gr_record.specs.Reading.{field, are_unused, name_in, names_in, is_in_range, is_below, is_below_first, are_in_order, is_naming_ok}
+use Rattle.gr_record.specs.Reading.{field, are_unused, name_in, names_in, is_in_range, is_below, are_in_order, is_naming_ok}
 use Rattle.gr_record.proofs.Numbers.{two_low, two_high, two_again, four, four_again, eight}
 
 pub bytes_drop : (n : ℕ) (bytes : List ℕ) → AreBytes bytes → AreBytes (drop n bytes)
@@ -221,6 +220,10 @@ names_end n bytes unused = rw unused refl
 pub names_next : (n : ℕ) (bytes : List ℕ) → are_unused (suc n) bytes ≡ false → names_in (suc n) bytes ≡ name_in bytes ∷ names_in n (drop 8 bytes)
 unfolding names_in
 names_next n bytes used = rw used refl
+
+pub names_none : (n : ℕ) (bytes : List ℕ) → are_unused n bytes ≡ true → names_in n bytes ≡ []
+names_none zero bytes unused = no_names bytes
+names_none (suc n) bytes unused = names_end n bytes unused
 
 pub few_names : (kind : Kind) (names : List Name) → IsNamingOk kind names → length names ≤ 4
 few_names kind [] ok = omega arith

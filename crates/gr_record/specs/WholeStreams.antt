@@ -50,6 +50,10 @@ front_header_at bytes =
 unfoldable pub front_records_at : Header → List ℕ → Result (List Event × List ℕ) RecordError
 front_records_at h bytes = whole (records_of h MOST_RECORDS bytes)
 
+-- the bytes after these records
+abbrev pub behind_records_at : Header → List ℕ → Result (List ℕ) RecordError
+behind_records_at h bytes = front_records_at h bytes >>= λ x. Ok x.1
+
 -- ---- what a stream is, by its spelling
 
 abbrev pub stream_spelling : Header → List Event → List ℕ

@@ -3,7 +3,7 @@
 //! A record's fields are judged from the left, so that the first fault is the one that is answered (docs/FORMATS.md,
 //! "Faults of a whole record").
 
-ghost use Rattle.std.specs.Prelude.{◌≡◌, ◌≤◌, ◌*◌, length, take};
+ghost use Rattle.std.specs.Prelude.{◌≡◌, ◌≤◌, ◌*◌, IsTrue, None, length, take};
 ghost use Rattle.gr_record.specs.Versions.{record_length};
 ghost use Rattle.gr_record.specs.Reading.{version_of, header_at, is_field_ok, bad_field, space_of, scope_of, order_of, kind_of, space_at, are_unused, name_in, names_in, is_order_ok, naming, event_at};
 
@@ -90,9 +90,25 @@ fn may_stand(kind: u8, place: usize, byte: u8) -> bool
     }
 }
 
-/// The least place of a byte that may not stand there.
+/// Whether this is no end, and each byte from 1 to 11 may stand where it does, as in nearly all records.
 /// Requires: there are at least `RECORD_LENGTH` bytes.
-fn first_bad_field(bytes: &[u8]) -> Option<u8>
+fn has_good_fields(bytes: &[u8]) -> bool
+    requires { RECORD_LENGTH ≤ length bytes.now }
+    ensures { IsTrue result → bad_field bytes.now ≡ None }
+{
+    let kind = bytes[0];
+    kind != END
+        && may_stand(kind, 1, bytes[1])
+        && may_stand(kind, 2, bytes[2])
+        && may_stand(kind, 3, bytes[3])
+        && may_stand(kind, 6, bytes[6])
+        && may_stand(kind, 7, bytes[7])
+}
+
+/// The least place of a byte that may not stand there, found place by place.
+/// Requires: there are at least `RECORD_LENGTH` bytes.
+#[cold]
+fn find_bad_field(bytes: &[u8]) -> Option<u8>
     requires { RECORD_LENGTH ≤ length bytes.now }
     ensures { result ≡ bad_field bytes.now }
 {
@@ -103,6 +119,20 @@ fn first_bad_field(bytes: &[u8]) -> Option<u8>
         }
     }
     None
+}
+
+/// The least place of a byte that may not stand there.
+/// Requires: there are at least `RECORD_LENGTH` bytes.
+#[inline(always)]
+fn first_bad_field(bytes: &[u8]) -> Option<u8>
+    requires { RECORD_LENGTH ≤ length bytes.now }
+    ensures { result ≡ bad_field bytes.now }
+{
+    if has_good_fields(bytes) {
+        None
+    } else {
+        find_bad_field(bytes)
+    }
 }
 
 fn read_space(byte: u8) -> Space
@@ -256,8 +286,36 @@ pub fn naming(kind: Kind, names: &[Name]) -> Option<Names>
     }
 }
 
+/// The names in so many places of a record of this kind, or `None` if it may not have them, read place by place.
+/// Requires: there are that many places, at most `MOST_NAMES`.
+#[inline(never)]
+fn read_used(kind: Kind, bytes: &[u8], places: usize) -> Option<Names>
+    requires places { NAME_LENGTH * places ≤ length bytes.now }
+    requires few { places ≤ MOST_NAMES }
+    ensures { result ≡ naming kind (names_in places bytes.now) }
+{
+    let (names, used) = read_names(bytes, places);
+    naming(kind, &names[..used])
+}
+
+/// The names in so many places of a record of this kind, or `None` if it may not have them.
+/// Requires: there are that many places, at most `MOST_NAMES`.
+#[inline(always)]
+fn read_naming(kind: Kind, bytes: &[u8], places: usize) -> Option<Names>
+    requires places { NAME_LENGTH * places ≤ length bytes.now }
+    requires few { places ≤ MOST_NAMES }
+    ensures { result ≡ naming kind (names_in places bytes.now) }
+{
+    if are_unused(bytes, places) {
+        Some(Names::none())
+    } else {
+        read_used(kind, bytes, places)
+    }
+}
+
 /// What a whole record says in the stream of this header, or its first fault.
 /// Requires: there are the bytes of a record.
+#[inline(always)]
 #[tactic(auto, unfolding(crate::specs::Reading::event_at))]
 pub(crate) fn read_event(header: Header, bytes: &[u8]) -> Result<Event, RecordError>
     requires { length bytes.now ≡ record_length header.version }
@@ -273,8 +331,7 @@ pub(crate) fn read_event(header: Header, bytes: &[u8]) -> Result<Event, RecordEr
     if !order_fits(kind) {
         return Err(RecordError::BadOrder);
     }
-    let (names, used) = read_names(&bytes[FIELDS_LENGTH..], header.version.places());
-    let Some(names) = naming(kind, &names[..used]) else {
+    let Some(names) = read_naming(kind, &bytes[FIELDS_LENGTH..], header.version.places()) else {
         return Err(RecordError::BadName);
     };
     let item = LittleEndian::read_u16(&bytes[4..]);

@@ -3,7 +3,7 @@
 ghost use Rattle.std.specs.Prelude.{◌≡◌, ◌≢◌, ◌≤◌, length, Ok, IfErr};
 ghost use Rattle.gr_record.specs.declared.error.RecordError.TheVariants as errors;
 ghost use Rattle.gr_record.specs.Fronts.{records_at};
-ghost use Rattle.gr_record.specs.WholeStreams.{Gives, front_header_at, front_records_at};
+ghost use Rattle.gr_record.specs.WholeStreams.{Gives, behind_records_at, front_header_at, front_records_at};
 
 use crate::error::RecordError;
 use crate::header::Header;
@@ -58,6 +58,35 @@ pub fn read_front_records<A: Allocator>(
         if is_end {
             return Ok((events, rest));
         }
+    }
+    if rest.len() < size {
+        return Err(RecordError::Truncated);
+    }
+    Err(RecordError::TooManyRecords)
+}
+
+/// The bytes behind the records at the start of the bytes, which go up to the end of their stream, which has this header.
+/// The records are judged and not kept.
+///
+/// # Errors
+/// The fault of the first record that has one (see `RecordError`); `Truncated` if the bytes are over before that and
+/// before the end. It takes no memory.
+pub fn skip_front_records(header: Header, bytes: &[u8]) -> Result<&[u8], RecordError>
+    ensures exact { Gives (λ x. x.now) result (behind_records_at header bytes.now) }
+    ensures memory { IfErr result (λ e. e ≢ errors.Memory) }
+{
+    let size = header.version.record_length();
+    let mut rest = bytes;
+    for _ in 0..MOST_RECORDS {
+        if rest.len() < size {
+            return Err(RecordError::Truncated);
+        }
+        let (record, after) = rest.split_at(size);
+        let event = read_event(header, record)?;
+        if event.kind.is_end() {
+            return Ok(after);
+        }
+        rest = after;
     }
     if rest.len() < size {
         return Err(RecordError::Truncated);

@@ -49,16 +49,12 @@ fn read_inputs<A: Allocator + Copy, T: Read + Drop>(
 }
 
 /// The stream that the bytes are, behind these streams.
-fn read_only_stream<'a, A: Allocator>(
-    alloc: A,
-    streams: &[Stream<'a>],
-    bytes: &'a [u8],
-) -> Result<Stream<'a>, Fault>
+fn read_only_stream<'a>(streams: &[Stream<'a>], bytes: &'a [u8]) -> Result<Stream<'a>, Fault>
     ensures exact { Gives flat result (only_stream_at (flats streams.now) bytes.now) }
     ensures good { AreStreams (flats streams.now) → IfOk result (λ s. AreStreams (flats streams.now ++ flat s ∷ [])) }
     ensures values { IfErr result IsOfValues }
 {
-    let (stream, rest) = read_stream(alloc, streams, bytes)?;
+    let (stream, rest) = read_stream(streams, bytes)?;
     if rest.is_empty() {
         Ok(stream)
     } else {
@@ -77,7 +73,7 @@ fn read_only_streams<'a, A: Allocator + Copy>(
 {
     let mut streams = Vec::new(alloc);
     for input in inputs {
-        let stream = read_only_stream(alloc, streams.as_slice(), input.as_slice())?;
+        let stream = read_only_stream(streams.as_slice(), input.as_slice())?;
         keep(&mut streams, stream)?;
     }
     Ok(streams)

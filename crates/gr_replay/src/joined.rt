@@ -35,8 +35,7 @@ fn has_other_launch(streams: &[Stream<'_>], launch: u32) -> bool
 }
 
 /// The stream at the front of the bytes, behind these streams, and the bytes after it.
-pub(crate) fn read_stream<'a, A: Allocator>(
-    alloc: A,
+pub(crate) fn read_stream<'a>(
     streams: &[Stream<'a>],
     bytes: &'a [u8],
 ) -> Result<(Stream<'a>, &'a [u8]), Fault>
@@ -54,7 +53,7 @@ pub(crate) fn read_stream<'a, A: Allocator>(
     if has_other_launch(streams, header.launch) {
         return Err(Fault::OtherLaunch(place));
     }
-    match Records::find(alloc, header, rest) {
+    match Records::find(header, rest) {
         Ok((events, rest)) => Ok((Stream { header, events }, rest)),
         Err(error) => Err(Fault::of_stream(place, error)),
     }
@@ -93,7 +92,7 @@ pub fn read_streams<'a, A: Allocator + Copy>(
         if rest.is_empty() {
             return Ok(streams);
         }
-        let (stream, after) = read_stream(alloc, streams.as_slice(), rest)?;
+        let (stream, after) = read_stream(streams.as_slice(), rest)?;
         keep(&mut streams, stream)?;
         rest = after;
     }

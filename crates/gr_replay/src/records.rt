@@ -10,7 +10,7 @@ use gr_model::event::Event;
 use gr_model::memory::Memory;
 use gr_record::error::RecordError;
 use gr_record::header::Header;
-use gr_record::stream::read_front_records;
+use gr_record::stream::{read_front_records, skip_front_records};
 use std::alloc::Allocator;
 use std::marker::Model;
 
@@ -37,15 +37,11 @@ impl<'a> Records<'a> {
     /// The records at the front of the bytes up to the end, in the stream of this header, and the bytes after them.
     ///
     /// # Errors
-    /// Those of `read_front_records`.
-    pub fn find<A: Allocator>(
-        alloc: A,
-        header: Header,
-        bytes: &'a [u8],
-    ) -> Result<(Records<'a>, &'a [u8]), RecordError>
+    /// Those of `skip_front_records`. It takes no memory.
+    pub fn find(header: Header, bytes: &'a [u8]) -> Result<(Records<'a>, &'a [u8]), RecordError>
         ensures { Gives (λ x. (x.0, x.1.now)) result (front_records_at header bytes.now) }
     {
-        let (_events, rest) = read_front_records(alloc, header, bytes)?;
+        let rest = skip_front_records(header, bytes)?;
         Ok((Records { header, bytes }, rest))
     }
 

@@ -8,8 +8,9 @@ ghost use Rattle.gr_model.specs.declared.limits.TheConstants.{MOST_RECORDS};
 ghost use Rattle.gr_model.specs.Streams.{AreComplete, list_of};
 ghost use Rattle.gr_model.specs.Reports.{Lists, DivergenceBelow, IsDivergence, IsCut, IsHeld, IsUnmatchedAcquire, UnmatchedBelow};
 ghost use Rattle.gr_lanes.specs.Takes.{CanTake, IsEventButItem, IsTakeFault};
-ghost use Rattle.gr_steps.specs.Steps.{IsAtRest};
+ghost use Rattle.gr_steps.specs.Steps.{IsAtRest, IsReady};
 ghost use Rattle.gr_order.specs.Sequences.{CanStep, IsDone, IsSequence, event_count, nothing, taking};
+ghost use Rattle.gr_order.specs.declared.go_error.GoError.TheVariants.{Memory as OutOfMemory};
 ghost use Rattle.gr_order.specs.Answers.{IsHandleFault, IsMeetFault};
 ghost use Rattle.gr_sequencer.specs.Answers.{IsOfGroup, IsOfItem, IsStep};
 
@@ -124,6 +125,32 @@ impl<A: Allocator> Sequencer<A> {
         self.agenda.order().taken(group)
     }
 
+    /// Handles an event that may be handled.
+    ///
+    /// # Errors
+    /// `Memory`: out of memory. Nothing is then handled.
+    fn handle_event(&mut self, event: EventId) -> Result<Handled<A>, GoError>
+    where
+        A: Clone,
+        requires ready { IsReady self.old.taken self.old.handled event }
+        ensures step { IfOk result (λ h. IsStep self.old self.new h) }
+        ensures item { IfOk result (λ h. IsOfItem event.at h) }
+        ensures memory { IfErr result (λ e. e ≡ OutOfMemory) }
+        ensures unchanged { OnErr result (self.new ≡ self.old) }
+        ensures sequence { IsSequence self.new }
+    {
+        let order = self.agenda.order();
+        let taken = match order.event_at(event) {
+            None => unreachable!(),
+            Some(taken) => taken,
+        };
+        let access = self.known.access_of(order, event, &taken)?;
+        self.known.keep(order, event, &taken, &access)?;
+        self.known.advance(order, event, &taken)?;
+        self.agenda.add(event);
+        Ok(Handled::One { event, access })
+    }
+
     /// Handles an item's next event, where all that it waits for was handled and it is no barrier of a convergent or
     /// waiting instance.
     ///
@@ -138,20 +165,10 @@ impl<A: Allocator> Sequencer<A> {
         ensures unchanged { OnErr result (self.new ≡ self.old) }
         ensures sequence { IsSequence self.new }
     {
-        let order = self.agenda.order();
-        let event = match order.next(item) {
-            None => return Err(GoError::NotReady),
-            Some(event) => event,
-        };
-        let taken = match order.event_at(event) {
-            None => unreachable!(),
-            Some(taken) => taken,
-        };
-        let access = self.known.access_of(order, event, &taken)?;
-        self.known.keep(order, event, &taken, &access)?;
-        self.known.advance(order, event, &taken)?;
-        self.agenda.add(event);
-        Ok(Handled::One { event, access })
+        match self.agenda.order().next(item) {
+            None => Err(GoError::NotReady),
+            Some(event) => self.handle_event(event),
+        }
     }
 
     /// Handles the barriers of a group's least convergent instance that was not handled, where the event before each of
@@ -193,7 +210,10 @@ impl<A: Allocator> Sequencer<A> {
     {
         let made = match self.agenda.ready() {
             None => return Ok(None),
-            Some(Ready::Item(item)) => self.handle(item),
+            Some(Ready::Item(item)) => {
+                let event = self.agenda.order().ready_event(item);
+                self.handle_event(event)
+            }
             Some(Ready::Group(group)) => self.meet(group),
         };
         match made {

@@ -115,8 +115,8 @@ fn with<'a, A: Allocator>(
     }
 }
 
-/// The snapshots that an event joins: those of the releases that it names with inclusive scope. `None` if there are none.
-pub(crate) fn sources_of<'a, A: Allocator>(
+/// The sources of an event, found name by name. `None` if there are none.
+fn sources_from<'a, A: Allocator>(
     order: &Order<A>,
     snapshots: &'a Snapshots<A>,
     event: EventId,
@@ -135,4 +135,23 @@ pub(crate) fn sources_of<'a, A: Allocator>(
         }
     }
     learned
+}
+
+/// The snapshots that an event joins: those of the releases that it names with inclusive scope. `None` if there are none.
+#[inline(always)]
+pub(crate) fn sources_of<'a, A: Allocator>(
+    order: &Order<A>,
+    snapshots: &'a Snapshots<A>,
+    event: EventId,
+    taken: &Event,
+) -> Option<Sources<'a, A>>
+    requires there { event_at order.now.taken event ≡ Some taken.now }
+    requires snapshots { AreSnapshots order.now.taken order.now.handled snapshots.now.entries }
+    requires ready { IsReady order.now.taken order.now.handled event }
+    ensures { AreSources order.now.taken event (sources_in result) }
+{
+    if taken.names.as_slice().is_empty() {
+        return None;
+    }
+    sources_from(order, snapshots, event, taken)
 }

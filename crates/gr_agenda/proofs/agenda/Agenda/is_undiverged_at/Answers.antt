@@ -6,8 +6,8 @@ use Rattle.gr_agenda.specs.Kept.{IsNextBarrier}
 use Rattle.gr_agenda.proofs.UndivergedLemmas.{undiverged_only}
 use Rattle.gr_agenda.proofs.agenda.Agenda.is_undiverged_at.Goals as goal
 
-pub returns-in-Some : goal.returns-in-Some
-returns-in-Some g c same can =
+pub returns-then-is_at_barrier : goal.returns-then-is_at_barrier
+returns-then-is_at_barrier g c same can =
     let q = c.self.inside.order in
     let i = c.args.item in
     let is : c.next_barrier.result ≡ Some c.in-Some.instance = c.is_number.ensures same in

@@ -1,13 +1,16 @@
-use Rattle.std.proofs.Common.{◌≡◌, ◌∙◌, ℕ, List, Ok, Result, ap, sym}
+use Rattle.std.proofs.Common.{◌≡◌, ℕ, List, Ok, Err, Result, ap}
 use Rattle.gr_model.specs.declared.event.Event.{Event}
 use Rattle.gr_record.specs.declared.error.RecordError.{RecordError}
-use Rattle.gr_record.specs.WholeStreams.{front_records_at}
-use Rattle.gr_replay.specs.Standing.{events_in, listed}
+use Rattle.gr_record.specs.WholeStreams.{◌>>=◌, front_records_at}
+use Rattle.gr_replay.specs.Standing.{events_in}
 use Rattle.gr_replay.proofs.records.Records.find.Goals as goal
 
+-- bytes that have an end have the records before it
+found : (whole : Result (List Event × List ℕ) RecordError) (rest : List ℕ) → (whole >>= λ x. Ok x.1) ≡ Ok rest → whole ≡ Ok (events_in whole, rest)
+found (Ok x) rest is =
+    let same : x.1 ≡ rest = cc in
+    ap (λ (bytes : List ℕ). Ok (x.0, bytes)) same
+found (Err e) rest is = absurd cc
+
 pub invariant_of-result : goal.invariant_of-result
-invariant_of-result g c =
-    let whole : Result (List Event × List ℕ) RecordError = front_records_at c.args.header c.args.bytes.now in
-    let is : whole ≡ Ok (c.in_ok-_events._events.items, c.in_ok-_events.rest.now) = c.in_ok-_events.ensures in
-    let same : c.in_ok-_events._events.items ≡ listed c.args.header c.args.bytes.now = sym (ap events_in is) in
-    (c.in_ok-_events.rest.now, is ∙ ap (λ (events : List Event). Ok (events, c.in_ok-_events.rest.now)) same)
+invariant_of-result g c = (c.in_ok-rest.rest.now, found (front_records_at c.args.header c.args.bytes.now) c.in_ok-rest.rest.now c.in_ok-rest.ensures.exact)

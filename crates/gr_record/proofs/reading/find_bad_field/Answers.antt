@@ -1,6 +1,6 @@
 use Rattle.std.proofs.Common.{sym, ◌∙◌}
 use Rattle.gr_record.proofs.Fields.{bad_field_from-here, bad_field_from-later, bad_field_from-none}
-use Rattle.gr_record.proofs.reading.first_bad_field.Goals as goal
+use Rattle.gr_record.proofs.reading.find_bad_field.Goals as goal
 
 pub loop-place-preserved : goal.loop-place-preserved
 loop-place-preserved c =

@@ -3,8 +3,8 @@ use Rattle.gr_model.specs.declared.event.Name.{Name}
 use Rattle.gr_clocks.specs.ItemClocks.{ReleaseClock}
 use Rattle.gr_sequencer.specs.Sources.{sources_in}
 use Rattle.gr_sequencer.proofs.Teaching.{sources_more, sources_same, next_names}
-use Rattle.gr_sequencer.proofs.sources.sources_of.Goals as goal
-use Rattle.gr_sequencer.proofs.sources.sources_of.Goals.{in-Some, in_default}
+use Rattle.gr_sequencer.proofs.sources.sources_from.Goals as goal
+use Rattle.gr_sequencer.proofs.sources.sources_from.Goals.{in-Some, in_default}
 
 pub loop-name-preserved : goal.loop-name-preserved
 loop-name-preserved g c =

@@ -1,0 +1,55 @@
+use Rattle.std.proofs.Common.{◌≡◌, sym, ap, ◌∙◌, ◌++◌, ◌∷◌, [], ℕ, List, Result, take, Ok, Err, refl}
+use Rattle.std.proofs.lemmas.Result.{err_from_is_err_and}
+use Rattle.gr_model.specs.declared.event.Event.{Event}
+use Rattle.gr_model.specs.declared.limits.TheConstants.{MOST_RECORDS}
+use Rattle.gr_record.specs.declared.error.RecordError.{RecordError}
+use Rattle.gr_record.specs.Versions.{record_length}
+use Rattle.gr_record.specs.Reading.{event_at}
+use Rattle.gr_record.specs.WholeStreams.{◌>>=◌, front_records_at}
+use Rattle.gr_record.proofs.Apart.{event_apart}
+use Rattle.gr_record.proofs.Loop.{fails, stops_short, none_left, refused, ended, goes_on}
+use Rattle.gr_record.proofs.stream.skip_front_records.Goals as goal
+
+-- what the whole says of the bytes behind it
+behind : {x y : Result (List Event × List ℕ) RecordError} → x ≡ y → (x >>= λ r. Ok r.1) ≡ (y >>= λ r. Ok r.1)
+behind e = ap (λ (x : Result (List Event × List ℕ) RecordError). x >>= λ r. Ok r.1) e
+
+pub loop-init : goal.loop-init
+unfolding front_records_at
+loop-init c = ([], refl)
+
+pub returns-then-rest-size-clause-exact : goal.returns-then-rest-size-clause-exact
+returns-then-rest-size-clause-exact c =
+    behind (stops_short (record_length c.args.header.version) (event_at c.args.header) c.loop.invariant.0 MOST_RECORDS c.loop.counter c.loop.rest.now _ c.loop.invariant.1 (rw c.record_length-size.ensures.length at c.if-rest-size.true))
+
+pub returns-in_err-event-clause-exact : goal.returns-in_err-event-clause-exact
+returns-in_err-event-clause-exact c =
+    let p = err_from_is_err_and c.from_residual.result c.from_residual.ensures.1 in
+    let h : event_at c.args.header (take (record_length c.args.header.version) c.loop.rest.now) ≡ Err c.in_err-event.field-0.0 = rw (← c.record_length-size.ensures.length, ← c.split_at.ensures.front) (sym c.in_err-event.ensures) in
+    rw (p.1, p.2) (fails _ _ (behind (refused (record_length c.args.header.version) (event_at c.args.header) c.loop.invariant.0 MOST_RECORDS c.loop.counter c.loop.rest.now _ c.loop.invariant.1 c.loop-test.true (rw c.record_length-size.ensures.length at c.if-rest-size.false) _ h)))
+
+pub returns-in_err-event-clause-memory : goal.returns-in_err-event-clause-memory
+returns-in_err-event-clause-memory c =
+    let p = err_from_is_err_and c.from_residual.result c.from_residual.ensures.1 in
+    let is : event_at c.args.header c.split_at.result.0.now ≡ Err c.in_err-event.field-0.0 = sym c.in_err-event.ensures in
+    rw (p.1, p.2) (λ e. event_apart c.args.header c.split_at.result.0.now (rw e at is))
+
+pub returns-then-is_end-clause-exact : goal.returns-then-is_end-clause-exact
+returns-then-is_end-clause-exact c =
+    let h : event_at c.args.header (take (record_length c.args.header.version) c.loop.rest.now) ≡ Ok c.in_ok-event.event = rw (← c.record_length-size.ensures.length, ← c.split_at.ensures.front) (sym c.in_ok-event.ensures) in
+    rw (c.split_at.ensures.back, c.record_length-size.ensures.length)
+    (behind (ended (record_length c.args.header.version) (event_at c.args.header) c.loop.invariant.0 MOST_RECORDS c.loop.counter c.loop.rest.now _ c.loop.invariant.1 c.loop-test.true (rw c.record_length-size.ensures.length at c.if-rest-size.false) _ h (sym c.is_end.ensures ∙ c.if-is_end.true)))
+
+pub loop-preserved : goal.loop-preserved
+loop-preserved c =
+    let h : event_at c.args.header (take (record_length c.args.header.version) c.loop.rest.now) ≡ Ok c.in_ok-event.event = rw (← c.record_length-size.ensures.length, ← c.split_at.ensures.front) (sym c.in_ok-event.ensures) in
+    rw (c.split_at.ensures.back, c.record_length-size.ensures.length)
+    (c.loop.invariant.0 ++ c.in_ok-event.event ∷ [], goes_on (record_length c.args.header.version) (event_at c.args.header) c.loop.invariant.0 MOST_RECORDS c.loop.counter c.loop.rest.now _ c.loop.invariant.1 c.loop-test.true (rw c.record_length-size.ensures.length at c.if-rest-size.false) _ h (sym c.is_end.ensures ∙ c.if-is_end.false))
+
+pub returns-then-rest-size-2-clause-exact : goal.returns-then-rest-size-2-clause-exact
+returns-then-rest-size-2-clause-exact c =
+    behind (stops_short (record_length c.args.header.version) (event_at c.args.header) c.loop.invariant.0 MOST_RECORDS c.loop.counter c.loop.rest.now _ c.loop.invariant.1 (rw c.record_length-size.ensures.length at c.if-rest-size-2.true))
+
+pub returns-clause-exact : goal.returns-clause-exact
+returns-clause-exact c =
+    behind (none_left (record_length c.args.header.version) (event_at c.args.header) c.loop.invariant.0 MOST_RECORDS c.loop.counter c.loop.rest.now _ c.loop.invariant.1 c.loop-test.false (rw c.record_length-size.ensures.length at c.if-rest-size-2.false))
