@@ -1,0 +1,95 @@
+-- Of a list that its group may have, each event is sent, and as it is.
+use Rattle.std.proofs.Common.{◌≡◌, ◌≢◌, ◌⊎◌, ℕ, zero, suc, ◌+◌, ◌<◌, ◌≤◌, Bool, true, false, List, [], ◌∷◌, ◌++◌, length, map, Some, slice_get, refl, sym, ap, ◌∙◌, subst, arith, inl, inr, true≢false}
+use Rattle.std.specs.Prelude.{IsFalse, IsTrue}
+use Rattle.std.proofs.lemmas.List.{length-append, length-map}
+use Rattle.gr_model.specs.declared.event.Event.{Event}
+use Rattle.gr_model.specs.declared.event.Kind.{Kind}
+use Rattle.gr_model.specs.declared.event.Kind.TheVariants.{Read, Write, Load, Store, Rmw, Barrier, End}
+use Rattle.gr_model.specs.declared.event.Name.{Name}
+use Rattle.gr_model.specs.declared.event.Space.{Space}
+use Rattle.gr_model.specs.declared.event.Space.TheVariants.{Global}
+use Rattle.gr_model.specs.declared.limits.TheConstants.{MOST_RECORDS}
+use Rattle.gr_model.specs.Events.{IsEventOk, IsKindOk, IsNamingOk, end_of, is_end}
+use Rattle.gr_model.specs.Streams.{AreGood, IsAccepted, is_complete}
+use Rattle.gr_streams.specs.Sending.{IsStuck, MayFollow, sent_as, sent_by_kind}
+
+-- ---- each event is sent as it is
+
+abbrev event : ℕ → Kind → Space → ℕ → List Name → Event
+event item kind space word names = record { item = item; kind = kind; space = space; word = word; names = names }
+
+same_end : (cut : Bool) (item : ℕ) (space : Space) (word : ℕ) (names : List Name) → IsNamingOk (End cut) names → IsKindOk (End cut) item space word → end_of cut ≡ event item (End cut) space word names
+same_end cut item space word [] naming (i, s, w) = λ k. event (sym i k) (End cut) (sym s k) (sym w k) []
+same_end cut item space word (n ∷ names) naming kind = absurd (true≢false (sym naming.0))
+
+same_kind : (k : Kind) (item : ℕ) (space : Space) (word : ℕ) (names : List Name) → IsNamingOk k names → IsKindOk k item space word → sent_by_kind k (event item k space word names) ≡ event item k space word names
+same_kind Read item space word names naming kind = refl
+same_kind Write item space word names naming kind = refl
+same_kind (Load scope order) item space word names naming kind = refl
+same_kind (Store scope order) item space word names naming kind = refl
+same_kind (Rmw scope order) item space word names naming kind = refl
+same_kind (Barrier global local) item space word names naming kind = refl
+same_kind (End cut) item space word names naming kind = same_end cut item space word names naming kind
+
+same_event : (e : Event) (items : ℕ) → IsEventOk e items → sent_as e ≡ e
+same_event e items ok = same_kind e.kind e.item e.space e.word e.names ok.1 ok.2
+
+-- ---- lists
+
+tail_good : (items : ℕ) (x : Event) (xs : List Event) → AreGood items (x ∷ xs) → AreGood items xs
+tail_good items x xs good p y at = let g = good (suc p) y at in (g.0, λ end. let l : suc p + 1 ≡ suc (length xs) = g.1 end in omega arith)
+
+pub sent_as_they_are : (items : ℕ) (xs : List Event) → AreGood items xs → map sent_as xs ≡ xs
+sent_as_they_are items [] good = refl
+sent_as_they_are items (x ∷ xs) good =
+    let first : sent_as x ≡ x = same_event x items (good zero x refl).0 in
+    let rest = sent_as_they_are items xs (tail_good items x xs good) in
+    λ k. first k ∷ rest k
+
+prefix_good : (items : ℕ) (before after : List Event) → AreGood items (before ++ after) → map sent_as before ≡ before
+prefix_good items [] after good = refl
+prefix_good items (x ∷ before) after good =
+    let first : sent_as x ≡ x = same_event x items (good zero x refl).0 in
+    let rest = prefix_good items before after (tail_good items x (before ++ after) good) in
+    λ k. first k ∷ rest k
+
+-- an event that others follow is no end
+no_end : (items : ℕ) (x e : Event) (after : List Event) → AreGood items (x ∷ e ∷ after) → (b : Bool) → is_end x ≡ b → IsFalse b
+no_end items x e after good true end = let l : 0 + 1 ≡ suc (suc (length after)) = (good zero x refl).1 end in absurd (omega arith)
+no_end items x e after good false end = refl
+
+prefix_open : (items : ℕ) (before : List Event) (e : Event) (after : List Event) → AreGood items (before ++ e ∷ after) → IsFalse (is_complete before)
+prefix_open items [] e after good = refl
+prefix_open items (x ∷ []) e after good = no_end items x e after good (is_end x) refl
+prefix_open items (x ∷ y ∷ before) e after good = prefix_open items (y ∷ before) e after (tail_good items x (y ∷ before ++ e ∷ after) good)
+
+here_good : (items : ℕ) (before : List Event) (e : Event) (after : List Event) → AreGood items (before ++ e ∷ after) → IsEventOk e items
+here_good items [] e after good = (good zero e refl).0
+here_good items (x ∷ before) e after good = here_good items before e after (tail_good items x (before ++ e ∷ after) good)
+
+last_end : (before : List Event) (e : Event) → is_complete (before ++ e ∷ []) ≡ is_end e
+last_end [] e = refl
+last_end (x ∷ []) e = refl
+last_end (x ∷ y ∷ before) e = last_end (y ∷ before) e
+
+-- an event that is no end has another behind it
+one_behind : (before : List Event) (e : Event) (after : List Event) → IsTrue (is_complete (before ++ e ∷ after)) → is_end e ≡ false → 1 ≤ length after
+one_behind before e [] whole open_end = absurd (true≢false (sym whole ∙ (last_end before e ∙ open_end)))
+one_behind before e (x ∷ after) whole open_end = omega arith
+
+pub may_follow : (items : ℕ) (before : List Event) (e : Event) (after : List Event) → IsAccepted items (before ++ e ∷ after) → MayFollow items (map sent_as before) e
+may_follow items before e after list = record {
+  unended = subst (λ (l : List Event). IsFalse (is_complete l)) (sym (prefix_good items before (e ∷ after) list.good)) (prefix_open items before e after list.good);
+  sendable = by_end (is_end e) refl;
+}
+  where
+    by_end : (b : Bool) → is_end e ≡ b → IsTrue (is_end e) ⊎ ((IsFalse (is_end e) × IsEventOk e items) × (length (map sent_as before) + 1 < MOST_RECORDS))
+    by_end true is = inl is
+    by_end false is = inr ((is, here_good items before e after list.good), room)
+      where
+        room : length (map sent_as before) + 1 < MOST_RECORDS
+        room = omega (arith, length-map before sent_as, length-append before (e ∷ after), list.few, one_behind before e after list.ended is)
+
+-- so none was refused
+pub none_refused : (items : ℕ) (events : List Event) → IsAccepted items events → IsStuck items events → ⊥
+none_refused items events list stuck = stuck.refused (may_follow items stuck.before stuck.event stuck.after (subst (IsAccepted items) stuck.split list))

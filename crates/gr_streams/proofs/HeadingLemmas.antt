@@ -1,0 +1,68 @@
+-- Headers that are read one after the other.
+use Rattle.std.proofs.Common.{◌≡◌, ◌≢◌, ℕ, ◌<◌, List, [], ◌∷◌, ◌++◌, length, map, get_or, Option, None, Some, Result, Ok, Err, refl, sym, ap, ◌∙◌, subst}
+use Rattle.std.specs.Prelude.{AllPairs, IfSome, option_map}
+use Rattle.gr_record.specs.declared.header.Header.{Header}
+use Rattle.gr_record.specs.declared.fault.Fault.{Fault}
+use Rattle.gr_input.specs.Faults.{Fails}
+use Rattle.gr_input.proofs.Outside.{fails_through}
+use Rattle.gr_replay.specs.Each.{all_known}
+use Rattle.gr_replay.specs.Joined.{◌>>=◌}
+use Rattle.gr_streams.specs.Headers.{header_behind, headers_behind, headers_of}
+use Rattle.gr_streams.specs.Sources.{AreKnown}
+
+-- ---- bytes that are known
+
+pub if_mapped : {X Y : Type 0} (f : X → Y) (P : Y → Type 0) (o : Option X) → IfSome o (λ x. P (f x)) → IfSome (option_map f o) P
+if_mapped f P None h = tt
+if_mapped f P (Some x) h = h
+
+mapped_if : {X Y : Type 0} (f : X → Y) (P : Y → Type 0) (o : Option X) → IfSome (option_map f o) P → IfSome o (λ x. P (f x))
+mapped_if f P None h = tt
+mapped_if f P (Some x) h = h
+
+pub if_any : {X : Type 0} (o : Option X) (P : X → Type 0) → ((x : X) → o ≡ Some x → P x) → IfSome o P
+if_any None P p = tt
+if_any (Some x) P p = p x refl
+
+-- of readers of which some were read, and then one more
+pub known_so_far : (ks ms : List (Option (List ℕ))) (o : Option (List ℕ)) (P : List (List ℕ) → Type 0) (B : List ℕ → Type 0) (Q : List (List ℕ) → Type 0)
+    → IfSome (all_known ks) P → IfSome o B → ((xs : List (List ℕ)) (b : List ℕ) (ys : List (List ℕ)) → all_known ms ≡ Some ys → P xs → B b → Q (xs ++ b ∷ ys)) → IfSome (all_known (ks ++ o ∷ ms)) Q
+known_so_far [] ms None P B Q p b go = tt
+known_so_far [] ms (Some bytes) P B Q p b go = if_mapped (λ ys. bytes ∷ ys) Q (all_known ms) (if_any (all_known ms) (λ ys. Q (bytes ∷ ys)) (λ ys is. go [] bytes ys is p b))
+known_so_far (None ∷ ks) ms o P B Q p b go = tt
+known_so_far (Some first ∷ ks) ms o P B Q p b go =
+    if_mapped (λ xs. first ∷ xs) Q (all_known (ks ++ o ∷ ms))
+    (known_so_far ks ms o (λ xs. P (first ∷ xs)) B (λ xs. Q (first ∷ xs)) (mapped_if (λ xs. first ∷ xs) P (all_known ks) p) b (λ xs c ys is px bc. go (first ∷ xs) c ys is px bc))
+
+pub one_more_known : (ks ps : List (Option (List ℕ))) (o p : Option (List ℕ)) → AreKnown ks ps → IfSome o (λ bytes. p ≡ Some bytes) → AreKnown (ks ++ o ∷ []) (ps ++ p ∷ [])
+one_more_known [] [] o p h one = (one, tt)
+one_more_known (k ∷ ks) (q ∷ ps) o p h one = (h.0, one_more_known ks ps o p h.1 one)
+one_more_known [] (q ∷ ps) o p h one = absurd h
+one_more_known (k ∷ ks) [] o p h one = absurd h
+
+-- ---- headers
+
+abbrev refused : Fault → Result (List Header) Fault
+refused e = Err e
+
+after : (seen : List Header) (xs ys : List (List ℕ)) (r : Result (List Header) Fault) → headers_behind seen xs ≡ r → headers_behind seen (xs ++ ys) ≡ r >>= λ hs. headers_behind hs ys
+unfolding headers_behind
+after seen [] ys r is = subst (λ (x : Result (List Header) Fault). headers_behind seen ys ≡ x >>= λ hs. headers_behind hs ys) is refl
+after seen (b ∷ xs) ys r is = by_header (header_behind seen b) is (λ x k. after (seen ++ x ∷ []) xs ys r k)
+  where
+    by_header : (h : Result Header Fault) → (h >>= λ x. headers_behind (seen ++ x ∷ []) xs) ≡ r → ((x : Header) → headers_behind (seen ++ x ∷ []) xs ≡ r → headers_behind (seen ++ x ∷ []) (xs ++ ys) ≡ r >>= λ hs. headers_behind hs ys) → (h >>= λ x. headers_behind (seen ++ x ∷ []) (xs ++ ys)) ≡ r >>= λ hs. headers_behind hs ys
+    by_header (Err e) k go = subst (λ (x : Result (List Header) Fault). refused e ≡ x >>= λ hs. headers_behind hs ys) k refl
+    by_header (Ok x) k go = go x k
+
+module _ (xs : List (List ℕ)) (hs : List Header) (read : headers_of xs ≡ Ok hs) (bytes : List ℕ) where
+  pub one_more_header : (h : Header) → header_behind hs bytes ≡ Ok h → headers_of (xs ++ bytes ∷ []) ≡ Ok (hs ++ h ∷ [])
+  unfolding headers_behind
+  one_more_header h is = after [] xs (bytes ∷ []) (Ok hs) read ∙ rw is refl
+
+  pub header_refused : (ys : List (List ℕ)) (f : Fault) → Fails f (header_behind hs bytes) → Fails f (headers_of (xs ++ bytes ∷ ys))
+  unfolding headers_behind
+  header_refused ys f h = fails_through f (header_behind hs bytes) (headers_of (xs ++ bytes ∷ ys)) h (λ e. after [] xs (bytes ∷ ys) (Ok hs) read ∙ rw e refl)
+
+pub no_headers : headers_of [] ≡ Ok []
+unfolding headers_behind
+no_headers = refl

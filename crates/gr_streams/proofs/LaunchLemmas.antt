@@ -1,0 +1,161 @@
+-- The launch of streams that were sent.
+use Rattle.std.proofs.Common.{◌≡◌, ◌≢◌, ℕ, zero, suc, ◌+◌, ◌<◌, ◌≤◌, Bool, true, false, cond, List, [], ◌∷◌, ◌++◌, length, map, get_or, Contains, Option, None, Some, Result, Ok, Err, slice_get, slice_index, refl, sym, ap, ◌∙◌, subst, arith, eq-eqb, ne_eqb}
+use Rattle.std.specs.Prelude.{All, IfSome, option_map, ◌==◌}
+use Rattle.std.specs.List.{range_with_len}
+use Rattle.std.proofs.lemmas.List.{get_or-map, length-map}
+use Rattle.std.proofs.lemmas.List.FromFn.{get_or-map-range_with_len, length-map-range_with_len}
+use Rattle.std.proofs.lemmas.Option.{slice_get-get_or, get_or_from_slice_get}
+use Rattle.atomic_table.specs.Seated.{TableId}
+use Rattle.gr_detector.specs.Runs.{AreReceiptsOf, AreSendersOf, IsOfRun, Run, sent_by, sent_of}
+use Rattle.gr_model.specs.declared.event.Event.{Event}
+use Rattle.gr_model.specs.Streams.{Streams}
+use Rattle.gr_record.specs.declared.header.Header.{Header}
+use Rattle.gr_replay.specs.Each.{all_known}
+use Rattle.gr_replay.specs.Joined.{Flat}
+use Rattle.gr_replay.specs.Launch.{HasGroup, IsLaunchOf}
+use Rattle.gr_route.specs.IntakeSeats.{Seat}
+use Rattle.gr_sender.specs.Senders.{Sending}
+use Rattle.gr_steps.proofs.Orders.{there_is}
+use Rattle.gr_streams.specs.Headers.{AreApart, AreHeadersOf, bare, bares, streams_with}
+use Rattle.gr_streams.specs.Sources.{AreKnown, AreOfRun, AreReceiptsFor, AreSenders, AreServed, Begun, IsReady}
+use Rattle.gr_streams.proofs.JoinLemmas.{all_tail, apart_head, apart_tail, contains_tail}
+
+-- ---- senders
+
+inside : (xs : List ℕ) (k x : ℕ) → slice_get xs k ≡ Some x → k < length xs
+inside [] k x e = absurd cc
+inside (y ∷ xs) zero x e = omega arith
+inside (y ∷ xs) (suc k) x e = let lt = inside xs k x e in omega (arith, lt)
+
+-- a header is among the bare streams
+bare_in : (hs : List Header) (h : Header) → Contains hs h → Contains (bares hs) (bare h)
+bare_in hs h (k, lt, is) = (k, omega (arith, lt, length-map hs bare), get_or-map bare hs k h (bare h) lt ∙ ap bare is)
+
+module _ (run : Run) (senders : List Sending) (are : AreSendersOf run senders) where
+  pub of_run : AreSenders run senders
+  of_run s (k, lt, is) =
+      let one = subst (λ (x : Sending). IsOfRun run k x.queue.queue × (x.group ≡ k)) is (let o = are.each k s (omega (arith, lt, are.count)) in (o.of_run, o.group)) in
+      subst (λ n. IsOfRun run n s.queue.queue) (sym one.1) one.0
+
+  pub served : (hs : List Header) → AreApart hs → AreHeadersOf hs run.sizes → AreServed hs senders
+  served hs apart launch = record {
+    apart = apart;
+    there = λ h in_hs.
+        let lt : h.group < length senders = omega (arith, inside run.sizes h.group h.items (size h in_hs), are.count) in
+        let at = there_is senders h.group lt in
+        let here = get_or_from_slice_get senders h.group at.0 at.0 at.1 in
+        (at.0, (h.group, lt, here), subst (λ (x : Sending). x.group ≡ h.group) here (are.each h.group at.0 (omega (arith, lt, are.count))).group);
+    ready = λ h s in_hs in_senders same. ready h s in_hs in_senders same;
+  }
+    where
+      size : (h : Header) → Contains hs h → slice_get run.sizes h.group ≡ Some h.items
+      size h in_hs = subst (λ (l : List ℕ). slice_get l h.group ≡ Some h.items) launch.2 (launch.1.each (bare h) (bare_in hs h in_hs)).0
+
+      ready : (h : Header) (s : Sending) → Contains hs h → Contains senders s → s.group ≡ h.group → IsReady h s
+      ready h s in_hs (k, lt, is) same =
+          let o = are.each k s (omega (arith, lt, are.count)) in
+          let at : k ≡ h.group = sym o.group ∙ (ap (λ (x : Sending). x.group) is ∙ same) in
+          let items : (get_or senders k s).items ≡ h.items = o.items ∙ (ap (slice_index run.sizes) at ∙ get_or_from_slice_get run.sizes h.group h.items 0 (size h in_hs)) in
+          subst (IsReady h) is (record { items = items; records = o.records; sent = o.sent })
+
+-- ---- receipts
+
+all_head : {X : Type 0} (P : X → Type 0) (x : X) (xs : List X) → P x → All P xs → All P (x ∷ xs)
+all_head P x xs p all zero d lt = p
+all_head P x xs p all (suc k) d lt = all k d (omega (arith, lt))
+
+first_is : {X : Type 0} (x y : X) (xs ys : List X) → x ∷ xs ≡ y ∷ ys → x ≡ y
+first_is x y xs ys e = cc
+
+rest_is : {X : Type 0} (x y : X) (xs ys : List X) → x ∷ xs ≡ y ∷ ys → xs ≡ ys
+rest_is x y xs ys e = cc
+
+pub receipts_of_run : (run : Run) (bs : List Begun) (rs : List Seat) → AreOfRun run bs → AreReceiptsFor bs rs → AreReceiptsOf run rs
+receipts_of_run run bs [] all are = λ k d lt. absurd (omega (arith, lt))
+receipts_of_run run [] (r ∷ rs) all are = absurd (omega (arith, ap length are.groups))
+receipts_of_run run (b ∷ bs) (r ∷ rs) all are =
+    let group : r.group ≡ b.sender.group = first_is _ _ _ _ are.groups in
+    let queue : r.queue ≡ b.sender.queue.queue = first_is _ _ _ _ are.queues in
+    let first : IsOfRun run b.sender.group b.sender.queue.queue = all 0 b (omega arith) in
+    all_head (λ (x : Seat). IsOfRun run x.group x.queue) r rs
+    (subst (λ n. IsOfRun run n r.queue) (sym group) (subst (λ (q : TableId). IsOfRun run b.sender.group q) (sym queue) first))
+    (receipts_of_run run bs rs (all_tail (λ (x : Begun). IsOfRun run x.sender.group x.sender.queue.queue) b bs all) (record { groups = rest_is _ _ _ _ are.groups; queues = rest_is _ _ _ _ are.queues }))
+
+-- ---- streams
+
+abbrev one : List Event → Option (List Event)
+one l = Some l
+
+abbrev groups_of : List Seat → List ℕ
+groups_of rs = map (λ (r : Seat). r.group) rs
+
+abbrev header_groups : List Header → List ℕ
+header_groups hs = map (λ (h : Header). h.group) hs
+
+abbrev pushed_of : List Seat → List (List Event)
+pushed_of rs = map (λ (r : Seat). r.pushed) rs
+
+-- a stream with these records is of one of the headers, and has what was sent of its group
+stream_sent : (hs : List Header) (rs : List Seat) → AreApart hs → groups_of rs ≡ header_groups hs → (f : Flat) → Contains (streams_with hs (pushed_of rs)) f → Contains hs f.header × (sent_of f.header.group rs ≡ f.events)
+stream_sent [] rs apart same f (k, lt, is) = absurd (omega (arith, lt))
+stream_sent (h ∷ hs) [] apart same f (k, lt, is) = absurd (omega (arith, lt))
+stream_sent (h ∷ hs) (r ∷ rs) apart same f (zero, lt, is) =
+    let head : h ≡ f.header = ap (λ (x : Flat). x.header) is in
+    let group : r.group ≡ f.header.group = first_is _ _ _ _ same ∙ ap (λ (x : Header). x.group) head in (
+      (0, omega arith, head),
+      ap (λ b. cond b r.pushed (sent_of f.header.group rs)) (eq-eqb r.group f.header.group group) ∙ ap (λ (x : Flat). x.events) is,
+    )
+stream_sent (h ∷ hs) (r ∷ rs) apart same f (suc k, lt, is) =
+    let rest = stream_sent hs rs (apart_tail h hs apart) (rest_is _ _ _ _ same) f (k, omega (arith, lt), is) in
+    let other : r.group ≢ f.header.group = λ e. apart_head h hs apart f.header rest.0 (sym e ∙ first_is _ _ _ _ same) in (
+      contains_tail h f.header hs rest.0,
+      ap (λ b. cond b r.pushed (sent_of f.header.group rs)) (ne_eqb r.group f.header.group other) ∙ rest.1,
+    )
+
+header_there : (hs : List Header) (rs : List Seat) → groups_of rs ≡ header_groups hs → (h : Header) → Contains hs h → (f : Flat) × Contains (streams_with hs (pushed_of rs)) f × (f.header ≡ h)
+header_there [] rs same h (k, lt, is) = absurd (omega (arith, lt))
+header_there (x ∷ hs) [] same h in_hs = absurd (omega (arith, ap length same))
+header_there (x ∷ hs) (r ∷ rs) same h (zero, lt, is) = (record { header = x; events = r.pushed }, (0, omega arith, refl), is)
+header_there (x ∷ hs) (r ∷ rs) same h (suc k, lt, is) =
+    let rest = header_there hs rs (rest_is _ _ _ _ same) h (k, omega (arith, lt), is) in
+    (rest.0, contains_tail (record { header = x; events = r.pushed }) rest.0 (streams_with hs (pushed_of rs)) rest.1, rest.2)
+
+-- the header of a bare stream
+header_in : (hs : List Header) (f : Flat) → Contains (bares hs) f → Contains hs f.header
+header_in hs f (k, lt, is) =
+    let below : k < length hs = omega (arith, lt, length-map hs bare) in
+    (k, below, ap (λ (x : Flat). x.header) (sym (get_or-map bare hs k f.header f below) ∙ is))
+
+pub launch_sent : (hs : List Header) (sizes : List ℕ) (rs : List Seat) → AreApart hs → AreHeadersOf hs sizes → groups_of rs ≡ header_groups hs → IsLaunchOf (streams_with hs (pushed_of rs)) (sent_by sizes rs)
+launch_sent hs sizes rs apart launch same = record {
+  count = length-map-range_with_len (λ g. sent_of g rs) 0 (length sizes);
+  there = λ g lt.
+      let has : HasGroup (bares hs) g = launch.1.there g (omega (arith, lt, ap length launch.2)) in
+      let f = header_there hs rs same has.0.header (header_in hs has.0 has.1) in
+      (f.0, f.1, ap (λ (x : Header). x.group) f.2 ∙ has.2);
+  each = λ f in_seen.
+      let sent = stream_sent hs rs apart same f in_seen in
+      let size : slice_get sizes f.header.group ≡ Some f.header.items = subst (λ (l : List ℕ). slice_get l f.header.group ≡ Some f.header.items) launch.2 (launch.1.each (bare f.header) (bare_in hs f.header sent.0)).0 in
+      let lt = inside sizes f.header.group f.header.items size in
+      let lists = map (λ g. sent_of g rs) (range_with_len 0 (length sizes)) in
+      let there : f.header.group < length lists = omega (arith, lt, length-map-range_with_len (λ g. sent_of g rs) 0 (length sizes)) in
+      (size, slice_get-get_or lists f.header.group [] there ∙ ap (λ (l : List Event). one l) (get_or-map-range_with_len (λ g. sent_of g rs) 0 (length sizes) f.header.group f.header.group [] lt (omega arith) ∙ sent.1));
+}
+
+-- ---- known bytes
+
+pub known_all : (ks ps : List (Option (List ℕ))) (inputs : List (List ℕ)) → AreKnown ks ps → all_known ks ≡ Some inputs → ps ≡ map (λ x. Some x) inputs
+known_all [] [] [] known is = refl
+known_all [] [] (x ∷ inputs) known is = absurd cc
+known_all [] (p ∷ ps) inputs known is = absurd known
+known_all (o ∷ ks) [] inputs known is = absurd known
+known_all (None ∷ ks) (p ∷ ps) inputs known is = absurd cc
+known_all (Some b ∷ ks) (p ∷ ps) inputs known is = by_rest (all_known ks) refl is (λ rest k. known_all ks ps rest known.1 k)
+  where
+    by_rest : (r : Option (List (List ℕ))) → all_known ks ≡ r → option_map (λ xs. b ∷ xs) r ≡ Some inputs → ((rest : List (List ℕ)) → all_known ks ≡ Some rest → ps ≡ map (λ x. Some x) rest) → p ∷ ps ≡ map (λ x. Some x) inputs
+    by_rest None k is go = absurd cc
+    by_rest (Some rest) k is go =
+        let all : b ∷ rest ≡ inputs = cc in
+        let first : p ≡ Some b = known.0 in
+        let others = go rest k in
+        (λ i. first i ∷ others i) ∙ ap (λ (l : List (List ℕ)). map (λ x. Some x) l) all

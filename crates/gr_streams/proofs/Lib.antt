@@ -1,0 +1,9 @@
+pub mod HeaderLemmas
+pub mod HeadingLemmas
+pub mod SendingLemmas
+pub mod AcceptedLemmas
+pub mod OutcomeLemmas
+pub mod ReadingLemmas
+pub mod JoinLemmas
+pub mod EachLemmas
+pub mod LaunchLemmas

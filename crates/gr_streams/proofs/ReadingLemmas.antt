@@ -1,0 +1,114 @@
+-- What reading a stream leaves tells what its bytes are.
+use Rattle.std.proofs.Common.{◌≡◌, ◌≢◌, ℕ, ◌+◌, ◌<◌, ◌≤◌, Bool, true, false, List, [], ◌∷◌, ◌++◌, length, map, take, drop, Option, None, Some, Result, Ok, Err, refl, sym, ap, ◌∙◌, subst, arith, append_assoc}
+use Rattle.std.specs.Prelude.{IfErr, IfOk, IfSome, IsTrue}
+use Rattle.std.specs.Io.KnownBytes.{Consumes, prepend_known}
+use Rattle.std.proofs.lemmas.List.{length-take, take-append-le}
+use Rattle.std.proofs.Math.Seq.{take-length}
+use Rattle.gr_model.specs.declared.event.Event.{Event}
+use Rattle.gr_model.specs.declared.limits.TheConstants.{MOST_RECORDS}
+use Rattle.gr_model.specs.Streams.{IsAccepted, is_complete}
+use Rattle.gr_record.specs.declared.error.RecordError.{RecordError}
+use Rattle.gr_record.specs.declared.error.RecordError.TheVariants as errors
+use Rattle.gr_record.specs.declared.header.Header.{Header}
+use Rattle.gr_record.specs.declared.fault.Fault.{Fault}
+use Rattle.gr_record.specs.declared.fault.Fault.TheVariants as faults
+use Rattle.gr_record.specs.declared.stop.Stop.{Stop}
+use Rattle.gr_record.specs.declared.stop.Stop.TheVariants.{Inside, AtEnd, AtFault}
+use Rattle.gr_record.specs.Decoding.{HasMemory, Standing, answer, last_answer, reading, standing}
+use Rattle.gr_record.specs.Faults.{stream_fault}
+use Rattle.gr_record.proofs.Resuming.{fault_stays}
+use Rattle.gr_replay.specs.Joined.{at_place}
+use Rattle.gr_sender.specs.Senders.{Sending}
+use Rattle.gr_streams.specs.Records.{events_at}
+use Rattle.gr_streams.specs.Sending.{AreSent, IsFed, Tells, sent_as}
+use Rattle.gr_streams.specs.Sources.{IsHeaded}
+use Rattle.gr_streams.proofs.AcceptedLemmas.{none_refused, sent_as_they_are}
+use Rattle.gr_streams.proofs.HeaderLemmas.{headed_at}
+use Rattle.gr_streams.proofs.OutcomeLemmas.{events_told, read_to_end, told_by}
+
+-- ---- a fault
+
+told_fault : (place : ℕ) (bytes : List ℕ) (e : RecordError) → (reading MOST_RECORDS bytes).stop ≡ AtFault e → events_at place bytes ≡ Err (faults.Stream place e)
+told_fault place bytes e is = events_told place bytes ∙ ap (λ (s : Stop). at_place place (told_by s (reading MOST_RECORDS bytes).events)) is
+
+fault_tells : (place : ℕ) (bytes : List ℕ) (pushed : List Event) (e : RecordError) → (reading MOST_RECORDS bytes).stop ≡ AtFault e → Tells (events_at place bytes) pushed (Some (stream_fault place e))
+fault_tells place bytes pushed errors.Memory is = ((λ e. absurd cc), tt)
+fault_tells place bytes pushed e is = ((λ k. absurd cc), told_fault place bytes e is)
+
+-- where a decoder stops, reading stops
+stops : (fed : List ℕ) (d : Standing) (s : Sending) (refused : Bool) → IsFed fed d s refused → d.stop ≡ (reading MOST_RECORDS fed).stop
+stops fed d s refused f = ap (λ (x : Standing). x.stop) f.stands ∙ ap (λ n. (reading n fed).stop) f.limit
+
+at_fault : (stop : Stop) (e : RecordError) → Err e ≡ answer stop → stop ≡ AtFault e
+at_fault Inside e h = absurd cc
+at_fault AtEnd e h = absurd cc
+at_fault (AtFault d) e h = cc
+
+-- a piece at fault, whatever follows it
+pub refused_tells : (place : ℕ) (fed rest : List ℕ) (pushed : List Event) (d : Standing) (s : Sending) (refused : Bool) (result : Result (Unit {0}) RecordError) (e : RecordError) → result ≡ Err e → (HasMemory result → result ≡ answer d.stop) → (HasMemory result → IsFed fed d s refused)
+    → Tells (events_at place (fed ++ rest)) pushed (Some (stream_fault place e))
+refused_tells place fed rest pushed d s refused result errors.Memory is fault f = ((λ e. absurd cc), tt)
+refused_tells place fed rest pushed d s refused result e is fault f =
+    let has : HasMemory result = λ k. let same : Err e ≡ Err errors.Memory = sym is ∙ k in absurd cc in
+    let stop : (reading MOST_RECORDS fed).stop ≡ AtFault e = sym (stops fed d s refused (f has)) ∙ at_fault d.stop e (sym is ∙ fault has) in
+    fault_tells place (fed ++ rest) pushed e (fault_stays MOST_RECORDS fed rest e stop).0
+
+-- ---- the end
+
+module _ (place : ℕ) (fed : List ℕ) (h : Header) (d : Standing) (s : Sending) (refused : Bool) (f : IsFed fed d s refused) (headed : IsHeaded h (take 12 fed)) (items : s.items ≡ h.items) (pushed : List Event) where
+  -- all that was read was sent
+  sent_all : (reading MOST_RECORDS fed).stop ≡ AtEnd → (IsTrue (is_complete s.sent) → pushed ≡ s.sent) → pushed ≡ (reading MOST_RECORDS fed).events
+  sent_all end whole = by_refused refused f.sent
+    where
+      events : List Event
+      events = (reading MOST_RECORDS fed).events
+
+      list : IsAccepted s.items events
+      list =
+          let long : 12 ≤ length fed = omega (arith, length-take 12 fed, headed.1) in
+          let read = read_to_end fed h f.bytes long (headed_at h (take 12 fed) headed) end in
+          subst (λ n. IsAccepted n events) (sym items) (record { few = read.few; good = read.good; ended = read.ended })
+
+      by_refused : (b : Bool) → AreSent s.items events s.sent b → pushed ≡ events
+      by_refused true stuck = absurd (none_refused s.items events list stuck)
+      by_refused false sent =
+          let same : s.sent ≡ events = sent ∙ sent_as_they_are s.items events list.good in
+          whole (subst (λ (l : List Event). IsTrue (is_complete l)) (sym same) list.ended) ∙ same
+
+  pub end_tells : (fault : Option Fault) → IfErr (last_answer d.stop) (λ e. fault ≡ Some (stream_fault place e)) → IfOk (last_answer d.stop) (λ _. (fault ≡ None) × (IsTrue (is_complete s.sent) → pushed ≡ s.sent)) → Tells (events_at place fed) pushed fault
+  end_tells fault bad fine = by_stop d.stop refl bad fine
+    where
+      by_stop : (stop : Stop) → d.stop ≡ stop → IfErr (last_answer stop) (λ e. fault ≡ Some (stream_fault place e)) → IfOk (last_answer stop) (λ _. (fault ≡ None) × (IsTrue (is_complete s.sent) → pushed ≡ s.sent)) → Tells (events_at place fed) pushed fault
+      by_stop Inside is bad fine =
+          let stop : (reading MOST_RECORDS fed).stop ≡ Inside = sym (stops fed d s refused f) ∙ is in
+          subst (Tells (events_at place fed) pushed) (sym bad) ((λ k. absurd cc), events_told place fed ∙ ap (λ (x : Stop). at_place place (told_by x (reading MOST_RECORDS fed).events)) stop)
+      by_stop AtEnd is bad fine =
+          let stop : (reading MOST_RECORDS fed).stop ≡ AtEnd = sym (stops fed d s refused f) ∙ is in
+          let all = sent_all stop fine.1 in
+          subst (Tells (events_at place fed) pushed) (sym fine.0) (events_told place fed ∙ ap (λ (x : Stop). at_place place (told_by x (reading MOST_RECORDS fed).events)) stop ∙ ap (λ (l : List Event). at_place place (Ok l)) (sym all))
+      by_stop (AtFault e) is bad fine =
+          let stop : (reading MOST_RECORDS fed).stop ≡ AtFault e = sym (stops fed d s refused f) ∙ is in
+          subst (Tells (events_at place fed) pushed) (sym bad) (fault_tells place fed pushed e stop)
+
+-- ---- bytes that come in pieces
+
+pub still_headed : (h : Header) (fed read : List ℕ) → IsHeaded h (take 12 fed) → IsHeaded h (take 12 (fed ++ read))
+still_headed h fed read headed =
+    let long : 12 ≤ length fed = omega (arith, length-take 12 fed, headed.1) in
+    subst (IsHeaded h) (sym (take-append-le 12 fed read long)) headed
+
+pub regroup : (fed read piece rest : List ℕ) → ((fed ++ read) ++ piece) ++ rest ≡ fed ++ ((read ++ piece) ++ rest)
+regroup fed read piece rest = ap (λ (l : List ℕ). l ++ rest) (append_assoc fed read piece) ∙ append_assoc fed (read ++ piece) rest
+
+-- what is so of what was read and whatever follows it, is so of what the reader had
+pub of_known : (old new : Option (List ℕ)) (read : List ℕ) (P : List ℕ → Type 0) → Consumes old new read → ((rest : List ℕ) → P (read ++ rest)) → IfSome old P
+of_known None new read P h p = tt
+of_known (Some xs) None read P h p = absurd h
+of_known (Some xs) (Some ys) read P h p = subst P (sym h) (p ys)
+
+pub known_prefix : (known : Option (List ℕ)) (prefix : List ℕ) (P : List ℕ → Type 0) → ((rest : List ℕ) → P (prefix ++ rest)) → IfSome (prepend_known prefix known) P
+known_prefix None prefix P p = tt
+known_prefix (Some xs) prefix P p = p xs
+
+pub whole_prefix : (h : Header) (prefix : List ℕ) → IsHeaded h prefix → IsHeaded h (take 12 prefix)
+whole_prefix h prefix headed = subst (IsHeaded h) (sym (ap (λ n. take n prefix) (sym headed.1) ∙ take-length prefix)) headed

@@ -1,0 +1,71 @@
+use Rattle.std.proofs.Common.{◌≡◌, ◌≢◌, ◌∙◌, ◌++◌, ◌∷◌, [], ℕ, List, Option, Ok, Result, Some, ap, arith, append_assoc, map, refl, rules, subst, sym}
+use Rattle.std.specs.Prelude.{All, IfSome}
+use Rattle.std.specs.Vec.Iter.{into_iter_items}
+use Rattle.std.proofs.lemmas.List.{map-append, map_push}
+use Rattle.std.proofs.lemmas.List.Elements.{All-push}
+use Rattle.std.proofs.lemmas.List.Quantifiers.{all_pairs_push}
+use Rattle.std.proofs.lemmas.Result.{err_from_is_err_and}
+use Rattle.gr_input.specs.Faults.{Fails}
+use Rattle.gr_record.specs.declared.header.Header.{Header}
+use Rattle.gr_replay.specs.Each.{all_known}
+use Rattle.gr_streams.specs.Headers.{header_behind, headers_of}
+use Rattle.gr_streams.specs.Sources.{IsHeaded, known_of}
+use Rattle.gr_streams.specs.declared.source.Source.{Source}
+use Rattle.gr_streams.proofs.HeadingLemmas.{header_refused, known_so_far, no_headers, one_more_header, one_more_known}
+use Rattle.gr_streams.proofs.headers.read_headers.Goals as goal
+
+same_some : {X : Type 0} (x y : X) → Some x ≡ Some y → x ≡ y
+same_some x y e = cc
+
+pub loop-reader-init : goal.loop-reader-init
+loop-reader-init g c =
+    rw (c.new-headers.ensures.items, c.new-sources.ensures.items) (record {
+      left = search rules;
+      apart = λ i j d before within. absurd (omega arith);
+      sources = refl;
+      known = tt;
+      headed = λ k d lt. absurd (omega arith);
+      headers = no_headers;
+    })
+
+pub returns-in_err-source-clause-exact : goal.returns-in_err-source-clause-exact
+returns-in_err-source-clause-exact g c =
+    let inv = c.loop-reader.invariant in
+    let rem = g.T.Read.remaining in
+    let p = err_from_is_err_and c.from_residual.result c.from_residual.ensures.1 in
+    let f = c.in_err-source.field-0.0 in
+    let left = into_iter_items c.next.new.self in
+    let items : into_iter_items c.loop-reader.reader-iterator ≡ c.in-Some.reader ∷ left = search rules in
+    let all : c.args.readers.items ≡ c.loop-reader.yielded ++ c.in-Some.reader ∷ left = sym inv.left ∙ ap (λ l. c.loop-reader.yielded ++ l) items in
+    let known : map rem c.args.readers.items ≡ map rem c.loop-reader.yielded ++ rem c.in-Some.reader ∷ map rem left = ap (map rem) all ∙ map-append rem c.loop-reader.yielded (c.in-Some.reader ∷ left) in
+    let exact = rw c.as_slice.ensures.value at c.in_err-source.ensures.exact in
+    rw (p.1, p.2, known)
+    (known_so_far (map rem c.loop-reader.yielded) (map rem left) (rem c.in-Some.reader)
+    (λ inputs. headers_of inputs ≡ Ok c.loop-reader.headers.items)
+    (λ bytes. Fails f (header_behind c.loop-reader.headers.items bytes))
+    (λ inputs. Fails f (headers_of inputs))
+    inv.headers exact (λ xs b ys _ read fails. header_refused xs c.loop-reader.headers.items read b ys f fails))
+
+pub loop-reader-preserved : goal.loop-reader-preserved
+loop-reader-preserved g c =
+    let inv = c.loop-reader.invariant in
+    let rem = g.T.Read.remaining in
+    let s = c.in_ok-source.source in
+    let hs = c.loop-reader.headers.items in
+    let left = into_iter_items c.next.new.self in
+    let items : into_iter_items c.loop-reader.reader-iterator ≡ c.in-Some.reader ∷ left = search rules in
+    let header = rw c.as_slice.ensures.value at c.in_ok-source.ensures.header in
+    let apart = rw c.as_slice.ensures.value at c.in_ok-source.ensures.apart in
+    rw (c.in_ok-keep.ensures.headers, c.in_ok-keep.ensures.sources) (record {
+      left = append_assoc c.loop-reader.yielded (c.in-Some.reader ∷ []) left ∙ (ap (λ l. c.loop-reader.yielded ++ l) (sym items) ∙ inv.left);
+      apart = all_pairs_push (λ (g h : Header). g.group ≢ h.group) hs s.header inv.apart (λ k d lt. apart k d lt);
+      sources = map_push (λ (x : Source _). x.header) c.loop-reader.sources.items s ∙ ap (λ l. l ++ s.header ∷ []) inv.sources;
+      known = rw (map_push rem c.loop-reader.yielded c.in-Some.reader, map_push (known_of rem) c.loop-reader.sources.items s) (one_more_known (map rem c.loop-reader.yielded) (map (known_of rem) c.loop-reader.sources.items) (rem c.in-Some.reader) (known_of rem s) inv.known c.in_ok-source.ensures.known);
+      headed = All-push (λ (x : Source _). IsHeaded x.header x.prefix.items) c.loop-reader.sources.items s inv.headed c.in_ok-source.ensures.headed;
+      headers = rw (map_push rem c.loop-reader.yielded c.in-Some.reader)
+          (known_so_far (map rem c.loop-reader.yielded) [] (rem c.in-Some.reader)
+          (λ inputs. headers_of inputs ≡ Ok hs)
+          (λ bytes. header_behind hs bytes ≡ Ok s.header)
+          (λ inputs. headers_of inputs ≡ Ok (hs ++ s.header ∷ []))
+          inv.headers header (λ xs b ys none read is. subst (λ (l : List (List ℕ)). headers_of (xs ++ b ∷ l) ≡ Ok (hs ++ s.header ∷ [])) (same_some [] ys none) (one_more_header xs hs read b s.header is)));
+    })

@@ -1,0 +1,65 @@
+use Rattle.std.proofs.Common.{◌≡◌, ◌∙◌, ◌+◌, ◌++◌, ◌∷◌, [], List, Option, ℕ, append_assoc, ap, arith, length, map, subst, sym}
+use Rattle.std.specs.Prelude.{All, Contains}
+use Rattle.std.specs.Vec.Iter.{into_iter_items}
+use Rattle.std.proofs.lemmas.List.{length-append, length-map, map_push}
+use Rattle.std.proofs.lemmas.List.Elements.{All-push}
+use Rattle.gr_detector.specs.Runs.{IsOfRun}
+use Rattle.gr_record.specs.declared.header.Header.{Header}
+use Rattle.gr_sender.specs.Senders.{Sending}
+use Rattle.gr_streams.specs.Sources.{AreServed, Begun, IsHeaded, IsReady, known_of}
+use Rattle.gr_streams.specs.declared.source.Source.{Source}
+use Rattle.gr_streams.proofs.JoinLemmas.{all_tail, contains_head, placed_next, served_next}
+use Rattle.gr_streams.proofs.joins.start_all.Goals as goal
+
+-- the sender of the first of the sources that are left
+ready : {T : Type 0} (s : Source T) (left rest : List (Source T)) (senders : List Sending) → left ≡ s ∷ rest → AreServed (map (λ (x : Source T). x.header) left) senders → (sender : Sending) → Contains senders sender → sender.group ≡ s.header.group → IsReady s.header sender
+ready {T} s left rest senders is served sender there group =
+    let here = subst (λ (l : List (Source T)). AreServed (map (λ (x : Source T). x.header) l) senders) is served in
+    here.ready s.header sender (contains_head s.header (map (λ (x : Source T). x.header) rest)) there group
+
+pub start-requires-clause-items : goal.start-requires-clause-items
+start-requires-clause-items g c κs within = (ready c.in-Some.source _ _ c.loop-source.senders.items c.in-Some.ensures.steps.0 c.loop-source.invariant.served c.take_sender-sender.result c.take_sender-sender.ensures.there c.take_sender-sender.ensures.group).items
+
+pub start-requires-clause-records : goal.start-requires-clause-records
+start-requires-clause-records g c κs within = (ready c.in-Some.source _ _ c.loop-source.senders.items c.in-Some.ensures.steps.0 c.loop-source.invariant.served c.take_sender-sender.result c.take_sender-sender.ensures.there c.take_sender-sender.ensures.group).records
+
+pub start-requires-clause-sent : goal.start-requires-clause-sent
+start-requires-clause-sent g c κs within = (ready c.in-Some.source _ _ c.loop-source.senders.items c.in-Some.ensures.steps.0 c.loop-source.invariant.served c.take_sender-sender.result c.take_sender-sender.ensures.there c.take_sender-sender.ensures.group).sent
+
+pub loop-source-preserved : goal.loop-source-preserved
+loop-source-preserved g c =
+    let inv = c.loop-source.invariant in
+    let rem = g.T.Read.remaining in
+    let s = c.in-Some.source in
+    let rest = into_iter_items c.next.new.self in
+    let items = c.in-Some.ensures.steps.0 in
+    let bs = c.loop-source.threads.items in
+    let b = c.start.result in
+    let sender = c.take_sender-sender.result in
+    let count : length bs ≡ length c.loop-source.yielded = sym (length-map bs (λ (x : Begun). x.sender.group)) ∙ (ap length inv.begun.groups ∙ (length-map (map (λ (x : Source _). x.header) c.loop-source.yielded) (λ (h : Header). h.group) ∙ length-map c.loop-source.yielded (λ (x : Source _). x.header))) in
+    let pushed = c.push_reserved.ensures.items in
+    let grown : length (c.loop-source.yielded ++ s ∷ []) ≡ length c.loop-source.yielded + 1 = length-append c.loop-source.yielded (s ∷ []) in
+    let served = subst (λ l. AreServed (map (λ (x : Source _). x.header) l) c.loop-source.senders.items) items inv.served in
+    record {
+      left = append_assoc c.loop-source.yielded (s ∷ []) rest ∙ (ap (λ l. c.loop-source.yielded ++ l) (sym items) ∙ inv.left);
+      headed = all_tail (λ (x : Source _). IsHeaded x.header x.prefix.items) s rest (subst (λ l. All (λ (x : Source _). IsHeaded x.header x.prefix.items) l) items inv.headed);
+      served = served_next s.header (map (λ (x : Source _). x.header) rest) c.loop-source.senders.items c.take_sender-sender.new.senders.items served c.take_sender-sender.ensures.others c.take_sender-sender.ensures.fewer;
+      fewer = λ x there. inv.fewer x (c.take_sender-sender.ensures.fewer x there);
+      begun = rw pushed (record {
+        placed = placed_next bs b inv.begun.placed (ap (λ (x : Begun). x.place) c.start.ensures ∙ (inv.place ∙ sym count));
+        groups = map_push (λ (x : Begun). x.sender.group) bs b
+            ∙ (ap (λ l. l ++ b.sender.group ∷ []) inv.begun.groups
+            ∙ (ap (λ n. map (λ (h : Header). h.group) (map (λ (x : Source _). x.header) c.loop-source.yielded) ++ n ∷ []) (ap (λ (x : Begun). x.sender.group) c.start.ensures ∙ c.take_sender-sender.ensures.group)
+            ∙ sym (ap (map (λ (h : Header). h.group)) (map_push (λ (x : Source _). x.header) c.loop-source.yielded s) ∙ map_push (λ (h : Header). h.group) (map (λ (x : Source _). x.header) c.loop-source.yielded) s.header)));
+        bytes = map_push (λ (x : Begun). x.bytes) bs b
+            ∙ (ap (λ l. l ++ b.bytes ∷ []) inv.begun.bytes
+            ∙ (ap (λ o. map (known_of rem) c.loop-source.yielded ++ o ∷ []) (ap (λ (x : Begun). x.bytes) c.start.ensures)
+            ∙ sym (map_push (known_of rem) c.loop-source.yielded s)));
+      });
+      run = λ run senders.
+          let of_run : IsOfRun run sender.group sender.queue.queue = senders sender (inv.fewer sender c.take_sender-sender.ensures.there) in
+          rw pushed (All-push (λ (x : Begun). IsOfRun run x.sender.group x.sender.queue.queue) bs b (inv.run run senders) (subst (λ (x : Begun). IsOfRun run x.sender.group x.sender.queue.queue) (sym c.start.ensures) of_run));
+      place = omega (arith, inv.place, grown);
+      count = omega (arith, inv.count, grown, c.push_reserved.ensures.len);
+      room = omega (arith, inv.room, c.in-Some.ensures.steps.1, c.push_reserved.ensures.len, c.push_reserved.ensures.capacity);
+    }

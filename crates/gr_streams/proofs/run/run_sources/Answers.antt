@@ -1,0 +1,44 @@
+use Rattle.std.proofs.Common.{◌≡◌, ◌∙◌, List, ℕ, Ok, map, subst, sym}
+use Rattle.std.proofs.lemmas.Result.{IfOk-at_ok, IfOk-weaker}
+use Rattle.gr_detector.specs.Runs.{sent_by}
+use Rattle.gr_model.specs.Reports.{IsReportOf}
+use Rattle.gr_model.specs.Shapes.{IsShape}
+use Rattle.gr_report.specs.Whole.{whole_of}
+use Rattle.gr_route.specs.IntakeSeats.{Seat}
+use Rattle.gr_streams.specs.Headers.{AreHeadersOf}
+use Rattle.gr_streams.specs.Records.{lists_of}
+use Rattle.gr_streams.specs.Sending.{Tells}
+use Rattle.gr_streams.specs.declared.source.Source.{Source}
+use Rattle.gr_streams.proofs.LaunchLemmas.{launch_sent, of_run, receipts_of_run, served}
+use Rattle.gr_streams.proofs.run.run_sources.Goals as goal
+
+pub start_all-threads-requires-clause-senders : goal.start_all-threads-requires-clause-senders
+start_all-threads-requires-clause-senders g c κs within =
+    let hs = map (λ (s : Source _). s.header) c.args.sources.items in
+    let run = c.in-Ok-start.started.1 in
+    served run c.in-Ok-start.started.0.items c.in-Ok-start.ensures.senders hs c.requires.apart (subst (AreHeadersOf hs) (sym c.in-Ok-start.ensures.run.1) c.requires.shape)
+
+pub finish-requires : goal.finish-requires
+finish-requires g c =
+    let run = c.in-Ok-start.started.1 in
+    receipts_of_run run c.start_all-threads.result.items c.join_all-receipts.result.receipts.items (c.start_all-threads.ensures.run run (of_run run c.in-Ok-start.started.0.items c.in-Ok-start.ensures.senders)) c.join_all-receipts.ensures.receipts
+
+pub returns-clause-report : goal.returns-clause-report
+returns-clause-report g c =
+    let hs = map (λ (s : Source _). s.header) c.args.sources.items in
+    let run = c.in-Ok-start.started.1 in
+    let receipts = c.join_all-receipts.result.receipts.items in
+    let pushed = map (λ (r : Seat). r.pushed) receipts in
+    let begun = c.start_all-threads.ensures.begun in
+    IfOk-weaker c.judge.result _ _
+    (λ r h inputs known.
+    let tells = c.join_all-receipts.ensures.tells inputs (begun.placed, begun.bytes ∙ known) in
+    record {
+      lists = pushed;
+      read = subst (Tells (lists_of inputs) pushed) h.0 tells;
+      launch = sent_by run.sizes receipts;
+      spelled = launch_sent hs run.sizes receipts c.requires.apart (subst (AreHeadersOf hs) (sym c.in-Ok-start.ensures.run.1) c.requires.shape) (c.join_all-receipts.ensures.receipts.groups ∙ begun.groups);
+      shape = subst IsShape (sym c.in-Ok-start.ensures.run.1) c.requires.good;
+      exact = IfOk-at_ok (λ report. IsReportOf (sent_by run.sizes receipts) (whole_of report)) h.1 c.finish.ensures.report;
+    })
+    c.judge.ensures.report

@@ -1,0 +1,11 @@
+use Rattle.std.proofs.Common.{◌-◌, length}
+use Rattle.std.specs.Io.KnownBytes.{Consumes}
+use Rattle.gr_record.specs.declared.layout.TheConstants.{HEADER_LENGTH}
+use Rattle.gr_streams.proofs.source.read_prefix.Given as goal
+
+-- what was read so far stood at the front
+abbrev pub invariant-loop-piece : goal.invariant-loop-piece
+invariant-loop-piece g l = Consumes (g.T.Read.remaining l.initial.reader) (g.T.Read.remaining l.reader) l.prefix.items
+
+abbrev pub decreases-loop-piece : goal.decreases-loop-piece
+decreases-loop-piece g l = HEADER_LENGTH - length l.prefix.items

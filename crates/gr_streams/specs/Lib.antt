@@ -1,0 +1,5 @@
+pub mod Headers
+pub mod Records
+pub mod Streams
+pub mod Sending
+pub mod Sources

@@ -1,0 +1,103 @@
+-- Readers whose headers were read, and what reading them leaves.
+-- Source: docs/QUEUES.md, "Streams that are read while they are sent".
+use Rattle.std.specs.Prelude.{◌≡◌, ◌≢◌, ℕ, ◌<◌, List, [], ◌∷◌, length, map, slice_index_or, All, Contains, Option, Some, None, IfSome, Ok, ⊤}
+use Rattle.std.specs.Io.KnownBytes.{prepend_known}
+use Rattle.gr_model.specs.declared.limits.TheConstants.{MOST_RECORDS}
+use Rattle.gr_record.specs.declared.header.Header.{Header}
+use Rattle.gr_record.specs.declared.layout.TheConstants.{HEADER_LENGTH}
+use Rattle.gr_record.specs.WholeStreams.{front_header_at}
+use Rattle.gr_record.specs.declared.fault.Fault.{Fault}
+use Rattle.gr_record.specs.declared.fault.Fault.TheVariants as faults
+use Rattle.gr_route.specs.IntakeSeats.{Seat}
+use Rattle.gr_sender.specs.Senders.{Sending}
+use Rattle.gr_detector.specs.Runs.{IsOfRun, Run}
+use Rattle.gr_streams.specs.Headers.{AreApart}
+use Rattle.gr_streams.specs.Records.{events_at}
+use Rattle.gr_streams.specs.Sending.{Tells}
+use Rattle.gr_streams.specs.declared.thread.OfReader.{OfReader}
+use Rattle.gr_streams.specs.declared.thread.Work.{Work}
+use Rattle.gr_streams.specs.declared.thread.Work.TheVariants.{Started, Refused}
+use Rattle.gr_streams.specs.declared.source.Source.{Source}
+
+-- the bytes of the stream, its header included, where they are known
+abbrev pub known_of : {T : Type 0} → (T → Option (List ℕ)) → Source T → Option (List ℕ)
+known_of remaining s = prepend_known s.prefix.items (remaining s.reader)
+
+-- the bytes of the streams are those that the readers had, of each whose bytes are known
+abbrev pub AreKnown : List (Option (List ℕ)) → List (Option (List ℕ)) → Type 0
+AreKnown [] [] = ⊤
+AreKnown (o ∷ known) (p ∷ sources) = IfSome o (λ bytes. p ≡ Some bytes) × AreKnown known sources
+AreKnown [] (p ∷ sources) = ⊥
+AreKnown (o ∷ known) [] = ⊥
+
+-- the bytes are those of this header, and no more
+abbrev pub IsHeaded : Header → List ℕ → Type 0
+IsHeaded h prefix = (front_header_at prefix ≡ Ok (h, [])) × (length prefix ≡ HEADER_LENGTH)
+
+-- a stream that is read: its place, its header, its bytes where they are known, and its sender
+pub record Begun : Type 0 where
+  pub place : ℕ
+  pub header : Header
+  pub bytes : Option (List ℕ)
+  pub sender : Sending
+
+-- what reading it leaves
+pub record IsEndOf (begun : Begun) (receipt : Seat) (fault : Option Fault) : Type 0 where
+  pub group : receipt.group ≡ begun.sender.group
+  pub queue : receipt.queue ≡ begun.sender.queue.queue
+  pub write : IfSome fault (λ f. f ≢ faults.Write)
+  pub tells : IfSome begun.bytes (λ bytes. Tells (events_at begun.place bytes) receipt.pushed fault)
+
+-- the stream that a thread reads
+abbrev pub begun_of : {T A : Type 0} → (T → Option (List ℕ)) → OfReader T A → Begun
+begun_of remaining p = record { place = p.place; header = p.source.value.header; bytes = known_of remaining p.source.value; sender = p.sender.value }
+
+-- a thread reads it, or else reading it has left this
+abbrev pub IsWorkOf : {T A : Type 0} → (T → Option (List ℕ)) → OfReader T A → Work T A → Type 0
+IsWorkOf remaining p (Started handle) = handle.promise ≡ p
+IsWorkOf remaining p (Refused ended) = IsEndOf (begun_of remaining p) ended.receipt ended.fault
+
+-- ---- the streams of a run
+
+-- one of the senders is of this group
+abbrev pub HasSender : List Sending → ℕ → Type 0
+HasSender senders g = (s : Sending) × Contains senders s × (s.group ≡ g)
+
+-- an open sender for the stream of this header, which has sent nothing, and may send a stream of any length
+pub record IsReady (h : Header) (s : Sending) : Type 0 where
+  pub items : s.items ≡ h.items
+  pub records : s.records ≡ MOST_RECORDS
+  pub sent : s.sent ≡ []
+
+-- each header's group has a sender
+pub record AreServed (hs : List Header) (senders : List Sending) : Type 0 where
+  pub apart : AreApart hs
+  pub there : (h : Header) → Contains hs h → HasSender senders h.group
+  pub ready : (h : Header) (s : Sending) → Contains hs h → Contains senders s → s.group ≡ h.group → IsReady h s
+
+-- senders of a run
+abbrev pub AreSenders : Run → List Sending → Type 0
+AreSenders run senders = (s : Sending) → Contains senders s → IsOfRun run s.group s.queue.queue
+
+-- streams of a run
+abbrev pub AreOfRun : Run → List Begun → Type 0
+AreOfRun run begun = All (λ b. IsOfRun run b.sender.group b.sender.queue.queue) begun
+
+-- each stream is at its place
+abbrev pub ArePlaced : List Begun → Type 0
+ArePlaced begun = (k : ℕ) (d : Begun) → k < length begun → (slice_index_or begun k d).place ≡ k
+
+-- the streams that are read are these
+pub record AreBegun (hs : List Header) (known : List (Option (List ℕ))) (begun : List Begun) : Type 0 where
+  pub placed : ArePlaced begun
+  pub groups : map (λ b. b.sender.group) begun ≡ map (λ h. h.group) hs
+  pub bytes : map (λ b. b.bytes) begun ≡ known
+
+-- receipts of the streams, in their order
+pub record AreReceiptsFor (begun : List Begun) (receipts : List Seat) : Type 0 where
+  pub groups : map (λ r. r.group) receipts ≡ map (λ b. b.sender.group) begun
+  pub queues : map (λ r. r.queue) receipts ≡ map (λ b. b.sender.queue.queue) begun
+
+-- the streams are those of these inputs
+abbrev pub AreReadOf : List (List ℕ) → List Begun → Type 0
+AreReadOf inputs begun = ArePlaced begun × (map (λ b. b.bytes) begun ≡ map Some inputs)

@@ -1,0 +1,190 @@
+//! A stream on its way from its bytes, as they come, to its sender.
+
+ghost use Rattle.std.specs.Prelude.{◌≡◌, ◌≢◌, ◌++◌, ◌∷◌, [], ℕ, List, Some, None, IfOk, IfErr, IfSome, IsFalse, IsTrue, length, take};
+ghost use Rattle.gr_model.specs.declared.event.Event.{Event as AnyEvent};
+ghost use Rattle.gr_model.specs.Streams.{is_complete};
+ghost use Rattle.gr_model.specs.declared.limits.TheConstants.{MOST_RECORDS};
+ghost use Rattle.gr_record.specs.Decoding.{HasMemory, answer, last_answer};
+ghost use Rattle.gr_record.specs.Faults.{stream_fault};
+ghost use Rattle.gr_record.specs.declared.fault.Fault.TheVariants as faults;
+ghost use Rattle.gr_streams.specs.Sending.{AreSent, IsFed, IsSameSender, MayFollow, events_in, sent_as};
+
+use gr_model::event::{Event, Kind};
+use gr_record::decoder::Decoder;
+use gr_record::error::RecordError;
+use gr_record::fault::Fault;
+use gr_record::part::Part;
+use gr_sender::receipt::Receipt;
+use gr_sender::sender::Sender;
+use std::alloc::{Allocator, Global};
+use std::sync::Wait;
+
+/// A stream on its way: what decodes it, and what sends its events.
+#[derive(Drop)]
+pub(crate) struct Forward<A: Allocator = Global> {
+    pub(crate) decoder: Decoder,
+    pub(crate) sender: Sender<A>,
+    // The parts of the piece at hand.
+    pub(crate) parts: Vec<Part, A>,
+    // Whether the sender refused an event: the stream is then too long, and the sender is closed.
+    pub(crate) refused: bool,
+}
+
+/// What is left of a stream whose reading has ended.
+#[derive(Drop)]
+pub(crate) struct Ended {
+    /// The receipt of what was sent.
+    pub(crate) receipt: Receipt,
+    /// Why reading has ended before the stream did, if so.
+    pub(crate) fault: Option<Fault>,
+}
+
+/// Sends an event, or the end that it is, and waits until there is room. Tells whether it was sent.
+fn send<R: Wait, A: Allocator>(rt: &R, sender: &mut Sender<A>, event: Event) -> bool
+    ensures sent { IsTrue result → sender.new ≡ record sender.old { sent = sender.old.sent ++ sent_as event ∷ [] } }
+    ensures refused { IsFalse result → (sender.new ≡ sender.old) × (sender.old.records ≡ MOST_RECORDS → ¬ MayFollow sender.old.items sender.old.sent event) }
+{
+    match event.kind {
+        Kind::End { cut } => sender.close_wait(rt, cut).is_ok(),
+        _ => sender.send_wait(rt, event).is_ok(),
+    }
+}
+
+/// Sends an event, unless one was refused before. Tells whether this one or one before it was refused; the sender is then
+/// closed.
+fn forward_one<R: Wait, A: Allocator>(
+    rt: &R,
+    sender: &mut Sender<A>,
+    refused: bool,
+    event: Event,
+) -> bool
+    ensures same { IsSameSender sender.old sender.new }
+    ensures sent { (events : List AnyEvent) → sender.old.records ≡ MOST_RECORDS → AreSent sender.old.items events sender.old.sent refused → AreSent sender.new.items (events ++ event ∷ []) sender.new.sent result }
+{
+    if refused {
+        return true;
+    }
+    if send(rt, sender, event) {
+        return false;
+    }
+    close_cut(rt, sender);
+    true
+}
+
+/// Sends the event that a part is, if it is one. Tells whether this one or one before it was refused.
+fn forward_part<R: Wait, A: Allocator>(
+    rt: &R,
+    sender: &mut Sender<A>,
+    refused: bool,
+    part: Part,
+) -> bool
+    ensures same { IsSameSender sender.old sender.new }
+    ensures sent { (events : List AnyEvent) → sender.old.records ≡ MOST_RECORDS → AreSent sender.old.items events sender.old.sent refused → AreSent sender.new.items (events ++ events_in (part ∷ [])) sender.new.sent result }
+{
+    match part {
+        Part::Header(_) => refused,
+        Part::Event(event) => forward_one(rt, sender, refused, event),
+    }
+}
+
+/// Sends the events among parts, in their order, up to one that is refused. Tells whether one was refused.
+fn forward_all<R: Wait, A: Allocator>(
+    rt: &R,
+    sender: &mut Sender<A>,
+    refused: bool,
+    parts: &[Part],
+) -> bool
+    ensures same { IsSameSender sender.old sender.new }
+    ensures sent { (events : List AnyEvent) → sender.old.records ≡ MOST_RECORDS → AreSent sender.old.items events sender.old.sent refused → AreSent sender.new.items (events ++ events_in parts.now) sender.new.sent result }
+{
+    let mut stuck = refused;
+    for part in parts {
+        stuck = forward_part(rt, sender, stuck, *part);
+    }
+    stuck
+}
+
+/// Closes a sender with the cut mark, if it is open.
+fn close_cut<R: Wait, A: Allocator>(rt: &R, sender: &mut Sender<A>)
+    ensures same { IsSameSender sender.old sender.new }
+    ensures closed { IsTrue (is_complete sender.new.sent) }
+    ensures whole { IsTrue (is_complete sender.old.sent) → sender.new ≡ sender.old }
+{
+    // A sender that is closed refuses this, and is left as it was.
+    let _ = sender.close_wait(rt, true);
+}
+
+/// The receipt of a sender, which is closed with the cut mark if it is open.
+fn cut<R: Wait, A: Allocator>(rt: &R, sender: Sender<A>) -> Receipt
+    ensures group { result.group ≡ sender.group }
+    ensures queue { result.queue ≡ sender.queue.queue }
+    ensures whole { IsTrue (is_complete sender.sent) → result.pushed ≡ sender.sent }
+{
+    let mut sender = sender;
+    close_cut(rt, &mut sender);
+    match sender.into_receipt() {
+        Ok(receipt) => receipt,
+        Err(_) => unreachable!(),
+    }
+}
+
+impl<A: Allocator> Forward<A> {
+    /// Of a stream of which nothing was read, to a sender that has sent nothing.
+    pub(crate) fn new(alloc: A, sender: Sender<A>) -> Forward<A>
+        requires records { sender.records ≡ MOST_RECORDS }
+        requires sent { sender.sent ≡ [] }
+        ensures sender { result.sender ≡ sender }
+        ensures fed { IsFed [] result.decoder result.sender result.refused }
+    {
+        Forward {
+            decoder: Decoder::new(),
+            sender,
+            parts: Vec::new(alloc),
+            refused: false,
+        }
+    }
+
+    /// Decodes the next piece of the stream, and sends its events.
+    ///
+    /// # Errors
+    /// The first fault of the stream, at the piece that has it; `Memory` where the piece can't be decoded.
+    pub(crate) fn take<R: Wait>(&mut self, rt: &R, piece: &[u8]) -> Result<(), RecordError>
+        ensures same { IsSameSender self.old.sender self.new.sender }
+        ensures fed { HasMemory result → (fed : List ℕ) → IsFed fed self.old.decoder self.old.sender self.old.refused → IsFed (fed ++ piece.now) self.new.decoder self.new.sender self.new.refused }
+        ensures fault { HasMemory result → result ≡ answer self.new.decoder.stop }
+    {
+        self.parts.clear();
+        let outcome = self.decoder.feed(piece, &mut self.parts);
+        self.refused = forward_all(rt, &mut self.sender, self.refused, self.parts.as_slice());
+        outcome
+    }
+
+    /// Ends the reading at a fault: what was sent is cut, unless the stream's end was sent.
+    pub(crate) fn fail<R: Wait>(self, rt: &R, fault: Fault) -> Ended
+        ensures group { result.receipt.group ≡ self.sender.group }
+        ensures queue { result.receipt.queue ≡ self.sender.queue.queue }
+        ensures fault { result.fault ≡ Some fault }
+    {
+        Ended {
+            receipt: cut(rt, self.sender),
+            fault: Some(fault),
+        }
+    }
+
+    /// Ends the reading at the end of the stream at this place.
+    pub(crate) fn finish<R: Wait>(self, rt: &R, place: u64) -> Ended
+        ensures group { result.receipt.group ≡ self.sender.group }
+        ensures queue { result.receipt.queue ≡ self.sender.queue.queue }
+        ensures fault { IfErr (last_answer self.decoder.stop) (λ e. result.fault ≡ Some (stream_fault place e)) }
+        ensures write { IfSome result.fault (λ f. f ≢ faults.Write) }
+        ensures whole { IfOk (last_answer self.decoder.stop) (λ _. (result.fault ≡ None) × (IsTrue (is_complete self.sender.sent) → result.receipt.pushed ≡ self.sender.sent)) }
+    {
+        match self.decoder.finish() {
+            Err(error) => self.fail(rt, Fault::of_stream(place, error)),
+            Ok(()) => Ended {
+                receipt: cut(rt, self.sender),
+                fault: None,
+            },
+        }
+    }
+}

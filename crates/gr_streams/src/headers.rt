@@ -1,0 +1,66 @@
+//! The headers of all streams, which are read before any record is.
+
+ghost use Rattle.std.specs.Prelude.{◌≡◌, ◌≢◌, ◌++◌, ◌∷◌, [], All, IfErr, IfOk, IfSome, Ok, OnOk, map};
+ghost use Rattle.gr_input.specs.Faults.{Fails};
+ghost use Rattle.gr_record.specs.declared.fault.Fault.TheVariants as faults;
+ghost use Rattle.gr_record.specs.Faults.{IsOfReading};
+ghost use Rattle.gr_replay.specs.Each.{all_known};
+ghost use Rattle.gr_streams.specs.Headers.{AreApart, headers_of};
+ghost use Rattle.gr_streams.specs.Sources.{AreKnown, IsHeaded, known_of};
+
+use crate::source::{Source, open};
+use gr_record::fault::Fault;
+use gr_record::header::Header;
+use std::alloc::Allocator;
+use std::io::Read;
+
+/// The headers of the streams, and the readers behind them, in the order of the readers.
+#[derive(Drop)]
+pub(crate) struct Headed<T, A: Allocator> {
+    pub(crate) headers: Vec<Header, A>,
+    pub(crate) sources: Vec<Source<T>, A>,
+}
+
+/// Reads the header of each reader's stream, in their order.
+///
+/// # Errors
+/// Of the first reader that has one: its header's fault, `SameGroup`, `OtherLaunch`. `Read` and `Memory`, as they are met.
+pub(crate) fn read_headers<A: Allocator + Copy, T: Read + Drop>(
+    alloc: A,
+    readers: Vec<T, A>,
+) -> Result<Headed<T, A>, Fault>
+    ensures headers { IfOk result (λ h. IfSome (all_known (map T.remaining readers.items)) (λ inputs. headers_of inputs ≡ Ok h.headers.items)) }
+    ensures apart { IfOk result (λ h. AreApart h.headers.items) }
+    ensures sources { IfOk result (λ h. map (λ s. s.header) h.sources.items ≡ h.headers.items) }
+    ensures known { IfOk result (λ h. AreKnown (map T.remaining readers.items) (map (known_of T.remaining) h.sources.items)) }
+    ensures headed { IfOk result (λ h. All (λ s. IsHeaded s.header s.prefix.items) h.sources.items) }
+    ensures exact { IfErr result (λ f. IfSome (all_known (map T.remaining readers.items)) (λ inputs. Fails f (headers_of inputs))) }
+    ensures fault { IfErr result IsOfReading }
+{
+    let mut headers = Vec::new(alloc);
+    let mut sources = Vec::new(alloc);
+    for reader in readers {
+        let source = open(reader, headers.as_slice())?;
+        keep(&mut headers, &mut sources, source)?;
+    }
+    Ok(Headed { headers, sources })
+}
+
+/// Keeps one more source, and its header.
+fn keep<A: Allocator, T: Drop>(
+    headers: &mut Vec<Header, A>,
+    sources: &mut Vec<Source<T>, A>,
+    source: Source<T>,
+) -> Result<(), Fault>
+    ensures headers { OnOk result (headers.new.items ≡ headers.old.items ++ source.header ∷ []) }
+    ensures sources { OnOk result (sources.new.items ≡ sources.old.items ++ source ∷ []) }
+    ensures memory { IfErr result (λ f. f ≡ faults.Memory) }
+{
+    if headers.push(source.header).is_err() {
+        return Err(Fault::Memory);
+    }
+    match sources.push(source) {
+        Ok(()) => Ok(()),
+        Err(_) => Err(Fault::Memory),
+    }
+}

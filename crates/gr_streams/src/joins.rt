@@ -1,0 +1,139 @@
+//! The readers' threads, from their start to their join.
+
+ghost use Rattle.std.specs.Prelude.{◌≡◌, ◌≢◌, ◌≤◌, ◌++◌, ◌∷◌, [], ℕ, List, All, Contains, IfOk, IfSome, Result, map, vec_capacity, vec_len};
+ghost use Rattle.gr_model.specs.declared.event.Event.{Event as AnyEvent};
+ghost use Rattle.gr_record.specs.declared.fault.Fault.{Fault as AnyFault};
+ghost use Rattle.gr_record.specs.declared.fault.Fault.TheVariants as faults;
+ghost use Rattle.gr_detector.specs.Runs.{Run};
+ghost use Rattle.gr_sender.specs.Senders.{Sending};
+ghost use Rattle.gr_streams.specs.Records.{and_one, lists_of};
+ghost use Rattle.gr_streams.specs.Sending.{Tells};
+ghost use Rattle.gr_streams.specs.Sources.{AreBegun, AreOfRun, AreReadOf, AreReceiptsFor, AreSenders, AreServed, HasSender, IsHeaded, known_of};
+
+use crate::forward::Ended;
+use crate::source::Source;
+use crate::thread::ReaderThread;
+use gr_model::memory::Memory;
+use gr_record::fault::Fault;
+use gr_sender::receipt::Receipt;
+use gr_sender::sender::Sender;
+use std::alloc::Allocator;
+use std::io::Read;
+use std::sync::atomic::AtomicBool;
+use std::sync::{Arc, Wait};
+use std::thread::Threads;
+
+/// Room for what is kept of the readers once the run has started, when no memory can be asked for any more.
+#[derive(Drop)]
+pub(crate) struct Room<T: Read, A: Allocator> {
+    pub(crate) threads: Vec<ReaderThread<T, A>, A>,
+    pub(crate) receipts: Vec<Receipt, A>,
+}
+
+/// Room for so many readers.
+pub(crate) fn room_for<A: Allocator + Copy, T: Read>(
+    alloc: A,
+    readers: usize,
+) -> Result<Room<T, A>, Memory>
+    ensures threads { IfOk result (λ r. (r.threads.items ≡ []) × (vec_len r.threads ≡ 0) × (readers ≤ vec_capacity r.threads)) }
+    ensures receipts { IfOk result (λ r. (r.receipts.items ≡ []) × (vec_len r.receipts ≡ 0) × (readers ≤ vec_capacity r.receipts)) }
+{
+    let threads = Vec::with_capacity(alloc, readers)?;
+    let receipts = Vec::with_capacity(alloc, readers)?;
+    Ok(Room { threads, receipts })
+}
+
+/// The sender of a group, which is taken from the others.
+/// Requires: it is there.
+fn take_sender<A: Allocator>(senders: &mut Vec<Sender<A>, A>, group: u16) -> Sender<A>
+    requires { HasSender senders.old.items group }
+    ensures group { result.group ≡ group }
+    ensures there { Contains senders.old.items result }
+    ensures others { (g : ℕ) → g ≢ group → HasSender senders.old.items g → HasSender senders.new.items g }
+    ensures fewer { (s : Sending) → Contains senders.new.items s → Contains senders.old.items s }
+{
+    match senders.iter().position(|sender| sender.group() == group) {
+        Some(place) => senders.remove(place),
+        None => unreachable!(),
+    }
+}
+
+/// Starts a thread for each reader, with the sender of its stream's group.
+/// Requires: the streams are of different groups, and each has a sender, which has sent nothing; there is room.
+pub(crate) fn start_all<R, A, T>(
+    rt: R,
+    alloc: A,
+    sources: Vec<Source<T>, A>,
+    senders: Vec<Sender<A>, A>,
+    threads: Vec<ReaderThread<T, A>, A>,
+    abandoned: &Arc<AtomicBool, A>,
+) -> Vec<ReaderThread<T, A>, A>
+where
+    R: Threads + Wait + Copy + Send + 'static,
+    A: Allocator + Copy + Send + Sync + Drop + 'static,
+    T: Read + Send + Drop + 'static,
+    requires headed { All (λ s. IsHeaded s.header s.prefix.items) sources.items }
+    requires senders { AreServed (map (λ s. s.header) sources.items) senders.items }
+    requires none { (threads.items ≡ []) × (vec_len threads ≡ 0) }
+    requires room { vec_len sources ≤ vec_capacity threads }
+    ensures begun { AreBegun (map (λ s. s.header) sources.items) (map (known_of T.remaining) sources.items) result.items }
+    ensures run { (run : Run) → AreSenders run senders.items → AreOfRun run result.items }
+    ensures count { vec_len result ≡ vec_len sources }
+{
+    let mut senders = senders;
+    let mut threads = threads;
+    let mut place: u64 = 0;
+    for source in sources {
+        let sender = take_sender(&mut senders, source.header.group);
+        threads.push_reserved(ReaderThread::start(rt, alloc, place, source, sender, abandoned));
+        place += 1;
+    }
+    threads
+}
+
+/// The first of two faults, of which the second is of a later stream; but that a thread is missing comes first of all.
+fn first_of(first: Option<Fault>, next: Option<Fault>) -> Option<Fault>
+    ensures write { IfSome first (λ f. f ≢ faults.Write) → IfSome next (λ f. f ≢ faults.Write) → IfSome result (λ f. f ≢ faults.Write) }
+    ensures tells { (lists : Result (List (List AnyEvent)) AnyFault) (list : Result (List AnyEvent) AnyFault) (pushed : List (List AnyEvent)) (more : List AnyEvent) → Tells lists pushed first → Tells list more next → Tells (and_one lists list) (pushed ++ more ∷ []) result }
+{
+    match (first, next) {
+        (_, Some(Fault::Threads)) => next,
+        (Some(_), _) => first,
+        (None, _) => next,
+    }
+}
+
+/// What the readers' threads leave.
+#[derive(Drop)]
+pub(crate) struct Joined<A: Allocator> {
+    /// The receipts of the streams, in their order.
+    pub(crate) receipts: Vec<Receipt, A>,
+    /// The first fault, if there is one.
+    pub(crate) fault: Option<Fault>,
+}
+
+/// Joins all threads.
+/// Requires: there is room for the receipts.
+pub(crate) fn join_all<R: Threads, A: Allocator, T: Read>(
+    rt: &R,
+    threads: Vec<ReaderThread<T, A>, A>,
+    receipts: Vec<Receipt, A>,
+) -> Joined<A>
+    requires none { (receipts.items ≡ []) × (vec_len receipts ≡ 0) }
+    requires room { vec_len threads ≤ vec_capacity receipts }
+    ensures receipts { AreReceiptsFor threads.items result.receipts.items }
+    ensures write { IfSome result.fault (λ f. f ≢ faults.Write) }
+    ensures tells { (inputs : List (List ℕ)) → AreReadOf inputs threads.items → Tells (lists_of inputs) (map (λ r. r.pushed) result.receipts.items) result.fault }
+{
+    let mut receipts = receipts;
+    let mut fault = None;
+    for thread in threads {
+        let Ended {
+            receipt,
+            fault: next,
+        } = thread.join(rt);
+        receipts.push_reserved(receipt);
+        fault = first_of(fault, next);
+    }
+    Joined { receipts, fault }
+}

@@ -1,0 +1,14 @@
+//! A launch whose streams come from a reader each, and are sent into a run in threads while they are read.
+#![tactic(auto)]
+
+mod forward;
+mod headers;
+mod joins;
+mod reading;
+mod run;
+mod shape;
+mod source;
+mod thread;
+
+pub use gr_threads::watch::{NoWatch, Watch};
+pub use run::run_streams;

@@ -1,0 +1,158 @@
+//! From the readers of a launch's streams to the report, by a run in threads.
+
+ghost use Rattle.std.specs.Prelude.{◌≡◌, ◌≢◌, ◌⊎◌, ℕ, List, All, IfErr, IfOk, IfSome, None, Ok, Some, map};
+ghost use Rattle.std.specs.Io.KnownBytes.{Appends, Keeps};
+ghost use Rattle.gr_input.specs.Faults.{Fails};
+ghost use Rattle.gr_model.specs.Shapes.{IsShape};
+ghost use Rattle.gr_record.specs.declared.fault.Fault.TheVariants as faults;
+ghost use Rattle.gr_replay.specs.Each.{all_known};
+ghost use Rattle.gr_report.specs.ReportText.{report_text};
+ghost use Rattle.gr_report.specs.Whole.{whole_of};
+ghost use Rattle.gr_streams.specs.Headers.{AreApart, AreHeadersOf};
+ghost use Rattle.gr_streams.specs.Records.{lists_of};
+ghost use Rattle.gr_streams.specs.Sources.{IsHeaded, known_of};
+ghost use Rattle.gr_streams.specs.Streams.{IsExactOfEach, IsReportOn, IsRunFault, WritesPrefixOfEach};
+
+use crate::headers::{Headed, read_headers};
+use crate::joins::{Joined, Room, join_all, room_for, start_all};
+use crate::shape::shape_of;
+use crate::source::Source;
+use gr_detector::error::{FinishError, StartError};
+use gr_detector::start::start;
+use gr_model::config::Config;
+use gr_model::shape::Shape;
+use gr_record::fault::Fault;
+use gr_report::report::Report;
+use gr_report::write;
+use gr_threads::watch::Watch;
+use std::alloc::Allocator;
+use std::io::{Read, Write};
+use std::sync::atomic::AtomicBool;
+use std::sync::{Arc, Wait};
+use std::thread::Threads;
+use std::time::Clock;
+
+/// The fault of a run that was not started.
+fn fault_of_start(error: StartError) -> Fault
+    ensures { (result ≡ Fault.Memory) ⊎ (result ≡ Fault.Threads) }
+{
+    match error {
+        StartError::Memory => Fault::Memory,
+        StartError::Threads => Fault::Threads,
+    }
+}
+
+/// The report of a run, unless a stream has a fault.
+fn judge<A: Allocator>(
+    fault: Option<Fault>,
+    finished: Result<Report<A>, FinishError<A>>,
+) -> Result<Report<A>, Fault>
+    ensures report { IfOk result (λ r. (fault ≡ None) × (finished ≡ Ok r)) }
+    ensures fault { IfErr result (λ f. (fault ≡ Some f) ⊎ (f ≡ faults.Memory)) }
+{
+    match (fault, finished) {
+        (Some(fault), _) => Err(fault),
+        (None, Ok(report)) => Ok(report),
+        // It is no want of receipts: there is one of each work-group.
+        (None, Err(_)) => Err(Fault::Memory),
+    }
+}
+
+/// Runs a detector in threads on the streams of a launch of this shape, whose headers were read, and gives its report.
+/// Requires: the streams are of different groups, and their headers are those of the shape.
+///
+/// # Errors
+/// `Threads` where a thread can't be started; else the fault of the first stream that has one; else `Memory`.
+fn run_sources<R, A, T, W>(
+    rt: R,
+    alloc: A,
+    shape: Shape<A>,
+    sources: Vec<Source<T>, A>,
+    config: Config,
+    watch: Arc<W, A>,
+) -> Result<Report<A>, Fault>
+where
+    R: Threads + Wait + Clock + Copy + Send + 'static,
+    A: Allocator + Copy + Send + Sync + Drop + 'static,
+    T: Read + Send + Drop + 'static,
+    W: Watch + Send + Sync + Drop + 'static,
+    requires headed { All (λ s. IsHeaded s.header s.prefix.items) sources.items }
+    requires apart { AreApart (map (λ s. s.header) sources.items) }
+    requires shape { AreHeadersOf (map (λ s. s.header) sources.items) shape }
+    requires good { IsShape shape }
+    ensures report { IfOk result (λ r. (inputs : List (List ℕ)) → map (known_of T.remaining) sources.items ≡ map (λ x. Some x) inputs → IsReportOn (map (λ s. s.header) sources.items) inputs (whole_of r)) }
+    ensures fault { IfErr result (λ f. (inputs : List (List ℕ)) → map (known_of T.remaining) sources.items ≡ map (λ x. Some x) inputs → (f ≡ faults.Threads) ⊎ Fails f (lists_of inputs)) }
+    ensures write { IfErr result (λ f. f ≢ faults.Write) }
+{
+    let Room { threads, receipts } = room_for(alloc, sources.len())?;
+    let Ok(abandoned) = Arc::new(alloc, AtomicBool::new(false)) else {
+        return Err(Fault::Memory);
+    };
+    let (senders, running) = match start(rt, alloc, shape, config, watch) {
+        Ok(started) => started,
+        Err(error) => return Err(fault_of_start(error)),
+    };
+    let threads = start_all(rt, alloc, sources, senders, threads, &abandoned);
+    let Joined { receipts, fault } = join_all(&rt, threads, receipts);
+    judge(fault, running.finish(&rt, receipts))
+}
+
+/// Reads the headers of a launch's streams, one from each reader, then runs a detector in threads on the streams while they
+/// are read, and gives its report.
+fn detect_streams<R, A, T, W>(
+    rt: R,
+    alloc: A,
+    readers: Vec<T, A>,
+    config: Config,
+    watch: Arc<W, A>,
+) -> Result<Report<A>, Fault>
+where
+    R: Threads + Wait + Clock + Copy + Send + 'static,
+    A: Allocator + Copy + Send + Sync + Drop + 'static,
+    T: Read + Send + Drop + 'static,
+    W: Watch + Send + Sync + Drop + 'static,
+    ensures report { IfOk result (λ r. IfSome (all_known (map T.remaining readers.items)) (λ inputs. IsExactOfEach inputs (whole_of r))) }
+    ensures fault { IfErr result (λ f. IfSome (all_known (map T.remaining readers.items)) (λ inputs. IsRunFault inputs f)) }
+    ensures write { IfErr result (λ f. f ≢ faults.Write) }
+{
+    let Headed { headers, sources } = read_headers(alloc, readers)?;
+    let shape = shape_of(alloc, headers)?;
+    run_sources(rt, alloc, shape, sources, config, watch)
+}
+
+/// Reads the streams of a launch, one from each reader, each on a thread of its own, and sends them into a run in threads
+/// while they come. Writes the text of the report and nothing else. `watch` is shared by all threads of the run.
+///
+/// # Errors
+/// Of the first reader that has one, its header's fault, `SameGroup` or `OtherLaunch`; then `MissingGroup`, then `Shape`;
+/// then `Threads` where a thread can't be started; then the records' fault of the first stream that has one. `Read` where a
+/// reader fails, or gives no end within 4,294,967,296 calls; `Memory` where memory runs out. `Write` where the writer fails,
+/// which then has a prefix of the text. In every other case of an error nothing is written.
+pub fn run_streams<R, A, T, W, O>(
+    rt: R,
+    alloc: A,
+    readers: Vec<T, A>,
+    config: Config,
+    watch: Arc<W, A>,
+    writer: &mut O,
+) -> Result<Report<A>, Fault>
+where
+    R: Threads + Wait + Clock + Copy + Send + 'static,
+    A: Allocator + Copy + Send + Sync + Drop + 'static,
+    T: Read + Send + Drop + 'static,
+    W: Watch + Send + Sync + Drop + 'static,
+    O: Write,
+    ensures report { IfOk result (λ r. IfSome (all_known (map T.remaining readers.items)) (λ inputs. IsExactOfEach inputs (whole_of r))) }
+    ensures text { IfOk result (λ r. Appends (O.contents writer.old) (O.contents writer.new) (report_text (whole_of r))) }
+    ensures fault { IfErr result (λ f. IfSome (all_known (map T.remaining readers.items)) (λ inputs. IsRunFault inputs f)) }
+
+    // What a refusal leaves with the writer.
+    ensures untouched { IfErr result (λ f. f ≢ faults.Write → Keeps (O.contents writer.old) (O.contents writer.new)) }
+    ensures prefix { IfErr result (λ f. f ≡ faults.Write → IfSome (all_known (map T.remaining readers.items)) (λ inputs. WritesPrefixOfEach inputs (O.contents writer.old) (O.contents writer.new))) }
+{
+    let report = detect_streams(rt, alloc, readers, config, watch)?;
+    match write(&report, writer) {
+        Ok(()) => Ok(report),
+        Err(_) => Err(Fault::Write),
+    }
+}
