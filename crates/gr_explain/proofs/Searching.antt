@@ -13,10 +13,10 @@ use Rattle.gr_model.specs.Streams.{Streams, word_at}
 use Rattle.gr_model.specs.Waits.{IsGrounded}
 use Rattle.gr_model.proofs.Descent.{below_before, lawful_descends}
 use Rattle.gr_model.proofs.HitsAreRaces.{conflicts_swap}
-use Rattle.gr_explain.specs.LeastRaces.{IsLeastOf, IsLeastRace, IsRacePair, Pair}
+use Rattle.gr_explain.specs.LeastRaces.{IsLeastOf, IsLeastRace}
 use Rattle.gr_explain.specs.Searching.{IsFound, StandsBefore}
 use Rattle.gr_explain.specs.Edges.{AreFollowers, Has}
-use Rattle.gr_explain.specs.Turning.{IsTurned}
+use Rattle.gr_model.specs.RacePairs.{IsRacePair, IsTurned, Pair}
 use Rattle.gr_explain.proofs.PairOrder.{either_way, one_turn}
 
 pub race_swap : (s : Streams) (w : Word) (e f : EventId) → IsRace s w e f → IsRace s w f e

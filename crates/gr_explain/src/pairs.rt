@@ -1,9 +1,9 @@
 //! Pairs of events in their order: by the first event, and then by the second.
 
 ghost use Rattle.std.specs.Prelude.{◌≡◌, ◌≢◌, ◌⊎◌, ◌↔◌, IsTrue, MatchOption, Some};
+ghost use Rattle.gr_model.specs.RacePairs.{IsTurned};
 ghost use Rattle.gr_model.specs.Reports.{EventBelow};
 ghost use Rattle.gr_explain.specs.LeastRaces.{PairBelow};
-ghost use Rattle.gr_explain.specs.Turning.{IsTurned};
 
 use gr_model::event::EventId;
 

@@ -3,8 +3,9 @@
 ghost use Rattle.std.specs.Prelude.{◌≡◌, ◌+◌, ◌<◌, Some, IfOk, length, slice_get};
 ghost use Rattle.gr_model.specs.Access as model;
 ghost use Rattle.gr_model.specs.LawfulOrders.{IsAt, IsLawful, IsWholeOrder};
+ghost use Rattle.gr_model.specs.RacePairs.{IsRacePair};
 ghost use Rattle.gr_model.specs.Streams.{ArePrefixes};
-ghost use Rattle.gr_explain.specs.LeastRaces.{IsLeastOf, IsRacePair};
+ghost use Rattle.gr_explain.specs.LeastRaces.{IsLeastOf};
 ghost use Rattle.gr_explain.specs.Searching.{IsFound};
 ghost use Rattle.gr_explain.specs.Edges.{AreFollowers};
 
