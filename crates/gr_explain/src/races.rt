@@ -11,12 +11,13 @@ ghost use Rattle.gr_explain.specs.Edges.{AreFollowers};
 
 use crate::conflict::{access_to, are_conflicting};
 use crate::followers::followers;
-use crate::pairs::{lesser, turned};
+use crate::pairs::lesser;
 use crate::records::Records;
 use crate::reached::Reached;
 use gr_clocks::clocks::memory_of;
 use gr_model::event::{EventId, Word};
 use gr_model::memory::Memory;
+use gr_model::race::turned;
 use std::alloc::Allocator;
 
 /// The least racing pair of a word so far and of an event with those that come behind it in an order.
