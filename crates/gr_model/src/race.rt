@@ -24,10 +24,9 @@ pub fn is_below(first: EventId, second: EventId) -> bool
     first < second
 }
 
-/// Two different events, the smaller one first.
+/// Two events, the smaller one first.
 pub fn turned(first: EventId, second: EventId) -> (EventId, EventId)
-    requires { first ≢ second }
-    ensures below { EventBelow result.0 result.1 }
+    ensures below { first ≢ second → EventBelow result.0 result.1 }
     ensures same { IsTurned first second result }
 {
     if is_below(first, second) {
