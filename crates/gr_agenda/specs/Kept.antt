@@ -42,11 +42,11 @@ pub record IsKept {Z : Type 0} (q : Sequence) (t : Steps) (lists : List (Vec Ite
 abbrev pub IsNextBarrier : Sequence → ItemId → ℕ → Type 0
 IsNextBarrier q i k = (frontier : Counts) × AreBelowFrontier q.handled frontier × (place_of q.taken is_barrier i k ≡ Some (count_of frontier i))
 
--- of each group an instance that is not divergent, if one is told
+-- of each group an instance that is not divergent, if one is known
 abbrev pub AreUndiverged : Streams → List (Option ℕ) → Type 0
 AreUndiverged s undiverged = (g k : ℕ) → slice_get undiverged g ≡ Some (Some k) → ¬ IsDivergent s g k
 
--- none is told of a group, and of the others none that was not
+-- of group g none is known, and of the others only those that were
 pub record IsForgotten (old : List (Option ℕ)) (g : ℕ) (new : List (Option ℕ)) : Type 0 where
   pub none : (k : ℕ) → slice_get new g ≢ Some (Some k)
   pub others : (h k : ℕ) → slice_get new h ≡ Some (Some k) → slice_get old h ≡ Some (Some k)

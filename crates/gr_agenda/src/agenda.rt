@@ -2,7 +2,7 @@
 //!
 //! Invariant: each step that can be made stands in the list, or memory was too short for one; each item whose next event
 //! names releases that were not handled stands in the list or among those that wait for one of these; and the instances that
-//! are marked undiverged are not divergent.
+//! are noted as undiverged are not divergent.
 
 ghost use Rattle.std.specs.Prelude.{◌≡◌, false, ◌↔◌, ◌<◌, ◌⊎◌, IfOk, IfErr, IfSome, IsSomeAnd, OnOk, OnErr, IsTrue, MatchOption, All, Contains, Some, length, slice_get, ℕ};
 ghost use Rattle.gr_model.specs.declared.event.EventId.{EventId as AnyEvent};
@@ -59,7 +59,7 @@ impl<A: Allocator> Model for Agenda<A> {
 }
 
 /// Whether a record changes what the other items of its group wait for: a barrier or an end.
-fn is_wide(event: &Event) -> bool
+fn concerns_group(event: &Event) -> bool
     ensures { IsTrue result ⊎ ((is_barrier event.now ≡ false) × (is_end event.now ≡ false)) }
 {
     matches!(
@@ -93,7 +93,7 @@ fn no_lists<A: Allocator + Copy>(alloc: A) -> Result<Vec<Vec<ItemId, A>, A>, Mem
     Ok(lists)
 }
 
-/// The first items of a group may be ready.
+/// Puts the first items of a group on the list.
 fn put_items<A: Allocator>(todo: &mut Todo<A>, group: u16, items: u16)
     ensures there { (k : ℕ) → k < items → Has todo.new (Item (record { group = group; item = k })) }
     ensures keeps { KeepsSteps todo.old todo.new }
@@ -114,7 +114,7 @@ fn is_at_barrier<A: Allocator>(order: &Order<A>, item: ItemId) -> bool
     }
 }
 
-/// The group of an item may meet, if the item's next event is a barrier.
+/// Puts the group of an item on the list, if the item's next event is a barrier.
 fn put_group<A: Allocator>(order: &Order<A>, todo: &mut Todo<A>, item: ItemId)
     ensures there { CanMeet order.now.taken order.now.handled item.group → item.item < size_of order.now.taken item.group → Has todo.new (Group item.group) }
     ensures keeps { KeepsSteps todo.old todo.new }
@@ -136,7 +136,7 @@ fn is_handled<A: Allocator>(order: &Order<A>, name: Name) -> bool
 }
 
 /// The first of an event's names whose release was not handled, if there is one.
-fn first_free<A: Allocator>(order: &Order<A>, event: &Event) -> Option<Name>
+fn first_unhandled<A: Allocator>(order: &Order<A>, event: &Event) -> Option<Name>
     ensures { MatchOption result (All (IsReleaseHandled order.now.taken order.now.handled) event.now.names) (λ n. Contains event.now.names n × ¬ IsReleaseHandled order.now.taken order.now.handled n) }
 {
     let names = event.names.as_slice();
@@ -155,7 +155,7 @@ fn named_by<A: Allocator>(order: &Order<A>, item: ItemId) -> Option<Name>
     let _frontier = order.frontier();
     match order.waiting(item) {
         None => None,
-        Some(event) => first_free(order, &event),
+        Some(event) => first_unhandled(order, &event),
     }
 }
 
@@ -195,7 +195,7 @@ fn is_number(told: Option<u32>, number: u32) -> bool
     told == Some(number)
 }
 
-/// The instance of a group that is marked undiverged, if there is one.
+/// The instance of a group that is known not to be divergent, if there is one.
 fn undiverged_of(undiverged: &[Option<u32>], group: u16) -> Option<u32>
     ensures { IfSome result (λ k. slice_get undiverged.now group ≡ Some (Some k)) }
 {
@@ -205,7 +205,7 @@ fn undiverged_of(undiverged: &[Option<u32>], group: u16) -> Option<u32>
     }
 }
 
-/// Marks the instance undiverged at whose barrier an item stands that can't go on.
+/// Notes that the instance is not divergent at whose barrier an item stands that can't go on.
 fn mark_undiverged<A: Allocator>(order: &Order<A>, undiverged: &mut Vec<Option<u32>, A>, step: Ready)
     requires { ¬ CanMake order.now step }
     ensures { AreUndiverged order.now.taken undiverged.old.items → AreUndiverged order.now.taken undiverged.new.items }
@@ -227,7 +227,7 @@ fn mark_undiverged<A: Allocator>(order: &Order<A>, undiverged: &mut Vec<Option<u
     }
 }
 
-/// Marks no instance of a group undiverged.
+/// Forgets which instance of a group is known not to be divergent.
 fn forget_undiverged<A: Allocator>(undiverged: &mut Vec<Option<u32>, A>, group: u16)
     ensures { IsForgotten undiverged.old.items group undiverged.new.items }
 {
@@ -286,7 +286,7 @@ impl<A: Allocator> Agenda<A> {
             group,
             item: event.item,
         };
-        let wide = is_wide(&event);
+        let wide = concerns_group(&event);
         let _taken = self.order.lanes();
         self.order.take(group, event)?;
         if wide {
@@ -336,7 +336,7 @@ impl<A: Allocator> Agenda<A> {
         );
     }
 
-    /// Whether an item stands at a barrier of an instance that is marked undiverged.
+    /// Whether an item stands at a barrier of an instance that is known not to be divergent.
     fn is_undiverged_at(&self, item: ItemId) -> bool
         ensures { IsTrue result → ¬ CanHandle self.now.taken self.now.handled item }
     {
@@ -357,8 +357,9 @@ impl<A: Allocator> Agenda<A> {
         }
     }
 
-    /// The last step of the list, if it can be made; otherwise it leaves the list.
-    fn look(&mut self) -> Option<Ready>
+    /// Looks at the last step of the list. Gives it if it can be made; else takes it off the list, and notes what its item
+    /// waits for.
+    fn try_last(&mut self) -> Option<Ready>
         ensures found { IfSome result (λ r. CanMake self.old r) }
         ensures unchanged { self.new ≡ self.old }
     {
@@ -372,7 +373,7 @@ impl<A: Allocator> Agenda<A> {
         mark_undiverged(&self.order, &mut self.undiverged, step);
         match note(&self.order, &mut self.waiting, step) {
             Ok(()) => self.todo.drop_last(),
-            Err(_) => self.todo.miss(),
+            Err(_) => self.todo.note_shortage(),
         }
         None
     }
@@ -385,7 +386,7 @@ impl<A: Allocator> Agenda<A> {
     {
         let _taken = self.order.lanes();
         for _ in 0..self.todo.len() {
-            match self.look() {
+            match self.try_last() {
                 None => {}
                 Some(step) => return Some(step),
             }

@@ -125,7 +125,7 @@ impl<A: Allocator> Todo<A> {
     }
 
     /// Says that a step is missing.
-    pub(crate) fn miss(&mut self)
+    pub(crate) fn note_shortage(&mut self)
         ensures { (r : AnyStep) → Has self.new r }
     {
         self.short = true;

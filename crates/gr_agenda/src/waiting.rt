@@ -23,7 +23,7 @@ fn bucket_of(named: Name) -> usize
     (item + named.release as usize * 257) % LISTS
 }
 
-/// An item waits for the release of this name.
+/// Enters an item among those that wait for the release of this name.
 ///
 /// # Errors
 /// `Memory`: out of memory.
@@ -36,6 +36,7 @@ pub(crate) fn wait<A: Allocator>(
     ensures keeps { (n : AnyName) (i : AnyItem) → IsWaiting lists.old.items n i → IsWaiting lists.new.items n i }
 {
     match lists.get_mut(bucket_of(named)) {
+        // never: `bucket_of` is below the number of lists; and after `Memory` every step is looked at
         None => Err(Memory),
         Some(list) => {
             list.push(item)?;
@@ -54,7 +55,7 @@ fn put_all<A: Allocator>(list: &[ItemId], todo: &mut Todo<A>)
     }
 }
 
-/// Those that wait for the release of this name may be ready.
+/// Moves those that wait for the release of this name to the steps that may be ready.
 pub(crate) fn wake<A: Allocator>(
     lists: &mut Vec<Vec<ItemId, A>, A>,
     named: Name,

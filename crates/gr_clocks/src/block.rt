@@ -114,7 +114,7 @@ impl<A: Allocator> Block<A> {
         self.most == 0 || are_within(mine, theirs)
     }
 
-    /// The greater count of each item, where neither of the two is within the other.
+    /// The greater count of each item, in counts of its own. (`learn` shares counts where one of the two is within the other.)
     fn merged(&self, other: &Block<A>) -> Result<Block<A>, ClockError>
     where
         A: Clone,

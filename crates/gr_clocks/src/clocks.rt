@@ -141,8 +141,8 @@ impl<A: Allocator> Clocks<A> {
         tick_both(&mut self.global, &mut self.local, item)
     }
 
-    /// Gives an item in a memory what releases on words of it left, and counts one more event of the item, where there is
-    /// room.
+    /// Joins the item's clock in this memory with the snapshots of releases on words of it, and ticks both of its clocks. No
+    /// count is at its limit.
     ///
     /// # Errors
     /// `Memory`: out of memory. The clocks are then as they were.
@@ -202,8 +202,8 @@ impl<A: Allocator> Clocks<A> {
         }
     }
 
-    /// The clock in a memory of an item that has learned what releases on one word left, with one more event of it, where
-    /// there is room.
+    /// The clock of an item in the memory of the releases' word, joined with their snapshots and ticked. No count is at its
+    /// limit.
     fn behind(
         &self,
         item: ItemId,

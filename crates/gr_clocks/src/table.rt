@@ -122,8 +122,7 @@ impl<A: Allocator> Table<A> {
         self.groups[item.group as usize].put_ticked(item.item, clock);
     }
 
-    /// The clock of an item that has learned what these releases left, with one more event of it, where there is room in
-    /// all clocks.
+    /// The clock of an item, joined with these snapshots and ticked. No count is at its limit.
     pub(crate) fn learned(
         &self,
         item: ItemId,

@@ -20,7 +20,7 @@ use gr_model::memory::Memory;
 use gr_model::race::turned;
 use std::alloc::Allocator;
 
-/// The least racing pair of a word so far and of an event with those that come behind it in an order.
+/// The lesser of the least racing pair of a word so far and the least one of an event with a later event of the order.
 fn with_races_of<A: Allocator>(
     records: &Records<A>,
     order: &[EventId],

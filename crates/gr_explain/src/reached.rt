@@ -29,7 +29,8 @@ pub(crate) type Events<A> = IndexSet<EventId, BuildHasherDefault<FoldHasher>, A>
 /// A set of instances.
 pub(crate) type Instances<A> = IndexSet<Instance, BuildHasherDefault<FoldHasher>, A>;
 
-/// The events that are reached from an event, and the convergent instances that flag a memory and of whose barriers one is.
+/// The events that are reached from an event, and the convergent instances that flag a memory and of
+/// which a barrier is reached.
 #[derive(Drop)]
 pub(crate) struct Reached<A: Allocator> {
     pub(crate) events: Events<A>,

@@ -6,7 +6,7 @@ use Rattle.gr_model.specs.declared.event.Event.{Event}
 use Rattle.gr_model.specs.Barriers.{IsDivergent, arrivals, is_barrier, mark_of}
 use Rattle.gr_model.specs.Instances.{Mark}
 use Rattle.gr_model.specs.Streams.{Streams, is_complete, list_of, places_from, size_of}
-use Rattle.gr_lanes.specs.Instances.{HasCome, IsParted, Parts}
+use Rattle.gr_lanes.specs.Instances.{HasCome, MakesDivergent, Parts}
 
 -- the k-th barrier of a list gives the k-th mark
 abbrev pub GivesMark : ℕ → List Event → ℕ → ℕ → Type 0
@@ -65,14 +65,14 @@ module _ (s : Streams) (g k : ℕ) (x : Event) (come : HasCome s g k x) where
   pub mark_come : (a : Mark) × (mark_of x ≡ Some a)
   mark_come = some_mark (mark_of x) come.barrier
 
-  pub parted_diverges : (j : ℕ) → j < size_of s g → IsParted s g k (mark_of x) j → IsDivergent s g k
+  pub parted_diverges : (j : ℕ) → j < size_of s g → MakesDivergent s g k (mark_of x) j → IsDivergent s g k
   parted_diverges j within parted =
       elim (arrivals s g k j) as (λ o. (arrivals s g k j ≡ o) → Parts (is_complete (list_of s g)) (mark_of x) o → IsDivergent s g k) [
         | None ↦ λ none whole. inr (whole, (come.item, j, mark_come.0, (come.within, come.came ∙ mark_come.1), within, none))
         | Some b ↦ λ at other. inl (come.item, j, mark_come.0, b, (come.within, come.came ∙ mark_come.1), (within, at), λ same. other (ap (λ (m : Mark). Some m) (sym same) ∙ sym mark_come.1))
       ] refl parted
 
-  pub none_parted : ((j : ℕ) → j < size_of s g → IsParted s g k (mark_of x) j → ⊥) → IsDivergent s g k → ⊥
+  pub none_parted : ((j : ℕ) → j < size_of s g → MakesDivergent s g k (mark_of x) j → ⊥) → IsDivergent s g k → ⊥
   none_parted none (inl mixed) =
       none mixed.0 mixed.4.0 (subst (Parts (is_complete (list_of s g)) (mark_of x)) (sym mixed.4.1) (λ (first_is : Some mixed.2 ≡ mark_of x).
       none mixed.1 mixed.5.0 (subst (Parts (is_complete (list_of s g)) (mark_of x)) (sym mixed.5.1) (λ (second_is : Some mixed.3 ≡ mark_of x).

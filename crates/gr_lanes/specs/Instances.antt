@@ -11,8 +11,8 @@ Parts complete mine None = IsTrue complete
 Parts complete mine (Some other) = Some other ≢ mine
 
 -- an item of the group does
-abbrev pub IsParted : Streams → ℕ → ℕ → Option Mark → ℕ → Type 0
-IsParted s g k mine i = Parts (is_complete (list_of s g)) mine (arrivals s g k i)
+abbrev pub MakesDivergent : Streams → ℕ → ℕ → Option Mark → ℕ → Type 0
+MakesDivergent s g k mine i = Parts (is_complete (list_of s g)) mine (arrivals s g k i)
 
 -- somebody came with the mark of this barrier
 pub record HasCome (s : Streams) (g k : ℕ) (x : Event) : Type 0 where

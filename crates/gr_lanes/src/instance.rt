@@ -3,7 +3,7 @@
 
 ghost use Rattle.std.specs.Prelude.{◌≡◌, ◌↔◌, ◌<◌, true, IsTrue, MatchOption, is_some, length};
 ghost use Rattle.gr_model.specs.Barriers.{IsDivergent, arrivals, mark_of};
-ghost use Rattle.gr_lanes.specs.Instances.{HasCome, IsParted};
+ghost use Rattle.gr_lanes.specs.Instances.{HasCome, MakesDivergent};
 
 use crate::lanes::Lanes;
 use gr_model::event::{Event, ItemId};
@@ -24,10 +24,10 @@ pub fn has_mark_of(mine: &Event, other: &Event) -> bool
     other.kind == mine.kind && other.word == mine.word
 }
 
-/// Whether an item parts the instance of a barrier: it came with another mark, or it never comes.
-fn parts<A: Allocator>(lanes: &Lanes<A>, item: ItemId, number: u32, mine: &Event) -> bool
+/// Whether an item makes the instance of a barrier divergent: it came with another site or other flags, or it never comes.
+fn makes_divergent<A: Allocator>(lanes: &Lanes<A>, item: ItemId, number: u32, mine: &Event) -> bool
     requires { is_some (mark_of mine.now) ≡ true }
-    ensures { IsTrue result ↔ IsParted lanes.now item.group number (mark_of mine.now) item.item }
+    ensures { IsTrue result ↔ MakesDivergent lanes.now item.group number (mark_of mine.now) item.item }
 {
     match barrier(lanes, item, number) {
         None => lanes.is_complete(item.group),
@@ -42,7 +42,7 @@ pub fn is_divergent<A: Allocator>(lanes: &Lanes<A>, group: u16, number: u32, min
     ensures { IsTrue result ↔ IsDivergent lanes.now group number }
 {
     for item in 0..lanes.shape().items(group) {
-        if parts(lanes, ItemId { group, item }, number, mine) {
+        if makes_divergent(lanes, ItemId { group, item }, number, mine) {
             return true;
         }
     }

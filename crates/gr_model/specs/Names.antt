@@ -55,7 +55,7 @@ IsOfOtherWord s f n = (k : ℕ) × (release_place s n ≡ Some k) × (word_at s 
 abbrev pub IsOfItsWord : Streams → EventId → Name → Type 0
 IsOfItsWord s f n = (k : ℕ) × (release_place s n ≡ Some k) × (word_at s (record { at = n.at; index = k }) ≡ word_at s f)
 
--- the cause for which an acquire that is not grounded is unmatched: one of its releases is absent, else one has another word, else all are there with its word, and one is not grounded itself
+-- the cause for which an acquire that is not grounded is unmatched: one of its releases is absent, else one has another word, else all are there with its word (so one of them is not grounded)
 abbrev pub HasAcquireCause : Streams → EventId → AcquireCause → Type 0
 HasAcquireCause s f Absent = (n : Name) × HasName s f n × IsAbsent s n
 HasAcquireCause s f OtherWord = ((n : Name) → HasName s f n → ¬ IsAbsent s n) × ((n : Name) × HasName s f n × IsOfOtherWord s f n)

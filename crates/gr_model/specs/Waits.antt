@@ -23,7 +23,7 @@ pub data Waits (s : Streams) (e d : EventId) : Type 0 where
   -- each barrier of the convergent instance directly behind which it stands
   for_meeting : (a : Mark) (c : EventId) → IsPrevious c e → Together s a c d → Waits s e d
 
--- e waits for nothing that is not there: the releases that it names are there with its word, and its instance is convergent or divergent
+-- all that e waits for exists: the releases that it names are there with its word, and its instance is convergent or divergent
 pub record CanGo (s : Streams) (e : EventId) : Type 0 where
   pub release : HasItsReleases s e
   pub instance : (g k : ℕ) → StandsIn s e g k → ((a : Mark) × IsConvergent s g k a) ⊎ IsDivergent s g k

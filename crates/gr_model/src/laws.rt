@@ -4,7 +4,7 @@
 ghost use Rattle.std.specs.Prelude.{◌≡◌};
 ghost use Rattle.gr_model.specs.Laws.{AcceptedAreComplete, PairsGoForwards, OrderGoesForwards, OrderStaysWithin, OrderIsGrounded, WaitsStay, StagesStay, OrderStays, CountsStay, HitsAreRaces, WholeHitsAreRaces, RacesStay, ReportIsOne};
 
-use crate::limits::{MOST_GROUPS, MOST_ITEMS, MOST_ITEMS_OF_A_GROUP, MOST_RECORDS};
+use crate::limits::{MOST_GROUPS, MOST_ITEMS, MOST_ITEMS_OF_A_GROUP, MOST_NAMES, MOST_RECORDS};
 
 /// Lists are accepted exactly where they may have come and are complete.
 pub fn accepted_lists_are_complete()
@@ -58,4 +58,5 @@ pub fn limits_are_those_of_the_formats()
     ensures items_of_a_group { MOST_ITEMS_OF_A_GROUP ≡ 256 }
     ensures items { MOST_ITEMS ≡ 16384 }
     ensures records { MOST_RECORDS ≡ 16777216 }
+    ensures names { MOST_NAMES ≡ 4 }
 {}

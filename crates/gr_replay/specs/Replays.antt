@@ -1,7 +1,7 @@
 -- What a replay writes of bytes, and why it refuses them.
 -- Source: docs/FORMATS.md, "Faults", and docs/MODEL.md, "The report".
 use Rattle.std.specs.Prelude.{◌≡◌, ◌⊎◌, ℕ, List, Option}
-use Rattle.gr_model.specs.Streams.{Streams}
+use Rattle.gr_model.specs.Streams.{AreAccepted, Streams}
 use Rattle.gr_model.specs.Reports.{WholeReport, IsReportOf}
 use Rattle.gr_record.specs.declared.fault.Fault.{Fault}
 use Rattle.gr_record.specs.declared.fault.Fault.TheVariants as faults
@@ -9,10 +9,11 @@ use Rattle.gr_report.specs.Putting.{AppendsPrefix}
 use Rattle.gr_report.specs.ReportText.{report_text}
 use Rattle.gr_replay.specs.Launch.{Reads, IsReadFault}
 
--- the report is exact: the bytes are the streams of a launch, and it is the report of the definitions on that launch
+-- the report is exact: the bytes are the streams of a launch, which the model accepts, and it is the report of the definitions on that launch
 pub record IsExact (bytes : List ℕ) (report : WholeReport) : Type 0 where
   pub launch : Streams
   pub spelled : Reads bytes launch
+  pub accepted : AreAccepted launch
   pub exact : IsReportOf launch report
 
 -- why bytes are not replayed: they are no launch, or else the writer failed

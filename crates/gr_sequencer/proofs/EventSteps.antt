@@ -24,14 +24,14 @@ use Rattle.gr_clocks.specs.Counts.{Counts, IsJoinOfAll, IsTick, count_of, greate
 use Rattle.gr_clocks.specs.Rows.{same_item}
 use Rattle.gr_clocks.specs.ItemClocks.{Acquires, AreSpent, IsSpent, ItemClocks, ReleaseClock, Ticks, clock_in, clocks_in, clocks_left}
 use Rattle.gr_clocks.proofs.JoinLemmas.{joined_none}
-use Rattle.gr_clocks.proofs.ReleaseLemmas.{acquires_none, left_all, left_counted}
+use Rattle.gr_clocks.proofs.ReleaseLemmas.{acquires_none, snapshots_all, snapshots_counted}
 use Rattle.gr_clocks.proofs.RowLemmas.{same_items, same_item_self}
 use Rattle.gr_closure.specs.Accesses.{CountsJust}
 use Rattle.gr_closure.specs.Knowledge.{Knows, Learns}
 use Rattle.gr_closure.proofs.EventKnowledge.{handled_cases, handled_knows, handled_sees, others_know_after_handle}
 use Rattle.gr_closure.proofs.HandledKnowledge.{known_handled, seen_handled}
 use Rattle.gr_closure.proofs.NextInItem.{IsNextInItem, ready_event_is_next}
-use Rattle.gr_sequencer.specs.Known.{AreLeft, AreTrue, KnowsOrLearns, IsLeftBy, IsNext, Known, Left, left_at}
+use Rattle.gr_sequencer.specs.Known.{AreSnapshots, CountWhatIsKnown, KnowsOrLearns, IsSnapshotBy, IsNext, Known, Snapshots, snapshot_at}
 use Rattle.gr_sequencer.specs.Sources.{AreSources}
 use Rattle.gr_sequencer.proofs.SeenCounts.{below_max, source_count, own_count, seen_count}
 
@@ -88,7 +88,7 @@ module _ (s : Streams) (order : List EventId) (known : Known) (e : EventId) (nex
 
     pub sources_unspent : ¬ AreSpent sources e.at
     sources_unspent (k, l, below, at, full) =
-        let counted = left_counted sources e.at k l below at in
+        let counted = snapshots_counted sources e.at k l below at in
         let less = told_below (memory_of l.word) in
         let small = index_small in
         omega (arith, counted, less, small, full)
@@ -140,7 +140,7 @@ module _ (s : Streams) (order : List EventId) (known : Known) (e : EventId) (nex
   known_or_learned_sources m c joined sources are same here join d =
       let o : ℕ = count_of (own_clock m) d.at in
       let l : ℕ = greatest_count (clocks_left m sources) d.at in
-      let all : clocks_left m sources ≡ map (λ (r : ReleaseClock). r.clock) sources = ap (clocks_left m) (sym (map-id sources)) ∙ left_all (λ r. r) m sources here in
+      let all : clocks_left m sources ≡ map (λ (r : ReleaseClock). r.clock) sources = ap (clocks_left m) (sym (map-id sources)) ∙ snapshots_all (λ r. r) m sources here in
       let counted : count_of joined d.at ≡ max o l = join.counts d.at ∙ ap (λ k. max (count_of k d.at) (greatest_count (map (λ (r : ReleaseClock). r.clock) sources) d.at)) same ∙ ap (λ cs. max o (greatest_count cs d.at)) (sym all) in
       let source : (d.index < l) ↔ Learns s m e d = are.counts m d in (
         λ below. ⊎_elim (λ h. inl ((counts m d).0 h)) (λ h. inr (source.0 h)) (below_max d.index o l (omega (arith, below, counted))),
@@ -175,7 +175,7 @@ module _ (s : Streams) (order : List EventId) (known : Known) (e : EventId) (nex
   pub learns_nothing_steps : (new : ItemClocks) → AreSources s e [] → Ticks known.clocks e.at new → Steps new
   learns_nothing_steps new are ticks = sources_steps new [] are (acquires_none known.clocks e.at [] new refl ticks)
 
-  pub steps_true : (new : ItemClocks) → Steps new → AreTrue s (order ++ e ∷ []) new
+  pub steps_true : (new : ItemClocks) → Steps new → CountWhatIsKnown s (order ++ e ∷ []) new
   steps_true new steps = record {
     shape = steps.shape ∙ next.follows.clocks.shape;
     tables = λ m. steps.tables m ∙ next.follows.clocks.tables m;
@@ -206,13 +206,13 @@ module _ (s : Streams) (order : List EventId) (known : Known) (e : EventId) (nex
 
   -- ---- what is left
 
-  pub left_longer : (left : Left) → ((r : EventId) → r ≢ e → left_at left r ≡ left_at known.left r) → ((x : Event) → event_at s e ≡ Some x → IsTrue (is_release x) → IsLeftBy s e (left_at left e)) → AreLeft s (order ++ e ∷ []) left
-  left_longer left others own r x h at releases =
+  pub snapshots_longer : (snapshots : Snapshots) → ((r : EventId) → r ≢ e → snapshot_at snapshots r ≡ snapshot_at known.snapshots r) → ((x : Event) → event_at s e ≡ Some x → IsTrue (is_release x) → IsSnapshotBy s e (snapshot_at snapshots e)) → AreSnapshots s (order ++ e ∷ []) snapshots
+  snapshots_longer snapshots others own r x h at releases =
       ⊎_elim
-      (λ was. subst (IsLeftBy s r) (sym (others r (λ same. next.ready.fresh (subst (IsIn order) same was)))) (next.follows.left r x was at releases))
-      (λ (same : r ≡ e). subst (λ f. IsLeftBy s f (left_at left f)) (sym same) (own x (subst (λ f. event_at s f ≡ Some x) same at) releases))
+      (λ was. subst (IsSnapshotBy s r) (sym (others r (λ same. next.ready.fresh (subst (IsIn order) same was)))) (next.follows.snapshots r x was at releases))
+      (λ (same : r ≡ e). subst (λ f. IsSnapshotBy s f (snapshot_at snapshots f)) (sym same) (own x (subst (λ f. event_at s f ≡ Some x) same at) releases))
       (handled_cases s Global order (order ++ e ∷ []) e next.lawful (record { ready = next.ready; order = refl }) r h)
 
   -- before the event is handled, what it leaves may be kept already
-  pub left_early : (left : Left) → ((r : EventId) → r ≢ e → left_at left r ≡ left_at known.left r) → AreLeft s order left
-  left_early left others r x h at releases = subst (IsLeftBy s r) (sym (others r (λ same. next.ready.fresh (subst (IsIn order) same h)))) (next.follows.left r x h at releases)
+  pub snapshots_early : (snapshots : Snapshots) → ((r : EventId) → r ≢ e → snapshot_at snapshots r ≡ snapshot_at known.snapshots r) → AreSnapshots s order snapshots
+  snapshots_early snapshots others r x h at releases = subst (IsSnapshotBy s r) (sym (others r (λ same. next.ready.fresh (subst (IsIn order) same h)))) (next.follows.snapshots r x h at releases)

@@ -19,18 +19,18 @@ use Rattle.gr_model.specs.Instances.{Mark, flags}
 use Rattle.gr_model.specs.LawfulOrders.{IsLawful}
 use Rattle.gr_model.specs.Shapes.{HasItem}
 use Rattle.gr_model.specs.Streams.{ArePrefixes, Streams, is_of, list_of, size_of, trace_of}
-use Rattle.gr_steps.specs.Steps.{AreBarriers, IsMeeting, MeetsClocks}
+use Rattle.gr_steps.specs.Steps.{AreBarriers, IsMeeting, Meets}
 use Rattle.gr_steps.proofs.BarrierPlaces.{barrier_of, barrier_there}
 use Rattle.gr_steps.proofs.EventRecords.{group_of_event, item_of_event}
 use Rattle.gr_clocks.specs.declared.clock.TheConstants.{LARGEST_COUNT}
 use Rattle.gr_clocks.specs.Counts.{count_of, tick_at}
-use Rattle.gr_clocks.specs.ItemClocks.{IsGroupSpent, ItemClocks, MeetsClocks as MeetsClocks, clock_in, clocks_in, orders}
+use Rattle.gr_clocks.specs.ItemClocks.{IsGroupSpent, ItemClocks, MeetsClocks, clock_in, clocks_in, orders}
 use Rattle.gr_clocks.specs.Tables.{JoinsGroup, MeetsGroup, TicksGroup, clock_at, greatest, item_of}
 use Rattle.gr_closure.specs.Accesses.{CountsJust}
 use Rattle.gr_closure.specs.Knowledge.{Knows}
 use Rattle.gr_closure.proofs.GroupKnowledge.{flagged_knows, met_cases, met_sees, others_know_after_meet, unflagged_knows}
 use Rattle.gr_closure.proofs.NextInItem.{IsNextInItem, barrier_is_next}
-use Rattle.gr_sequencer.specs.Known.{AreLeft, AreTrue, Left}
+use Rattle.gr_sequencer.specs.Known.{AreSnapshots, CountWhatIsKnown, Snapshots}
 use Rattle.gr_sequencer.proofs.SeenCounts.{own_count, seen_count}
 
 number_cases : (a b : ℕ) → (a ≡ b) ⊎ (a ≢ b)
@@ -57,7 +57,7 @@ below_greatest (suc n) f x =
           (number_cases h.0 n),
     )
 
-module _ (s : Streams) (order : List EventId) (g k : ℕ) (clocks : ItemClocks) (prefixes : ArePrefixes s) (lawful : IsLawful s order) (are : AreTrue s order clocks) (a : Mark) (meeting : IsMeeting s order g k a) where
+module _ (s : Streams) (order : List EventId) (g k : ℕ) (clocks : ItemClocks) (prefixes : ArePrefixes s) (lawful : IsLawful s order) (are : CountWhatIsKnown s order clocks) (a : Mark) (meeting : IsMeeting s order g k a) where
   -- the barrier of each item of the group
   abbrev barrier : (i : ℕ) → i < size_of s g → EventId
   barrier i within = record { at = item_of g i; index = (barrier_of s g k a meeting.convergent i within).0 }
@@ -109,7 +109,7 @@ module _ (s : Streams) (order : List EventId) (g k : ℕ) (clocks : ItemClocks) 
   -- ---- the instance meets
 
   module _ (new barriers : List EventId) (are_barriers : AreBarriers s g k barriers) (is_order : new ≡ order ++ barriers) where
-    abbrev met : MeetsClocks s order g k new
+    abbrev met : Meets s order g k new
     met = record { mark = a; meeting = meeting; barriers = barriers; are = are_barriers; order = is_order }
 
     -- what a barrier sees, as a count
@@ -201,7 +201,7 @@ module _ (s : Streams) (order : List EventId) (g k : ℕ) (clocks : ItemClocks) 
           let knows = others_know_after_meet s m order new g k prefixes lawful met i d other in
           subst (λ c. (d.index < count_of c d.at) ↔ Knows s m new i d) (sym (other_clock m i other)) (λ below. knows.1 (was.0 below), λ known. was.1 (knows.0 known))
 
-      pub meets_true : AreTrue s new new_clocks
+      pub meets_true : CountWhatIsKnown s new new_clocks
       meets_true = record {
         shape = meets.shape ∙ are.shape;
         tables = λ m. table_shape m ∙ are.tables m;
@@ -223,8 +223,8 @@ module _ (s : Streams) (order : List EventId) (g k : ℕ) (clocks : ItemClocks) 
     no_release (Barrier x y) word b r = cc
     no_release (End cut) word b r = cc
 
-    pub left_behind : (left : Left) → AreLeft s order left → AreLeft s new left
-    left_behind left was r x h at releases =
+    pub snapshots_behind : (snapshots : Snapshots) → AreSnapshots s order snapshots → AreSnapshots s new snapshots
+    snapshots_behind snapshots was r x h at releases =
         ⊎_elim
         (λ old. was r x old at releases)
         (λ (now : StandsIn s r g k).

@@ -8,7 +8,7 @@ use Rattle.gr_model.specs.contracts.event.EventIdEq.TheImpl.Laws as equal
 use Rattle.gr_model.specs.Barriers.{mark_of_kind}
 use Rattle.gr_model.specs.Instances.{Mark}
 use Rattle.gr_clocks.specs.ItemClocks.{ReleaseClock}
-use Rattle.gr_sequencer.specs.Known.{Left, left_at, same_event}
+use Rattle.gr_sequencer.specs.Known.{Snapshots, snapshot_at, same_event}
 
 pub event_from_equal : (d e : EventId) → same_event d e ≡ true → d ≡ e
 event_from_equal d e h =
@@ -20,16 +20,16 @@ pub event_itself : (e : EventId) → same_event e e ≡ true
 event_itself e = equal.laws-law.refl e
 
 -- where one event has another entry, the others keep theirs
-module _ (old new : Left) (e : EventId) (entry : ReleaseClock) (update : (r : EventId) → left_at new r ≡ cond (same_event e r) (Some entry) (left_at old r)) where
-  pub kept_here : left_at new e ≡ Some entry
-  kept_here = update e ∙ ap (λ b. cond b (Some entry) (left_at old e)) (event_itself e)
+module _ (old new : Snapshots) (e : EventId) (entry : ReleaseClock) (update : (r : EventId) → snapshot_at new r ≡ cond (same_event e r) (Some entry) (snapshot_at old r)) where
+  pub kept_here : snapshot_at new e ≡ Some entry
+  kept_here = update e ∙ ap (λ b. cond b (Some entry) (snapshot_at old e)) (event_itself e)
 
-  pub kept_there : (r : EventId) → r ≢ e → left_at new r ≡ left_at old r
+  pub kept_there : (r : EventId) → r ≢ e → snapshot_at new r ≡ snapshot_at old r
   kept_there r other = by_test (same_event e r) refl
     where
-      by_test : (b : Bool) → same_event e r ≡ b → left_at new r ≡ left_at old r
+      by_test : (b : Bool) → same_event e r ≡ b → snapshot_at new r ≡ snapshot_at old r
       by_test true t = absurd (other (sym (event_from_equal e r t)))
-      by_test false f = update r ∙ ap (λ b. cond b (Some entry) (left_at old r)) f
+      by_test false f = update r ∙ ap (λ b. cond b (Some entry) (snapshot_at old r)) f
 
 -- ---- what a barrier flags
 

@@ -12,7 +12,7 @@ use Rattle.gr_clocks.specs.Counts.{count_of}
 use Rattle.gr_clocks.specs.ItemClocks.{AreNew, ItemClocks, ReleaseClock, clock_in}
 use Rattle.gr_closure.specs.Knowledge.{Knows, by_event, by_instance}
 use Rattle.gr_closure.proofs.KnowledgeGrowth.{knowledge_stays, seen_stays}
-use Rattle.gr_sequencer.specs.Known.{IsKnown, IsLeftBy, Known, Left, left_at}
+use Rattle.gr_sequencer.specs.Known.{IsKnown, IsSnapshotBy, Known, Snapshots, snapshot_at}
 
 -- ---- nothing was handled
 
@@ -23,8 +23,8 @@ nothing_known : (s : Streams) (m : Space) (i : ItemId) (d : EventId) → Knows s
 nothing_known s m i d (by_event e h item seen) = none_in e h
 nothing_known s m i d (by_instance a c b h item flagged met seen) = none_in b h
 
-pub known_at_first : (s : Streams) (clocks : ItemClocks) (left : Left) → AreNew s.sizes clocks → IsKnown s [] (record { clocks = clocks; left = left })
-known_at_first s clocks left new = record {
+pub known_at_first : (s : Streams) (clocks : ItemClocks) (snapshots : Snapshots) → AreNew s.sizes clocks → IsKnown s [] (record { clocks = clocks; snapshots = snapshots })
+known_at_first s clocks snapshots new = record {
   clocks = record {
     shape = new.shape;
     tables = λ m. (new.clocks m).shape;
@@ -32,7 +32,7 @@ known_at_first s clocks left new = record {
         let none : count_of (clock_in clocks m i) d.at ≡ 0 = ((new.clocks m).clocks i has).zero d.at in
         (λ below. absurd (omega (arith, below, none)), λ known. absurd (nothing_known s m i d known));
   };
-  left = λ r x h at releases. absurd (none_in r h);
+  snapshots = λ r x h at releases. absurd (none_in r h);
 }
 
 -- ---- a record is taken
@@ -41,13 +41,13 @@ module _ (s t : Streams) (order : List EventId) (grows : Grows s t) (lawful : Is
   there : (r : EventId) → IsIn order r → IsEvent s r
   there r h = (lawful.event h.0 r h.1).0
 
-  left_one : (r : EventId) → IsIn order r → (o : Option ReleaseClock) → IsLeftBy s r o → IsLeftBy t r o
-  left_one r h None is = absurd is
-  left_one r h (Some left) is = record {
+  snapshots_one : (r : EventId) → IsIn order r → (o : Option ReleaseClock) → IsSnapshotBy s r o → IsSnapshotBy t r o
+  snapshots_one r h None is = absurd is
+  snapshots_one r h (Some snapshots) is = record {
     word = word_grows s t grows r (there r h) ∙ is.word;
     shape = is.shape ∙ grows.sizes;
     counts = λ d.
-        let stays = seen_stays s t (memory_of left.word) order grows lawful r d h in
+        let stays = seen_stays s t (memory_of snapshots.word) order grows lawful r d h in
         (λ below. stays.0 ((is.counts d).0 below), λ seen. (is.counts d).1 (stays.1 seen));
   }
 
@@ -61,8 +61,8 @@ module _ (s t : Streams) (order : List EventId) (grows : Grows s t) (lawful : Is
           let was = is.clocks.counts m i (subst (λ sizes. HasItem sizes i) (sym grows.sizes) has) d in
           (λ below. stays.0 (was.0 below), λ knows. was.1 (stays.1 knows));
     };
-    left = λ r x h at releases.
+    snapshots = λ r x h at releases.
         let was = there r h in
         let same : was.0 ≡ x = let e : Some was.0 ≡ Some x = sym (event_grows s t grows r was.0 was.1) ∙ at in cc in
-        left_one r h (left_at known.left r) (is.left r was.0 h was.1 (subst (λ y. IsTrue (is_release y)) (sym same) releases));
+        snapshots_one r h (snapshot_at known.snapshots r) (is.snapshots r was.0 h was.1 (subst (λ y. IsTrue (is_release y)) (sym same) releases));
   }

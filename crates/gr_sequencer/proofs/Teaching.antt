@@ -20,9 +20,9 @@ use Rattle.gr_steps.specs.Steps.{IsReady}
 use Rattle.gr_steps.proofs.EventRecords.{one_release}
 use Rattle.gr_clocks.specs.Counts.{count_of, greatest_count, sizes_of}
 use Rattle.gr_clocks.specs.ItemClocks.{ReleaseClock, AreOfOneWord, clocks_left}
-use Rattle.gr_clocks.proofs.ReleaseLemmas.{left_elsewhere, left_here}
+use Rattle.gr_clocks.proofs.ReleaseLemmas.{snapshots_elsewhere, snapshots_here}
 use Rattle.gr_closure.specs.Knowledge.{Learns}
-use Rattle.gr_sequencer.specs.Known.{IsLeft}
+use Rattle.gr_sequencer.specs.Known.{IsSnapshotOf}
 use Rattle.gr_sequencer.specs.Sources.{AreSources, IsSource, LearnsNothing, LearnsBy}
 use Rattle.gr_sequencer.proofs.SeenCounts.{below_max}
 use Rattle.gr_sequencer.proofs.Spaces.{space_cases}
@@ -57,21 +57,21 @@ module _ (s : Streams) (order : List EventId) (e r : EventId) (x given : Event) 
   from_release : (m : Space) (d : EventId) (l : LearnsBy s m e n d) → l.release ≡ r
   from_release m d l = one_release s n e l.release r l.by matches_by
 
-  pub source_of : IsTrue (inclusive given.kind r.at.group x.kind e.at.group) → (left : ReleaseClock) → IsLeft s r left → IsSource s e n left
-  source_of scopes left is = record {
+  pub source_of : IsTrue (inclusive given.kind r.at.group x.kind e.at.group) → (snapshots : ReleaseClock) → IsSnapshotOf s r snapshots → IsSource s e n snapshots
+  source_of scopes snapshots is = record {
     word = matches_by.word ∙ is.word;
     shape = is.shape;
     counts = λ d. (
       λ below. record { release = r; by = matches_by; inclusive = within; seen = (is.counts d).0 below },
-      λ l. (is.counts d).1 (subst (λ f. IsSeen s (memory_of left.word) f d) (from_release (memory_of left.word) d l) l.seen),
+      λ l. (is.counts d).1 (subst (λ f. IsSeen s (memory_of snapshots.word) f d) (from_release (memory_of snapshots.word) d l) l.seen),
     );
     others = λ m d other l.
-        let w : Some l.inclusive.word ≡ Some left.word = sym l.inclusive.has_word ∙ ap (word_at s) (from_release m d l) ∙ is.word in
-        other (sym l.inclusive.memory ∙ (let same : l.inclusive.word ≡ left.word = cc in ap memory_of same));
+        let w : Some l.inclusive.word ≡ Some snapshots.word = sym l.inclusive.has_word ∙ ap (word_at s) (from_release m d l) ∙ is.word in
+        other (sym l.inclusive.memory ∙ (let same : l.inclusive.word ≡ snapshots.word = cc in ap memory_of same));
   }
     where
-      within : IsInclusive s (memory_of left.word) r e
-      within = record { first = given; second = x; at_first = there; at_second = event; word = left.word; has_word = is.word; memory = refl; scopes = scopes }
+      within : IsInclusive s (memory_of snapshots.word) r e
+      within = record { first = given; second = x; at_first = there; at_second = event; word = snapshots.word; has_word = is.word; memory = refl; scopes = scopes }
 
 -- ---- the sources of several names
 
@@ -137,7 +137,7 @@ module _ (s : Streams) (e : EventId) where
 
           in_its_memory : (m : Space) (d : EventId) → m ≡ memory_of l.word → (d.index < all m d) ↔ LearnsFrom s m e (names ++ n ∷ []) d
           in_its_memory m d same =
-              let most = left_here m sources l d.at same in
+              let most = snapshots_here m sources l d.at same in
               let by : (d.index < count_of l.clock d.at) ↔ LearnsBy s m e n d = subst (λ o. (d.index < count_of l.clock d.at) ↔ LearnsBy s o e n d) (sym same) (is.counts d) in (
                 λ below.
                     (longer m d).1 (⊎_elim
@@ -153,7 +153,7 @@ module _ (s : Streams) (e : EventId) where
 
           in_another : (m : Space) (d : EventId) → m ≢ memory_of l.word → (d.index < all m d) ↔ LearnsFrom s m e (names ++ n ∷ []) d
           in_another m d other =
-              let same = left_elsewhere m sources l d.at other in (
+              let same = snapshots_elsewhere m sources l d.at other in (
                 λ below. (longer m d).1 (inl ((are.counts m d).0 (omega (arith, below, same)))),
                 λ learned.
                     ⊎_elim

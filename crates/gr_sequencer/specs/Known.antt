@@ -1,4 +1,4 @@
--- What clocks and what releases left say of the events that were handled.
+-- What the clocks of the items and the snapshots of the releases say of the events that were handled.
 -- Source: docs/MODEL.md, "Clocks".
 use Rattle.std.specs.Prelude.{◌≡◌, ◌≢◌, ◌⊎◌, Bool, List, Option, Some, None, IsTrue, map, length}
 use Rattle.std.specs.Map.{lookup}
@@ -18,44 +18,44 @@ use Rattle.gr_clocks.specs.ItemClocks.{ItemClocks, ReleaseClock, clock_in, clock
 use Rattle.gr_closure.specs.Accesses.{CountsJust}
 use Rattle.gr_closure.specs.Knowledge.{Knows, Learns}
 
--- what events left
-abbrev pub Left : Type 0
-Left = List (EventId × ReleaseClock)
+-- the snapshots of releases, by the event
+abbrev pub Snapshots : Type 0
+Snapshots = List (EventId × ReleaseClock)
 
 abbrev pub same_event : EventId → EventId → Bool
 same_event e f = (equality.eq-value).it e f
 
-abbrev pub left_at : Left → EventId → Option ReleaseClock
-left_at left e = lookup (same_event e) left
+abbrev pub snapshot_at : Snapshots → EventId → Option ReleaseClock
+snapshot_at snapshots e = lookup (same_event e) snapshots
 
--- the clocks of the items, and what releases left
+-- the clocks of the items, and the snapshots of the releases
 pub record Known : Type 0 where
   pub clocks : ItemClocks
-  pub left : Left
+  pub snapshots : Snapshots
 
 -- each item's clock counts just what the item knows along the order
-pub record AreTrue (s : Streams) (order : List EventId) (clocks : ItemClocks) : Type 0 where
+pub record CountWhatIsKnown (s : Streams) (order : List EventId) (clocks : ItemClocks) : Type 0 where
   pub shape : clocks.sizes ≡ s.sizes
   pub tables : (m : Space) → map length (clocks_in clocks m) ≡ s.sizes
   pub counts : (m : Space) (i : ItemId) → HasItem s.sizes i → CountsJust (clock_in clocks m i) (Knows s m order i)
 
--- what a release left has its word, and counts just what is seen at the release in the word's memory
-pub record IsLeft (s : Streams) (r : EventId) (left : ReleaseClock) : Type 0 where
-  pub word : word_at s r ≡ Some left.word
-  pub shape : sizes_of left.clock ≡ s.sizes
-  pub counts : CountsJust left.clock (IsSeen s (memory_of left.word) r)
+-- the snapshot of a release has its word, and counts just what is seen at the release in the word's memory
+pub record IsSnapshotOf (s : Streams) (r : EventId) (snapshot : ReleaseClock) : Type 0 where
+  pub word : word_at s r ≡ Some snapshot.word
+  pub shape : sizes_of snapshot.clock ≡ s.sizes
+  pub counts : CountsJust snapshot.clock (IsSeen s (memory_of snapshot.word) r)
 
-abbrev pub IsLeftBy : Streams → EventId → Option ReleaseClock → Type 0
-IsLeftBy s r None = ⊥
-IsLeftBy s r (Some left) = IsLeft s r left
+abbrev pub IsSnapshotBy : Streams → EventId → Option ReleaseClock → Type 0
+IsSnapshotBy s r None = ⊥
+IsSnapshotBy s r (Some snapshot) = IsSnapshotOf s r snapshot
 
--- each release of the order left such a clock
-abbrev pub AreLeft : Streams → List EventId → Left → Type 0
-AreLeft s order left = (r : EventId) (x : Event) → IsIn order r → event_at s r ≡ Some x → IsTrue (is_release x) → IsLeftBy s r (left_at left r)
+-- each release of the order has such a snapshot
+abbrev pub AreSnapshots : Streams → List EventId → Snapshots → Type 0
+AreSnapshots s order snapshots = (r : EventId) (x : Event) → IsIn order r → event_at s r ≡ Some x → IsTrue (is_release x) → IsSnapshotBy s r (snapshot_at snapshots r)
 
 pub record IsKnown (s : Streams) (order : List EventId) (known : Known) : Type 0 where
-  pub clocks : AreTrue s order known.clocks
-  pub left : AreLeft s order known.left
+  pub clocks : CountWhatIsKnown s order known.clocks
+  pub snapshots : AreSnapshots s order known.snapshots
 
 -- ---- the next event
 

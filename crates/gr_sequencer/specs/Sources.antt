@@ -26,11 +26,11 @@ abbrev pub LearnsNothing : Streams → EventId → Name → Type 0
 LearnsNothing s e n = (m : Space) (d : EventId) → ¬ LearnsBy s m e n d
 
 -- what an event learns from the release of this name: it has the event's word, and counts just what is learned in the word's memory, where alone something is
-pub record IsSource (s : Streams) (e : EventId) (n : Name) (left : ReleaseClock) : Type 0 where
-  pub word : word_at s e ≡ Some left.word
-  pub shape : sizes_of left.clock ≡ s.sizes
-  pub counts : CountsJust left.clock (LearnsBy s (memory_of left.word) e n)
-  pub others : (m : Space) (d : EventId) → m ≢ memory_of left.word → ¬ LearnsBy s m e n d
+pub record IsSource (s : Streams) (e : EventId) (n : Name) (source : ReleaseClock) : Type 0 where
+  pub word : word_at s e ≡ Some source.word
+  pub shape : sizes_of source.clock ≡ s.sizes
+  pub counts : CountsJust source.clock (LearnsBy s (memory_of source.word) e n)
+  pub others : (m : Space) (d : EventId) → m ≢ memory_of source.word → ¬ LearnsBy s m e n d
 
 -- what an event learns from the releases that it matches: all are on the event's word, and in each memory they count together just what is learned
 pub record AreSources (s : Streams) (e : EventId) (sources : List ReleaseClock) : Type 0 where

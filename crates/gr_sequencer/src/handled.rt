@@ -1,4 +1,4 @@
-//! A step that was made.
+//! What a step of the sequencer did.
 
 use gr_clocks::access::Access;
 use gr_model::event::EventId;

@@ -1,4 +1,4 @@
-//! What the work-items know of the events that were handled: their clocks, and what each handled release left.
+//! What the work-items know of the events that were handled: their clocks, and the snapshot of each handled release.
 
 ghost use Rattle.std.specs.Prelude.{◌≡◌, ◌≢◌, ◌<◌, ◌++◌, ◌∷◌, [], Some, IfOk, OnErr, OnOk, IsTrue, length};
 ghost use Rattle.gr_model.specs.declared.event.EventId.{EventId as AnyEvent};
@@ -11,7 +11,7 @@ ghost use Rattle.gr_clocks.specs.Counts.{sizes_of};
 ghost use Rattle.gr_clocks.specs.ItemClocks.{IsGroupSpent, MeetsClocks};
 ghost use Rattle.gr_closure.specs.Accesses.{CountsJust, IsAccessOf};
 ghost use Rattle.gr_lanes.specs.Takes.{nothing_taken};
-ghost use Rattle.gr_sequencer.specs.Known.{AreTrue, KnowsOrLearns, IsKnown, IsLeftBy, IsNext, left_at};
+ghost use Rattle.gr_sequencer.specs.Known.{CountWhatIsKnown, KnowsOrLearns, IsKnown, IsSnapshotBy, IsNext, snapshot_at};
 
 use crate::sources::sources_of;
 use gr_clocks::access::Access;
@@ -30,15 +30,15 @@ use std::alloc::{Allocator, Global};
 use std::hash::{BuildHasherDefault, FoldHasher};
 use std::marker::Model;
 
-/// What releases left, by the event.
-pub(crate) type Left<A> = IndexMap<EventId, Snapshot<A>, BuildHasherDefault<FoldHasher>, A>;
+/// The snapshots of releases, by the event.
+pub(crate) type Snapshots<A> = IndexMap<EventId, Snapshot<A>, BuildHasherDefault<FoldHasher>, A>;
 
-/// What the work-items know of the events that were handled: their clocks, and what each handled release left.
+/// What the work-items know of the events that were handled: their clocks, and the snapshot of each handled release.
 #[derive(Drop)]
 #[derive_where(Debug)]
 pub(crate) struct Known<A: Allocator = Global> {
     clocks: Clocks<A>,
-    left: Left<A>,
+    snapshots: Snapshots<A>,
 }
 
 impl<A: Allocator> Model for Known<A> {
@@ -46,7 +46,7 @@ impl<A: Allocator> Model for Known<A> {
 
     ghost Value = { spec.Known };
 
-    ghost view = { λ k. record { clocks = k.clocks; left = k.left.entries } };
+    ghost view = { λ k. record { clocks = k.clocks; snapshots = k.snapshots.entries } };
 }
 
 impl<A: Allocator + Copy> Known<A> {
@@ -60,7 +60,7 @@ impl<A: Allocator + Copy> Known<A> {
         };
         Ok(Known {
             clocks,
-            left: IndexMap::new(alloc),
+            snapshots: IndexMap::new(alloc),
         })
     }
 }
@@ -80,7 +80,8 @@ fn flags_of<A: Allocator>(order: &Order<A>, group: u16, instance: u32) -> (bool,
 }
 
 impl<A: Allocator> Known<A> {
-    /// What an event that may be handled next learns and what its item knows, in its word's memory, as a clock.
+    /// The clock, in its word's memory, of what the item of an event that may be handled next knows, joined with the event's
+    /// sources, before the event's own tick.
     fn known_or_learned(
         &self,
         order: &Order<A>,
@@ -97,7 +98,7 @@ impl<A: Allocator> Known<A> {
         ensures counts { IfOk result (λ c. CountsJust c (KnowsOrLearns order.now.taken order.now.handled (model.memory_of word) event)) }
     {
         let clock = self.clocks.clock_of(event.at, memory_of(word));
-        match sources_of(order, &self.left, event, taken) {
+        match sources_of(order, &self.snapshots, event, taken) {
             None => match clock.copy() {
                 Ok(copied) => Ok(copied),
                 Err(_) => Err(Memory),
@@ -182,8 +183,8 @@ impl<A: Allocator> Known<A> {
         requires there { event_at order.now.taken event ≡ Some taken.now }
         requires access { IsAccessOf order.now.taken event access.now }
         ensures clocks { self.new.clocks ≡ self.old.clocks }
-        ensures kept { OnOk result (IsTrue (model.is_release taken.now) → IsLeftBy order.now.taken event (left_at self.new.left event)) }
-        ensures others { (r : AnyEvent) → r ≢ event → left_at self.new.left r ≡ left_at self.old.left r }
+        ensures kept { OnOk result (IsTrue (model.is_release taken.now) → IsSnapshotBy order.now.taken event (snapshot_at self.new.snapshots event)) }
+        ensures others { (r : AnyEvent) → r ≢ event → snapshot_at self.new.snapshots r ≡ snapshot_at self.old.snapshots r }
     {
         match (release_scope(&taken.kind), access) {
             (Some(scope), Some(access)) => {
@@ -192,7 +193,7 @@ impl<A: Allocator> Known<A> {
                     Err(_) => return Err(Memory),
                 };
                 let snapshot = Snapshot::new(access.word, scope, clock);
-                self.left.insert(event, snapshot)?;
+                self.snapshots.insert(event, snapshot)?;
                 Ok(())
             }
             _ => Ok(()),
@@ -213,11 +214,11 @@ impl<A: Allocator> Known<A> {
         A: Clone,
         requires next { IsNext order.now.taken order.now.handled self.old event }
         requires there { event_at order.now.taken event ≡ Some taken.now }
-        ensures left { self.new.left ≡ self.old.left }
-        ensures clocks { OnOk result (AreTrue order.now.taken (order.now.handled ++ event ∷ []) self.new.clocks) }
+        ensures snapshots { self.new.snapshots ≡ self.old.snapshots }
+        ensures clocks { OnOk result (CountWhatIsKnown order.now.taken (order.now.handled ++ event ∷ []) self.new.clocks) }
         ensures err { OnErr result (self.new.clocks ≡ self.old.clocks) }
     {
-        let answer = match sources_of(order, &self.left, event, taken) {
+        let answer = match sources_of(order, &self.snapshots, event, taken) {
             None => self.clocks.access(event.at),
             Some(sources) => self.clocks.acquire(event.at, sources.as_slice()),
         };
@@ -230,8 +231,8 @@ impl<A: Allocator> Known<A> {
         }
     }
 
-    /// Gives the items of a group the clocks that they have behind a meeting of a convergent instance, none of whose clocks
-    /// is spent.
+    /// Gives the items of a group the clocks that they have after the barriers of a convergent instance. No clock of the
+    /// group is at its limit.
     ///
     /// # Errors
     /// `Memory`: out of memory. What is known is then as before.
@@ -243,7 +244,7 @@ impl<A: Allocator> Known<A> {
         requires free { ¬ IsGroupSpent self.old.clocks group }
         requires convergent { (a : Mark) × IsConvergent order.now.taken group instance a }
         ensures meets { OnOk result ((a : Mark) → IsConvergent order.now.taken group instance a → MeetsClocks self.old.clocks group a.global a.local self.new.clocks) }
-        ensures left { self.new.left ≡ self.old.left }
+        ensures snapshots { self.new.snapshots ≡ self.old.snapshots }
         ensures err { OnErr result (self.new.clocks ≡ self.old.clocks) }
     {
         let (global, local) = flags_of(order, group, instance);

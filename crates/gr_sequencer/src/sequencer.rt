@@ -1,7 +1,7 @@
 //! The sequencer.
 //!
 //! Invariant: each item's clock counts just what the item knows along the order of the handled events, and each handled
-//! release left such a clock.
+//! release has a snapshot that counts just what is seen at it.
 
 ghost use Rattle.std.specs.Prelude.{◌≡◌, ◌↔◌, ◌+◌, ◌<◌, ℕ, IsTrue, IfOk, IfErr, OnOk, OnErr, MatchOption, length};
 ghost use Rattle.gr_model.specs.declared.limits.TheConstants.{MOST_RECORDS};

@@ -1,14 +1,14 @@
-//! The sources of an acquire: what the releases that it names left, where they are of inclusive scope. Its clock joins them.
+//! The sources of an acquire: the snapshots of the releases that it names with inclusive scope. Its clock joins them.
 
 ghost use Rattle.std.specs.Prelude.{◌≡◌, ◌<◌, ◌++◌, ◌∷◌, [], Some, MatchOption, Contains, map, length};
 ghost use Rattle.gr_model.specs.declared.limits.TheConstants.{MOST_NAMES};
 ghost use Rattle.gr_model.specs.Names.{release_place};
 ghost use Rattle.gr_model.specs.Streams.{event_at};
 ghost use Rattle.gr_steps.specs.Steps.{IsReady};
-ghost use Rattle.gr_sequencer.specs.Known.{AreLeft};
+ghost use Rattle.gr_sequencer.specs.Known.{AreSnapshots};
 ghost use Rattle.gr_sequencer.specs.Sources.{AreSources, IsSource, LearnsNothing, sources_in};
 
-use crate::known::Left;
+use crate::known::Snapshots;
 use gr_clocks::snapshot::Snapshot;
 use gr_model::event::{Event, EventId, Name};
 use gr_model::limits::MOST_NAMES;
@@ -17,7 +17,7 @@ use gr_scopes::access::inclusive;
 use std::alloc::Allocator;
 use std::marker::Model;
 
-/// What releases left, at most `MOST_NAMES` of them. Contracts see their list.
+/// Snapshots of releases, at most `MOST_NAMES` of them. Contracts see their list.
 #[derive(Drop)]
 pub(crate) struct Sources<'a, A: Allocator> {
     places: [&'a Snapshot<A>; MOST_NAMES],
@@ -37,7 +37,7 @@ impl<'a, A: Allocator> Model for Sources<'a, A> {
 }
 
 impl<'a, A: Allocator> Sources<'a, A> {
-    /// What one release left.
+    /// The snapshot of one release.
     fn of(snapshot: &'a Snapshot<A>) -> Sources<'a, A>
         ensures { result ≡ snapshot.now ∷ [] }
     {
@@ -47,7 +47,7 @@ impl<'a, A: Allocator> Sources<'a, A> {
         }
     }
 
-    /// Adds what one more release left.
+    /// Adds the snapshot of one more release.
     fn push(&mut self, snapshot: &'a Snapshot<A>)
         requires { length self.old < MOST_NAMES }
         ensures { self.new ≡ self.old ++ snapshot.now ∷ [] }
@@ -58,7 +58,7 @@ impl<'a, A: Allocator> Sources<'a, A> {
         self.count = count + 1;
     }
 
-    /// What the releases left.
+    /// The snapshots.
     pub(crate) fn as_slice(&self) -> &[&'a Snapshot<A>]
         ensures { map (λ s. s.now) result.now ≡ self.now }
     {
@@ -74,17 +74,17 @@ fn release_event<A: Allocator>(order: &Order<A>, name: Name, index: u32) -> Opti
     order.lanes().release_event(name)
 }
 
-/// What the release of one of an event's names left, where the two are of inclusive scope.
+/// The snapshot of the release of one of an event's names, where the two are of inclusive scope.
 fn source<'a, A: Allocator>(
     order: &Order<A>,
-    left: &'a Left<A>,
+    snapshots: &'a Snapshots<A>,
     event: EventId,
     taken: &Event,
     name: Name,
 ) -> Option<&'a Snapshot<A>>
     requires there { event_at order.now.taken event ≡ Some taken.now }
     requires named { Contains taken.now.names name }
-    requires left { AreLeft order.now.taken order.now.handled left.now.entries }
+    requires snapshots { AreSnapshots order.now.taken order.now.handled snapshots.now.entries }
     requires ready { IsReady order.now.taken order.now.handled event }
     ensures { MatchOption result (LearnsNothing order.now.taken event name) (λ l. IsSource order.now.taken event name l.now) }
 {
@@ -92,13 +92,13 @@ fn source<'a, A: Allocator>(
     let release = EventId { at: name.at, index };
     let given = release_event(order, name, index)?;
     if inclusive(&given.kind, release.at.group, &taken.kind, event.at.group) {
-        left.get(&release)
+        snapshots.get(&release)
     } else {
         None
     }
 }
 
-/// One source more.
+/// The sources with one more.
 fn with<'a, A: Allocator>(
     sources: Option<Sources<'a, A>>,
     source: &'a Snapshot<A>,
@@ -115,23 +115,22 @@ fn with<'a, A: Allocator>(
     }
 }
 
-/// What the releases left from which an event learns, or `None` where it learns from none: from each release that it names
-/// and that is of inclusive scope.
+/// The snapshots that an event joins: those of the releases that it names with inclusive scope. `None` if there are none.
 pub(crate) fn sources_of<'a, A: Allocator>(
     order: &Order<A>,
-    left: &'a Left<A>,
+    snapshots: &'a Snapshots<A>,
     event: EventId,
     taken: &Event,
 ) -> Option<Sources<'a, A>>
     requires there { event_at order.now.taken event ≡ Some taken.now }
-    requires left { AreLeft order.now.taken order.now.handled left.now.entries }
+    requires snapshots { AreSnapshots order.now.taken order.now.handled snapshots.now.entries }
     requires ready { IsReady order.now.taken order.now.handled event }
     ensures { AreSources order.now.taken event (sources_in result) }
 {
     let names = taken.names.as_slice();
     let mut learned = None;
     for name in names {
-        if let Some(one) = source(order, left, event, taken, *name) {
+        if let Some(one) = source(order, snapshots, event, taken, *name) {
             learned = Some(with(learned, one));
         }
     }

@@ -47,8 +47,8 @@ handled_passed config old new given e access h is passed = record {
       (passed.each k lt ∙ append-nil (get_or given k []));
 }
 
-pub met_passed : (config : Settings) (old new : Sequence) (given : List (List ClockedAccess)) (in_flight : Option ClockedAccess) (g k : ℕ) → MeetsInstance old g k new → ArePassedOn config old given way → ArePassedOn config new given way
-met_passed config old new given way g k h passed = record {
+pub met_passed : (config : Settings) (old new : Sequence) (given : List (List ClockedAccess)) (in_flight : Option ClockedAccess) (g k : ℕ) → MeetsInstance old g k new → ArePassedOn config old given in_flight → ArePassedOn config new given in_flight
+met_passed config old new given in_flight g k h passed = record {
   accesses = passed.accesses;
   along = subst (λ (s : Streams). AreAccesses s new.handled passed.accesses) (sym h.taken) (met_add_none old.taken old.handled new.handled g k passed.accesses h.meets passed.along);
   each = passed.each;

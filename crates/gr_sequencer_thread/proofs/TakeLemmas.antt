@@ -100,8 +100,8 @@ module _ (config : Settings) (sizes : List ℕ) (takers : List Taker) (seated : 
       (cases_eq p q)
 
   -- the accesses along the handled order stay
-  pub taken_passed : (seq : Sequence) → IsSequence seq → seq.taken.sizes ≡ sizes → AreTaken config seq.taken takers → (given : List (List ClockedAccess)) (in_flight : Option ClockedAccess) → ArePassedOn config seq given way → ArePassedOn config (taking seq s.group s.event) given way
-  taken_passed seq sequence same are given way passed = record {
+  pub taken_passed : (seq : Sequence) → IsSequence seq → seq.taken.sizes ≡ sizes → AreTaken config seq.taken takers → (given : List (List ClockedAccess)) (in_flight : Option ClockedAccess) → ArePassedOn config seq given in_flight → ArePassedOn config (taking seq s.group s.event) given in_flight
+  taken_passed seq sequence same are given in_flight passed = record {
     accesses = passed.accesses;
     along = accesses_stay seq.taken (with_record seq.taken s.group s.event) (record_grows seq.taken s.group s.event sequence.prefixes (may_take seq same are).can) seq.handled passed.accesses sequence.lawful passed.along;
     each = passed.each;

@@ -22,7 +22,7 @@ pub record Feed (A : Type 0) : Type 0 where
   pub sequence : Sequence
   pub takers : List Taker
   pub givers : List (Giver A)
-  pub way : Option ClockedAccess
+  pub in_flight : Option ClockedAccess
   pub failed : Bool
 
 -- which queues the seats are of
@@ -58,7 +58,7 @@ AreTaken config taken takers = (g : ℕ) (d : Taker) → list_of taken g ≡ pop
 pub record ArePassedOn (config : Settings) (sequence : Sequence) (given : List (List ClockedAccess)) (in_flight : Option ClockedAccess) : Type 0 where
   pub accesses : List ClockedAccess
   pub along : AreAccesses sequence.taken sequence.handled accesses
-  pub each : (k : ℕ) → k < config.workers → accesses_for config.workers k accesses ≡ slice_index_or given k [] ++ accesses_for config.workers k (in_flight_list way)
+  pub each : (k : ℕ) → k < config.workers → accesses_for config.workers k accesses ≡ slice_index_or given k [] ++ accesses_for config.workers k (in_flight_list in_flight)
 
 -- memory never ran out
 pub record IsGood {A : Type 0} (f : Feed A) : Type 0 where
@@ -105,7 +105,7 @@ pub record IsSameRun {A : Type 0} (old new : Feed A) : Type 0 where
 pub record IsOver {A : Type 0} (f : Feed A) : Type 0 where
   pub complete : AreComplete f.sequence.taken
   pub done : IsDone f.sequence
-  pub way : f.in_flight ≡ None
+  pub in_flight : f.in_flight ≡ None
 
 -- memory never ran out, and all was taken, handled and passed on
 pub record IsFeedWhole {A : Type 0} (f : Feed A) : Type 0 where

@@ -4,7 +4,7 @@ use Rattle.std.specs.Prelude.{◌≡◌, ◌⊎◌, ◌↔◌, ℕ, Bool, List, 
 use Rattle.std.specs.Io.KnownBytes.{Appends}
 use Rattle.gr_model.specs.declared.event.Word.{Word}
 use Rattle.gr_model.specs.Races.{IsRacy}
-use Rattle.gr_model.specs.Streams.{Streams}
+use Rattle.gr_model.specs.Streams.{AreAccepted, Streams}
 use Rattle.gr_model.specs.Waits.{IsGrounded}
 use Rattle.gr_record.specs.declared.fault.Fault.{Fault}
 use Rattle.gr_record.specs.declared.fault.Fault.TheVariants as faults
@@ -18,10 +18,11 @@ use Rattle.gr_show.specs.Explanations.{explanation_line}
 abbrev pub IsExplanation : Streams → Word → Option Pair → Type 0
 IsExplanation s w pair = MatchOption pair (¬ IsRacy s (IsGrounded s) w) (λ p. IsLeastRace s w p)
 
--- the inputs, where they are known, are the streams of a launch; the line of the word's least racing pair is written whole; and it is said whether the word is racy
+-- the inputs, where they are known, are the streams of a launch, which the model accepts; the line of the word's least racing pair is written whole; and it is said whether the word is racy
 pub record IsShown (known : Option (List (List ℕ))) (w : Word) (found : Bool) (old new : Option (List ℕ)) : Type 0 where
   pub launch : Streams
   pub spelled : IfSome known (λ inputs. ReadsEach inputs launch)
+  pub accepted : AreAccepted launch
   pub pair : Option Pair
   pub exact : IsExplanation launch w pair
   pub line : Appends old new (explanation_line w pair)
@@ -31,6 +32,7 @@ pub record IsShown (known : Option (List (List ℕ))) (w : Word) (found : Bool) 
 pub record ShowsPrefix (known : Option (List (List ℕ))) (w : Word) (old new : Option (List ℕ)) : Type 0 where
   pub launch : Streams
   pub spelled : IfSome known (λ inputs. ReadsEach inputs launch)
+  pub accepted : AreAccepted launch
   pub pair : Option Pair
   pub exact : IsExplanation launch w pair
   pub prefix : AppendsPrefix old new (explanation_line w pair)

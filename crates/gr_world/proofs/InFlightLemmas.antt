@@ -34,7 +34,7 @@ use Rattle.gr_world.specs.Worlds.{IsPassedOn, IsWorld, World, accesses_for, goin
 -- ---- the sequencer's steps
 
 -- the accesses along the order after an event was handled
-accesses_after : (old new : Sequence) (e : EventId) (in_flight : Option ClockedAccess) (accesses : List ClockedAccess) → HandlesEvent old e new → IsInFlightOf new.taken e way → AreAccesses old.taken old.handled accesses → AreAccesses new.taken new.handled (accesses ++ in_flight_list way)
+accesses_after : (old new : Sequence) (e : EventId) (in_flight : Option ClockedAccess) (accesses : List ClockedAccess) → HandlesEvent old e new → IsInFlightOf new.taken e in_flight → AreAccesses old.taken old.handled accesses → AreAccesses new.taken new.handled (accesses ++ in_flight_list in_flight)
 accesses_after old new e (Some x) accesses h is are =
     subst (λ (s : Streams). AreAccesses s new.handled (accesses ++ x ∷ [])) (sym h.taken)
     (handled_adds old.taken old.handled new.handled e accesses x h.handles are (subst (λ (s : Streams). IsAccess s e (bare x)) h.taken is))
@@ -44,8 +44,8 @@ accesses_after old new e None accesses h is are =
     (others_add_none old.taken old.handled new.handled e accesses h.handles are (subst (λ (s : Streams). word_at s e ≡ None) h.taken is)))
 
 -- what stays of a world whose sequence goes on with the same taken lists
-going_is_world : (w : World) → IsWorld w → (sequence : Sequence) (in_flight : Option ClockedAccess) → IsSequence sequence → sequence.taken ≡ w.sequence.taken → (accesses : List ClockedAccess) → AreAccesses sequence.taken sequence.handled accesses → ((k : ℕ) → k < w.config.workers → IsPassedOn (going_on w sequence way) accesses k) → IsWorld (going_on w sequence way)
-going_is_world w world sequence way lawful same accesses along each = record {
+going_is_world : (w : World) → IsWorld w → (sequence : Sequence) (in_flight : Option ClockedAccess) → IsSequence sequence → sequence.taken ≡ w.sequence.taken → (accesses : List ClockedAccess) → AreAccesses sequence.taken sequence.handled accesses → ((k : ℕ) → k < w.config.workers → IsPassedOn (going_on w sequence in_flight) accesses k) → IsWorld (going_on w sequence in_flight)
+going_is_world w world sequence in_flight lawful same accesses along each = record {
   config = world.config;
   sent = world.sent;
   room = world.room;
@@ -62,14 +62,14 @@ going_is_world w world sequence way lawful same accesses along each = record {
   passed = record { accesses = accesses; along = along; each = each };
 }
 
-pub handling_is_world : (w : World) → IsWorld w → (e : EventId) (sequence : Sequence) (in_flight : Option ClockedAccess) → w.in_flight ≡ None → HandlesEvent w.sequence e sequence → IsInFlightOf sequence.taken e way → IsSequence sequence → IsWorld (going_on w sequence way)
-handling_is_world w world e sequence way free h is lawful = going_is_world w world sequence way lawful h.taken (world.passed.accesses ++ in_flight_list way)
-    (accesses_after w.sequence sequence e way world.passed.accesses h is world.passed.along) each
+pub handling_is_world : (w : World) → IsWorld w → (e : EventId) (sequence : Sequence) (in_flight : Option ClockedAccess) → w.in_flight ≡ None → HandlesEvent w.sequence e sequence → IsInFlightOf sequence.taken e in_flight → IsSequence sequence → IsWorld (going_on w sequence in_flight)
+handling_is_world w world e sequence in_flight free h is lawful = going_is_world w world sequence in_flight lawful h.taken (world.passed.accesses ++ in_flight_list in_flight)
+    (accesses_after w.sequence sequence e in_flight world.passed.accesses h is world.passed.along) each
   where
-    each : (k : ℕ) → k < w.config.workers → IsPassedOn (going_on w sequence way) (world.passed.accesses ++ in_flight_list way) k
+    each : (k : ℕ) → k < w.config.workers → IsPassedOn (going_on w sequence in_flight) (world.passed.accesses ++ in_flight_list in_flight) k
     each k lt =
-        filter-append (λ x. worker_of w x == k) world.passed.accesses (in_flight_list way)
-        ∙ ap (λ (l : List ClockedAccess). l ++ accesses_for w k (in_flight_list way))
+        filter-append (λ x. worker_of w x == k) world.passed.accesses (in_flight_list in_flight)
+        ∙ ap (λ (l : List ClockedAccess). l ++ accesses_for w k (in_flight_list in_flight))
         (world.passed.each k lt
         ∙ (ap (λ (o : Option ClockedAccess). (work_at w k).received ++ (work_at w k).queue.items ++ accesses_for w k (in_flight_list o)) free
         ∙ append-nil ((work_at w k).received ++ (work_at w k).queue.items)))
@@ -94,23 +94,23 @@ worker_there w world x = word_below w world x.word
 
 module _ (w : World) (world : IsWorld w) (k : ℕ) (work : Work) (there : k < w.config.workers) where
   abbrev pub with_work : Option ClockedAccess → World
-  with_work way = record { config = w.config; sent = w.sent; intakes = w.intakes; sequence = w.sequence; in_flight = in_flight; workers = set w.workers k work }
+  with_work in_flight = record { config = w.config; sent = w.sent; intakes = w.intakes; sequence = w.sequence; in_flight = in_flight; workers = set w.workers k work }
 
-  pub work_here : (in_flight : Option ClockedAccess) → work_at (with_work way) k ≡ work
-  work_here way = get_or-set_same w.workers k work (no_work 0) (omega (arith, there, world.worker_count))
+  pub work_here : (in_flight : Option ClockedAccess) → work_at (with_work in_flight) k ≡ work
+  work_here in_flight = get_or-set_same w.workers k work (no_work 0) (omega (arith, there, world.worker_count))
 
-  work_else : (in_flight : Option ClockedAccess) (j : ℕ) → j ≢ k → work_at (with_work way) j ≡ work_at w j
-  work_else way j apart = get_or-set_other w.workers k j work (no_work 0) apart
+  work_else : (in_flight : Option ClockedAccess) (j : ℕ) → j ≢ k → work_at (with_work in_flight) j ≡ work_at w j
+  work_else in_flight j apart = get_or-set_other w.workers k j work (no_work 0) apart
 
-  places : (in_flight : Option ClockedAccess) → work.queue.places ≡ (work_at w k).queue.places → (j : ℕ) → j < w.config.workers → (work_at (with_work way) j).queue.places ≡ w.config.capacity
-  places way same j lt = ⊎_elim
-      (λ (here : j ≡ k). ap (λ n. (work_at (with_work way) n).queue.places) here ∙ (ap (λ (x : Work). x.queue.places) (work_here way) ∙ (same ∙ world.workers k there)))
-      (λ apart. ap (λ (x : Work). x.queue.places) (work_else way j apart) ∙ world.workers j lt)
+  places : (in_flight : Option ClockedAccess) → work.queue.places ≡ (work_at w k).queue.places → (j : ℕ) → j < w.config.workers → (work_at (with_work in_flight) j).queue.places ≡ w.config.capacity
+  places in_flight same j lt = ⊎_elim
+      (λ (here : j ≡ k). ap (λ n. (work_at (with_work in_flight) n).queue.places) here ∙ (ap (λ (x : Work). x.queue.places) (work_here in_flight) ∙ (same ∙ world.workers k there)))
+      (λ apart. ap (λ (x : Work). x.queue.places) (work_else in_flight j apart) ∙ world.workers j lt)
       (cases_eq j k)
 
   -- a world in which one worker's work, and what is on its way, changed
-  pub working_is_world : (in_flight : Option ClockedAccess) → work.queue.places ≡ (work_at w k).queue.places → work.received ++ work.queue.items ++ accesses_for w k (in_flight_list way) ≡ (work_at w k).received ++ (work_at w k).queue.items ++ accesses_for w k (in_flight_list w.in_flight) → ((j : ℕ) → j ≢ k → accesses_for w j (in_flight_list way) ≡ accesses_for w j (in_flight_list w.in_flight)) → IsWorld (with_work way)
-  working_is_world way same mine others = record {
+  pub working_is_world : (in_flight : Option ClockedAccess) → work.queue.places ≡ (work_at w k).queue.places → work.received ++ work.queue.items ++ accesses_for w k (in_flight_list in_flight) ≡ (work_at w k).received ++ (work_at w k).queue.items ++ accesses_for w k (in_flight_list w.in_flight) → ((j : ℕ) → j ≢ k → accesses_for w j (in_flight_list in_flight) ≡ accesses_for w j (in_flight_list w.in_flight)) → IsWorld (with_work in_flight)
+  working_is_world in_flight same mine others = record {
     config = world.config;
     sent = world.sent;
     room = world.room;
@@ -119,22 +119,22 @@ module _ (w : World) (world : IsWorld w) (k : ℕ) (work : Work) (there : k < w.
     queues = world.queues;
     intakes = world.intakes;
     worker_count = length-set w.workers k work ∙ world.worker_count;
-    workers = places way same;
+    workers = places in_flight same;
     delivered = record { whole = world.delivered.whole; own = world.delivered.own };
     passed = record { accesses = world.passed.accesses; along = world.passed.along; each = each };
   }
     where
-      each : (j : ℕ) → j < w.config.workers → IsPassedOn (with_work way) world.passed.accesses j
+      each : (j : ℕ) → j < w.config.workers → IsPassedOn (with_work in_flight) world.passed.accesses j
       each j lt = ⊎_elim
-          (λ (here : j ≡ k). subst (IsPassedOn (with_work way) world.passed.accesses) (sym here)
-          (world.passed.each k there ∙ (sym mine ∙ sym (ap (λ (x : Work). x.received ++ x.queue.items ++ accesses_for w k (in_flight_list way)) (work_here way)))))
+          (λ (here : j ≡ k). subst (IsPassedOn (with_work in_flight) world.passed.accesses) (sym here)
+          (world.passed.each k there ∙ (sym mine ∙ sym (ap (λ (x : Work). x.received ++ x.queue.items ++ accesses_for w k (in_flight_list in_flight)) (work_here in_flight)))))
           (λ apart. world.passed.each j lt
           ∙ (ap (λ (l : List ClockedAccess). (work_at w j).received ++ (work_at w j).queue.items ++ l) (sym (others j apart))
-          ∙ sym (ap (λ (x : Work). x.received ++ x.queue.items ++ accesses_for w j (in_flight_list way)) (work_else way j apart))))
+          ∙ sym (ap (λ (x : Work). x.received ++ x.queue.items ++ accesses_for w j (in_flight_list in_flight)) (work_else in_flight j apart))))
           (cases_eq j k)
 
 pub passing_is_world : (w : World) → IsWorld w → (x : ClockedAccess) → w.in_flight ≡ Some x → IsWorld (passing w x)
-passing_is_world w world x way = working_is_world w world k (queueing (work_at w k) x) (worker_there w world x) None refl mine others
+passing_is_world w world x in_flight = working_is_world w world k (queueing (work_at w k) x) (worker_there w world x) None refl mine others
   where
     k : ℕ
     k = worker_of w x
@@ -157,18 +157,18 @@ receiving_is_world w world k x rest there front = working_is_world w world k (re
 
 -- ---- what is seen of an access that is on its way
 
-pub no_in_flight : {Z : Type 0} (in_flight : Option (Access Z)) → IsFalse (is_some way) → option_map clocked way ≡ None
+pub no_in_flight : {Z : Type 0} (in_flight : Option (Access Z)) → IsFalse (is_some in_flight) → option_map clocked in_flight ≡ None
 no_in_flight None none = refl
 no_in_flight (Some x) none = absurd (true≢false none)
 
-pub way_of : {Z : Type 0} (s : Streams) (e : EventId) (access : Option (Access Z)) → IsAccessOf s e access → IsInFlightOf s e (option_map clocked access)
+pub in_flight_of : {Z : Type 0} (s : Streams) (e : EventId) (access : Option (Access Z)) → IsAccessOf s e access → IsInFlightOf s e (option_map clocked access)
 in_flight_of s e None is = is
 in_flight_of s e (Some a) is = bare_access s e a is
 
 -- ---- steps
 
-pub handled_is_step : (w : World) (i : ItemId) (e : EventId) (sequence : Sequence) (in_flight : Option ClockedAccess) (new : World) → HasItem w.sent.sizes i → w.in_flight ≡ None → e.at ≡ i → HandlesEvent w.sequence e sequence → IsInFlightOf sequence.taken e way → new ≡ going_on w sequence way → IsWorldStep w (Handle i) new
-handled_is_step w i e sequence way new has free at h is leads = record {
+pub handled_is_step : (w : World) (i : ItemId) (e : EventId) (sequence : Sequence) (in_flight : Option ClockedAccess) (new : World) → HasItem w.sent.sizes i → w.in_flight ≡ None → e.at ≡ i → HandlesEvent w.sequence e sequence → IsInFlightOf sequence.taken e in_flight → new ≡ going_on w sequence in_flight → IsWorldStep w (Handle i) new
+handled_is_step w i e sequence in_flight new has free at h is leads = record {
   allowed = record {
     good = λ bad. bad has;
     unclosed = λ none. none;
@@ -194,12 +194,12 @@ met_is_step w g k sequence new there h leads = record {
 }
 
 pub passed_is_step : (w : World) (x : ClockedAccess) (new : World) → w.in_flight ≡ Some x → HasRoom (work_at w (worker_of w x)).queue → new ≡ passing w x → IsWorldStep w Pass new
-passed_is_step w x new way room leads = record {
+passed_is_step w x new in_flight room leads = record {
   allowed = record {
     good = λ none. none;
     unclosed = λ none. none;
     room = λ full. subst (IsInFlightFull w) in_flight full room;
-    some = λ none. some_none (sym way ∙ none);
+    some = λ none. some_none (sym in_flight ∙ none);
     free = λ none. none;
     ready = λ none. none;
   };

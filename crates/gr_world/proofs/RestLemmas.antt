@@ -49,7 +49,7 @@ drained_is_sent w world empty =
     λ k. record { sizes = world.sizes k; lists = lists k }
 
 pub rests : (w : World) → IsWorld w → AreEmpty w.intakes → AreIdle w.workers → w.in_flight ≡ None → AreComplete w.sequence.taken → IsAtRest w.sequence.taken w.sequence.handled → IsWorldAtRest w
-rests w world empty idle way complete rest = record {
+rests w world empty idle in_flight complete rest = record {
   closed = subst AreComplete (drained_is_sent w world (empty_at w empty)) complete;
   intakes = empty_at w empty;
   in_flight = in_flight;

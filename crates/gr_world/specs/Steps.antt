@@ -107,7 +107,7 @@ LeadsTo w (Take q) new = (s : Sent) × (rest : List Sent) × ((intake_at w q).it
 -- an event of the item was handled, and its access, if it has one, is on its way
 LeadsTo w (Handle i) new =
     (e : EventId) × (in_flight : Option ClockedAccess) × (sequence : Sequence)
-    × (e.at ≡ i) × HandlesEvent w.sequence e sequence × IsInFlightOf sequence.taken e way × (new ≡ going_on w sequence way)
+    × (e.at ≡ i) × HandlesEvent w.sequence e sequence × IsInFlightOf sequence.taken e in_flight × (new ≡ going_on w sequence in_flight)
 -- an instance of the group has met
 LeadsTo w (Meet g) new = (k : ℕ) × (sequence : Sequence) × MeetsInstance w.sequence g k sequence × (new ≡ going_on w sequence w.in_flight)
 -- the access on its way was queued for its word's worker

@@ -11,12 +11,12 @@ use Rattle.gr_world.specs.Queues.{Bounded, Work}
 use Rattle.gr_world.specs.Worlds.{World}
 
 abbrev pub world_of : {Z : Type 0} → Settings → Streams → List (Bounded Sent) → Sequence → Option (Access Z) → List Work → World
-world_of config sent intakes sequence way workers =
+world_of config sent intakes sequence in_flight workers =
     record {
       config = config;
       sent = sent;
       intakes = intakes;
       sequence = sequence;
-      in_flight = option_map clocked way;
+      in_flight = option_map clocked in_flight;
       workers = workers;
     }

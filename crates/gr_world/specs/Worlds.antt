@@ -22,7 +22,7 @@ pub record World : Type 0 where
   -- what was taken, and what of it was handled, in which order
   pub sequence : Sequence
   -- the access that was handled and is in no queue yet
-  pub way : Option ClockedAccess
+  pub in_flight : Option ClockedAccess
   pub workers : List Work
 
 abbrev pub no_queue : Bounded Sent
@@ -81,7 +81,7 @@ taking_front w q s rest =
 
 -- the sequence went on, and this access is on its way
 abbrev pub going_on : World → Sequence → Option ClockedAccess → World
-going_on w sequence way =
+going_on w sequence in_flight =
     record {
       config = w.config;
       sent = w.sent;
@@ -122,7 +122,7 @@ abbrev pub accesses_for : World → ℕ → List ClockedAccess → List ClockedA
 accesses_for w k accesses = filter (λ x. worker_of w x == k) accesses
 
 -- the access on its way, as a list
-abbrev pub way_list : Option ClockedAccess → List ClockedAccess
+abbrev pub in_flight_list : Option ClockedAccess → List ClockedAccess
 in_flight_list None = []
 in_flight_list (Some x) = x ∷ []
 
@@ -162,6 +162,6 @@ pub record IsWorld (w : World) : Type 0 where
 pub record IsWorldAtRest (w : World) : Type 0 where
   pub closed : AreComplete w.sent
   pub intakes : (q : ℕ) → (intake_at w q).items ≡ []
-  pub way : w.in_flight ≡ None
+  pub in_flight : w.in_flight ≡ None
   pub work : (k : ℕ) → (work_at w k).queue.items ≡ []
   pub rest : IsAtRest w.sequence.taken w.sequence.handled

@@ -40,11 +40,11 @@ struct Schedule {
 fn schedule_of(
     alloc: Global,
     row: &Row,
-    in_flight: Way,
+    way: Way,
     numbers: Numbers,
 ) -> Result<Schedule, AllocError> {
     Ok(Schedule {
-        sends: sends_of(alloc, row, in_flight)?,
+        sends: sends_of(alloc, row, way)?,
         of_sequencer: of_sequencer(alloc, row, numbers)?,
         of_workers: of_workers(alloc, numbers)?,
     })
@@ -101,10 +101,10 @@ fn follow_row(
     alloc: Global,
     world: &mut World,
     row: &Row,
-    in_flight: Way,
+    way: Way,
     numbers: Numbers,
 ) -> Option<()> {
-    let mut schedule = schedule_of(alloc, row, in_flight, numbers).ok()?;
+    let mut schedule = schedule_of(alloc, row, way, numbers).ok()?;
     follow(world, &mut schedule)
 }
 
@@ -140,10 +140,10 @@ fn has_report(world: &World, due: &Report) -> bool {
 }
 
 /// Whether the report of a row's world, however many workers and queues there are, is the row's, and that of its lists.
-fn is_told(alloc: Global, row: &Row, in_flight: Way, numbers: Numbers) -> Result<bool, Fail> {
+fn is_told(alloc: Global, row: &Row, way: Way, numbers: Numbers) -> Result<bool, Fail> {
     let due = due_of(alloc, row)?;
     let mut world = new(alloc, row.sizes, numbers).ok_or("a world")?;
-    let followed = follow_row(alloc, &mut world, row, in_flight, numbers);
+    let followed = follow_row(alloc, &mut world, row, way, numbers);
     Ok(followed.is_some() && has_report(&world, &due) && reported(&world) == Some(row.told))
 }
 
@@ -155,8 +155,8 @@ fn first_wrong_schedule(alloc: Global, rows: &[Row]) -> Result<Option<Scheduled>
     for row in rows {
         for numbers in ALL_NUMBERS {
             for way in [Way::GreatestFirst, Way::TurnByTurn] {
-                if !is_told(alloc, row, in_flight, numbers)? {
-                    return Ok(Some((row.name, in_flight, numbers)));
+                if !is_told(alloc, row, way, numbers)? {
+                    return Ok(Some((row.name, way, numbers)));
                 }
             }
         }

@@ -82,7 +82,7 @@ fn turn_by_turn(alloc: Global, row: &Row) -> Result<VecDeque<Step>, AllocError> 
 }
 
 /// The steps that send a row's records.
-pub(crate) fn sends_of(alloc: Global, row: &Row, in_flight: Way) -> Result<VecDeque<Step>, AllocError> {
+pub(crate) fn sends_of(alloc: Global, row: &Row, way: Way) -> Result<VecDeque<Step>, AllocError> {
     match way {
         Way::GreatestFirst => greatest_first(alloc, row),
         Way::TurnByTurn => turn_by_turn(alloc, row),

@@ -19,7 +19,7 @@ returns-in-Some g c d n held at =
     let first = c.frontier-frontier.ensures.first in
     let names = c.in-Some.event.names in
     let there : event_at q.taken (record { at = c.args.item; index = count_of frontier c.args.item }) ≡ Some c.in-Some.event = sym (c.waiting.ensures frontier first) ∙ c.in-Some.is in
-    elim c.first_free.result as (λ o. MatchOption o (All (IsReleaseHandled q.taken q.handled) names) (λ m. Contains names m × ¬ IsReleaseHandled q.taken q.handled m) → IsSomeAnd o (IsHeldUp q.taken q.handled d)) [
+    elim c.first_unhandled.result as (λ o. MatchOption o (All (IsReleaseHandled q.taken q.handled) names) (λ m. Contains names m × ¬ IsReleaseHandled q.taken q.handled m) → IsSomeAnd o (IsHeldUp q.taken q.handled d)) [
       | None ↦ λ all. absurd (held.free (All-contains (IsReleaseHandled q.taken q.handled) names n all (next_named q.taken q.handled frontier first d n held c.args.item at c.in-Some.event there)))
       | Some m ↦ λ free. next_held q.taken q.handled frontier first d n held c.args.item at c.in-Some.event there m free.0 free.1
-    ] c.first_free.ensures
+    ] c.first_unhandled.ensures

@@ -3,7 +3,7 @@ use Rattle.std.specs.Option.{option_copied}
 use Rattle.gr_model.specs.declared.event.EventId.{EventId}
 use Rattle.gr_model.specs.Names.{release_place}
 use Rattle.gr_model.specs.Streams.{event_at}
-use Rattle.gr_sequencer.specs.Known.{IsLeftBy, left_at}
+use Rattle.gr_sequencer.specs.Known.{IsSnapshotBy, snapshot_at}
 use Rattle.gr_sequencer.specs.Sources.{IsSource, LearnsNothing}
 use Rattle.gr_sequencer.proofs.Teaching.{given_releases, source_of, release_handled}
 use Rattle.gr_sequencer.proofs.sources.source.Goals as goal
@@ -28,8 +28,8 @@ returns-then-inclusive g c =
     let handled = release_handled s order e r x given n event c.requires.named refl place there ready in
     let releases = given_releases s order e r x given n event c.requires.named refl place there ready in
     let scopes = sym c.inclusive.ensures ∙ c.if-inclusive.true in
-    let left = c.args.left.now.entries in
-    elim c.get.result as (λ o. (option_copied o ≡ left_at left r) → IsLeftBy s r (left_at left r) → MatchOption o (LearnsNothing s e n) (λ l. IsSource s e n l.now)) [
-      | None ↦ λ found h. absurd (subst (IsLeftBy s r) (sym found) h)
-      | Some l ↦ λ found h. source_of s order e r x given n event c.requires.named refl place there ready scopes l.now (subst (IsLeftBy s r) (sym found) h)
-    ] c.get.ensures.value (c.requires.left r given handled there releases)
+    let snapshots = c.args.snapshots.now.entries in
+    elim c.get.result as (λ o. (option_copied o ≡ snapshot_at snapshots r) → IsSnapshotBy s r (snapshot_at snapshots r) → MatchOption o (LearnsNothing s e n) (λ l. IsSource s e n l.now)) [
+      | None ↦ λ found h. absurd (subst (IsSnapshotBy s r) (sym found) h)
+      | Some l ↦ λ found h. source_of s order e r x given n event c.requires.named refl place there ready scopes l.now (subst (IsSnapshotBy s r) (sym found) h)
+    ] c.get.ensures.value (c.requires.snapshots r given handled there releases)

@@ -21,4 +21,4 @@ invariant_of-self-else-wide g c =
           c.lanes-taken.ensures.sequence c.in_ok-take.ensures.ok.0 c.take.new.self c.in_ok-take.ensures.ok.1 plain.0 plain.1 c.put-else-wide.ensures.there,
       undiverged_own c.self.inside.order c.take.new.self c.lanes-taken.ensures.sequence c.args.group c.args.event c.in_ok-take.ensures.ok.0 c.in_ok-take.ensures.ok.1 c.self.inside.undiverged.items c.self.invariant.1 plain.0 plain.1,
     ))
-    c.is_wide-wide.ensures
+    c.concerns_group-wide.ensures

@@ -2,7 +2,7 @@ use Rattle.std.proofs.Common.{◌≡◌, Err, List, map, [], ◌∷◌, ◌++◌
 use Rattle.std.specs.Prelude.{OnOk}
 use Rattle.gr_clocks.specs.Counts.{sizes_of}
 use Rattle.gr_clocks.specs.ItemClocks.{Acquires, AreOfOneWord, AreSpent, ReleaseClock, Ticks}
-use Rattle.gr_sequencer.specs.Known.{AreTrue, IsNext, Known}
+use Rattle.gr_sequencer.specs.Known.{CountWhatIsKnown, IsNext, Known}
 use Rattle.gr_sequencer.proofs.EventSteps.{has_clock, sources_steps, sources_unspent, steps_true, learns_nothing_steps, unspent}
 use Rattle.gr_sequencer.proofs.Teaching.{each_referred, of_one_word}
 use Rattle.gr_sequencer.proofs.known.Known.advance.Goals as goal
@@ -10,25 +10,25 @@ use Rattle.gr_sequencer.proofs.known.Known.advance.Goals.{in-None, in-Some, in-O
 
 pub sources_of-requires : goal.sources_of-requires
 sources_of-requires g c =
-    let known : Known = record { clocks = c.self.inside.clocks; left = c.self.inside.left.entries } in
+    let known : Known = record { clocks = c.self.inside.clocks; snapshots = c.self.inside.snapshots.entries } in
     let next = subst (λ k. IsNext c.args.order.now.taken c.args.order.now.handled k c.args.event) (sym c.self.view_is) c.requires.next in
-    (omega arith, (c.requires.there, (next.follows.left, next.ready)))
+    (omega arith, (c.requires.there, (next.follows.snapshots, next.ready)))
 
 pub access-answer-requires : goal.access-answer-requires
 access-answer-requires g c =
-    let known : Known = record { clocks = c.self.inside.clocks; left = c.self.inside.left.entries } in
+    let known : Known = record { clocks = c.self.inside.clocks; snapshots = c.self.inside.snapshots.entries } in
     let next = subst (λ k. IsNext c.args.order.now.taken c.args.order.now.handled k c.args.event) (sym c.self.view_is) c.requires.next in
     has_clock c.args.order.now.taken c.args.order.now.handled known c.args.event next
 
 pub acquire-answer-requires-clause-item : goal.acquire-answer-requires-clause-item
 acquire-answer-requires-clause-item g c =
-    let known : Known = record { clocks = c.self.inside.clocks; left = c.self.inside.left.entries } in
+    let known : Known = record { clocks = c.self.inside.clocks; snapshots = c.self.inside.snapshots.entries } in
     let next = subst (λ k. IsNext c.args.order.now.taken c.args.order.now.handled k c.args.event) (sym c.self.view_is) c.requires.next in
     has_clock c.args.order.now.taken c.args.order.now.handled known c.args.event next
 
 pub acquire-answer-requires-clause-shapes : goal.acquire-answer-requires-clause-shapes
 acquire-answer-requires-clause-shapes g c =
-    let known : Known = record { clocks = c.self.inside.clocks; left = c.self.inside.left.entries } in
+    let known : Known = record { clocks = c.self.inside.clocks; snapshots = c.self.inside.snapshots.entries } in
     let next = subst (λ k. IsNext c.args.order.now.taken c.args.order.now.handled k c.args.event) (sym c.self.view_is) c.requires.next in
     each_referred (λ r. r.now) (λ l. sizes_of l.clock ≡ known.clocks.sizes) c.as_slice.result.now c.in-Some.sources c.as_slice.ensures (λ k d below. c.in-Some.ensures.shapes k d below ∙ sym next.follows.clocks.shape)
 
@@ -41,7 +41,7 @@ unreachable-requires g c =
     let s = c.args.order.now.taken in
     let order = c.args.order.now.handled in
     let e = c.args.event in
-    let known : Known = record { clocks = c.self.inside.clocks; left = c.self.inside.left.entries } in
+    let known : Known = record { clocks = c.self.inside.clocks; snapshots = c.self.inside.snapshots.entries } in
     let next = subst (λ k. IsNext s order k e) (sym c.self.view_is) c.requires.next in
     elim c.match-sources_of.branch [
       | in-None w ↦
@@ -58,19 +58,19 @@ returns-clause-clocks g c =
     let s = c.args.order.now.taken in
     let order = c.args.order.now.handled in
     let e = c.args.event in
-    let known : Known = record { clocks = c.self.inside.clocks; left = c.self.inside.left.entries } in
+    let known : Known = record { clocks = c.self.inside.clocks; snapshots = c.self.inside.snapshots.entries } in
     let next = subst (λ k. IsNext s order k e) (sym c.self.view_is) c.requires.next in
     elim c.match-answer.branch [
       | in-Ok v ↦
-          subst (λ r. OnOk r (AreTrue s (order ++ e ∷ []) c.match-sources_of.self-inside.clocks)) (sym v.result-is) (elim c.match-sources_of.branch [
+          subst (λ r. OnOk r (CountWhatIsKnown s (order ++ e ∷ []) c.match-sources_of.self-inside.clocks)) (sym v.result-is) (elim c.match-sources_of.branch [
             | in-None w ↦
                 let ticks = subst (λ r. OnOk r (Ticks known.clocks e.at w.access-answer.new.self)) (sym w.answer-is ∙ v.in-Ok.is) w.access-answer.ensures.ok in
-                subst (λ k. AreTrue s (order ++ e ∷ []) k.clocks) (sym w.self-inside-is) (steps_true s order known e next w.access-answer.new.self (learns_nothing_steps s order known e next w.access-answer.new.self w.in-None.ensures ticks))
+                subst (λ k. CountWhatIsKnown s (order ++ e ∷ []) k.clocks) (sym w.self-inside-is) (steps_true s order known e next w.access-answer.new.self (learns_nothing_steps s order known e next w.access-answer.new.self w.in-None.ensures ticks))
             | in-Some w ↦
                 let sources : List ReleaseClock = w.in-Some.sources in
                 let told = subst (λ r. OnOk r (Acquires known.clocks e.at (map (λ r. r.now) w.as_slice.result.now) w.acquire-answer.new.self)) (sym w.answer-is ∙ v.in-Ok.is) w.acquire-answer.ensures.ok in
                 let acquires : Acquires known.clocks e.at sources w.acquire-answer.new.self = subst (λ (ls : List ReleaseClock). Acquires known.clocks e.at ls w.acquire-answer.new.self) w.as_slice.ensures told in
-                subst (λ k. AreTrue s (order ++ e ∷ []) k.clocks) (sym w.self-inside-is) (steps_true s order known e next w.acquire-answer.new.self (sources_steps s order known e next w.acquire-answer.new.self sources w.in-Some.ensures acquires))
+                subst (λ k. CountWhatIsKnown s (order ++ e ∷ []) k.clocks) (sym w.self-inside-is) (steps_true s order known e next w.acquire-answer.new.self (sources_steps s order known e next w.acquire-answer.new.self sources w.in-Some.ensures acquires))
           ])
-      | in-Err+in-Memory v ↦ subst (λ r. OnOk r (AreTrue s (order ++ e ∷ []) c.match-sources_of.self-inside.clocks)) (sym v.result-is) tt
+      | in-Err+in-Memory v ↦ subst (λ r. OnOk r (CountWhatIsKnown s (order ++ e ∷ []) c.match-sources_of.self-inside.clocks)) (sym v.result-is) tt
     ]

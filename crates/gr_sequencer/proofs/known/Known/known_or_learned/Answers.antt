@@ -13,21 +13,21 @@ clock_of-clock-requires g c =
     let s = c.args.order.now.taken in
     let order = c.args.order.now.handled in
     let e = c.args.event in
-    let known : Known = record { clocks = c.self.inside.clocks; left = c.self.inside.left.entries } in
+    let known : Known = record { clocks = c.self.inside.clocks; snapshots = c.self.inside.snapshots.entries } in
     let next = subst (λ k. IsNext s order k e) (sym c.self.view_is) c.requires.next in
     has_clock s order known e next
 
 pub sources_of-requires : goal.sources_of-requires
 sources_of-requires g c =
     let next = subst (λ k. IsNext c.args.order.now.taken c.args.order.now.handled k c.args.event) (sym c.self.view_is) c.requires.next in
-    (omega arith, (c.requires.there, (next.follows.left, next.ready)))
+    (omega arith, (c.requires.there, (next.follows.snapshots, next.ready)))
 
 pub learned-requires : goal.learned-requires
 learned-requires g c =
     let s = c.args.order.now.taken in
     let order = c.args.order.now.handled in
     let e = c.args.event in
-    let known : Known = record { clocks = c.self.inside.clocks; left = c.self.inside.left.entries } in
+    let known : Known = record { clocks = c.self.inside.clocks; snapshots = c.self.inside.snapshots.entries } in
     let next = subst (λ k. IsNext s order k e) (sym c.self.view_is) c.requires.next in
     let sources : List ReleaseClock = c.in-Some.sources in
     let shape : sizes_of c.clock_of-clock.result.now ≡ s.sizes = c.clock_of-clock.ensures.shape ∙ next.follows.clocks.shape in
@@ -38,7 +38,7 @@ returns-in-Ok-clause-counts g c =
     let s = c.args.order.now.taken in
     let order = c.args.order.now.handled in
     let e = c.args.event in
-    let known : Known = record { clocks = c.self.inside.clocks; left = c.self.inside.left.entries } in
+    let known : Known = record { clocks = c.self.inside.clocks; snapshots = c.self.inside.snapshots.entries } in
     let next = subst (λ k. IsNext s order k e) (sym c.self.view_is) c.requires.next in
     let same = c.in-Ok.ensures.copy ∙ c.clock_of-clock.ensures.clock ∙ ap (λ n. clock_in known.clocks n e.at) c.memory_of.ensures in
     known_or_learned_alone s order known e next (memory_of c.args.word) c.in-Ok.copied c.in-None.ensures same
@@ -48,7 +48,7 @@ returns-in-Ok-learned-clause-counts g c =
     let s = c.args.order.now.taken in
     let order = c.args.order.now.handled in
     let e = c.args.event in
-    let known : Known = record { clocks = c.self.inside.clocks; left = c.self.inside.left.entries } in
+    let known : Known = record { clocks = c.self.inside.clocks; snapshots = c.self.inside.snapshots.entries } in
     let next = subst (λ k. IsNext s order k e) (sym c.self.view_is) c.requires.next in
     let m = memory_of c.args.word in
     let sources : List ReleaseClock = c.in-Some.sources in

@@ -4,8 +4,8 @@ use Rattle.gr_model.specs.declared.event.EventId.{EventId}
 use Rattle.gr_model.specs.Access.{is_release}
 use Rattle.gr_model.specs.Streams.{event_at}
 use Rattle.gr_order.specs.Sequences.{HandlesEvent, Sequence}
-use Rattle.gr_sequencer.specs.Known.{AreLeft, AreTrue, IsKnown, IsLeftBy, IsNext, left_at}
-use Rattle.gr_sequencer.proofs.EventSteps.{left_early, left_longer}
+use Rattle.gr_sequencer.specs.Known.{AreSnapshots, CountWhatIsKnown, IsKnown, IsSnapshotBy, IsNext, snapshot_at}
+use Rattle.gr_sequencer.proofs.EventSteps.{snapshots_early, snapshots_longer}
 use Rattle.gr_sequencer.proofs.sequencer.Sequencer.handle.Goals as goal
 
 pub advance-requires-clause-next : goal.advance-requires-clause-next
@@ -21,9 +21,9 @@ advance-requires-clause-next g c =
       follows = subst {A = Sequence} (λ p. IsKnown p.taken p.handled known) (sym c.order-order.ensures.order) c.self.invariant;
       ready = c.in-Some.ensures.next.1;
     } in
-    let clocks = subst (AreTrue s q.handled) (sym c.keep.ensures.clocks) next.follows.clocks in
-    let left = left_early s q.handled known e next kept.left c.keep.ensures.others in
-    record { prefixes = next.prefixes; lawful = next.lawful; follows = record { clocks = clocks; left = left }; ready = next.ready }
+    let clocks = subst (CountWhatIsKnown s q.handled) (sym c.keep.ensures.clocks) next.follows.clocks in
+    let snapshots = snapshots_early s q.handled known e next kept.snapshots c.keep.ensures.others in
+    record { prefixes = next.prefixes; lawful = next.lawful; follows = record { clocks = clocks; snapshots = snapshots }; ready = next.ready }
 
 pub invariant_of-self-2 : goal.invariant_of-self-2
 invariant_of-self-2 g c =
@@ -41,9 +41,9 @@ invariant_of-self-2 g c =
       ready = c.in-Some.ensures.next.1;
     } in
     let there : event_at s e ≡ Some c.in-Some-event_at.taken = sym c.event_at.ensures ∙ c.in-Some-event_at.is in
-    let own : (x : Event) → event_at s e ≡ Some x → IsTrue (is_release x) → IsLeftBy s e (left_at kept.left e) = λ x at releases.
+    let own : (x : Event) → event_at s e ≡ Some x → IsTrue (is_release x) → IsSnapshotBy s e (snapshot_at kept.snapshots e) = λ x at releases.
     let same : x ≡ c.in-Some-event_at.taken = let both : Some x ≡ Some c.in-Some-event_at.taken = sym at ∙ there in cc in
     c.in_ok-keep.ensures.kept (subst (λ y. IsTrue (is_release y)) same releases) in
-    let left = subst (AreLeft s longer) (sym c.advance.ensures.left) (left_longer s q.handled known e next kept.left c.keep.ensures.others own) in
+    let snapshots = subst (AreSnapshots s longer) (sym c.advance.ensures.snapshots) (snapshots_longer s q.handled known e next kept.snapshots c.keep.ensures.others own) in
     let step = subst {A = Sequence} (λ p. HandlesEvent p e c.add.new.self) (sym c.order-order.ensures.order) c.add.ensures.step in
-    subst (λ t. IsKnown t c.add.new.self.handled now) (sym step.taken) (subst (λ l. IsKnown s l now) (sym step.handles.order) (record { clocks = c.in_ok-advance.ensures.clocks; left = left }))
+    subst (λ t. IsKnown t c.add.new.self.handled now) (sym step.taken) (subst (λ l. IsKnown s l now) (sym step.handles.order) (record { clocks = c.in_ok-advance.ensures.clocks; snapshots = snapshots }))

@@ -1,7 +1,7 @@
 use Rattle.std.proofs.Common.{◌∙◌, refl, sym, subst}
 use Rattle.gr_order.specs.Sequences.{MeetsInstance, MeetsNext, Sequence}
-use Rattle.gr_sequencer.specs.Known.{AreLeft, IsKnown}
-use Rattle.gr_sequencer.proofs.GroupSteps.{group_unspent, left_behind, meets_true}
+use Rattle.gr_sequencer.specs.Known.{AreSnapshots, IsKnown}
+use Rattle.gr_sequencer.proofs.GroupSteps.{group_unspent, snapshots_behind, meets_true}
 use Rattle.gr_sequencer.proofs.sequencer.Sequencer.meet.Goals as goal
 
 pub meet-requires-clause-free : goal.meet-requires-clause-free
@@ -25,8 +25,8 @@ invariant_of-self-2 g c =
     let lawful = c.in-Some.ensures.sequence.lawful in
     let meets = c.in_ok-meet.ensures.meets met.mark met.meeting.convergent in
     let clocks = meets_true q.taken q.handled c.args.group k known.clocks prefixes lawful known_is.clocks met.mark met.meeting new.handled met.barriers met.are met.order c.meet.new.self.clocks met.mark.global met.mark.local refl refl meets in
-    let left = left_behind q.taken q.handled c.args.group k known.clocks prefixes lawful known_is.clocks met.mark met.meeting new.handled met.barriers met.are met.order c.meet.new.self.left (subst (AreLeft q.taken q.handled) (sym c.in_ok-meet.ensures.left) known_is.left) in
-    subst (λ s. IsKnown s new.handled c.meet.new.self) (sym step.taken) (record { clocks = clocks; left = left })
+    let snapshots = snapshots_behind q.taken q.handled c.args.group k known.clocks prefixes lawful known_is.clocks met.mark met.meeting new.handled met.barriers met.are met.order c.meet.new.self.snapshots (subst (AreSnapshots q.taken q.handled) (sym c.in_ok-meet.ensures.snapshots) known_is.snapshots) in
+    subst (λ s. IsKnown s new.handled c.meet.new.self) (sym step.taken) (record { clocks = clocks; snapshots = snapshots })
 
 pub returns-clause-step : goal.returns-clause-step
 returns-clause-step g c =

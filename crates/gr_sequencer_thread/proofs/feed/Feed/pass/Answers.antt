@@ -50,7 +50,7 @@ invariant_of-self-in-Err-Access g c =
     let back : c.push.new.self ≡ o = search rules in
     let kept : set outlets k c.push.new.self ≡ outlets = ap (set outlets k) (back ∙ at) ∙ set-get_or outlets k o in
     let same : c.in-Err-Access.access ≡ x = search rules in
-    let way : option_map clocked c.self.inside.in_flight ≡ Some (clocked c.in-Err-Access.access) = ap (option_map clocked) (let is : c.self.inside.in_flight ≡ Some x = search rules in is) ∙ ap (λ a. Some (clocked a)) (sym same) in
+    let in_flight : option_map clocked c.self.inside.in_flight ≡ Some (clocked c.in-Err-Access.access) = ap (option_map clocked) (let is : c.self.inside.in_flight ≡ Some x = search rules in is) ∙ ap (λ a. Some (clocked a)) (sym same) in
     subst (λ (gs : List (Giver g.row.A.Denot)). IsFeed (record { config = c.self.inside.config; sequence = c.self.inside.sequencer; takers = c.self.inside.inlets.items; givers = gs; in_flight = Some (clocked c.in-Err-Access.access); failed = c.self.inside.failed })) (sym kept)
     (subst (λ (w : Option ClockedAccess). IsFeed {A = g.row.A.Denot} (record { config = c.self.inside.config; sequence = c.self.inside.sequencer; takers = c.self.inside.inlets.items; givers = outlets; in_flight = w; failed = c.self.inside.failed })) in_flight c.self.invariant)
 

@@ -38,7 +38,7 @@ of-requires g c =
     let whole : c.self.inside.failed ≡ false → IsFeedWhole (record { config = config; sequence = seq; takers = takers; givers = now; in_flight = None; failed = false }) = λ f.
     let good = c.self.invariant.good f in
     let over : IsOver c.args.self = c.requires.over (sym (ap (λ (u : Feed g.row.A.Denot). u.failed) c.self.view_is) ∙ f) in
-    let way : option_map clocked c.self.inside.in_flight ≡ None = ap (λ (u : Feed g.row.A.Denot). u.in_flight) c.self.view_is ∙ over.in_flight in
+    let in_flight : option_map clocked c.self.inside.in_flight ≡ None = ap (λ (u : Feed g.row.A.Denot). u.in_flight) c.self.view_is ∙ over.in_flight in
     record {
       good = record {
         sequence = good.sequence;

@@ -21,8 +21,8 @@ returns-clause-rest g c =
     let resting : IsTrue c.is_idle.result = search rules in
     let empty : AreEmpty w.intakes = subst (λ (v : World). AreEmpty v.intakes) (sym c.self.view_is) (c.is_drained.ensures.0 drained) in
     let idle : AreIdle w.workers = subst (λ (v : World). AreIdle v.workers) (sym c.self.view_is) (c.is_idle.ensures.0 resting) in
-    let way : w.in_flight ≡ None = no_in_flight c.self.inside.in_flight (search rules) in (
-      λ yes. let both = c.at_end.ensures.ended.0 yes in subst IsWorldAtRest c.self.view_is (rests w c.self.invariant empty idle way both.0 both.1),
+    let in_flight : w.in_flight ≡ None = no_in_flight c.self.inside.in_flight (search rules) in (
+      λ yes. let both = c.at_end.ensures.ended.0 yes in subst IsWorldAtRest c.self.view_is (rests w c.self.invariant empty idle in_flight both.0 both.1),
       λ at. let rest : IsWorldAtRest w = subst IsWorldAtRest (sym c.self.view_is) at in c.at_end.ensures.ended.1 (taken_closed w c.self.invariant rest, rest.rest),
     )
 

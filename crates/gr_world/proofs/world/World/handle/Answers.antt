@@ -2,7 +2,7 @@ use Rattle.std.proofs.Common.{◌≡◌, ℕ, IsTrue, List, None, rules, subst, 
 use Rattle.std.specs.Option.{option_map}
 use Rattle.gr_model.specs.Shapes.{HasItem}
 use Rattle.gr_shadow.specs.Clashes.{clocked}
-use Rattle.gr_sequencer.specs.Answers.{IsOfItem, IsWorldStep as IsSequencerStep}
+use Rattle.gr_sequencer.specs.Answers.{IsOfItem, IsStep as IsSequencerStep}
 use Rattle.gr_sequencer.specs.declared.handled.Handled.TheVariants.{One}
 use Rattle.gr_world.specs.declared.step.Step.TheVariants.{Handle}
 use Rattle.gr_world.specs.Steps.{IsWorldStep}

@@ -1,7 +1,7 @@
 use Rattle.std.proofs.Common.{◌<◌, ℕ, length, rules, subst}
 use Rattle.std.specs.Prelude.{IfErr}
 use Rattle.gr_order.specs.Sequences.{MeetsInstance}
-use Rattle.gr_sequencer.specs.Answers.{IsOfGroup, IsWorldStep as IsSequencerStep}
+use Rattle.gr_sequencer.specs.Answers.{IsOfGroup, IsStep as IsSequencerStep}
 use Rattle.gr_sequencer.specs.declared.handled.Handled.{Handled}
 use Rattle.gr_sequencer.specs.declared.handled.Handled.TheVariants.{One, Meet as Met}
 use Rattle.gr_order.specs.Sequences.{Sequence}

@@ -18,7 +18,7 @@ invariant_of-self-2 g c =
     let w : World = world_of c.self.inside.config c.self.inside.sent c.self.inside.intakes.items c.self.inside.sequencer c.self.inside.in_flight c.self.inside.workers.items in
     let x : ClockedAccess = clocked c.in-Some-take.access in
     let same : c.in-Some.access ≡ c.in-Some-take.access = same_Some c.in-Some.access c.in-Some-take.access (sym c.in-Some.is ∙ (sym c.take.ensures.value ∙ c.in-Some-take.is)) in
-    let way : w.in_flight ≡ Some x = ap (option_map clocked) (sym c.take.ensures.value ∙ c.in-Some-take.is) in
+    let in_flight : w.in_flight ≡ Some x = ap (option_map clocked) (sym c.take.ensures.value ∙ c.in-Some-take.is) in
     let number : c.from.result ≡ worker_of w x =
     c.from.ensures ∙ (c.worker_of-number.ensures ∙ (ap (worker_number c.in-Some.access.word) c.workers.ensures.number ∙ ap (λ (a : Access _). worker_number a.word c.self.inside.config.workers) same)) in
     let there : worker_of w x < length c.self.inside.workers.items = let lt = worker_there w c.self.invariant x in omega (arith, lt, c.self.invariant.worker_count) in
@@ -28,14 +28,14 @@ invariant_of-self-2 g c =
     let workers : new.workers ≡ set c.self.inside.workers.items (worker_of w x) (queueing (work_at w (worker_of w x)) x) =
     ap (λ n. set c.self.inside.workers.items n c.push.new.self) number ∙ ap (set c.self.inside.workers.items (worker_of w x)) (c.push.ensures ∙ ap (λ (k : Work). queueing k x) now) in
     let is : new ≡ passing w x = λ k. record { config = w.config; sent = w.sent; intakes = w.intakes; sequence = w.sequence; in_flight = option_map clocked (c.take.ensures.after k); workers = workers k } in
-    subst IsWorld (sym is) (passing_is_world w c.self.invariant x way)
+    subst IsWorld (sym is) (passing_is_world w c.self.invariant x in_flight)
 
 pub returns-clause-step : goal.returns-clause-step
 returns-clause-step g c =
     let w : World = world_of c.self.inside.config c.self.inside.sent c.self.inside.intakes.items c.self.inside.sequencer c.self.inside.in_flight c.self.inside.workers.items in
     let x : ClockedAccess = clocked c.in-Some-take.access in
     let same : c.in-Some.access ≡ c.in-Some-take.access = same_Some c.in-Some.access c.in-Some-take.access (sym c.in-Some.is ∙ (sym c.take.ensures.value ∙ c.in-Some-take.is)) in
-    let way : w.in_flight ≡ Some x = ap (option_map clocked) (sym c.take.ensures.value ∙ c.in-Some-take.is) in
+    let in_flight : w.in_flight ≡ Some x = ap (option_map clocked) (sym c.take.ensures.value ∙ c.in-Some-take.is) in
     let number : c.from.result ≡ worker_of w x =
     c.from.ensures ∙ (c.worker_of-number.ensures ∙ (ap (worker_number c.in-Some.access.word) c.workers.ensures.number ∙ ap (λ (a : Access _). worker_number a.word c.self.inside.config.workers) same)) in
     let there : worker_of w x < length c.self.inside.workers.items = let lt = worker_there w c.self.invariant x in omega (arith, lt, c.self.invariant.worker_count) in
@@ -47,4 +47,4 @@ returns-clause-step g c =
     let is : new ≡ passing w x = λ k. record { config = w.config; sent = w.sent; intakes = w.intakes; sequence = w.sequence; in_flight = option_map clocked (c.take.ensures.after k); workers = workers k } in
     let found : IsTrue c.has_room.result = search rules in
     let room : HasRoom (work_at w (worker_of w x)).queue = subst (λ (k : Work). HasRoom k.queue) now (c.has_room.ensures.0 found) in
-    subst (λ (v : World). IsWorldStep v Pass new) c.self.view_is (passed_is_step w x new way room is)
+    subst (λ (v : World). IsWorldStep v Pass new) c.self.view_is (passed_is_step w x new in_flight room is)

@@ -3,7 +3,7 @@ use Rattle.gr_order.specs.declared.steps.Ready.TheVariants.{Item}
 use Rattle.gr_order.specs.Answers.{CanMake}
 use Rattle.gr_agenda.proofs.KeptLemmas.{kept_looked}
 use Rattle.gr_agenda.proofs.ListLemmas.{one_last}
-use Rattle.gr_agenda.proofs.agenda.Agenda.look.Goals as goal
+use Rattle.gr_agenda.proofs.agenda.Agenda.try_last.Goals as goal
 
 pub invariant_of-self : goal.invariant_of-self
 invariant_of-self g c =
@@ -19,7 +19,7 @@ invariant_of-self g c =
     )
 
 pub invariant_of-self-in-Err : goal.invariant_of-self-in-Err
-invariant_of-self-in-Err g c = (record { ready = λ r can. c.miss.ensures r; waits = λ d n held. inl (c.miss.ensures (Item d.at)) }, c.mark_undiverged.ensures c.self.invariant.1)
+invariant_of-self-in-Err g c = (record { ready = λ r can. c.note_shortage.ensures r; waits = λ d n held. inl (c.note_shortage.ensures (Item d.at)) }, c.mark_undiverged.ensures c.self.invariant.1)
 
 pub mark_undiverged-requires : goal.mark_undiverged-requires
 mark_undiverged-requires g c can = true≢false (sym (c.can_make.ensures.1 (subst (λ p. CanMake p c.in-Some.step) c.self.view_is can)) ∙ c.if-can_make.false)
