@@ -24,7 +24,7 @@ use Rattle.gr_clocks.specs.Counts.{Counts, IsJoinOfAll, IsTick, count_of, greate
 use Rattle.gr_clocks.specs.Rows.{same_item}
 use Rattle.gr_clocks.specs.ItemClocks.{Acquires, AreSpent, IsSpent, ItemClocks, ReleaseClock, Ticks, clock_in, clocks_in, clocks_left}
 use Rattle.gr_clocks.proofs.JoinLemmas.{joined_none}
-use Rattle.gr_clocks.proofs.ReleaseLemmas.{acquires_none, snapshots_all, snapshots_counted}
+use Rattle.gr_clocks.proofs.ReleaseLemmas.{acquires_none, left_all as snapshots_all, left_counted as snapshots_counted}
 use Rattle.gr_clocks.proofs.RowLemmas.{same_items, same_item_self}
 use Rattle.gr_closure.specs.Accesses.{CountsJust}
 use Rattle.gr_closure.specs.Knowledge.{Knows, Learns}

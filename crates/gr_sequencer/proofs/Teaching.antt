@@ -20,7 +20,7 @@ use Rattle.gr_steps.specs.Steps.{IsReady}
 use Rattle.gr_steps.proofs.EventRecords.{one_release}
 use Rattle.gr_clocks.specs.Counts.{count_of, greatest_count, sizes_of}
 use Rattle.gr_clocks.specs.ItemClocks.{ReleaseClock, AreOfOneWord, clocks_left}
-use Rattle.gr_clocks.proofs.ReleaseLemmas.{snapshots_elsewhere, snapshots_here}
+use Rattle.gr_clocks.proofs.ReleaseLemmas.{left_elsewhere as snapshots_elsewhere, left_here as snapshots_here}
 use Rattle.gr_closure.specs.Knowledge.{Learns}
 use Rattle.gr_sequencer.specs.Known.{IsSnapshotOf}
 use Rattle.gr_sequencer.specs.Sources.{AreSources, IsSource, LearnsNothing, LearnsBy}
