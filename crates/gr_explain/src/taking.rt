@@ -37,7 +37,7 @@ fn take_list<A: Allocator + Copy>(
 ///
 /// # Errors
 /// `Memory`: out of memory.
-pub(crate) fn take_all<A: Allocator + Copy>(
+pub fn take_all<A: Allocator + Copy>(
     alloc: A,
     traces: &Traces<A>,
 ) -> Result<Order<A>, Memory>
