@@ -1,8 +1,5 @@
 -- What follows of the races of a launch kind by kind.
-use Rattle.std.specs.Prelude.{◌≡◌, ◌≢◌, ◌+◌, ◌-◌, ℕ, List, All, AllPairs, Contains, map}
-use Rattle.std.specs.List.{flat_map}
-use Rattle.gr_model.specs.declared.event.Word.{Word}
-use Rattle.gr_model.specs.declared.event.Word.TheVariants.{Global, Local}
+use Rattle.std.specs.Prelude.{◌≡◌, ◌≢◌, List, All, AllPairs, Contains, map}
 use Rattle.gr_model.specs.declared.race.Race.{Race}
 use Rattle.gr_model.specs.RacePairs.{ArePairedRaces}
 use Rattle.gr_model.specs.Streams.{Streams}

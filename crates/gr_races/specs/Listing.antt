@@ -5,7 +5,7 @@ use Rattle.std.specs.List.{list_any}
 use Rattle.gr_model.specs.declared.race.Race.{Race}
 use Rattle.gr_races.specs.declared.kinds.KindedRace.{KindedRace}
 use Rattle.gr_races.specs.declared.kinds.RaceKind.{RaceKind}
-use Rattle.gr_races.specs.declared.listing.Listed.{Listed}
+use Rattle.gr_races.specs.declared.listing.KindEntry.{KindEntry}
 use Rattle.gr_races.specs.declared.runs.Run.{Run}
 use Rattle.gr_races.specs.Kinds.{same_kind}
 use Rattle.gr_races.specs.Runs.{runs_of}
@@ -36,7 +36,7 @@ pub record Entry : Type 0 where
 abbrev pub entry : List KindedRace → RaceKind → Entry
 entry rows k = record { kind = k; races = races_in rows k; runs = runs_of (map (λ r. r.word) (races_in rows k)) }
 
-abbrev pub entry_of : {Z : Type 0} → Listed Z → Entry
+abbrev pub entry_of : {Z : Type 0} → KindEntry Z → Entry
 entry_of l = record { kind = l.kind; races = l.races.items; runs = l.runs.items }
 
 -- the races kind by kind

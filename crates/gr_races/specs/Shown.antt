@@ -15,11 +15,11 @@ use Rattle.gr_races.specs.Listing.{Entry, entries}
 use Rattle.gr_races.specs.RacesText.{races_text}
 
 -- the racy words of a launch, each with a racing pair, kind by kind, and how many there are
-pub record AreListedRaces (s : Streams) (listed : List Entry) (count : ℕ) : Type 0 where
+pub record AreListedRaces (s : Streams) (by_kind : List Entry) (count : ℕ) : Type 0 where
   pub races : List Race
   pub exact : ArePairedRaces s races
-  pub listed : listed ≡ entries (all_kinded s races)
-  pub count : count ≡ length races
+  pub listed : by_kind ≡ entries (all_kinded s races)
+  pub counted : count ≡ length races
 
 -- the inputs, where they are known, are the streams of a launch; the text of its races is written whole; and it is said whether a word is racy
 pub record AreRacesShown (known : Option (List (List ℕ))) (most : Option ℕ) (found : Bool) (old new : Option (List ℕ)) : Type 0 where

@@ -1,7 +1,8 @@
 //! The races of a launch, kind by kind.
 
 ghost use Rattle.std.specs.Prelude.{◌≡◌, IfOk, OnOk, map};
-ghost use Rattle.gr_races.specs.Kinds.{all_kinded};
+ghost use Rattle.std.specs.List.{list_any};
+ghost use Rattle.gr_races.specs.Kinds.{all_kinded, same_kind};
 ghost use Rattle.gr_races.specs.Listing as spec;
 
 use crate::kinds::{KindedRace, RaceKind, kinded};
@@ -14,7 +15,7 @@ use std::alloc::{Allocator, Global};
 /// The races of one kind.
 #[derive(Drop)]
 #[derive_where(Debug)]
-pub struct Listed<A: Allocator = Global> {
+pub struct KindEntry<A: Allocator = Global> {
     /// The kind.
     pub kind: RaceKind,
     /// The races, by their words ascending.
@@ -41,11 +42,18 @@ pub(crate) fn all_kinded<A: Allocator + Copy>(
     Ok(rows)
 }
 
+/// Whether a kind is one of these.
+fn has_kind(kinds: &[RaceKind], kind: RaceKind) -> bool
+    ensures { result ≡ list_any (λ l. same_kind l kind) kinds.now }
+{
+    kinds.iter().any(|kept| *kept == kind)
+}
+
 /// Keeps a kind if it is a new one.
 fn keep_kind<A: Allocator>(kinds: &mut Vec<RaceKind, A>, kind: RaceKind) -> Result<(), Memory>
     ensures { OnOk result (kinds.new.items ≡ spec.with_kind kinds.old.items kind) }
 {
-    if !kinds.iter().any(|kept| *kept == kind) {
+    if !has_kind(kinds, kind) {
         kinds.push(kind)?;
     }
     Ok(())
@@ -88,16 +96,16 @@ fn races_in<A: Allocator>(
 ///
 /// # Errors
 /// `Memory`: out of memory.
-fn listed<A: Allocator + Copy>(
+fn entry_of_kind<A: Allocator + Copy>(
     alloc: A,
     rows: &[KindedRace],
     kind: RaceKind,
-) -> Result<Listed<A>, Memory>
+) -> Result<KindEntry<A>, Memory>
     ensures { IfOk result (λ entry. spec.entry_of entry ≡ spec.entry rows.now kind) }
 {
     let races = races_in(alloc, rows, kind)?;
     let runs = runs_of(alloc, &races)?;
-    Ok(Listed { kind, races, runs })
+    Ok(KindEntry { kind, races, runs })
 }
 
 /// The races kind by kind, in the order in which the first of each comes.
@@ -107,13 +115,13 @@ fn listed<A: Allocator + Copy>(
 pub(crate) fn list_kinds<A: Allocator + Copy>(
     alloc: A,
     rows: &[KindedRace],
-) -> Result<Vec<Listed<A>, A>, Memory>
+) -> Result<Vec<KindEntry<A>, A>, Memory>
     ensures { IfOk result (λ entries. map spec.entry_of entries.items ≡ spec.entries rows.now) }
 {
     let kinds = kinds_of(alloc, rows)?;
     let mut entries = Vec::new(alloc);
     for kind in &kinds {
-        entries.push(listed(alloc, rows, *kind)?)?;
+        entries.push(entry_of_kind(alloc, rows, *kind)?)?;
     }
     Ok(entries)
 }

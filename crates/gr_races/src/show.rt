@@ -9,7 +9,7 @@ ghost use Rattle.gr_races.specs.Listing.{entry_of};
 ghost use Rattle.gr_races.specs.Shown.{AreListedRaces, AreRacesShown, ShowsRacesPrefix};
 ghost use Rattle.gr_show.specs.Shown.{IsShowFault};
 
-use crate::listing::{Listed, all_kinded, list_kinds};
+use crate::listing::{KindEntry, all_kinded, list_kinds};
 use crate::text::write_races;
 use gr_explain::records::Records;
 use gr_explain::taking::take_all;
@@ -28,7 +28,7 @@ use std::io::{Read, Write};
 fn races_by_kind<A: Allocator + Copy>(
     alloc: A,
     traces: &Traces<A>,
-) -> Result<(Vec<Listed<A>, A>, usize), Memory>
+) -> Result<(Vec<KindEntry<A>, A>, usize), Memory>
     ensures { IfOk result (λ found. AreListedRaces traces.now (map entry_of found.0.items) found.1) }
 {
     let found = detect_races(alloc, traces)?;

@@ -8,7 +8,7 @@ ghost use Rattle.gr_races.specs.Listing.{entry_of};
 ghost use Rattle.gr_races.specs.RacesText as spec;
 
 use crate::kinds::{Operation, RaceKind};
-use crate::listing::Listed;
+use crate::listing::KindEntry;
 use crate::runs::{Run, number_of};
 use gr_model::event::Space;
 use gr_model::race::Race;
@@ -98,7 +98,7 @@ fn put_first<W: Write>(writer: &mut W, races: &[Race]) -> Result<(), WriteFault>
     }
 }
 
-fn put_entry<A: Allocator, W: Write>(writer: &mut W, entry: &Listed<A>) -> Result<(), WriteFault>
+fn put_entry<A: Allocator, W: Write>(writer: &mut W, entry: &KindEntry<A>) -> Result<(), WriteFault>
     ensures { Puts (W.contents writer.old) (W.contents writer.new) result (spec.entry_text (entry_of entry.now)) }
 {
     put_kind(writer, entry.kind, entry.races.len())?;
@@ -108,7 +108,7 @@ fn put_entry<A: Allocator, W: Write>(writer: &mut W, entry: &Listed<A>) -> Resul
 
 fn put_entries<A: Allocator, W: Write>(
     writer: &mut W,
-    entries: &[Listed<A>],
+    entries: &[KindEntry<A>],
 ) -> Result<(), WriteFault>
     ensures { Puts (W.contents writer.old) (W.contents writer.new) result (flat_map (λ e. spec.entry_text (entry_of e)) entries.now) }
 {
@@ -127,7 +127,7 @@ fn put_end<W: Write>(writer: &mut W, kinds: usize, races: usize) -> Result<(), W
 }
 
 /// The first entries, at most this many.
-fn at_most<A: Allocator>(entries: &[Listed<A>], most: Option<u32>) -> &[Listed<A>]
+fn at_most<A: Allocator>(entries: &[KindEntry<A>], most: Option<u32>) -> &[KindEntry<A>]
     ensures { result.now ≡ spec.at_most most entries.now }
 {
     match most {
@@ -138,7 +138,7 @@ fn at_most<A: Allocator>(entries: &[Listed<A>], most: Option<u32>) -> &[Listed<A
 
 fn put_races<A: Allocator, W: Write>(
     writer: &mut W,
-    entries: &[Listed<A>],
+    entries: &[KindEntry<A>],
     most: Option<u32>,
     races: usize,
 ) -> Result<(), WriteFault>
@@ -155,7 +155,7 @@ fn put_races<A: Allocator, W: Write>(
 /// `WriteFault` if the writer fails, which has then taken a prefix of the text.
 pub(crate) fn write_races<A: Allocator, W: Write>(
     writer: &mut W,
-    entries: &[Listed<A>],
+    entries: &[KindEntry<A>],
     most: Option<u32>,
     races: usize,
 ) -> Result<(), WriteFault>

@@ -1,0 +1,1 @@
+-- Each race of a launch has a kind.
