@@ -2,12 +2,13 @@
 use Rattle.std.proofs.Common.{◌≡◌, ◌≤◌, ℕ, List, [], ◌∷◌, ◌++◌, Option, None, Some, Ok, ap, codes, drop, length, map, refl, slice_get, sym, take, ◌∙◌}
 use Rattle.std.specs.List.{flat_map}
 use Rattle.std.proofs.lemmas.List.{append-nil, at_drop_all, take-map}
+use Rattle.std.proofs.lemmas.List.Concat.{flat_map-cons}
 use Rattle.gr_model.specs.declared.race.Race.{Race}
 use Rattle.gr_report.proofs.PuttingLemmas.{Prefix}
 use Rattle.gr_report.specs.Putting.{Puts}
 use Rattle.gr_show.specs.Explanations.{pair_text}
 use Rattle.gr_races.specs.declared.listing.KindEntry.{KindEntry}
-use Rattle.gr_races.specs.Listing.{Entry, entry_of}
+use Rattle.gr_races.specs.Listing.{entry_of}
 use Rattle.gr_races.specs.RacesText.{at_most, entry_text, first_line}
 
 -- the lines of a list are written where no element is left
@@ -21,7 +22,11 @@ first_told [] r is = cc
 first_told (x ∷ races) r is = let same : x ≡ r = cc in ap (λ (r : Race). pair_text r.word r.first r.second ++ codes "\n") same
 
 flat_map_of : {X Y : Type 0} (f : Y → List ℕ) (h : X → Y) (xs : List X) → flat_map (λ x. f (h x)) xs ≡ flat_map f (map h xs)
-flat_map_of f h xs = ?
+flat_map_of f h [] = refl
+flat_map_of f h (x ∷ xs) =
+    flat_map-cons (λ x. f (h x)) x xs
+    ∙ ap (λ (v : List ℕ). f (h x) ++ v) (flat_map_of f h xs)
+    ∙ sym (flat_map-cons f (h x) (map h xs))
 
 -- the text of entries is that of what they are in contracts
 pub entries_told : {Z : Type 0} (most : Option ℕ) (entries : List (KindEntry Z)) → flat_map (λ e. entry_text (entry_of e)) (at_most most entries) ≡ flat_map entry_text (at_most most (map entry_of entries))

@@ -1,6 +1,6 @@
 -- Kinds of races.
 -- Source: docs/FORMATS.md, "Races". They are this project's own.
-use Rattle.std.specs.Prelude.{◌≡◌, Bool, ◌==◌, Option, None, Some, option_and_then, option_map, List}
+use Rattle.std.specs.Prelude.{Bool, ◌==◌, Option, None, Some, option_and_then, option_map, List}
 use Rattle.std.specs.List.{filter_map}
 use Rattle.gr_model.specs.Access.{memory_of}
 use Rattle.gr_model.specs.declared.event.EventId.{EventId}

@@ -1,6 +1,6 @@
 -- Races kind by kind.
 -- Source: docs/FORMATS.md, "Races".
-use Rattle.std.specs.Prelude.{◌≡◌, Bool, if◌then◌else◌, List, [], ◌∷◌, ◌++◌, filter, map}
+use Rattle.std.specs.Prelude.{if◌then◌else◌, List, [], ◌∷◌, ◌++◌, filter, map}
 use Rattle.std.specs.List.{list_any}
 use Rattle.gr_model.specs.declared.race.Race.{Race}
 use Rattle.gr_races.specs.declared.kinds.KindedRace.{KindedRace}

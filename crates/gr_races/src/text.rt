@@ -101,9 +101,10 @@ fn put_first<W: Write>(writer: &mut W, races: &[Race]) -> Result<(), WriteFault>
 fn put_entry<A: Allocator, W: Write>(writer: &mut W, entry: &KindEntry<A>) -> Result<(), WriteFault>
     ensures { Puts (W.contents writer.old) (W.contents writer.new) result (spec.entry_text (entry_of entry.now)) }
 {
-    put_kind(writer, entry.kind, entry.races.len())?;
-    put_words(writer, &entry.runs)?;
-    put_first(writer, &entry.races)
+    let races = entry.races.as_slice();
+    put_kind(writer, entry.kind, races.len())?;
+    put_words(writer, entry.runs.as_slice())?;
+    put_first(writer, races)
 }
 
 fn put_entries<A: Allocator, W: Write>(

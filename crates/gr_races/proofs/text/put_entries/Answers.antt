@@ -1,4 +1,4 @@
-use Rattle.std.proofs.Common.{subst}
+use Rattle.std.proofs.Common.{Err, Ok, subst}
 use Rattle.gr_report.specs.Putting.{Puts}
 use Rattle.gr_report.proofs.PuttingLemmas.{puts_err, lines_start, lines_next, lines_fail}
 use Rattle.gr_races.specs.declared.listing.KindEntry.{KindEntry}
@@ -12,12 +12,12 @@ loop-entry-init g c = lines_start (λ e. entry_text (entry_of e)) c.args.entries
 
 pub loop-entry-preserved : goal.loop-entry-preserved
 loop-entry-preserved g c =
-    let line = subst (λ (e : KindEntry g.row.A.Denot). Puts (g.W.Write.contents c.loop-entry.writer) (g.W.Write.contents c.put_entry.new.writer) _ (entry_text (entry_of e))) c.entry-item.is c.in_ok-put_entry.ensures in
+    let line = subst (λ (e : KindEntry g.row.A.Denot). Puts (g.W.Write.contents c.loop-entry.writer) (g.W.Write.contents c.put_entry.new.writer) (Ok c.in_ok-put_entry.field-0) (entry_text (entry_of e))) c.entry-item.is c.in_ok-put_entry.ensures in
     lines_next (λ e. entry_text (entry_of e)) c.args.entries.now c.loop-entry.entry-index c.entry-item.result _ _ _ _ c.loop-entry.invariant _ c.loop-entry-test.true line
 
 pub returns-in_err-put_entry : goal.returns-in_err-put_entry
 returns-in_err-put_entry g c =
-    let line = subst (λ (e : KindEntry g.row.A.Denot). Puts (g.W.Write.contents c.loop-entry.writer) (g.W.Write.contents c.put_entry.new.writer) _ (entry_text (entry_of e))) c.entry-item.is c.in_err-put_entry.ensures in
+    let line = subst (λ (e : KindEntry g.row.A.Denot). Puts (g.W.Write.contents c.loop-entry.writer) (g.W.Write.contents c.put_entry.new.writer) (Err c.in_err-put_entry.field-0.0) (entry_text (entry_of e))) c.entry-item.is c.in_err-put_entry.ensures in
     puts_err _ c.from_residual.ensures.0 (lines_fail (λ e. entry_text (entry_of e)) c.args.entries.now c.loop-entry.entry-index c.entry-item.result _ _ _ _ c.loop-entry.invariant _ c.loop-entry-test.true line)
 
 pub returns : goal.returns

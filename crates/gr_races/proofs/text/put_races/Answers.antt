@@ -1,4 +1,4 @@
-use Rattle.std.proofs.Common.{ap, length, map, sym, ◌∙◌}
+use Rattle.std.proofs.Common.{ap, length, map, ◌∙◌}
 use Rattle.std.specs.List.{flat_map}
 use Rattle.std.proofs.lemmas.List.{length-map}
 use Rattle.gr_report.proofs.PuttingLemmas.{puts_then, puts_more, puts_err}
@@ -17,4 +17,4 @@ pub returns : goal.returns
 returns g c =
     let entries = c.args.entries.now in
     let told = ap (flat_map (λ e. entry_text (entry_of e))) c.at_most.ensures ∙ entries_told c.args.most entries in
-    puts_then (rw told at c.in_ok-put_entries.ensures) (rw (length-map entries entry_of) ?)
+    puts_then (rw told at c.in_ok-put_entries.ensures) (rw (length-map entries entry_of) c.put_end.ensures)

@@ -1,6 +1,5 @@
-use Rattle.std.proofs.Common.{◌==◌, codes, decimal, eqb-true, sym, ap, ◌∙◌}
+use Rattle.std.proofs.Common.{◌==◌, eqb-true, sym, ◌∙◌}
 use Rattle.std.proofs.lemmas.Bool.{false_from_ne_true}
-use Rattle.gr_report.specs.Putting.{field}
 use Rattle.gr_report.proofs.PuttingLemmas.{puts_then, puts_more, puts_err}
 use Rattle.gr_races.specs.Runs.{number_of}
 use Rattle.gr_races.proofs.text.put_run.Goals as goal
