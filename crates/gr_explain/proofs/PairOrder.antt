@@ -4,8 +4,8 @@ use Rattle.std.proofs.lemmas.Bool.{cases_lt}
 use Rattle.gr_model.specs.declared.event.EventId.{EventId}
 use Rattle.gr_model.specs.Reports.{EventBelow}
 use Rattle.gr_model.proofs.Cuts.{same_event}
-use Rattle.gr_explain.specs.LeastRaces.{IsLeast, IsLeastOf, Pair, PairBelow}
-use Rattle.gr_explain.specs.Turning.{IsTurned}
+use Rattle.gr_model.specs.RacePairs.{IsTurned, Pair}
+use Rattle.gr_explain.specs.LeastRaces.{IsLeast, IsLeastOf, PairBelow}
 
 -- ---- events
 

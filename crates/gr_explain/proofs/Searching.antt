@@ -13,27 +13,12 @@ use Rattle.gr_model.specs.Streams.{Streams, word_at}
 use Rattle.gr_model.specs.Waits.{IsGrounded}
 use Rattle.gr_model.proofs.Descent.{below_before, lawful_descends}
 use Rattle.gr_model.proofs.HitsAreRaces.{conflicts_swap}
-use Rattle.gr_explain.specs.LeastRaces.{IsLeastOf, IsLeastRace, IsRacePair, Pair}
+use Rattle.gr_model.proofs.RacePairLaws.{both_grounded, of_race, race_of, race_swap}
+use Rattle.gr_explain.specs.LeastRaces.{IsLeastOf, IsLeastRace}
 use Rattle.gr_explain.specs.Searching.{IsFound, StandsBefore}
 use Rattle.gr_explain.specs.Edges.{AreFollowers, Has}
-use Rattle.gr_explain.specs.Turning.{IsTurned}
+use Rattle.gr_model.specs.RacePairs.{IsRacePair, IsTurned, Pair}
 use Rattle.gr_explain.proofs.PairOrder.{either_way, one_turn}
-
-pub race_swap : (s : Streams) (w : Word) (e f : EventId) → IsRace s w e f → IsRace s w f e
-race_swap s w e f race = record { conflict = conflicts_swap race.conflict; not_before = race.not_after; not_after = race.not_before }
-
--- a race of a pair is one of its events as they stand
-race_of : (s : Streams) (w : Word) (e f : EventId) (pair : Pair) → IsTurned e f pair → IsRace s w pair.0 pair.1 → IsRace s w e f
-race_of s w e f pair (inl is) race = subst (λ (p : Pair). IsRace s w p.0 p.1) is race
-race_of s w e f pair (inr is) race = race_swap s w f e (subst (λ (p : Pair). IsRace s w p.0 p.1) is race)
-
-of_race : (s : Streams) (w : Word) (e f : EventId) (pair : Pair) → IsTurned e f pair → IsRace s w e f → IsRace s w pair.0 pair.1
-of_race s w e f pair (inl is) race = subst (λ (p : Pair). IsRace s w p.0 p.1) (sym is) race
-of_race s w e f pair (inr is) race = subst (λ (p : Pair). IsRace s w p.0 p.1) (sym is) (race_swap s w e f race)
-
-both_grounded : (s : Streams) (e f : EventId) (pair : Pair) → IsTurned e f pair → IsGrounded s e → IsGrounded s f → IsGrounded s pair.0 × IsGrounded s pair.1
-both_grounded s e f pair (inl is) a b = subst (λ (p : Pair). IsGrounded s p.0 × IsGrounded s p.1) (sym is) (a, b)
-both_grounded s e f pair (inr is) a b = subst (λ (p : Pair). IsGrounded s p.0 × IsGrounded s p.1) (sym is) (b, a)
 
 module _ (s : Streams) (w : Word) (order : List EventId) (lawful : IsLawful s order) where
   at_one : (n : ℕ) (f g : EventId) → IsAt order n f → IsAt order n g → g ≡ f

@@ -1,23 +1,10 @@
 -- The least racing pair of a word.
 -- Source: docs/MODEL.md, "Races" and "The report". The order of pairs is this project's own.
 use Rattle.std.specs.Prelude.{◌≡◌, ◌⊎◌, Option, None, Some}
-use Rattle.gr_model.specs.declared.event.EventId.{EventId}
 use Rattle.gr_model.specs.declared.event.Word.{Word}
-use Rattle.gr_model.specs.Races.{IsRace}
+use Rattle.gr_model.specs.RacePairs.{IsRacePair, Pair}
 use Rattle.gr_model.specs.Reports.{EventBelow}
 use Rattle.gr_model.specs.Streams.{Streams}
-use Rattle.gr_model.specs.Waits.{IsGrounded}
-
--- two events, in their order
-abbrev pub Pair : Type 0
-Pair = EventId × EventId
-
--- two grounded events, the smaller one first, that are a race on the word
-pub record IsRacePair (s : Streams) (w : Word) (pair : Pair) : Type 0 where
-  pub below : EventBelow pair.0 pair.1
-  pub first : IsGrounded s pair.0
-  pub second : IsGrounded s pair.1
-  pub race : IsRace s w pair.0 pair.1
 
 -- by the first event, and then by the second
 abbrev pub PairBelow : Pair → Pair → Type 0

@@ -2,4 +2,3 @@ pub mod LeastRaces
 pub mod Searching
 pub mod Taking
 pub mod Edges
-pub mod Turning

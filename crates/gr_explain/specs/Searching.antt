@@ -4,8 +4,7 @@ use Rattle.gr_model.specs.declared.event.EventId.{EventId}
 use Rattle.gr_model.specs.declared.event.Word.{Word}
 use Rattle.gr_model.specs.LawfulOrders.{IsAt}
 use Rattle.gr_model.specs.Streams.{Streams}
-use Rattle.gr_explain.specs.LeastRaces.{IsRacePair, Pair}
-use Rattle.gr_explain.specs.Turning.{IsTurned}
+use Rattle.gr_model.specs.RacePairs.{IsRacePair, IsTurned, Pair}
 
 -- one event of the pair stands in the order, and the other behind it: the first at a place below p, or at p with the other below q
 pub record StandsBefore (order : List EventId) (p q : ℕ) (pair : Pair) : Type 0 where

@@ -14,5 +14,5 @@ mod listing;
 mod pairs;
 mod races;
 mod reached;
-mod records;
-mod taking;
+pub mod records;
+pub mod taking;

@@ -1,31 +1,10 @@
-//! Pairs of events in their order: by the first event, and then by the second.
+//! Pairs of events by their first event, and then by their second.
 
 ghost use Rattle.std.specs.Prelude.{◌≡◌, ◌≢◌, ◌⊎◌, ◌↔◌, IsTrue, MatchOption, Some};
-ghost use Rattle.gr_model.specs.Reports.{EventBelow};
 ghost use Rattle.gr_explain.specs.LeastRaces.{PairBelow};
-ghost use Rattle.gr_explain.specs.Turning.{IsTurned};
 
 use gr_model::event::EventId;
-
-/// Whether an event comes before another by their items and their indices.
-fn is_below(first: EventId, second: EventId) -> bool
-    ensures { IsTrue result ↔ EventBelow first second }
-{
-    first < second
-}
-
-/// Two different events, the smaller one first.
-pub(crate) fn turned(first: EventId, second: EventId) -> (EventId, EventId)
-    requires { first ≢ second }
-    ensures below { EventBelow result.0 result.1 }
-    ensures same { IsTurned first second result }
-{
-    if is_below(first, second) {
-        (first, second)
-    } else {
-        (second, first)
-    }
-}
+use gr_model::race::is_below;
 
 /// Whether a pair comes before another.
 fn is_pair_below(pair: (EventId, EventId), other: (EventId, EventId)) -> bool

@@ -3,19 +3,21 @@
 ghost use Rattle.std.specs.Prelude.{◌≡◌, ◌+◌, ◌<◌, Some, IfOk, length, slice_get};
 ghost use Rattle.gr_model.specs.Access as model;
 ghost use Rattle.gr_model.specs.LawfulOrders.{IsAt, IsLawful, IsWholeOrder};
+ghost use Rattle.gr_model.specs.RacePairs.{IsRacePair};
 ghost use Rattle.gr_model.specs.Streams.{ArePrefixes};
-ghost use Rattle.gr_explain.specs.LeastRaces.{IsLeastOf, IsRacePair};
+ghost use Rattle.gr_explain.specs.LeastRaces.{IsLeastOf};
 ghost use Rattle.gr_explain.specs.Searching.{IsFound};
 ghost use Rattle.gr_explain.specs.Edges.{AreFollowers};
 
 use crate::conflict::{access_to, are_conflicting};
 use crate::followers::followers;
-use crate::pairs::{lesser, turned};
+use crate::pairs::lesser;
 use crate::reached::Reached;
 use crate::records::Records;
 use gr_clocks::clocks::memory_of;
 use gr_model::event::{EventId, Word};
 use gr_model::memory::Memory;
+use gr_model::race::turned;
 use std::alloc::Allocator;
 
 /// The lesser of the least racing pair of a word so far and the least one of an event with a later event of the order.

@@ -17,7 +17,7 @@ use std::marker::Model;
 /// All records of a launch. Contracts see its streams.
 #[derive(Drop)]
 #[derive_where(Debug)]
-pub(crate) struct Records<A: Allocator = Global> {
+pub struct Records<A: Allocator = Global> {
     order: Order<A>,
 }
 
@@ -34,7 +34,7 @@ impl<A: Allocator> Model for Records<A> {
 
 impl<A: Allocator> Records<A> {
     /// The records that were taken, of which none was handled.
-    pub(crate) fn of(order: Order<A>) -> Records<A>
+    pub fn of(order: Order<A>) -> Records<A>
         requires { order.handled ≡ [] }
         ensures { result ≡ order.taken }
     {
@@ -42,7 +42,7 @@ impl<A: Allocator> Records<A> {
     }
 
     /// The record of an event, or `None` where there is none of this index.
-    pub(crate) fn event_at(&self, event: EventId) -> Option<Event>
+    pub fn event_at(&self, event: EventId) -> Option<Event>
         ensures { result ≡ model.event_at self.now event }
     {
         self.order.windows().waiting(event.at, event.index)

@@ -13,7 +13,7 @@ use Rattle.gr_model.specs.Access.{inclusive, memory_of, modifies, same_scope, sc
 use Rattle.gr_model.specs.HappensBefore.{HappensBefore}
 use Rattle.gr_model.specs.Hits.{SomePair}
 use Rattle.gr_model.specs.LawfulOrders.{IsAt, IsLawful}
-use Rattle.gr_model.specs.Races.{Clashes, Conflicts, IsRacy}
+use Rattle.gr_model.specs.Races.{Clashes, Conflicts, IsRace, IsRacy}
 use Rattle.gr_model.specs.Streams.{Streams}
 use Rattle.gr_model.proofs.Descent.{below_before, lawful_descends}
 
@@ -47,16 +47,17 @@ conflicts_swap {e = e} {f = f} c = record {
   apart = inclusive_swap c.second.kind f.at.group c.first.kind e.at.group ∙ c.apart;
 }
 
-pub hit_is_race : (s : Streams) (order : List EventId) (w : Word) → IsLawful s order → SomePair (Clashes s w) order → IsRacy s (λ e. (p : ℕ) × IsAt order p e) w
-hit_is_race s order w lawful hit =
-    let h = hit in
-    let e = h.2 in
-    let f = h.3 in
+-- where a later event of a lawful order clashes with an earlier one the two are a race
+pub clash_is_race : (s : Streams) (order : List EventId) (w : Word) (p q : ℕ) (e f : EventId) → IsLawful s order → p < q → IsAt order p e → IsAt order q f → Clashes s w e f → IsRace s w e f
+clash_is_race s order w p q e f lawful lt at_e at_f clash =
     let not_after : ¬ HappensBefore s (memory_of w) f e = λ b.
-    let lower = below_before s (IsAt order) (lawful_descends s order lawful) (memory_of w) f e b h.0 h.5 in
-    let same : lower.0 ≡ h.1 = lawful.once lower.0 h.1 f lower.2 h.6 in
-    omega (arith, lower.1, h.4, same) in
-    (e, f, (h.0, h.5), (h.1, h.6), record { conflict = h.7.conflict; not_before = h.7.not_before; not_after = not_after })
+    let lower = below_before s (IsAt order) (lawful_descends s order lawful) (memory_of w) f e b p at_e in
+    let same : lower.0 ≡ q = lawful.once lower.0 q f lower.2 at_f in
+    omega (arith, lower.1, lt, same) in
+    record { conflict = clash.conflict; not_before = clash.not_before; not_after = not_after }
+
+pub hit_is_race : (s : Streams) (order : List EventId) (w : Word) → IsLawful s order → SomePair (Clashes s w) order → IsRacy s (λ e. (p : ℕ) × IsAt order p e) w
+hit_is_race s order w lawful h = (h.2, h.3, (h.0, h.5), (h.1, h.6), clash_is_race s order w h.0 h.1 h.2 h.3 lawful h.4 h.5 h.6 h.7)
 
 pub race_is_hit : (s : Streams) (order : List EventId) (w : Word) → IsRacy s (λ e. (p : ℕ) × IsAt order p e) w → SomePair (Clashes s w) order
 race_is_hit s order w r =

@@ -16,3 +16,4 @@ pub mod WordLemmas
 pub mod Sending
 pub mod Causes
 pub mod StreamPrefixes
+pub mod RacePairLaws

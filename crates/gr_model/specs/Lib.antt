@@ -15,4 +15,5 @@ pub mod Races
 pub mod Counts
 pub mod Hits
 pub mod Reports
+pub mod RacePairs
 pub mod Laws

@@ -8,6 +8,7 @@ pub mod laws;
 pub mod limits;
 pub mod memory;
 pub mod names;
+pub mod race;
 pub mod report;
 pub mod shape;
 pub mod traces;

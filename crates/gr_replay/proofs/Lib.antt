@@ -6,3 +6,4 @@ pub mod EventLists
 pub mod StepLemmas
 pub mod Reporting
 pub mod Apart
+pub mod Pairing

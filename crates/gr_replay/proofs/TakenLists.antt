@@ -1,11 +1,9 @@
 -- What a sequencer has taken of a launch, list after list.
-use Rattle.std.proofs.Common.{◌≡◌, ℕ, zero, suc, ◌+◌, ◌<◌, ◌≤◌, List, [], ◌∷◌, ◌++◌, length, map, None, get_or, set, take, drop, IsTrue, refl, sym, ap, ◌∙◌, subst, ⊎_elim, arith, eq-or-lt_of_le}
+use Rattle.std.proofs.Common.{◌≡◌, ℕ, zero, suc, ◌+◌, ◌<◌, ◌≤◌, List, [], ◌∷◌, ◌++◌, length, map, get_or, set, take, drop, IsTrue, refl, sym, ap, ◌∙◌, subst, ⊎_elim, arith, eq-or-lt_of_le}
 use Rattle.std.proofs.lemmas.Bool.{cases_lt}
 use Rattle.std.proofs.lemmas.List.{ext_get_or, get_or-set_other, get_or-map, get_or-set_same, length-map, length-set, length-take-le, set-get_or, take_more, get_or_past, length-drop, take-append-drop}
 use Rattle.std.proofs.lemmas.Option.{slice_get-get_or}
 use Rattle.gr_model.specs.declared.event.Event.{Event}
-use Rattle.gr_model.specs.declared.event.Kind.TheVariants.{Read}
-use Rattle.gr_model.specs.declared.event.Space.TheVariants.{Global}
 use Rattle.gr_model.specs.declared.limits.TheConstants.{MOST_RECORDS}
 use Rattle.gr_model.specs.Streams.{Streams, AreAccepted, IsAccepted, list_of, size_of, IsPrefix, is_complete}
 use Rattle.gr_model.proofs.StreamPrefixes.{prefix_whole}

@@ -5,3 +5,4 @@ pub mod Sequencing
 pub mod Replays
 pub mod Laws
 pub mod Each
+pub mod Races

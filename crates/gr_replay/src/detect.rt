@@ -1,7 +1,8 @@
-//! The report of a launch.
+//! The report of a launch, and its races.
 
 ghost use Rattle.std.specs.Prelude.{◌≡◌, IfOk, length};
 ghost use Rattle.std.specs.List.{sum_by};
+ghost use Rattle.gr_model.specs.RacePairs.{ArePairedRaces};
 ghost use Rattle.gr_model.specs.Reports.{IsReportOf};
 ghost use Rattle.gr_model.specs.Streams.{AreAccepted, ArePrefixes};
 ghost use Rattle.gr_order.specs.Sequences.{IsDone, IsSequence};
@@ -10,15 +11,17 @@ ghost use Rattle.gr_replay.specs.Sequencing.{AreShadowsOf};
 ghost use Rattle.gr_report.specs.Whole.{whole_of};
 
 use crate::launch::Launch;
+use crate::races::races_of;
 use crate::taking::{take_streams, take_traces};
 use gr_model::memory::Memory;
+use gr_model::race::Race;
 use gr_model::shape::Shape;
 use gr_model::traces::Traces;
 use gr_report::report::Report;
 use gr_report::rows::Rows;
 use gr_sequencer::sequencer::Sequencer;
 use gr_shadow::shadows::Shadows;
-use std::alloc::Allocator;
+use std::alloc::{Allocator, Global};
 
 /// How many records were taken of so many groups, which are all; ends are among them.
 fn records_of<A: Allocator>(sequencer: &Sequencer<A>, groups: u16) -> u64
@@ -64,6 +67,35 @@ fn report_of<A: Allocator + Copy>(
     })
 }
 
+/// What is found of a launch: its report, and of each racy word two events that race on it.
+#[derive(Drop)]
+#[derive_where(Debug)]
+pub struct Detection<A: Allocator = Global> {
+    /// The report.
+    pub report: Report<A>,
+    /// The racy words, ascending, each with a racing pair.
+    pub races: Vec<Race, A>,
+}
+
+/// A sequencer that took all records of a launch and handled all that can be handled, and the shadows of the accesses.
+///
+/// # Errors
+/// `Memory`: out of memory.
+fn handled<A: Allocator + Copy>(
+    alloc: A,
+    traces: &Traces<A>,
+) -> Result<(Sequencer<A>, Shadows<A>), Memory>
+    ensures taken { IfOk result (λ run. run.0.taken ≡ traces.now) }
+    ensures done { IfOk result (λ run. IsDone run.0) }
+    ensures sequence { IfOk result (λ run. IsSequence run.0) }
+    ensures shadows { IfOk result (λ run. AreShadowsOf run.0 run.1) }
+{
+    let mut sequencer = Sequencer::new(alloc, traces.shape().copy()?)?;
+    let mut shadows = Shadows::new(alloc);
+    take_traces(&mut sequencer, &mut shadows, traces)?;
+    Ok((sequencer, shadows))
+}
+
 /// The report of a launch.
 ///
 /// # Errors
@@ -71,10 +103,25 @@ fn report_of<A: Allocator + Copy>(
 pub fn detect<A: Allocator + Copy>(alloc: A, traces: &Traces<A>) -> Result<Report<A>, Memory>
     ensures { IfOk result (λ report. IsReportOf traces.now (whole_of report)) }
 {
-    let mut sequencer = Sequencer::new(alloc, traces.shape().copy()?)?;
-    let mut shadows = Shadows::new(alloc);
-    take_traces(&mut sequencer, &mut shadows, traces)?;
+    let (sequencer, shadows) = handled(alloc, traces)?;
     report_of(&sequencer, &shadows, traces.shape())
+}
+
+/// The report of a launch, and of each racy word two events that race on it.
+///
+/// # Errors
+/// `Memory` where a list can't be made.
+pub fn detect_races<A: Allocator + Copy>(
+    alloc: A,
+    traces: &Traces<A>,
+) -> Result<Detection<A>, Memory>
+    ensures report { IfOk result (λ found. IsReportOf traces.now (whole_of found.report)) }
+    ensures races { IfOk result (λ found. ArePairedRaces traces.now found.races.items) }
+{
+    let (sequencer, shadows) = handled(alloc, traces)?;
+    let report = report_of(&sequencer, &shadows, traces.shape())?;
+    let races = races_of(alloc, &shadows)?;
+    Ok(Detection { report, races })
 }
 
 /// The report of the launch that streams are of.

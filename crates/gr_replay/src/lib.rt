@@ -7,6 +7,7 @@ mod handling;
 pub mod joined;
 pub mod launch;
 pub mod laws;
+mod races;
 pub mod records;
 mod run;
 mod taking;

@@ -1,15 +1,16 @@
 -- What is kept of a list of touches tells the same clashes.
-use Rattle.std.proofs.Common.{◌≡◌, ◌⊎◌, ℕ, zero, suc, ◌<◌, ◌≤◌, Bool, true, false, ◌&&◌, ◌||◌, List, [], ◌∷◌, ◌++◌, Contains, length, get_or, slice_set, refl, sym, ap, ◌∙◌, subst, inl, inr, ⊎_elim, true≢false, append_assoc, arith}
+use Rattle.std.proofs.Common.{◌≡◌, ◌⊎◌, ℕ, zero, suc, ◌<◌, ◌≤◌, Bool, true, false, ◌&&◌, ◌||◌, List, [], ◌∷◌, ◌++◌, Contains, Option, Some, None, cond, is_some, length, drop, ◌+◌, get_or, slice_set, refl, sym, ap, ◌∙◌, subst, inl, inr, ⊎_elim, true≢false, append_assoc, arith}
 use Rattle.std.specs.Prelude.{not, nat_lt}
-use Rattle.std.specs.List.{list_any, All}
+use Rattle.std.specs.List.{list_any, All, find}
 use Rattle.std.specs.Bool.{MatchBool}
 use Rattle.std.specs.List.Retain.{DedupsFrom, IsDeduped}
 use Rattle.std.specs.List.Sorted.{IsPermutation}
 use Rattle.std.proofs.lemmas.Bool.{and_parts, and_from}
 use Rattle.std.proofs.lemmas.List.Sorted.{Contains-permutation, IsPermutation-sym}
 use Rattle.std.proofs.lemmas.Bool.Decides.{nat_tests}
-use Rattle.std.proofs.lemmas.List.{append-nil}
-use Rattle.std.proofs.lemmas.List.Folds.{list_any-append, list_any_at}
+use Rattle.std.specs.Option.{option_or}
+use Rattle.std.proofs.lemmas.List.{append-nil, drop_all, drop_more}
+use Rattle.std.proofs.lemmas.List.Folds.{find-append, list_any_at}
 use Rattle.std.proofs.lemmas.List.Elements.{All-contains, All-contains_itself, All-weaker, Contains-append_left, Contains-append_right, Contains-append_cases, Contains-push, Contains-push_cases}
 use Rattle.gr_scopes.specs.declared.class.Class.{Class}
 use Rattle.gr_scopes.specs.declared.class.Class.TheVariants.{PlainRead, PlainWrite, GroupRead, GroupModify, DeviceRead, DeviceModify}
@@ -22,8 +23,11 @@ use Rattle.gr_shadow.specs.Keeps.{touch_clashes, is_unseen, IsInPlaceOf, Keeps, 
 
 -- ---- elements of which a test holds
 
-Contains-first : {X : Type 0} (x : X) (xs : List X) → Contains (x ∷ xs) x
+pub Contains-first : {X : Type 0} (x : X) (xs : List X) → Contains (x ∷ xs) x
 Contains-first x xs = Contains-append_left (x ∷ []) xs x (Contains-push [] x)
+
+pub Contains-rest : {X : Type 0} (x : X) (xs : List X) (z : X) → Contains xs z → Contains (x ∷ xs) z
+Contains-rest x xs z there = Contains-append_right (x ∷ []) xs z there
 
 found : {X : Type 0} (f : X → Bool) (xs : List X) → list_any f xs ≡ true → (x : X) × Contains xs x × (f x ≡ true)
 found f [] h = absurd (true≢false (sym h))
@@ -40,6 +44,34 @@ same_answer : (b c : Bool) → (b ≡ true → c ≡ true) → (c ≡ true → b
 same_answer true c to from = sym (to refl)
 same_answer false true to from = from refl
 same_answer false false to from = refl
+
+-- ---- the first element of which a test holds
+
+find_same : {X : Type 0} (f g : X → Bool) (xs : List X) → ((x : X) → Contains xs x → f x ≡ g x) → find f xs ≡ find g xs
+find_same f g [] same = refl
+find_same f g (x ∷ xs) same =
+    ap (λ b. cond b (Some x) (find f xs)) (same x (Contains-first x xs)) ∙ ap (λ o. cond (g x) (Some x) o) (find_same f g xs (λ z there. same z (Contains-rest x xs z there)))
+
+find_none : {X : Type 0} (f : X → Bool) (xs : List X) → ((x : X) → Contains xs x → f x ≡ false) → find f xs ≡ None
+find_none f [] none = refl
+find_none f (x ∷ xs) none =
+    ap (λ b. cond b (Some x) (find f xs)) (none x (Contains-first x xs)) ∙ find_none f xs (λ z there. none z (Contains-rest x xs z there))
+
+pub find_told : {X : Type 0} (f : X → Bool) (xs : List X) → list_any f xs ≡ is_some (find f xs)
+find_told f [] = refl
+find_told f (x ∷ xs) = here (f x) (find_told f xs)
+  where
+    here : (b : Bool) → list_any f xs ≡ is_some (find f xs) → (b || list_any f xs) ≡ is_some (cond b (Some x) (find f xs))
+    here true rest = refl
+    here false rest = rest
+
+pub find_is : {X : Type 0} (f : X → Bool) (xs : List X) (x : X) → find f xs ≡ Some x → Contains xs x × (f x ≡ true)
+find_is f [] x is = cc
+find_is f (y ∷ xs) x is = here (f y) refl is (find_is f xs x)
+  where
+    here : (b : Bool) → f y ≡ b → cond b (Some y) (find f xs) ≡ Some x → (find f xs ≡ Some x → Contains xs x × (f x ≡ true)) → Contains (y ∷ xs) x × (f x ≡ true)
+    here true holds is later = let same : y ≡ x = cc in (subst (λ z. Contains (y ∷ xs) z) same (Contains-first y xs), subst (λ z. f z ≡ true) same holds)
+    here false holds is later = let rest = later is in (Contains-rest y xs x rest.0, rest.1)
 
 -- ---- what is kept tells the same clashes
 
@@ -175,12 +207,23 @@ pub Keeps-push : (lists : List TouchList) (new : TouchList) (x : List Touch) →
 Keeps-push [] new x k = rw append-nil k
 Keeps-push (l ∷ lists) new x k = Keeps-second l.touches _ (all_touches lists) x (Keeps-push lists new x k)
 
-pub any_of_lists : (f : Touch → Bool) (lists : List TouchList) → list_any (λ l. list_any f l.touches) lists ≡ list_any f (all_touches lists)
-any_of_lists f [] = refl
-any_of_lists f (l ∷ lists) = ap (λ b. list_any f l.touches || b) (any_of_lists f lists) ∙ sym (list_any-append f l.touches (all_touches lists))
+-- what is found behind the first lists
+unfold_at : (f : Touch → Bool) (lists : List TouchList) (k : ℕ) (l : TouchList) → k < length lists → l ≡ get_or lists k l → find f (all_touches (drop k lists)) ≡ option_or (find f l.touches) (find f (all_touches (drop (k + 1) lists)))
+unfold_at f lists k l lt is =
+    ap (λ ls. find f (all_touches ls)) (drop_more lists k l lt)
+    ∙ ap (λ (m : TouchList). find f (m.touches ++ all_touches (drop (k + 1) lists))) (sym is)
+    ∙ find-append f l.touches (all_touches (drop (k + 1) lists))
 
-pub any_of_both : (f : Touch → Bool) (few : List Touch) (lists : List TouchList) → list_any f (few ++ all_touches lists) ≡ (list_any f few || list_any (λ l. list_any f l.touches) lists)
-any_of_both f few lists = rw (list_any-append f few (all_touches lists), any_of_lists f lists) refl
+pub found_here : (f : Touch → Bool) (lists : List TouchList) (k : ℕ) (l : TouchList) (o : Option Touch) → k < length lists → l ≡ get_or lists k l → find f l.touches ≡ o → is_some o ≡ true → find f (all_touches (drop k lists)) ≡ o
+found_here f lists k l None lt is found some = absurd (true≢false (sym some))
+found_here f lists k l (Some t) lt is found some = unfold_at f lists k l lt is ∙ ap (λ o. option_or o (find f (all_touches (drop (k + 1) lists)))) found
+
+pub found_later : (f : Touch → Bool) (lists : List TouchList) (k : ℕ) (l : TouchList) (o : Option Touch) → k < length lists → l ≡ get_or lists k l → find f l.touches ≡ o → is_some o ≡ false → find f (all_touches (drop k lists)) ≡ find f (all_touches (drop (k + 1) lists))
+found_later f lists k l (Some t) lt is found none = absurd (true≢false none)
+found_later f lists k l None lt is found none = unfold_at f lists k l lt is ∙ ap (λ o. option_or o (find f (all_touches (drop (k + 1) lists)))) found
+
+pub found_nowhere : (f : Touch → Bool) (lists : List TouchList) (k : ℕ) → length lists ≤ k → find f (all_touches (drop k lists)) ≡ None
+found_nowhere f lists k all = ap (λ ls. find f (all_touches ls)) (drop_all k lists all)
 
 -- ---- touches of one class
 
@@ -210,21 +253,9 @@ touch_told y c g t of =
     let same : exempt t.class t.item.group y.class y.item.group ≡ exempt c g y.class y.item.group = exempt_by_kept_group t.class t.item.group y.class y.item.group ∙ ap (λ h. exempt t.class h y.class y.item.group) of.apart ∙ ap (λ d. exempt d g y.class y.item.group) of.same in
     regrouped (same_item t.item y.item) (exempt t.class t.item.group y.class y.item.group) (nat_lt t.index (count_of y.clock t.item)) ∙ ap (λ e. not e && is_unseen y t) same
 
--- an access clashes with touches of one class where it is not exempt with them, and has not seen one of them
-pub class_told : (y : ClockedAccess) (c : Class) (g : ℕ) (ts : List Touch) → All (IsOfClass c g) ts → (not (exempt c g y.class y.item.group) && list_any (is_unseen y) ts) ≡ list_any (touch_clashes y) ts
-class_told y c g ts of = same_answer _ _ to from
-  where
-    each : (t : Touch) → Contains ts t → touch_clashes y t ≡ (not (exempt c g y.class y.item.group) && is_unseen y t)
-    each t there = touch_told y c g t (All-contains (IsOfClass c g) ts t of there)
+-- of touches of one class an access clashes with none where it is exempt with them, and else with those that it has not seen
+pub class_exempt : (y : ClockedAccess) (c : Class) (g : ℕ) (ts : List Touch) → All (IsOfClass c g) ts → exempt c g y.class y.item.group ≡ true → find (touch_clashes y) ts ≡ None
+class_exempt y c g ts of is = find_none (touch_clashes y) ts (λ t there. touch_told y c g t (All-contains (IsOfClass c g) ts t of there) ∙ ap (λ e. not e && is_unseen y t) is)
 
-    to : (not (exempt c g y.class y.item.group) && list_any (is_unseen y) ts) ≡ true → list_any (touch_clashes y) ts ≡ true
-    to h =
-        let parts = and_parts (not (exempt c g y.class y.item.group)) (list_any (is_unseen y) ts) h in
-        let t = found (is_unseen y) ts parts.1 in
-        finds (touch_clashes y) ts t.0 t.1 (each t.0 t.1 ∙ and_from _ _ parts.0 t.2)
-
-    from : list_any (touch_clashes y) ts ≡ true → (not (exempt c g y.class y.item.group) && list_any (is_unseen y) ts) ≡ true
-    from h =
-        let t = found (touch_clashes y) ts h in
-        let parts = and_parts (not (exempt c g y.class y.item.group)) (is_unseen y t.0) (sym (each t.0 t.1) ∙ t.2) in
-        and_from _ _ parts.0 (finds (is_unseen y) ts t.0 t.1 parts.1)
+pub class_finds : (y : ClockedAccess) (c : Class) (g : ℕ) (ts : List Touch) → All (IsOfClass c g) ts → exempt c g y.class y.item.group ≡ false → find (touch_clashes y) ts ≡ find (is_unseen y) ts
+class_finds y c g ts of is = find_same (touch_clashes y) (is_unseen y) ts (λ t there. touch_told y c g t (All-contains (IsOfClass c g) ts t of there) ∙ ap (λ e. not e && is_unseen y t) is)

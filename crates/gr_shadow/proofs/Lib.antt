@@ -2,3 +2,4 @@ pub mod KeepsLemmas
 pub mod HitLemmas
 pub mod ShadowLemmas
 pub mod MapLemmas
+pub mod ListingLemmas

@@ -38,7 +38,7 @@ after_insert entries old y t new same absent after update =
 
 -- ---- the words that were answered
 
-Contains-some : {X : Type 0} (xs : List X) (w : X) → Contains xs w ↔ SomeOf (λ x. x ≡ w) xs
+pub Contains-some : {X : Type 0} (xs : List X) (w : X) → Contains xs w ↔ SomeOf (λ x. x ≡ w) xs
 Contains-some xs w = (
   λ h. SomeOf-at (λ x. x ≡ w) xs h.0 w (Contains-at xs w h) refl,
   λ h. let p = SomeOf-place (λ x. x ≡ w) xs h in (p.0, slice_get_within xs p.0 p.1 p.2, get_or_from_slice_get xs p.0 p.1 w p.2 ∙ p.3),

@@ -1,9 +1,10 @@
 -- When a later access to a word clashes with an earlier one.
 -- Source: docs/MODEL.md, "Hits".
-use Rattle.std.specs.Prelude.{ℕ, Bool, ◌&&◌, not, nat_lt, List}
+use Rattle.std.specs.Prelude.{◌≡◌, ℕ, Bool, ◌&&◌, not, nat_lt, List}
+use Rattle.gr_model.specs.declared.event.EventId.{EventId}
 use Rattle.gr_model.specs.declared.event.ItemId.{ItemId}
 use Rattle.gr_model.specs.declared.event.Word.{Word}
-use Rattle.gr_model.specs.Hits.{IsHit}
+use Rattle.gr_model.specs.Hits.{ClashesAt, IsHit, SomePair}
 use Rattle.gr_scopes.specs.declared.class.Class.{Class}
 use Rattle.gr_scopes.specs.Classes.{exempt}
 use Rattle.gr_clocks.specs.Rows.{same_item}
@@ -21,3 +22,16 @@ clashes x y = clashes_with x.item x.index x.class y
 -- the word is hit in a list of accesses
 abbrev pub IsHitIn : List ClockedAccess → Word → Type 0
 IsHitIn accesses w = IsHit (λ x. x.word) clashes accesses w
+
+abbrev pub event_of : ClockedAccess → EventId
+event_of x = record { at = x.item; index = x.index }
+
+-- y clashes on the word with x, an earlier access, and these are their events
+pub record IsClashOf (w : Word) (e f : EventId) (x y : ClockedAccess) : Type 0 where
+  pub clash : ClashesAt (λ x. x.word) clashes w x y
+  pub earlier : event_of x ≡ e
+  pub later : event_of y ≡ f
+
+-- of two accesses of a list with these events the later one clashes on the word with the earlier one
+abbrev pub IsClashIn : List ClockedAccess → Word → EventId → EventId → Type 0
+IsClashIn accesses w e f = SomePair (IsClashOf w e f) accesses

@@ -2,6 +2,7 @@
 //! with the earlier ones to its word. Nothing here knows of streams, names or barriers.
 #![tactic(auto)]
 
+pub mod clash;
 pub mod laws;
 pub mod merge;
 mod shadow;

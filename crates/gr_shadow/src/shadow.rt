@@ -1,22 +1,25 @@
 //! What is kept of the accesses to one word.
 
-ghost use Rattle.std.specs.Prelude.{◌≡◌, IfOk, OnOk, OnErr, false, ◌++◌, ◌∷◌, []};
+ghost use Rattle.std.specs.Prelude.{◌≡◌, IfOk, OnOk, OnErr, false, true, ◌++◌, ◌∷◌, [], Some};
+ghost use Rattle.std.specs.List.{find};
 ghost use Rattle.gr_clocks.specs.ClockedAccess.{clocked};
-ghost use Rattle.gr_shadow.specs.Keeps.{Keeps};
+ghost use Rattle.gr_shadow.specs.Keeps.{Keeps, touch_clashes, touch_of, touch_event};
 ghost use Rattle.gr_shadow.specs.Kept as spec;
 ghost use Rattle.gr_shadow.specs.Kept.{no_shadow, IsShadowAfter};
 
-use crate::touch::{PLACES, Touch, clashes_in, keep_among};
-use crate::touches::{Touches, clashes_in_lists, put};
+use crate::touch::{PLACES, Touch, clashing_in, keep_among};
+use crate::touches::{Touches, clashing_in_lists, put};
 use arrayvec::ArrayVec;
 use gr_clocks::access::Access;
+use gr_model::event::EventId;
 use gr_model::memory::Memory;
 use std::alloc::{Allocator, Global};
 use std::marker::Model;
 
 /// What is kept of the accesses to one word: whether the word was answered, and where it was not, of each item and
 /// class the touch with the greatest index. The first few items and classes have theirs in the shadow itself, for good,
-/// so nothing is moved when more come; the others have theirs in lists, one for each class.
+/// so nothing is moved when more come; the others have theirs in lists, one for each class. A word that was answered has
+/// the two touches of the clash that answered it, the earlier first, and no lists.
 #[derive(Drop)]
 #[derive_where(Debug)]
 pub(crate) struct Shadow<A: Allocator = Global> {
@@ -28,11 +31,11 @@ pub(crate) struct Shadow<A: Allocator = Global> {
 impl<A: Allocator> Model for Shadow<A> {
     ghost use Rattle.std.specs.Prelude.{◌++◌};
     ghost use Rattle.gr_shadow.specs.Keeps.{all_touches};
-    ghost use Rattle.gr_shadow.specs.Kept.{WordShadow};
+    ghost use Rattle.gr_shadow.specs.Kept.{WordShadow, clash_of};
 
     ghost Value = { WordShadow };
 
-    ghost view = { λ s. record { touches = s.few.items ++ all_touches s.lists.items; answered = s.answered } };
+    ghost view = { λ s. record { touches = s.few.items ++ all_touches s.lists.items; answered = s.answered; clash = clash_of s.answered s.few.items } };
 }
 
 impl<A: Allocator + Copy> Shadow<A> {
@@ -54,11 +57,27 @@ impl<A: Allocator + Copy> Shadow<A> {
         self.answered
     }
 
-    /// Whether an access clashes with one before it.
-    fn clashes(&self, access: &Access<A>) -> bool
-        ensures { result ≡ spec.clashes_before self.now (clocked access.now) }
+    /// The events of the clash that answered the word, the earlier first, or `None` where it was not answered.
+    pub(crate) fn clash(&self) -> Option<(EventId, EventId)>
+        ensures { result ≡ self.now.clash }
     {
-        clashes_in(self.few.as_slice(), access) || clashes_in_lists(&self.lists, access)
+        if !self.answered {
+            return None;
+        }
+        match self.few.as_slice() {
+            [earlier, later, ..] => Some((earlier.event(), later.event())),
+            _ => None,
+        }
+    }
+
+    /// A touch that is kept with which an access clashes.
+    fn clashing(&self, access: &Access<A>) -> Option<Touch>
+        ensures { result ≡ find (touch_clashes (clocked access.now)) self.now.touches }
+    {
+        match clashing_in(self.few.as_slice(), access) {
+            Some(touch) => Some(touch),
+            None => clashing_in_lists(&self.lists, access),
+        }
     }
 
     /// Keeps a touch.
@@ -89,20 +108,29 @@ impl<A: Allocator + Copy> Shadow<A> {
         if self.answered {
             return Ok(false);
         }
-        if self.clashes(access) {
-            *self = Shadow::answered(*self.lists.allocator());
-            return Ok(true);
+        let touch = Touch::of(access);
+        match self.clashing(access) {
+            Some(earlier) => {
+                *self = Shadow::answered(*self.lists.allocator(), earlier, touch);
+                Ok(true)
+            }
+            None => {
+                self.keep(touch)?;
+                Ok(false)
+            }
         }
-        self.keep(Touch::of(access))?;
-        Ok(false)
     }
 
-    /// The shadow of a word that was answered.
-    fn answered(alloc: A) -> Shadow<A>
-        ensures { result ≡ spec.answered_shadow }
+    /// The shadow of a word that was answered by the clash of two touches.
+    fn answered(alloc: A, earlier: Touch, later: Touch) -> Shadow<A>
+        ensures answered { result.answered ≡ true }
+        ensures clash { result.clash ≡ Some (touch_event earlier, touch_event later) }
     {
+        let mut few = ArrayVec::new();
+        few.push(earlier);
+        few.push(later);
         Shadow {
-            few: ArrayVec::new(),
+            few,
             lists: Vec::new(alloc),
             answered: true,
         }

@@ -1,14 +1,14 @@
 //! What is kept of an access.
 
 ghost use Rattle.std.specs.Prelude.{◌≡◌, ◌↔◌, IsTrue, true, false, ◌++◌, ◌∷◌, []};
-ghost use Rattle.std.specs.List.{list_any};
+ghost use Rattle.std.specs.List.{find};
 ghost use Rattle.gr_clocks.specs.ClockedAccess.{clocked};
 ghost use Rattle.gr_shadow.specs.Clashes.{clashes_with};
-ghost use Rattle.gr_shadow.specs.Keeps.{Keeps, touch_of, touch_clashes, is_unseen};
+ghost use Rattle.gr_shadow.specs.Keeps.{Keeps, touch_of, touch_clashes, touch_event, is_unseen};
 
 use arrayvec::ArrayVec;
 use gr_clocks::access::Access;
-use gr_model::event::ItemId;
+use gr_model::event::{EventId, ItemId};
 use gr_scopes::class::{Class, exempt};
 use std::alloc::Allocator;
 
@@ -46,6 +46,16 @@ impl Touch {
             item: access.item,
             index: access.index,
             class: access.class,
+        }
+    }
+
+    /// The event of the access.
+    pub(crate) fn event(&self) -> EventId
+        ensures { result ≡ touch_event self.now }
+    {
+        EventId {
+            at: self.item,
+            index: self.index,
         }
     }
 
@@ -87,11 +97,11 @@ impl Touch {
     }
 }
 
-/// Whether an access clashes with one of these touches.
-pub(crate) fn clashes_in<A: Allocator>(touches: &[Touch], access: &Access<A>) -> bool
-    ensures { result ≡ list_any (touch_clashes (clocked access.now)) touches.now }
+/// The first of these touches with which an access clashes.
+pub(crate) fn clashing_in<A: Allocator>(touches: &[Touch], access: &Access<A>) -> Option<Touch>
+    ensures { result ≡ find (touch_clashes (clocked access.now)) touches.now }
 {
-    touches.iter().any(|touch| touch.clashes(access))
+    touches.iter().copied().find(|touch| touch.clashes(access))
 }
 
 /// Keeps a touch where there is one of its item and class, and tells whether there is.

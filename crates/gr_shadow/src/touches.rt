@@ -1,9 +1,9 @@
 //! What is kept of the accesses of one class to a word.
 
 ghost use Rattle.std.specs.Prelude.{◌≡◌, OnOk, OnErr, ◌++◌, ◌∷◌, [], IsTrue, ◌↔◌};
-ghost use Rattle.std.specs.List.{list_any, All};
+ghost use Rattle.std.specs.List.{All, find};
 ghost use Rattle.gr_clocks.specs.ClockedAccess.{clocked};
-ghost use Rattle.gr_shadow.specs.Keeps.{Keeps, touch_clashes, kept_group, IsOfClass, all_touches, is_unseen, list_clashes};
+ghost use Rattle.gr_shadow.specs.Keeps.{Keeps, touch_clashes, kept_group, IsOfClass, all_touches, is_unseen};
 
 use crate::touch::Touch;
 use gr_clocks::access::Access;
@@ -34,11 +34,14 @@ fn compact<A: Allocator>(touches: &mut Vec<Touch, A>)
     touches.dedup_by(|next, kept| kept.takes(next));
 }
 
-/// Whether a later access is of another item than one of these touches, and its clock does not count that one.
-fn has_unseen<A: Allocator>(touches: &[Touch], access: &Access<A>) -> bool
-    ensures { result ≡ list_any (is_unseen (clocked access.now)) touches.now }
+/// The first of these touches that is of another item than a later access, and that its clock does not count.
+fn unseen_in<A: Allocator>(touches: &[Touch], access: &Access<A>) -> Option<Touch>
+    ensures { result ≡ find (is_unseen (clocked access.now)) touches.now }
 {
-    touches.iter().any(|touch| touch.is_unseen(access))
+    touches
+        .iter()
+        .copied()
+        .find(|touch| touch.is_unseen(access))
 }
 
 /// Touches of one class, and where it has group scope of one group: so all of them are exempt with a later access, or
@@ -85,12 +88,14 @@ impl<A: Allocator> Touches<A> {
         self.class == touch.class && self.group == kept_group(touch.class, touch.item.group)
     }
 
-    /// Whether a later access to the same word clashes with one of these.
-    pub(crate) fn clashes(&self, access: &Access<A>) -> bool
-        ensures { result ≡ list_any (touch_clashes (clocked access.now)) self.now.touches }
+    /// The first of these with which a later access to the same word clashes.
+    pub(crate) fn clashing(&self, access: &Access<A>) -> Option<Touch>
+        ensures { result ≡ find (touch_clashes (clocked access.now)) self.now.touches }
     {
-        !exempt(self.class, self.group, access.class, access.item.group)
-            && has_unseen(&self.touches, access)
+        if exempt(self.class, self.group, access.class, access.item.group) {
+            return None;
+        }
+        unseen_in(&self.touches, access)
     }
 
     /// Keeps a touch.
@@ -109,11 +114,20 @@ impl<A: Allocator> Touches<A> {
     }
 }
 
-/// Whether a later access to the same word clashes with a touch of these lists.
-pub(crate) fn clashes_in_lists<A: Allocator>(lists: &[Touches<A>], access: &Access<A>) -> bool
-    ensures { result ≡ list_any (list_clashes (clocked access.now)) lists.now }
+/// The first touch of these lists with which a later access to the same word clashes.
+pub(crate) fn clashing_in_lists<A: Allocator>(
+    lists: &[Touches<A>],
+    access: &Access<A>,
+) -> Option<Touch>
+    ensures { result ≡ find (touch_clashes (clocked access.now)) (all_touches lists.now) }
 {
-    lists.iter().any(|list| list.clashes(access))
+    for list in lists {
+        let touch = list.clashing(access);
+        if touch.is_some() {
+            return touch;
+        }
+    }
+    None
 }
 
 /// Keeps a touch in the list to which it belongs.

@@ -5,7 +5,7 @@ use Rattle.gr_model.specs.declared.event.EventId.{EventId}
 use Rattle.gr_model.specs.declared.event.Word.{Word}
 use Rattle.gr_model.specs.declared.event.Word.TheVariants.{Global, Local}
 use Rattle.gr_report.specs.Putting.{field}
-use Rattle.gr_explain.specs.LeastRaces.{Pair}
+use Rattle.gr_model.specs.RacePairs.{Pair}
 
 -- a word of memory
 abbrev pub word_text : Word → List ℕ

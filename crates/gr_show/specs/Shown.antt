@@ -10,7 +10,8 @@ use Rattle.gr_record.specs.declared.fault.Fault.{Fault}
 use Rattle.gr_record.specs.declared.fault.Fault.TheVariants as faults
 use Rattle.gr_report.specs.Putting.{AppendsPrefix}
 use Rattle.gr_replay.specs.Each.{IsEachFault, ReadsEach}
-use Rattle.gr_explain.specs.LeastRaces.{IsLeastRace, Pair}
+use Rattle.gr_explain.specs.LeastRaces.{IsLeastRace}
+use Rattle.gr_model.specs.RacePairs.{Pair}
 use Rattle.gr_show.specs.Explanations.{explanation_line}
 
 -- the least racing pair of the word, or none exactly where the word is not racy

@@ -9,7 +9,11 @@ use gr_model::event::{EventId, Word};
 use gr_report::putting::{WriteFault, finish, put, put_field};
 use std::io::Write;
 
-fn put_word<W: Write>(writer: &mut W, word: Word) -> Result<(), WriteFault>
+/// Writes the memory and the number of a word.
+///
+/// # Errors
+/// `WriteFault` if the writer fails.
+pub fn put_word<W: Write>(writer: &mut W, word: Word) -> Result<(), WriteFault>
     ensures { Puts (W.contents writer.old) (W.contents writer.new) result (word_text word) }
 {
     match word {
@@ -29,7 +33,11 @@ fn put_event<W: Write>(writer: &mut W, before: &[u8], event: EventId) -> Result<
     put_field(writer, b" ", event.index)
 }
 
-fn put_pair<W: Write>(
+/// Writes a word and two events that race on it, without the end of the line.
+///
+/// # Errors
+/// `WriteFault` if the writer fails.
+pub fn put_pair<W: Write>(
     writer: &mut W,
     word: Word,
     first: EventId,

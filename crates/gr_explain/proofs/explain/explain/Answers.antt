@@ -5,7 +5,8 @@ use Rattle.gr_model.specs.Races.{IsRacy}
 use Rattle.gr_model.specs.Streams.{ArePrefixes, Streams}
 use Rattle.gr_model.specs.Waits.{IsGrounded}
 use Rattle.gr_order.specs.Sequences.{Sequence}
-use Rattle.gr_explain.specs.LeastRaces.{IsLeastOf, IsLeastRace, IsRacePair}
+use Rattle.gr_explain.specs.LeastRaces.{IsLeastOf, IsLeastRace}
+use Rattle.gr_model.specs.RacePairs.{IsRacePair}
 use Rattle.gr_explain.proofs.Searching.{least_or_none}
 use Rattle.gr_explain.proofs.explain.explain.Goals as goal
 

@@ -4,7 +4,7 @@ use Rattle.gr_model.specs.declared.event.EventId.{EventId}
 use Rattle.gr_model.specs.declared.event.Space.{Space}
 use Rattle.gr_model.specs.Access.{memory_of}
 use Rattle.gr_model.specs.LawfulOrders.{IsAt}
-use Rattle.gr_explain.specs.LeastRaces.{IsRacePair}
+use Rattle.gr_model.specs.RacePairs.{IsRacePair}
 use Rattle.gr_explain.specs.Searching.{IsFound}
 use Rattle.gr_explain.specs.Edges.{AreFollowers}
 use Rattle.gr_explain.proofs.PairOrder.{least_same}

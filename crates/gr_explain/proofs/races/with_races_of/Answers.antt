@@ -1,4 +1,4 @@
-use Rattle.std.proofs.Common.{◌∙◌, ◌+◌, ◌<◌, ◌≤◌, arith, get_or, length, sym, true≢false}
+use Rattle.std.proofs.Common.{◌∙◌, ap, ◌+◌, ◌<◌, ◌≤◌, arith, get_or, length, sym, true≢false}
 use Rattle.std.proofs.lemmas.Option.{slice_get-get_or}
 use Rattle.gr_model.specs.LawfulOrders.{IsAt}
 use Rattle.gr_model.proofs.Descent.{lawful_is_grounded}
@@ -48,11 +48,12 @@ loop-other-preserved g c =
       | then-are_conflicting+then-not-contains w ↦
           let conflict = c.are_conflicting.ensures.0 w.if-are_conflicting.true in
           let x = w.turned.result in
-          let new = new_found s word order lawful p q forwards e f at_p at_q keys are x w.turned.ensures.same w.turned.ensures.below
+          let below = w.turned.ensures.below (λ same. conflict.others (ap (λ d. d.at) same)) in
+          let new = new_found s word order lawful p q forwards e f at_p at_q keys are x w.turned.ensures.same below
           (lawful_is_grounded s order e lawful (p, at_p)) (lawful_is_grounded s order f lawful (q, at_q)) conflict (λ has. true≢false (sym has ∙ (sym w.contains.ensures ∙ w.if-not-contains.true))) in
           rw w.least-is
           (least_more (IsFound s word order p q) (IsFound s word order p (q + 1)) c.loop-other.least x w.lesser.result
-          (still_found s word order lawful p q forwards e f at_p at_q) (found_or_new s word order lawful p q forwards e f at_p at_q keys are x w.turned.ensures.same w.turned.ensures.below) new w.lesser.ensures c.loop-other.invariant)
+          (still_found s word order lawful p q forwards e f at_p at_q) (found_or_new s word order lawful p q forwards e f at_p at_q keys are x w.turned.ensures.same below) new w.lesser.ensures c.loop-other.invariant)
       | else-are_conflicting w ↦
           rw w.least-is
           (least_same (IsFound s word order p q) (IsFound s word order p (q + 1)) c.loop-other.least

@@ -1,0 +1,30 @@
+-- Racing pairs of a word.
+-- Source: docs/MODEL.md, "Races" and "The report". That the smaller event stands first is this project's own.
+use Rattle.std.specs.Prelude.{◌≡◌, ◌⊎◌, List, All, map}
+use Rattle.gr_model.specs.declared.event.EventId.{EventId}
+use Rattle.gr_model.specs.declared.event.Word.{Word}
+use Rattle.gr_model.specs.declared.race.Race.{Race}
+use Rattle.gr_model.specs.Races.{IsRace}
+use Rattle.gr_model.specs.Reports.{AreRaces, EventBelow}
+use Rattle.gr_model.specs.Streams.{Streams}
+use Rattle.gr_model.specs.Waits.{IsGrounded}
+
+-- two events, in their order
+abbrev pub Pair : Type 0
+Pair = EventId × EventId
+
+-- two grounded events, the smaller one first, that are a race on the word
+pub record IsRacePair (s : Streams) (w : Word) (pair : Pair) : Type 0 where
+  pub below : EventBelow pair.0 pair.1
+  pub first : IsGrounded s pair.0
+  pub second : IsGrounded s pair.1
+  pub race : IsRace s w pair.0 pair.1
+
+-- the pair is of these two events
+abbrev pub IsTurned : EventId → EventId → Pair → Type 0
+IsTurned e f pair = (pair ≡ (e, f)) ⊎ (pair ≡ (f, e))
+
+-- the racy words, ascending, each once and with a racing pair
+pub record ArePairedRaces (s : Streams) (races : List Race) : Type 0 where
+  pub words : AreRaces s (map (λ r. r.word) races)
+  pub pairs : All (λ r. IsRacePair s r.word (r.first, r.second)) races

@@ -1,0 +1,125 @@
+-- Each race of a launch has a kind, and it is said whether there is one.
+use Rattle.std.proofs.Common.{◌≡◌, ◌↔◌, ◌<◌, ◌||◌, ℕ, Bool, true, false, List, [], ◌∷◌, ◌++◌, Option, Some, Contains, IsTrue, All, option_and_then, ap, arith, length, map, refl, sym, ◌∙◌, true≢false}
+use Rattle.std.specs.Prelude.{AllPairs, if◌then◌else◌, nat_lt, option_map}
+use Rattle.std.specs.List.{cons_option, list_any}
+use Rattle.std.proofs.lemmas.Bool.{false_from_ne_true, lt-ltb, ltb-true}
+use Rattle.std.proofs.lemmas.List.Elements.{All-cons, All-contains, All-nil, Contains-append_left, Contains-append_right, Contains-push}
+use Rattle.std.proofs.lemmas.List.Folds.{list_any-append, list_any_at}
+use Rattle.std.proofs.lemmas.List.Quantifiers.{all_pairs_push}
+use Rattle.gr_model.specs.Access.{event_word, word_if_access, word_in}
+use Rattle.gr_model.specs.declared.event.Event.{Event}
+use Rattle.gr_model.specs.declared.event.EventId.{EventId}
+use Rattle.gr_model.specs.declared.event.Kind.{Kind}
+use Rattle.gr_model.specs.declared.event.Kind.TheVariants as kinds
+use Rattle.gr_model.specs.declared.event.Word.{Word}
+use Rattle.gr_model.specs.declared.race.Race.{Race}
+use Rattle.gr_model.specs.RacePairs.{ArePairedRaces, IsRacePair}
+use Rattle.gr_model.specs.Races.{IsRacy}
+use Rattle.gr_model.specs.Streams.{Streams, event_at, word_at}
+use Rattle.gr_model.specs.Waits.{IsGrounded}
+use Rattle.gr_races.specs.declared.kinds.KindedRace.{KindedRace}
+use Rattle.gr_races.specs.declared.kinds.Operation.{Operation}
+use Rattle.gr_races.specs.declared.kinds.RaceKind.{RaceKind}
+use Rattle.gr_races.specs.contracts.kinds.RaceKindEq.TheImpl.Laws as equal
+use Rattle.gr_races.specs.Kinds.{all_kinded, kinded, operation_at, operation_of, same_kind, with_operations}
+use Rattle.gr_races.specs.Listing.{kinds_after, kinds_of, with_kind}
+
+-- ---- a launch has a racy word exactly where it has a race
+
+pub race_said : (s : Streams) (races : List Race) (n : ℕ) → ArePairedRaces s races → n ≡ length races → IsTrue (nat_lt 0 n) ↔ ((w : Word) × IsRacy s (IsGrounded s) w)
+race_said s [] n are same = (
+  λ t. let lt : 0 < n = ltb-true 0 n t in absurd (omega (arith, same)),
+  λ racy. let there = (are.words.exact racy.0).1 racy.1 in absurd (omega (arith, there.1)),
+)
+race_said s (r ∷ races) n are same = (
+  λ _. (r.word, (are.words.exact r.word).0 (0, omega arith, refl)),
+  λ _. lt-ltb 0 n (omega (arith, same)),
+)
+
+-- ---- each race has a kind
+
+some_operation : (k : Kind) (v w : Word) → word_if_access k v ≡ Some w → (a : Operation) × (operation_of k ≡ Some a)
+some_operation kinds.Read v w is = (_, refl)
+some_operation kinds.Write v w is = (_, refl)
+some_operation (kinds.Load scope order) v w is = (_, refl)
+some_operation (kinds.Store scope order) v w is = (_, refl)
+some_operation (kinds.Rmw scope order) v w is = (_, refl)
+some_operation (kinds.Barrier global local) v w is = cc
+some_operation (kinds.End cut) v w is = cc
+
+operation_there : (s : Streams) (e : EventId) (x : Event) (w : Word) → event_at s e ≡ Some x → word_at s e ≡ Some w → (a : Operation) × (operation_at s e ≡ Some a)
+operation_there s e x w at word =
+    let said : word_if_access x.kind (word_in x.space e.at.group x.word) ≡ Some w = sym (ap (option_and_then (event_word e.at.group)) at) ∙ word in
+    let is = some_operation x.kind _ w said in
+    (is.0, ap (option_and_then (λ (x : Event). operation_of x.kind)) at ∙ is.1)
+
+kind_there : (s : Streams) (r : Race) → IsRacePair s r.word (r.first, r.second) → (row : KindedRace) × (kinded s r ≡ Some row) × (row.race ≡ r)
+kind_there s r pair =
+    let conflict = pair.race.conflict in
+    let a = operation_there s r.first conflict.first r.word conflict.at_first conflict.word_first in
+    let b = operation_there s r.second conflict.second r.word conflict.at_second conflict.word_second in (
+      with_operations r a.0 b.0,
+      ap (option_and_then (λ (a : Operation). option_map (λ (b : Operation). with_operations r a b) (operation_at s r.second))) a.1 ∙ ap (option_map (λ (b : Operation). with_operations r a.0 b)) b.1,
+      refl,
+    )
+
+all_have_kinds : (s : Streams) (races : List Race) → ((r : Race) → Contains races r → IsRacePair s r.word (r.first, r.second)) → map (λ (row : KindedRace). row.race) (all_kinded s races) ≡ races
+all_have_kinds s [] pairs = refl
+all_have_kinds s (r ∷ races) pairs =
+    let there = kind_there s r (pairs r (Contains-append_left (r ∷ []) races r (Contains-push [] r))) in
+    ap (λ (o : Option KindedRace). map (λ (row : KindedRace). row.race) (cons_option o (all_kinded s races))) there.1
+    ∙ ap (λ (q : Race). q ∷ map (λ (row : KindedRace). row.race) (all_kinded s races)) there.2
+    ∙ ap (λ (rs : List Race). r ∷ rs) (all_have_kinds s races (λ q h. pairs q (Contains-append_right (r ∷ []) races q h)))
+
+pub every_race_has_a_kind : (s : Streams) (races : List Race) → ArePairedRaces s races → map (λ (row : KindedRace). row.race) (all_kinded s races) ≡ races
+every_race_has_a_kind s races are = all_have_kinds s races (λ r there. All-contains (λ (r : Race). IsRacePair s r.word (r.first, r.second)) races r are.pairs there)
+
+-- ---- each kind is listed once
+
+distinct_with : (kinds : List RaceKind) (k : RaceKind) → AllPairs (λ k l. same_kind k l ≡ false) kinds → AllPairs (λ k l. same_kind k l ≡ false) (with_kind kinds k)
+distinct_with kinds k distinct = here (list_any (λ l. same_kind l k) kinds) refl
+  where
+    here : (b : Bool) → list_any (λ l. same_kind l k) kinds ≡ b → AllPairs (λ k l. same_kind k l ≡ false) (if b then kinds else kinds ++ k ∷ [])
+    here true is = distinct
+    here false none = all_pairs_push (λ k l. same_kind k l ≡ false) kinds k distinct (λ i d lt. false_from_ne_true _ (λ t. true≢false (sym (list_any_at (λ l. same_kind l k) kinds i d lt t) ∙ none)))
+
+distinct_after : (kinds : List RaceKind) (rows : List KindedRace) → AllPairs (λ k l. same_kind k l ≡ false) kinds → AllPairs (λ k l. same_kind k l ≡ false) (kinds_after kinds rows)
+distinct_after kinds [] distinct = distinct
+distinct_after kinds (row ∷ rows) distinct = distinct_after (with_kind kinds row.kind) rows (distinct_with kinds row.kind distinct)
+
+-- a kind is one of these
+abbrev pub HasKind : List RaceKind → RaceKind → Type 0
+HasKind kinds k = IsTrue (list_any (λ l. same_kind l k) kinds)
+
+has_more : (kinds : List RaceKind) (k l : RaceKind) → HasKind kinds k → HasKind (kinds ++ l ∷ []) k
+has_more kinds k l has = list_any-append (λ l. same_kind l k) kinds (l ∷ []) ∙ ap (λ b. b || list_any (λ l. same_kind l k) (l ∷ [])) has
+
+has_with : (kinds : List RaceKind) (k l : RaceKind) → HasKind kinds k → HasKind (with_kind kinds l) k
+has_with kinds k l has = here (list_any (λ m. same_kind m l) kinds)
+  where
+    here : (b : Bool) → HasKind (if b then kinds else kinds ++ l ∷ []) k
+    here true = has
+    here false = has_more kinds k l has
+
+has_after : (kinds : List RaceKind) (rows : List KindedRace) (k : RaceKind) → HasKind kinds k → HasKind (kinds_after kinds rows) k
+has_after kinds [] k has = has
+has_after kinds (row ∷ rows) k has = has_after (with_kind kinds row.kind) rows k (has_with kinds k row.kind has)
+
+has_itself : (kinds : List RaceKind) (k : RaceKind) → HasKind (with_kind kinds k) k
+has_itself kinds k = here (list_any (λ m. same_kind m k) kinds) refl
+  where
+    here : (b : Bool) → list_any (λ m. same_kind m k) kinds ≡ b → HasKind (if b then kinds else kinds ++ k ∷ []) k
+    here true is = is
+    here false none =
+        list_any-append (λ l. same_kind l k) kinds (k ∷ [])
+        ∙ ap (λ b. b || list_any (λ l. same_kind l k) (k ∷ [])) none
+        ∙ ap (λ b. b || false) (equal.laws-law.refl k)
+
+each_listed : (kinds : List RaceKind) (rows : List KindedRace) → All (λ (row : KindedRace). HasKind (kinds_after kinds rows) row.kind) rows
+each_listed kinds [] = All-nil (λ (row : KindedRace). HasKind kinds row.kind)
+each_listed kinds (row ∷ rows) =
+    All-cons (λ (other : KindedRace). HasKind (kinds_after kinds (row ∷ rows)) other.kind) row rows
+    (has_after (with_kind kinds row.kind) rows row.kind (has_itself kinds row.kind)) (each_listed (with_kind kinds row.kind) rows)
+
+pub each_race_is_listed_once : (rows : List KindedRace) → AllPairs (λ k l. same_kind k l ≡ false) (kinds_of rows) × All (λ (row : KindedRace). HasKind (kinds_of rows) row.kind) rows
+each_race_is_listed_once rows = (distinct_after [] rows (λ i j d before within. absurd (omega (arith, within))), each_listed [] rows)

@@ -1,0 +1,14 @@
+use Rattle.gr_races.proofs.KindLemmas.{race_said}
+use Rattle.gr_races.proofs.show.show_races.Goals as goal
+
+pub returns-in-Ok-clause-shown : goal.returns-in-Ok-clause-shown
+returns-in-Ok-clause-shown g c =
+    let listed = c.in_ok-entries.ensures in
+    record {
+      launch = c.in_ok-traces.traces;
+      spelled = c.in_ok-traces.ensures.launch;
+      races = listed.races;
+      exact = listed.exact;
+      text = rw (c.deref.ensures.value, listed.listed, listed.counted) at c.in-Ok.ensures.whole;
+      said = race_said c.in_ok-traces.traces listed.races c.in_ok-entries.races listed.exact listed.counted;
+    }

@@ -1,0 +1,90 @@
+//! What kind of race two accesses are.
+
+ghost use Rattle.std.specs.Prelude.{◌≡◌};
+ghost use Rattle.gr_races.specs.Kinds as spec;
+
+use gr_clocks::clocks::memory_of;
+use gr_explain::records::Records;
+use gr_model::event::{EventId, Kind, Space};
+use gr_model::race::Race;
+use std::alloc::Allocator;
+
+/// What an access does, without its scope and its order.
+#[derive(Clone, Copy, Debug, PartialEq, Eq)]
+pub enum Operation {
+    /// A plain read.
+    Read,
+    /// A plain write.
+    Write,
+    /// An atomic load.
+    Load,
+    /// An atomic store.
+    Store,
+    /// An atomic read-modify-write.
+    Rmw,
+}
+
+/// The kind of a race.
+#[derive(Clone, Copy, Debug, PartialEq, Eq)]
+pub struct RaceKind {
+    /// The memory of the word.
+    pub space: Space,
+    /// What the smaller event does.
+    pub first: Operation,
+    /// What the greater event does.
+    pub second: Operation,
+    /// Whether both events are of one work-group.
+    pub one_group: bool,
+}
+
+/// A race and its kind.
+#[derive(Clone, Copy, Debug)]
+pub struct KindedRace {
+    /// The kind.
+    pub kind: RaceKind,
+    /// The race.
+    pub race: Race,
+}
+
+/// What a record of this kind does, or `None` where it is no access.
+fn operation_of(kind: &Kind) -> Option<Operation>
+    ensures { result ≡ spec.operation_of kind.now }
+{
+    match kind {
+        Kind::Read => Some(Operation::Read),
+        Kind::Write => Some(Operation::Write),
+        Kind::Load(_, _) => Some(Operation::Load),
+        Kind::Store(_, _) => Some(Operation::Store),
+        Kind::Rmw(_, _) => Some(Operation::Rmw),
+        Kind::Barrier {
+            global: _,
+            local: _,
+        }
+        | Kind::End { cut: _ } => None,
+    }
+}
+
+/// What an event of a launch does, or `None` where it is not there or is no access.
+fn operation_at<A: Allocator>(records: &Records<A>, event: EventId) -> Option<Operation>
+    ensures { result ≡ spec.operation_at records.now event }
+{
+    let taken = records.event_at(event)?;
+    operation_of(&taken.kind)
+}
+
+/// A race with its kind, or `None` where its events are not two accesses of the launch.
+pub(crate) fn kinded<A: Allocator>(records: &Records<A>, race: &Race) -> Option<KindedRace>
+    ensures { result ≡ spec.kinded records.now race.now }
+{
+    let first = operation_at(records, race.first)?;
+    let second = operation_at(records, race.second)?;
+    Some(KindedRace {
+        kind: RaceKind {
+            space: memory_of(race.word),
+            first,
+            second,
+            one_group: race.first.at.group == race.second.at.group,
+        },
+        race: *race,
+    })
+}

@@ -1,0 +1,9 @@
+//! Laws of kinds and runs. Each is the contract of a function that does nothing.
+
+ghost use Rattle.gr_races.specs.Laws.{EachRaceIsListedOnce, EveryRaceHasAKind};
+
+/// Each race of a launch has a kind, and stands among the races of just that kind.
+pub fn races_are_listed()
+    ensures kinds { EveryRaceHasAKind }
+    ensures once { EachRaceIsListedOnce }
+{}

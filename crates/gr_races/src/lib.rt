@@ -1,0 +1,14 @@
+//! The races of a launch by their kinds: for each kind its words, and of the least of them two events that race on it.
+//!
+//! The text is docs/FORMATS.md, "Races".
+#![tactic(auto)]
+
+pub mod files;
+pub mod kinds;
+pub mod laws;
+pub mod listing;
+pub mod runs;
+mod show;
+pub mod text;
+
+pub use show::show_races;

@@ -1,0 +1,127 @@
+//! The races of a launch, kind by kind.
+
+ghost use Rattle.std.specs.Prelude.{◌≡◌, IfOk, OnOk, map};
+ghost use Rattle.std.specs.List.{list_any};
+ghost use Rattle.gr_races.specs.Kinds.{all_kinded, same_kind};
+ghost use Rattle.gr_races.specs.Listing as spec;
+
+use crate::kinds::{KindedRace, RaceKind, kinded};
+use crate::runs::{Run, runs_of};
+use gr_explain::records::Records;
+use gr_model::memory::Memory;
+use gr_model::race::Race;
+use std::alloc::{Allocator, Global};
+
+/// The races of one kind.
+#[derive(Drop)]
+#[derive_where(Debug)]
+pub struct KindEntry<A: Allocator = Global> {
+    /// The kind.
+    pub kind: RaceKind,
+    /// The races, by their words ascending.
+    pub races: Vec<Race, A>,
+    /// The runs of their words.
+    pub runs: Vec<Run, A>,
+}
+
+/// The races with their kinds.
+///
+/// # Errors
+/// `Memory`: out of memory.
+pub(crate) fn all_kinded<A: Allocator + Copy>(
+    alloc: A,
+    records: &Records<A>,
+    races: &[Race],
+) -> Result<Vec<KindedRace, A>, Memory>
+    ensures { IfOk result (λ rows. rows.items ≡ all_kinded records.now races.now) }
+{
+    let rows = races
+        .iter()
+        .filter_map(|race| kinded(records, race))
+        .collect(alloc)?;
+    Ok(rows)
+}
+
+/// Whether a kind is one of these.
+fn has_kind(kinds: &[RaceKind], kind: RaceKind) -> bool
+    ensures { result ≡ list_any (λ l. same_kind l kind) kinds.now }
+{
+    kinds.iter().any(|kept| *kept == kind)
+}
+
+/// Keeps a kind if it is a new one.
+fn keep_kind<A: Allocator>(kinds: &mut Vec<RaceKind, A>, kind: RaceKind) -> Result<(), Memory>
+    ensures { OnOk result (kinds.new.items ≡ spec.with_kind kinds.old.items kind) }
+{
+    if !has_kind(kinds, kind) {
+        kinds.push(kind)?;
+    }
+    Ok(())
+}
+
+/// The kinds of races, in the order in which the first of each comes.
+///
+/// # Errors
+/// `Memory`: out of memory.
+fn kinds_of<A: Allocator>(alloc: A, rows: &[KindedRace]) -> Result<Vec<RaceKind, A>, Memory>
+    ensures { IfOk result (λ kinds. kinds.items ≡ spec.kinds_of rows.now) }
+{
+    let mut kinds = Vec::new(alloc);
+    for row in rows {
+        keep_kind(&mut kinds, row.kind)?;
+    }
+    Ok(kinds)
+}
+
+/// The races of a kind.
+///
+/// # Errors
+/// `Memory`: out of memory.
+fn races_in<A: Allocator>(
+    alloc: A,
+    rows: &[KindedRace],
+    kind: RaceKind,
+) -> Result<Vec<Race, A>, Memory>
+    ensures { IfOk result (λ races. races.items ≡ spec.races_in rows.now kind) }
+{
+    let races = rows
+        .iter()
+        .filter(|row| row.kind == kind)
+        .map(|row| row.race)
+        .collect(alloc)?;
+    Ok(races)
+}
+
+/// The races of a kind, with their runs.
+///
+/// # Errors
+/// `Memory`: out of memory.
+fn entry_of_kind<A: Allocator + Copy>(
+    alloc: A,
+    rows: &[KindedRace],
+    kind: RaceKind,
+) -> Result<KindEntry<A>, Memory>
+    ensures { IfOk result (λ entry. spec.entry_of entry ≡ spec.entry rows.now kind) }
+{
+    let races = races_in(alloc, rows, kind)?;
+    let runs = runs_of(alloc, &races)?;
+    Ok(KindEntry { kind, races, runs })
+}
+
+/// The races kind by kind, in the order in which the first of each comes.
+///
+/// # Errors
+/// `Memory`: out of memory.
+pub(crate) fn list_kinds<A: Allocator + Copy>(
+    alloc: A,
+    rows: &[KindedRace],
+) -> Result<Vec<KindEntry<A>, A>, Memory>
+    ensures { IfOk result (λ entries. map spec.entry_of entries.items ≡ spec.entries rows.now) }
+{
+    let kinds = kinds_of(alloc, rows)?;
+    let mut entries = Vec::new(alloc);
+    for kind in &kinds {
+        entries.push(entry_of_kind(alloc, rows, *kind)?)?;
+    }
+    Ok(entries)
+}

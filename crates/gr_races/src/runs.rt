@@ -1,0 +1,87 @@
+//! Runs of words with consecutive numbers.
+
+ghost use Rattle.std.specs.Prelude.{◌≡◌, IfOk, map};
+ghost use Rattle.gr_races.specs.Runs as spec;
+
+use gr_model::event::Word;
+use gr_model::memory::Memory;
+use gr_model::race::Race;
+use std::alloc::Allocator;
+
+/// Words of one memory, and if it is local of one work-group, with consecutive numbers.
+#[derive(Clone, Copy, Debug)]
+pub struct Run {
+    /// The first word.
+    pub first: Word,
+    /// The number of the last word.
+    pub last: u32,
+}
+
+/// The number of a word in its memory.
+pub(crate) fn number_of(word: Word) -> u32
+    ensures { result ≡ spec.number_of word }
+{
+    match word {
+        Word::Global(number) => number,
+        Word::Local(_, number) => number,
+    }
+}
+
+impl Run {
+    /// The run of one word.
+    fn of(word: Word) -> Run
+        ensures { result ≡ spec.run_of word }
+    {
+        Run {
+            first: word,
+            last: number_of(word),
+        }
+    }
+
+    /// The run with one word more behind it.
+    fn with(self, word: Word) -> Run
+        ensures { result ≡ spec.with_word self word }
+    {
+        Run {
+            first: self.first,
+            last: number_of(word),
+        }
+    }
+
+    /// Whether a word comes directly behind the run.
+    fn goes_on(self, word: Word) -> bool
+        ensures { result ≡ spec.goes_on self word }
+    {
+        match (self.first, word) {
+            (Word::Global(_), Word::Global(number)) => self.last.checked_add(1) == Some(number),
+            (Word::Local(group, _), Word::Local(other, number)) => {
+                group == other && self.last.checked_add(1) == Some(number)
+            }
+            (Word::Global(_), Word::Local(_, _)) | (Word::Local(_, _), Word::Global(_)) => false,
+        }
+    }
+}
+
+/// The runs of the words of races, in their order.
+///
+/// # Errors
+/// `Memory`: out of memory.
+pub(crate) fn runs_of<A: Allocator>(alloc: A, races: &[Race]) -> Result<Vec<Run, A>, Memory>
+    ensures { IfOk result (λ runs. runs.items ≡ spec.runs_of (map (λ r. r.word) races.now)) }
+{
+    let mut runs = Vec::new(alloc);
+    let Some((first, rest)) = races.split_first() else {
+        return Ok(runs);
+    };
+    let mut run = Run::of(first.word);
+    for race in rest {
+        if run.goes_on(race.word) {
+            run = run.with(race.word);
+        } else {
+            runs.push(run)?;
+            run = Run::of(race.word);
+        }
+    }
+    runs.push(run)?;
+    Ok(runs)
+}

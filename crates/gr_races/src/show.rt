@@ -1,0 +1,66 @@
+//! From the readers of a launch's streams to the text of its races.
+
+ghost use Rattle.std.specs.Prelude.{◌≡◌, ◌≢◌, IfErr, IfOk, IfSome, length, map};
+ghost use Rattle.std.specs.Io.KnownBytes.{Keeps};
+ghost use Rattle.gr_model.specs.RacePairs.{ArePairedRaces};
+ghost use Rattle.gr_record.specs.declared.fault.Fault.TheVariants as faults;
+ghost use Rattle.gr_replay.specs.Each.{all_known};
+ghost use Rattle.gr_races.specs.Listing.{entry_of};
+ghost use Rattle.gr_races.specs.Shown.{AreListedRaces, AreRacesShown, ShowsRacesPrefix};
+ghost use Rattle.gr_show.specs.Shown.{IsShowFault};
+
+use crate::listing::{KindEntry, all_kinded, list_kinds};
+use crate::text::write_races;
+use gr_explain::records::Records;
+use gr_explain::taking::take_all;
+use gr_model::memory::Memory;
+use gr_model::traces::Traces;
+use gr_record::fault::Fault;
+use gr_replay::detect::detect_races;
+use gr_replay::read_each;
+use std::alloc::Allocator;
+use std::io::{Read, Write};
+
+/// The races of a launch kind by kind, and how many there are.
+///
+/// # Errors
+/// `Memory`: out of memory.
+fn races_by_kind<A: Allocator + Copy>(
+    alloc: A,
+    traces: &Traces<A>,
+) -> Result<(Vec<KindEntry<A>, A>, usize), Memory>
+    ensures { IfOk result (λ found. AreListedRaces traces.now (map entry_of found.0.items) found.1) }
+{
+    let found = detect_races(alloc, traces)?;
+    let records = Records::of(take_all(alloc, traces)?);
+    let rows = all_kinded(alloc, &records, &found.races)?;
+    Ok((list_kinds(alloc, &rows)?, found.races.len()))
+}
+
+/// Reads the streams of a launch, one from each reader, writes its races kind by kind, of at most so many kinds, and
+/// nothing else, and tells whether there is a race.
+///
+/// # Errors
+/// Those of `read_each`; `Write` where the writer fails, which then has a prefix of the text. In every other case of an
+/// error nothing is written.
+pub fn show_races<A: Allocator + Copy, T: Read + Drop, W: Write>(
+    alloc: A,
+    readers: Vec<T, A>,
+    most: Option<u32>,
+    writer: &mut W,
+) -> Result<bool, Fault>
+    ensures shown { IfOk result (λ found. AreRacesShown (all_known (map T.remaining readers.items)) most found (W.contents writer.old) (W.contents writer.new)) }
+    ensures fault { IfErr result (λ f. IfSome (all_known (map T.remaining readers.items)) (λ inputs. IsShowFault inputs f)) }
+
+    // What a refusal leaves with the writer.
+    ensures untouched { IfErr result (λ f. f ≢ faults.Write → Keeps (W.contents writer.old) (W.contents writer.new)) }
+    ensures prefix { IfErr result (λ f. f ≡ faults.Write → ShowsRacesPrefix (all_known (map T.remaining readers.items)) most (W.contents writer.old) (W.contents writer.new)) }
+    ensures threads { IfErr result (λ f. f ≢ faults.Threads) }
+{
+    let traces = read_each(alloc, readers)?;
+    let (entries, races) = races_by_kind(alloc, &traces)?;
+    match write_races(writer, &entries, most, races) {
+        Ok(()) => Ok(races > 0),
+        Err(_) => Err(Fault::Write),
+    }
+}
