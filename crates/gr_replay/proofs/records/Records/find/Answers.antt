@@ -13,4 +13,4 @@ found (Ok x) rest is =
 found (Err e) rest is = absurd cc
 
 pub invariant_of-result : goal.invariant_of-result
-invariant_of-result g c = (c.in_ok-rest.rest.now, found (front_records_at c.args.header c.args.bytes.now) c.in_ok-rest.rest.now c.in_ok-rest.ensures.exact)
+invariant_of-result c = (c.in_ok-rest.rest.now, found (front_records_at c.args.header c.args.bytes.now) c.in_ok-rest.rest.now c.in_ok-rest.ensures.exact)
