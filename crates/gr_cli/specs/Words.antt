@@ -42,7 +42,7 @@ tasks = with_subcommand (with_subcommand (with_subcommand (with_subcommand (reco
 
 -- the command that shows all races: how many kinds at most, and the files
 abbrev pub most_rule : Rule
-most_rule = record (new_rule (codes "most")) { long = Some (codes "most") }
+most_rule = record (new_rule (codes "most")) { long = Some (codes "most"); value_names = 1 }
 
 abbrev pub racing : Shape
 racing = (with_rule (with_rule (new_app (codes "races")) most_rule) wanted_files).top

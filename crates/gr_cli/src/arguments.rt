@@ -126,7 +126,7 @@ const LONG_RACES: &str = "\
 Tells of all words that have a race, kind by kind: which words they are, and of the first of them two accesses that race.
 
 A kind is the memory, what the two accesses do, and whether they are of one work-group. The accesses are told as GROUP ITEM
-INDEX; an item's records are counted from 0. This takes about the time of replay.";
+INDEX; an item's records are counted from 0. The races are found by clocks, as replay finds them.";
 
 const AFTER_RACES: &str = "\
 Example:
