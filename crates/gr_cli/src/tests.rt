@@ -53,7 +53,7 @@ type Case = (
     u8,
 );
 
-const CASES: [Case; 48] = [
+const CASES: [Case; 54] = [
     ("a race", &["replay"], &RACE, REPORT, "", 1),
     ("a race, without a command", &[], &RACE, REPORT, "", 1),
     ("no race", &["replay"], &NO_RACE, CLEAN, "", 0),
