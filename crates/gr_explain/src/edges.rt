@@ -11,8 +11,8 @@ ghost use Rattle.gr_model.specs.Streams.{ArePrefixes, IsEvent};
 ghost use Rattle.gr_model.specs.Waits.{IsPrevious};
 ghost use Rattle.gr_explain.specs.Edges.{AreInstancesReached, Has, IsFlagged, IsReleaseBy, IsReached};
 
-use crate::records::Records;
 use crate::reached::{Instance, Reached};
+use crate::records::Records;
 use gr_clocks::clocks::memory_of;
 use gr_model::event::{EventId, Name, Space};
 use gr_scopes::access::inclusive;
@@ -109,7 +109,11 @@ fn has_release<A: Allocator>(
 }
 
 /// Whether some barrier of the convergent instance in which an event stands is reached, where it flags the memory.
-fn is_instance_reached<A: Allocator>(records: &Records<A>, reached: &Reached<A>, event: EventId) -> bool
+fn is_instance_reached<A: Allocator>(
+    records: &Records<A>,
+    reached: &Reached<A>,
+    event: EventId,
+) -> bool
     requires prefixes { ArePrefixes records.now }
     requires there { IsEvent records.now event }
     ensures { (m : AnySpace) → AreInstancesReached records.now m reached.now.events.keys reached.now.instances.keys → IsTrue result ↔ ((d : AnyEvent) × (k : ℕ) × Has reached.now.events.keys d × IsFlagged records.now m event k × StandsIn records.now d event.at.group k) }
@@ -138,6 +142,7 @@ pub(crate) fn is_reached<A: Allocator>(
     has_release(records, reached, space, event)
         || match previous(event) {
             None => false,
-            Some(before) => reached.events.contains(&before) || is_instance_reached(records, reached, before),
+            Some(before) => reached.events.contains(&before)
+                || is_instance_reached(records, reached, before),
         }
 }

@@ -5,9 +5,9 @@ ghost use Rattle.gr_model.specs.LawfulOrders.{IsLawful};
 ghost use Rattle.gr_model.specs.Streams.{ArePrefixes};
 ghost use Rattle.gr_explain.specs.Edges.{AreFollowers};
 
-use crate::records::Records;
 use crate::edges::is_reached;
 use crate::reached::Reached;
+use crate::records::Records;
 use gr_model::event::{EventId, Space};
 use gr_model::memory::Memory;
 use std::alloc::Allocator;

@@ -7,12 +7,12 @@
 #![tactic(auto)]
 
 mod conflict;
+mod edges;
 pub mod explain;
 mod followers;
 mod listing;
 mod pairs;
 mod races;
+mod reached;
 pub mod records;
 pub mod taking;
-mod edges;
-mod reached;

@@ -37,10 +37,7 @@ fn take_list<A: Allocator + Copy>(
 ///
 /// # Errors
 /// `Memory`: out of memory.
-pub fn take_all<A: Allocator + Copy>(
-    alloc: A,
-    traces: &Traces<A>,
-) -> Result<Order<A>, Memory>
+pub fn take_all<A: Allocator + Copy>(alloc: A, traces: &Traces<A>) -> Result<Order<A>, Memory>
     ensures { IfOk result (λ order. order ≡ all_taken traces.now) }
 {
     let mut order = Order::new(alloc, traces.shape().copy()?)?;
