@@ -1,18 +1,19 @@
 -- What the values of the command `explain` ask for.
-use Rattle.std.proofs.Common.{◌≡◌, ◌∙◌, List, Option, None, Some, Bool, true, false, true≢false, sym, ap, map, Bor, codes, refl}
+use Rattle.std.proofs.Common.{◌≡◌, ◌∙◌, ℕ, List, Option, None, Some, Bool, true, false, true≢false, sym, ap, map, Bor, codes, refl}
 use Rattle.std.specs.Prelude.{option_map, is_some}
 use Rattle.clap.specs.declared.parser.matches.Found.{Found}
 use Rattle.clap.specs.Matches.{first_value, matched_of, raw_values}
 use Rattle.clap.specs.Walk.{Row, Text, all_of, first_of, rows_of}
 use Rattle.clap.proofs.WalkLemmas.{first_value-rows, raw_values-rows}
 use Rattle.gr_model.specs.declared.event.Word.{Word}
-use Rattle.gr_show.specs.Naming.{Names}
+use Rattle.gr_show.specs.Naming.{IsNumber, Names}
 use Rattle.gr_show.proofs.NamingLemmas.{names_one}
 use Rattle.gr_cli.specs.declared.arguments.Question.{Question}
 use Rattle.gr_cli.specs.declared.arguments.Request.{Request}
 use Rattle.gr_cli.specs.declared.arguments.Task.{Task}
-use Rattle.gr_cli.specs.declared.arguments.Request.TheVariants.{Perform, Show, Misnamed}
-use Rattle.gr_cli.specs.Questions.{IsNamed, IsQuestion, IsRequestOf}
+use Rattle.gr_cli.specs.declared.arguments.Listing.{Listing}
+use Rattle.gr_cli.specs.declared.arguments.Request.TheVariants.{List as Lists, Miscounted, Perform, Show, Misnamed}
+use Rattle.gr_cli.specs.Questions.{IsCounted, IsListing, IsListingOf, IsMost, IsNamed, IsQuestion, IsRequestOf}
 
 nothing_is_some : {X : Type 0} (x : X) → None ≡ Some x → ⊥
 nothing_is_some {X = X} x e = true≢false (sym (ap (λ (o : Option X). is_some o) e))
@@ -23,6 +24,9 @@ injected x y e = cc
 module _ (f : Found) (id : Text) (o : Option (Bor Text)) (e : option_map (λ s. s.now) o ≡ first_value f id) where
   pub text_is : (x : Bor Text) → o ≡ Some x → first_of id (rows_of f) ≡ Some x.now
   text_is x is = sym (first_value-rows f id) ∙ sym e ∙ ap (option_map (λ s. s.now)) is
+
+  pub text_is_none : o ≡ None → first_of id (rows_of f) ≡ None
+  text_is_none none = sym (first_value-rows f id) ∙ sym e ∙ ap (option_map (λ (s : Bor Text). s.now)) none
 
   pub no_text : o ≡ None → (t : Text) → first_of id (rows_of f) ≡ Some t → ⊥
   no_text none t at = nothing_is_some t (sym (ap (option_map (λ (s : Bor Text). s.now)) none) ∙ e ∙ first_value-rows f id ∙ at)
@@ -52,11 +56,45 @@ pub asked : (rows : List Row) (r : Request) (w : Word) (files : List Text) → I
 asked rows (Show q) w files h named = same_word rows q.word w (map (λ s. s.now) q.files.items) files h named
 asked rows Misnamed w files h named = h w files named
 asked rows (Perform t) w files h named = h
+asked rows (Lists l) w files h named = h
+asked rows Miscounted w files h named = h
 
 pub not_asked : (rows : List Row) (r : Request) → IsRequestOf rows r → ((w : Word) (files : List Text) → IsNamed rows w files → ⊥) → r ≡ Misnamed
 not_asked rows (Show q) h none = absurd (none q.word (map (λ s. s.now) q.files.items) h)
 not_asked rows Misnamed h none = refl
 not_asked rows (Perform t) h none = absurd h
+not_asked rows (Lists l) h none = absurd h
+not_asked rows Miscounted h none = absurd h
+
+-- ---- what the values of the command `races` ask for
+
+-- where the text is no number, the values have none
+pub no_most : (rows : List Row) (text : Text) → first_of (codes "most") rows ≡ Some text → ((n : ℕ) → IsNumber text n → ⊥) → (most : Option ℕ) → IsMost rows most → ⊥
+no_most rows text at none None is = nothing_is_some text (sym is ∙ at)
+no_most rows text at none (Some n) is = none n (let same : is.0 ≡ text = injected is.0 text (sym is.1 ∙ at) in rw same at is.2)
+
+one_most : (rows : List Row) (m n : Option ℕ) → IsMost rows m → IsMost rows n → m ≡ n
+one_most rows None None a b = refl
+one_most rows None (Some n) a b = absurd (nothing_is_some b.0 (sym a ∙ b.1))
+one_most rows (Some m) None a b = absurd (nothing_is_some a.0 (sym b ∙ a.1))
+one_most rows (Some m) (Some n) a b =
+    let same : b.0 ≡ a.0 = injected b.0 a.0 (sym b.1 ∙ a.1) in
+    let other : IsNumber a.0 n = rw same at b.2 in
+    ap Some (sym a.2.value ∙ other.value)
+
+pub listed : (rows : List Row) (r : Request) (most : Option ℕ) (files : List Text) → IsListingOf rows r → IsCounted rows most files → IsListing most files r
+listed rows (Lists l) most files h counted = (one_most rows l.most most h.number counted.number, injected (map (λ s. s.now) l.files.items) files (sym h.at_files ∙ counted.at_files))
+listed rows Miscounted most files h counted = h most files counted
+listed rows (Perform t) most files h counted = h
+listed rows (Show q) most files h counted = h
+listed rows Misnamed most files h counted = h
+
+pub not_listed : (rows : List Row) (r : Request) → IsListingOf rows r → ((most : Option ℕ) (files : List Text) → IsCounted rows most files → ⊥) → r ≡ Miscounted
+not_listed rows (Lists l) h none = absurd (none l.most (map (λ s. s.now) l.files.items) h)
+not_listed rows Miscounted h none = refl
+not_listed rows (Perform t) h none = absurd h
+not_listed rows (Show q) h none = absurd h
+not_listed rows Misnamed h none = absurd h
 
 -- ---- requests of other kinds
 
@@ -74,3 +112,11 @@ show_is_no_task q u e = true≢false (sym (ap is_task e))
 pub misnamed_is_no_task : (u : Task) → Misnamed ≡ Perform u → ⊥
 unfolding is_task
 misnamed_is_no_task u e = true≢false (sym (ap is_task e))
+
+pub list_is_no_task : (l : Listing) (u : Task) → Lists l ≡ Perform u → ⊥
+unfolding is_task
+list_is_no_task l u e = true≢false (sym (ap is_task e))
+
+pub miscounted_is_no_task : (u : Task) → Miscounted ≡ Perform u → ⊥
+unfolding is_task
+miscounted_is_no_task u e = true≢false (sym (ap is_task e))

@@ -69,6 +69,17 @@ not_explain Pack e = below 101 112 (sym (ap first_letter e)) (omega arith)
 not_explain Dump e = below 100 101 (ap first_letter e) (omega arith)
 not_explain Upgrade e = below 101 117 (sym (ap first_letter e)) (omega arith)
 
+-- nor that of the command that shows all races
+
+not_races : (t : Task) → name_of t ≡ codes "races" → ⊥
+not_races Replay e = below 97 101 (sym (ap (λ (text : Text). get_or text 1 0) e)) (omega arith)
+not_races Pack e = below 112 114 (ap first_letter e) (omega arith)
+not_races Dump e = below 100 114 (ap first_letter e) (omega arith)
+not_races Upgrade e = below 114 117 (sym (ap first_letter e)) (omega arith)
+
+races_is_not_explain : codes "explain" ≡ codes "races" → ⊥
+races_is_not_explain e = below 101 114 (ap first_letter e) (omega arith)
+
 module _ (command : App) (m : ArgMatches) (is : command ≡ gpurace) (words : List Text) (matches : HasMatchesOf command words m) where
   name_is_met : subcommand_name_of m ≡ met words
   name_is_met =
@@ -86,6 +97,30 @@ module _ (command : App) (m : ArgMatches) (is : command ≡ gpurace) (words : Li
     | inl e ↦ not_explain t (injected (name_of t) (codes "explain") (sym (name_is t e) ∙ named))
     | inr e ↦ nothing_is_some (codes "explain") (sym (no_name e.0) ∙ named)
   ]
+
+  pub races_is_no_task : (t : Task) → AsksFor t words → subcommand_name_of m ≡ Some (codes "races") → ⊥
+  races_is_no_task t asks named = elim asks [
+    | inl e ↦ not_races t (injected (name_of t) (codes "races") (sym (name_is t e) ∙ named))
+    | inr e ↦ nothing_is_some (codes "races") (sym (no_name e.0) ∙ named)
+  ]
+
+  module _ (name : Text) (rows : List Row) (asks : command_of words ≡ Some (name, rows)) where
+    command_is_there : subcommand_rows_of m ≡ Some (name, rows)
+    unfolding command_of
+    command_is_there = (matches (ap is_simple is ∙ gpurace_is_simple)).1 ∙ ap (λ a. subcommand_of a words) is ∙ asks
+
+    pub command_is_named : subcommand_name_of m ≡ Some name
+    command_is_named = name_from_rows (out-ArgMatches m).subcommand ∙ ap (option_map (λ p. p.0)) command_is_there
+
+    pub command_values : (values : List Row) → option_map (λ p. p.1) (subcommand_rows_of m) ≡ Some values → rows ≡ values
+    command_values values at = injected rows values (sym (ap (option_map (λ p. p.1)) command_is_there) ∙ at)
+
+  -- the words name one command at most
+  pub not_both : (rows : List Row) → command_of words ≡ Some (codes "races", rows) → subcommand_name_of m ≡ Some (codes "explain") → ⊥
+  not_both rows asks named = races_is_not_explain (injected (codes "explain") (codes "races") (sym named ∙ command_is_named (codes "races") rows asks))
+
+  pub nor_both : (rows : List Row) → command_of words ≡ Some (codes "explain", rows) → subcommand_name_of m ≡ Some (codes "races") → ⊥
+  nor_both rows asks named = races_is_not_explain (injected (codes "explain") (codes "races") (sym (command_is_named (codes "explain") rows asks) ∙ named))
 
   module _ (rows : List Row) (asks : command_of words ≡ Some (codes "explain", rows)) where
     explain_is_met : subcommand_rows_of m ≡ Some (codes "explain", rows)

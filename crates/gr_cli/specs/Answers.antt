@@ -14,6 +14,7 @@ use Rattle.gr_input.specs.Faults.{Fails}
 use Rattle.gr_text.specs.Texts.{packed}
 use Rattle.gr_text.specs.Dumps.{dumped, upgraded}
 use Rattle.gr_text.specs.Writes.{Writes, WritesPrefix as WritesPrefixOf}
+use Rattle.gr_races.specs.Opening.{AreRacesShownOfFiles, ShowsRacesPrefixOfFiles}
 use Rattle.gr_show.specs.Opening.{IsFileFault, IsShownOfFiles, ShowsPrefixOfFiles}
 use Rattle.gr_cli.specs.declared.arguments.Task.{Task}
 use Rattle.gr_cli.specs.declared.arguments.Task.TheVariants.{Replay, Pack, Dump, Upgrade}
@@ -85,3 +86,20 @@ module _ {T X : Type 0} (remaining : T → Option (List ℕ)) (Gives : List ℕ 
 
   abbrev pub IsDisplay : Type 0
   IsDisplay = ((found : Bool) × IsDisplayed found) ⊎ ((f : Fault) × IsNotDisplayed f)
+
+-- what is left behind where the races are to be shown of the launch whose streams the files of these names have
+module _ {T X : Type 0} (remaining : T → Option (List ℕ)) (Gives : List ℕ → Result T X → Type 0) (files : List (List ℕ)) (most : Option ℕ) (old new old_errors new_errors : Option (List ℕ)) (status : ℕ) where
+  -- the text of the races is written whole, nothing is told on standard error, and the status says whether there is one
+  pub record AreRacesDisplayed (found : Bool) : Type 0 where
+    pub shown : AreRacesShownOfFiles remaining Gives files most found old new
+    pub silent : Keeps old_errors new_errors
+    pub ends : status ≡ race_status found
+
+  -- f is why there is no such text, and is told; where the writer failed, it has a prefix of the text
+  pub record AreRacesNotDisplayed (f : Fault) : Type 0 where
+    pub fault : IsFileFault remaining Gives files f
+    pub told : IsFaultTold old new old_errors new_errors status f
+    pub prefix : f ≡ Write → ShowsRacesPrefixOfFiles remaining Gives files most old new
+
+  abbrev pub IsRacesDisplay : Type 0
+  IsRacesDisplay = ((found : Bool) × AreRacesDisplayed found) ⊎ ((f : Fault) × AreRacesNotDisplayed f)

@@ -40,8 +40,15 @@ explaining = (with_rule (with_rule (with_rule (new_app (codes "explain")) (wante
 abbrev pub tasks : App
 tasks = with_subcommand (with_subcommand (with_subcommand (with_subcommand (record { top = alone; subs = [] }) (command_named (codes "replay"))) (command_named (codes "pack"))) (command_named (codes "dump"))) (command_named (codes "upgrade"))
 
+-- the command that shows all races: how many kinds at most, and the files
+abbrev pub most_rule : Rule
+most_rule = record (new_rule (codes "most")) { long = Some (codes "most"); value_names = 1 }
+
+abbrev pub racing : Shape
+racing = (with_rule (with_rule (new_app (codes "races")) most_rule) wanted_files).top
+
 abbrev pub gpurace : App
-gpurace = with_subcommand tasks explaining
+gpurace = with_subcommand (with_subcommand tasks explaining) racing
 
 -- help was asked for, or the version
 abbrev pub IsHelp : ErrorKind → Type 0

@@ -1,19 +1,19 @@
 //! What the words of the command line ask for.
 
-ghost use Rattle.std.specs.Prelude.{◌≡◌, ℕ, List, false, IfOk, IfErr, map};
+ghost use Rattle.std.specs.Prelude.{◌≡◌, ℕ, List, Option, false, IfOk, IfErr, map};
 ghost use Rattle.clap.specs.declared.builder.command.Command.TheViews.{out-Command as fields_of};
 ghost use Rattle.clap.specs.Walk.{rows_of};
 ghost use Rattle.clap.specs.Words.{FailsBy, app_of, found_of, kind_of, shape_of};
 ghost use Rattle.gr_model.specs.declared.event.Word.{Word as AnyWord};
-ghost use Rattle.gr_cli.specs.declared.arguments.Request.TheVariants.{Perform, Misnamed};
+ghost use Rattle.gr_cli.specs.declared.arguments.Request.TheVariants.{Perform, Miscounted, Misnamed};
 ghost use Rattle.gr_cli.specs.declared.arguments.Task.{Task as AnyTask};
-ghost use Rattle.gr_cli.specs.Words.{gpurace, command_named, explaining, faults, name_of, AsksFor};
-ghost use Rattle.gr_cli.specs.Questions.{AsksToShow, IsMisnamed, IsQuestion, IsRequestOf};
+ghost use Rattle.gr_cli.specs.Words.{gpurace, command_named, explaining, faults, name_of, racing, AsksFor};
+ghost use Rattle.gr_cli.specs.Questions.{AsksForRaces, AsksToShow, IsListing, IsListingOf, IsMiscounted, IsMisnamed, IsMost, IsQuestion, IsRequestOf};
 
 use clap::error::ErrorKind;
 use clap::{Arg, ArgAction, ArgMatches, Command, Error};
 use gr_model::event::Word;
-use gr_show::words::word_named;
+use gr_show::words::{number_of, word_named};
 use std::alloc::{AllocError, Global};
 use std::convert::AsStr;
 
@@ -30,10 +30,21 @@ pub enum Task {
     Upgrade,
 }
 
+/// What stands behind an option is no number.
+#[derive(Debug, Drop)]
+struct NoNumber;
+
 /// A word of a launch, whose streams are in these files, one each.
 #[derive(Drop)]
 pub struct Question<'a> {
     pub word: Word,
+    pub files: Vec<&'a str>,
+}
+
+/// The races of a launch, whose streams are in these files, one each: of all kinds, or of at most so many.
+#[derive(Drop)]
+pub struct Listing<'a> {
+    pub most: Option<u32>,
     pub files: Vec<&'a str>,
 }
 
@@ -46,6 +57,10 @@ pub enum Request<'a> {
     Show(Question<'a>),
     /// The least racing pair of a word, but the words do not name one.
     Misnamed,
+    /// The races of a launch by their kinds.
+    List(Listing<'a>),
+    /// The races of a launch by their kinds, but how many is no number.
+    Miscounted,
 }
 
 const ABOUT: &str =
@@ -64,6 +79,7 @@ Examples:
   gpurace replay < trace.gpurace
   gpurace pack < trace.txt | gpurace replay
   gpurace explain g 16 group0.gpurace group1.gpurace
+  gpurace races group0.gpurace group1.gpurace
 
 Exit status:
   0  nothing was found, or what was asked for is done
@@ -104,6 +120,24 @@ const WORD: &str = "The number of the word, below 4294967296";
 
 const FILES: &str = "The streams of the launch, one in each file";
 
+const RACES: &str = "Tells of all races, kind by kind, with two accesses that race";
+
+const LONG_RACES: &str = "\
+Tells of all words that have a race, kind by kind: which words they are, and of the first of them two accesses that race.
+
+A kind is the memory, what the two accesses do, and whether they are of one work-group. The accesses are told as GROUP ITEM
+INDEX; an item's records are counted from 0. The races are found by clocks, as replay finds them.";
+
+const AFTER_RACES: &str = "\
+Example:
+  gpurace races --most 1 group*.gpurace
+  kind global write read one group words 48
+  words global 896..943
+  race global 896: 0 3 12 with 0 7 14
+  end kinds 1 races 48";
+
+const MOST: &str = "Of how many kinds to tell at most";
+
 /// A command without options.
 fn plain_command<'a>(alloc: Global, name: &'a str, about: &'a str) -> Command<'a>
     ensures shape { shape_of result ≡ command_named name.now }
@@ -132,6 +166,27 @@ fn explain_command<'a>(alloc: Global) -> Result<Command<'a>, AllocError>
         .arg(files)
 }
 
+/// The command that shows all races.
+fn races_command<'a>(alloc: Global) -> Result<Command<'a>, AllocError>
+    ensures shape { IfOk result (λ c. shape_of c ≡ racing) }
+    ensures alone { IfOk result (λ c. (fields_of c).has_globals ≡ false) }
+{
+    let most = Arg::new(alloc, "most")
+        .long("most")
+        .value_name("N")
+        .help(MOST);
+    let files = Arg::new(alloc, "FILE")
+        .required(true)
+        .action(ArgAction::Append)
+        .help(FILES);
+    Command::new(alloc, "races")
+        .about(RACES)
+        .long_about(LONG_RACES)
+        .after_help(AFTER_RACES)
+        .arg(most)?
+        .arg(files)
+}
+
 /// The program's commands and options, as help shows them.
 fn command<'a>(alloc: Global) -> Result<Command<'a>, AllocError>
     ensures { IfOk result (λ c. app_of c ≡ gpurace) }
@@ -141,6 +196,7 @@ fn command<'a>(alloc: Global) -> Result<Command<'a>, AllocError>
     let dump = plain_command(alloc, "dump", DUMP);
     let upgrade = plain_command(alloc, "upgrade", UPGRADE);
     let explain = explain_command(alloc)?;
+    let races = races_command(alloc)?;
     Command::new(alloc, "gpurace")
         .bin_name("gpurace")?
         .no_binary_name(true)
@@ -152,7 +208,8 @@ fn command<'a>(alloc: Global) -> Result<Command<'a>, AllocError>
         .subcommand(pack)?
         .subcommand(dump)?
         .subcommand(upgrade)?
-        .subcommand(explain)
+        .subcommand(explain)?
+        .subcommand(races)
 }
 
 /// The task of the command of this name, which is one of the program's.
@@ -190,6 +247,34 @@ fn question_of<'a>(alloc: Global, matches: &ArgMatches<'a>) -> Result<Request<'a
     Ok(Request::Show(Question { word, files }))
 }
 
+/// The number below 2^32 behind `--most`, if the option is there.
+fn most_of(matches: &ArgMatches<'_>) -> Result<Option<u32>, NoNumber>
+    ensures some { IfOk result (λ most. IsMost (rows_of (found_of matches.now)) most) }
+    ensures none { IfErr result (λ e. (most : Option ℕ) → ¬ IsMost (rows_of (found_of matches.now)) most) }
+{
+    match matches.get_str("most") {
+        None => Ok(None),
+        Some(text) => match number_of(text) {
+            None => Err(NoNumber),
+            Some(most) => Ok(Some(most)),
+        },
+    }
+}
+
+/// The listing that the values of the command `races` ask for.
+fn listing_of<'a>(alloc: Global, matches: &ArgMatches<'a>) -> Result<Request<'a>, AllocError>
+    ensures { IfOk result (λ r. IsListingOf (rows_of (found_of matches.now)) r) }
+{
+    let Ok(most) = most_of(matches) else {
+        return Ok(Request::Miscounted);
+    };
+    let Some(files) = matches.get_strs("FILE") else {
+        return Ok(Request::Miscounted);
+    };
+    let files = Vec::from_slice(alloc, files)?;
+    Ok(Request::List(Listing { most, files }))
+}
+
 /// What the words ask for, the program's name not among them.
 ///
 /// # Errors
@@ -200,10 +285,15 @@ pub fn request_of<'a, S: AsStr>(alloc: Global, words: &'a [S]) -> Result<Request
     ensures memory { IfErr result (λ e. (u : AnyTask) → AsksFor u (map S.text words.now) → kind_of e ≡ ErrorKind.OutOfMemory) }
     ensures question { IfOk result (λ r. (w : AnyWord) (names : List (List ℕ)) → AsksToShow w names (map S.text words.now) → IsQuestion w names r) }
     ensures misnamed { IfOk result (λ r. IsMisnamed (map S.text words.now) → r ≡ Misnamed) }
+    ensures races { IfOk result (λ r. (most : Option ℕ) (names : List (List ℕ)) → AsksForRaces most names (map S.text words.now) → IsListing most names r) }
+    ensures miscounted { IfOk result (λ r. IsMiscounted (map S.text words.now) → r ≡ Miscounted) }
 {
     let matches = command(alloc)?.try_get_matches_from(words)?;
     if let Some(values) = matches.subcommand_matches("explain") {
         return Ok(question_of(alloc, values)?);
+    }
+    if let Some(values) = matches.subcommand_matches("races") {
+        return Ok(listing_of(alloc, values)?);
     }
     match matches.subcommand_name() {
         None => Ok(Request::Perform(Task::Replay)),

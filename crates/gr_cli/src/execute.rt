@@ -1,6 +1,6 @@
 //! A run of the program, over values.
 
-ghost use Rattle.std.specs.Prelude.{◌≡◌, ◌⊎◌, ◌≤◌, ℕ, List, IfOk, IfErr, OnOk, map};
+ghost use Rattle.std.specs.Prelude.{◌≡◌, ◌⊎◌, ◌≤◌, ℕ, List, Option, IfOk, IfErr, OnOk, map};
 ghost use Rattle.std.specs.Fn.{FnReturnsAt};
 ghost use Rattle.std.specs.Io.KnownBytes.{Keeps};
 ghost use Rattle.clap.specs.Words.{kind_of};
@@ -9,15 +9,16 @@ ghost use Rattle.gr_report.specs.FaultText.{fault_line};
 ghost use Rattle.gr_report.specs.Putting.{AppendsPrefix};
 ghost use Rattle.gr_report.specs.Whole.{whole_of};
 ghost use Rattle.gr_cli.specs.declared.arguments.Task.{Task as AnyTask};
-ghost use Rattle.gr_cli.specs.Answers.{IsAnswerOf, IsDisplay, IsFaultTold};
-ghost use Rattle.gr_cli.specs.Questions.{AsksToShow, IsMisnamed};
+ghost use Rattle.gr_cli.specs.Answers.{IsAnswerOf, IsDisplay, IsFaultTold, IsRacesDisplay};
+ghost use Rattle.gr_cli.specs.Questions.{AsksForRaces, AsksToShow, IsMiscounted, IsMisnamed};
 ghost use Rattle.gr_cli.specs.Statuses.{fault_status, race_status, IsReportStatus};
 ghost use Rattle.gr_cli.specs.Words.{AreHelp, AreWrong, AsksFor, IsHelp, IsWrongUsage, faults};
 
-use crate::arguments::{Question, Request, Task, request_of};
+use crate::arguments::{Listing, Question, Request, Task, request_of};
 use crate::status::{FAILED, NOTHING, USAGE, WANTING, status_of, status_of_race, status_of_report};
 use clap::Error;
 use clap::error::ErrorKind;
+use gr_races::files::show_races_of_files;
 use gr_record::fault::Fault;
 use gr_replay::replay;
 use gr_report::report::Report;
@@ -32,6 +33,11 @@ const MISNAMED: &[u8] = b"\
 error: SPACE and WORD name no word of memory: SPACE is g, or l with a group from 0 to 63 as in l3, and WORD is a number \
 below 4294967296 in decimal digits\n\n\
 Usage: gpurace explain <SPACE> <WORD> <FILE>...\n\n\
+For more information, try '--help'.\n";
+
+const MISCOUNTED: &[u8] = b"\
+error: N of --most is no number below 4294967296 in decimal digits\n\n\
+Usage: gpurace races [OPTIONS] <FILE>...\n\n\
 For more information, try '--help'.\n";
 
 /// Tells of a fault on standard error, and gives its status. That standard error fails is passed over: there is nowhere
@@ -146,6 +152,30 @@ fn explain_misnaming<E: Write>(errors: &mut E) -> u8
     USAGE
 }
 
+/// Shows the races of the launch whose streams are in files, and gives the exit status.
+fn list<T: Read + Drop, O: Fn(&str) -> io::Result<T>, W: Write, E: Write>(
+    alloc: Global,
+    listing: &Listing<'_>,
+    opener: O,
+    writer: &mut W,
+    errors: &mut E,
+) -> u8
+    requires { O.IsAlwaysCallable opener }
+    ensures { IsRacesDisplay T.remaining (FnReturnsAt O.Fn opener) (map (λ s. s.now) listing.now.files.items) listing.now.most (W.contents writer.old) (W.contents writer.new) (E.contents errors.old) (E.contents errors.new) result }
+{
+    let files = listing.files.as_slice();
+    let outcome = show_races_of_files(alloc, files, opener, listing.most, writer);
+    conclude_showing(outcome, errors)
+}
+
+/// Tells that the words have no number of kinds.
+fn explain_miscounting<E: Write>(errors: &mut E) -> u8
+    ensures { result ≡ USAGE }
+{
+    let _ = errors.write_all(MISCOUNTED);
+    USAGE
+}
+
 /// Does what the words ask for, and gives the exit status. The words are those behind the program's name. Files are opened
 /// by `opener`, in their order, where the words ask for a word to be shown; no other task opens one.
 pub fn execute<S, R, T, O, W, E>(
@@ -172,11 +202,17 @@ where
     // The word that is shown, of files.
     ensures shows { (w : AnyWord) (names : List (List ℕ)) → AsksToShow w names (map S.text words.now) → IsDisplay T.remaining (FnReturnsAt O.Fn opener) names w (W.contents writer.old) (W.contents writer.new) (E.contents errors.old) (E.contents errors.new) result }
     ensures misnamed { IsMisnamed (map S.text words.now) → ((result ≡ USAGE) ⊎ (result ≡ WANTING)) × Keeps (W.contents writer.old) (W.contents writer.new) }
+
+    // The races that are shown, of files.
+    ensures lists { (most : Option ℕ) (names : List (List ℕ)) → AsksForRaces most names (map S.text words.now) → IsRacesDisplay T.remaining (FnReturnsAt O.Fn opener) names most (W.contents writer.old) (W.contents writer.new) (E.contents errors.old) (E.contents errors.new) result }
+    ensures miscounted { IsMiscounted (map S.text words.now) → ((result ≡ USAGE) ⊎ (result ≡ WANTING)) × Keeps (W.contents writer.old) (W.contents writer.new) }
 {
     match request_of(alloc, words) {
         Ok(Request::Perform(task)) => perform(alloc, task, reader, writer, errors),
         Ok(Request::Show(question)) => show(alloc, &question, opener, writer, errors),
         Ok(Request::Misnamed) => explain_misnaming(errors),
+        Ok(Request::List(listing)) => list(alloc, &listing, opener, writer, errors),
+        Ok(Request::Miscounted) => explain_miscounting(errors),
         Err(error) => explain_usage(&error, writer, errors),
     }
 }

@@ -53,7 +53,7 @@ type Case = (
     u8,
 );
 
-const CASES: [Case; 48] = [
+const CASES: [Case; 54] = [
     ("a race", &["replay"], &RACE, REPORT, "", 1),
     ("a race, without a command", &[], &RACE, REPORT, "", 1),
     ("no race", &["replay"], &NO_RACE, CLEAN, "", 0),
@@ -360,6 +360,54 @@ const CASES: [Case; 48] = [
         2,
     ),
     (
+        "the races of a file",
+        &["races", "race"],
+        &[],
+        RACE_BY_KIND,
+        "",
+        1,
+    ),
+    (
+        "the races of no kinds",
+        &["races", "--most", "0", "race"],
+        &[],
+        "end kinds 1 races 1\n",
+        "",
+        1,
+    ),
+    (
+        "a file without races",
+        &["races", "--most=7", "none"],
+        &[],
+        "end kinds 0 races 0\n",
+        "",
+        0,
+    ),
+    (
+        "how many kinds, with a sign",
+        &["races", "--most", "+4", "race"],
+        &[],
+        "",
+        MISCOUNTED,
+        3,
+    ),
+    (
+        "races of no file",
+        &["races"],
+        &[],
+        "",
+        "error: the following required arguments were not provided:",
+        3,
+    ),
+    (
+        "races of a file that is cut off",
+        &["races", "cut"],
+        &[],
+        "",
+        "gpurace: stream 0: truncated\n",
+        2,
+    ),
+    (
         "help on packing",
         &["pack", "--help"],
         &[],
@@ -379,6 +427,13 @@ const CASES: [Case; 48] = [
 
 const RACE_TEXT: &str = "group 0 items 2 launch 7\n0 w g 16\n1 r g 16\nend\n";
 
+const RACE_BY_KIND: &str = "kind global write read one group words 1\n\
+words global 16\n\
+race global 16: 0 0 0 with 0 1 0\n\
+end kinds 1 races 1\n";
+
+const MISCOUNTED: &str = "error: N of --most is no number below 4294967296";
+
 const MISNAMED: &str = "error: SPACE and WORD name no word of memory: ";
 
 /// The bytes of a file by its name.
@@ -386,6 +441,7 @@ fn open_stored<'a>(name: &str, back: &'a [u8]) -> io::Result<&'a [u8]> {
     match name {
         "back" => Ok(back),
         "race" => Ok(RACE.as_slice()),
+        "none" => Ok(NO_RACE.as_slice()),
         "cut" => Ok(CUT_OFF.as_slice()),
         "wanting" => Err(io::Error::from(ErrorKind::OutOfMemory)),
         _ => Err(io::Error::from(ErrorKind::NotFound)),

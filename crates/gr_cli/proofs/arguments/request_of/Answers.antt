@@ -1,4 +1,4 @@
-use Rattle.std.proofs.Common.{◌≡◌, ◌∙◌, ap, ap₂, true, true≢false, refl, sym, subst, List, Some, None, map, inl, inr}
+use Rattle.std.proofs.Common.{◌≡◌, ◌∙◌, ap, ap₂, codes, true, true≢false, refl, sym, subst, List, Some, None, map, inl, inr}
 use Rattle.clap.specs.Words.{App, HasKind, Kinds, Text, app_of, takes, kind_of, fault_of, is_simple_and_free}
 use Rattle.clap.specs.declared.error.kind.ErrorKind.TheVariants.{OutOfMemory}
 use Rattle.clap.proofs.OnLiterals.{clap_on_literals}
@@ -6,8 +6,8 @@ use Rattle.gr_cli.specs.declared.arguments.Request.TheVariants.{Perform}
 use Rattle.gr_cli.specs.declared.arguments.Task.{Task}
 use Rattle.gr_cli.specs.Words.{gpurace, faults, name_of, AsksFor}
 use Rattle.gr_cli.proofs.AnswerLemmas.{if_err, fails_by}
-use Rattle.gr_cli.proofs.Asking.{asked, not_asked}
-use Rattle.gr_cli.proofs.Naming.{no_word_is_taken, command_is_taken, no_name, name_is, no_task, explain_is_named, values_are}
+use Rattle.gr_cli.proofs.Asking.{asked, listed, not_asked, not_listed}
+use Rattle.gr_cli.proofs.Naming.{command_is_named, command_values, nor_both, not_both, races_is_no_task, no_word_is_taken, command_is_taken, no_name, name_is, no_task, explain_is_named, values_are}
 use Rattle.gr_cli.proofs.arguments.request_of.Goals as goal
 
 gpurace_is_simple : is_simple_and_free gpurace ≡ true
@@ -105,3 +105,60 @@ returns-clause-task g c = λ u asks.
           let no : Some c.in-Some-subcommand_name.name.now ≡ None = c.in-Some-subcommand_name.ensures ∙ no_name (app_of c.in_ok-command.field-0) c.in_ok-matches.matches c.in_ok-command.ensures (map g.S.AsStr.text c.args.words.now) c.in_ok-matches.ensures.matches e.0 in
           absurd cc
     ])
+
+-- where the command `explain` was met, the words do not ask for races
+
+pub returns-in-Some-clause-races : goal.returns-in-Some-clause-races
+returns-in-Some-clause-races g c = λ most names asks.
+    absurd (not_both (app_of c.in_ok-command.field-0) c.in_ok-matches.matches c.in_ok-command.ensures (map g.S.AsStr.text c.args.words.now) c.in_ok-matches.ensures.matches asks.rows asks.asks.met (c.in-Some.ensures.found.0 refl))
+
+pub returns-in-Some-clause-miscounted : goal.returns-in-Some-clause-miscounted
+returns-in-Some-clause-miscounted g c = λ is.
+    absurd (not_both (app_of c.in_ok-command.field-0) c.in_ok-matches.matches c.in_ok-command.ensures (map g.S.AsStr.text c.args.words.now) c.in_ok-matches.ensures.matches is.rows is.asks.met (c.in-Some.ensures.found.0 refl))
+
+-- where the command `races` was met
+
+pub returns-in-Some-subcommand_matches-clause-fails : goal.returns-in-Some-subcommand_matches-clause-fails
+returns-in-Some-subcommand_matches-clause-fails g c =
+    let none = c.in_ok-matches.ensures.kinds (ap is_simple_and_free c.in_ok-command.ensures ∙ gpurace_is_simple) in
+    sym (faults_are (app_of c.in_ok-command.field-0) (map g.S.AsStr.text c.args.words.now) c.in_ok-command.ensures) ∙ none
+
+pub returns-in-Some-subcommand_matches-clause-task : goal.returns-in-Some-subcommand_matches-clause-task
+returns-in-Some-subcommand_matches-clause-task g c = λ u asks.
+    absurd (races_is_no_task (app_of c.in_ok-command.field-0) c.in_ok-matches.matches c.in_ok-command.ensures (map g.S.AsStr.text c.args.words.now) c.in_ok-matches.ensures.matches u asks (c.in-Some-subcommand_matches.ensures.found.0 refl))
+
+pub returns-in-Some-subcommand_matches-clause-question : goal.returns-in-Some-subcommand_matches-clause-question
+returns-in-Some-subcommand_matches-clause-question g c = λ w names asks.
+    absurd (nor_both (app_of c.in_ok-command.field-0) c.in_ok-matches.matches c.in_ok-command.ensures (map g.S.AsStr.text c.args.words.now) c.in_ok-matches.ensures.matches asks.rows asks.asks.met (c.in-Some-subcommand_matches.ensures.found.0 refl))
+
+pub returns-in-Some-subcommand_matches-clause-misnamed : goal.returns-in-Some-subcommand_matches-clause-misnamed
+returns-in-Some-subcommand_matches-clause-misnamed g c = λ is.
+    absurd (nor_both (app_of c.in_ok-command.field-0) c.in_ok-matches.matches c.in_ok-command.ensures (map g.S.AsStr.text c.args.words.now) c.in_ok-matches.ensures.matches is.rows is.asks.met (c.in-Some-subcommand_matches.ensures.found.0 refl))
+
+pub returns-in-Some-subcommand_matches-clause-races : goal.returns-in-Some-subcommand_matches-clause-races
+returns-in-Some-subcommand_matches-clause-races g c = λ most names asks.
+    let rows = command_values (app_of c.in_ok-command.field-0) c.in_ok-matches.matches c.in_ok-command.ensures (map g.S.AsStr.text c.args.words.now) c.in_ok-matches.ensures.matches (codes "races") asks.rows asks.asks.met _ c.in-Some-subcommand_matches.ensures.rows in
+    listed asks.rows c.in_ok-listing_of.field-0 most names (rw rows c.in_ok-listing_of.ensures) asks.counted
+
+pub returns-in-Some-subcommand_matches-clause-miscounted : goal.returns-in-Some-subcommand_matches-clause-miscounted
+returns-in-Some-subcommand_matches-clause-miscounted g c = λ is.
+    let rows = command_values (app_of c.in_ok-command.field-0) c.in_ok-matches.matches c.in_ok-command.ensures (map g.S.AsStr.text c.args.words.now) c.in_ok-matches.ensures.matches (codes "races") is.rows is.asks.met _ c.in-Some-subcommand_matches.ensures.rows in
+    not_listed is.rows c.in_ok-listing_of.field-0 (rw rows c.in_ok-listing_of.ensures) is.uncounted
+
+-- and where it was not
+
+pub returns-in-None-clause-races : goal.returns-in-None-clause-races
+returns-in-None-clause-races g c = λ most names asks.
+    absurd (true≢false (sym (c.in_default-subcommand_matches.ensures.found.1 (command_is_named (app_of c.in_ok-command.field-0) c.in_ok-matches.matches c.in_ok-command.ensures (map g.S.AsStr.text c.args.words.now) c.in_ok-matches.ensures.matches (codes "races") asks.rows asks.asks.met))))
+
+pub returns-in-None-clause-miscounted : goal.returns-in-None-clause-miscounted
+returns-in-None-clause-miscounted g c = λ is.
+    absurd (true≢false (sym (c.in_default-subcommand_matches.ensures.found.1 (command_is_named (app_of c.in_ok-command.field-0) c.in_ok-matches.matches c.in_ok-command.ensures (map g.S.AsStr.text c.args.words.now) c.in_ok-matches.ensures.matches (codes "races") is.rows is.asks.met))))
+
+pub returns-clause-races : goal.returns-clause-races
+returns-clause-races g c = λ most names asks.
+    absurd (true≢false (sym (c.in_default-subcommand_matches.ensures.found.1 (command_is_named (app_of c.in_ok-command.field-0) c.in_ok-matches.matches c.in_ok-command.ensures (map g.S.AsStr.text c.args.words.now) c.in_ok-matches.ensures.matches (codes "races") asks.rows asks.asks.met))))
+
+pub returns-clause-miscounted : goal.returns-clause-miscounted
+returns-clause-miscounted g c = λ is.
+    absurd (true≢false (sym (c.in_default-subcommand_matches.ensures.found.1 (command_is_named (app_of c.in_ok-command.field-0) c.in_ok-matches.matches c.in_ok-command.ensures (map g.S.AsStr.text c.args.words.now) c.in_ok-matches.ensures.matches (codes "races") is.rows is.asks.met))))

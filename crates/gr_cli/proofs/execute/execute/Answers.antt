@@ -1,8 +1,8 @@
 use Rattle.std.proofs.Common.{◌∙◌, inr, subst, sym}
 use Rattle.gr_cli.specs.Answers.{IsAnswerOf}
 use Rattle.gr_cli.specs.declared.arguments.Task.{Task}
-use Rattle.gr_cli.proofs.AnswerLemmas.{wrong_of, help_of, no_memory, no_memory_to_display, only_memory}
-use Rattle.gr_cli.proofs.Asking.{same_task, show_is_no_task, misnamed_is_no_task}
+use Rattle.gr_cli.proofs.AnswerLemmas.{wrong_of, help_of, no_memory, no_memory_to_display, no_memory_to_list, only_memory}
+use Rattle.gr_cli.proofs.Asking.{same_task, list_is_no_task, miscounted_is_no_task, show_is_no_task, misnamed_is_no_task}
 use Rattle.gr_cli.proofs.execute.execute.Goals as goal
 
 pub returns-in-Err-clause-wrong : goal.returns-in-Err-clause-wrong
@@ -49,5 +49,59 @@ returns-in-Err-clause-shows g c = λ w names asks.
 
 pub returns-in-Err-clause-misnamed : goal.returns-in-Err-clause-misnamed
 returns-in-Err-clause-misnamed g c = λ is.
+    let told = c.explain_usage.ensures.memory (only_memory _ _ is.asks.taken c.in-Err.ensures.fails) in
+    (inr told.ends, told.untouched (λ e. cc))
+
+-- races
+
+pub returns-in-Ok-Perform-clause-lists : goal.returns-in-Ok-Perform-clause-lists
+returns-in-Ok-Perform-clause-lists g c = λ most names asks.
+    let no = rw c.in-Ok-Perform.field-0-is at (c.in-Ok-Perform.ensures.races most names asks) in
+    absurd no
+
+pub returns-in-Ok-Show-clause-lists : goal.returns-in-Ok-Show-clause-lists
+returns-in-Ok-Show-clause-lists g c = λ most names asks.
+    let no = rw c.in-Ok-Show.field-0-is at (c.in-Ok-Show.ensures.races most names asks) in
+    absurd no
+
+pub returns-in-Ok-Misnamed-clause-lists : goal.returns-in-Ok-Misnamed-clause-lists
+returns-in-Ok-Misnamed-clause-lists g c = λ most names asks.
+    let no = rw c.in-Ok-Misnamed.field-0-is at (c.in-Ok-Misnamed.ensures.races most names asks) in
+    absurd no
+
+pub returns-in-Ok-List-clause-does : goal.returns-in-Ok-List-clause-does
+returns-in-Ok-List-clause-does g c = λ t asks.
+    absurd (list_is_no_task c.in-Ok-List.listing t (sym c.in-Ok-List.field-0-is ∙ c.in-Ok-List.ensures.task t asks))
+
+pub returns-in-Ok-List-clause-shows : goal.returns-in-Ok-List-clause-shows
+returns-in-Ok-List-clause-shows g c = λ w names asks.
+    let no = rw c.in-Ok-List.field-0-is at (c.in-Ok-List.ensures.question w names asks) in
+    absurd no
+
+pub returns-in-Ok-List-clause-lists : goal.returns-in-Ok-List-clause-lists
+returns-in-Ok-List-clause-lists g c = λ most names asks.
+    let is = rw c.in-Ok-List.field-0-is at (c.in-Ok-List.ensures.races most names asks) in
+    rw (is.0, is.1) at c.list.ensures
+
+pub returns-in-Ok-Miscounted-clause-does : goal.returns-in-Ok-Miscounted-clause-does
+returns-in-Ok-Miscounted-clause-does g c = λ t asks.
+    absurd (miscounted_is_no_task t (sym c.in-Ok-Miscounted.field-0-is ∙ c.in-Ok-Miscounted.ensures.task t asks))
+
+pub returns-in-Ok-Miscounted-clause-shows : goal.returns-in-Ok-Miscounted-clause-shows
+returns-in-Ok-Miscounted-clause-shows g c = λ w names asks.
+    let no = rw c.in-Ok-Miscounted.field-0-is at (c.in-Ok-Miscounted.ensures.question w names asks) in
+    absurd no
+
+pub returns-in-Ok-Miscounted-clause-lists : goal.returns-in-Ok-Miscounted-clause-lists
+returns-in-Ok-Miscounted-clause-lists g c = λ most names asks.
+    let no = rw c.in-Ok-Miscounted.field-0-is at (c.in-Ok-Miscounted.ensures.races most names asks) in
+    absurd no
+
+pub returns-in-Err-clause-lists : goal.returns-in-Err-clause-lists
+returns-in-Err-clause-lists g c = λ most names asks.
+    no_memory_to_list g.T.Read.remaining _ _ _ _ _ _ _ _ (c.explain_usage.ensures.memory (only_memory _ _ asks.asks.taken c.in-Err.ensures.fails))
+
+pub returns-in-Err-clause-miscounted : goal.returns-in-Err-clause-miscounted
+returns-in-Err-clause-miscounted g c = λ is.
     let told = c.explain_usage.ensures.memory (only_memory _ _ is.asks.taken c.in-Err.ensures.fails) in
     (inr told.ends, told.untouched (λ e. cc))
