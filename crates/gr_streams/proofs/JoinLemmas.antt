@@ -1,6 +1,6 @@
 -- The senders and the receipts of streams, one stream after the other.
-use Rattle.std.proofs.Common.{◌≡◌, ◌≢◌, ◌⊎◌, ℕ, zero, suc, ◌+◌, ◌-◌, ◌<◌, ◌≤◌, List, [], ◌∷◌, ◌++◌, length, map, get_or, Contains, Option, None, Some, Result, Ok, Err, refl, sym, ap, ◌∙◌, subst, arith, inl, inr, eq-or-lt_of_le, ⊎_elim}
-use Rattle.std.specs.Prelude.{AllPairs, All, IfSome}
+use Rattle.std.proofs.Common.{◌≡◌, ◌≢◌, ℕ, suc, ◌+◌, ◌-◌, ◌<◌, List, [], ◌∷◌, ◌++◌, length, map, get_or, Contains, Option, Some, Result, Ok, Err, refl, sym, ap, ◌∙◌, subst, arith, inl, inr, eq-or-lt_of_le, ⊎_elim}
+use Rattle.std.specs.Prelude.{All}
 use Rattle.std.specs.List.{SameBelow, ShiftedDown}
 use Rattle.std.proofs.lemmas.Bool.{cases_lt}
 use Rattle.std.proofs.Math.Seq.{get_or-append_seam}
@@ -13,7 +13,7 @@ use Rattle.gr_replay.specs.Joined.{◌>>=◌}
 use Rattle.gr_sender.specs.Senders.{Sending}
 use Rattle.gr_streams.specs.Headers.{AreApart}
 use Rattle.gr_streams.specs.Records.{and_one, events_at, lists_behind, lists_of}
-use Rattle.gr_streams.specs.Sources.{ArePlaced, AreReadOf, AreServed, Begun, HasSender}
+use Rattle.gr_streams.specs.Sources.{ArePlaced, AreServed, Begun, HasSender}
 
 -- ---- a sender is taken from the others
 

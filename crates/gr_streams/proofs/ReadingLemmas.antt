@@ -1,5 +1,5 @@
 -- What reading a stream leaves tells what its bytes are.
-use Rattle.std.proofs.Common.{◌≡◌, ◌≢◌, ℕ, ◌+◌, ◌<◌, ◌≤◌, Bool, true, false, List, [], ◌∷◌, ◌++◌, length, map, take, drop, Option, None, Some, Result, Ok, Err, refl, sym, ap, ◌∙◌, subst, arith, append_assoc}
+use Rattle.std.proofs.Common.{◌≡◌, ℕ, ◌≤◌, Bool, true, false, List, ◌++◌, length, take, Option, None, Some, Result, Ok, Err, refl, sym, ap, ◌∙◌, subst, arith, append_assoc}
 use Rattle.std.specs.Prelude.{IfErr, IfOk, IfSome, IsTrue}
 use Rattle.std.specs.Io.KnownBytes.{Consumes, prepend_known}
 use Rattle.std.proofs.lemmas.List.{length-take, take-append-le}
@@ -14,13 +14,13 @@ use Rattle.gr_record.specs.declared.fault.Fault.{Fault}
 use Rattle.gr_record.specs.declared.fault.Fault.TheVariants as faults
 use Rattle.gr_record.specs.declared.stop.Stop.{Stop}
 use Rattle.gr_record.specs.declared.stop.Stop.TheVariants.{Inside, AtEnd, AtFault}
-use Rattle.gr_record.specs.Decoding.{HasMemory, Standing, answer, last_answer, reading, standing}
+use Rattle.gr_record.specs.Decoding.{HasMemory, Standing, answer, last_answer, reading}
 use Rattle.gr_record.specs.Faults.{stream_fault}
 use Rattle.gr_record.proofs.Resuming.{fault_stays}
 use Rattle.gr_replay.specs.Joined.{at_place}
 use Rattle.gr_sender.specs.Senders.{Sending}
 use Rattle.gr_streams.specs.Records.{events_at}
-use Rattle.gr_streams.specs.Sending.{AreSent, IsFed, Tells, sent_as}
+use Rattle.gr_streams.specs.Sending.{AreSent, IsFed, Tells}
 use Rattle.gr_streams.specs.Sources.{IsHeaded}
 use Rattle.gr_streams.proofs.AcceptedLemmas.{none_refused, sent_as_they_are}
 use Rattle.gr_streams.proofs.HeaderLemmas.{headed_at}

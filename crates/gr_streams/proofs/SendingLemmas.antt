@@ -1,5 +1,5 @@
 -- Events that are sent as they are decoded.
-use Rattle.std.proofs.Common.{◌≡◌, ◌≢◌, ℕ, zero, suc, ◌+◌, ◌<◌, ◌≤◌, Bool, true, false, List, [], ◌∷◌, ◌++◌, length, map, take, get_or, Option, None, Some, Result, Ok, Err, refl, sym, ap, ◌∙◌, subst, arith, append_assoc, append-nil}
+use Rattle.std.proofs.Common.{◌≡◌, ℕ, zero, suc, ◌+◌, ◌<◌, true, List, [], ◌∷◌, ◌++◌, length, map, take, get_or, Option, None, Some, Result, Ok, Err, refl, sym, ap, ◌∙◌, subst, append_assoc}
 use Rattle.std.specs.Prelude.{IfErr, IsFalse, IsTrue, OnErr, OnOk}
 use Rattle.std.proofs.lemmas.List.{take_more}
 use Rattle.gr_model.specs.declared.event.Event.{Event}
@@ -15,7 +15,7 @@ use Rattle.gr_sender.specs.declared.sender.SendError.{SendError}
 use Rattle.gr_sender.specs.declared.sender.SendError.TheVariants.{Closed, UnknownItem, BadEvent, StreamFull, Full}
 use Rattle.gr_sender.specs.Refusals.{IsRefusalOfEnd, is_full}
 use Rattle.gr_sender.specs.Senders.{Sending}
-use Rattle.gr_streams.specs.Sending.{AreSent, IsStuck, events_in, sent_as}
+use Rattle.gr_streams.specs.Sending.{IsStuck, events_in}
 
 -- a list with an end behind it is complete
 ended : (xs : List Event) (e : Event) → IsTrue (is_end e) → IsTrue (is_complete (xs ++ e ∷ []))

@@ -1,6 +1,6 @@
 -- The records of streams that come from an input each.
 -- Source: docs/FORMATS.md, "Several streams" and "Faults".
-use Rattle.std.specs.Prelude.{◌≡◌, ℕ, ◌==◌, if◌then◌else◌, List, [], ◌∷◌, ◌++◌, length, Result, Ok, Err}
+use Rattle.std.specs.Prelude.{ℕ, ◌==◌, if◌then◌else◌, List, [], ◌∷◌, ◌++◌, length, Result, Ok, Err}
 use Rattle.gr_model.specs.declared.event.Event.{Event}
 use Rattle.gr_record.specs.declared.error.RecordError.TheVariants.{AfterEnd}
 use Rattle.gr_record.specs.declared.fault.Fault.{Fault}

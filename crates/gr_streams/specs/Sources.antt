@@ -1,6 +1,6 @@
 -- Readers whose headers were read, and what reading them leaves.
 -- Source: docs/QUEUES.md, "Streams that are read while they are sent".
-use Rattle.std.specs.Prelude.{◌≡◌, ◌≢◌, ℕ, ◌<◌, List, [], ◌∷◌, length, map, slice_index_or, All, Contains, Option, Some, None, IfSome, Ok, ⊤}
+use Rattle.std.specs.Prelude.{◌≡◌, ◌≢◌, ℕ, ◌<◌, List, [], ◌∷◌, length, map, slice_index_or, All, Contains, Option, Some, IfSome, Ok, ⊤}
 use Rattle.std.specs.Io.KnownBytes.{prepend_known}
 use Rattle.gr_model.specs.declared.limits.TheConstants.{MOST_RECORDS}
 use Rattle.gr_record.specs.declared.header.Header.{Header}

@@ -1,5 +1,4 @@
-use Rattle.std.proofs.Common.{◌≡◌, ◌≢◌, ◌∙◌, ◌++◌, ◌∷◌, [], ℕ, List, Option, Ok, Result, Some, ap, arith, append_assoc, map, refl, rules, subst, sym}
-use Rattle.std.specs.Prelude.{All, IfSome}
+use Rattle.std.proofs.Common.{◌≡◌, ◌≢◌, ◌∙◌, ◌++◌, ◌∷◌, [], ℕ, List, Ok, Some, ap, arith, append_assoc, map, refl, rules, subst, sym}
 use Rattle.std.specs.Vec.Iter.{into_iter_items}
 use Rattle.std.proofs.lemmas.List.{map-append, map_push}
 use Rattle.std.proofs.lemmas.List.Elements.{All-push}
@@ -7,7 +6,6 @@ use Rattle.std.proofs.lemmas.List.Quantifiers.{all_pairs_push}
 use Rattle.std.proofs.lemmas.Result.{err_from_is_err_and}
 use Rattle.gr_input.specs.Faults.{Fails}
 use Rattle.gr_record.specs.declared.header.Header.{Header}
-use Rattle.gr_replay.specs.Each.{all_known}
 use Rattle.gr_streams.specs.Headers.{header_behind, headers_of}
 use Rattle.gr_streams.specs.Sources.{IsHeaded, known_of}
 use Rattle.gr_streams.specs.declared.source.Source.{Source}

@@ -1,14 +1,11 @@
-use Rattle.std.proofs.Common.{◌≡◌, ◌∙◌, ◌+◌, ◌++◌, ◌∷◌, [], List, Ok, Option, Some, ℕ, append_assoc, ap, arith, length, map, refl, rules, subst, sym}
+use Rattle.std.proofs.Common.{◌≡◌, ◌∙◌, ◌+◌, ◌++◌, ◌∷◌, [], Some, append_assoc, ap, arith, length, map, refl, rules, subst, sym}
 use Rattle.std.specs.Prelude.{IfSome}
 use Rattle.std.specs.Vec.Iter.{into_iter_items}
 use Rattle.std.proofs.lemmas.List.{length-append, length-map, map_push}
-use Rattle.gr_model.specs.declared.event.Event.{Event}
 use Rattle.gr_route.specs.IntakeSeats.{Seat}
 use Rattle.gr_streams.specs.Records.{events_at, lists_of}
 use Rattle.gr_streams.specs.Sending.{Tells}
-use Rattle.gr_streams.specs.Sources.{AreReadOf, Begun}
-use Rattle.gr_streams.proofs.EachLemmas.{each_read}
-use Rattle.gr_streams.proofs.LaunchLemmas.{known_all}
+use Rattle.gr_streams.specs.Sources.{Begun}
 use Rattle.gr_streams.proofs.JoinLemmas.{lists_more, no_inputs, no_lists, one_input, placed_prefix}
 use Rattle.gr_streams.proofs.joins.join_all.Goals as goal
 

@@ -1,7 +1,7 @@
-use Rattle.std.proofs.Common.{◌≡◌, ◌∙◌, ◌++◌, [], List, subst}
+use Rattle.std.proofs.Common.{◌∙◌, ◌++◌, []}
 use Rattle.gr_record.specs.Decoding.{HasMemory}
 use Rattle.gr_streams.specs.Records.{events_at}
-use Rattle.gr_streams.specs.Sending.{IsFed, Tells}
+use Rattle.gr_streams.specs.Sending.{Tells}
 use Rattle.gr_streams.proofs.HeadingLemmas.{if_mapped}
 use Rattle.gr_streams.proofs.ReadingLemmas.{known_prefix, refused_tells, whole_prefix}
 use Rattle.gr_streams.proofs.reading.read_on.Goals as goal

@@ -1,9 +1,9 @@
-use Rattle.std.proofs.Common.{◌≡◌, ◌∙◌, ◌++◌, Err, List, Ok, append_assoc, arith, subst, sym, take}
+use Rattle.std.proofs.Common.{◌∙◌, ◌++◌, append_assoc, arith, take}
 use Rattle.gr_input.proofs.Consuming.{Consumes-end, Consumes-then}
 use Rattle.gr_input.proofs.Outside.{at_known}
 use Rattle.gr_record.specs.Decoding.{HasMemory}
 use Rattle.gr_streams.specs.Records.{events_at}
-use Rattle.gr_streams.specs.Sending.{IsFed, Tells}
+use Rattle.gr_streams.specs.Sending.{Tells}
 use Rattle.gr_streams.proofs.ReadingLemmas.{end_tells, of_known, refused_tells, regroup, still_headed}
 use Rattle.gr_streams.proofs.reading.read_rest.Goals as goal
 

@@ -3,7 +3,7 @@ use Rattle.gr_model.specs.Shapes.{IsShapeFault}
 use Rattle.gr_record.specs.declared.header.Header.{Header}
 use Rattle.gr_replay.specs.Joined.{Flat}
 use Rattle.gr_replay.proofs.Launching.{launch_of, missing_permutation, is_launch}
-use Rattle.gr_streams.specs.Headers.{bare, bares}
+use Rattle.gr_streams.specs.Headers.{bares}
 use Rattle.gr_streams.proofs.shape.shape_of.Goals as goal
 
 items_of_bares : (hs : List Header) → map (λ (h : Header). h.items) hs ≡ map (λ (f : Flat). f.header.items) (bares hs)

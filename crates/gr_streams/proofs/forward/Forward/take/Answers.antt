@@ -1,4 +1,4 @@
-use Rattle.std.proofs.Common.{◌≡◌, ◌∙◌, ◌++◌, List, ap, arith, subst, sym}
+use Rattle.std.proofs.Common.{◌∙◌, ◌++◌, List, ap, arith, subst, sym}
 use Rattle.gr_model.specs.declared.event.Event.{Event}
 use Rattle.gr_model.specs.declared.limits.TheConstants.{MOST_RECORDS}
 use Rattle.gr_record.specs.Decoding.{GrowsAs, parts_of, reading}
