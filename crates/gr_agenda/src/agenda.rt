@@ -107,6 +107,7 @@ fn put_items<A: Allocator>(todo: &mut Todo<A>, group: u16, items: u16)
 fn is_at_barrier<A: Allocator>(order: &Order<A>, item: ItemId) -> bool
     ensures { CanMeet order.now.taken order.now.handled item.group → item.item < size_of order.now.taken item.group → IsTrue result }
 {
+    // brings the order's frontier into the proof
     let _frontier = order.frontier();
     match order.waiting(item) {
         None => false,
@@ -152,6 +153,7 @@ fn first_unhandled<A: Allocator>(order: &Order<A>, event: &Event) -> Option<Name
 fn named_by<A: Allocator>(order: &Order<A>, item: ItemId) -> Option<Name>
     ensures { (d : AnyEvent) (n : AnyName) → IsHeldUp order.now.taken order.now.handled d n → d.at ≡ item → IsSomeAnd result (IsHeldUp order.now.taken order.now.handled d) }
 {
+    // brings the order's frontier into the proof
     let _frontier = order.frontier();
     match order.waiting(item) {
         None => None,
@@ -214,6 +216,7 @@ fn mark_undiverged<A: Allocator>(
     requires { ¬ CanMake order.now step }
     ensures { AreUndiverged order.now.taken undiverged.old.items → AreUndiverged order.now.taken undiverged.new.items }
 {
+    // brings the order's invariant into the proof
     let _taken = order.lanes();
     match step {
         Ready::Group(_) => {}
@@ -269,6 +272,7 @@ impl<A: Allocator> Agenda<A> {
         ensures order { result.now ≡ self.now }
         ensures sequence { IsSequence self.now }
     {
+        // brings the order's invariant into the proof
         let _taken = self.order.lanes();
         &self.order
     }
@@ -291,6 +295,7 @@ impl<A: Allocator> Agenda<A> {
             item: event.item,
         };
         let wide = concerns_group(&event);
+        // brings the order's invariant into the proof
         let _taken = self.order.lanes();
         self.order.take(group, event)?;
         if wide {
@@ -313,6 +318,7 @@ impl<A: Allocator> Agenda<A> {
         ensures step { HandlesEvent self.old event self.new }
         ensures sequence { IsSequence self.new }
     {
+        // brings the order's invariant into the proof
         let _taken = self.order.lanes();
         let released = name_of(&self.order, event);
         self.order.add(event);
@@ -330,6 +336,7 @@ impl<A: Allocator> Agenda<A> {
         ensures step { MeetsNext self.old group self.new }
         ensures sequence { IsSequence self.new }
     {
+        // brings the order's invariant into the proof
         let _taken = self.order.lanes();
         self.order.pass(group);
         self.todo.put(Ready::Group(group));
@@ -344,6 +351,7 @@ impl<A: Allocator> Agenda<A> {
     fn is_undiverged_at(&self, item: ItemId) -> bool
         ensures { IsTrue result → ¬ CanHandle self.now.taken self.now.handled item }
     {
+        // brings the order's invariant into the proof
         let _taken = self.order.lanes();
         match undiverged_of(&self.undiverged, item.group) {
             None => false,
@@ -391,6 +399,7 @@ impl<A: Allocator> Agenda<A> {
         ensures unchanged { self.new ≡ self.old }
         ensures sequence { IsSequence self.new }
     {
+        // brings the order's invariant into the proof
         let _taken = self.order.lanes();
         for _ in 0..self.todo.len() {
             match self.try_last() {

@@ -86,6 +86,7 @@ impl<A: Allocator + Copy> Clock<A> {
         ensures zero { IfOk result (λ c. IsZero shape.now c) }
         ensures memory { IsOkUnless result ClockError.Memory }
     {
+        // brings the shape's invariant into the proof
         let _groups = shape.groups();
         let base = Arc::new(alloc, Base::zero(alloc, shape)?)?;
         Clock::sharing(&base, ItemId { group: 0, item: 0 })

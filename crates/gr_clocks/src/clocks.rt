@@ -89,6 +89,7 @@ impl<A: Allocator + Copy> Clocks<A> {
         ensures zero { IfOk result (λ c. AreNew shape.now c) }
         ensures memory { IsOkUnless result ClockError.Memory }
     {
+        // brings the shape's invariant into the proof
         let _groups = shape.groups();
         let global = Table::new(alloc, shape)?;
         let local = Table::new(alloc, shape)?;

@@ -115,6 +115,15 @@ fn stop<R: Threads + Wait, A: Allocator>(
 ///
 /// # Errors
 /// `Memory`, and else `Threads` where a thread could not be started, for whatever cause. No thread of the run is then left.
+///
+/// # Example
+/// ```rust
+/// let shape = Shape::new(vec![in alloc; 1, 1]?).ok().ok_or("shape")?;
+/// let config = Config::new(2, 1, 1024).ok().ok_or("configuration")?;
+/// let (senders, running) = start(rt, alloc, shape, config, Arc::new(alloc, NoWatch)?).ok().ok_or("a run")?;
+/// // Each sender goes to a thread, which sends its group's records, closes it and gives its receipt back.
+/// let report = running.finish(&rt, receipts).ok().ok_or("a report")?;
+/// ```
 pub fn start<
     R: Threads + Wait + Clock + Copy + Send + 'static,
     A: Allocator + Copy + Send + Sync + Drop + 'static,

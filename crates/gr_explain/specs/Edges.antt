@@ -52,6 +52,10 @@ IsInstanceReached s m events g k = (d : EventId) × (a : Mark) × Has events d �
 abbrev pub AreInstancesReached : Streams → Space → List EventId → List Instance → Type 0
 AreInstancesReached s m events instances = (g k : ℕ) → HasInstance instances g k ↔ IsInstanceReached s m events g k
 
+-- a barrier of the instance in which an event stands, which is convergent and flags the memory, is one of these events
+abbrev pub IsInstanceReachedBy : Streams → Space → List EventId → EventId → Type 0
+IsInstanceReachedBy s m events e = (d : EventId) × (k : ℕ) × Has events d × IsFlagged s m e k × StandsIn s d e.at.group k
+
 -- an edge leads from one of these events to f
 abbrev pub IsReached : Streams → Space → List EventId → EventId → Type 0
 IsReached s m events f = (d : EventId) × Has events d × IsEdge s m d f

@@ -1,15 +1,14 @@
 //! The edges of happens-before that lead to an event from earlier ones: the event before it in its item, the releases that it matches, and the
 //! barriers of the instance directly behind which it stands.
 
-ghost use Rattle.std.specs.Prelude.{◌≡◌, ◌↔◌, ℕ, IsTrue, MatchOption};
+ghost use Rattle.std.specs.Prelude.{◌≡◌, ◌↔◌, IsTrue, MatchOption};
 ghost use Rattle.gr_model.specs.declared.event.EventId.{EventId as AnyEvent};
 ghost use Rattle.gr_model.specs.declared.event.Space.{Space as AnySpace};
-ghost use Rattle.gr_model.specs.Barriers.{StandsIn};
 ghost use Rattle.gr_model.specs.HappensBefore as order;
 ghost use Rattle.gr_model.specs.Names.{HasName, Matches, MatchesBy};
 ghost use Rattle.gr_model.specs.Streams.{ArePrefixes, IsEvent};
 ghost use Rattle.gr_model.specs.Waits.{IsPrevious};
-ghost use Rattle.gr_explain.specs.Edges.{AreInstancesReached, Has, IsFlagged, IsReleaseBy, IsReached};
+ghost use Rattle.gr_explain.specs.Edges.{AreInstancesReached, Has, IsInstanceReachedBy, IsReleaseBy, IsReached};
 
 use crate::reached::{Instance, Reached};
 use crate::records::Records;
@@ -116,7 +115,7 @@ fn is_instance_reached<A: Allocator>(
 ) -> bool
     requires prefixes { ArePrefixes records.now }
     requires there { IsEvent records.now event }
-    ensures { (m : AnySpace) → AreInstancesReached records.now m reached.now.events.keys reached.now.instances.keys → IsTrue result ↔ ((d : AnyEvent) × (k : ℕ) × Has reached.now.events.keys d × IsFlagged records.now m event k × StandsIn records.now d event.at.group k) }
+    ensures { (m : AnySpace) → AreInstancesReached records.now m reached.now.events.keys reached.now.instances.keys → IsTrue result ↔ IsInstanceReachedBy records.now m reached.now.events.keys event }
 {
     match records.barrier_number(event) {
         None => false,

@@ -1,5 +1,5 @@
 -- An index of each item's events in its group's list, and of its releases and barriers among its events.
-use Rattle.std.specs.Prelude.{◌≡◌, ℕ, ◌<◌, ◌≤◌, ◌+◌, ◌-◌, Option, Bool, List, [], ◌∷◌, ◌++◌, length, map, filter, true, Some, slice_get, slice_index, slice_index_or, slice_set, if◌then◌else◌}
+use Rattle.std.specs.Prelude.{◌≡◌, ◌≢◌, ℕ, ◌<◌, ◌≤◌, ◌+◌, ◌-◌, Option, Bool, List, [], ◌∷◌, ◌++◌, length, map, filter, true, MatchOption, Some, slice_get, slice_index, slice_index_or, slice_set, if◌then◌else◌}
 use Rattle.gr_model.specs.declared.event.Event.{Event}
 use Rattle.gr_model.specs.declared.event.ItemId.{ItemId}
 use Rattle.gr_model.specs.declared.event.Kind.TheVariants.{End}
@@ -55,6 +55,10 @@ indexed lanes x = if is_end x then lanes else slice_set lanes x.item (with_event
 -- the record of an item's k-th event that passes a test
 abbrev pub record_of : Streams → (Event → Bool) → ItemId → ℕ → Option Event
 record_of s test i k = slice_get (filter test (trace_of s i)) k
+
+-- the number of the event with this index among an item's events of a list that pass a test; none if it is none of them
+abbrev pub IsNumberAmong : (Event → Bool) → List Event → ℕ → ℕ → Option ℕ → Type 0
+IsNumberAmong test list item index number = MatchOption number ((k : ℕ) → slice_get (places_from test 0 (filter (is_of item) list)) k ≢ Some index) (λ k. slice_get (places_from test 0 (filter (is_of item) list)) k ≡ Some index)
 
 -- what was taken of a group of so many items
 pub record GroupList : Type 0 where

@@ -3,14 +3,14 @@
 //! Invariant: the records are a prefix of a list that the group may have, and each lane is the index of its item's events
 //! in it. The list itself exists in proofs alone.
 
-ghost use Rattle.std.specs.Prelude.{◌≡◌, ◌≢◌, ◌↔◌, ◌∷◌, ◌++◌, ◌<◌, ℕ, [], true, IsTrue, IfOk, MatchOption, OnOk, OnErr, filter, length, slice_get, slice_index_or};
+ghost use Rattle.std.specs.Prelude.{◌≡◌, ◌↔◌, ◌∷◌, ◌++◌, ◌<◌, [], true, IsTrue, IfOk, OnOk, OnErr, filter, length, slice_get, slice_index_or};
 ghost use Rattle.gr_model.specs.declared.limits.TheConstants.{MOST_RECORDS};
 ghost use Rattle.gr_model.specs.declared.event.Kind.TheVariants.{End};
 ghost use Rattle.gr_model.specs.Access as model;
 ghost use Rattle.gr_model.specs.Barriers as model_barriers;
 ghost use Rattle.gr_model.specs.Events.{IsEventOk};
 ghost use Rattle.gr_model.specs.Streams.{is_complete, is_of, places_from};
-ghost use Rattle.gr_lanes.specs.Indices.{EndsCut, no_index, indexed};
+ghost use Rattle.gr_lanes.specs.Indices.{EndsCut, IsNumberAmong, no_index, indexed};
 
 use crate::kinds::{is_barrier, is_release};
 use crate::lane::Lane;
@@ -164,7 +164,7 @@ impl<A: Allocator> Group<A> {
 
     /// The number among an item's releases of the event with this index, or `None` where that is no release.
     pub(crate) fn release_number(&self, item: u16, index: u32) -> Option<u32>
-        ensures { MatchOption result ((k : ℕ) → slice_get (places_from model.is_release 0 (filter (is_of item) self.now.list)) k ≢ Some index) (λ k. slice_get (places_from model.is_release 0 (filter (is_of item) self.now.list)) k ≡ Some index) }
+        ensures { IsNumberAmong model.is_release self.now.list item index result }
     {
         match self.lanes.get(usize::from(item)) {
             None => None,
@@ -174,7 +174,7 @@ impl<A: Allocator> Group<A> {
 
     /// The number among an item's barriers of the event with this index, or `None` where that is no barrier.
     pub(crate) fn barrier_number(&self, item: u16, index: u32) -> Option<u32>
-        ensures { MatchOption result ((k : ℕ) → slice_get (places_from model_barriers.is_barrier 0 (filter (is_of item) self.now.list)) k ≢ Some index) (λ k. slice_get (places_from model_barriers.is_barrier 0 (filter (is_of item) self.now.list)) k ≡ Some index) }
+        ensures { IsNumberAmong model_barriers.is_barrier self.now.list item index result }
     {
         match self.lanes.get(usize::from(item)) {
             None => None,

@@ -120,7 +120,7 @@ impl<A: Allocator> Traces<A> {
     ///
     /// # Example
     /// ```rust
-    /// let write = Event { item: 0, kind: Kind::Write, space: Space::Global, word: 16, name: None };
+    /// let write = Event { item: 0, kind: Kind::Write, space: Space::Global, word: 16, names: Names::none() };
     /// let read = Event { item: 1, kind: Kind::Read, ..write };
     /// let shape = Shape::new(vec![in alloc; 2]?).ok().ok_or("shape")?;
     /// let list = vec![in alloc; write, read, Event::end(false)]?;

@@ -21,6 +21,14 @@ use std::io::{Read, Write};
 /// # Errors
 /// Those of `read_joined`; `Write` where the writer fails, which then has a prefix of the text. In every other case of an
 /// error nothing is written.
+///
+/// # Example
+/// ```rust
+/// // `bytes` are a stream in which two items write and read global word 16, and nothing orders them.
+/// let mut text = Vec::new(rt.alloc());
+/// let report = replay(rt.alloc(), &mut bytes.as_slice(), &mut text).ok().ok_or("a report")?;
+/// assert!(rt; report.races.as_slice() == [Word::Global(16)].as_slice());
+/// ```
 pub fn replay<A: Allocator + Copy, T: Read, W: Write>(
     alloc: A,
     reader: &mut T,

@@ -114,6 +114,7 @@ impl<A: Allocator> Sequencer<A> {
         ensures unchanged { OnErr result (self.new ≡ self.old) }
         ensures sequence { IsSequence self.new }
     {
+        // brings the order's invariant into the proof
         let _taken = self.agenda.order();
         self.agenda.take(group, event)
     }
