@@ -6,7 +6,7 @@ use Rattle.gr_model.specs.declared.event.Word.{Word}
 use Rattle.gr_model.specs.declared.race.Race.{Race}
 use Rattle.gr_model.specs.RacePairs.{ArePairedRaces}
 use Rattle.gr_model.specs.Races.{IsRacy}
-use Rattle.gr_model.specs.Streams.{Streams}
+use Rattle.gr_model.specs.Streams.{AreAccepted, Streams}
 use Rattle.gr_model.specs.Waits.{IsGrounded}
 use Rattle.gr_report.specs.Putting.{AppendsPrefix}
 use Rattle.gr_replay.specs.Each.{ReadsEach}
@@ -21,10 +21,11 @@ pub record AreListedRaces (s : Streams) (by_kind : List Entry) (count : ℕ) : T
   pub listed : by_kind ≡ entries (all_kinded s races)
   pub counted : count ≡ length races
 
--- the inputs, where they are known, are the streams of a launch; the text of its races is written whole; and it is said whether a word is racy
+-- the inputs, where they are known, are the streams of a launch, which the model accepts; the text of its races is written whole; and it is said whether a word is racy
 pub record AreRacesShown (known : Option (List (List ℕ))) (most : Option ℕ) (found : Bool) (old new : Option (List ℕ)) : Type 0 where
   pub launch : Streams
   pub spelled : IfSome known (λ inputs. ReadsEach inputs launch)
+  pub accepted : AreAccepted launch
   pub races : List Race
   pub exact : ArePairedRaces launch races
   pub text : Appends old new (races_text most (entries (all_kinded launch races)) (length races))
@@ -34,6 +35,7 @@ pub record AreRacesShown (known : Option (List (List ℕ))) (most : Option ℕ) 
 pub record ShowsRacesPrefix (known : Option (List (List ℕ))) (most : Option ℕ) (old new : Option (List ℕ)) : Type 0 where
   pub launch : Streams
   pub spelled : IfSome known (λ inputs. ReadsEach inputs launch)
+  pub accepted : AreAccepted launch
   pub races : List Race
   pub exact : ArePairedRaces launch races
   pub prefix : AppendsPrefix old new (races_text most (entries (all_kinded launch races)) (length races))

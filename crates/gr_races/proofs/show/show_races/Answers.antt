@@ -1,3 +1,4 @@
+use Rattle.std.proofs.Common.{rules}
 use Rattle.gr_races.proofs.KindLemmas.{race_said}
 use Rattle.gr_races.proofs.show.show_races.Goals as goal
 
@@ -7,6 +8,7 @@ returns-in-Ok-clause-shown g c =
     record {
       launch = c.in_ok-traces.traces;
       spelled = c.in_ok-traces.ensures.launch;
+      accepted = search rules;
       races = listed.races;
       exact = listed.exact;
       text = rw (c.deref.ensures.value, listed.listed, listed.counted) at c.in-Ok.ensures.whole;
