@@ -21,7 +21,7 @@ use Rattle.gr_cli.specs.declared.arguments.Task.{Task}
 use Rattle.gr_cli.specs.declared.arguments.Task.TheVariants.{Replay, Pack, Dump, Upgrade}
 use Rattle.gr_model.specs.declared.event.Word.{Word}
 use Rattle.gr_show.specs.Opening.{IsFileFault, IsShownOfFiles, ShowsPrefixOfFiles}
-use Rattle.gr_cli.specs.Answers.{IsAnswer, IsAnswerOf, IsDisplay, IsFaultTold, IsRacesDisplay, IsRewriting}
+use Rattle.gr_cli.specs.Answers.{IsAnswer, IsAnswerOf, IsDisplay, IsFaultOfFiles, IsFaultTold, IsRacesDisplay, IsReportOfFiles, IsRewriting, IsRunAnswer, WritesPrefixOfFiles}
 use Rattle.gr_races.specs.Opening.{AreRacesShownOfFiles, ShowsRacesPrefixOfFiles}
 use Rattle.gr_cli.specs.Statuses.{fault_status, race_status, IsReportStatus}
 use Rattle.gr_cli.specs.Words.{AreHelp, AreWrong, IsHelp, IsWrongUsage}
@@ -97,6 +97,26 @@ module _ {T X : Type 0} (remaining : T → Option (List ℕ)) (Gives : List ℕ 
 
   pub no_memory_to_list : (old new old_errors new_errors : Option (List ℕ)) (status : ℕ) → IsFaultTold old new old_errors new_errors status Memory → IsRacesDisplay remaining Gives files most old new old_errors new_errors status
   no_memory_to_list old new old_errors new_errors status told = inr (Memory, record { fault = inl (inl refl); told = told; prefix = λ h. absurd cc })
+
+module _ {T X : Type 0} (remaining : T → Option (List ℕ)) (Gives : List ℕ → Result T X → Type 0) (names : List (List ℕ)) where
+  pub run_answer_of : {Z : Type 0} (outcome : Result (Report Z) Fault) (old new old_errors new_errors : Option (List ℕ)) (status : ℕ)
+      → IfOk outcome (λ r. IsReportOfFiles remaining Gives names (whole_of r))
+      → IfOk outcome (λ r. Appends old new (report_text (whole_of r)))
+      → IfErr outcome (λ f. IsFaultOfFiles remaining Gives names f)
+      → IfErr outcome (λ f. f ≢ Write → Keeps old new)
+      → IfErr outcome (λ f. f ≡ Write → WritesPrefixOfFiles remaining Gives names old new)
+      → IfOk outcome (λ r. IsReportStatus (whole_of r) status)
+      → OnOk outcome (Keeps old_errors new_errors)
+      → IfErr outcome (λ f. status ≡ fault_status f)
+      → IfErr outcome (λ f. AppendsPrefix old_errors new_errors (fault_line f))
+      → IsRunAnswer remaining Gives names old new old_errors new_errors status
+  run_answer_of (Ok r) old new old_errors new_errors status report text fault untouched prefix ends silent fault_ends line =
+      inl (whole_of r, record { report = report; text = text; silent = silent; ends = ends })
+  run_answer_of (Err f) old new old_errors new_errors status report text fault untouched prefix ends silent fault_ends line =
+      inr (f, record { fault = fault; told = record { line = line; ends = fault_ends; untouched = untouched }; prefix = prefix })
+
+  pub no_memory_to_run : (old new old_errors new_errors : Option (List ℕ)) (status : ℕ) → IsFaultTold old new old_errors new_errors status Memory → IsRunAnswer remaining Gives names old new old_errors new_errors status
+  no_memory_to_run old new old_errors new_errors status told = inr (Memory, record { fault = inl (inl refl); told = told; prefix = λ h. absurd cc })
 
 -- where memory ran out before the task began
 pub no_memory : (t : Task) (input old new old_errors new_errors : Option (List ℕ)) (status : ℕ) → IsFaultTold old new old_errors new_errors status Memory → IsAnswerOf t input old new old_errors new_errors status

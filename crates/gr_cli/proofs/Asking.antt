@@ -1,6 +1,7 @@
 -- What the values of the command `explain` ask for.
-use Rattle.std.proofs.Common.{◌≡◌, ◌∙◌, ℕ, List, Option, None, Some, Bool, true, false, true≢false, sym, ap, map, Bor, codes, refl}
-use Rattle.std.specs.Prelude.{option_map, is_some}
+use Rattle.std.proofs.Common.{◌≡◌, ◌∙◌, ℕ, List, Option, None, Some, Bool, true, false, true≢false, sym, ap, map, Bor, codes, refl, inl, inr, subst, Result, Ok, Err, MatchOption}
+use Rattle.std.specs.Prelude.{◌↔◌, IfOk, IsOk, option_map, is_some}
+use Rattle.std.specs.Result.{result_ok}
 use Rattle.clap.specs.declared.parser.matches.Found.{Found}
 use Rattle.clap.specs.Matches.{first_value, matched_of, raw_values}
 use Rattle.clap.specs.Walk.{Row, Text, all_of, first_of, rows_of}
@@ -12,7 +13,11 @@ use Rattle.gr_cli.specs.declared.arguments.Question.{Question}
 use Rattle.gr_cli.specs.declared.arguments.Request.{Request}
 use Rattle.gr_cli.specs.declared.arguments.Task.{Task}
 use Rattle.gr_cli.specs.declared.arguments.Listing.{Listing}
-use Rattle.gr_cli.specs.declared.arguments.Request.TheVariants.{List as Lists, Miscounted, Perform, Show, Misnamed}
+use Rattle.gr_cli.specs.declared.arguments.Plan.{Plan}
+use Rattle.gr_cli.specs.declared.arguments.Request.TheVariants.{List as Lists, Misconfigured, Miscounted, Misnamed, Perform, Run, Show}
+use Rattle.gr_cli.specs.Plans.{IsNumberOr, IsPlan, IsPlanOf, IsPlanned, IsSetUp}
+use Rattle.gr_model.specs.declared.config.ConfigError.{ConfigError}
+use Rattle.gr_model.specs.Configs.{IsConfig, Settings}
 use Rattle.gr_cli.specs.Questions.{IsCounted, IsListing, IsListingOf, IsMost, IsNamed, IsQuestion, IsRequestOf}
 
 nothing_is_some : {X : Type 0} (x : X) → None ≡ Some x → ⊥
@@ -58,6 +63,8 @@ asked rows Misnamed w files h named = h w files named
 asked rows (Perform t) w files h named = h
 asked rows (Lists l) w files h named = h
 asked rows Miscounted w files h named = h
+asked rows (Run p) w files h named = h
+asked rows Misconfigured w files h named = h
 
 pub not_asked : (rows : List Row) (r : Request) → IsRequestOf rows r → ((w : Word) (files : List Text) → IsNamed rows w files → ⊥) → r ≡ Misnamed
 not_asked rows (Show q) h none = absurd (none q.word (map (λ s. s.now) q.files.items) h)
@@ -65,6 +72,8 @@ not_asked rows Misnamed h none = refl
 not_asked rows (Perform t) h none = absurd h
 not_asked rows (Lists l) h none = absurd h
 not_asked rows Miscounted h none = absurd h
+not_asked rows (Run p) h none = absurd h
+not_asked rows Misconfigured h none = absurd h
 
 -- ---- what the values of the command `races` ask for
 
@@ -88,6 +97,8 @@ listed rows Miscounted most files h counted = h most files counted
 listed rows (Perform t) most files h counted = h
 listed rows (Show q) most files h counted = h
 listed rows Misnamed most files h counted = h
+listed rows (Run p) most files h counted = h
+listed rows Misconfigured most files h counted = h
 
 pub not_listed : (rows : List Row) (r : Request) → IsListingOf rows r → ((most : Option ℕ) (files : List Text) → IsCounted rows most files → ⊥) → r ≡ Miscounted
 not_listed rows (Lists l) h none = absurd (none l.most (map (λ s. s.now) l.files.items) h)
@@ -95,6 +106,63 @@ not_listed rows Miscounted h none = refl
 not_listed rows (Perform t) h none = absurd h
 not_listed rows (Show q) h none = absurd h
 not_listed rows Misnamed h none = absurd h
+not_listed rows (Run p) h none = absurd h
+not_listed rows Misconfigured h none = absurd h
+
+-- ---- what the values of the command `run` ask for
+
+-- where the text is no number, the option has none
+pub no_number : (rows : List Row) (option : Text) (default : ℕ) (text : Text) → first_of option rows ≡ Some text → ((n : ℕ) → IsNumber text n → ⊥) → (n : ℕ) → IsNumberOr rows option default n → ⊥
+no_number rows option default text at none n (inl missing) = nothing_is_some text (sym missing.0 ∙ at)
+no_number rows option default text at none n (inr is) = none n (let same : is.0 ≡ text = injected is.0 text (sym is.1 ∙ at) in rw same at is.2)
+
+-- an option has one number at most
+pub one_number : (rows : List Row) (option : Text) (default m n : ℕ) → IsNumberOr rows option default m → IsNumberOr rows option default n → m ≡ n
+one_number rows option default m n (inl a) (inl b) = a.1 ∙ sym b.1
+one_number rows option default m n (inl a) (inr b) = absurd (nothing_is_some b.0 (sym a.0 ∙ b.1))
+one_number rows option default m n (inr a) (inl b) = absurd (nothing_is_some a.0 (sym b.0 ∙ a.1))
+one_number rows option default m n (inr a) (inr b) =
+    let same : b.0 ≡ a.0 = injected b.0 a.0 (sym b.1 ∙ a.1) in
+    let other : IsNumber a.0 n = rw same at b.2 in
+    sym a.2.value ∙ other.value
+
+-- an option has the number that its text is, and none where the text is none
+pub number_of_option : (rows : List Row) (option : Text) (default : ℕ) (text : Text) (r : Option ℕ) → first_of option rows ≡ Some text → MatchOption r ((n : ℕ) → IsNumber text n → ⊥) (λ n. IsNumber text n) → MatchOption r ((n : ℕ) → IsNumberOr rows option default n → ⊥) (λ n. IsNumberOr rows option default n)
+number_of_option rows option default text None at none = no_number rows option default text at none
+number_of_option rows option default text (Some n) at is = inr (text, at, is)
+
+-- the values set up one run at most
+pub one_set_up : (rows : List Row) (c d : Settings) → IsSetUp rows c → IsNumberOr rows (codes "workers") 2 d.workers → IsNumberOr rows (codes "queues") 1 d.queues → IsNumberOr rows (codes "capacity") 1024 d.capacity → c ≡ d
+one_set_up rows c d a workers queues capacity =
+    let same_workers : c.workers ≡ d.workers = one_number rows (codes "workers") 2 c.workers d.workers a.workers workers in
+    let same_queues : c.queues ≡ d.queues = one_number rows (codes "queues") 1 c.queues d.queues a.queues queues in
+    let same_capacity : c.capacity ≡ d.capacity = one_number rows (codes "capacity") 1024 c.capacity d.capacity a.capacity capacity in
+    λ i. record { workers = same_workers i; queues = same_queues i; capacity = same_capacity i }
+
+-- the numbers of the options set up a run exactly where a run may have them
+pub set_up : (rows : List Row) (given : Settings) (made : Result Settings ConfigError) → IsNumberOr rows (codes "workers") 2 given.workers → IsNumberOr rows (codes "queues") 1 given.queues → IsNumberOr rows (codes "capacity") 1024 given.capacity → (IsOk made ↔ IsConfig given) → IfOk made (λ c. c ≡ given) → MatchOption (result_ok made) ((c : Settings) → IsSetUp rows c → ⊥) (λ c. IsSetUp rows c)
+set_up rows given (Ok c) workers queues capacity accepted is =
+    subst (IsSetUp rows) (sym is) (record { workers = workers; queues = queues; capacity = capacity; may_be = accepted.0 refl })
+set_up rows given (Err e) workers queues capacity accepted is =
+    λ c is_set_up. absurd (true≢false (sym (accepted.1 (subst IsConfig (one_set_up rows c given is_set_up workers queues capacity) is_set_up.may_be))))
+
+pub planned : (rows : List Row) (r : Request) (c : Settings) (files : List Text) → IsPlanOf rows r → IsPlanned rows c files → IsPlan c files r
+planned rows (Run p) c files h plan = (one_set_up rows p.config c h.set_up plan.set_up.workers plan.set_up.queues plan.set_up.capacity, injected (map (λ s. s.now) p.files.items) files (sym h.at_files ∙ plan.at_files))
+planned rows Misconfigured c files h plan = h c files plan
+planned rows (Perform t) c files h plan = h
+planned rows (Show q) c files h plan = h
+planned rows Misnamed c files h plan = h
+planned rows (Lists l) c files h plan = h
+planned rows Miscounted c files h plan = h
+
+pub not_planned : (rows : List Row) (r : Request) → IsPlanOf rows r → ((c : Settings) (files : List Text) → IsPlanned rows c files → ⊥) → r ≡ Misconfigured
+not_planned rows (Run p) h none = absurd (none p.config (map (λ s. s.now) p.files.items) h)
+not_planned rows Misconfigured h none = refl
+not_planned rows (Perform t) h none = absurd h
+not_planned rows (Show q) h none = absurd h
+not_planned rows Misnamed h none = absurd h
+not_planned rows (Lists l) h none = absurd h
+not_planned rows Miscounted h none = absurd h
 
 -- ---- requests of other kinds
 
@@ -120,3 +188,11 @@ list_is_no_task l u e = true≢false (sym (ap is_task e))
 pub miscounted_is_no_task : (u : Task) → Miscounted ≡ Perform u → ⊥
 unfolding is_task
 miscounted_is_no_task u e = true≢false (sym (ap is_task e))
+
+pub plan_is_no_task : (p : Plan) (u : Task) → Run p ≡ Perform u → ⊥
+unfolding is_task
+plan_is_no_task p u e = true≢false (sym (ap is_task e))
+
+pub misconfigured_is_no_task : (u : Task) → Misconfigured ≡ Perform u → ⊥
+unfolding is_task
+misconfigured_is_no_task u e = true≢false (sym (ap is_task e))

@@ -80,6 +80,23 @@ not_races Upgrade e = below 114 117 (sym (ap first_letter e)) (omega arith)
 races_is_not_explain : codes "explain" ≡ codes "races" → ⊥
 races_is_not_explain e = below 101 114 (ap first_letter e) (omega arith)
 
+-- nor that of the command that runs a launch in threads
+
+abbrev second_letter : Text → ℕ
+second_letter text = get_or text 1 0
+
+not_run : (t : Task) → name_of t ≡ codes "run" → ⊥
+not_run Replay e = below 101 117 (ap second_letter e) (omega arith)
+not_run Pack e = below 112 114 (ap first_letter e) (omega arith)
+not_run Dump e = below 100 114 (ap first_letter e) (omega arith)
+not_run Upgrade e = below 114 117 (sym (ap first_letter e)) (omega arith)
+
+run_is_not_explain : codes "explain" ≡ codes "run" → ⊥
+run_is_not_explain e = below 101 114 (ap first_letter e) (omega arith)
+
+run_is_not_races : codes "races" ≡ codes "run" → ⊥
+run_is_not_races e = below 97 117 (ap second_letter e) (omega arith)
+
 module _ (command : App) (m : ArgMatches) (is : command ≡ gpurace) (words : List Text) (matches : HasMatchesOf command words m) where
   name_is_met : subcommand_name_of m ≡ met words
   name_is_met =
@@ -104,6 +121,12 @@ module _ (command : App) (m : ArgMatches) (is : command ≡ gpurace) (words : Li
     | inr e ↦ nothing_is_some (codes "races") (sym (no_name e.0) ∙ named)
   ]
 
+  pub run_is_no_task : (t : Task) → AsksFor t words → subcommand_name_of m ≡ Some (codes "run") → ⊥
+  run_is_no_task t asks named = elim asks [
+    | inl e ↦ not_run t (injected (name_of t) (codes "run") (sym (name_is t e) ∙ named))
+    | inr e ↦ nothing_is_some (codes "run") (sym (no_name e.0) ∙ named)
+  ]
+
   module _ (name : Text) (rows : List Row) (asks : command_of words ≡ Some (name, rows)) where
     command_is_there : subcommand_rows_of m ≡ Some (name, rows)
     unfolding command_of
@@ -121,6 +144,19 @@ module _ (command : App) (m : ArgMatches) (is : command ≡ gpurace) (words : Li
 
   pub nor_both : (rows : List Row) → command_of words ≡ Some (codes "explain", rows) → subcommand_name_of m ≡ Some (codes "races") → ⊥
   nor_both rows asks named = races_is_not_explain (injected (codes "explain") (codes "races") (sym (command_is_named (codes "explain") rows asks) ∙ named))
+
+  module _ (rows : List Row) where
+    pub run_nor_explain : command_of words ≡ Some (codes "explain", rows) → subcommand_name_of m ≡ Some (codes "run") → ⊥
+    run_nor_explain asks named = run_is_not_explain (injected (codes "explain") (codes "run") (sym (command_is_named (codes "explain") rows asks) ∙ named))
+
+    pub run_nor_races : command_of words ≡ Some (codes "races", rows) → subcommand_name_of m ≡ Some (codes "run") → ⊥
+    run_nor_races asks named = run_is_not_races (injected (codes "races") (codes "run") (sym (command_is_named (codes "races") rows asks) ∙ named))
+
+    pub explain_nor_run : command_of words ≡ Some (codes "run", rows) → subcommand_name_of m ≡ Some (codes "explain") → ⊥
+    explain_nor_run asks named = run_is_not_explain (injected (codes "explain") (codes "run") (sym named ∙ command_is_named (codes "run") rows asks))
+
+    pub races_nor_run : command_of words ≡ Some (codes "run", rows) → subcommand_name_of m ≡ Some (codes "races") → ⊥
+    races_nor_run asks named = run_is_not_races (injected (codes "races") (codes "run") (sym named ∙ command_is_named (codes "run") rows asks))
 
   module _ (rows : List Row) (asks : command_of words ≡ Some (codes "explain", rows)) where
     explain_is_met : subcommand_rows_of m ≡ Some (codes "explain", rows)

@@ -1,6 +1,6 @@
 -- What a run of the program leaves behind: on standard output, on standard error, and its status.
 -- Source: docs/FORMATS.md, "Report", "Fault lines" and "Exit statuses".
-use Rattle.std.specs.Prelude.{◌≡◌, ◌≢◌, ◌⊎◌, ℕ, Bool, List, Option, Result, IfSome}
+use Rattle.std.specs.Prelude.{◌≡◌, ◌≢◌, ◌⊎◌, ℕ, Bool, List, Option, Result, IfSome, map}
 use Rattle.std.specs.Io.KnownBytes.{Appends, Keeps}
 use Rattle.gr_model.specs.declared.event.Word.{Word}
 use Rattle.gr_model.specs.Reports.{WholeReport}
@@ -9,13 +9,15 @@ use Rattle.gr_record.specs.declared.fault.Fault.TheVariants.{Write}
 use Rattle.gr_report.specs.Putting.{AppendsPrefix}
 use Rattle.gr_report.specs.ReportText.{report_text}
 use Rattle.gr_report.specs.FaultText.{fault_line}
+use Rattle.gr_replay.specs.Each.{all_known}
 use Rattle.gr_replay.specs.Replays.{IsExact, IsReplayFault, WritesPrefix}
 use Rattle.gr_input.specs.Faults.{Fails}
 use Rattle.gr_text.specs.Texts.{packed}
 use Rattle.gr_text.specs.Dumps.{dumped, upgraded}
 use Rattle.gr_text.specs.Writes.{Writes, WritesPrefix as WritesPrefixOf}
 use Rattle.gr_races.specs.Opening.{AreRacesShownOfFiles, ShowsRacesPrefixOfFiles}
-use Rattle.gr_show.specs.Opening.{IsFileFault, IsShownOfFiles, ShowsPrefixOfFiles}
+use Rattle.gr_show.specs.Opening.{AreOpened, IsFileFault, IsOpeningFault, IsShownOfFiles, ShowsPrefixOfFiles}
+use Rattle.gr_streams.specs.Streams.{IsExactOfEach, IsRunFault, WritesPrefixOfEach}
 use Rattle.gr_cli.specs.declared.arguments.Task.{Task}
 use Rattle.gr_cli.specs.declared.arguments.Task.TheVariants.{Replay, Pack, Dump, Upgrade}
 use Rattle.gr_cli.specs.declared.status.TheConstants.{NOTHING}
@@ -103,3 +105,34 @@ module _ {T X : Type 0} (remaining : T → Option (List ℕ)) (Gives : List ℕ 
 
   abbrev pub IsRacesDisplay : Type 0
   IsRacesDisplay = ((found : Bool) × AreRacesDisplayed found) ⊎ ((f : Fault) × AreRacesNotDisplayed f)
+
+-- what is left behind where a launch is to be run in threads, whose streams the files of these names have, one each
+module _ {T X : Type 0} (remaining : T → Option (List ℕ)) (Gives : List ℕ → Result T X → Type 0) (names : List (List ℕ)) where
+  -- it is the report of the bytes of the files, where these are known
+  abbrev pub IsReportOfFiles : WholeReport → Type 0
+  IsReportOfFiles r = (files : List T) × AreOpened Gives names files × IfSome (all_known (map remaining files)) (λ inputs. IsExactOfEach inputs r)
+
+  -- why there is none: a file can't be opened, or the bytes of the files are no launch, or a thread or memory is missing, or the writer failed
+  abbrev pub IsFaultOfFiles : Fault → Type 0
+  IsFaultOfFiles f = IsOpeningFault Gives names f ⊎ ((files : List T) × AreOpened Gives names files × IfSome (all_known (map remaining files)) (λ inputs. IsRunFault inputs f))
+
+  -- a prefix of its text was written
+  abbrev pub WritesPrefixOfFiles : Option (List ℕ) → Option (List ℕ) → Type 0
+  WritesPrefixOfFiles old new = (files : List T) × AreOpened Gives names files × IfSome (all_known (map remaining files)) (λ inputs. WritesPrefixOfEach inputs old new)
+
+  module _ (old new old_errors new_errors : Option (List ℕ)) (status : ℕ) where
+    -- the text of the report is written whole, nothing is told on standard error, and the status is that of the report
+    pub record IsRunReported (r : WholeReport) : Type 0 where
+      pub report : IsReportOfFiles r
+      pub text : Appends old new (report_text r)
+      pub silent : Keeps old_errors new_errors
+      pub ends : IsReportStatus r status
+
+    -- f is why there is no report, and is told; where the writer failed, it has a prefix of the text
+    pub record IsRunRefused (f : Fault) : Type 0 where
+      pub fault : IsFaultOfFiles f
+      pub told : IsFaultTold old new old_errors new_errors status f
+      pub prefix : f ≡ Write → WritesPrefixOfFiles old new
+
+    abbrev pub IsRunAnswer : Type 0
+    IsRunAnswer = ((r : WholeReport) × IsRunReported r) ⊎ ((f : Fault) × IsRunRefused f)

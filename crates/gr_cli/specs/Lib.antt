@@ -1,5 +1,6 @@
 pub mod Answers
 pub mod Plain
+pub mod Plans
 pub mod Questions
 pub mod Statuses
 pub mod Words

@@ -1,17 +1,20 @@
 //! What the words of the command line ask for.
 
-ghost use Rattle.std.specs.Prelude.{◌≡◌, ℕ, List, Option, false, IfOk, IfErr, map};
+ghost use Rattle.std.specs.Prelude.{◌≡◌, ℕ, List, Option, false, IfOk, IfErr, MatchOption, map};
 ghost use Rattle.clap.specs.declared.builder.command.Command.TheViews.{out-Command as fields_of};
-ghost use Rattle.clap.specs.Walk.{rows_of};
+ghost use Rattle.clap.specs.Walk.{rows_of, rule_of};
 ghost use Rattle.clap.specs.Words.{FailsBy, app_of, found_of, kind_of, shape_of};
 ghost use Rattle.gr_model.specs.declared.event.Word.{Word as AnyWord};
-ghost use Rattle.gr_cli.specs.declared.arguments.Request.TheVariants.{Perform, Miscounted, Misnamed};
+ghost use Rattle.gr_model.specs.Configs.{Settings};
+ghost use Rattle.gr_cli.specs.declared.arguments.Request.TheVariants.{Misconfigured, Miscounted, Misnamed, Perform};
 ghost use Rattle.gr_cli.specs.declared.arguments.Task.{Task as AnyTask};
-ghost use Rattle.gr_cli.specs.Words.{gpurace, command_named, explaining, faults, name_of, racing, AsksFor};
+ghost use Rattle.gr_cli.specs.Words.{gpurace, command_named, explaining, faults, name_of, optional, racing, running, AsksFor};
+ghost use Rattle.gr_cli.specs.Plans.{AsksToRun, IsMisconfigured, IsNumberOr, IsPlan, IsPlanOf, IsSetUp};
 ghost use Rattle.gr_cli.specs.Questions.{AsksForRaces, AsksToShow, IsListing, IsListingOf, IsMiscounted, IsMisnamed, IsMost, IsQuestion, IsRequestOf};
 
 use clap::error::ErrorKind;
 use clap::{Arg, ArgAction, ArgMatches, Command, Error};
+use gr_model::config::Config;
 use gr_model::event::Word;
 use gr_show::words::{number_of, word_named};
 use std::alloc::{AllocError, Global};
@@ -48,6 +51,13 @@ pub struct Listing<'a> {
     pub files: Vec<&'a str>,
 }
 
+/// How a launch is run in threads, whose streams are in these files, one each.
+#[derive(Drop)]
+pub struct Plan<'a> {
+    pub config: Config,
+    pub files: Vec<&'a str>,
+}
+
 /// What the words of a command line ask for.
 #[derive(Drop)]
 pub enum Request<'a> {
@@ -61,6 +71,10 @@ pub enum Request<'a> {
     List(Listing<'a>),
     /// The races of a launch by their kinds, but how many is no number.
     Miscounted,
+    /// The report of a launch, by a run in threads.
+    Run(Plan<'a>),
+    /// The report of a launch, by a run in threads, but the words set up none.
+    Misconfigured,
 }
 
 const ABOUT: &str =
@@ -80,6 +94,7 @@ Examples:
   gpurace pack < trace.txt | gpurace replay
   gpurace explain g 16 group0.gpurace group1.gpurace
   gpurace races group0.gpurace group1.gpurace
+  gpurace run --workers 4 group0.gpurace group1.gpurace
 
 Exit status:
   0  nothing was found, or what was asked for is done
@@ -138,6 +153,28 @@ Example:
 
 const MOST: &str = "Of how many kinds to tell at most";
 
+const RUN: &str = "Reports on the trace in files, by several threads";
+
+const LONG_RUN: &str = "\
+Reports on the trace in files, by several threads: what is written and the status are those of replay on the same streams.
+
+Each file has a thread that reads it and sends its records on; one thread puts all records in order; workers look for races.
+So the files may be pipes that are still being written. A file that cannot be opened is told first, and then the headers'
+faults, in the order of the files.";
+
+const AFTER_RUN: &str = "\
+Example:
+  gpurace run --workers 4 group*.gpurace
+  gpurace 1
+  groups 4 items 1024 records 81920
+  end races 0 diverge 0 unmatched 0 held 0";
+
+const WORKERS: &str = "How many threads look for races, 1 to 8; 2 if not given";
+
+const QUEUES: &str = "How many queues the records come through, 1 to 4; 1 if not given";
+
+const CAPACITY: &str = "For how many records each queue has room, 1 to 65536; 1024 if not given";
+
 /// A command without options.
 fn plain_command<'a>(alloc: Global, name: &'a str, about: &'a str) -> Command<'a>
     ensures shape { shape_of result ≡ command_named name.now }
@@ -187,6 +224,36 @@ fn races_command<'a>(alloc: Global) -> Result<Command<'a>, AllocError>
         .arg(files)
 }
 
+/// An option that takes a number.
+fn number_option<'a>(alloc: Global, name: &'a str, help: &'a str) -> Arg<'a>
+    ensures rule { rule_of result ≡ optional name.now }
+    ensures alone { result.global ≡ false }
+{
+    Arg::new(alloc, name).long(name).value_name("N").help(help)
+}
+
+/// The command that runs a launch in threads.
+fn run_command<'a>(alloc: Global) -> Result<Command<'a>, AllocError>
+    ensures shape { IfOk result (λ c. shape_of c ≡ running) }
+    ensures alone { IfOk result (λ c. (fields_of c).has_globals ≡ false) }
+{
+    let workers = number_option(alloc, "workers", WORKERS);
+    let queues = number_option(alloc, "queues", QUEUES);
+    let capacity = number_option(alloc, "capacity", CAPACITY);
+    let files = Arg::new(alloc, "FILE")
+        .required(true)
+        .action(ArgAction::Append)
+        .help(FILES);
+    Command::new(alloc, "run")
+        .about(RUN)
+        .long_about(LONG_RUN)
+        .after_help(AFTER_RUN)
+        .arg(workers)?
+        .arg(queues)?
+        .arg(capacity)?
+        .arg(files)
+}
+
 /// The program's commands and options, as help shows them.
 fn command<'a>(alloc: Global) -> Result<Command<'a>, AllocError>
     ensures { IfOk result (λ c. app_of c ≡ gpurace) }
@@ -197,6 +264,7 @@ fn command<'a>(alloc: Global) -> Result<Command<'a>, AllocError>
     let upgrade = plain_command(alloc, "upgrade", UPGRADE);
     let explain = explain_command(alloc)?;
     let races = races_command(alloc)?;
+    let run = run_command(alloc)?;
     Command::new(alloc, "gpurace")
         .bin_name("gpurace")?
         .no_binary_name(true)
@@ -209,7 +277,8 @@ fn command<'a>(alloc: Global) -> Result<Command<'a>, AllocError>
         .subcommand(dump)?
         .subcommand(upgrade)?
         .subcommand(explain)?
-        .subcommand(races)
+        .subcommand(races)?
+        .subcommand(run)
 }
 
 /// The task of the command of this name, which is one of the program's.
@@ -275,6 +344,40 @@ fn listing_of<'a>(alloc: Global, matches: &ArgMatches<'a>) -> Result<Request<'a>
     Ok(Request::List(Listing { most, files }))
 }
 
+/// The number below 2^32 behind an option, or `default` where the option is not there.
+fn number_or(matches: &ArgMatches<'_>, option: &str, default: u32) -> Option<u32>
+    ensures { MatchOption result ((n : ℕ) → ¬ IsNumberOr (rows_of (found_of matches.now)) option.now default n) (λ n. IsNumberOr (rows_of (found_of matches.now)) option.now default n) }
+{
+    match matches.get_str(option) {
+        None => Some(default),
+        Some(text) => number_of(text),
+    }
+}
+
+/// How the values of the command `run` set up a run.
+fn config_of(matches: &ArgMatches<'_>) -> Option<Config>
+    ensures { MatchOption result ((c : Settings) → ¬ IsSetUp (rows_of (found_of matches.now)) c) (λ c. IsSetUp (rows_of (found_of matches.now)) c) }
+{
+    let workers = u16::try_from(number_or(matches, "workers", 2)?).ok()?;
+    let queues = u16::try_from(number_or(matches, "queues", 1)?).ok()?;
+    let capacity = number_or(matches, "capacity", 1024)?;
+    Config::new(workers, queues, capacity).ok()
+}
+
+/// The run that the values of the command `run` ask for.
+fn plan_of<'a>(alloc: Global, matches: &ArgMatches<'a>) -> Result<Request<'a>, AllocError>
+    ensures { IfOk result (λ r. IsPlanOf (rows_of (found_of matches.now)) r) }
+{
+    let Some(config) = config_of(matches) else {
+        return Ok(Request::Misconfigured);
+    };
+    let Some(files) = matches.get_strs("FILE") else {
+        return Ok(Request::Misconfigured);
+    };
+    let files = Vec::from_slice(alloc, files)?;
+    Ok(Request::Run(Plan { config, files }))
+}
+
 /// What the words ask for, the program's name not among them.
 ///
 /// # Errors
@@ -287,6 +390,8 @@ pub fn request_of<'a, S: AsStr>(alloc: Global, words: &'a [S]) -> Result<Request
     ensures misnamed { IfOk result (λ r. IsMisnamed (map S.text words.now) → r ≡ Misnamed) }
     ensures races { IfOk result (λ r. (most : Option ℕ) (names : List (List ℕ)) → AsksForRaces most names (map S.text words.now) → IsListing most names r) }
     ensures miscounted { IfOk result (λ r. IsMiscounted (map S.text words.now) → r ≡ Miscounted) }
+    ensures runs { IfOk result (λ r. (c : Settings) (names : List (List ℕ)) → AsksToRun c names (map S.text words.now) → IsPlan c names r) }
+    ensures misconfigured { IfOk result (λ r. IsMisconfigured (map S.text words.now) → r ≡ Misconfigured) }
 {
     let matches = command(alloc)?.try_get_matches_from(words)?;
     if let Some(values) = matches.subcommand_matches("explain") {
@@ -294,6 +399,9 @@ pub fn request_of<'a, S: AsStr>(alloc: Global, words: &'a [S]) -> Result<Request
     }
     if let Some(values) = matches.subcommand_matches("races") {
         return Ok(listing_of(alloc, values)?);
+    }
+    if let Some(values) = matches.subcommand_matches("run") {
+        return Ok(plan_of(alloc, values)?);
     }
     match matches.subcommand_name() {
         None => Ok(Request::Perform(Task::Replay)),

@@ -9,12 +9,15 @@ ghost use Rattle.gr_report.specs.FaultText.{fault_line};
 ghost use Rattle.gr_report.specs.Putting.{AppendsPrefix};
 ghost use Rattle.gr_report.specs.Whole.{whole_of};
 ghost use Rattle.gr_cli.specs.declared.arguments.Task.{Task as AnyTask};
-ghost use Rattle.gr_cli.specs.Answers.{IsAnswerOf, IsDisplay, IsFaultTold, IsRacesDisplay};
+ghost use Rattle.gr_cli.specs.Answers.{IsAnswerOf, IsDisplay, IsFaultTold, IsRacesDisplay, IsRunAnswer};
+ghost use Rattle.gr_model.specs.Configs.{Settings};
+ghost use Rattle.gr_cli.specs.Plans.{AsksToRun, IsMisconfigured};
 ghost use Rattle.gr_cli.specs.Questions.{AsksForRaces, AsksToShow, IsMiscounted, IsMisnamed};
 ghost use Rattle.gr_cli.specs.Statuses.{fault_status, race_status, IsReportStatus};
 ghost use Rattle.gr_cli.specs.Words.{AreHelp, AreWrong, AsksFor, IsHelp, IsWrongUsage, faults};
 
-use crate::arguments::{Listing, Question, Request, Task, request_of};
+use crate::arguments::{Listing, Plan, Question, Request, Task, request_of};
+use crate::running::run_files;
 use crate::status::{FAILED, NOTHING, USAGE, WANTING, status_of, status_of_race, status_of_report};
 use clap::Error;
 use clap::error::ErrorKind;
@@ -28,6 +31,9 @@ use gr_text::{dump, pack, upgrade};
 use std::alloc::Global;
 use std::convert::AsStr;
 use std::io::{self, Read, Write};
+use std::sync::Wait;
+use std::thread::Threads;
+use std::time::Clock;
 
 const MISNAMED: &[u8] = b"\
 error: SPACE and WORD name no word of memory: SPACE is g, or l with a group from 0 to 63 as in l3, and WORD is a number \
@@ -38,6 +44,11 @@ For more information, try '--help'.\n";
 const MISCOUNTED: &[u8] = b"\
 error: N of --most is no number below 4294967296 in decimal digits\n\n\
 Usage: gpurace races [OPTIONS] <FILE>...\n\n\
+For more information, try '--help'.\n";
+
+const MISCONFIGURED: &[u8] = b"\
+error: N of --workers is 1 to 8, N of --queues is 1 to 4, and N of --capacity is 1 to 65536, in decimal digits\n\n\
+Usage: gpurace run [OPTIONS] <FILE>...\n\n\
 For more information, try '--help'.\n";
 
 /// Tells of a fault on standard error, and gives its status. That standard error fails is passed over: there is nowhere
@@ -176,9 +187,39 @@ fn explain_miscounting<E: Write>(errors: &mut E) -> u8
     USAGE
 }
 
+/// Runs the launch whose streams are in files, and gives the exit status.
+fn run<H, T, O, W, E>(
+    rt: H,
+    alloc: Global,
+    plan: &Plan<'_>,
+    opener: O,
+    writer: &mut W,
+    errors: &mut E,
+) -> u8
+where
+    H: Threads + Wait + Clock + Copy + Send + 'static,
+    T: Read + Send + Drop + 'static,
+    O: Fn(&str) -> io::Result<T>,
+    W: Write,
+    E: Write,
+    requires { O.IsAlwaysCallable opener }
+    ensures { IsRunAnswer T.remaining (FnReturnsAt O.Fn opener) (map (λ s. s.now) plan.now.files.items) (W.contents writer.old) (W.contents writer.new) (E.contents errors.old) (E.contents errors.new) result }
+{
+    conclude(run_files(rt, alloc, plan, opener, writer), errors)
+}
+
+/// Tells that the words have no numbers that a run may have.
+fn explain_misconfiguring<E: Write>(errors: &mut E) -> u8
+    ensures { result ≡ USAGE }
+{
+    let _ = errors.write_all(MISCONFIGURED);
+    USAGE
+}
+
 /// Does what the words ask for, and gives the exit status. The words are those behind the program's name. Files are opened
-/// by `opener`, in their order, where the words ask for a word to be shown; no other task opens one.
-pub fn execute<S, R, T, O, W, E>(
+/// by `opener`, in their order, where the words name files; no other request opens one. Only a run in threads uses `rt`.
+pub fn execute<H, S, R, T, O, W, E>(
+    rt: H,
     alloc: Global,
     words: &[S],
     reader: &mut R,
@@ -187,9 +228,10 @@ pub fn execute<S, R, T, O, W, E>(
     errors: &mut E,
 ) -> u8
 where
+    H: Threads + Wait + Clock + Copy + Send + 'static,
     S: AsStr,
     R: Read,
-    T: Read + Drop,
+    T: Read + Send + Drop + 'static,
     O: Fn(&str) -> io::Result<T>,
     W: Write,
     E: Write,
@@ -206,6 +248,10 @@ where
     // The races that are shown, of files.
     ensures lists { (most : Option ℕ) (names : List (List ℕ)) → AsksForRaces most names (map S.text words.now) → IsRacesDisplay T.remaining (FnReturnsAt O.Fn opener) names most (W.contents writer.old) (W.contents writer.new) (E.contents errors.old) (E.contents errors.new) result }
     ensures miscounted { IsMiscounted (map S.text words.now) → ((result ≡ USAGE) ⊎ (result ≡ WANTING)) × Keeps (W.contents writer.old) (W.contents writer.new) }
+
+    // The launch that is run in threads, of files.
+    ensures runs { (c : Settings) (names : List (List ℕ)) → AsksToRun c names (map S.text words.now) → IsRunAnswer T.remaining (FnReturnsAt O.Fn opener) names (W.contents writer.old) (W.contents writer.new) (E.contents errors.old) (E.contents errors.new) result }
+    ensures misconfigured { IsMisconfigured (map S.text words.now) → ((result ≡ USAGE) ⊎ (result ≡ WANTING)) × Keeps (W.contents writer.old) (W.contents writer.new) }
 {
     match request_of(alloc, words) {
         Ok(Request::Perform(task)) => perform(alloc, task, reader, writer, errors),
@@ -213,6 +259,8 @@ where
         Ok(Request::Misnamed) => explain_misnaming(errors),
         Ok(Request::List(listing)) => list(alloc, &listing, opener, writer, errors),
         Ok(Request::Miscounted) => explain_miscounting(errors),
+        Ok(Request::Run(plan)) => run(rt, alloc, &plan, opener, writer, errors),
+        Ok(Request::Misconfigured) => explain_misconfiguring(errors),
         Err(error) => explain_usage(&error, writer, errors),
     }
 }

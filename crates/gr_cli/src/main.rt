@@ -7,6 +7,7 @@
 mod arguments;
 mod execute;
 mod laws;
+mod running;
 mod status;
 #[cfg(test)]
 mod tests;
@@ -40,6 +41,7 @@ fn main(rt: HostRuntime) -> ExitCode {
     };
     let mut reader = rt.stdin();
     let status = execute(
+        rt,
         alloc,
         words.as_slice(),
         &mut reader,

@@ -5,8 +5,11 @@ use gr_record::error::RecordError;
 use gr_record::fault::Fault;
 use gr_text::packing::pack_text;
 use std::alloc::Global;
-use std::io::{self, ErrorKind, Read, Write};
+use std::io::{self, Cursor, ErrorKind, Read, Write};
+use std::sync::Wait;
 use std::test::*;
+use std::thread::Threads;
+use std::time::Clock;
 
 // Group 0 of 2 items in launch 7: item 0 writes global word 16, item 1 reads it, and the end.
 const RACE: [u8; 72] = [
@@ -53,7 +56,7 @@ type Case = (
     u8,
 );
 
-const CASES: [Case; 54] = [
+const CASES: [Case; 68] = [
     ("a race", &["replay"], &RACE, REPORT, "", 1),
     ("a race, without a command", &[], &RACE, REPORT, "", 1),
     ("no race", &["replay"], &NO_RACE, CLEAN, "", 0),
@@ -407,6 +410,128 @@ const CASES: [Case; 54] = [
         "gpurace: stream 0: truncated\n",
         2,
     ),
+    ("a run", &["run", "race"], &[], REPORT, "", 1),
+    (
+        "a run with the greatest numbers",
+        &[
+            "run",
+            "--workers",
+            "8",
+            "--queues=4",
+            "--capacity",
+            "65536",
+            "none",
+        ],
+        &[],
+        CLEAN,
+        "",
+        0,
+    ),
+    (
+        "a run with the least numbers, with zeros, behind the file",
+        &[
+            "run",
+            "race",
+            "--capacity",
+            "01",
+            "--queues",
+            "01",
+            "--workers",
+            "01",
+        ],
+        &[],
+        REPORT,
+        "",
+        1,
+    ),
+    (
+        "a run of a file after two hyphens",
+        &["run", "--workers", "3", "--", "race"],
+        &[],
+        REPORT,
+        "",
+        1,
+    ),
+    (
+        "a run of a file that is cut off",
+        &["run", "cut"],
+        &[],
+        "",
+        "gpurace: stream 0: truncated\n",
+        2,
+    ),
+    (
+        "a run of two files of one group",
+        &["run", "race", "none"],
+        &[],
+        "",
+        "gpurace: stream 1: group given twice\n",
+        2,
+    ),
+    (
+        "a run of a file that is missing",
+        &["run", "missing"],
+        &[],
+        "",
+        "gpurace: read fault\n",
+        5,
+    ),
+    (
+        "a run of a file that is missing behind a refused one",
+        &["run", "cut", "missing"],
+        &[],
+        "",
+        "gpurace: read fault\n",
+        5,
+    ),
+    (
+        "a run of a file without memory to open it",
+        &["run", "wanting"],
+        &[],
+        "",
+        "gpurace: out of memory\n",
+        4,
+    ),
+    (
+        "a run of no file",
+        &["run", "--workers", "4"],
+        &[],
+        "",
+        "error: the following required arguments were not provided:\n  <FILE>",
+        3,
+    ),
+    (
+        "an option of run that is given twice",
+        &["run", "--workers", "4", "--workers", "4", "race"],
+        &[],
+        "",
+        "error: the argument '--workers <N>' cannot be used multiple times",
+        3,
+    ),
+    (
+        "an option of run without a number",
+        &["run", "race", "--queues"],
+        &[],
+        "",
+        "error: a value is required for '--queues <N>' but none was supplied",
+        3,
+    ),
+    (
+        "an option of another command",
+        &["run", "--most", "1", "race"],
+        &[],
+        "",
+        "error: unexpected argument '--most' found",
+        3,
+    ),
+    (
+        "help on run",
+        &["run", "--help"],
+        &[],
+        "Reports on the trace in files",
+        "",
+        0,
+    ),
     (
         "help on packing",
         &["pack", "--help"],
@@ -434,18 +559,43 @@ end kinds 1 races 1\n";
 
 const MISCOUNTED: &str = "error: N of --most is no number below 4294967296";
 
+const MISCONFIGURED: &str =
+    "error: N of --workers is 1 to 8, N of --queues is 1 to 4, and N of --capacity is 1 to 65536, ";
+
+/// Options of a run, and numbers that they may not have. Some are in range modulo 2^16 or 2^32.
+const WRONG_NUMBERS: [(&str, &str); 17] = [
+    ("--workers", "0"),
+    ("--workers", "9"),
+    ("--workers", "65537"),
+    ("--workers", "4294967297"),
+    ("--workers", "+1"),
+    ("--workers", "two"),
+    ("--workers", ""),
+    ("--workers", "1 "),
+    ("--queues", "0"),
+    ("--queues", "5"),
+    ("--queues", "65537"),
+    ("--queues", "1.0"),
+    ("--capacity", "0"),
+    ("--capacity", "65537"),
+    ("--capacity", "4294967297"),
+    ("--capacity", "18446744073709551617"),
+    ("--capacity", "0x10"),
+];
+
 const MISNAMED: &str = "error: SPACE and WORD name no word of memory: ";
 
-/// The bytes of a file by its name.
-fn open_stored<'a>(name: &str, back: &'a [u8]) -> io::Result<&'a [u8]> {
-    match name {
-        "back" => Ok(back),
-        "race" => Ok(RACE.as_slice()),
-        "none" => Ok(NO_RACE.as_slice()),
-        "cut" => Ok(CUT_OFF.as_slice()),
-        "wanting" => Err(io::Error::from(ErrorKind::OutOfMemory)),
-        _ => Err(io::Error::from(ErrorKind::NotFound)),
-    }
+/// Opens a file by its name.
+fn open_stored(alloc: Global, name: &str, back: &[u8]) -> io::Result<Cursor<Vec<u8>>> {
+    let bytes = match name {
+        "back" => back,
+        "race" => RACE.as_slice(),
+        "none" => NO_RACE.as_slice(),
+        "cut" => CUT_OFF.as_slice(),
+        "wanting" => return Err(io::Error::from(ErrorKind::OutOfMemory)),
+        _ => return Err(io::Error::from(ErrorKind::NotFound)),
+    };
+    Ok(Cursor::new(bytes.to_vec(alloc)?))
 }
 
 /// Opens no file.
@@ -466,10 +616,11 @@ fn words_and_input_give_output_and_status(rt: HostRuntime) -> Result<(), Fail> {
         let mut output = Vec::new(rt.alloc());
         let mut errors = Vec::new(rt.alloc());
         let status = execute(
+            rt,
             rt.alloc(),
             words,
             &mut reader,
-            |name| open_stored(name, &back),
+            |name| open_stored(rt.alloc(), name, &back),
             &mut output,
             &mut errors,
         );
@@ -484,11 +635,35 @@ fn words_and_input_give_output_and_status(rt: HostRuntime) -> Result<(), Fail> {
 }
 
 #[test]
+fn numbers_that_no_run_may_have_are_wrong_usage(rt: HostRuntime) {
+    for (option, number) in WRONG_NUMBERS {
+        let mut output = Vec::new(rt.alloc());
+        let mut errors = Vec::new(rt.alloc());
+        let status = execute(
+            rt,
+            rt.alloc(),
+            &["run", option, number, "missing"],
+            &mut RACE.as_slice(),
+            open_none,
+            &mut output,
+            &mut errors,
+        );
+        assert_eq!(rt; status, 3, "{option} {number}");
+        assert!(rt; output.is_empty(), "output of {option} {number}");
+        assert!(rt;
+            begins(errors.as_slice(), MISCONFIGURED),
+            "errors of {option} {number}"
+        );
+    }
+}
+
+#[test]
 fn packing_gives_the_bytes(rt: HostRuntime) -> Result<(), Fail> {
     let mut reader = RACE_TEXT.as_bytes();
     let mut output = Vec::new(rt.alloc());
     let mut errors = Vec::new(rt.alloc());
     let status = execute(
+        rt,
         rt.alloc(),
         &["pack"],
         &mut reader,
@@ -521,10 +696,16 @@ impl Write for Broken {
     }
 }
 
-/// The status of a run over an output that fails, with what is told on standard error.
-fn status_over_broken_output(alloc: Global, words: &[&str], errors: &mut Vec<u8>) -> u8 {
+/// The status over an output that fails, with what is told on standard error.
+fn status_over_broken_output<H: Threads + Wait + Clock + Copy + Send + 'static>(
+    rt: H,
+    alloc: Global,
+    words: &[&str],
+    errors: &mut Vec<u8>,
+) -> u8 {
     let mut reader = RACE.as_slice();
     execute(
+        rt,
         alloc,
         words,
         &mut reader,
@@ -540,6 +721,7 @@ fn input_and_output_that_fail_are_told(rt: HostRuntime) -> Result<(), Fail> {
     let mut output = Vec::new(alloc);
     let mut errors = Vec::new(alloc);
     let status = execute(
+        rt,
         alloc,
         &["replay"],
         &mut Broken,
@@ -549,28 +731,34 @@ fn input_and_output_that_fail_are_told(rt: HostRuntime) -> Result<(), Fail> {
     );
     assert_eq!(rt; status, 5, "reader");
     assert!(rt; output.is_empty(), "nothing is written");
-    let status = status_over_broken_output(alloc, &["replay"], &mut errors);
+    let status = status_over_broken_output(rt, alloc, &["replay"], &mut errors);
     assert_eq!(rt; status, 5, "report");
-    let status = status_over_broken_output(alloc, &["--help"], &mut errors);
+    let status = status_over_broken_output(rt, alloc, &["--help"], &mut errors);
     assert_eq!(rt; status, 5, "help");
-    let status = status_over_broken_output(alloc, &["dump"], &mut errors);
+    let status = status_over_broken_output(rt, alloc, &["dump"], &mut errors);
     assert_eq!(rt; status, 5, "text");
-    let status = status_over_broken_output(alloc, &["explain", "g", "16", "race"], &mut errors);
+    let status = status_over_broken_output(rt, alloc, &["explain", "g", "16", "race"], &mut errors);
     assert_eq!(rt; status, 5, "line");
-    let words = ["explain", "g", "16", "broken"];
-    let mut reader = RACE.as_slice();
-    let status = execute(
-        alloc,
-        &words,
-        &mut reader,
-        |_| Ok(Broken),
-        &mut output,
-        &mut errors,
-    );
-    assert_eq!(rt; status, 5, "file");
-    assert!(rt; output.is_empty(), "nothing is written");
+    let status = status_over_broken_output(rt, alloc, &["run", "race"], &mut errors);
+    assert_eq!(rt; status, 5, "report of a run");
+    let commands: [&[&str]; 2] = [&["explain", "g", "16", "broken"], &["run", "broken"]];
+    for words in commands {
+        let mut reader = RACE.as_slice();
+        let status = execute(
+            rt,
+            alloc,
+            words,
+            &mut reader,
+            |_| Ok(Broken),
+            &mut output,
+            &mut errors,
+        );
+        assert_eq!(rt; status, 5, "file");
+        assert!(rt; output.is_empty(), "nothing is written");
+    }
     let told = b"gpurace: read fault\ngpurace: write fault\ngpurace: write fault\n\
-        gpurace: write fault\ngpurace: write fault\ngpurace: read fault\n";
+        gpurace: write fault\ngpurace: write fault\ngpurace: write fault\n\
+        gpurace: read fault\ngpurace: read fault\n";
     assert_eq!(rt; errors.as_slice(), told.as_slice());
     Ok(())
 }
@@ -580,6 +768,7 @@ fn errors_that_can_not_be_told_keep_their_status(rt: HostRuntime) {
     let alloc = rt.alloc();
     let mut reader = CUT_OFF.as_slice();
     let status = execute(
+        rt,
         alloc,
         &["--quiet"],
         &mut reader,
@@ -589,6 +778,7 @@ fn errors_that_can_not_be_told_keep_their_status(rt: HostRuntime) {
     );
     assert_eq!(rt; status, 3, "usage");
     let status = execute(
+        rt,
         alloc,
         &["replay"],
         &mut reader,
@@ -599,6 +789,7 @@ fn errors_that_can_not_be_told_keep_their_status(rt: HostRuntime) {
     assert_eq!(rt; status, 2, "a trace that is cut off");
     let words = ["explain", "l64", "16", "file"];
     let status = execute(
+        rt,
         alloc,
         &words,
         &mut reader,

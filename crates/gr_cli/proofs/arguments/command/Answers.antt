@@ -1,7 +1,7 @@
 use Rattle.std.proofs.Common.{◌≡◌, ◌∙◌, ap, ap₂, true, codes, []}
 use Rattle.std.proofs.lemmas.Result.{IfOk-weaker}
 use Rattle.clap.specs.Words.{App, app_of, new_app, with_subcommand}
-use Rattle.gr_cli.specs.Words.{alone, command_named, explaining, tasks}
+use Rattle.gr_cli.specs.Words.{alone, command_named, explaining, racing, tasks}
 use Rattle.gr_cli.proofs.arguments.command.Goals as goal
 
 pub returns : goal.returns
@@ -13,4 +13,5 @@ returns c =
     let third : app_of c.in_ok-subcommand-3.field-0 ≡ with_subcommand (with_subcommand (with_subcommand (record { top = alone; subs = [] }) (command_named (codes "replay"))) (command_named (codes "pack"))) (command_named (codes "dump")) = c.in_ok-subcommand-3.ensures.shape c.plain_command-dump.ensures.alone ∙ ap₂ with_subcommand second c.plain_command-dump.ensures.shape in
     let fourth : app_of c.in_ok-subcommand-4.field-0 ≡ tasks = c.in_ok-subcommand-4.ensures.shape c.plain_command-upgrade.ensures.alone ∙ ap₂ with_subcommand third c.plain_command-upgrade.ensures.shape in
     let fifth : app_of c.in_ok-subcommand-5.field-0 ≡ with_subcommand tasks explaining = c.in_ok-subcommand-5.ensures.shape c.in_ok-explain.ensures.alone ∙ ap₂ with_subcommand fourth c.in_ok-explain.ensures.shape in
-    IfOk-weaker c.subcommand-6.result _ _ (λ command added. added.shape c.in_ok-races.ensures.alone ∙ ap₂ with_subcommand fifth c.in_ok-races.ensures.shape) c.subcommand-6.ensures
+    let sixth : app_of c.in_ok-subcommand-6.field-0 ≡ with_subcommand (with_subcommand tasks explaining) racing = c.in_ok-subcommand-6.ensures.shape c.in_ok-races.ensures.alone ∙ ap₂ with_subcommand fifth c.in_ok-races.ensures.shape in
+    IfOk-weaker c.subcommand-7.result _ _ (λ command added. added.shape c.in_ok-run.ensures.alone ∙ ap₂ with_subcommand sixth c.in_ok-run.ensures.shape) c.subcommand-7.ensures

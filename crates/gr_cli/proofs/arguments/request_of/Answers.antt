@@ -6,8 +6,8 @@ use Rattle.gr_cli.specs.declared.arguments.Request.TheVariants.{Perform}
 use Rattle.gr_cli.specs.declared.arguments.Task.{Task}
 use Rattle.gr_cli.specs.Words.{gpurace, faults, name_of, AsksFor}
 use Rattle.gr_cli.proofs.AnswerLemmas.{if_err, fails_by}
-use Rattle.gr_cli.proofs.Asking.{asked, listed, not_asked, not_listed}
-use Rattle.gr_cli.proofs.Naming.{command_is_named, command_values, nor_both, not_both, races_is_no_task, no_word_is_taken, command_is_taken, no_name, name_is, no_task, explain_is_named, values_are}
+use Rattle.gr_cli.proofs.Asking.{asked, listed, not_asked, not_listed, not_planned, planned}
+use Rattle.gr_cli.proofs.Naming.{command_is_named, command_values, explain_nor_run, nor_both, not_both, races_is_no_task, races_nor_run, run_is_no_task, run_nor_explain, run_nor_races, no_word_is_taken, command_is_taken, no_name, name_is, no_task, explain_is_named, values_are}
 use Rattle.gr_cli.proofs.arguments.request_of.Goals as goal
 
 gpurace_is_simple : is_simple_and_free gpurace ≡ true
@@ -162,3 +162,76 @@ returns-clause-races g c = λ most names asks.
 pub returns-clause-miscounted : goal.returns-clause-miscounted
 returns-clause-miscounted g c = λ is.
     absurd (true≢false (sym (c.in_default-subcommand_matches.ensures.found.1 (command_is_named (app_of c.in_ok-command.field-0) c.in_ok-matches.matches c.in_ok-command.ensures (map g.S.AsStr.text c.args.words.now) c.in_ok-matches.ensures.matches (codes "races") is.rows is.asks.met))))
+
+-- where the command `explain` or `races` was met, the words do not ask for a run
+
+pub returns-in-Some-clause-runs : goal.returns-in-Some-clause-runs
+returns-in-Some-clause-runs g c = λ config names asks.
+    absurd (explain_nor_run (app_of c.in_ok-command.field-0) c.in_ok-matches.matches c.in_ok-command.ensures (map g.S.AsStr.text c.args.words.now) c.in_ok-matches.ensures.matches asks.rows asks.asks.met (c.in-Some.ensures.found.0 refl))
+
+pub returns-in-Some-clause-misconfigured : goal.returns-in-Some-clause-misconfigured
+returns-in-Some-clause-misconfigured g c = λ is.
+    absurd (explain_nor_run (app_of c.in_ok-command.field-0) c.in_ok-matches.matches c.in_ok-command.ensures (map g.S.AsStr.text c.args.words.now) c.in_ok-matches.ensures.matches is.rows is.asks.met (c.in-Some.ensures.found.0 refl))
+
+pub returns-in-Some-subcommand_matches-clause-runs : goal.returns-in-Some-subcommand_matches-clause-runs
+returns-in-Some-subcommand_matches-clause-runs g c = λ config names asks.
+    absurd (races_nor_run (app_of c.in_ok-command.field-0) c.in_ok-matches.matches c.in_ok-command.ensures (map g.S.AsStr.text c.args.words.now) c.in_ok-matches.ensures.matches asks.rows asks.asks.met (c.in-Some-subcommand_matches.ensures.found.0 refl))
+
+pub returns-in-Some-subcommand_matches-clause-misconfigured : goal.returns-in-Some-subcommand_matches-clause-misconfigured
+returns-in-Some-subcommand_matches-clause-misconfigured g c = λ is.
+    absurd (races_nor_run (app_of c.in_ok-command.field-0) c.in_ok-matches.matches c.in_ok-command.ensures (map g.S.AsStr.text c.args.words.now) c.in_ok-matches.ensures.matches is.rows is.asks.met (c.in-Some-subcommand_matches.ensures.found.0 refl))
+
+-- where the command `run` was met
+
+pub returns-in-Some-subcommand_matches-2-clause-fails : goal.returns-in-Some-subcommand_matches-2-clause-fails
+returns-in-Some-subcommand_matches-2-clause-fails g c =
+    let none = c.in_ok-matches.ensures.kinds (ap is_simple_and_free c.in_ok-command.ensures ∙ gpurace_is_simple) in
+    sym (faults_are (app_of c.in_ok-command.field-0) (map g.S.AsStr.text c.args.words.now) c.in_ok-command.ensures) ∙ none
+
+pub returns-in-Some-subcommand_matches-2-clause-task : goal.returns-in-Some-subcommand_matches-2-clause-task
+returns-in-Some-subcommand_matches-2-clause-task g c = λ u asks.
+    absurd (run_is_no_task (app_of c.in_ok-command.field-0) c.in_ok-matches.matches c.in_ok-command.ensures (map g.S.AsStr.text c.args.words.now) c.in_ok-matches.ensures.matches u asks (c.in-Some-subcommand_matches-2.ensures.found.0 refl))
+
+pub returns-in-Some-subcommand_matches-2-clause-question : goal.returns-in-Some-subcommand_matches-2-clause-question
+returns-in-Some-subcommand_matches-2-clause-question g c = λ w names asks.
+    absurd (run_nor_explain (app_of c.in_ok-command.field-0) c.in_ok-matches.matches c.in_ok-command.ensures (map g.S.AsStr.text c.args.words.now) c.in_ok-matches.ensures.matches asks.rows asks.asks.met (c.in-Some-subcommand_matches-2.ensures.found.0 refl))
+
+pub returns-in-Some-subcommand_matches-2-clause-misnamed : goal.returns-in-Some-subcommand_matches-2-clause-misnamed
+returns-in-Some-subcommand_matches-2-clause-misnamed g c = λ is.
+    absurd (run_nor_explain (app_of c.in_ok-command.field-0) c.in_ok-matches.matches c.in_ok-command.ensures (map g.S.AsStr.text c.args.words.now) c.in_ok-matches.ensures.matches is.rows is.asks.met (c.in-Some-subcommand_matches-2.ensures.found.0 refl))
+
+pub returns-in-Some-subcommand_matches-2-clause-races : goal.returns-in-Some-subcommand_matches-2-clause-races
+returns-in-Some-subcommand_matches-2-clause-races g c = λ most names asks.
+    absurd (run_nor_races (app_of c.in_ok-command.field-0) c.in_ok-matches.matches c.in_ok-command.ensures (map g.S.AsStr.text c.args.words.now) c.in_ok-matches.ensures.matches asks.rows asks.asks.met (c.in-Some-subcommand_matches-2.ensures.found.0 refl))
+
+pub returns-in-Some-subcommand_matches-2-clause-miscounted : goal.returns-in-Some-subcommand_matches-2-clause-miscounted
+returns-in-Some-subcommand_matches-2-clause-miscounted g c = λ is.
+    absurd (run_nor_races (app_of c.in_ok-command.field-0) c.in_ok-matches.matches c.in_ok-command.ensures (map g.S.AsStr.text c.args.words.now) c.in_ok-matches.ensures.matches is.rows is.asks.met (c.in-Some-subcommand_matches-2.ensures.found.0 refl))
+
+pub returns-in-Some-subcommand_matches-2-clause-runs : goal.returns-in-Some-subcommand_matches-2-clause-runs
+returns-in-Some-subcommand_matches-2-clause-runs g c = λ config names asks.
+    let rows = command_values (app_of c.in_ok-command.field-0) c.in_ok-matches.matches c.in_ok-command.ensures (map g.S.AsStr.text c.args.words.now) c.in_ok-matches.ensures.matches (codes "run") asks.rows asks.asks.met _ c.in-Some-subcommand_matches-2.ensures.rows in
+    planned asks.rows c.in_ok-plan_of.field-0 config names (rw rows c.in_ok-plan_of.ensures) asks.planned
+
+pub returns-in-Some-subcommand_matches-2-clause-misconfigured : goal.returns-in-Some-subcommand_matches-2-clause-misconfigured
+returns-in-Some-subcommand_matches-2-clause-misconfigured g c = λ is.
+    let rows = command_values (app_of c.in_ok-command.field-0) c.in_ok-matches.matches c.in_ok-command.ensures (map g.S.AsStr.text c.args.words.now) c.in_ok-matches.ensures.matches (codes "run") is.rows is.asks.met _ c.in-Some-subcommand_matches-2.ensures.rows in
+    not_planned is.rows c.in_ok-plan_of.field-0 (rw rows c.in_ok-plan_of.ensures) is.unplanned
+
+-- and where it was not
+
+pub returns-in-None-clause-runs : goal.returns-in-None-clause-runs
+returns-in-None-clause-runs g c = λ config names asks.
+    absurd (true≢false (sym (c.in_default-subcommand_matches-2.ensures.found.1 (command_is_named (app_of c.in_ok-command.field-0) c.in_ok-matches.matches c.in_ok-command.ensures (map g.S.AsStr.text c.args.words.now) c.in_ok-matches.ensures.matches (codes "run") asks.rows asks.asks.met))))
+
+pub returns-in-None-clause-misconfigured : goal.returns-in-None-clause-misconfigured
+returns-in-None-clause-misconfigured g c = λ is.
+    absurd (true≢false (sym (c.in_default-subcommand_matches-2.ensures.found.1 (command_is_named (app_of c.in_ok-command.field-0) c.in_ok-matches.matches c.in_ok-command.ensures (map g.S.AsStr.text c.args.words.now) c.in_ok-matches.ensures.matches (codes "run") is.rows is.asks.met))))
+
+pub returns-clause-runs : goal.returns-clause-runs
+returns-clause-runs g c = λ config names asks.
+    absurd (true≢false (sym (c.in_default-subcommand_matches-2.ensures.found.1 (command_is_named (app_of c.in_ok-command.field-0) c.in_ok-matches.matches c.in_ok-command.ensures (map g.S.AsStr.text c.args.words.now) c.in_ok-matches.ensures.matches (codes "run") asks.rows asks.asks.met))))
+
+pub returns-clause-misconfigured : goal.returns-clause-misconfigured
+returns-clause-misconfigured g c = λ is.
+    absurd (true≢false (sym (c.in_default-subcommand_matches-2.ensures.found.1 (command_is_named (app_of c.in_ok-command.field-0) c.in_ok-matches.matches c.in_ok-command.ensures (map g.S.AsStr.text c.args.words.now) c.in_ok-matches.ensures.matches (codes "run") is.rows is.asks.met))))
