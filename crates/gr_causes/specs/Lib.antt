@@ -1,0 +1,2 @@
+pub mod Relaxing
+pub mod Laws
