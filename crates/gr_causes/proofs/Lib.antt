@@ -1,1 +1,2 @@
 pub mod RelaxingLemmas
+pub mod PartingLemmas

@@ -4,5 +4,7 @@
 //! stands here.
 #![tactic(auto)]
 
+mod between;
+pub mod cause;
 pub mod laws;
 pub mod relaxing;

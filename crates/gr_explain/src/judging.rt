@@ -32,7 +32,7 @@ pub enum Judgement {
 
 /// The records of a launch, and its grounded events in a lawful order.
 #[derive(Drop)]
-struct Judged<A: Allocator = Global> {
+struct Grounded<A: Allocator = Global> {
     records: Records<A>,
     order: Vec<EventId, A>,
 }
@@ -41,15 +41,15 @@ struct Judged<A: Allocator = Global> {
 ///
 /// # Errors
 /// `Memory`: out of memory.
-fn judged<A: Allocator + Copy>(alloc: A, traces: &Traces<A>) -> Result<Judged<A>, Memory>
-    ensures records { IfOk result (λ j. j.records ≡ traces.now) }
-    ensures prefixes { IfOk result (λ j. ArePrefixes traces.now) }
-    ensures whole { IfOk result (λ j. IsWholeOrder traces.now j.order.items) }
+fn grounded_events<A: Allocator + Copy>(alloc: A, traces: &Traces<A>) -> Result<Grounded<A>, Memory>
+    ensures records { IfOk result (λ v. v.records ≡ traces.now) }
+    ensures prefixes { IfOk result (λ v. ArePrefixes traces.now) }
+    ensures whole { IfOk result (λ v. IsWholeOrder traces.now v.order.items) }
 {
     let mut order = take_all(alloc, traces)?;
     let listed = list_grounded(alloc, &mut order)?;
     let records = Records::of(take_all(alloc, traces)?);
-    Ok(Judged {
+    Ok(Grounded {
         records,
         order: listed,
     })
@@ -128,11 +128,18 @@ pub fn judge<A: Allocator + Copy>(
 ) -> Result<Judgement, Memory>
     ensures { IfOk result (λ j. IsJudgement traces.now word first second j) }
 {
-    let judged = judged(alloc, traces)?;
-    if !stands_in(&judged.order, first) || !stands_in(&judged.order, second) {
+    let grounded = grounded_events(alloc, traces)?;
+    if !stands_in(&grounded.order, first) || !stands_in(&grounded.order, second) {
         return Ok(Judgement::Held);
     }
-    if is_race(alloc, &judged.records, &judged.order, word, first, second)? {
+    if is_race(
+        alloc,
+        &grounded.records,
+        &grounded.order,
+        word,
+        first,
+        second,
+    )? {
         Ok(Judgement::Race)
     } else {
         Ok(Judgement::NoRace)
