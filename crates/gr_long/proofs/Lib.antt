@@ -1,1 +1,2 @@
 pub mod DetailLemmas
+pub mod AccountLemmas
