@@ -11,4 +11,3 @@ mod show;
 pub mod text;
 
 pub use show::show_account;
-

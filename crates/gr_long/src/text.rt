@@ -63,11 +63,7 @@ fn put_kind<W: Write>(writer: &mut W, kind: Kind) -> Result<(), WriteFault>
     }
 }
 
-fn put_details<W: Write>(
-    writer: &mut W,
-    label: &[u8],
-    details: &Details,
-) -> Result<(), WriteFault>
+fn put_details<W: Write>(writer: &mut W, label: &[u8], details: &Details) -> Result<(), WriteFault>
     ensures { Puts (W.contents writer.old) (W.contents writer.new) result (spec.details_line label.now details.now) }
 {
     put(writer, label)?;
