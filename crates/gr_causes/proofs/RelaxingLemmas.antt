@@ -1,5 +1,5 @@
 -- Where a rule is relaxed, lists that are accepted still are.
-use Rattle.std.proofs.Common.{◌≡◌, ℕ, ◌<◌, ◌≤◌, List, [], ◌∷◌, map, length, Option, Some, None, slice_get, get_or, IsTrue, zero, suc, refl, sym, ap, ◌∙◌, subst}
+use Rattle.std.proofs.Common.{◌≡◌, ℕ, ◌≤◌, List, [], ◌∷◌, map, Some, None, slice_get, get_or, zero, suc, refl, sym, ◌∙◌, subst}
 use Rattle.std.proofs.lemmas.List.{length-map}
 use Rattle.gr_model.specs.declared.event.Event.{Event}
 use Rattle.gr_model.specs.declared.event.Kind.{Kind}
@@ -8,7 +8,7 @@ use Rattle.gr_model.specs.declared.event.Name.{Name}
 use Rattle.gr_model.specs.declared.event.Space.{Space}
 use Rattle.gr_model.specs.declared.limits.TheConstants.{MOST_RECORDS}
 use Rattle.gr_model.specs.Access.{is_acquire_kind}
-use Rattle.gr_model.specs.Events.{IsEventOk, IsKindOk, IsNamingOk, is_end, is_end_kind}
+use Rattle.gr_model.specs.Events.{IsEventOk, IsKindOk, IsNamingOk, is_end_kind}
 use Rattle.gr_model.specs.Streams.{AreAccepted, AreGood, IsAccepted, IsGoodAt, Streams, is_complete, list_of, size_of}
 use Rattle.gr_causes.specs.declared.relaxing.Relaxation.{Relaxation}
 use Rattle.gr_causes.specs.declared.relaxing.Relaxation.TheVariants.{BothFlags, DeviceScope}

@@ -71,7 +71,8 @@ fn is_divergence<A: Allocator + Copy>(
 
 /// The cause of a race of two events on a word, the smaller event first.
 ///
-/// It judges the two by `judge` once for each rule, and so takes time and memory that grow with the events of the launch.
+/// It judges the two by `judge` once for each rule, and so takes time and memory that grow with the events of the
+/// launch.
 ///
 /// # Errors
 /// `Memory`: out of memory.

@@ -1,4 +1,5 @@
-//! A launch with one of its rules relaxed: the same records, but for the flags of its barriers or the scopes of its atomics.
+//! A launch with one of its rules relaxed: the same records, but for the flags of its barriers or the scopes of its
+//! atomics.
 
 ghost use Rattle.std.specs.Prelude.{◌≡◌, IfOk, map};
 ghost use Rattle.gr_causes.specs.Relaxing as spec;

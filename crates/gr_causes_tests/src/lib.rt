@@ -1,5 +1,5 @@
-//! Tests of `gr_causes`: the causes of races by hand, the races that are gone where a rule is relaxed, and growths that are
-//! refused.
+//! Tests of `gr_causes`: the causes of races by hand, the races that are gone where a rule is relaxed, and growths that
+//! are refused.
 #![tactic(auto)]
 
 #[cfg(test)]

@@ -1,10 +1,10 @@
 -- Two events of a lawful order of the grounded events: what follows, what is a race, and what is held.
-use Rattle.std.proofs.Common.{◌≡◌, ◌↔◌, List, length, slice_get, ap, sym, inr, ⊎_elim}
+use Rattle.std.proofs.Common.{◌≡◌, ◌↔◌, List, length, inr, ⊎_elim}
 use Rattle.std.proofs.lemmas.Option.{slice_get_within}
 use Rattle.gr_model.specs.declared.event.EventId.{EventId}
 use Rattle.gr_model.specs.declared.event.Space.{Space}
 use Rattle.gr_model.specs.HappensBefore.{HappensBefore}
-use Rattle.gr_model.specs.LawfulOrders.{IsIn, IsLawful, IsWholeOrder}
+use Rattle.gr_model.specs.LawfulOrders.{IsIn, IsWholeOrder}
 use Rattle.gr_model.specs.Streams.{Streams}
 use Rattle.gr_model.specs.Waits.{IsGrounded}
 use Rattle.gr_model.proofs.Descent.{lawful_is_grounded}

@@ -1,5 +1,5 @@
-//! Tests of `gr_explain`, `gr_show` and `gr_long`: the least racing pairs of launches by hand, their lines, their causes, and
-//! growths, reads and writes that are refused.
+//! Tests of `gr_explain`, `gr_show` and `gr_long`: the least racing pairs of launches by hand, their lines, their
+//! causes, and growths, reads and writes that are refused.
 #![tactic(auto)]
 
 #[cfg(test)]

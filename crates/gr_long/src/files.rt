@@ -14,8 +14,8 @@ use gr_show::files::open_all;
 use std::alloc::Allocator;
 use std::io::{self, Read, Write};
 
-/// Opens the files of these names, reads the streams of a launch, one from each, writes the line of the word, what the two
-/// accesses are and the cause of their race, and nothing else, and tells whether the word has a race.
+/// Opens the files of these names, reads the streams of a launch, one from each, writes the line of the word, what the
+/// two accesses are and the cause of their race, and nothing else, and tells whether the word has a race.
 ///
 /// # Errors
 /// Those of `open_all`, before anything is read; then those of `show_account`.

@@ -1,5 +1,5 @@
-//! The long form of `explain`: below the line of a word's least racing pair what the two accesses are, and the cause of their
-//! race.
+//! The long form of `explain`: below the line of a word's least racing pair what the two accesses are, and the cause of
+//! their race.
 //!
 //! The text is docs/FORMATS.md, "The long form of explain".
 #![tactic(auto)]

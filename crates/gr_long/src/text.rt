@@ -150,8 +150,8 @@ fn put_account<W: Write>(
     put_lines(writer, word, account)
 }
 
-/// Writes the line of a word and its least racing pair, or of a word that has none, and below it what the two accesses are and
-/// the cause of their race, and flushes. It takes no memory.
+/// Writes the line of a word and its least racing pair, or of a word that has none, and below it what the two accesses
+/// are and the cause of their race, and flushes. It takes no memory.
 ///
 /// # Errors
 /// `WriteFault` where the writer fails; what it took is then a prefix of the text.

@@ -1,4 +1,4 @@
-use Rattle.std.proofs.Common.{◌⊎◌, ◌∙◌, ◌<◌, arith, below_more, sym, true≢false, ⊎_elim}
+use Rattle.std.proofs.Common.{◌∙◌, arith, below_more, sym, true≢false, ⊎_elim}
 use Rattle.std.proofs.Math.Nat.{le-max_left, le-max_right}
 use Rattle.gr_causes.proofs.PartingLemmas.{number_below}
 use Rattle.gr_causes.proofs.between.are_parted.Goals as goal
