@@ -7,3 +7,4 @@ pub mod PairOrder
 pub mod Searching
 pub mod Instances
 pub mod Passing
+pub mod JudgingLemmas

@@ -10,6 +10,7 @@ mod conflict;
 mod edges;
 pub mod explain;
 mod followers;
+pub mod judging;
 mod listing;
 mod pairs;
 mod races;

@@ -1,7 +1,9 @@
-//! Tests of `gr_explain` and `gr_show`: the least racing pairs of launches by hand, their lines, and growths, reads and
-//! writes that are refused.
+//! Tests of `gr_explain`, `gr_show` and `gr_long`: the least racing pairs of launches by hand, their lines, their
+//! causes, and growths, reads and writes that are refused.
 #![tactic(auto)]
 
+#[cfg(test)]
+mod accounts;
 #[cfg(test)]
 mod ends;
 #[cfg(test)]

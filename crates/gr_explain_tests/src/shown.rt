@@ -91,7 +91,7 @@ const CASES: [Case; 8] = [
 ];
 
 /// The bytes of each stream.
-fn inputs_of(alloc: Global, texts: &[&str]) -> Result<Vec<Vec<u8>>, Fault> {
+pub(crate) fn inputs_of(alloc: Global, texts: &[&str]) -> Result<Vec<Vec<u8>>, Fault> {
     let mut inputs = Vec::new(alloc);
     for text in texts {
         let input = pack_text(alloc, text.as_bytes())?;

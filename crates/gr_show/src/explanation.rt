@@ -71,7 +71,11 @@ fn put_answer<W: Write>(
     }
 }
 
-fn put_explanation<W: Write>(
+/// Writes the line of a word and its least racing pair, or of a word that has none.
+///
+/// # Errors
+/// `WriteFault` if the writer fails.
+pub fn put_explanation<W: Write>(
     writer: &mut W,
     word: Word,
     pair: Option<(EventId, EventId)>,

@@ -1,0 +1,3 @@
+pub mod RelaxingLemmas
+pub mod PartingLemmas
+pub mod CauseLemmas

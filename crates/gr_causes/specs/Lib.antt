@@ -1,0 +1,4 @@
+pub mod Relaxing
+pub mod Parting
+pub mod Causes
+pub mod Laws

@@ -1,0 +1,193 @@
+//! The long form of `explain`: what the two accesses are, and the cause of their race.
+
+use crate::ends::{FailingReader, FailingWriter};
+use crate::shown::inputs_of;
+use gr_long::show_account;
+use gr_model::event::Word;
+use gr_model::memory::Memory;
+use gr_record::fault::Fault;
+use gr_text::packing::pack_text;
+use refusing::Refusing;
+use std::alloc::{Allocator, Global};
+use std::test::Fail;
+
+/// The text of each stream under a name, a word, its lines, and whether it has a race.
+type Case = (
+    &'static str,
+    &'static [&'static str],
+    Word,
+    &'static str,
+    bool,
+);
+
+const WRONG_FLAG: &str =
+    "group 0 items 2 launch 7\n0 w g 16\n0 bar 1 l\n1 bar 1 l\n1 r g 16\nend\n";
+
+const WRONG_FLAG_LINES: &str = "race global 16: 0 0 0 with 0 1 1\n\
+     first write record 0 phase 0\nsecond read record 3 phase 1\n\
+     cause flags: with CLK_LOCAL_MEM_FENCE | CLK_GLOBAL_MEM_FENCE at every barrier the two would be ordered\n";
+
+const CASES: [Case; 7] = [
+    (
+        "a global word and a barrier that flags local memory",
+        &[WRONG_FLAG],
+        Word::Global(16),
+        WRONG_FLAG_LINES,
+        true,
+    ),
+    (
+        "the word of a hand-over at work-group scope, the other group first",
+        &[
+            "group 1 items 1 launch 7\n0 ld g 20 grp acq < 0 0 0\n0 r g 16\nend\n",
+            "group 0 items 1 launch 7\n0 w g 16\n0 st g 20 grp rel\nend\n",
+        ],
+        Word::Global(20),
+        "race global 20: 0 0 1 with 1 0 0\n\
+         first store grp rel record 1 phase 0\nsecond load grp acq record 0 phase 0\n\
+         cause scope: with memory_scope_device at every atomic the two would be no race\n",
+        true,
+    ),
+    (
+        "an item that returned before the barrier",
+        &["group 0 items 3 launch 7\n1 bar 1 g\n1 r g 16\n0 w g 16\n0 bar 1 g\nend\n"],
+        Word::Global(16),
+        "race global 16: 0 0 0 with 0 1 1\n\
+         first write record 2 phase 0\nsecond read record 1 phase 1\n\
+         cause divergent: between the two stands a barrier that not all work-items of the group meet alike\n",
+        true,
+    ),
+    (
+        "two local accesses behind one barrier",
+        &["group 0 items 2 launch 7\n1 bar 1 gl\n0 bar 1 gl\n1 r l 4\n0 w l 4\nend\n"],
+        Word::Local(0, 4),
+        "race local 0 4: 0 0 1 with 0 1 1\n\
+         first write record 3 phase 1\nsecond read record 2 phase 1\n\
+         cause no-barrier: nothing orders the two; a barrier with CLK_LOCAL_MEM_FENCE between them would\n",
+        true,
+    ),
+    (
+        "a plain access and an atomic one of global memory",
+        &["group 0 items 2 launch 7\n0 rmw g 16 dev both\n1 r g 16\nend\n"],
+        Word::Global(16),
+        "race global 16: 0 0 0 with 0 1 0\n\
+         first rmw dev both record 0 phase 0\nsecond read record 1 phase 0\n\
+         cause no-barrier: nothing orders the two; a barrier with CLK_GLOBAL_MEM_FENCE between them would\n",
+        true,
+    ),
+    (
+        "two groups and a barrier in each",
+        &[
+            "group 0 items 1 launch 7\n0 w g 16\n0 bar 1 g\nend\n",
+            "group 1 items 1 launch 7\n0 bar 1 g\n0 st g 16 dev rlx\nend\n",
+        ],
+        Word::Global(16),
+        "race global 16: 0 0 0 with 1 0 1\n\
+         first write record 0 phase 0\nsecond store dev rlx record 1 phase 1\n\
+         cause no-hand-over: nothing orders the two; a release that an acquire takes, at memory_scope_device, would\n",
+        true,
+    ),
+    (
+        "a word that nobody accesses",
+        &[WRONG_FLAG],
+        Word::Global(20),
+        "no race global 20\n",
+        false,
+    ),
+];
+
+/// Whether these lines are written, or memory runs out with nothing written.
+fn is_shown<A: Allocator + Copy>(
+    alloc: A,
+    ample: Global,
+    inputs: &[Vec<u8>],
+    case: &Case,
+) -> Result<bool, Memory> {
+    let (_, _, word, lines, found) = *case;
+    let mut readers = Vec::new(alloc);
+    for input in inputs {
+        readers.push(input.as_slice())?;
+    }
+    let mut text = Vec::new(ample);
+    match show_account(alloc, readers, word, &mut text) {
+        Ok(race) => Ok(race == found && text.as_slice() == lines.as_bytes()),
+        Err(Fault::Memory) if text.is_empty() => Err(Memory),
+        Err(_) => Ok(false),
+    }
+}
+
+/// Refuses each growth in turn, until none is refused; the first whose answer is wrong, if there is one.
+fn first_wrong_growth(alloc: Global, inputs: &[Vec<u8>], case: &Case) -> Option<u64> {
+    for at in 0..10_000_u64 {
+        let heap = Refusing::new(alloc, at);
+        let answer = is_shown(&heap, alloc, inputs, case);
+        if answer != Ok(true) && !(answer == Err(Memory) && heap.refused()) {
+            return Some(at);
+        }
+        if !heap.refused() {
+            return if at > 4 { None } else { Some(at) };
+        }
+    }
+    Some(10_000)
+}
+
+#[test]
+fn causes_are_shown_or_memory_runs_out(rt: HostRuntime) -> Result<(), Fail> {
+    for case in CASES {
+        let name = case.0;
+        let inputs = inputs_of(rt.alloc(), case.1)?;
+        let answer = is_shown(rt.alloc(), rt.alloc(), &inputs, &case);
+        assert!(rt; answer == Ok(true), "{name}");
+        let wrong = first_wrong_growth(rt.alloc(), &inputs, &case);
+        assert_eq!(rt; wrong, None, "{name}");
+    }
+    Ok(())
+}
+
+/// What is answered and written where the reader succeeds at so many calls, and the writer takes so many bytes.
+fn shown_between(
+    alloc: Global,
+    input: &[u8],
+    calls: usize,
+    writer: &mut FailingWriter,
+) -> Result<bool, Fault> {
+    let mut readers = Vec::new(alloc);
+    let reader = FailingReader {
+        bytes: input,
+        calls,
+    };
+    if readers.push(reader).is_err() {
+        return Err(Fault::Memory);
+    }
+    show_account(alloc, readers, Word::Global(16), writer)
+}
+
+#[test]
+fn readers_and_writers_that_fail_show_no_more_than_a_prefix(rt: HostRuntime) -> Result<(), Fail> {
+    let input = pack_text(rt.alloc(), WRONG_FLAG.as_bytes())?;
+    let (bytes, letters) = (112, WRONG_FLAG_LINES.len());
+    assert_eq!(rt; input.len(), bytes);
+    for calls in 0..bytes + 1 {
+        let mut writer = FailingWriter {
+            taken: Vec::new(rt.alloc()),
+            room: letters,
+            flushes: true,
+        };
+        let answer = shown_between(rt.alloc(), &input, calls, &mut writer);
+        assert_eq!(rt; answer, Err(Fault::Read), "after {calls} calls");
+        assert!(rt; writer.taken.is_empty(), "after {calls} calls");
+    }
+    for room in 0..letters + 1 {
+        let mut writer = FailingWriter {
+            taken: Vec::new(rt.alloc()),
+            room,
+            flushes: room < letters,
+        };
+        let answer = shown_between(rt.alloc(), &input, bytes + 1, &mut writer);
+        assert_eq!(rt; answer, Err(Fault::Write), "after {room} bytes");
+        assert!(rt;
+            writer.taken.len() == room && WRONG_FLAG_LINES.as_bytes().starts_with(&writer.taken),
+            "after {room} bytes"
+        );
+    }
+    Ok(())
+}

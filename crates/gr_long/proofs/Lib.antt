@@ -1,0 +1,2 @@
+pub mod DetailLemmas
+pub mod AccountLemmas

@@ -1,0 +1,5 @@
+pub mod Details
+pub mod Accounts
+pub mod AccountText
+pub mod Shown
+pub mod Opening

@@ -1,0 +1,56 @@
+//! The least racing pair of a word, what its accesses are, and the cause of their race.
+
+ghost use Rattle.std.specs.Prelude.{IfOk};
+ghost use Rattle.gr_long.specs.Accounts.{IsAccountOf};
+
+use crate::details::{Details, details_of};
+use gr_causes::cause::{Cause, cause_of};
+use gr_explain::explain::explain;
+use gr_explain::records::Records;
+use gr_explain::taking::take_all;
+use gr_model::event::{EventId, Word};
+use gr_model::memory::Memory;
+use gr_model::traces::Traces;
+use std::alloc::Allocator;
+
+/// A racing pair and the cause of the race.
+#[derive(Clone, Copy, Debug, PartialEq, Eq)]
+pub struct Account {
+    /// The smaller event.
+    pub first: EventId,
+    /// The greater event.
+    pub second: EventId,
+    /// What the smaller event is.
+    pub first_details: Details,
+    /// What the greater event is.
+    pub second_details: Details,
+    /// The cause.
+    pub cause: Cause,
+}
+
+/// The least racing pair of a word with the cause of the race, or `None` where the word is not racy.
+///
+/// # Errors
+/// `Memory`: out of memory.
+pub fn account_of<A: Allocator + Copy>(
+    alloc: A,
+    traces: &Traces<A>,
+    word: Word,
+) -> Result<Option<Account>, Memory>
+    ensures { IfOk result (λ account. IsAccountOf traces.now word account) }
+{
+    match explain(alloc, traces, word)? {
+        None => Ok(None),
+        Some((first, second)) => {
+            let cause = cause_of(alloc, traces, word, first, second)?;
+            let records = Records::of(take_all(alloc, traces)?);
+            Ok(Some(Account {
+                first,
+                second,
+                first_details: details_of(traces, &records, first),
+                second_details: details_of(traces, &records, second),
+                cause,
+            }))
+        }
+    }
+}

@@ -1,0 +1,13 @@
+//! The long form of `explain`: below the line of a word's least racing pair what the two accesses are, and the cause of
+//! their race.
+//!
+//! The text is docs/FORMATS.md, "The long form of explain".
+#![tactic(auto)]
+
+pub mod account;
+pub mod details;
+pub mod files;
+mod show;
+pub mod text;
+
+pub use show::show_account;

@@ -1,0 +1,44 @@
+//! From the readers of a launch's streams to the long form of `explain`.
+
+ghost use Rattle.std.specs.Prelude.{◌≡◌, ◌≢◌, IfErr, IfOk, IfSome, map};
+ghost use Rattle.std.specs.Io.KnownBytes.{Keeps};
+ghost use Rattle.gr_record.specs.declared.fault.Fault.TheVariants as faults;
+ghost use Rattle.gr_replay.specs.Each.{all_known};
+ghost use Rattle.gr_show.specs.Shown.{IsShowFault};
+ghost use Rattle.gr_long.specs.Shown.{IsAccountShown, ShowsAccountPrefix};
+
+use crate::account::account_of;
+use crate::text::write_account;
+use gr_model::event::Word;
+use gr_record::fault::Fault;
+use gr_replay::read_each;
+use std::alloc::Allocator;
+use std::io::{Read, Write};
+
+/// Reads the streams of a launch, one from each reader, writes the line of the word, what the two accesses are and the
+/// cause of their race, and nothing else, and tells whether the word has a race.
+///
+/// # Errors
+/// Those of `read_each`; `Write` where the writer fails, which then has a prefix of the text. In every other case of an
+/// error nothing is written.
+pub fn show_account<A: Allocator + Copy, T: Read + Drop, W: Write>(
+    alloc: A,
+    readers: Vec<T, A>,
+    word: Word,
+    writer: &mut W,
+) -> Result<bool, Fault>
+    ensures shown { IfOk result (λ found. IsAccountShown (all_known (map T.remaining readers.items)) word found (W.contents writer.old) (W.contents writer.new)) }
+    ensures fault { IfErr result (λ f. IfSome (all_known (map T.remaining readers.items)) (λ inputs. IsShowFault inputs f)) }
+
+    // What a refusal leaves with the writer.
+    ensures untouched { IfErr result (λ f. f ≢ faults.Write → Keeps (W.contents writer.old) (W.contents writer.new)) }
+    ensures prefix { IfErr result (λ f. f ≡ faults.Write → ShowsAccountPrefix (all_known (map T.remaining readers.items)) word (W.contents writer.old) (W.contents writer.new)) }
+    ensures threads { IfErr result (λ f. f ≢ faults.Threads) }
+{
+    let traces = read_each(alloc, readers)?;
+    let account = account_of(alloc, &traces, word)?;
+    match write_account(writer, word, account) {
+        Ok(()) => Ok(account.is_some()),
+        Err(_) => Err(Fault::Write),
+    }
+}
