@@ -317,7 +317,7 @@ fn read_naming(kind: Kind, bytes: &[u8], places: usize) -> Option<Names>
 /// Requires: there are the bytes of a record.
 #[inline(always)]
 #[tactic(auto, unfolding(crate::specs::Reading::event_at))]
-pub(crate) fn read_event(header: Header, bytes: &[u8]) -> Result<Event, RecordError>
+pub fn read_event(header: Header, bytes: &[u8]) -> Result<Event, RecordError>
     requires { length bytes.now ≡ record_length header.version }
     ensures { result ≡ event_at header bytes.now }
 {

@@ -18,7 +18,7 @@ use Rattle.gr_shadow.specs.Kept.{Kept}
 use Rattle.gr_replay.specs.declared.joined.Stream.{Stream}
 use Rattle.gr_replay.specs.Sequencing.{AreShadowsOf, with_list}
 
-set_twice : {X : Type 0} (xs : List X) (i : ℕ) (a b : X) → set (set xs i a) i b ≡ set xs i b
+pub set_twice : {X : Type 0} (xs : List X) (i : ℕ) (a b : X) → set (set xs i a) i b ≡ set xs i b
 set_twice [] i a b = refl
 set_twice (x ∷ xs) zero a b = refl
 set_twice (x ∷ xs) (suc i) a b = ap (λ ys. x ∷ ys) (set_twice xs i a b)

@@ -1,8 +1,8 @@
 -- What a sequencer is given of a launch, and what is found of the accesses that it answers.
 -- Source: docs/MODEL.md, "Steps" and "Hits".
-use Rattle.std.specs.Prelude.{ℕ, List, [], ◌∷◌, Some, slice_set}
+use Rattle.std.specs.Prelude.{◌≡◌, ℕ, List, [], ◌∷◌, ◌++◌, Some, slice_set}
 use Rattle.gr_model.specs.declared.event.Event.{Event}
-use Rattle.gr_model.specs.Streams.{Streams}
+use Rattle.gr_model.specs.Streams.{Streams, list_of}
 use Rattle.gr_order.specs.Sequences.{Sequence}
 use Rattle.gr_clocks.specs.ClockedAccess.{ClockedAccess, clocked}
 use Rattle.gr_shadow.specs.Kept.{Kept}
@@ -14,6 +14,20 @@ use Rattle.gr_hits.specs.Accesses.{AreAccesses}
 -- streams with this list of a group
 abbrev pub with_list : Streams → ℕ → List Event → Streams
 with_list s g list = record { sizes = s.sizes; lists = slice_set s.lists g list }
+
+-- lists, each with what follows it
+abbrev pub with_rests : List (List Event) → List (List Event) → List (List Event)
+with_rests [] rests = []
+with_rests (list ∷ lists) [] = list ∷ lists
+with_rests (list ∷ lists) (rest ∷ rests) = (list ++ rest) ∷ with_rests lists rests
+
+-- streams, each with the records that are still to come
+abbrev pub with_more : Streams → List (List Event) → Streams
+with_more s rests = record { sizes = s.sizes; lists = with_rests s.lists rests }
+
+-- the first of a group's records to come were taken: those after them are still to come
+abbrev pub AreTakenFrom : Streams → ℕ → List Event → Streams → List Event → Type 0
+AreTakenFrom s g old t new = (list : List Event) × (old ≡ list ++ new) × (t ≡ with_list s g (list_of s g ++ list))
 
 -- the accesses of a step: one at most
 abbrev pub accesses_of : {Z : Type 0} → Handled Z → List ClockedAccess

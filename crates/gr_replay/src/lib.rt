@@ -1,6 +1,7 @@
 //! From the bytes of streams to the text of a report.
 #![tactic(auto)]
 
+mod cursor;
 pub mod detect;
 pub mod each;
 mod handling;

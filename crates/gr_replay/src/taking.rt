@@ -2,15 +2,18 @@
 //!
 //! Records are taken in rounds, and what can be handled is handled after each, so that no more of them are kept than wait.
 
-ghost use Rattle.std.specs.Prelude.{◌≡◌, ◌<◌, [], OnOk, length};
+ghost use Rattle.std.specs.Prelude.{◌≡◌, ◌↔◌, ◌<◌, ◌++◌, [], All, IfOk, IsTrue, OnOk, length, map};
+ghost use Rattle.std.specs.List.{sum_by};
 ghost use Rattle.gr_model.specs.declared.limits.TheConstants.{MOST_RECORDS};
 ghost use Rattle.gr_model.specs.Streams.{AreAccepted, IsAccepted, list_of, size_of};
 ghost use Rattle.gr_lanes.specs.Takes.{CanTake, IsEventButItem, with_record};
 ghost use Rattle.gr_order.specs.Sequences.{IsDone, IsSequence, nothing};
 ghost use Rattle.gr_replay.specs.Launch.{streams_of};
-ghost use Rattle.gr_replay.specs.Sequencing.{AreShadowsOf, with_list};
+ghost use Rattle.gr_replay.specs.Sequencing.{AreShadowsOf, AreTakenFrom, with_list, with_more};
 
+use crate::cursor::Cursor;
 use crate::handling::handle_ready;
+use crate::joined::Stream;
 use crate::launch::Launch;
 use gr_lanes::seq_error::SeqError;
 use gr_model::event::Event;
@@ -103,7 +106,86 @@ pub(crate) fn take_traces<A: Allocator + Copy>(
     Ok(())
 }
 
-/// The same of streams, whose records are read group by group.
+/// The places before the first records of streams.
+///
+/// # Errors
+/// `Memory`: out of memory.
+fn cursors_of<'a, A: Allocator>(
+    alloc: A,
+    streams: &[Stream<'a>],
+) -> Result<Vec<Cursor<'a>, A>, Memory>
+    ensures { IfOk result (λ v. v.items ≡ map (λ s. s.events) streams.now) }
+{
+    let cursors = streams
+        .iter()
+        .map(|stream| stream.events.cursor())
+        .collect(alloc)?;
+    Ok(cursors)
+}
+
+/// Whether nothing is to come of any stream.
+fn are_done(cursors: &[Cursor<'_>]) -> bool
+    ensures { IsTrue result ↔ All (λ rest. rest ≡ []) cursors.now }
+{
+    cursors.iter().all(|cursor| cursor.is_done())
+}
+
+/// Has a sequencer take a round of a group's records, or fewer where fewer are to come.
+///
+/// # Errors
+/// `Memory`: out of memory.
+fn take_some<A: Allocator + Copy>(
+    sequencer: &mut Sequencer<A>,
+    shadows: &mut Shadows<A>,
+    group: u16,
+    cursor: &mut Cursor<'_>,
+) -> Result<(), Memory>
+    requires there { group < length sequencer.old.taken.lists }
+    requires accepted { IsAccepted (size_of sequencer.old.taken group) (list_of sequencer.old.taken group ++ cursor.old) }
+    requires sequence { IsSequence sequencer.old }
+    requires shadows { AreShadowsOf sequencer.old shadows.old }
+    ensures taken { OnOk result (AreTakenFrom sequencer.old.taken group cursor.old sequencer.new.taken cursor.new) }
+    ensures fewer { OnOk result (0 < length cursor.old → length cursor.new < length cursor.old) }
+    ensures sequence { OnOk result (IsSequence sequencer.new) }
+    ensures shadows { OnOk result (AreShadowsOf sequencer.new shadows.new) }
+{
+    for _ in 0..ROUND {
+        match cursor.next() {
+            None => break,
+            Some(event) => take_record(sequencer, shadows, group, event)?,
+        }
+    }
+    Ok(())
+}
+
+/// Has a sequencer take a round of each group's records.
+///
+/// # Errors
+/// `Memory`: out of memory.
+fn take_round<A: Allocator + Copy>(
+    sequencer: &mut Sequencer<A>,
+    shadows: &mut Shadows<A>,
+    groups: u16,
+    cursors: &mut [Cursor<'_>],
+) -> Result<(), Memory>
+    requires groups { groups ≡ length sequencer.old.taken.lists }
+    requires cursors { groups ≡ length cursors.old }
+    requires accepted { AreAccepted (with_more sequencer.old.taken cursors.old) }
+    requires sequence { IsSequence sequencer.old }
+    requires shadows { AreShadowsOf sequencer.old shadows.old }
+    ensures whole { OnOk result (with_more sequencer.new.taken cursors.new ≡ with_more sequencer.old.taken cursors.old) }
+    ensures fewer { OnOk result ((¬ All (λ rest. rest ≡ []) cursors.old) → sum_by length cursors.new < sum_by length cursors.old) }
+    ensures sequence { OnOk result (IsSequence sequencer.new) }
+    ensures shadows { OnOk result (AreShadowsOf sequencer.new shadows.new) }
+{
+    for group in 0..groups {
+        take_some(sequencer, shadows, group, &mut cursors[usize::from(group)])?;
+    }
+    Ok(())
+}
+
+/// The same of streams, whose records are read as they are taken. The groups take turns, so that few records wait for
+/// those of other groups.
 ///
 /// # Errors
 /// `Memory`: out of memory.
@@ -121,9 +203,10 @@ pub(crate) fn take_streams<A: Allocator + Copy>(
     ensures sequence { OnOk result (IsSequence sequencer.new) }
     ensures shadows { OnOk result (AreShadowsOf sequencer.new shadows.new) }
 {
-    for group in 0..launch.shape.groups() {
-        let list = launch.streams[usize::from(group)].events.read(alloc)?;
-        take_list(sequencer, shadows, group, &list)?;
+    let groups = launch.shape.groups();
+    let mut cursors = cursors_of(alloc, launch.streams.as_slice())?;
+    while !are_done(cursors.as_slice()) {
+        take_round(sequencer, shadows, groups, cursors.as_mut_slice())?;
     }
     handle_ready(sequencer, shadows)?;
     Ok(())

@@ -1,42 +1,43 @@
-use Rattle.std.proofs.Common.{◌≡◌, ◌<◌, ◌≤◌, List, length, ◌∙◌, sym, subst, arith}
-use Rattle.std.proofs.lemmas.List.{length-map}
+use Rattle.std.proofs.Common.{◌≡◌, ◌+◌, ◌<◌, ◌≤◌, ◌++◌, [], All, List, true≢false, length, map, drop, take, ap, sym, subst, ◌∙◌, arith}
+use Rattle.std.specs.List.{sum_by}
+use Rattle.std.proofs.Math.ListN.{drop_of_length-le}
+use Rattle.std.proofs.lemmas.List.Sums.{sum_by-append, sum_by-take-le}
 use Rattle.gr_model.specs.declared.event.Event.{Event}
-use Rattle.gr_model.specs.Streams.{IsAccepted, list_of, size_of}
+use Rattle.gr_order.specs.Sequences.{Sequence}
 use Rattle.gr_replay.specs.declared.joined.Stream.{Stream}
 use Rattle.gr_replay.specs.Launch.{streams_of}
-use Rattle.gr_replay.proofs.TakenLists.{accepted_at, all_are_taken, list_taken, nothing_is_sequence, sequencer_is_new, stream_list}
+use Rattle.gr_replay.specs.Sequencing.{with_more}
+use Rattle.gr_replay.proofs.TakenLists.{nothing_is_sequence}
+use Rattle.gr_replay.proofs.Turns.{everything_to_come, no_more_to_come}
 use Rattle.gr_replay.proofs.taking.take_streams.Goals as goal
 
-pub loop-group-init : goal.loop-group-init
-loop-group-init g c = record {
-  taken = sequencer_is_new (streams_of c.args.launch.now) c.args.sequencer.now c.requires.accepted.count c.requires.nothing;
-  sequence = nothing_is_sequence (streams_of c.args.launch.now) c.args.sequencer.now c.requires.accepted c.requires.nothing;
-  shadows = c.requires.shadows;
-}
-
-pub take_list-requires-clause-accepted : goal.take_list-requires-clause-accepted
-take_list-requires-clause-accepted g c =
+pub loop-sequencer-init : goal.loop-sequencer-init
+loop-sequencer-init g c =
     let s = streams_of c.args.launch.now in
-    let there : c.loop-group.group < length s.sizes = omega (arith, c.groups-group-end.ensures.count) in
-    let within : c.loop-group.group < length c.args.launch.now.streams.items = omega (arith, there, c.requires.accepted.count, length-map c.args.launch.now.streams.items (λ (x : Stream). x.events)) in
-    let list : c.deref.result.now ≡ list_of s c.loop-group.group = c.deref.ensures.value ∙ (c.in_ok-list.ensures ∙ stream_list c.args.launch.now.streams.items c.loop-group.group c.from.result c.index.result.now c.from.ensures within c.index.ensures) in
-    subst (λ (l : List Event). IsAccepted (size_of c.loop-group.sequencer.taken c.loop-group.group) l) (sym list)
-    (accepted_at s c.loop-group.group c.loop-group.sequencer.taken c.requires.accepted there c.loop-group.invariant.taken)
-
-pub loop-group-preserved : goal.loop-group-preserved
-loop-group-preserved g c =
-    let s = streams_of c.args.launch.now in
-    let there : c.loop-group.group < length s.lists = omega (arith, c.groups-group-end.ensures.count, c.requires.accepted.count) in
-    let within : c.loop-group.group < length c.args.launch.now.streams.items = omega (arith, there, length-map c.args.launch.now.streams.items (λ (x : Stream). x.events)) in
-    let list : c.deref.result.now ≡ list_of s c.loop-group.group = c.deref.ensures.value ∙ (c.in_ok-list.ensures ∙ stream_list c.args.launch.now.streams.items c.loop-group.group c.from.result c.index.result.now c.from.ensures within c.index.ensures) in
+    let cursors = c.in_ok-cursors.cursors.items in
+    let lists : cursors ≡ s.lists = c.in_ok-cursors.ensures ∙ ap (map (λ (x : Stream). x.events)) c.as_slice.ensures.value in
     record {
-      taken = list_taken s c.loop-group.group c.loop-group.sequencer.taken c.take_list.new.sequencer.taken c.deref.result.now there c.loop-group.invariant.taken list c.in_ok-take_list.ensures.taken;
-      sequence = c.in_ok-take_list.ensures.sequence;
-      shadows = c.in_ok-take_list.ensures.shadows;
+      whole = ap (λ (q : Sequence). with_more q.taken cursors) c.requires.nothing ∙ (ap (with_more _) lists ∙ everything_to_come s c.requires.accepted.count);
+      count = ap length lists;
+      sequence = nothing_is_sequence s c.args.sequencer.now c.requires.accepted c.requires.nothing;
+      shadows = c.requires.shadows;
     }
+
+pub loop-sequencer-smaller : goal.loop-sequencer-smaller
+loop-sequencer-smaller g c =
+    let old = c.loop-sequencer.cursors.items in
+    let new = c.take_round.new.cursors in
+    let to_come : ¬ All (λ rest. rest ≡ []) c.as_mut_slice.result.now =
+    λ all. true≢false (sym (c.are_done.ensures.1 (subst (All (λ (rest : List Event). rest ≡ [])) (c.as_mut_slice.ensures.value ∙ sym c.as_slice-in-loop-sequencer.ensures.value) all)) ∙ c.loop-sequencer-test.true) in
+    let less : sum_by length new < sum_by length old = subst (λ (rests : List (List Event)). sum_by length new < sum_by length rests) c.as_mut_slice.ensures.value (c.in_ok-take_round.ensures.fewer to_come) in
+    let none : drop (length new) old ≡ [] = drop_of_length-le old (omega (arith, c.take_round.auto.cursors, ap length c.as_mut_slice.ensures.value)) in
+    let same : sum_by length (new ++ drop (length new) old) ≡ sum_by length new = sum_by-append length new (drop (length new) old) ∙ (ap (λ (rests : List (List Event)). sum_by length new + sum_by length rests) none ∙ omega arith) in
+    let part = sum_by-take-le length (new ++ drop (length new) old) c.loop-sequencer.cursors.len in
+    omega (arith, less, same, part)
 
 pub returns-clause-taken : goal.returns-clause-taken
 returns-clause-taken g c =
-    let s = streams_of c.args.launch.now in
-    let all : length s.lists ≤ c.loop-group.group = omega (arith, c.groups-group-end.ensures.count, c.requires.accepted.count) in
-    c.in_ok-handle_ready.ensures.taken ∙ all_are_taken s c.loop-group.group c.loop-group.sequencer.taken all c.loop-group.invariant.taken
+    let rests = c.loop-sequencer.cursors.items in
+    let t = c.loop-sequencer.sequencer.taken in
+    let all = subst (All (λ (rest : List Event). rest ≡ [])) c.as_slice-in-loop-sequencer.ensures.value (c.are_done.ensures.0 c.loop-sequencer-test.false) in
+    c.in_ok-handle_ready.ensures.taken ∙ (sym (no_more_to_come t rests all) ∙ c.loop-sequencer.invariant.whole)
