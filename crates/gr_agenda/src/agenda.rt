@@ -21,8 +21,8 @@ ghost use Rattle.gr_order.specs.Sequences.{HandlesEvent, IsDone, IsSequence, Mee
 ghost use Rattle.gr_agenda.specs.Kept.{AreUndiverged, IsHeldUp, IsNextBarrier, IsNoted, IsReleaseHandled, IsForgotten};
 ghost use Rattle.gr_agenda.specs.Lists.{Has, IsWaiting, KeepsSteps};
 
-use crate::todo::Todo;
 use crate::waiting::{LISTS, wait, wake};
+use crate::worklist::Worklist;
 use gr_lanes::kinds::is_barrier;
 use gr_lanes::seq_error::SeqError;
 use gr_model::event::{Event, EventId, ItemId, Kind, Name};
@@ -41,7 +41,7 @@ const GROUPS: usize = 64;
 #[derive_where(Debug)]
 pub struct Agenda<A: Allocator = Global> {
     order: Order<A>,
-    todo: Todo<A>,
+    worklist: Worklist<A>,
     waiting: Vec<Vec<ItemId, A>, A>,
     /// Of each group an instance that is known not to be divergent, if one is.
     undiverged: Vec<Option<u32>, A>,
@@ -55,7 +55,7 @@ impl<A: Allocator> Model for Agenda<A> {
 
     ghost view = { λ a. a.order };
 
-    ghost invariant = { λ a. IsKept a.order a.todo a.waiting.items × AreUndiverged a.order.taken a.undiverged.items };
+    ghost invariant = { λ a. IsKept a.order a.worklist a.waiting.items × AreUndiverged a.order.taken a.undiverged.items };
 }
 
 /// Whether a record changes what the other items of its group wait for: a barrier or an end.
@@ -94,12 +94,12 @@ fn no_lists<A: Allocator + Copy>(alloc: A) -> Result<Vec<Vec<ItemId, A>, A>, Mem
 }
 
 /// Puts the first items of a group on the list.
-fn put_items<A: Allocator>(todo: &mut Todo<A>, group: u16, items: u16)
-    ensures there { (k : ℕ) → k < items → Has todo.new (Item (record { group = group; item = k })) }
-    ensures keeps { KeepsSteps todo.old todo.new }
+fn put_items<A: Allocator>(worklist: &mut Worklist<A>, group: u16, items: u16)
+    ensures there { (k : ℕ) → k < items → Has worklist.new (Item (record { group = group; item = k })) }
+    ensures keeps { KeepsSteps worklist.old worklist.new }
 {
     for item in 0..items {
-        todo.put(Ready::Item(ItemId { group, item }));
+        worklist.put(Ready::Item(ItemId { group, item }));
     }
 }
 
@@ -116,12 +116,12 @@ fn is_at_barrier<A: Allocator>(order: &Order<A>, item: ItemId) -> bool
 }
 
 /// Puts the group of an item on the list, if the item's next event is a barrier.
-fn put_group<A: Allocator>(order: &Order<A>, todo: &mut Todo<A>, item: ItemId)
-    ensures there { CanMeet order.now.taken order.now.handled item.group → item.item < size_of order.now.taken item.group → Has todo.new (Group item.group) }
-    ensures keeps { KeepsSteps todo.old todo.new }
+fn put_group<A: Allocator>(order: &Order<A>, worklist: &mut Worklist<A>, item: ItemId)
+    ensures there { CanMeet order.now.taken order.now.handled item.group → item.item < size_of order.now.taken item.group → Has worklist.new (Group item.group) }
+    ensures keeps { KeepsSteps worklist.old worklist.new }
 {
     if is_at_barrier(order, item) {
-        todo.put(Ready::Group(item.group));
+        worklist.put(Ready::Group(item.group));
     }
 }
 
@@ -252,14 +252,14 @@ impl<A: Allocator + Copy> Agenda<A> {
     pub fn new(alloc: A, shape: Shape<A>) -> Result<Agenda<A>, Memory>
         ensures { IfOk result (λ a. a ≡ nothing shape) }
     {
-        let todo = Todo::new(alloc)?;
+        let worklist = Worklist::new(alloc)?;
         let waiting = no_lists(alloc)?;
         let mut undiverged = Vec::with_capacity(alloc, GROUPS)?;
         undiverged.resize(GROUPS, None)?;
         let order = Order::new(alloc, shape)?;
         Ok(Agenda {
             order,
-            todo,
+            worklist,
             waiting,
             undiverged,
         })
@@ -300,20 +300,20 @@ impl<A: Allocator> Agenda<A> {
         self.order.take(group, event)?;
         if wide {
             forget_undiverged(&mut self.undiverged, group);
-            self.todo.put(Ready::Group(group));
+            self.worklist.put(Ready::Group(group));
             put_items(
-                &mut self.todo,
+                &mut self.worklist,
                 group,
                 self.order.lanes().shape().items(group),
             );
         } else {
-            self.todo.put(Ready::Item(at));
+            self.worklist.put(Ready::Item(at));
         }
         Ok(())
     }
 
     /// Handles an event that may be handled.
-    pub fn add(&mut self, event: EventId)
+    pub fn handle_event(&mut self, event: EventId)
         requires { IsReady self.old.taken self.old.handled event }
         ensures step { HandlesEvent self.old event self.new }
         ensures sequence { IsSequence self.new }
@@ -321,27 +321,27 @@ impl<A: Allocator> Agenda<A> {
         // brings the order's invariant into the proof
         let _taken = self.order.lanes();
         let released = name_of(&self.order, event);
-        self.order.add(event);
-        self.todo.put(Ready::Item(event.at));
-        put_group(&self.order, &mut self.todo, event.at);
+        self.order.handle_event(event);
+        self.worklist.put(Ready::Item(event.at));
+        put_group(&self.order, &mut self.worklist, event.at);
         match released {
             None => {}
-            Some(name) => wake(&mut self.waiting, name, &mut self.todo),
+            Some(name) => wake(&mut self.waiting, name, &mut self.worklist),
         }
     }
 
     /// Handles the barriers of a group's instance that may meet.
-    pub fn pass(&mut self, group: u16)
+    pub fn meet_instance(&mut self, group: u16)
         requires { CanMeet self.old.taken self.old.handled group }
         ensures step { MeetsNext self.old group self.new }
         ensures sequence { IsSequence self.new }
     {
         // brings the order's invariant into the proof
         let _taken = self.order.lanes();
-        self.order.pass(group);
-        self.todo.put(Ready::Group(group));
+        self.order.meet_instance(group);
+        self.worklist.put(Ready::Group(group));
         put_items(
-            &mut self.todo,
+            &mut self.worklist,
             group,
             self.order.lanes().shape().items(group),
         );
@@ -378,7 +378,7 @@ impl<A: Allocator> Agenda<A> {
         ensures found { IfSome result (λ r. CanMake self.old r) }
         ensures unchanged { self.new ≡ self.old }
     {
-        let step = match self.todo.last() {
+        let step = match self.worklist.last() {
             None => return None,
             Some(step) => step,
         };
@@ -387,8 +387,8 @@ impl<A: Allocator> Agenda<A> {
         }
         mark_undiverged(&self.order, &mut self.undiverged, step);
         match note(&self.order, &mut self.waiting, step) {
-            Ok(()) => self.todo.drop_last(),
-            Err(_) => self.todo.note_shortage(),
+            Ok(()) => self.worklist.drop_last(),
+            Err(_) => self.worklist.note_shortage(),
         }
         None
     }
@@ -401,13 +401,13 @@ impl<A: Allocator> Agenda<A> {
     {
         // brings the order's invariant into the proof
         let _taken = self.order.lanes();
-        for _ in 0..self.todo.len() {
+        for _ in 0..self.worklist.len() {
             match self.try_last() {
                 None => {}
                 Some(step) => return Some(step),
             }
         }
-        if self.todo.is_done() {
+        if self.worklist.is_done() {
             return None;
         }
         self.order.ready()

@@ -2,5 +2,5 @@
 #![tactic(auto)]
 
 pub mod agenda;
-mod todo;
 mod waiting;
+mod worklist;

@@ -6,7 +6,7 @@ ghost use Rattle.gr_model.specs.declared.event.Name.{Name as AnyName};
 ghost use Rattle.gr_order.specs.declared.steps.Ready.TheVariants.{Item};
 ghost use Rattle.gr_agenda.specs.Lists.{Has, IsAmong, IsWaiting, KeepsSteps, bucket_of};
 
-use crate::todo::Todo;
+use crate::worklist::Worklist;
 use gr_model::event::{ItemId, Name};
 use gr_model::memory::Memory;
 use gr_order::steps::Ready;
@@ -46,12 +46,12 @@ pub(crate) fn wait<A: Allocator>(
 }
 
 /// Puts each item of a list among those that may be ready.
-fn put_all<A: Allocator>(list: &[ItemId], todo: &mut Todo<A>)
-    ensures there { (i : AnyItem) → IsAmong list.now i → Has todo.new (Item i) }
-    ensures keeps { KeepsSteps todo.old todo.new }
+fn put_all<A: Allocator>(list: &[ItemId], worklist: &mut Worklist<A>)
+    ensures there { (i : AnyItem) → IsAmong list.now i → Has worklist.new (Item i) }
+    ensures keeps { KeepsSteps worklist.old worklist.new }
 {
     for item in list {
-        todo.put(Ready::Item(*item));
+        worklist.put(Ready::Item(*item));
     }
 }
 
@@ -59,16 +59,16 @@ fn put_all<A: Allocator>(list: &[ItemId], todo: &mut Todo<A>)
 pub(crate) fn wake<A: Allocator>(
     lists: &mut Vec<Vec<ItemId, A>, A>,
     named: Name,
-    todo: &mut Todo<A>,
+    worklist: &mut Worklist<A>,
 )
-    ensures woken { (i : AnyItem) → IsWaiting lists.old.items named i → Has todo.new (Item i) }
-    ensures others { (n : AnyName) (i : AnyItem) → IsWaiting lists.old.items n i → Has todo.new (Item i) ⊎ IsWaiting lists.new.items n i }
-    ensures keeps { KeepsSteps todo.old todo.new }
+    ensures woken { (i : AnyItem) → IsWaiting lists.old.items named i → Has worklist.new (Item i) }
+    ensures others { (n : AnyName) (i : AnyItem) → IsWaiting lists.old.items n i → Has worklist.new (Item i) ⊎ IsWaiting lists.new.items n i }
+    ensures keeps { KeepsSteps worklist.old worklist.new }
 {
     match lists.get_mut(bucket_of(named)) {
         None => {}
         Some(list) => {
-            put_all(list, todo);
+            put_all(list, worklist);
             list.clear();
         }
     }

@@ -5,7 +5,7 @@ use Rattle.std.proofs.lemmas.Option.{slice_get_within}
 use Rattle.gr_model.specs.declared.event.Space.{Space}
 use Rattle.gr_model.specs.declared.event.ItemId.{ItemId}
 use Rattle.gr_model.specs.declared.event.EventId.{EventId}
-use Rattle.gr_model.specs.Counts.{IsCount, IsSeen}
+use Rattle.gr_model.specs.Counts.{IsCount, Sees}
 use Rattle.gr_model.specs.LawfulOrders.{IsIn, IsLawful}
 use Rattle.gr_model.specs.Streams.{Streams, trace_of}
 use Rattle.gr_model.proofs.Numbers.{number_of_prefix}
@@ -13,7 +13,7 @@ use Rattle.gr_clocks.specs.Counts.{Counts, count_of}
 use Rattle.gr_closure.specs.Accesses.{CountsJust}
 use Rattle.gr_closure.proofs.HandledKnowledge.{seen_handled}
 
-pub clocks_count : (s : Streams) (m : Space) (order : List EventId) (e : EventId) (c : Counts) (j : ItemId) → IsLawful s order → IsIn order e → CountsJust c (IsSeen s m e) → IsCount s m e j (count_of c j)
+pub clocks_count : (s : Streams) (m : Space) (order : List EventId) (e : EventId) (c : Counts) (j : ItemId) → IsLawful s order → IsIn order e → CountsJust c (Sees s m e) → IsCount s m e j (count_of c j)
 clocks_count s m order e c j lawful there just =
     let at : ℕ → EventId = λ k. record { at = j; index = k } in
     let size : ℕ = length (trace_of s j) in
@@ -25,4 +25,4 @@ clocks_count s m order e c j lawful there just =
     absurd (omega arith))
     (λ (le : count_of c j ≤ size). le)
     (cases_lt size (count_of c j)) in
-    number_of_prefix (λ k. IsSeen s m e (at k)) size (count_of c j) within (λ k _. ((just (at k)).1, (just (at k)).0))
+    number_of_prefix (λ k. Sees s m e (at k)) size (count_of c j) within (λ k _. ((just (at k)).1, (just (at k)).0))

@@ -4,7 +4,7 @@ use Rattle.gr_model.specs.declared.event.EventId.{EventId}
 use Rattle.gr_model.specs.declared.event.ItemId.{ItemId}
 use Rattle.gr_model.specs.declared.event.Space.{Space}
 use Rattle.gr_model.specs.Barriers.{Together}
-use Rattle.gr_model.specs.Counts.{IsSeen}
+use Rattle.gr_model.specs.Counts.{Sees}
 use Rattle.gr_model.specs.Instances.{Mark}
 use Rattle.gr_model.specs.LawfulOrders.{IsIn, IsLawful}
 use Rattle.gr_model.specs.Streams.{Streams}
@@ -15,7 +15,7 @@ use Rattle.gr_closure.proofs.LongerOrders.{in_back, in_prefix, in_longer, knows_
 use Rattle.gr_closure.proofs.NextInItem.{known_before, next_sees, ready_event_is_next}
 
 module _ (s : Streams) (m : Space) (old new : List EventId) (e : EventId) (lawful : IsLawful s old) (handles : Handles s old e new) where
-  pub handled_sees : (d : EventId) → IsSeen s m e d ↔ ((d ≡ e) ⊎ Knows s m old e.at d ⊎ Learns s m e d)
+  pub handled_sees : (d : EventId) → Sees s m e d ↔ ((d ≡ e) ⊎ Knows s m old e.at d ⊎ Learns s m e d)
   handled_sees d = next_sees s m old e handles.ready.event (ready_event_is_next s old lawful e handles.ready) d
 
   pub handled_stays : (x : EventId) → IsIn old x → IsIn new x
@@ -35,15 +35,15 @@ module _ (s : Streams) (m : Space) (old new : List EventId) (e : EventId) (lawfu
   apart : (a : Mark) (c : EventId) → Together s a c e → ⊥
   apart a c met = not_both s met.group met.instance a met.convergent (handles.ready.instance met.group met.instance met.second)
 
-  pub handled_knows : (d : EventId) → Knows s m new e.at d ↔ IsSeen s m e d
+  pub handled_knows : (d : EventId) → Knows s m new e.at d ↔ Sees s m e d
   handled_knows d = (sees, λ seen. by_event e handled_now refl seen)
     where
-      before : Knows s m old e.at d → IsSeen s m e d
+      before : Knows s m old e.at d → Sees s m e d
       before k = inr (known_before s m old e handles.ready.event (ready_event_is_next s old lawful e handles.ready) d k)
 
-      sees : Knows s m new e.at d → IsSeen s m e d
+      sees : Knows s m new e.at d → Sees s m e d
       sees (by_event x h item seen) =
-          ⊎_elim (λ was. before (by_event x was item seen)) (λ (same : x ≡ e). subst (λ y. IsSeen s m y d) same seen) (handled_cases x h)
+          ⊎_elim (λ was. before (by_event x was item seen)) (λ (same : x ≡ e). subst (λ y. Sees s m y d) same seen) (handled_cases x h)
       sees (by_instance a c b h item flagged met seen) =
           ⊎_elim (λ was. before (by_instance a c b was item flagged met seen)) (λ (same : b ≡ e). absurd (apart a c (subst (λ y. Together s a c y) same met))) (handled_cases b h)
 

@@ -4,7 +4,7 @@ use Rattle.gr_model.specs.declared.event.EventId.{EventId}
 use Rattle.gr_model.specs.declared.event.ItemId.{ItemId}
 use Rattle.gr_model.specs.declared.event.Space.{Space}
 use Rattle.gr_model.specs.Barriers.{IsConvergent, StandsIn, Together}
-use Rattle.gr_model.specs.Counts.{IsSeen}
+use Rattle.gr_model.specs.Counts.{Sees}
 use Rattle.gr_model.specs.Instances.{Mark, flags}
 use Rattle.gr_model.specs.LawfulOrders.{IsIn, IsLawful}
 use Rattle.gr_model.specs.Names.{names_of}
@@ -27,7 +27,7 @@ module _ (s : Streams) (m : Space) (old new : List EventId) (g k : ℕ) (prefixe
       let there = barrier_there s b g k stands in
       barriers_name_nothing s prefixes b there.0 l.matches.name there.1 there.2 (subst (λ names. Contains names l.matches.name) (ap names_of there.1) l.matches.by.named)
 
-  pub met_sees : (b d : EventId) → StandsIn s b g k → IsSeen s m b d ↔ ((d ≡ b) ⊎ Knows s m old b.at d)
+  pub met_sees : (b d : EventId) → StandsIn s b g k → Sees s m b d ↔ ((d ≡ b) ⊎ Knows s m old b.at d)
   met_sees b d stands =
       let sees = next_sees s m old b (event_of b stands) (barrier_is_next s old lawful g k met.mark met.meeting b stands) d in (
         λ seen. ⊎_elim (λ same. inl same) (λ h. ⊎_elim (λ known. inr known) (λ l. absurd (learns_nothing b d stands l)) h) (sees.0 seen),
@@ -50,7 +50,7 @@ module _ (s : Streams) (m : Space) (old new : List EventId) (g k : ℕ) (prefixe
   met_cases x h = ⊎_elim (λ was. inl was) (λ (b : IsIn met.barriers x). inr (met.are.each b.0 x b.1).1) (in_longer old met.barriers x (subst (λ l. IsIn l x) met.order h))
 
   -- what a barrier's item knew, the barrier sees
-  known_seen : (b d : EventId) → StandsIn s b g k → Knows s m old b.at d → IsSeen s m b d
+  known_seen : (b d : EventId) → StandsIn s b g k → Knows s m old b.at d → Sees s m b d
   known_seen b d stands known = inr (known_before s m old b (event_of b stands) (barrier_is_next s old lawful g k met.mark met.meeting b stands) d known)
 
   -- of an instance that a barrier stands in, this is the number
@@ -67,13 +67,13 @@ module _ (s : Streams) (m : Space) (old new : List EventId) (g k : ℕ) (prefixe
 
   -- ---- in a memory that is flagged
 
-  some_sees : (b d : EventId) → StandsIn s b g k → Knows s m new b.at d → (c : EventId) × StandsIn s c g k × IsSeen s m c d
+  some_sees : (b d : EventId) → StandsIn s b g k → Knows s m new b.at d → (c : EventId) × StandsIn s c g k × Sees s m c d
   some_sees b d stands (by_event x h item seen) =
       ⊎_elim (λ was. (b, stands, known_seen b d stands (by_event x was item seen))) (λ now. (x, now, seen)) (met_cases x h)
   some_sees b d stands (by_instance a c x h item flagged t seen) =
       ⊎_elim (λ was. (b, stands, known_seen b d stands (by_instance a c x was item flagged t seen))) (λ now. (c, (here a c x now t).0, seen)) (met_cases x h)
 
-  pub flagged_knows : (i : ItemId) (d : EventId) → IsTrue (flags met.mark m) → i.group ≡ g → i.item < size_of s g → Knows s m new i d ↔ ((b : EventId) × StandsIn s b g k × IsSeen s m b d)
+  pub flagged_knows : (i : ItemId) (d : EventId) → IsTrue (flags met.mark m) → i.group ≡ g → i.item < size_of s g → Knows s m new i d ↔ ((b : EventId) × StandsIn s b g k × Sees s m b d)
   flagged_knows i d flagged group within =
       let found = barrier_of s g k met.mark met.meeting.convergent i.item within in
       let b : EventId = record { at = record { group = g; item = i.item }; index = found.0 } in
@@ -87,16 +87,16 @@ module _ (s : Streams) (m : Space) (old new : List EventId) (g k : ℕ) (prefixe
   one_mark : (a : Mark) → IsConvergent s g k a → a ≡ met.mark
   one_mark a c = let e : Some a ≡ Some met.mark = sym (c.1 0 c.0) ∙ met.meeting.convergent.1 0 c.0 in cc
 
-  own_sees : (b d : EventId) → IsFalse (flags met.mark m) → StandsIn s b g k → Knows s m new b.at d → IsSeen s m b d
+  own_sees : (b d : EventId) → IsFalse (flags met.mark m) → StandsIn s b g k → Knows s m new b.at d → Sees s m b d
   own_sees b d apart stands (by_event x h item seen) =
-      ⊎_elim (λ was. known_seen b d stands (by_event x was item seen)) (λ now. subst (λ y. IsSeen s m y d) (own x b now stands item) seen) (met_cases x h)
+      ⊎_elim (λ was. known_seen b d stands (by_event x was item seen)) (λ now. subst (λ y. Sees s m y d) (own x b now stands item) seen) (met_cases x h)
   own_sees b d apart stands (by_instance a c x h item flagged t seen) =
       ⊎_elim
       (λ was. known_seen b d stands (by_instance a c x was item flagged t seen))
       (λ now. absurd (true≢false (sym (subst (λ f. IsTrue (flags f m)) (one_mark a (here a c x now t).1) flagged) ∙ apart)))
       (met_cases x h)
 
-  pub unflagged_knows : (b d : EventId) → IsFalse (flags met.mark m) → StandsIn s b g k → Knows s m new b.at d ↔ IsSeen s m b d
+  pub unflagged_knows : (b d : EventId) → IsFalse (flags met.mark m) → StandsIn s b g k → Knows s m new b.at d ↔ Sees s m b d
   unflagged_knows b d apart stands = (own_sees b d apart stands, λ seen. by_event b (met_now b stands) refl seen)
 
   -- ---- in other groups

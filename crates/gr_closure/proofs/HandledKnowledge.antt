@@ -3,14 +3,14 @@ use Rattle.std.proofs.Common.{◌≡◌, List, refl, sym, subst, inl, inr}
 use Rattle.gr_model.specs.declared.event.EventId.{EventId}
 use Rattle.gr_model.specs.declared.event.ItemId.{ItemId}
 use Rattle.gr_model.specs.declared.event.Space.{Space}
-use Rattle.gr_model.specs.Counts.{IsSeen}
+use Rattle.gr_model.specs.Counts.{Sees}
 use Rattle.gr_model.specs.LawfulOrders.{IsAt, IsIn, IsLawful}
 use Rattle.gr_model.specs.Streams.{Streams}
 use Rattle.gr_model.proofs.Descent.{below_before, lawful_descends, together-swap}
 use Rattle.gr_closure.specs.Knowledge.{Knows, by_event, by_instance}
 
 module _ (s : Streams) (m : Space) (order : List EventId) where
-  pub seen_handled : IsLawful s order → (e d : EventId) → IsIn order e → IsSeen s m e d → IsIn order d
+  pub seen_handled : IsLawful s order → (e d : EventId) → IsIn order e → Sees s m e d → IsIn order d
   seen_handled lawful e d h (inl same) = subst (λ x. IsIn order x) (sym same) h
   seen_handled lawful e d h (inr before) =
       let there = below_before s (IsAt order) (lawful_descends s order lawful) m d e before h.0 h.1 in

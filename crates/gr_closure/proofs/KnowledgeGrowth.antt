@@ -4,7 +4,7 @@ use Rattle.gr_model.specs.declared.event.EventId.{EventId}
 use Rattle.gr_model.specs.declared.event.ItemId.{ItemId}
 use Rattle.gr_model.specs.declared.event.Space.{Space}
 use Rattle.gr_model.specs.Barriers.{Together}
-use Rattle.gr_model.specs.Counts.{IsSeen}
+use Rattle.gr_model.specs.Counts.{Sees}
 use Rattle.gr_model.specs.Instances.{Mark}
 use Rattle.gr_model.specs.LawfulOrders.{IsIn, IsLawful}
 use Rattle.gr_model.specs.Streams.{Grows, Streams}
@@ -13,15 +13,15 @@ use Rattle.gr_model.proofs.GrowthLaws.{before_grows, before_shrinks, together_sh
 use Rattle.gr_closure.specs.Knowledge.{Knows, by_event, by_instance}
 
 module _ (s t : Streams) (m : Space) (order : List EventId) (grows : Grows s t) (lawful : IsLawful s order) where
-  seen_grows : (e d : EventId) → IsIn order e → IsSeen s m e d → IsSeen t m e d
+  seen_grows : (e d : EventId) → IsIn order e → Sees s m e d → Sees t m e d
   seen_grows e d h (inl same) = inl same
   seen_grows e d h (inr before) = let g = lawful_is_grounded s order e lawful h in inr (before_grows s t grows m d e before g.0 g.1)
 
-  seen_shrinks : (e d : EventId) → IsIn order e → IsSeen t m e d → IsSeen s m e d
+  seen_shrinks : (e d : EventId) → IsIn order e → Sees t m e d → Sees s m e d
   seen_shrinks e d h (inl same) = inl same
   seen_shrinks e d h (inr before) = let g = lawful_is_grounded s order e lawful h in inr (before_shrinks s t grows m d e before g.0 g.1)
 
-  pub seen_stays : (e d : EventId) → IsIn order e → IsSeen s m e d ↔ IsSeen t m e d
+  pub seen_stays : (e d : EventId) → IsIn order e → Sees s m e d ↔ Sees t m e d
   seen_stays e d h = (seen_grows e d h, seen_shrinks e d h)
 
   -- the barriers that a handled barrier has met stay the same, and are handled

@@ -4,7 +4,7 @@ use Rattle.std.proofs.lemmas.Bool.{cases_lt}
 use Rattle.gr_model.specs.declared.event.EventId.{EventId}
 use Rattle.gr_model.specs.declared.event.Space.{Space}
 use Rattle.gr_model.specs.Barriers.{StandsIn}
-use Rattle.gr_model.specs.Counts.{IsSeen}
+use Rattle.gr_model.specs.Counts.{Sees}
 use Rattle.gr_model.specs.Instances.{Mark}
 use Rattle.gr_model.specs.HappensBefore.{BasePair, HappensBefore, behind_barrier, sequenced, synchronized}
 use Rattle.gr_model.specs.LawfulOrders.{IsIn, IsLawful}
@@ -68,7 +68,7 @@ module _ (s : Streams) (m : Space) (old : List EventId) (e : EventId) (there : I
   pub before_known : HappensBefore s m d e → Knows s m old e.at d ⊎ Learns s m e d
   before_known before = let last = last_pair s m d e before in by_last last.0 last.1 last.2
     where
-      by_last : (x : EventId) → IsSeen s m x d → BasePair s m x e → Knows s m old e.at d ⊎ Learns s m e d
+      by_last : (x : EventId) → Sees s m x d → BasePair s m x e → Knows s m old e.at d ⊎ Learns s m e d
       by_last x seen (sequenced item below event) = inl (by_event x ((next x item).1 below) item seen)
       by_last x seen (synchronized match inclusive) = inr (record { release = x; matches = match; inclusive = inclusive; seen = seen })
       by_last x seen (behind_barrier a b flagged met item below event) = inl (by_instance a x b ((next b item).1 below) item flagged met seen)
@@ -76,5 +76,5 @@ module _ (s : Streams) (m : Space) (old : List EventId) (e : EventId) (there : I
   learned_before : Learns s m e d → HappensBefore s m d e
   learned_before l = seen_before s m d l.release e l.seen (synchronized l.matches l.inclusive)
 
-  pub next_sees : IsSeen s m e d ↔ ((d ≡ e) ⊎ Knows s m old e.at d ⊎ Learns s m e d)
+  pub next_sees : Sees s m e d ↔ ((d ≡ e) ⊎ Knows s m old e.at d ⊎ Learns s m e d)
   next_sees = (⊎_elim (λ same. inl same) (λ before. inr (before_known before)), ⊎_elim (λ same. inl same) (λ h. inr (⊎_elim (λ k. known_before k) (λ l. learned_before l) h)))

@@ -2,17 +2,17 @@
 use Rattle.std.proofs.Common.{refl, sym, subst, inl, inr}
 use Rattle.gr_model.specs.declared.event.EventId.{EventId}
 use Rattle.gr_model.specs.declared.event.Space.{Space}
-use Rattle.gr_model.specs.Counts.{IsSeen}
+use Rattle.gr_model.specs.Counts.{Sees}
 use Rattle.gr_model.specs.HappensBefore.{BasePair, HappensBefore, by_pair, through}
 use Rattle.gr_model.specs.Streams.{Streams}
 
 module _ (s : Streams) (m : Space) where
   -- the last base pair on the way from d to e starts at an event that sees d
-  pub last_pair : (d e : EventId) → HappensBefore s m d e → (x : EventId) × IsSeen s m x d × BasePair s m x e
+  pub last_pair : (d e : EventId) → HappensBefore s m d e → (x : EventId) × Sees s m x d × BasePair s m x e
   last_pair d e (by_pair pair) = (d, inl refl, pair)
   last_pair d e (through {f = x} before pair) = (x, inr before, pair)
 
   -- what is seen by an event happens before those with which it makes a base pair
-  pub seen_before : (d x e : EventId) → IsSeen s m x d → BasePair s m x e → HappensBefore s m d e
+  pub seen_before : (d x e : EventId) → Sees s m x d → BasePair s m x e → HappensBefore s m d e
   seen_before d x e (inl same) pair = by_pair (subst (λ y. BasePair s m y e) (sym same) pair)
   seen_before d x e (inr before) pair = through before pair

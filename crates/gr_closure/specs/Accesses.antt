@@ -4,7 +4,7 @@ use Rattle.std.specs.Prelude.{◌≡◌, ◌↔◌, ◌<◌, Option, None, Some}
 use Rattle.gr_model.specs.declared.event.Event.{Event}
 use Rattle.gr_model.specs.declared.event.EventId.{EventId}
 use Rattle.gr_model.specs.Access.{memory_of}
-use Rattle.gr_model.specs.Counts.{IsSeen}
+use Rattle.gr_model.specs.Counts.{Sees}
 use Rattle.gr_model.specs.Streams.{Streams, event_at, word_at}
 use Rattle.gr_scopes.specs.Classes.{class_of}
 use Rattle.gr_clocks.specs.Counts.{Counts, count_of, sizes_of}
@@ -23,7 +23,7 @@ pub record IsAccess {Z : Type 0} (s : Streams) (e : EventId) (a : Access Z) : Ty
   pub at_event : event_at s e ≡ Some event
   pub class : class_of event.kind ≡ Some a.class
   pub shape : sizes_of a.clock ≡ s.sizes
-  pub counts : CountsJust a.clock (IsSeen s (memory_of a.word) e)
+  pub counts : CountsJust a.clock (Sees s (memory_of a.word) e)
 
 -- an event that is no access has none
 abbrev pub IsAccessOf : {Z : Type 0} → Streams → EventId → Option (Access Z) → Type 0

@@ -3,7 +3,7 @@ use Rattle.std.proofs.Common.{◌≡◌, ◌⊎◌, suc, ◌<◌, length, slice_
 use Rattle.std.proofs.lemmas.Option.{slice_get_within}
 use Rattle.gr_model.specs.declared.event.EventId.{EventId}
 use Rattle.gr_model.specs.declared.event.Space.{Space}
-use Rattle.gr_model.specs.Counts.{IsSeen}
+use Rattle.gr_model.specs.Counts.{Sees}
 use Rattle.gr_model.specs.HappensBefore.{BasePair, HappensBefore, behind_barrier, by_pair, sequenced, synchronized, through}
 use Rattle.gr_model.specs.Streams.{IsEvent, Streams, trace_of}
 use Rattle.gr_model.specs.Waits.{IsPrevious}
@@ -29,25 +29,25 @@ module _ (s : Streams) (m : Space) where
   pair_of d f there (by_instance a c flagged previous met) = behind_barrier a c flagged met previous.item (omega (arith, previous.next)) there
 
   -- what is seen at the beginning of a pair happens before its end
-  pub seen_through : (e d f : EventId) → IsSeen s m d e → BasePair s m d f → HappensBefore s m e f
+  pub seen_through : (e d f : EventId) → Sees s m d e → BasePair s m d f → HappensBefore s m e f
   seen_through e d f (inl same) pair = subst (λ x. HappensBefore s m x f) (sym same) (by_pair pair)
   seen_through e d f (inr before) pair = through before pair
 
   -- the last pair of those that lead to an event
-  last_pair : (e f : EventId) → HappensBefore s m e f → (d : EventId) × IsSeen s m d e × BasePair s m d f
+  last_pair : (e f : EventId) → HappensBefore s m e f → (d : EventId) × Sees s m d e × BasePair s m d f
   last_pair e f (by_pair pair) = (e, inl refl, pair)
   last_pair e f (through {f = d} before pair) = (d, inr before, pair)
 
   abbrev IsReachedOf : EventId → EventId → Type 0
-  IsReachedOf e f = (d : EventId) × IsEdge s m d f × IsSeen s m d e
+  IsReachedOf e f = (d : EventId) × IsEdge s m d f × Sees s m d e
 
   -- what an event sees from which an edge leads to the event before f, f sees by that
-  reached_before : (e d f : EventId) → IsSeen s m d e → 0 < f.index → ((c : EventId) → IsPrevious c f → BasePair s m d c) → IsReachedOf e f
+  reached_before : (e d f : EventId) → Sees s m d e → 0 < f.index → ((c : EventId) → IsPrevious c f → BasePair s m d c) → IsReachedOf e f
   reached_before e d f seen some pair =
       let c = previous_of f some in
       (c.0, in_item c.1, inr (seen_through e d c.0 seen (pair c.0 c.1)))
 
-  reached_by : (e d f : EventId) → IsEvent s f → IsSeen s m d e → BasePair s m d f → IsReachedOf e f
+  reached_by : (e d f : EventId) → IsEvent s f → Sees s m d e → BasePair s m d f → IsReachedOf e f
   reached_by e d f event seen (sequenced item below there) =
       ⊎_elim
       (λ (same : suc d.index ≡ f.index). (d, in_item (record { item = item; next = same }), seen))
@@ -62,6 +62,6 @@ module _ (s : Streams) (m : Space) where
       behind_barrier a b flagged met (item ∙ sym previous.item) (omega (arith, previous.next, lt)) (earlier_event f c event previous.item (omega (arith, previous.next)))))
       (eq-or-lt_of_le below)
 
-  pub seen_by_edges : (e f : EventId) → IsEvent s f → IsSeen s m f e → (e ≡ f) ⊎ IsReachedOf e f
+  pub seen_by_edges : (e f : EventId) → IsEvent s f → Sees s m f e → (e ≡ f) ⊎ IsReachedOf e f
   seen_by_edges e f event (inl same) = inl same
   seen_by_edges e f event (inr before) = let last = last_pair e f before in inr (reached_by e last.0 f event last.1 last.2)

@@ -2,7 +2,7 @@
 use Rattle.std.proofs.Common.{◌≡◌, ◌⊎◌, ℕ, ◌+◌, ◌<◌, ◌≤◌, List, Some, sym, ◌∙◌, subst, inl, inr, ⊎_elim, arith, eq-or-lt_of_le}
 use Rattle.gr_model.specs.declared.event.EventId.{EventId}
 use Rattle.gr_model.specs.declared.event.Space.{Space}
-use Rattle.gr_model.specs.Counts.{IsSeen}
+use Rattle.gr_model.specs.Counts.{Sees}
 use Rattle.gr_model.specs.LawfulOrders.{IsAt, IsLawful}
 use Rattle.gr_model.specs.Streams.{IsEvent, Streams}
 use Rattle.gr_model.specs.Waits.{IsPrevious, for_previous}
@@ -19,12 +19,12 @@ module _ (s : Streams) (m : Space) (order : List EventId) (lawful : IsLawful s o
   at_one n f g at bt = let same : Some g ≡ Some f = sym bt ∙ at in cc
 
   module _ (e : EventId) (n : ℕ) (f : EventId) (at : IsAt order n f) (events : List EventId) (are : AreFollowers s m order n e events) where
-    pub reached_sees : IsReached s m events f → IsSeen s m f e
+    pub reached_sees : IsReached s m events f → Sees s m f e
     reached_sees reached =
         let there = (are reached.0).0 reached.1 in
         inr (seen_through s m e reached.0 f there.3 (pair_of s m reached.0 f (lawful.event n f at).0 reached.2))
 
-    pub sees_reached : IsSeen s m f e → (e ≡ f) ⊎ IsReached s m events f
+    pub sees_reached : Sees s m f e → (e ≡ f) ⊎ IsReached s m events f
     sees_reached seen =
         let event = (lawful.event n f at).0 in
         ⊎_elim (λ (same : e ≡ f). inl same)
@@ -34,20 +34,20 @@ module _ (s : Streams) (m : Space) (order : List EventId) (lawful : IsLawful s o
         (seen_by_edges s m e f event seen)
 
     -- the event does not follow
-    pub same_followers : ¬ IsSeen s m f e → AreFollowers s m order (n + 1) e events
+    pub same_followers : ¬ Sees s m f e → AreFollowers s m order (n + 1) e events
     same_followers not_seen g = (
       λ has. let there = (are g).0 has in (there.0, omega (arith, there.1), there.2, there.3),
       λ there. ⊎_elim
-          (λ (same : there.0 ≡ n). absurd (not_seen (subst (λ x. IsSeen s m x e) (at_one n f g at (subst (λ k. IsAt order k g) same there.2)) there.3)))
+          (λ (same : there.0 ≡ n). absurd (not_seen (subst (λ x. Sees s m x e) (at_one n f g at (subst (λ k. IsAt order k g) same there.2)) there.3)))
           (λ (lt : there.0 < n). (are g).1 (there.0, lt, there.2, there.3))
           (eq-or-lt_of_le (let le : there.0 ≤ n = omega (arith, there.1) in le)),
     )
 
     -- it does
-    pub more_followers : (new : List EventId) → IsSeen s m f e → ((g : EventId) → Has new g → (g ≡ f) ⊎ Has events g) → ((g : EventId) → (g ≡ f) ⊎ Has events g → Has new g) → AreFollowers s m order (n + 1) e new
+    pub more_followers : (new : List EventId) → Sees s m f e → ((g : EventId) → Has new g → (g ≡ f) ⊎ Has events g) → ((g : EventId) → (g ≡ f) ⊎ Has events g → Has new g) → AreFollowers s m order (n + 1) e new
     more_followers new seen from to g = (
       λ has. ⊎_elim
-          (λ (same : g ≡ f). (n, omega arith, subst (IsAt order n) (sym same) at, subst (λ x. IsSeen s m x e) (sym same) seen))
+          (λ (same : g ≡ f). (n, omega arith, subst (IsAt order n) (sym same) at, subst (λ x. Sees s m x e) (sym same) seen))
           (λ old. let there = (are g).0 old in (there.0, omega (arith, there.1), there.2, there.3))
           (from g has),
       λ there. to g (⊎_elim

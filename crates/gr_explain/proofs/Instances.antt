@@ -9,7 +9,7 @@ use Rattle.gr_model.specs.HappensBefore.{IsInclusive}
 use Rattle.gr_model.specs.Instances.{Mark, flags}
 use Rattle.gr_model.specs.Names.{Matches}
 use Rattle.gr_model.specs.Streams.{ArePrefixes, Streams, event_at, place_of, trace_of}
-use Rattle.gr_model.specs.Waits.{CanGo, IsPrevious}
+use Rattle.gr_model.specs.Waits.{IsSettled, IsPrevious}
 use Rattle.gr_model.proofs.GrowthLaws.{not_both}
 use Rattle.gr_lanes.proofs.InstanceLemmas.{barrier_mark}
 use Rattle.gr_order.proofs.ReadyLemmas.{stands_there}
@@ -74,7 +74,7 @@ module _ (s : Streams) (prefixes : ArePrefixes s) (m : Space) (e : EventId) (x :
           let same : h.1 ≡ x = let is : Some h.1 ≡ Some x = sym h.3 ∙ (ap (slice_get (trace_of s e.at)) (sym index) ∙ at) in cc in
           h.4 ∙ ap mark_of same
 
-  pub flagged : (b : Bool) → ((a : Mark) → mark_of x ≡ Some a → b ≡ flags a m) → b ≡ true → CanGo s e → ¬ IsDivergent s e.at.group k → IsFlagged s m e k
+  pub flagged : (b : Bool) → ((a : Mark) → mark_of x ≡ Some a → b ≡ flags a m) → b ≡ true → IsSettled s e → ¬ IsDivergent s e.at.group k → IsFlagged s m e k
   flagged b says set go not_divergent = ⊎_elim
       (λ (c : (a : Mark) × IsConvergent s e.at.group k a). let h : IsFlagged s m e k = record { stands = stands; mark = c.0; convergent = c.1; flagged = sym (says c.0 (mark_is c.0 c.1)) ∙ set } in h)
       (λ divergent. absurd (not_divergent divergent))

@@ -5,14 +5,14 @@ use Rattle.std.proofs.lemmas.Option.{slice_get_within}
 use Rattle.gr_model.specs.declared.event.EventId.{EventId}
 use Rattle.gr_model.specs.declared.event.Word.{Word}
 use Rattle.gr_model.specs.Access.{memory_of}
-use Rattle.gr_model.specs.Counts.{IsSeen}
+use Rattle.gr_model.specs.Counts.{Sees}
 use Rattle.gr_model.specs.LawfulOrders.{IsAt, IsLawful, IsWholeOrder}
-use Rattle.gr_model.specs.Races.{Conflicts, IsRace, IsRacy}
+use Rattle.gr_model.specs.Races.{MayRace, IsRace, IsRacy}
 use Rattle.gr_model.specs.Reports.{EventBelow}
 use Rattle.gr_model.specs.Streams.{Streams, word_at}
 use Rattle.gr_model.specs.Waits.{IsGrounded}
 use Rattle.gr_model.proofs.Descent.{below_before, lawful_descends}
-use Rattle.gr_model.proofs.HitsAreRaces.{conflicts_swap}
+use Rattle.gr_model.proofs.HitsAreRaces.{may_race_swaps}
 use Rattle.gr_model.proofs.RacePairLaws.{both_grounded, of_race, race_of, race_swap}
 use Rattle.gr_explain.specs.LeastRaces.{IsLeastOf, IsLeastRace}
 use Rattle.gr_explain.specs.Searching.{IsFound, StandsBefore}
@@ -93,21 +93,21 @@ module _ (s : Streams) (w : Word) (order : List EventId) (lawful : IsLawful s or
 
     module _ (events : List EventId) (are : AreFollowers s (memory_of w) order (length order) e events) where
       -- no race, nothing new
-      pub no_more : ¬ (Conflicts s w e f × ¬ Has events f) → (pair : Pair) → IsFound s w order p (q + 1) pair → IsFound s w order p q pair
+      pub no_more : ¬ (MayRace s w e f × ¬ Has events f) → (pair : Pair) → IsFound s w order p (q + 1) pair → IsFound s w order p q pair
       no_more none pair found = ⊎_elim (λ before. before)
           (λ (turned : IsTurned e f pair).
           let race = race_of s w e f pair turned found.0.race in
-          absurd (none (race.conflict, λ has. not_seen race ((are f).0 has).3)))
+          absurd (none (race.may_race, λ has. not_seen race ((are f).0 has).3)))
           (found_before pair found)
         where
-          not_seen : IsRace s w e f → IsSeen s (memory_of w) f e → ⊥
-          not_seen race (inl same) = race.conflict.others (ap (λ x. x.at) same)
+          not_seen : IsRace s w e f → Sees s (memory_of w) f e → ⊥
+          not_seen race (inl same) = race.may_race.others (ap (λ x. x.at) same)
           not_seen race (inr before) = race.not_before before
 
       -- a race, and one pair more
-      race_here : Conflicts s w e f → ¬ Has events f → IsRace s w e f
-      race_here conflict not_has = record {
-        conflict = conflict;
+      race_here : MayRace s w e f → ¬ Has events f → IsRace s w e f
+      race_here may_race not_has = record {
+        may_race = may_race;
         not_before = λ before. not_has ((are f).1 (q, slice_get_within order q f at_q, at_q, inr before));
         not_after = λ before.
             let lower = below_before s (IsAt order) (lawful_descends s order lawful) (memory_of w) f e before p at_p in
@@ -115,10 +115,10 @@ module _ (s : Streams) (w : Word) (order : List EventId) (lawful : IsLawful s or
             omega (arith, lower.1, forwards, same);
       }
 
-      pub new_found : (x : Pair) → IsTurned e f x → EventBelow x.0 x.1 → IsGrounded s e → IsGrounded s f → Conflicts s w e f → ¬ Has events f → IsFound s w order p (q + 1) x
-      new_found x turned below ground_e ground_f conflict not_has =
+      pub new_found : (x : Pair) → IsTurned e f x → EventBelow x.0 x.1 → IsGrounded s e → IsGrounded s f → MayRace s w e f → ¬ Has events f → IsFound s w order p (q + 1) x
+      new_found x turned below ground_e ground_f may_race not_has =
           let grounded = both_grounded s e f x turned ground_e ground_f in (
-            record { below = below; first = grounded.0; second = grounded.1; race = of_race s w e f x turned (race_here conflict not_has) },
+            record { below = below; first = grounded.0; second = grounded.1; race = of_race s w e f x turned (race_here may_race not_has) },
             record { earlier = p; later = q; forwards = forwards; within = inr (refl, omega arith); first = e; second = f; at_first = at_p; at_second = at_q; turned = turned },
           )
 
@@ -135,7 +135,7 @@ module _ (s : Streams) (w : Word) (order : List EventId) (lawful : IsLawful s or
       (λ (same : h.earlier ≡ p).
       let is = at_one p e h.first at (subst (λ k. IsAt order k h.first) same h.at_first) in
       let race = race_of s w h.first h.second pair h.turned found.0.race in
-      absurd (other (subst (λ x. word_at s x ≡ Some w) is race.conflict.word_first)))
+      absurd (other (subst (λ x. word_at s x ≡ Some w) is race.may_race.word_first)))
       (λ (b : h.earlier < p). narrowed (p + 1) 0 p 0 pair found (inl b))
       (eq-or-lt_of_le (let le : h.earlier ≤ p = omega arith in le)))
       (λ (a : (h.earlier ≡ p + 1) × (h.later < 0)). let b = a.1 in absurd (omega arith))
@@ -156,7 +156,7 @@ all_found s w order whole n all pair is =
       ⊎_elim
           (λ (lt : a.0 < b.0). let h : StandsBefore order n 0 pair = record { earlier = a.0; later = b.0; forwards = lt; within = inl (omega arith); first = pair.0; second = pair.1; at_first = a.1; at_second = b.1; turned = inl refl } in h)
           (λ (ge : b.0 ≤ a.0). ⊎_elim
-          (λ (same : b.0 ≡ a.0). absurd (is.race.conflict.others (let one : Some pair.0 ≡ Some pair.1 = sym a.1 ∙ (ap (slice_get order) (sym same) ∙ b.1) in let e : pair.0 ≡ pair.1 = cc in ap (λ x. x.at) e)))
+          (λ (same : b.0 ≡ a.0). absurd (is.race.may_race.others (let one : Some pair.0 ≡ Some pair.1 = sym a.1 ∙ (ap (slice_get order) (sym same) ∙ b.1) in let e : pair.0 ≡ pair.1 = cc in ap (λ x. x.at) e)))
           (λ (lt : b.0 < a.0). let h : StandsBefore order n 0 pair = record { earlier = b.0; later = a.0; forwards = lt; within = inl (omega arith); first = pair.1; second = pair.0; at_first = b.1; at_second = a.1; turned = inr refl } in h)
           (eq-or-lt_of_le ge))
           (cases_lt a.0 b.0),
@@ -173,7 +173,7 @@ not_racy s w none racy =
     by_order : EventBelow racy.0 racy.1 ⊎ EventBelow racy.1 racy.0 ⊎ (racy.0 ≡ racy.1) → ⊥
     by_order (inl below) = none (racy.0, racy.1) (record { below = below; first = racy.2; second = racy.3; race = racy.4 })
     by_order (inr (inl below)) = none (racy.1, racy.0) (record { below = below; first = racy.3; second = racy.2; race = race_swap s w racy.0 racy.1 racy.4 })
-    by_order (inr (inr same)) = racy.4.conflict.others (ap (λ x. x.at) same)
+    by_order (inr (inr same)) = racy.4.may_race.others (ap (λ x. x.at) same)
 
 pub least_or_none : (s : Streams) (w : Word) (o : Option Pair) → IsLeastOf (IsRacePair s w) o → MatchOption o (¬ IsRacy s (IsGrounded s) w) (λ pair. IsLeastRace s w pair)
 least_or_none s w None none = not_racy s w none

@@ -9,7 +9,7 @@ use Rattle.gr_model.specs.contracts.event.EventIdPartialEq.TheImpl as equality
 use Rattle.gr_explain.specs.declared.reached.Instance.{Instance}
 use Rattle.gr_explain.specs.contracts.reached.InstancePartialEq.TheImpl as instance_equality
 use Rattle.gr_model.specs.Barriers.{IsConvergent, StandsIn, Together}
-use Rattle.gr_model.specs.Counts.{IsSeen}
+use Rattle.gr_model.specs.Counts.{Sees}
 use Rattle.gr_model.specs.HappensBefore.{IsInclusive}
 use Rattle.gr_model.specs.Instances.{Mark, flags}
 use Rattle.gr_model.specs.LawfulOrders.{IsAt}
@@ -66,4 +66,4 @@ IsReleaseBy s m events f n = (d : EventId) × Has events d × MatchesBy s n f d 
 
 -- of the first n events of an order, just those that are e or happen after it
 abbrev pub AreFollowers : Streams → Space → List EventId → ℕ → EventId → List EventId → Type 0
-AreFollowers s m order n e events = (f : EventId) → Has events f ↔ ((p : ℕ) × (p < n) × IsAt order p f × IsSeen s m f e)
+AreFollowers s m order n e events = (f : EventId) → Has events f ↔ ((p : ℕ) × (p < n) × IsAt order p f × Sees s m f e)

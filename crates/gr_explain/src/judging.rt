@@ -1,14 +1,14 @@
 //! Whether two events of a launch race.
 
 ghost use Rattle.std.specs.Prelude.{◌≡◌, ◌≢◌, ◌↔◌, IfOk, IsTrue};
-ghost use Rattle.gr_model.specs.Counts.{IsSeen};
+ghost use Rattle.gr_model.specs.Counts.{Sees};
 ghost use Rattle.gr_model.specs.HappensBefore.{HappensBefore};
 ghost use Rattle.gr_model.specs.LawfulOrders.{IsIn, IsLawful, IsWholeOrder};
 ghost use Rattle.gr_model.specs.Races.{IsRace};
 ghost use Rattle.gr_model.specs.Streams.{ArePrefixes};
 ghost use Rattle.gr_explain.specs.Judgements.{IsJudgement};
 
-use crate::conflict::are_conflicting;
+use crate::candidates::may_race;
 use crate::followers::followers;
 use crate::listing::list_grounded;
 use crate::records::Records;
@@ -102,7 +102,7 @@ fn is_race<A: Allocator + Copy>(
     requires second { IsIn order.now second }
     ensures { IfOk result (λ race. IsTrue race ↔ IsRace records.now word first second) }
 {
-    if !are_conflicting(records, word, first, second) {
+    if !may_race(records, word, first, second) {
         return Ok(false);
     }
     let space = memory_of(word);

@@ -6,7 +6,7 @@
 //! the events, its memory with the events.
 #![tactic(auto)]
 
-mod conflict;
+mod candidates;
 mod edges;
 pub mod explain;
 mod followers;

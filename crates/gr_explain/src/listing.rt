@@ -60,7 +60,7 @@ fn make<A: Allocator>(
             None => unreachable!(),
             Some(event) => {
                 listed.push(event)?;
-                order.add(event);
+                order.handle_event(event);
                 Ok(())
             }
         },
@@ -68,7 +68,7 @@ fn make<A: Allocator>(
             None => unreachable!(),
             Some(instance) => {
                 list_instance(listed, order.lanes(), group, instance)?;
-                order.pass(group);
+                order.meet_instance(group);
                 Ok(())
             }
         },

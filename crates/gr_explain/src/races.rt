@@ -9,7 +9,7 @@ ghost use Rattle.gr_explain.specs.LeastRaces.{IsLeastOf};
 ghost use Rattle.gr_explain.specs.Searching.{IsFound};
 ghost use Rattle.gr_explain.specs.Edges.{AreFollowers};
 
-use crate::conflict::{access_to, are_conflicting};
+use crate::candidates::{access_to, may_race};
 use crate::followers::followers;
 use crate::pairs::lesser;
 use crate::reached::Reached;
@@ -39,7 +39,7 @@ fn with_races_of<A: Allocator>(
     let first = order[place];
     for other in place + 1..order.len() {
         let second = order[other];
-        if are_conflicting(records, word, first, second) && !followers.events.contains(&second) {
+        if may_race(records, word, first, second) && !followers.events.contains(&second) {
             least = Some(lesser(least, turned(first, second)));
         }
     }

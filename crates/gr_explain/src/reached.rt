@@ -6,7 +6,7 @@ ghost use Rattle.gr_model.specs.Barriers.{is_barrier, mark_of_kind};
 ghost use Rattle.gr_model.specs.Instances as marks;
 ghost use Rattle.gr_model.specs.Instances.{Mark};
 ghost use Rattle.gr_model.specs.Streams.{ArePrefixes, place_of};
-ghost use Rattle.gr_model.specs.Waits.{CanGo};
+ghost use Rattle.gr_model.specs.Waits.{IsSettled};
 ghost use Rattle.gr_explain.specs.Edges.{AreInstancesReached, Has, HasInstance, IsFlagged};
 
 use crate::records::Records;
@@ -53,7 +53,7 @@ fn has_flag(kind: &Kind, space: Space) -> bool
 /// Whether the instance of this number, in which an event stands, is convergent and flags a memory.
 fn is_flagged<A: Allocator>(records: &Records<A>, space: Space, event: EventId, number: u32) -> bool
     requires prefixes { ArePrefixes records.now }
-    requires settled { CanGo records.now event }
+    requires settled { IsSettled records.now event }
     requires place { place_of records.now is_barrier event.at number ≡ Some event.index }
     ensures { IsTrue result ↔ IsFlagged records.now space event number }
 {
@@ -73,7 +73,7 @@ fn new_instance<A: Allocator>(
     event: EventId,
 ) -> Option<Instance>
     requires prefixes { ArePrefixes records.now }
-    requires settled { CanGo records.now event }
+    requires settled { IsSettled records.now event }
     ensures { MatchOption result ((k : ℕ) → IsFlagged records.now space event k → HasInstance instances.now.keys event.at.group k) (λ i. (i.group ≡ event.at.group) × IsFlagged records.now space event i.number) }
 {
     match records.barrier_number(event) {
@@ -117,7 +117,7 @@ impl<A: Allocator + Copy> Reached<A> {
         event: EventId,
     ) -> Result<(), Memory>
         requires prefixes { ArePrefixes records.now }
-        requires settled { CanGo records.now event }
+        requires settled { IsSettled records.now event }
         requires passed { AreInstancesReached records.now space self.old.events.keys self.old.instances.keys }
         ensures events { OnOk result ((d : AnyEvent) → Has self.new.events.keys d ↔ ((d ≡ event) ⊎ Has self.old.events.keys d)) }
         ensures passed { OnOk result (AreInstancesReached records.now space self.new.events.keys self.new.instances.keys) }

@@ -11,7 +11,7 @@ use Rattle.gr_model.specs.declared.report.AcquireCause.{AcquireCause}
 use Rattle.gr_model.specs.declared.report.AcquireCause.TheVariants.{Absent, Behind, OtherWord}
 use Rattle.gr_model.specs.declared.report.Unmatched.{Unmatched}
 use Rattle.gr_model.specs.Names.{HasAcquireCause, HasName, IsAbsent, IsOfItsWord, IsOfOtherWord, names_at, names_of, release_place}
-use Rattle.gr_model.specs.Reports.{IsUnmatched, IsUnmatchedAcquire, Lists, UnmatchedBelow}
+use Rattle.gr_model.specs.Reports.{IsUnmatchedAcquire, IsUnmatchedEntry, Lists, UnmatchedBelow}
 use Rattle.gr_model.specs.Streams.{ArePrefixes, Streams, event_at, size_of, word_at}
 use Rattle.gr_model.proofs.Cuts.{same_event}
 use Rattle.gr_clocks.specs.Counts.{Counts, count_of}
@@ -60,7 +60,7 @@ module _ (s : Streams) (f : EventId) (names : List Name) (word : Option Word) (n
 -- ---- one item
 
 module _ (s : Streams) where
-  one_event : (e f : EventId) → IsUnmatched s e → IsUnmatched s f → e.at ≡ f.at → e ≡ f
+  one_event : (e f : EventId) → IsUnmatchedAcquire s e → IsUnmatchedAcquire s f → e.at ≡ f.at → e ≡ f
   one_event e f a b at =
       ⊎_elim
       (λ (lt : e.index < f.index). absurd (a.held (b.before e at lt)))
@@ -70,7 +70,7 @@ module _ (s : Streams) where
       (eq-or-lt_of_le ge))
       (cases_lt e.index f.index)
 
-  pub one_acquire : (u v : Unmatched) → IsUnmatchedAcquire s u → IsUnmatchedAcquire s v → u.event.at ≡ v.event.at → u ≡ v
+  pub one_acquire : (u v : Unmatched) → IsUnmatchedEntry s u → IsUnmatchedEntry s v → u.event.at ≡ v.event.at → u ≡ v
   one_acquire u v a b at =
       let event = one_event u.event v.event a.unmatched b.unmatched at in
       let cause = one_cause s v.event u.cause v.cause (subst (λ e. HasAcquireCause s e u.cause) event a.cause) b.cause in
@@ -81,7 +81,7 @@ module _ (s : Streams) (frontier : Counts) (prefix : IsGroundedFrontier s fronti
   next = record { at = item; index = index }
 
   -- an item's unmatched event is the next to be handled
-  only_next : (e : EventId) → IsUnmatched s e → e.at ≡ item → e ≡ next
+  only_next : (e : EventId) → IsUnmatchedAcquire s e → e.at ≡ item → e ≡ next
   only_next e unmatched at =
       let count : count_of frontier e.at ≡ index = ap (count_of frontier) at ∙ sym is in
       let this : EventId = record { at = e.at; index = index } in
@@ -93,7 +93,7 @@ module _ (s : Streams) (frontier : Counts) (prefix : IsGroundedFrontier s fronti
       (eq-or-lt_of_le ge))
       (cases_lt e.index index)
 
-  pub none_there : event_at s next ≡ None → (u : Unmatched) → IsUnmatchedAcquire s u → u.event.at ≢ item
+  pub none_there : event_at s next ≡ None → (u : Unmatched) → IsUnmatchedEntry s u → u.event.at ≢ item
   none_there none u unmatched at =
       let same = only_next u.event unmatched.unmatched at in
       let event = unmatched.unmatched.event in
@@ -104,13 +104,13 @@ module _ (s : Streams) (frontier : Counts) (prefix : IsGroundedFrontier s fronti
     pub names_are : names_at s next ≡ x.names
     names_are = ap names_of at_next
 
-    pub none_named : length x.names ≡ 0 → (u : Unmatched) → IsUnmatchedAcquire s u → u.event.at ≢ item
+    pub none_named : length x.names ≡ 0 → (u : Unmatched) → IsUnmatchedEntry s u → u.event.at ≢ item
     none_named none u unmatched at =
         let named : HasName s next unmatched.unmatched.name = subst (λ e. HasName s e unmatched.unmatched.name) (only_next u.event unmatched.unmatched at) unmatched.unmatched.named in
         let there = subst (λ xs. Contains xs unmatched.unmatched.name) names_are named in
         omega (arith, there.1)
 
-    pub this_is : 0 < length x.names → (c : AcquireCause) → HasAcquireCause s next c → IsUnmatchedAcquire s (record { event = next; cause = c })
+    pub this_is : 0 < length x.names → (c : AcquireCause) → HasAcquireCause s next c → IsUnmatchedEntry s (record { event = next; cause = c })
     this_is some c cause = record {
       unmatched = record {
         event = (x, at_next);
@@ -141,7 +141,7 @@ before_cases g i at (inr here) =
 
 module _ (s : Streams) where
   abbrev Found : ℕ → ℕ → Unmatched → Type 0
-  Found g i u = IsUnmatchedAcquire s u × IsItemBefore g i u.event.at
+  Found g i u = IsUnmatchedEntry s u × IsItemBefore g i u.event.at
 
   pub none_found : AreUnmatchedBefore s 0 0 []
   none_found = none_listed UnmatchedBelow (Found 0 0) (λ u p. nothing u.event.at p.1)
@@ -152,13 +152,13 @@ module _ (s : Streams) where
 
   module _ (g i : ℕ) (us : List Unmatched) (found : AreUnmatchedBefore s g i us) where
     -- an item that has none
-    pub item_without : ((u : Unmatched) → IsUnmatchedAcquire s u → u.event.at ≢ record { group = g; item = i }) → AreUnmatchedBefore s g (i + 1) us
+    pub item_without : ((u : Unmatched) → IsUnmatchedEntry s u → u.event.at ≢ record { group = g; item = i }) → AreUnmatchedBefore s g (i + 1) us
     item_without none = listed_same UnmatchedBelow (Found g i) (Found g (i + 1)) us found
         (λ u p. (p.0, before_more g i u.event.at p.1))
         (λ u p. (p.0, ⊎_elim (λ before. before) (λ (here : u.event.at ≡ record { group = g; item = i }). absurd (none u p.0 here)) (before_cases g i u.event.at p.1)))
 
     -- an item that has one
-    pub item_with : (v : Unmatched) → v.event.at ≡ record { group = g; item = i } → IsUnmatchedAcquire s v → AreUnmatchedBefore s g (i + 1) (us ++ v ∷ [])
+    pub item_with : (v : Unmatched) → v.event.at ≡ record { group = g; item = i } → IsUnmatchedEntry s v → AreUnmatchedBefore s g (i + 1) (us ++ v ∷ [])
     item_with v at unmatched = listed_push UnmatchedBelow (Found g i) (Found g (i + 1)) us v found
         (λ u p. below u p.1)
         (unmatched, inr (ap (λ (x : ItemId). x.group) at, let lt : v.event.at.item < i + 1 = omega (arith, ap (λ (x : ItemId). x.item) at) in lt))
@@ -183,7 +183,7 @@ module _ (s : Streams) where
         earlier at (inl lower) = inl (let lt : at.group < g + 1 = omega arith in lt)
         earlier at (inr here) = inl (let lt : at.group < g + 1 = omega (arith, here.0) in lt)
 
-        later : (u : Unmatched) → IsUnmatchedAcquire s u → IsItemBefore (g + 1) 0 u.event.at → IsItemBefore g i u.event.at
+        later : (u : Unmatched) → IsUnmatchedEntry s u → IsItemBefore (g + 1) 0 u.event.at → IsItemBefore g i u.event.at
         later u p (inr past) = let over : u.event.at.item < 0 = past.1 in absurd (omega arith)
         later u p (inl lower) =
             ⊎_elim
@@ -195,6 +195,6 @@ module _ (s : Streams) where
             (cases_eq u.event.at.group g)
 
     -- and behind the last group all are found
-    pub all_found : ArePrefixes s → length s.sizes ≤ g → Lists UnmatchedBelow (IsUnmatchedAcquire s) us
-    all_found prefixes all = listed_same UnmatchedBelow (Found g i) (IsUnmatchedAcquire s) us found (λ u p. p.0)
+    pub all_found : ArePrefixes s → length s.sizes ≤ g → Lists UnmatchedBelow (IsUnmatchedEntry s) us
+    all_found prefixes all = listed_same UnmatchedBelow (Found g i) (IsUnmatchedEntry s) us found (λ u p. p.0)
         (λ u p. (p, inl (let lt : u.event.at.group < g = omega (arith, group_of_event s prefixes u.event p.unmatched.event.0 p.unmatched.event.1) in lt)))

@@ -6,7 +6,7 @@ use Rattle.gr_model.specs.declared.event.Name.{Name}
 use Rattle.gr_model.specs.declared.event.Word.{Word}
 use Rattle.gr_model.specs.declared.report.Unmatched.{Unmatched}
 use Rattle.gr_model.specs.Names.{release_place}
-use Rattle.gr_model.specs.Reports.{IsUnmatchedAcquire, Lists, UnmatchedBelow}
+use Rattle.gr_model.specs.Reports.{IsUnmatchedEntry, Lists, UnmatchedBelow}
 use Rattle.gr_model.specs.Streams.{Streams, word_at}
 use Rattle.gr_model.specs.Waits.{IsGrounded}
 use Rattle.gr_clocks.specs.Counts.{Counts, count_of}
@@ -27,4 +27,4 @@ IsItemBefore g i at = (at.group < g) ⊎ ((at.group ≡ g) × (at.item < i))
 
 -- the unmatched acquires of the items before item i of group g
 abbrev pub AreUnmatchedBefore : Streams → ℕ → ℕ → List Unmatched → Type 0
-AreUnmatchedBefore s g i us = Lists UnmatchedBelow (λ u. IsUnmatchedAcquire s u × IsItemBefore g i u.event.at) us
+AreUnmatchedBefore s g i us = Lists UnmatchedBelow (λ u. IsUnmatchedEntry s u × IsItemBefore g i u.event.at) us

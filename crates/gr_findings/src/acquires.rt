@@ -7,7 +7,7 @@ ghost use Rattle.std.specs.Prelude.{◌≡◌, ◌≢◌, ◌↔◌, ◌<◌, �
 ghost use Rattle.gr_model.specs.declared.report.Unmatched.{Unmatched as Finding};
 ghost use Rattle.gr_model.specs.Names.{HasAcquireCause, IsAbsent, names_at, release_place};
 ghost use Rattle.gr_model.specs.Streams.{word_at};
-ghost use Rattle.gr_model.specs.Reports.{IsUnmatchedAcquire, Lists, UnmatchedBelow};
+ghost use Rattle.gr_model.specs.Reports.{IsUnmatchedEntry, Lists, UnmatchedBelow};
 ghost use Rattle.gr_windows.specs.Windows.{AreWaiting};
 ghost use Rattle.gr_findings.specs.Acquires.{AreUnmatchedBefore, IsElsewhere, IsGroundedFrontier};
 
@@ -87,7 +87,7 @@ fn unmatched_of<B: Allocator>(
 ) -> Option<Unmatched>
     requires waiting { AreWaiting lanes.now frontier.now windows.now }
     requires grounded { IsGroundedFrontier lanes.now frontier.now }
-    ensures { MatchOption result ((u : Finding) → IsUnmatchedAcquire lanes.now u → u.event.at ≢ item) (λ u. (u.event.at ≡ item) × IsUnmatchedAcquire lanes.now u) }
+    ensures { MatchOption result ((u : Finding) → IsUnmatchedEntry lanes.now u → u.event.at ≢ item) (λ u. (u.event.at ≡ item) × IsUnmatchedEntry lanes.now u) }
 {
     let event = EventId {
         at: item,
@@ -139,7 +139,7 @@ pub fn unmatched<A: Allocator, B: Allocator>(
 ) -> Result<Vec<Unmatched, A>, Memory>
     requires grounded { IsGroundedFrontier lanes.now frontier.now }
     requires waiting { AreWaiting lanes.now frontier.now windows.now }
-    ensures { IfOk result (λ v. Lists UnmatchedBelow (IsUnmatchedAcquire lanes.now) v.items) }
+    ensures { IfOk result (λ v. Lists UnmatchedBelow (IsUnmatchedEntry lanes.now) v.items) }
 {
     let mut list = Vec::new(alloc);
     for group in 0..lanes.shape().groups() {

@@ -7,7 +7,7 @@ use Rattle.gr_model.specs.Waits.{IsGrounded}
 use Rattle.gr_model.proofs.Descent.{lawful_is_grounded}
 use Rattle.gr_model.proofs.HitsAreRaces.{hit_is_race, race_is_hit}
 use Rattle.gr_model.specs.Hits.{ClashesAt, SomePair}
-use Rattle.gr_model.specs.Races.{Clashes, IsRacy}
+use Rattle.gr_model.specs.Races.{RacesInOrder, IsRacy}
 use Rattle.gr_model.specs.Streams.{Streams, word_at}
 use Rattle.gr_model.proofs.Pairs.{PairIn, PairIn-from_some, SomeOf, SomePair-from_in}
 use Rattle.gr_clocks.specs.ClockedAccess.{ClockedAccess, bare}
@@ -25,7 +25,7 @@ module _ (s : Streams) (w : Word) where
   Hits = ClashesAt (λ x. x.word) clashes w
 
   -- one of the order's events clashes with an earlier one of them
-  later : (e : EventId) (x : ClockedAccess) (order : List EventId) (accesses : List ClockedAccess) → IsAccess s e (bare x) → AreAccesses s order accesses → SomeOf (Clashes s w e) order ↔ SomeOf (ClashesAt (λ z. z.word) clashes w x) accesses
+  later : (e : EventId) (x : ClockedAccess) (order : List EventId) (accesses : List ClockedAccess) → IsAccess s e (bare x) → AreAccesses s order accesses → SomeOf (RacesInOrder s w e) order ↔ SomeOf (ClashesAt (λ z. z.word) clashes w x) accesses
   later e x _ _ of_e of_none = (λ h. h, λ h. h)
   later e x _ _ of_e (of_access {e = f} {x = y} {order = order} {accesses = accesses} of_f rest) =
       let same = later e x order accesses of_e rest in (
@@ -34,17 +34,17 @@ module _ (s : Streams) (w : Word) where
       )
   later e x _ _ of_e (of_other {e = f} {order = order} {accesses = accesses} none rest) =
       let same = later e x order accesses of_e rest in (
-        ⊎_elim (λ (c : Clashes s w e f). absurd (has_none s w f none c.conflict.word_second)) (λ c. same.0 c),
+        ⊎_elim (λ (c : RacesInOrder s w e f). absurd (has_none s w f none c.may_race.word_second)) (λ c. same.0 c),
         λ h. inr (same.1 h),
       )
 
   -- an event without a word clashes with none
-  alone : (e : EventId) (order : List EventId) → word_at s e ≡ None → SomeOf (Clashes s w e) order → ⊥
+  alone : (e : EventId) (order : List EventId) → word_at s e ≡ None → SomeOf (RacesInOrder s w e) order → ⊥
   alone e [] none h = h
-  alone e (f ∷ order) none (inl c) = has_none s w e none c.conflict.word_first
+  alone e (f ∷ order) none (inl c) = has_none s w e none c.may_race.word_first
   alone e (f ∷ order) none (inr h) = alone e order none h
 
-  pairs : (order : List EventId) (accesses : List ClockedAccess) → AreAccesses s order accesses → PairIn (Clashes s w) order ↔ PairIn (ClashesAt (λ z. z.word) clashes w) accesses
+  pairs : (order : List EventId) (accesses : List ClockedAccess) → AreAccesses s order accesses → PairIn (RacesInOrder s w) order ↔ PairIn (ClashesAt (λ z. z.word) clashes w) accesses
   pairs _ _ of_none = (λ h. h, λ h. h)
   pairs _ _ (of_access {e = e} {x = x} {order = order} {accesses = accesses} of_e rest) =
       let first = later e x order accesses of_e rest in
@@ -58,11 +58,11 @@ module _ (s : Streams) (w : Word) where
         λ h. inr (same.1 h),
       )
 
-  pub hits_are_clashes : (order : List EventId) (accesses : List ClockedAccess) → AreAccesses s order accesses → IsHitIn accesses w ↔ SomePair (Clashes s w) order
+  pub hits_are_clashes : (order : List EventId) (accesses : List ClockedAccess) → AreAccesses s order accesses → IsHitIn accesses w ↔ SomePair (RacesInOrder s w) order
   hits_are_clashes order accesses are =
       let same = pairs order accesses are in (
-        λ h. SomePair-from_in (Clashes s w) order (same.1 (PairIn-from_some _ accesses h)),
-        λ c. SomePair-from_in _ accesses (same.0 (PairIn-from_some (Clashes s w) order c)),
+        λ h. SomePair-from_in (RacesInOrder s w) order (same.1 (PairIn-from_some _ accesses h)),
+        λ c. SomePair-from_in _ accesses (same.0 (PairIn-from_some (RacesInOrder s w) order c)),
       )
 
 -- and where the order is lawful, exactly where it is racy within it

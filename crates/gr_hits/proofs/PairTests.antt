@@ -7,10 +7,10 @@ use Rattle.gr_model.specs.declared.event.EventId.{EventId}
 use Rattle.gr_model.specs.declared.event.ItemId.{ItemId}
 use Rattle.gr_model.specs.declared.event.Word.{Word}
 use Rattle.gr_model.specs.Access.{modifies, inclusive, memory_of}
-use Rattle.gr_model.specs.Counts.{IsSeen}
+use Rattle.gr_model.specs.Counts.{Sees}
 use Rattle.gr_model.specs.HappensBefore.{HappensBefore}
 use Rattle.gr_model.specs.Hits.{ClashesAt}
-use Rattle.gr_model.specs.Races.{Clashes}
+use Rattle.gr_model.specs.Races.{RacesInOrder}
 use Rattle.gr_model.specs.Streams.{Streams}
 use Rattle.gr_clocks.specs.Rows.{same_item}
 use Rattle.gr_clocks.specs.Counts.{count_of}
@@ -34,52 +34,52 @@ module _ (s : Streams) (w : Word) (e f : EventId) (x y : ClockedAccess) (of_e : 
   exemption = exemption_told of_e.event.kind of_f.event.kind x.class y.class x.item.group y.item.group of_e.class of_f.class
 
   -- y's clock counts x's event where this happens before y's
-  seen : x.index < count_of y.clock x.item → IsSeen s (memory_of y.word) f e
+  seen : x.index < count_of y.clock x.item → Sees s (memory_of y.word) f e
   seen lt =
       let here : e.index < count_of y.clock e.at = subst (λ (i : ItemId). e.index < count_of y.clock i) of_e.item (subst (λ (n : ℕ). n < count_of y.clock x.item) of_e.index lt) in
       (of_f.counts e).0 here
 
-  counted : IsSeen s (memory_of y.word) f e → x.index < count_of y.clock x.item
+  counted : Sees s (memory_of y.word) f e → x.index < count_of y.clock x.item
   counted h =
       let here : e.index < count_of y.clock e.at = (of_f.counts e).1 h in
       subst (λ (n : ℕ). n < count_of y.clock x.item) (sym of_e.index) (subst (λ (i : ItemId). e.index < count_of y.clock i) (sym of_e.item) here)
 
-  pub clash_is_hit : Clashes s w e f → ClashesAt (λ z. z.word) clashes w x y
+  pub clash_is_hit : RacesInOrder s w e f → ClashesAt (λ z. z.word) clashes w x y
   clash_is_hit c = record { first = first; second = second; clashes = and_from _ _ other (and_from _ _ apart unseen) }
     where
       first : x.word ≡ w
-      first = let h : Some x.word ≡ Some w = sym of_e.word ∙ c.conflict.word_first in cc
+      first = let h : Some x.word ≡ Some w = sym of_e.word ∙ c.may_race.word_first in cc
 
       second : y.word ≡ w
-      second = let h : Some y.word ≡ Some w = sym of_f.word ∙ c.conflict.word_second in cc
+      second = let h : Some y.word ≡ Some w = sym of_f.word ∙ c.may_race.word_second in cc
 
       other : not (same_item x.item y.item) ≡ true
-      other = not_from_false _ (false_from_ne_true _ (λ t. c.conflict.others (sym of_e.item ∙ same_items x.item y.item t ∙ of_f.item)))
+      other = not_from_false _ (false_from_ne_true _ (λ t. c.may_race.others (sym of_e.item ∙ same_items x.item y.item t ∙ of_f.item)))
 
-      is_first : c.conflict.first ≡ of_e.event
-      is_first = let h : Some c.conflict.first ≡ Some of_e.event = sym c.conflict.at_first ∙ of_e.at_event in cc
+      is_first : c.may_race.first ≡ of_e.event
+      is_first = let h : Some c.may_race.first ≡ Some of_e.event = sym c.may_race.at_first ∙ of_e.at_event in cc
 
-      is_second : c.conflict.second ≡ of_f.event
-      is_second = let h : Some c.conflict.second ≡ Some of_f.event = sym c.conflict.at_second ∙ of_f.at_event in cc
+      is_second : c.may_race.second ≡ of_f.event
+      is_second = let h : Some c.may_race.second ≡ Some of_f.event = sym c.may_race.at_second ∙ of_f.at_event in cc
 
       modifying : modifies of_e.event.kind || modifies of_f.event.kind ≡ true
-      modifying = subst (λ (a : Event). modifies a.kind || modifies of_f.event.kind ≡ true) is_first (subst (λ (b : Event). modifies c.conflict.first.kind || modifies b.kind ≡ true) is_second c.conflict.modifying)
+      modifying = subst (λ (a : Event). modifies a.kind || modifies of_f.event.kind ≡ true) is_first (subst (λ (b : Event). modifies c.may_race.first.kind || modifies b.kind ≡ true) is_second c.may_race.modifying)
 
       scopes : inclusive of_e.event.kind x.item.group of_f.event.kind y.item.group ≡ false
-      scopes = rw (of_e.item, of_f.item, ← is_first, ← is_second) c.conflict.apart
+      scopes = rw (of_e.item, of_f.item, ← is_first, ← is_second) c.may_race.apart
 
       apart : not (exempt x.class x.item.group y.class y.item.group) ≡ true
       apart = not_exempt _ _ _ exemption modifying scopes
 
       unseen : not (nat_lt x.index (count_of y.clock x.item)) ≡ true
       unseen = not_from_false _ (false_from_ne_true _ (λ t. ⊎_elim
-          (λ (same : e ≡ f). c.conflict.others (ap (λ d. d.at) same))
+          (λ (same : e ≡ f). c.may_race.others (ap (λ d. d.at) same))
           (λ (before : HappensBefore s (memory_of y.word) e f). c.not_before (subst (λ (v : Word). HappensBefore s (memory_of v) e f) second before))
           (seen (ltb-true _ _ t))))
 
-  pub hit_is_clash : ClashesAt (λ z. z.word) clashes w x y → Clashes s w e f
+  pub hit_is_clash : ClashesAt (λ z. z.word) clashes w x y → RacesInOrder s w e f
   hit_is_clash h = record {
-    conflict = record {
+    may_race = record {
       first = of_e.event;
       second = of_f.event;
       at_first = of_e.at_event;

@@ -5,7 +5,7 @@ use Rattle.gr_model.specs.declared.event.Word.{Word}
 use Rattle.gr_model.specs.LawfulOrders.{IsLawful}
 use Rattle.gr_model.specs.Hits.{SomePair}
 use Rattle.gr_model.specs.RacePairs.{IsRacePair, IsTurned, Pair}
-use Rattle.gr_model.specs.Races.{Clashes, IsRace}
+use Rattle.gr_model.specs.Races.{RacesInOrder, IsRace}
 use Rattle.gr_model.specs.Reports.{EventBelow}
 use Rattle.gr_model.specs.Streams.{Streams}
 use Rattle.gr_model.specs.Waits.{IsGrounded}
@@ -27,7 +27,7 @@ its_event s d x of_d = same_event (event_of x) d of_d.item of_d.index
 module _ (s : Streams) (w : Word) (e f : EventId) where
   -- two events that clash on the word are these
   pub record AreClashing (d g : EventId) : Type 0 where
-    pub clash : Clashes s w d g
+    pub clash : RacesInOrder s w d g
     pub first : d ≡ e
     pub second : g ≡ f
 
@@ -57,7 +57,7 @@ module _ (s : Streams) (w : Word) (e f : EventId) where
 pub clashing_events_differ : (s : Streams) (order : List EventId) (accesses : List ClockedAccess) (w : Word) (e f : EventId) → AreAccesses s order accesses → IsClashIn accesses w e f → e ≢ f
 clashing_events_differ s order accesses w e f are h same =
     let c = clash_there s w e f order accesses are h in
-    c.7.clash.conflict.others (ap (λ d. d.at) (c.7.first ∙ same ∙ sym c.7.second))
+    c.7.clash.may_race.others (ap (λ d. d.at) (c.7.first ∙ same ∙ sym c.7.second))
 
 pub clashes_are_race_pairs : (s : Streams) (order : List EventId) (accesses : List ClockedAccess) (w : Word) (e f : EventId) (pair : Pair) → IsLawful s order → AreAccesses s order accesses → IsClashIn accesses w e f → IsTurned e f pair → EventBelow pair.0 pair.1 → IsRacePair s w pair
 clashes_are_race_pairs s order accesses w e f pair lawful are h turned below =

@@ -5,7 +5,7 @@ use Rattle.gr_model.specs.declared.event.Word.{Word}
 use Rattle.gr_model.specs.Streams.{Streams, Grows, word_at}
 use Rattle.gr_model.specs.Waits.{IsGrounded}
 use Rattle.gr_model.specs.LawfulOrders.{IsLawful, IsWholeOrder, IsIn}
-use Rattle.gr_model.specs.Races.{Clashes, IsRacy}
+use Rattle.gr_model.specs.Races.{RacesInOrder, IsRacy}
 use Rattle.gr_model.specs.RacePairs.{IsRacePair, IsTurned, Pair}
 use Rattle.gr_model.specs.Reports.{EventBelow}
 use Rattle.gr_model.specs.Hits.{SomePair}
@@ -17,7 +17,7 @@ use Rattle.gr_hits.specs.Accesses.{AreAccesses}
 
 -- a word is hit in the accesses along an order exactly where an event of the order clashes on it with an earlier one
 abbrev pub HitsAreClashes : Type 0
-HitsAreClashes = (s : Streams) (order : List EventId) (accesses : List ClockedAccess) (w : Word) → AreAccesses s order accesses → IsHitIn accesses w ↔ SomePair (Clashes s w) order
+HitsAreClashes = (s : Streams) (order : List EventId) (accesses : List ClockedAccess) (w : Word) → AreAccesses s order accesses → IsHitIn accesses w ↔ SomePair (RacesInOrder s w) order
 
 -- along a lawful order exactly where it is racy within the order
 abbrev pub LawfulHitsAreRaces : Type 0

@@ -6,7 +6,7 @@ use Rattle.gr_model.specs.declared.event.ItemId.{ItemId}
 use Rattle.gr_model.specs.declared.event.EventId.{EventId}
 use Rattle.gr_model.specs.Streams.{Streams, Grows, trace_of, IsEvent}
 use Rattle.gr_model.specs.Waits.{Stage}
-use Rattle.gr_model.specs.Counts.{IsNumberOf, IsSeen, IsCount}
+use Rattle.gr_model.specs.Counts.{IsNumberOf, Sees, IsCount}
 use Rattle.gr_model.proofs.Descent.{below_before, stage_descends}
 use Rattle.gr_model.proofs.GrowthLaws.{stage_event, trace_grows, before_grows, before_shrinks}
 
@@ -39,24 +39,24 @@ number_less P b none n (suc c) le h =
 
 module _ (s t : Streams) (grows : Grows s t) (m : Space) (f : EventId) (n : ℕ) (stage : Stage s n f) where
   -- what a grounded event sees is an event
-  seen_event : (e : EventId) → IsSeen s m f e → IsEvent s e
+  seen_event : (e : EventId) → Sees s m f e → IsEvent s e
   seen_event e (inl same) = subst (λ x. IsEvent s x) (sym same) (stage_event s t grows n f stage).0
   seen_event e (inr before) = let lower = below_before s (Stage s) (stage_descends s) m e f before n stage in (stage_event s t grows lower.0 e lower.2).0
 
-  seen_grows : (e : EventId) → IsSeen s m f e → IsSeen t m f e
+  seen_grows : (e : EventId) → Sees s m f e → Sees t m f e
   seen_grows e (inl same) = inl same
   seen_grows e (inr before) = inr (before_grows s t grows m e f before n stage)
 
-  seen_shrinks : (e : EventId) → IsSeen t m f e → IsSeen s m f e
+  seen_shrinks : (e : EventId) → Sees t m f e → Sees s m f e
   seen_shrinks e (inl same) = inl same
   seen_shrinks e (inr before) = inr (before_shrinks s t grows m e f before n stage)
 
   module _ (j : ItemId) where
-    abbrev Sees : Streams → ℕ → Type 0
-    Sees u k = IsSeen u m f (record { at = j; index = k })
+    abbrev SeesAt : Streams → ℕ → Type 0
+    SeesAt u k = Sees u m f (record { at = j; index = k })
 
     -- an event that is not in the shorter lists is not seen
-    not_seen : (k : ℕ) → length (trace_of s j) ≤ k → Sees t k → ⊥
+    not_seen : (k : ℕ) → length (trace_of s j) ≤ k → SeesAt t k → ⊥
     not_seen k le seen =
         let there = seen_event (record { at = j; index = k }) (seen_shrinks (record { at = j; index = k }) seen) in
         let within : k < length (trace_of s j) = slice_get_within (trace_of s j) k there.0 there.1 in
@@ -67,10 +67,10 @@ module _ (s t : Streams) (grows : Grows s t) (m : Space) (f : EventId) (n : ℕ)
 
     pub count_grows : (k : ℕ) → IsCount s m f j k → IsCount t m f j k
     count_grows k h =
-        number_more (Sees t) (length (trace_of s j)) not_seen k (length (trace_of t j)) longer
-        (number_same (Sees s) (Sees t) (length (trace_of s j)) (λ i lt. seen_grows (record { at = j; index = i })) (λ i lt. seen_shrinks (record { at = j; index = i })) k h)
+        number_more (SeesAt t) (length (trace_of s j)) not_seen k (length (trace_of t j)) longer
+        (number_same (SeesAt s) (SeesAt t) (length (trace_of s j)) (λ i lt. seen_grows (record { at = j; index = i })) (λ i lt. seen_shrinks (record { at = j; index = i })) k h)
 
     pub count_shrinks : (k : ℕ) → IsCount t m f j k → IsCount s m f j k
     count_shrinks k h =
-        number_same (Sees t) (Sees s) (length (trace_of s j)) (λ i lt. seen_shrinks (record { at = j; index = i })) (λ i lt. seen_grows (record { at = j; index = i })) k
-        (number_less (Sees t) (length (trace_of s j)) not_seen k (length (trace_of t j)) longer h)
+        number_same (SeesAt t) (SeesAt s) (length (trace_of s j)) (λ i lt. seen_shrinks (record { at = j; index = i })) (λ i lt. seen_grows (record { at = j; index = i })) k
+        (number_less (SeesAt t) (length (trace_of s j)) not_seen k (length (trace_of t j)) longer h)

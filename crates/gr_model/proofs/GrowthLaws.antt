@@ -12,7 +12,7 @@ use Rattle.gr_model.specs.HappensBefore.{BasePair, HappensBefore, IsInclusive, b
 use Rattle.gr_model.specs.Instances.{AreMixed, HasArrived, Mark}
 use Rattle.gr_model.specs.Names.{HasName, Matches, MatchesBy, names_at, names_of}
 use Rattle.gr_model.specs.Streams.{Grows, IsEvent, Streams, event_at, is_complete, is_of, list_of, place_of, places_from, size_of, trace_of, word_at}
-use Rattle.gr_model.specs.Waits.{CanGo, Stage, Waits, for_arrival, for_meeting, for_previous, for_release}
+use Rattle.gr_model.specs.Waits.{IsSettled, Stage, Waits, for_arrival, for_meeting, for_previous, for_release}
 use Rattle.gr_model.specs.declared.event.Space.{Space}
 use Rattle.gr_model.proofs.Descent.{together-swap, below_in_item, below_by_pair, stage_descends}
 use Rattle.gr_model.proofs.Places.{slice_get-append, places_from-append, places_from-there, places_from-within, filter_map-place}
@@ -80,7 +80,7 @@ module _ (s t : Streams) (grows : Grows s t) where
   matches_grows f e there m = record { name = m.name; by = matches_by_grows m.name f e there m.by }
 
   -- in longer lists a release is the one that it was, where it was there
-  matches_shrinks : (f e : EventId) → IsEvent s f → CanGo s f → Matches t f e → Matches s f e
+  matches_shrinks : (f e : EventId) → IsEvent s f → IsSettled s f → Matches t f e → Matches s f e
   matches_shrinks f e there go m =
       let had = go.release m.name (name_was f m.name there m.by.named) in
       let place : had.0.index ≡ e.index =
@@ -145,7 +145,7 @@ module _ (s t : Streams) (grows : Grows s t) where
   }
 
   -- in longer lists a reached barrier has met those whom it had met
-  pub together_shrinks : (a : Mark) (e b : EventId) → IsEvent s e → CanGo s e → Together t a e b → Together s a e b
+  pub together_shrinks : (a : Mark) (e b : EventId) → IsEvent s e → IsSettled s e → Together t a e b → Together s a e b
   together_shrinks a e b there go h =
       let first = stands_shrinks e h.group h.instance there h.first in
       let settled = go.instance h.group h.instance first in
@@ -166,7 +166,7 @@ module _ (s t : Streams) (grows : Grows s t) where
 
   -- ---- what an event waits for, and the stages
 
-  pub stage_event : (n : ℕ) (e : EventId) → Stage s n e → IsEvent s e × CanGo s e
+  pub stage_event : (n : ℕ) (e : EventId) → Stage s n e → IsEvent s e × IsSettled s e
   stage_event zero e h = absurd h
   stage_event (suc n) e h = (h.0, h.1)
 
@@ -184,7 +184,7 @@ module _ (s t : Streams) (grows : Grows s t) where
       let before = stage_event n c (h.2 c (for_previous p)) in
       for_meeting a c p (together_shrinks a c d before.0 before.1 met)
 
-  can_go_grows : (e : EventId) → IsEvent s e → CanGo s e → CanGo t e
+  can_go_grows : (e : EventId) → IsEvent s e → IsSettled s e → IsSettled t e
   can_go_grows e there go = record {
     release = λ n named. let d = go.release n (name_was e n there named) in (d.0, matches_by_grows n e d.0 there d.1);
     instance = λ g k stands. ⊎_elim (λ c. inl (c.0, convergent_grows g k c.0 c.1)) (λ d. inr (divergent_grows g k d)) (go.instance g k (stands_shrinks e g k there stands));

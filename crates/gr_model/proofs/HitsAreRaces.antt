@@ -13,7 +13,7 @@ use Rattle.gr_model.specs.Access.{inclusive, memory_of, modifies, same_scope, sc
 use Rattle.gr_model.specs.HappensBefore.{HappensBefore}
 use Rattle.gr_model.specs.Hits.{SomePair}
 use Rattle.gr_model.specs.LawfulOrders.{IsAt, IsLawful}
-use Rattle.gr_model.specs.Races.{Clashes, Conflicts, IsRace, IsRacy}
+use Rattle.gr_model.specs.Races.{RacesInOrder, MayRace, IsRace, IsRacy}
 use Rattle.gr_model.specs.Streams.{Streams}
 use Rattle.gr_model.proofs.Descent.{below_before, lawful_descends}
 
@@ -34,8 +34,8 @@ inclusive_swap a g b h = scopes_swap (scope_of a) g (scope_of b) h
     scopes_swap None g (Some Device) h = refl
     scopes_swap None g None h = refl
 
-pub conflicts_swap : {s : Streams} {w : Word} {e f : EventId} → Conflicts s w e f → Conflicts s w f e
-conflicts_swap {e = e} {f = f} c = record {
+pub may_race_swaps : {s : Streams} {w : Word} {e f : EventId} → MayRace s w e f → MayRace s w f e
+may_race_swaps {e = e} {f = f} c = record {
   first = c.second;
   second = c.first;
   at_first = c.at_second;
@@ -48,18 +48,18 @@ conflicts_swap {e = e} {f = f} c = record {
 }
 
 -- where a later event of a lawful order clashes with an earlier one the two are a race
-pub clash_is_race : (s : Streams) (order : List EventId) (w : Word) (p q : ℕ) (e f : EventId) → IsLawful s order → p < q → IsAt order p e → IsAt order q f → Clashes s w e f → IsRace s w e f
+pub clash_is_race : (s : Streams) (order : List EventId) (w : Word) (p q : ℕ) (e f : EventId) → IsLawful s order → p < q → IsAt order p e → IsAt order q f → RacesInOrder s w e f → IsRace s w e f
 clash_is_race s order w p q e f lawful lt at_e at_f clash =
     let not_after : ¬ HappensBefore s (memory_of w) f e = λ b.
     let lower = below_before s (IsAt order) (lawful_descends s order lawful) (memory_of w) f e b p at_e in
     let same : lower.0 ≡ q = lawful.once lower.0 q f lower.2 at_f in
     omega (arith, lower.1, lt, same) in
-    record { conflict = clash.conflict; not_before = clash.not_before; not_after = not_after }
+    record { may_race = clash.may_race; not_before = clash.not_before; not_after = not_after }
 
-pub hit_is_race : (s : Streams) (order : List EventId) (w : Word) → IsLawful s order → SomePair (Clashes s w) order → IsRacy s (λ e. (p : ℕ) × IsAt order p e) w
+pub hit_is_race : (s : Streams) (order : List EventId) (w : Word) → IsLawful s order → SomePair (RacesInOrder s w) order → IsRacy s (λ e. (p : ℕ) × IsAt order p e) w
 hit_is_race s order w lawful h = (h.2, h.3, (h.0, h.5), (h.1, h.6), clash_is_race s order w h.0 h.1 h.2 h.3 lawful h.4 h.5 h.6 h.7)
 
-pub race_is_hit : (s : Streams) (order : List EventId) (w : Word) → IsRacy s (λ e. (p : ℕ) × IsAt order p e) w → SomePair (Clashes s w) order
+pub race_is_hit : (s : Streams) (order : List EventId) (w : Word) → IsRacy s (λ e. (p : ℕ) × IsAt order p e) w → SomePair (RacesInOrder s w) order
 race_is_hit s order w r =
     let e = r.0 in
     let f = r.1 in
@@ -67,12 +67,12 @@ race_is_hit s order w r =
     let q = r.3.0 in
     let race = r.4 in
     ⊎_elim
-    (λ (lt : p < q). (p, q, e, f, lt, r.2.1, r.3.1, record { conflict = race.conflict; not_before = race.not_before }))
+    (λ (lt : p < q). (p, q, e, f, lt, r.2.1, r.3.1, record { may_race = race.may_race; not_before = race.not_before }))
     (λ (ge : q ≤ p). ⊎_elim
-    (λ (same : q ≡ p). absurd (other e f race.conflict (let x : Some f ≡ Some e = sym r.3.1 ∙ (ap (slice_get order) same ∙ r.2.1) in cc)))
-    (λ (lt : q < p). (q, p, f, e, lt, r.3.1, r.2.1, record { conflict = conflicts_swap race.conflict; not_before = race.not_after }))
+    (λ (same : q ≡ p). absurd (other e f race.may_race (let x : Some f ≡ Some e = sym r.3.1 ∙ (ap (slice_get order) same ∙ r.2.1) in cc)))
+    (λ (lt : q < p). (q, p, f, e, lt, r.3.1, r.2.1, record { may_race = may_race_swaps race.may_race; not_before = race.not_after }))
     (eq-or-lt_of_le ge))
     (cases_lt p q)
   where
-    other : (e f : EventId) → Conflicts s w e f → e ≡ f → ⊥
+    other : (e f : EventId) → MayRace s w e f → e ≡ f → ⊥
     other e f c same = c.others (ap (λ x. x.at) same)

@@ -4,7 +4,7 @@ use Rattle.std.proofs.lemmas.Bool.{cases_lt}
 use Rattle.gr_model.specs.declared.event.Space.{Space}
 use Rattle.gr_model.specs.declared.event.ItemId.{ItemId}
 use Rattle.gr_model.specs.declared.event.EventId.{EventId}
-use Rattle.gr_model.specs.Counts.{IsSeen}
+use Rattle.gr_model.specs.Counts.{Sees}
 use Rattle.gr_model.specs.HappensBefore.{HappensBefore, by_pair, sequenced}
 use Rattle.gr_model.specs.LawfulOrders.{IsAt, IsLawful}
 use Rattle.gr_model.specs.Streams.{IsEvent, Streams}
@@ -23,7 +23,7 @@ tells_join s c d P Q tc td e there = (
 )
 
 -- what an event of a lawful order sees is itself and what was ready for it and came by its release: a tick and a join
-pub tells_seen : (s : Streams) (order : List EventId) (lawful : IsLawful s order) (m : Space) (p : ℕ) (f : EventId) (c : ItemId → ℕ) → IsAt order p f → Tells s c (λ e. IsReady s m f.at f.index e ⊎ IsReleased s m f e) → (tick : ItemId → ℕ) → tick f.at ≡ suc f.index → ((j : ItemId) → (j ≡ f.at → ⊥) → tick j ≡ c j) → (e : EventId) → IsEvent s e → (e.at ≡ f.at) ⊎ (e.at ≡ f.at → ⊥) → IsSeen s m f e ↔ (e.index < tick e.at)
+pub tells_seen : (s : Streams) (order : List EventId) (lawful : IsLawful s order) (m : Space) (p : ℕ) (f : EventId) (c : ItemId → ℕ) → IsAt order p f → Tells s c (λ e. IsReady s m f.at f.index e ⊎ IsReleased s m f e) → (tick : ItemId → ℕ) → tick f.at ≡ suc f.index → ((j : ItemId) → (j ≡ f.at → ⊥) → tick j ≡ c j) → (e : EventId) → IsEvent s e → (e.at ≡ f.at) ⊎ (e.at ≡ f.at → ⊥) → Sees s m f e ↔ (e.index < tick e.at)
 tells_seen s order lawful m p f c at tells tick own others e there (inl here) =
     let ticks : tick e.at ≡ suc f.index = ap tick here ∙ own in
     let has_f = (lawful.event p f at).0 in (

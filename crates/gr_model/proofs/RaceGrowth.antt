@@ -4,15 +4,15 @@ use Rattle.gr_model.specs.declared.event.EventId.{EventId}
 use Rattle.gr_model.specs.declared.event.Word.{Word}
 use Rattle.gr_model.specs.Access.{memory_of}
 use Rattle.gr_model.specs.LawfulOrders.{IsIn, IsLawful}
-use Rattle.gr_model.specs.Races.{Conflicts, IsRace, IsRacy}
+use Rattle.gr_model.specs.Races.{MayRace, IsRace, IsRacy}
 use Rattle.gr_model.specs.Streams.{Grows, Streams}
 use Rattle.gr_model.specs.Waits.{IsGrounded}
 use Rattle.gr_model.proofs.Descent.{lawful_is_grounded}
 use Rattle.gr_model.proofs.GrowthLaws.{before_shrinks, event_grows, stage_grows, word_grows}
 
 module _ (s t : Streams) (grows : Grows s t) (w : Word) where
-  conflict_grows : (e f : EventId) → Conflicts s w e f → Conflicts t w e f
-  conflict_grows e f c = record {
+  may_race_grows : (e f : EventId) → MayRace s w e f → MayRace t w e f
+  may_race_grows e f c = record {
     first = c.first;
     second = c.second;
     at_first = event_grows s t grows e c.first c.at_first;
@@ -26,7 +26,7 @@ module _ (s t : Streams) (grows : Grows s t) (w : Word) where
 
   race_grows : (e f : EventId) → IsGrounded s e → IsGrounded s f → IsRace s w e f → IsRace t w e f
   race_grows e f ge gf r = record {
-    conflict = conflict_grows e f r.conflict;
+    may_race = may_race_grows e f r.may_race;
     not_before = λ b. r.not_before (before_shrinks s t grows (memory_of w) e f b gf.0 gf.1);
     not_after = λ b. r.not_after (before_shrinks s t grows (memory_of w) f e b ge.0 ge.1);
   }

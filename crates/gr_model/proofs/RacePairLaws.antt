@@ -7,10 +7,10 @@ use Rattle.gr_model.specs.Races.{IsRace}
 use Rattle.gr_model.specs.Reports.{EventBelow}
 use Rattle.gr_model.specs.Streams.{Streams}
 use Rattle.gr_model.specs.Waits.{IsGrounded}
-use Rattle.gr_model.proofs.HitsAreRaces.{conflicts_swap}
+use Rattle.gr_model.proofs.HitsAreRaces.{may_race_swaps}
 
 pub race_swap : (s : Streams) (w : Word) (e f : EventId) → IsRace s w e f → IsRace s w f e
-race_swap s w e f race = record { conflict = conflicts_swap race.conflict; not_before = race.not_after; not_after = race.not_before }
+race_swap s w e f race = record { may_race = may_race_swaps race.may_race; not_before = race.not_after; not_after = race.not_before }
 
 -- a race of a pair is one of its events as they stand
 pub race_of : (s : Streams) (w : Word) (e f : EventId) (pair : Pair) → IsTurned e f pair → IsRace s w pair.0 pair.1 → IsRace s w e f

@@ -10,7 +10,7 @@ use Rattle.gr_model.specs.declared.event.Word.{Word}
 use Rattle.gr_model.specs.declared.event.Word.TheVariants.{Global as GlobalWord, Local as LocalWord}
 use Rattle.gr_model.specs.declared.report.Divergence.{Divergence}
 use Rattle.gr_model.specs.Counts.{IsNumberOf}
-use Rattle.gr_model.specs.Reports.{DivergenceBelow, EventBelow, IsCut, IsDivergence, IsHeld, IsReportOf, IsUnmatchedAcquire, UnmatchedBelow, WholeReport, WordBelow}
+use Rattle.gr_model.specs.Reports.{DivergenceBelow, EventBelow, IsCut, IsDivergence, IsHeld, IsReportOf, IsUnmatchedEntry, UnmatchedBelow, WholeReport, WordBelow}
 use Rattle.gr_model.specs.Races.{IsRacy}
 use Rattle.gr_model.specs.Shapes.{HasItem, items_of}
 use Rattle.gr_model.specs.Streams.{Streams}
@@ -98,7 +98,7 @@ pub one_report : (s : Streams) (r q : WholeReport) → IsReportOf s r → IsRepo
 one_report s r q a b =
     let races = one_list WordBelow words_one_way (IsRacy s (IsGrounded s)) r.races q.races a.races b.races in
     let divergences = one_list DivergenceBelow divergences_one_way (IsDivergence s) r.divergences q.divergences a.rest.divergences b.rest.divergences in
-    let unmatched = one_list UnmatchedBelow (λ u v. events_one_way u.event v.event) (IsUnmatchedAcquire s) r.unmatched q.unmatched a.rest.unmatched b.rest.unmatched in
+    let unmatched = one_list UnmatchedBelow (λ u v. events_one_way u.event v.event) (IsUnmatchedEntry s) r.unmatched q.unmatched a.rest.unmatched b.rest.unmatched in
     let cut = one_list (λ g h. g < h) numbers_one_way (IsCut s) r.cut q.cut a.rest.cut b.rest.cut in
     let held = one_held s r.held q.held a.rest.held b.rest.held in
     let groups = a.rest.groups ∙ sym b.rest.groups in

@@ -13,9 +13,9 @@ IsNumberOf P zero n = n ≡ 0
 IsNumberOf P (suc k) n = ((m : ℕ) × (n ≡ suc m) × P k × IsNumberOf P k m) ⊎ (¬ P k × IsNumberOf P k n)
 
 -- e is f, or happens before it
-abbrev pub IsSeen : Streams → Space → EventId → EventId → Type 0
-IsSeen s m f e = (e ≡ f) ⊎ HappensBefore s m e f
+abbrev pub Sees : Streams → Space → EventId → EventId → Type 0
+Sees s m f e = (e ≡ f) ⊎ HappensBefore s m e f
 
 -- n is the number of an item's events that are f or happen before it
 abbrev pub IsCount : Streams → Space → EventId → ItemId → ℕ → Type 0
-IsCount s m f j n = IsNumberOf (λ k. IsSeen s m f (record { at = j; index = k })) (length (trace_of s j)) n
+IsCount s m f j n = IsNumberOf (λ k. Sees s m f (record { at = j; index = k })) (length (trace_of s j)) n

@@ -5,7 +5,7 @@ use Rattle.gr_model.specs.declared.event.EventId.{EventId}
 use Rattle.gr_model.specs.Instances.{Mark}
 use Rattle.gr_model.specs.Streams.{Streams, IsEvent}
 use Rattle.gr_model.specs.Barriers.{Together}
-use Rattle.gr_model.specs.Waits.{Waits, CanGo, IsGrounded}
+use Rattle.gr_model.specs.Waits.{Waits, IsSettled, IsGrounded}
 
 -- an event stands in an order at a place, or somewhere
 abbrev pub IsAt : List EventId → ℕ → EventId → Type 0
@@ -17,7 +17,7 @@ IsIn order e = (p : ℕ) × IsAt order p e
 -- a list of events that has, with an event, all that it waits for, and with a barrier of a convergent instance all barriers of it
 pub record IsLawful (s : Streams) (order : List EventId) : Type 0 where
   -- each is an event that waits for nothing that is not there
-  pub event : (p : ℕ) (e : EventId) → IsAt order p e → IsEvent s e × CanGo s e
+  pub event : (p : ℕ) (e : EventId) → IsAt order p e → IsEvent s e × IsSettled s e
   -- each stands there once
   pub once : (p q : ℕ) (e : EventId) → IsAt order p e → IsAt order q e → p ≡ q
   -- each stands behind all that it waits for

@@ -8,7 +8,7 @@ use Rattle.gr_model.specs.Streams.{Streams, AreAccepted, ArePrefixes, AreComplet
 use Rattle.gr_model.specs.HappensBefore.{BasePair, HappensBefore}
 use Rattle.gr_model.specs.Waits.{Waits, Stage, IsGrounded}
 use Rattle.gr_model.specs.LawfulOrders.{IsLawful, IsWholeOrder, IsAt, IsIn}
-use Rattle.gr_model.specs.Races.{Clashes, IsRacy}
+use Rattle.gr_model.specs.Races.{RacesInOrder, IsRacy}
 use Rattle.gr_model.specs.Counts.{IsCount}
 use Rattle.gr_model.specs.Hits.{SomePair}
 use Rattle.gr_model.specs.Reports.{WholeReport, IsReportOf}
@@ -47,11 +47,11 @@ CountsStay = (s t : Streams) (m : Space) (f : EventId) (j : ItemId) (n : ℕ) �
 
 -- along a lawful order a word has an access that clashes with an earlier one exactly where it is racy within the order
 abbrev pub HitsAreRaces : Type 0
-HitsAreRaces = (s : Streams) (order : List EventId) (w : Word) → IsLawful s order → SomePair (Clashes s w) order ↔ IsRacy s (IsIn order) w
+HitsAreRaces = (s : Streams) (order : List EventId) (w : Word) → IsLawful s order → SomePair (RacesInOrder s w) order ↔ IsRacy s (IsIn order) w
 
 -- and where the order has all grounded events, exactly where it is racy among these
 abbrev pub WholeHitsAreRaces : Type 0
-WholeHitsAreRaces = (s : Streams) (order : List EventId) (w : Word) → IsWholeOrder s order → SomePair (Clashes s w) order ↔ IsRacy s (IsGrounded s) w
+WholeHitsAreRaces = (s : Streams) (order : List EventId) (w : Word) → IsWholeOrder s order → SomePair (RacesInOrder s w) order ↔ IsRacy s (IsGrounded s) w
 
 -- a word that is racy within a lawful order is racy among the grounded events of all lists to which these grow
 abbrev pub RacesStay : Type 0

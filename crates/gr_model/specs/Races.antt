@@ -9,7 +9,7 @@ use Rattle.gr_model.specs.Streams.{Streams, event_at, word_at}
 use Rattle.gr_model.specs.HappensBefore.{HappensBefore}
 
 -- accesses of different items to one word, of which one modifies it, and which are not both atomic with inclusive scope
-pub record Conflicts (s : Streams) (w : Word) (e f : EventId) : Type 0 where
+pub record MayRace (s : Streams) (w : Word) (e f : EventId) : Type 0 where
   pub first : Event
   pub second : Event
   pub at_first : event_at s e ≡ Some first
@@ -22,7 +22,7 @@ pub record Conflicts (s : Streams) (w : Word) (e f : EventId) : Type 0 where
 
 -- such a pair that the happens-before of the word's memory does not order
 pub record IsRace (s : Streams) (w : Word) (e f : EventId) : Type 0 where
-  pub conflict : Conflicts s w e f
+  pub may_race : MayRace s w e f
   pub not_before : ¬ HappensBefore s (memory_of w) e f
   pub not_after : ¬ HappensBefore s (memory_of w) f e
 
@@ -30,7 +30,7 @@ pub record IsRace (s : Streams) (w : Word) (e f : EventId) : Type 0 where
 abbrev pub IsRacy : Streams → (EventId → Type 0) → Word → Type 0
 IsRacy s Within w = (e f : EventId) × Within e × Within f × IsRace s w e f
 
--- of two events of an order, the first the earlier: they conflict on the word, and the later is not ordered behind the earlier
-pub record Clashes (s : Streams) (w : Word) (e f : EventId) : Type 0 where
-  pub conflict : Conflicts s w e f
+-- of two events of an order, the first the earlier: they race on the word unless they are ordered, and the earlier does not happen before the later
+pub record RacesInOrder (s : Streams) (w : Word) (e f : EventId) : Type 0 where
+  pub may_race : MayRace s w e f
   pub not_before : ¬ HappensBefore s (memory_of w) e f

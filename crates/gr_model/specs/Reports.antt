@@ -54,7 +54,7 @@ pub record IsDivergence (s : Streams) (d : Divergence) : Type 0 where
   pub cause : HasDivergenceCause (is_complete (list_of s d.group)) (size_of s d.group) (arrivals s d.group d.instance) d.cause
 
 -- an event is an unmatched acquire: it names a release, and is not grounded though all before it in its item are
-pub record IsUnmatched (s : Streams) (e : EventId) : Type 0 where
+pub record IsUnmatchedAcquire (s : Streams) (e : EventId) : Type 0 where
   pub event : IsEvent s e
   pub name : Name
   pub named : HasName s e name
@@ -62,8 +62,8 @@ pub record IsUnmatched (s : Streams) (e : EventId) : Type 0 where
   pub before : (d : EventId) → d.at ≡ e.at → d.index < e.index → IsGrounded s d
 
 -- an unmatched acquire, with its cause
-pub record IsUnmatchedAcquire (s : Streams) (u : Unmatched) : Type 0 where
-  pub unmatched : IsUnmatched s u.event
+pub record IsUnmatchedEntry (s : Streams) (u : Unmatched) : Type 0 where
+  pub unmatched : IsUnmatchedAcquire s u.event
   pub cause : HasAcquireCause s u.event u.cause
 
 -- a group's list has an end that says that it was cut
@@ -97,7 +97,7 @@ AreRaces s words = Lists WordBelow (IsRacy s (IsGrounded s)) words
 -- the report of complete lists, but for its races
 pub record IsReportButRaces (s : Streams) (r : WholeReport) : Type 0 where
   pub divergences : Lists DivergenceBelow (IsDivergence s) r.divergences
-  pub unmatched : Lists UnmatchedBelow (IsUnmatchedAcquire s) r.unmatched
+  pub unmatched : Lists UnmatchedBelow (IsUnmatchedEntry s) r.unmatched
   pub cut : Lists (λ g h. g < h) (IsCut s) r.cut
   pub held : IsHeld s r.held
   pub groups : r.groups ≡ length s.sizes

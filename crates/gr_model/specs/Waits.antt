@@ -24,14 +24,14 @@ pub data Waits (s : Streams) (e d : EventId) : Type 0 where
   for_meeting : (a : Mark) (c : EventId) → IsPrevious c e → Together s a c d → Waits s e d
 
 -- all that e waits for exists: the releases that it names are there with its word, and its instance is convergent or divergent
-pub record CanGo (s : Streams) (e : EventId) : Type 0 where
+pub record IsSettled (s : Streams) (e : EventId) : Type 0 where
   pub release : HasItsReleases s e
   pub instance : (g k : ℕ) → StandsIn s e g k → ((a : Mark) × IsConvergent s g k a) ⊎ IsDivergent s g k
 
 -- stage 0 has no event, and each later stage the events all of whose waits are in the one before it
 abbrev pub Stage : Streams → ℕ → EventId → Type 0
 Stage s zero e = ⊥
-Stage s (suc n) e = IsEvent s e × CanGo s e × ((d : EventId) → Waits s e d → Stage s n d)
+Stage s (suc n) e = IsEvent s e × IsSettled s e × ((d : EventId) → Waits s e d → Stage s n d)
 
 -- an event is grounded: in some stage
 abbrev pub IsGrounded : Streams → EventId → Type 0

@@ -34,8 +34,8 @@ pub fn growth_changes_nothing()
 {}
 
 /// Along a lawful order, the words on which an event clashes with an earlier one are those that are racy within the
-/// order. (It clashes if the two conflict and the earlier does not happen before it.) If the order has all grounded
-/// events, these are the words that are racy among the grounded events.
+/// order. (It clashes if the two race unless they are ordered, and the earlier does not happen before it.) If the order
+/// has all grounded events, these are the words that are racy among the grounded events.
 pub fn hits_are_races()
     ensures within { HitsAreRaces }
     ensures whole { WholeHitsAreRaces }

@@ -225,14 +225,14 @@ impl<A: Allocator> Order<A> {
         match self.next(item) {
             None => Err(GoError::NotReady),
             Some(event) => {
-                self.add(event);
+                self.handle_event(event);
                 Ok(event)
             }
         }
     }
 
     /// Handles an event that may be handled.
-    pub fn add(&mut self, event: EventId)
+    pub fn handle_event(&mut self, event: EventId)
         requires { IsReady self.old.taken self.old.handled event }
         ensures step { HandlesEvent self.old event self.new }
         ensures sequence { IsSequence self.new }
@@ -258,14 +258,14 @@ impl<A: Allocator> Order<A> {
         match self.meeting(group) {
             None => Err(GoError::NotReady),
             Some(instance) => {
-                self.pass(group);
+                self.meet_instance(group);
                 Ok(instance)
             }
         }
     }
 
     /// Handles the barriers of a group's instance that may meet.
-    pub fn pass(&mut self, group: u16)
+    pub fn meet_instance(&mut self, group: u16)
         requires { CanMeet self.old.taken self.old.handled group }
         ensures step { MeetsNext self.old group self.new }
         ensures sequence { IsSequence self.new }

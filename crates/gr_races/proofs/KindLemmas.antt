@@ -55,9 +55,9 @@ operation_there s e x w at word =
 
 kind_there : (s : Streams) (r : Race) → IsRacePair s r.word (r.first, r.second) → (row : KindedRace) × (kinded s r ≡ Some row) × (row.race ≡ r)
 kind_there s r pair =
-    let conflict = pair.race.conflict in
-    let a = operation_there s r.first conflict.first r.word conflict.at_first conflict.word_first in
-    let b = operation_there s r.second conflict.second r.word conflict.at_second conflict.word_second in (
+    let may_race = pair.race.may_race in
+    let a = operation_there s r.first may_race.first r.word may_race.at_first may_race.word_first in
+    let b = operation_there s r.second may_race.second r.word may_race.at_second may_race.word_second in (
       with_operations r a.0 b.0,
       ap (option_and_then (λ (a : Operation). option_map (λ (b : Operation). with_operations r a b) (operation_at s r.second))) a.1 ∙ ap (option_map (λ (b : Operation). with_operations r a.0 b)) b.1,
       refl,

@@ -12,7 +12,7 @@ use Rattle.gr_model.specs.declared.event.Space.{Space}
 use Rattle.gr_model.specs.declared.event.Space.TheVariants.{Global, Local}
 use Rattle.gr_model.specs.declared.limits.TheConstants.{MOST_RECORDS}
 use Rattle.gr_model.specs.Access.{is_release, memory_of}
-use Rattle.gr_model.specs.Counts.{IsSeen}
+use Rattle.gr_model.specs.Counts.{Sees}
 use Rattle.gr_model.specs.LawfulOrders.{IsIn}
 use Rattle.gr_model.specs.Shapes.{HasItem}
 use Rattle.gr_model.specs.Streams.{Streams, event_at, is_of, list_of, trace_of}
@@ -56,7 +56,7 @@ module _ (s : Streams) (order : List EventId) (known : Known) (e : EventId) (nex
   learned : (m : Space) (d : EventId) → Learns s m e d → IsIn order d
   learned m d l = seen_handled s m order next.lawful l.release d (next.ready.waits l.release (for_release l.matches)) l.seen
 
-  sees : (m : Space) (d : EventId) → IsSeen s m e d ↔ ((d ≡ e) ⊎ Knows s m order e.at d ⊎ Learns s m e d)
+  sees : (m : Space) (d : EventId) → Sees s m e d ↔ ((d ≡ e) ⊎ Knows s m order e.at d ⊎ Learns s m e d)
   sees m d = handled_sees s m order (order ++ e ∷ []) e next.lawful (record { ready = next.ready; order = refl }) d
 
   -- ---- there is room
@@ -93,7 +93,7 @@ module _ (s : Streams) (order : List EventId) (known : Known) (e : EventId) (nex
         let small = index_small in
         omega (arith, counted, less, small, full)
 
-    sources_see : (m : Space) (n : ItemId → ℕ) → ((j : ItemId) → n j ≡ max (count_of (own_clock m) j) (told m j) + tick_at e.at j) → (d : EventId) → (d.index < n d.at) ↔ IsSeen s m e d
+    sources_see : (m : Space) (n : ItemId → ℕ) → ((j : ItemId) → n j ≡ max (count_of (own_clock m) j) (told m j) + tick_at e.at j) → (d : EventId) → (d.index < n d.at) ↔ Sees s m e d
     sources_see m n behind = seen_count s m order e next.lawful is_next (count_of (own_clock m)) (counts m) (Learns s m e) (learned m) (told m) (are.counts m) (sees m) n behind
 
   -- ---- what its item knew, or the event learns
@@ -117,7 +117,7 @@ module _ (s : Streams) (order : List EventId) (known : Known) (e : EventId) (nex
       (λ (le : count_of (own_clock m) j ≤ count_of c j). le)
       (cases_lt (count_of c j) (count_of (own_clock m) j))
 
-  pub known_or_learned_sees : (m : Space) (c n : Counts) → CountsJust c (KnowsOrLearns s order m e) → IsTick c e.at n → CountsJust n (IsSeen s m e)
+  pub known_or_learned_sees : (m : Space) (c n : Counts) → CountsJust c (KnowsOrLearns s order m e) → IsTick c e.at n → CountsJust n (Sees s m e)
   known_or_learned_sees m c n known_or_learned tick =
       seen_count s m order e next.lawful is_next (count_of (own_clock m)) (counts m) (KnowsOrLearns s order m e) (known_or_learned_in m) (count_of c) known_or_learned again (count_of n) (λ j.
       let o : ℕ = count_of (own_clock m) j in
@@ -128,7 +128,7 @@ module _ (s : Streams) (order : List EventId) (known : Known) (e : EventId) (nex
       let same : count_of n j ≡ max o k + t = omega arith in
       same)
     where
-      again : (d : EventId) → IsSeen s m e d ↔ ((d ≡ e) ⊎ Knows s m order e.at d ⊎ KnowsOrLearns s order m e d)
+      again : (d : EventId) → Sees s m e d ↔ ((d ≡ e) ⊎ Knows s m order e.at d ⊎ KnowsOrLearns s order m e d)
       again d =
           let h = sees m d in (
             λ seen. ⊎_elim (λ same. inl same) (λ rest. inr (inr rest)) (h.0 seen),
@@ -161,7 +161,7 @@ module _ (s : Streams) (order : List EventId) (known : Known) (e : EventId) (nex
   pub record Steps (new : ItemClocks) : Type 0 where
     pub shape : new.sizes ≡ known.clocks.sizes
     pub tables : (m : Space) → map length (clocks_in new m) ≡ map length (clocks_in known.clocks m)
-    pub item : (m : Space) → CountsJust (clock_in new m e.at) (IsSeen s m e)
+    pub item : (m : Space) → CountsJust (clock_in new m e.at) (Sees s m e)
     pub others : (m : Space) (j : ItemId) → j ≢ e.at → clock_in new m j ≡ clock_in known.clocks m j
 
   pub sources_steps : (new : ItemClocks) (sources : List ReleaseClock) → AreSources s e sources → Acquires known.clocks e.at sources new → Steps new

@@ -14,7 +14,7 @@ use Rattle.gr_model.specs.declared.event.Kind.{Kind}
 use Rattle.gr_model.specs.declared.event.Kind.TheVariants.{Barrier, End, Load, Read, Rmw, Store, Write}
 use Rattle.gr_model.specs.Access.{is_release_kind}
 use Rattle.gr_model.specs.Barriers.{StandsIn, is_barrier, mark_of_kind}
-use Rattle.gr_model.specs.Counts.{IsSeen}
+use Rattle.gr_model.specs.Counts.{Sees}
 use Rattle.gr_model.specs.Instances.{Mark, flags}
 use Rattle.gr_model.specs.LawfulOrders.{IsLawful}
 use Rattle.gr_model.specs.Shapes.{HasItem}
@@ -113,7 +113,7 @@ module _ (s : Streams) (order : List EventId) (g k : ℕ) (clocks : ItemClocks) 
     met = record { mark = a; meeting = meeting; barriers = barriers; are = are_barriers; order = is_order }
 
     -- what a barrier sees, as a count
-    barrier_sees : (m : Space) (b : EventId) → StandsIn s b g k → (n : ItemId → ℕ) → ((j : ItemId) → n j ≡ count_of (clock_in clocks m b.at) j + tick_at b.at j) → (d : EventId) → (d.index < n d.at) ↔ IsSeen s m b d
+    barrier_sees : (m : Space) (b : EventId) → StandsIn s b g k → (n : ItemId → ℕ) → ((j : ItemId) → n j ≡ count_of (clock_in clocks m b.at) j + tick_at b.at j) → (d : EventId) → (d.index < n d.at) ↔ Sees s m b d
     barrier_sees m b h n behind =
         seen_count s m order b lawful (is_next b h) (count_of (clock_in clocks m b.at)) (counts m b h) (λ d. ⊥) (λ d none. absurd none) (λ j. 0) (λ d. (λ lt. omega (arith, lt), λ none. absurd none)) sees n (λ j.
         let c : ℕ = count_of (clock_in clocks m b.at) j in
@@ -122,7 +122,7 @@ module _ (s : Streams) (order : List EventId) (g k : ℕ) (clocks : ItemClocks) 
         let same : n j ≡ max c 0 + t = omega arith in
         same)
       where
-        sees : (d : EventId) → IsSeen s m b d ↔ ((d ≡ b) ⊎ Knows s m order b.at d ⊎ ⊥)
+        sees : (d : EventId) → Sees s m b d ↔ ((d ≡ b) ⊎ Knows s m order b.at d ⊎ ⊥)
         sees d =
             let h = met_sees s m order new g k prefixes lawful met b d h in (
               λ seen. ⊎_elim (λ same. inl same) (λ known. inr (inl known)) (h.0 seen),
@@ -144,7 +144,7 @@ module _ (s : Streams) (order : List EventId) (g k : ℕ) (clocks : ItemClocks) 
           by_flag false ticks = ticks.shape
 
       -- in a memory that is flagged, all that the barriers see
-      all_seen : (m : Space) (i : ItemId) (d : EventId) → i.group ≡ g → i.item < size_of s g → JoinsGroup (clocks_in clocks m) g (clocks_in new_clocks m) → (d.index < count_of (clock_in new_clocks m i) d.at) ↔ ((b : EventId) × StandsIn s b g k × IsSeen s m b d)
+      all_seen : (m : Space) (i : ItemId) (d : EventId) → i.group ≡ g → i.item < size_of s g → JoinsGroup (clocks_in clocks m) g (clocks_in new_clocks m) → (d.index < count_of (clock_in new_clocks m i) d.at) ↔ ((b : EventId) × StandsIn s b g k × Sees s m b d)
       all_seen m i d group within joins =
           let size = slice_index (map length (clocks_in clocks m)) g in
           let f : ℕ → ℕ = λ n. count_of (clock_at (clocks_in clocks m) (item_of g n)) d.at + tick_at (item_of g n) d.at in
@@ -152,7 +152,7 @@ module _ (s : Streams) (order : List EventId) (g k : ℕ) (clocks : ItemClocks) 
           let same : item_of g i.item ≡ i = λ t. record { group = sym group t; item = i.item } in
           let count : count_of (clock_in new_clocks m i) d.at ≡ greatest size f = ap (λ j. count_of (clock_in new_clocks m j) d.at) (sym same) ∙ joins.counts i.item d.at here in
           let greatest = below_greatest size f d.index in
-          subst (λ n. (d.index < n) ↔ ((b : EventId) × StandsIn s b g k × IsSeen s m b d)) (sym count) (
+          subst (λ n. (d.index < n) ↔ ((b : EventId) × StandsIn s b g k × Sees s m b d)) (sym count) (
             λ below.
                 let h = greatest.0 below in
                 let there : h.0 < size_of s g = subst (λ n. h.0 < n) (size_here m) h.1 in

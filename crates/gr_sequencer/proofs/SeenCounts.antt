@@ -4,7 +4,7 @@ use Rattle.std.proofs.lemmas.Bool.{cases_lt}
 use Rattle.gr_model.specs.declared.event.EventId.{EventId}
 use Rattle.gr_model.specs.declared.event.ItemId.{ItemId}
 use Rattle.gr_model.specs.declared.event.Space.{Space}
-use Rattle.gr_model.specs.Counts.{IsSeen}
+use Rattle.gr_model.specs.Counts.{Sees}
 use Rattle.gr_model.specs.LawfulOrders.{IsIn, IsLawful}
 use Rattle.gr_model.specs.Streams.{Streams}
 use Rattle.gr_model.proofs.Cuts.{same_event}
@@ -55,8 +55,8 @@ module _ (s : Streams) (m : Space) (order : List EventId) (e : EventId) (lawful 
         (λ (le : l e.at ≤ e.index). le)
         (cases_lt e.index (l e.at))
 
-    module _ (sees : (d : EventId) → IsSeen s m e d ↔ ((d ≡ e) ⊎ Knows s m order e.at d ⊎ L d)) (n : ItemId → ℕ) (behind : (j : ItemId) → n j ≡ max (c j) (l j) + tick_at e.at j) where
-      own_cases : (d : EventId) → d.at ≡ e.at → (d.index < max (c d.at) (l d.at) + 1) ↔ IsSeen s m e d
+    module _ (sees : (d : EventId) → Sees s m e d ↔ ((d ≡ e) ⊎ Knows s m order e.at d ⊎ L d)) (n : ItemId → ℕ) (behind : (j : ItemId) → n j ≡ max (c j) (l j) + tick_at e.at j) where
+      own_cases : (d : EventId) → d.at ≡ e.at → (d.index < max (c d.at) (l d.at) + 1) ↔ Sees s m e d
       own_cases d item =
           let own : c d.at ≡ e.index = ap c item ∙ own_count in
           let less : l d.at ≤ e.index = subst (λ i. l i ≤ e.index) (sym item) source_count in (
@@ -76,7 +76,7 @@ module _ (s : Streams) (m : Space) (order : List EventId) (e : EventId) (lawful 
                 ((sees d).0 seen),
           )
 
-      other_cases : (d : EventId) → (d.at ≡ e.at → ⊥) → (d.index < max (c d.at) (l d.at) + 0) ↔ IsSeen s m e d
+      other_cases : (d : EventId) → (d.at ≡ e.at → ⊥) → (d.index < max (c d.at) (l d.at) + 0) ↔ Sees s m e d
       other_cases d other = (
         λ below.
             (sees d).1 (inr (⊎_elim
@@ -94,10 +94,10 @@ module _ (s : Streams) (m : Space) (order : List EventId) (e : EventId) (lawful 
             ((sees d).0 seen),
       )
 
-      pub seen_count : (d : EventId) → (d.index < n d.at) ↔ IsSeen s m e d
+      pub seen_count : (d : EventId) → (d.index < n d.at) ↔ Sees s m e d
       seen_count d =
-          subst (λ k. (d.index < k) ↔ IsSeen s m e d) (sym (behind d.at)) (by_item (same_item e.at d.at) refl)
+          subst (λ k. (d.index < k) ↔ Sees s m e d) (sym (behind d.at)) (by_item (same_item e.at d.at) refl)
         where
-          by_item : (b : Bool) → same_item e.at d.at ≡ b → (d.index < max (c d.at) (l d.at) + (if b then 1 else 0)) ↔ IsSeen s m e d
+          by_item : (b : Bool) → same_item e.at d.at ≡ b → (d.index < max (c d.at) (l d.at) + (if b then 1 else 0)) ↔ Sees s m e d
           by_item true t = own_cases d (sym (same_items e.at d.at t))
           by_item false f = other_cases d (λ item. true≢false (sym (same_item_self e.at) ∙ ap (same_item e.at) (sym item) ∙ f))

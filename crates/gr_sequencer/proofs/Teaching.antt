@@ -8,7 +8,7 @@ use Rattle.gr_model.specs.declared.event.EventId.{EventId}
 use Rattle.gr_model.specs.declared.event.Name.{Name}
 use Rattle.gr_model.specs.declared.event.Space.{Space}
 use Rattle.gr_model.specs.Access.{inclusive, is_release, memory_of}
-use Rattle.gr_model.specs.Counts.{IsSeen}
+use Rattle.gr_model.specs.Counts.{Sees}
 use Rattle.gr_model.specs.HappensBefore.{IsInclusive}
 use Rattle.gr_model.specs.LawfulOrders.{IsIn}
 use Rattle.gr_model.specs.Names.{HasName, Matches, MatchesBy, names_of, release_place}
@@ -63,7 +63,7 @@ module _ (s : Streams) (order : List EventId) (e r : EventId) (x given : Event) 
     shape = is.shape;
     counts = λ d. (
       λ below. record { release = r; by = matches_by; inclusive = within; seen = (is.counts d).0 below },
-      λ l. (is.counts d).1 (subst (λ f. IsSeen s (memory_of snapshots.word) f d) (from_release (memory_of snapshots.word) d l) l.seen),
+      λ l. (is.counts d).1 (subst (λ f. Sees s (memory_of snapshots.word) f d) (from_release (memory_of snapshots.word) d l) l.seen),
     );
     others = λ m d other l.
         let w : Some l.inclusive.word ≡ Some snapshots.word = sym l.inclusive.has_word ∙ ap (word_at s) (from_release m d l) ∙ is.word in

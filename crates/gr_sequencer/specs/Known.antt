@@ -8,7 +8,7 @@ use Rattle.gr_model.specs.declared.event.EventId.{EventId}
 use Rattle.gr_model.specs.declared.event.Event.{Event}
 use Rattle.gr_model.specs.contracts.event.EventIdPartialEq.TheImpl as equality
 use Rattle.gr_model.specs.Access.{is_release, memory_of}
-use Rattle.gr_model.specs.Counts.{IsSeen}
+use Rattle.gr_model.specs.Counts.{Sees}
 use Rattle.gr_model.specs.LawfulOrders.{IsIn, IsLawful}
 use Rattle.gr_model.specs.Shapes.{HasItem}
 use Rattle.gr_model.specs.Streams.{Streams, ArePrefixes, event_at, word_at}
@@ -43,7 +43,7 @@ pub record CountWhatIsKnown (s : Streams) (order : List EventId) (clocks : ItemC
 pub record IsSnapshotOf (s : Streams) (r : EventId) (snapshot : ReleaseClock) : Type 0 where
   pub word : word_at s r ≡ Some snapshot.word
   pub shape : sizes_of snapshot.clock ≡ s.sizes
-  pub counts : CountsJust snapshot.clock (IsSeen s (memory_of snapshot.word) r)
+  pub counts : CountsJust snapshot.clock (Sees s (memory_of snapshot.word) r)
 
 abbrev pub IsSnapshotBy : Streams → EventId → Option ReleaseClock → Type 0
 IsSnapshotBy s r None = ⊥

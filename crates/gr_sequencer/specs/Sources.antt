@@ -5,7 +5,7 @@ use Rattle.gr_model.specs.declared.event.EventId.{EventId}
 use Rattle.gr_model.specs.declared.event.Name.{Name}
 use Rattle.gr_model.specs.declared.event.Space.{Space}
 use Rattle.gr_model.specs.Access.{memory_of}
-use Rattle.gr_model.specs.Counts.{IsSeen}
+use Rattle.gr_model.specs.Counts.{Sees}
 use Rattle.gr_model.specs.HappensBefore.{IsInclusive}
 use Rattle.gr_model.specs.Names.{MatchesBy}
 use Rattle.gr_model.specs.Streams.{Streams, word_at}
@@ -19,7 +19,7 @@ pub record LearnsBy (s : Streams) (m : Space) (e : EventId) (n : Name) (d : Even
   pub release : EventId
   pub by : MatchesBy s n e release
   pub inclusive : IsInclusive s m release e
-  pub seen : IsSeen s m release d
+  pub seen : Sees s m release d
 
 -- the event learns nothing from the release of this name
 abbrev pub LearnsNothing : Streams → EventId → Name → Type 0

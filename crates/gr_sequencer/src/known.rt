@@ -6,7 +6,7 @@ ghost use Rattle.gr_model.specs.Access as model;
 ghost use Rattle.gr_model.specs.Barriers.{IsConvergent};
 ghost use Rattle.gr_model.specs.Instances.{Mark};
 ghost use Rattle.gr_model.specs.Streams.{event_at, word_at};
-ghost use Rattle.gr_model.specs.Counts.{IsSeen};
+ghost use Rattle.gr_model.specs.Counts.{Sees};
 ghost use Rattle.gr_clocks.specs.Counts.{sizes_of};
 ghost use Rattle.gr_clocks.specs.ItemClocks.{IsGroupSpent, MeetsClocks};
 ghost use Rattle.gr_closure.specs.Accesses.{CountsJust, IsAccessOf};
@@ -124,7 +124,7 @@ impl<A: Allocator> Known<A> {
         requires there { event_at order.now.taken event ≡ Some taken.now }
         requires word { word_at order.now.taken event ≡ Some word }
         ensures shape { IfOk result (λ c. sizes_of c ≡ order.now.taken.sizes) }
-        ensures counts { IfOk result (λ c. CountsJust c (IsSeen order.now.taken (model.memory_of word) event)) }
+        ensures counts { IfOk result (λ c. CountsJust c (Sees order.now.taken (model.memory_of word) event)) }
     {
         let mut clock = self.known_or_learned(order, event, taken, word)?;
         match clock.tick(event.at) {

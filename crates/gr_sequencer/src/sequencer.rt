@@ -6,7 +6,7 @@
 ghost use Rattle.std.specs.Prelude.{◌≡◌, ◌↔◌, ◌+◌, ◌<◌, ℕ, IsTrue, IfOk, IfErr, OnOk, OnErr, MatchOption, length};
 ghost use Rattle.gr_model.specs.declared.limits.TheConstants.{MOST_RECORDS};
 ghost use Rattle.gr_model.specs.Streams.{AreComplete, list_of};
-ghost use Rattle.gr_model.specs.Reports.{Lists, DivergenceBelow, IsDivergence, IsCut, IsHeld, IsUnmatchedAcquire, UnmatchedBelow};
+ghost use Rattle.gr_model.specs.Reports.{Lists, DivergenceBelow, IsDivergence, IsCut, IsHeld, IsUnmatchedEntry, UnmatchedBelow};
 ghost use Rattle.gr_lanes.specs.Takes.{CanTake, IsEventButItem, IsTakeFault};
 ghost use Rattle.gr_steps.specs.Steps.{IsAtRest, IsReady};
 ghost use Rattle.gr_order.specs.Sequences.{CanStep, IsDone, IsSequence, event_count, nothing, taking};
@@ -93,7 +93,7 @@ impl<A: Allocator + Copy> Sequencer<A> {
     /// `Memory`: out of memory.
     pub fn unmatched(&self) -> Result<Vec<Unmatched, A>, Memory>
         requires rest { IsAtRest self.now.taken self.now.handled }
-        ensures { IfOk result (λ v. Lists UnmatchedBelow (IsUnmatchedAcquire self.now.taken) v.items) }
+        ensures { IfOk result (λ v. Lists UnmatchedBelow (IsUnmatchedEntry self.now.taken) v.items) }
     {
         let order = self.agenda.order();
         acquires::unmatched(self.alloc, order.lanes(), order.frontier(), order.windows())
@@ -148,7 +148,7 @@ impl<A: Allocator> Sequencer<A> {
         let access = self.known.access_of(order, event, &taken)?;
         self.known.keep(order, event, &taken, &access)?;
         self.known.advance(order, event, &taken)?;
-        self.agenda.add(event);
+        self.agenda.handle_event(event);
         Ok(Handled::One { event, access })
     }
 
@@ -192,7 +192,7 @@ impl<A: Allocator> Sequencer<A> {
             Some(instance) => instance,
         };
         self.known.meet(order, group, instance)?;
-        self.agenda.pass(group);
+        self.agenda.meet_instance(group);
         Ok(Handled::Meet { group, instance })
     }
 

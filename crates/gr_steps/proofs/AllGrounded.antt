@@ -10,9 +10,9 @@ use Rattle.gr_model.specs.Barriers.{IsConvergent, IsDivergent, StandsIn, Togethe
 use Rattle.gr_model.specs.Instances.{Mark}
 use Rattle.gr_model.specs.LawfulOrders.{IsIn}
 use Rattle.gr_model.specs.Names.{HasName}
-use Rattle.gr_model.specs.Reports.{IsUnmatched}
+use Rattle.gr_model.specs.Reports.{IsUnmatchedAcquire}
 use Rattle.gr_model.specs.Streams.{AreComplete, IsEvent, Streams, trace_of}
-use Rattle.gr_model.specs.Waits.{CanGo, IsGrounded, IsPrevious, Stage, Waits, for_arrival, for_meeting, for_previous, for_release}
+use Rattle.gr_model.specs.Waits.{IsSettled, IsGrounded, IsPrevious, Stage, Waits, for_arrival, for_meeting, for_previous, for_release}
 use Rattle.gr_model.proofs.Descent.{below_in_item, stage_descends}
 use Rattle.gr_model.proofs.GrowthLaws.{not_both}
 use Rattle.gr_steps.proofs.BarrierPlaces.{barrier_there, moved, same_instance, standing, stands_before, stands_same}
@@ -39,7 +39,7 @@ record StandsConvergent (s : Streams) (e : EventId) : Type 0 where
   stands : StandsIn s e group instance
   convergent : IsConvergent s group instance mark
 
-module _ (s : Streams) (complete : AreComplete s) (matched : (e : EventId) → ¬ IsUnmatched s e) (n : ℕ) (all : List EventId) (is : IsClosed s n all) where
+module _ (s : Streams) (complete : AreComplete s) (matched : (e : EventId) → ¬ IsUnmatchedAcquire s e) (n : ℕ) (all : List EventId) (is : IsClosed s n all) where
   -- all before an event in its item are grounded
   abbrev IsPassed : EventId → Type 0
   IsPassed e = (i : ℕ) → i < e.index → IsIn all (event_of e.at i)
@@ -66,7 +66,7 @@ module _ (s : Streams) (complete : AreComplete s) (matched : (e : EventId) → �
   comes : (e : EventId) → IsEvent s e → IsPassed e → ((a : Mark) (b d : EventId) → Together s a e b → IsPrevious d b → IsIn all d) → ((a : Mark) (c d : EventId) → IsPrevious c e → Together s a c d → IsIn all d) → IsIn all e
   comes e there passed arrival meeting = by_cases (in_dec all e) (λ h. h) (λ away. is.closed e there (go away) (waits away))
     where
-      go : (IsIn all e → ⊥) → CanGo s e
+      go : (IsIn all e → ⊥) → IsSettled s e
       go away = record { release = λ m named. absurd (no_name e there passed away m named); instance = settled s complete e }
 
       waits : (IsIn all e → ⊥) → (d : EventId) → Waits s e d → IsIn all d
@@ -169,7 +169,7 @@ module _ (s : Streams) (complete : AreComplete s) (matched : (e : EventId) → �
       no_first : (f : EventId) → IsEvent s f → IsPassed f → (IsIn all f → ⊥) → ⊥
       no_first f event passed away = let held = first_held f event passed away in none_held (suc held.instance) f held (omega arith) passed away
 
-pub all_is_grounded : (s : Streams) → AreComplete s → ((e : EventId) → ¬ IsUnmatched s e) → (e : EventId) → IsEvent s e → IsGrounded s e
+pub all_is_grounded : (s : Streams) → AreComplete s → ((e : EventId) → ¬ IsUnmatchedAcquire s e) → (e : EventId) → IsEvent s e → IsGrounded s e
 all_is_grounded s complete matched e there =
     let all = reached s complete in
     (all.0, all.2.stage e (every_event s complete matched all.0 all.1 all.2 e there))

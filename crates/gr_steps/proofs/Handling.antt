@@ -6,7 +6,7 @@ use Rattle.gr_model.specs.Barriers.{StandsIn, Together}
 use Rattle.gr_model.specs.Instances.{Mark}
 use Rattle.gr_model.specs.LawfulOrders.{IsAt, IsLawful}
 use Rattle.gr_model.specs.Streams.{IsEvent, Streams}
-use Rattle.gr_model.specs.Waits.{CanGo, Waits}
+use Rattle.gr_model.specs.Waits.{IsSettled, Waits}
 use Rattle.gr_model.proofs.GrowthLaws.{not_both}
 use Rattle.gr_model.proofs.Places.{slice_get-append}
 use Rattle.gr_steps.specs.Steps.{IsReady}
@@ -24,9 +24,9 @@ module _ (s : Streams) (order : List EventId) (lawful : IsLawful s order) (e : E
       last zero place at = (omega arith, let same : Some e ≡ Some x = at in cc)
       last (suc i) place at = cc
 
-  event_more : (p : ℕ) (x : EventId) → IsEither p x → IsEvent s x × CanGo s x
+  event_more : (p : ℕ) (x : EventId) → IsEither p x → IsEvent s x × IsSettled s x
   event_more p x (inl at) = lawful.event p x at
-  event_more p x (inr h) = subst (λ y. IsEvent s y × CanGo s y) (sym h.1) (ready.event, record { release = ready.release; instance = λ g k stands. inr (ready.instance g k stands) })
+  event_more p x (inr h) = subst (λ y. IsEvent s y × IsSettled s y) (sym h.1) (ready.event, record { release = ready.release; instance = λ g k stands. inr (ready.instance g k stands) })
 
   once_more : (p q : ℕ) (x : EventId) → IsEither p x → IsEither q x → p ≡ q
   once_more p q x (inl a) (inl b) = lawful.once p q x a b

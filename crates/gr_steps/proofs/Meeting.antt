@@ -8,7 +8,7 @@ use Rattle.gr_model.specs.Instances.{Mark}
 use Rattle.gr_model.specs.LawfulOrders.{IsAt, IsIn, IsLawful}
 use Rattle.gr_model.specs.Names.{HasName, names_of}
 use Rattle.gr_model.specs.Streams.{ArePrefixes, IsEvent, Streams}
-use Rattle.gr_model.specs.Waits.{CanGo, IsPrevious, Waits, for_arrival, for_meeting, for_previous, for_release}
+use Rattle.gr_model.specs.Waits.{IsSettled, IsPrevious, Waits, for_arrival, for_meeting, for_previous, for_release}
 use Rattle.gr_model.proofs.Places.{slice_get-append}
 use Rattle.gr_model.proofs.Cuts.{same_event}
 use Rattle.gr_steps.specs.Steps.{AreBarriers, HasMet, IsMeeting}
@@ -26,7 +26,7 @@ module _ (s : Streams) (prefixes : ArePrefixes s) (order : List EventId) (lawful
       let there = barrier_there s x g k stands in
       barriers_name_nothing s prefixes x there.0 n there.1 there.2 (subst (λ names. Contains names n) (ap names_of there.1) named)
 
-  met_event : (p : ℕ) (x : EventId) → IsOneOf p x → IsEvent s x × CanGo s x
+  met_event : (p : ℕ) (x : EventId) → IsOneOf p x → IsEvent s x × IsSettled s x
   met_event p x (inl at) = lawful.event p x at
   met_event p x (inr h) =
       let stands = (are.each h.0 x h.2).1 in

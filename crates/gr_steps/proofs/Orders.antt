@@ -3,7 +3,7 @@ use Rattle.std.proofs.Common.{◌≡◌, ◌⊎◌, ℕ, zero, suc, ◌+◌, ◌
 use Rattle.gr_model.specs.declared.event.EventId.{EventId}
 use Rattle.gr_model.specs.LawfulOrders.{IsAt, IsIn, IsLawful}
 use Rattle.gr_model.specs.Streams.{IsEvent, Streams}
-use Rattle.gr_model.specs.Waits.{CanGo}
+use Rattle.gr_model.specs.Waits.{IsSettled}
 use Rattle.gr_model.proofs.Descent.{below_in_item, lawful_descends}
 
 -- ---- lists
@@ -63,5 +63,5 @@ lawful_empty s = record {
     none : (p : ℕ) (e : EventId) → IsAt [] p e → ⊥
     none p e at = let n : None ≡ Some e = at in cc
 
-    nothing : (p : ℕ) (e : EventId) → IsAt [] p e → IsEvent s e × CanGo s e
+    nothing : (p : ℕ) (e : EventId) → IsAt [] p e → IsEvent s e × IsSettled s e
     nothing p e at = absurd (none p e at)

@@ -8,7 +8,7 @@ use Rattle.gr_model.specs.declared.event.EventId.{EventId}
 use Rattle.gr_model.specs.Events.{is_end}
 use Rattle.gr_model.specs.LawfulOrders.{IsIn}
 use Rattle.gr_model.specs.Streams.{AreComplete, IsEvent, Streams, event_at, is_of, list_of, trace_of}
-use Rattle.gr_model.specs.Waits.{CanGo, IsGrounded, Stage, Waits}
+use Rattle.gr_model.specs.Waits.{IsSettled, IsGrounded, Stage, Waits}
 use Rattle.gr_model.proofs.Descent.{stage_up}
 use Rattle.gr_model.proofs.Places.{slice_get-append}
 use Rattle.gr_steps.proofs.DecidedWaits.{releases_dec, settled, waits_dec}
@@ -19,13 +19,13 @@ use Rattle.gr_steps.proofs.Orders.{at_behind, in_cases}
 -- an event that can go and whose waits are all in a list
 record IsNext (s : Streams) (reached : List EventId) (e : EventId) : Type 0 where
   event : IsEvent s e
-  go : CanGo s e
+  go : IsSettled s e
   waits : (d : EventId) → Waits s e d → IsIn reached d
 
 -- a list of events of one stage that has every event that could come to it
 pub record IsClosed (s : Streams) (n : ℕ) (reached : List EventId) : Type 0 where
   pub stage : (e : EventId) → IsIn reached e → Stage s n e
-  pub closed : (e : EventId) → IsEvent s e → CanGo s e → ((d : EventId) → Waits s e d → IsIn reached d) → IsIn reached e
+  pub closed : (e : EventId) → IsEvent s e → IsSettled s e → ((d : EventId) → Waits s e d → IsIn reached d) → IsIn reached e
 
 -- of candidates one that comes next, and the others; or none comes next
 abbrev IsTaken : Streams → List EventId → List EventId → Type 0

@@ -5,7 +5,7 @@ use Rattle.gr_model.specs.Barriers.{IsConvergent, IsDivergent, StandsIn}
 use Rattle.gr_model.specs.Instances.{Mark}
 use Rattle.gr_model.specs.LawfulOrders.{IsIn, IsLawful}
 use Rattle.gr_model.specs.Streams.{IsEvent, Streams}
-use Rattle.gr_model.specs.Waits.{CanGo, Stage, Waits, for_arrival}
+use Rattle.gr_model.specs.Waits.{IsSettled, Stage, Waits, for_arrival}
 use Rattle.gr_model.proofs.Descent.{lawful_is_grounded}
 use Rattle.gr_steps.specs.Steps.{AreGrounded, IsAtRest}
 use Rattle.gr_steps.proofs.BarrierPlaces.{same_instance, standing}
@@ -14,7 +14,7 @@ use Rattle.gr_steps.proofs.Meeting.{meeting_of}
 
 module _ (s : Streams) (order : List EventId) (lawful : IsLawful s order) (rest : IsAtRest s order) where
   -- an event that is not handled still waits for something
-  stuck : (e : EventId) → IsEvent s e → CanGo s e → ((d : EventId) → Waits s e d → IsIn order d) → (IsIn order e → ⊥) → ⊥
+  stuck : (e : EventId) → IsEvent s e → IsSettled s e → ((d : EventId) → Waits s e d → IsIn order d) → (IsIn order e → ⊥) → ⊥
   stuck e there go waits away =
       by_cases (standing s e)
       (λ h. ⊎_elim (λ c. meet h.0 h.1 c.0 h.2 c.1) (λ d. handle (divergent h.0 h.1 h.2 d)) (go.instance h.0 h.1 h.2))

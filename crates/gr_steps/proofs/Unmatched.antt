@@ -5,7 +5,7 @@ use Rattle.gr_model.specs.declared.event.Name.{Name}
 use Rattle.gr_model.specs.declared.report.AcquireCause.{AcquireCause}
 use Rattle.gr_model.specs.declared.report.AcquireCause.TheVariants.{Absent, Behind, OtherWord}
 use Rattle.gr_model.specs.Names.{HasAcquireCause, HasName, IsAbsent, IsOfItsWord, IsOfOtherWord, names_at, release_place}
-use Rattle.gr_model.specs.Reports.{IsReportButRaces, IsUnmatched, WholeReport}
+use Rattle.gr_model.specs.Reports.{IsReportButRaces, IsUnmatchedAcquire, WholeReport}
 use Rattle.gr_model.specs.Streams.{Streams, word_at}
 use Rattle.gr_steps.proofs.Deciding.{all_or_some, by_cases, option_dec, word_dec}
 
@@ -38,7 +38,7 @@ has_cause s e =
     of_word n there =
         by_cases (option_dec word_dec (word_at s (record { at = n.at; index = there.0 })) (word_at s e)) (λ same. inl (there.0, there.1, same)) (λ other. inr (there.0, there.1, other))
 
-pub none_unmatched : (s : Streams) (r : WholeReport) → IsReportButRaces s r → r.unmatched ≡ [] → (e : EventId) → ¬ IsUnmatched s e
+pub none_unmatched : (s : Streams) (r : WholeReport) → IsReportButRaces s r → r.unmatched ≡ [] → (e : EventId) → ¬ IsUnmatchedAcquire s e
 none_unmatched s r report none e unmatched =
     let cause = has_cause s e in
     let listed = (report.unmatched.exact (record { event = e; cause = cause.0 })).1 (record { unmatched = unmatched; cause = cause.1 }) in

@@ -9,7 +9,7 @@ use Rattle.gr_model.specs.Streams.{Streams, ArePrefixes, AreComplete, Grows, IsE
 use Rattle.gr_model.specs.Waits.{IsGrounded}
 use Rattle.gr_model.specs.LawfulOrders.{IsLawful, IsIn}
 use Rattle.gr_model.specs.Races.{IsRacy}
-use Rattle.gr_model.specs.Reports.{IsHeld, IsUnmatched, WholeReport, IsReportButRaces}
+use Rattle.gr_model.specs.Reports.{IsHeld, IsUnmatchedAcquire, WholeReport, IsReportButRaces}
 use Rattle.gr_steps.specs.Steps.{IsReady, Handles, Meets, IsAtRest, AreGrounded, AreFirst}
 
 -- an event that may be handled is the next of its item: the handled ones are those before it
@@ -46,7 +46,7 @@ HeldAtRest = (s : Streams) (order : List EventId) (c : ItemId → ℕ) → IsLaw
 
 -- no acquire is unmatched
 abbrev pub NoneIsUnmatched : Streams → Type 0
-NoneIsUnmatched s = (e : EventId) → ¬ IsUnmatched s e
+NoneIsUnmatched s = (e : EventId) → ¬ IsUnmatchedAcquire s e
 
 -- in complete lists each event is grounded or is not
 abbrev pub GroundedIsDecided : Type 0

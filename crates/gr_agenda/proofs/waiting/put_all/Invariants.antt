@@ -5,4 +5,4 @@ use Rattle.gr_agenda.specs.Lists.{Has, KeepsSteps}
 use Rattle.gr_agenda.proofs.waiting.put_all.Given as goal
 
 abbrev pub invariant-loop-item : goal.invariant-loop-item
-invariant-loop-item g l = ((p : ℕ) (i : ItemId) → p < l.item-index → slice_get l.list p ≡ Some i → Has l.todo (Item i)) × KeepsSteps l.fn.todo l.todo
+invariant-loop-item g l = ((p : ℕ) (i : ItemId) → p < l.item-index → slice_get l.list p ≡ Some i → Has l.worklist (Item i)) × KeepsSteps l.fn.worklist l.worklist

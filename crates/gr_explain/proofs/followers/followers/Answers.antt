@@ -1,7 +1,7 @@
 use Rattle.std.proofs.Common.{◌≡◌, ◌∙◌, ap, get_or, inl, sym, true≢false, ⊎_elim}
 use Rattle.std.proofs.lemmas.Option.{slice_get-get_or}
 use Rattle.gr_model.specs.declared.event.EventId.{EventId}
-use Rattle.gr_model.specs.Counts.{IsSeen}
+use Rattle.gr_model.specs.Counts.{Sees}
 use Rattle.gr_model.specs.LawfulOrders.{IsAt}
 use Rattle.gr_explain.specs.Edges.{IsReached, same_event}
 use Rattle.gr_explain.proofs.FollowerLemmas.{more_followers, no_followers, previous_is_there, same_followers, sees_reached, reached_sees}
@@ -41,7 +41,7 @@ loop-event-preserved g c =
     let are = c.loop-event.invariant.followers in
     elim c.if-eq.branch [
       | then-eq+in_ok-add w ↦
-          let seen : IsSeen s m f e = elim w.then-eq.branch [
+          let seen : Sees s m f e = elim w.then-eq.branch [
             | then-eq-via-then-eq v ↦ inl (sym (event_from_equal f e (sym c.eq.ensures ∙ v.if-eq.true)))
             | then-eq-via-else-eq+then-is_reached v ↦ reached_sees s m order c.requires.lawful e n f at events are (v.is_reached.ensures.0 v.if-is_reached.true)
           ] in

@@ -9,7 +9,7 @@ use Rattle.gr_explain.proofs.listing.make.Goals as goal
 pub returns-in_ok-list_instance-in-Some-meeting-clause-listed : goal.returns-in_ok-list_instance-in-Some-meeting-clause-listed
 returns-in_ok-list_instance-in-Some-meeting-clause-listed g c =
     let meeting = c.in-Some-meeting.ensures.meeting in
-    let met = c.pass.ensures.step c.in-Some-meeting.instance meeting.0 meeting.1 in
+    let met = c.meet_instance.ensures.step c.in-Some-meeting.instance meeting.0 meeting.1 in
     let bs = c.in_ok-list_instance-in-Some-meeting.ensures in
     let s = c.args.order.now.taken in
     let are = subst (λ (t : Streams). AreBarriers t c.in-Group.group c.in-Some-meeting.instance bs.0) c.lanes.ensures.taken bs.1 in
@@ -19,11 +19,11 @@ returns-in_ok-list_instance-in-Some-meeting-clause-listed g c =
 pub returns-in_ok-list_instance-in-Some-meeting-clause-taken : goal.returns-in_ok-list_instance-in-Some-meeting-clause-taken
 returns-in_ok-list_instance-in-Some-meeting-clause-taken g c =
     let meeting = c.in-Some-meeting.ensures.meeting in
-    (c.pass.ensures.step c.in-Some-meeting.instance meeting.0 meeting.1).taken
+    (c.meet_instance.ensures.step c.in-Some-meeting.instance meeting.0 meeting.1).taken
 
 pub returns-in_ok-list_instance-in-Some-meeting-clause-more : goal.returns-in_ok-list_instance-in-Some-meeting-clause-more
 returns-in_ok-list_instance-in-Some-meeting-clause-more g c =
     let meeting = c.in-Some-meeting.ensures.meeting in
-    let met = c.pass.ensures.step c.in-Some-meeting.instance meeting.0 meeting.1 in
+    let met = c.meet_instance.ensures.step c.in-Some-meeting.instance meeting.0 meeting.1 in
     let some : 0 < length met.meets.barriers = omega (arith, met.meets.are.count, met.meets.meeting.convergent.0) in
     omega (arith, ap length met.meets.order, length-append c.args.order.now.handled met.meets.barriers, some)

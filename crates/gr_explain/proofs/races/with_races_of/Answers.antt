@@ -7,7 +7,7 @@ use Rattle.gr_explain.proofs.PairOrder.{least_more, least_same}
 use Rattle.gr_explain.proofs.Sets.{no_id}
 use Rattle.gr_explain.proofs.Searching.{began_place, begin_place, end_place, ended_place, found_or_new, new_found, no_more, still_found}
 use Rattle.gr_explain.proofs.races.with_races_of.Goals as goal
-use Rattle.gr_explain.proofs.races.with_races_of.Goals.{then-are_conflicting+then-not-contains, else-are_conflicting, else-are_conflicting-via-then-are_conflicting+else-not-contains, else-are_conflicting-via-else-are_conflicting}
+use Rattle.gr_explain.proofs.races.with_races_of.Goals.{then-may_race+then-not-contains, else-may_race, else-may_race-via-then-may_race+else-not-contains, else-may_race-via-else-may_race}
 
 pub loop-other-init : goal.loop-other-init
 loop-other-init g c =
@@ -44,23 +44,23 @@ loop-other-preserved g c =
     let at_q : IsAt order q f = slice_get-get_or order q no_id c.loop-other-test.true in
     let keys = c.args.followers.now.events.keys in
     let are = c.requires.followers e at_p in
-    elim c.if-are_conflicting.branch [
-      | then-are_conflicting+then-not-contains w ↦
-          let conflict = c.are_conflicting.ensures.0 w.if-are_conflicting.true in
+    elim c.if-may_race.branch [
+      | then-may_race+then-not-contains w ↦
+          let may_race = c.may_race.ensures.0 w.if-may_race.true in
           let x = w.turned.result in
-          let below = w.turned.ensures.below (λ same. conflict.others (ap (λ d. d.at) same)) in
+          let below = w.turned.ensures.below (λ same. may_race.others (ap (λ d. d.at) same)) in
           let new = new_found s word order lawful p q forwards e f at_p at_q keys are x w.turned.ensures.same below
-          (lawful_is_grounded s order e lawful (p, at_p)) (lawful_is_grounded s order f lawful (q, at_q)) conflict (λ has. true≢false (sym has ∙ (sym w.contains.ensures ∙ w.if-not-contains.true))) in
+          (lawful_is_grounded s order e lawful (p, at_p)) (lawful_is_grounded s order f lawful (q, at_q)) may_race (λ has. true≢false (sym has ∙ (sym w.contains.ensures ∙ w.if-not-contains.true))) in
           rw w.least-is
           (least_more (IsFound s word order p q) (IsFound s word order p (q + 1)) c.loop-other.least x w.lesser.result
           (still_found s word order lawful p q forwards e f at_p at_q) (found_or_new s word order lawful p q forwards e f at_p at_q keys are x w.turned.ensures.same below) new w.lesser.ensures c.loop-other.invariant)
-      | else-are_conflicting w ↦
+      | else-may_race w ↦
           rw w.least-is
           (least_same (IsFound s word order p q) (IsFound s word order p (q + 1)) c.loop-other.least
           (still_found s word order lawful p q forwards e f at_p at_q)
-          (no_more s word order lawful p q forwards e f at_p at_q keys are (λ h. elim w.else-are_conflicting.branch [
-            | else-are_conflicting-via-then-are_conflicting+else-not-contains v ↦ h.1 (sym v.contains.ensures ∙ v.if-not-contains.false)
-            | else-are_conflicting-via-else-are_conflicting v ↦ true≢false (sym (c.are_conflicting.ensures.1 h.0) ∙ v.if-are_conflicting.false)
+          (no_more s word order lawful p q forwards e f at_p at_q keys are (λ h. elim w.else-may_race.branch [
+            | else-may_race-via-then-may_race+else-not-contains v ↦ h.1 (sym v.contains.ensures ∙ v.if-not-contains.false)
+            | else-may_race-via-else-may_race v ↦ true≢false (sym (c.may_race.ensures.1 h.0) ∙ v.if-may_race.false)
           ]))
           c.loop-other.invariant)
     ]

@@ -3,13 +3,13 @@ use Rattle.gr_model.specs.declared.event.EventId.{EventId}
 use Rattle.gr_model.specs.declared.event.Word.{Word}
 use Rattle.gr_model.specs.Hits.{SomePair}
 use Rattle.gr_model.specs.LawfulOrders.{IsLawful, IsIn}
-use Rattle.gr_model.specs.Races.{Clashes, IsRacy}
+use Rattle.gr_model.specs.Races.{RacesInOrder, IsRacy}
 use Rattle.gr_model.specs.Streams.{Streams}
 use Rattle.gr_model.proofs.Descent.{lawful_is_grounded}
 use Rattle.gr_model.proofs.HitsAreRaces.{hit_is_race, race_is_hit}
 use Rattle.gr_model.proofs.laws.hits_are_races.Goals as goal
 
-hits_are_races : (s : Streams) (order : List EventId) (w : Word) → IsLawful s order → SomePair (Clashes s w) order ↔ IsRacy s (IsIn order) w
+hits_are_races : (s : Streams) (order : List EventId) (w : Word) → IsLawful s order → SomePair (RacesInOrder s w) order ↔ IsRacy s (IsIn order) w
 hits_are_races s order w lawful = (hit_is_race s order w lawful, race_is_hit s order w)
 
 pub returns-clause-within : goal.returns-clause-within

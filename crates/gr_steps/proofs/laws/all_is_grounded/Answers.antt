@@ -26,8 +26,8 @@ is_event s e g = stage_event_of s g.0 e g.1
 
 pub returns-clause-races : goal.returns-clause-races
 returns-clause-races c s w complete matched =
-    let first = λ (e f : EventId) (r : IsRace s w e f). all_is_grounded s complete matched e (r.conflict.first, r.conflict.at_first) in
-    let second = λ (e f : EventId) (r : IsRace s w e f). all_is_grounded s complete matched f (r.conflict.second, r.conflict.at_second) in (
+    let first = λ (e f : EventId) (r : IsRace s w e f). all_is_grounded s complete matched e (r.may_race.first, r.may_race.at_first) in
+    let second = λ (e f : EventId) (r : IsRace s w e f). all_is_grounded s complete matched f (r.may_race.second, r.may_race.at_second) in (
       λ h. (h.0, h.1, is_event s h.0 h.2, is_event s h.1 h.3, h.4),
       λ h. (h.0, h.1, first h.0 h.1 h.4, second h.0 h.1 h.4, h.4),
     )

@@ -5,6 +5,6 @@ use Rattle.gr_agenda.proofs.agenda.Agenda.new.Goals as goal
 
 pub invariant_of-result : goal.invariant_of-result
 invariant_of-result g c = (
-  kept_nothing c.args.shape c.in_ok-order.order c.in_ok-order.ensures c.in_ok-todo.todo c.in_ok-waiting.waiting.items,
+  kept_nothing c.args.shape c.in_ok-order.order c.in_ok-order.ensures c.in_ok-worklist.worklist c.in_ok-waiting.waiting.items,
   undiverged_none c.in_ok-order.order.taken c.resize.new.self.items 64 (omega (arith, c.resize.new.self.ok.0, c.in_ok-resize.ensures.len)) (λ h o lt. c.in_ok-resize.ensures.by_index.1 h o refl (omega (arith, c.in_ok-undiverged.ensures.len)) lt),
 )

@@ -8,7 +8,7 @@ use Rattle.gr_agenda.proofs.agenda.Agenda.try_last.Goals as goal
 pub invariant_of-self : goal.invariant_of-self
 invariant_of-self g c =
     let q = c.self.inside.order in
-    let t = c.self.inside.todo in
+    let t = c.self.inside.worklist in
     let step = c.in-Some.step in (
       kept_looked q t c.drop_last.new.self c.self.inside.waiting.items c.note.new.lists.items step c.self.invariant.0
           (λ can. true≢false (sym (c.can_make.ensures.1 (subst (λ p. CanMake p step) c.self.view_is can)) ∙ c.if-can_make.false))

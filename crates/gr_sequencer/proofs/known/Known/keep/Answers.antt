@@ -1,6 +1,6 @@
 use Rattle.std.proofs.Common.{sym, ap, ◌∙◌, subst}
 use Rattle.gr_model.specs.Access.{memory_of}
-use Rattle.gr_model.specs.Counts.{IsSeen}
+use Rattle.gr_model.specs.Counts.{Sees}
 use Rattle.gr_clocks.specs.Counts.{sizes_of}
 use Rattle.gr_clocks.specs.ItemClocks.{ReleaseClock}
 use Rattle.gr_closure.specs.Accesses.{CountsJust, IsAccessOf}
@@ -20,7 +20,7 @@ returns-in_ok-insert-in-Some-Some-clause-kept g c releases =
     let snapshots : IsSnapshotOf s e plain = record {
       word = is.word;
       shape = ap sizes_of same ∙ is.shape;
-      counts = subst (λ k. CountsJust k (IsSeen s (memory_of a.word) e)) (sym same) is.counts;
+      counts = subst (λ k. CountsJust k (Sees s (memory_of a.word) e)) (sym same) is.counts;
     } in
     let here = kept_here c.self.inside.snapshots.entries c.insert.new.self.entries e entry c.in_ok-insert-in-Some-Some.ensures.updates.0 in
     subst (IsSnapshotBy s e) (sym here) (subst (IsSnapshotOf s e) (sym c.new-snapshot.ensures) snapshots)

@@ -50,5 +50,5 @@ invariant_of-self-2 g c =
     let same : x ≡ c.in-Some.taken = let both : Some x ≡ Some c.in-Some.taken = sym at ∙ there in cc in
     c.in_ok-keep.ensures.kept (subst (λ y. IsTrue (is_release y)) same releases) in
     let snapshots = subst (AreSnapshots s longer) (sym c.advance.ensures.snapshots) (snapshots_longer s q.handled known e next kept.snapshots c.keep.ensures.others own) in
-    let step = subst {A = Sequence} (λ p. HandlesEvent p e c.add.new.self) (sym c.order-order.ensures.order) c.add.ensures.step in
-    subst (λ t. IsKnown t c.add.new.self.handled now) (sym step.taken) (subst (λ l. IsKnown s l now) (sym step.handles.order) (record { clocks = c.in_ok-advance.ensures.clocks; snapshots = snapshots }))
+    let step = subst {A = Sequence} (λ p. HandlesEvent p e c.handle_event.new.self) (sym c.order-order.ensures.order) c.handle_event.ensures.step in
+    subst (λ t. IsKnown t c.handle_event.new.self.handled now) (sym step.taken) (subst (λ l. IsKnown s l now) (sym step.handles.order) (record { clocks = c.in_ok-advance.ensures.clocks; snapshots = snapshots }))

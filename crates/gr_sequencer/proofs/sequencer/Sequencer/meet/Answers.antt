@@ -15,11 +15,11 @@ pub invariant_of-self-2 : goal.invariant_of-self-2
 invariant_of-self-2 g c =
     let q = c.order-order.result.now in
     let known = c.self.inside.known in
-    let new = c.pass.new.self in
+    let new = c.meet_instance.new.self in
     let k = c.in-Some.instance in
     let known_is = subst {A = Sequence} (λ p. IsKnown p.taken p.handled c.self.inside.known) (sym c.order-order.ensures.order) c.self.invariant in
     let can = c.in-Some.ensures.meeting in
-    let step = subst {A = Sequence} (λ p. MeetsNext p c.args.group c.pass.new.self) (sym c.order-order.ensures.order) c.pass.ensures.step k can.0 can.1 in
+    let step = subst {A = Sequence} (λ p. MeetsNext p c.args.group c.meet_instance.new.self) (sym c.order-order.ensures.order) c.meet_instance.ensures.step k can.0 can.1 in
     let met = step.meets in
     let prefixes = c.in-Some.ensures.sequence.prefixes in
     let lawful = c.in-Some.ensures.sequence.lawful in
@@ -31,5 +31,5 @@ invariant_of-self-2 g c =
 pub returns-clause-step : goal.returns-clause-step
 returns-clause-step g c =
     let can = c.in-Some.ensures.meeting in
-    let step = subst {A = Sequence} (λ p. MeetsNext p c.args.group c.pass.new.self) (sym c.order-order.ensures.order) c.pass.ensures.step in
-    subst {A = Sequence} (λ q. MeetsInstance q c.args.group c.in-Some.instance c.pass.new.self) (c.order-order.ensures.order ∙ c.self.view_is) (step c.in-Some.instance can.0 can.1)
+    let step = subst {A = Sequence} (λ p. MeetsNext p c.args.group c.meet_instance.new.self) (sym c.order-order.ensures.order) c.meet_instance.ensures.step in
+    subst {A = Sequence} (λ q. MeetsInstance q c.args.group c.in-Some.instance c.meet_instance.new.self) (c.order-order.ensures.order ∙ c.self.view_is) (step c.in-Some.instance can.0 can.1)

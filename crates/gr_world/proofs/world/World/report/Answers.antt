@@ -1,5 +1,5 @@
 use Rattle.std.proofs.Common.{◌≡◌, ◌∙◌, ◌<◌, ℕ, ap, length, subst, sum, sym}
-use Rattle.gr_model.specs.Reports.{AreRaces, DivergenceBelow, IsCut, IsDivergence, IsHeld, IsUnmatchedAcquire, Lists, UnmatchedBelow, WordBelow}
+use Rattle.gr_model.specs.Reports.{AreRaces, DivergenceBelow, IsCut, IsDivergence, IsHeld, IsUnmatchedEntry, Lists, UnmatchedBelow, WordBelow}
 use Rattle.gr_model.specs.Streams.{Streams}
 use Rattle.gr_steps.proofs.Resting.{rest_grounded}
 use Rattle.gr_world.specs.Resting.{IsHitAtWork}
@@ -18,7 +18,7 @@ returns g c =
     record {
       rest = record {
         divergences = rw c.of-2.ensures (subst (λ (t : Streams). Lists DivergenceBelow (IsDivergence t) c.in_ok-divergences.divergences.items) s c.in_ok-divergences.ensures);
-        unmatched = rw c.of-3.ensures (subst (λ (t : Streams). Lists UnmatchedBelow (IsUnmatchedAcquire t) c.in_ok-unmatched.unmatched.items) s c.in_ok-unmatched.ensures);
+        unmatched = rw c.of-3.ensures (subst (λ (t : Streams). Lists UnmatchedBelow (IsUnmatchedEntry t) c.in_ok-unmatched.unmatched.items) s c.in_ok-unmatched.ensures);
         cut = rw c.of-4.ensures (subst (λ (t : Streams). Lists (λ (g h : ℕ). g < h) (IsCut t) c.in_ok-cut.cut.items) s c.in_ok-cut.ensures);
         held = subst (λ (t : Streams). IsHeld t c.held.result) s (c.held.ensures.held rest.rest);
         groups = c.groups.ensures.count ∙ (ap length c.shape.ensures.sizes ∙ ap (λ (t : Streams). length t.sizes) sent);

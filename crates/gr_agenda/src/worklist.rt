@@ -17,13 +17,13 @@ const PLACES: usize = 64 * 257;
 /// The steps that may have become ready, and whether memory was too short for one of them.
 #[derive(Drop)]
 #[derive_where(Debug)]
-pub(crate) struct Todo<A: Allocator = Global> {
+pub(crate) struct Worklist<A: Allocator = Global> {
     steps: Vec<Ready, A>,
     marks: Vec<bool, A>,
     short: bool,
 }
 
-impl<A: Allocator> Model for Todo<A> {
+impl<A: Allocator> Model for Worklist<A> {
     ghost use Rattle.gr_agenda.specs.Lists.{AreMarked, Steps};
 
     ghost Value = { Steps };
@@ -91,12 +91,12 @@ fn unmark<A: Allocator>(marks: &mut Vec<bool, A>, step: Ready)
     }
 }
 
-impl<A: Allocator + Copy> Todo<A> {
+impl<A: Allocator + Copy> Worklist<A> {
     /// The empty list.
-    pub(crate) fn new(alloc: A) -> Result<Todo<A>, Memory> {
+    pub(crate) fn new(alloc: A) -> Result<Worklist<A>, Memory> {
         let mut marks = Vec::with_capacity(alloc, PLACES)?;
         marks.resize(PLACES, false)?;
-        Ok(Todo {
+        Ok(Worklist {
             steps: Vec::new(alloc),
             marks,
             short: false,
@@ -104,7 +104,7 @@ impl<A: Allocator + Copy> Todo<A> {
     }
 }
 
-impl<A: Allocator> Todo<A> {
+impl<A: Allocator> Worklist<A> {
     /// How many steps stand in the list.
     pub(crate) fn len(&self) -> usize {
         self.steps.len()

@@ -4,8 +4,8 @@ use Rattle.gr_steps.specs.Steps.{CanMeet}
 use Rattle.gr_order.specs.Sequences.{Sequence}
 use Rattle.gr_order.proofs.PassLemmas.{Passing, barriers_are_held, below_largest, group_there, meets_behind, state_behind}
 use Rattle.gr_order.proofs.WaitLemmas.{group_is_kept, waits_behind}
-use Rattle.gr_order.proofs.order.Order.pass.Given as given
-use Rattle.gr_order.proofs.order.Order.pass.Goals as goal
+use Rattle.gr_order.proofs.order.Order.meet_instance.Given as given
+use Rattle.gr_order.proofs.order.Order.meet_instance.Goals as goal
 
 pub count_next_events-requires-clause-room : goal.count_next_events-requires-clause-room
 count_next_events-requires-clause-room g c =

@@ -1,7 +1,7 @@
 use Rattle.std.proofs.Common.{◌≡◌, Some, slice_get, true, inr, subst, sym}
 use Rattle.gr_agenda.specs.Lists.{Has}
 use Rattle.gr_agenda.proofs.ListLemmas.{has_last, has_more, marked_more}
-use Rattle.gr_agenda.proofs.todo.Todo.put.Goals as goal
+use Rattle.gr_agenda.proofs.worklist.Worklist.put.Goals as goal
 
 pub returns-then-is_marked-clause-there : goal.returns-then-is_marked-clause-there
 returns-then-is_marked-clause-there g c =

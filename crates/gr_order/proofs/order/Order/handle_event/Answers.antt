@@ -5,7 +5,7 @@ use Rattle.gr_order.specs.Sequences.{Sequence}
 use Rattle.gr_order.proofs.HeldLemmas.{ready_can_count, ready_is_held}
 use Rattle.gr_order.proofs.StateLemmas.{after_handle, item_there}
 use Rattle.gr_order.proofs.WaitLemmas.{waits_less}
-use Rattle.gr_order.proofs.order.Order.add.Goals as goal
+use Rattle.gr_order.proofs.order.Order.handle_event.Goals as goal
 
 pub raise-requires-clause-item : goal.raise-requires-clause-item
 raise-requires-clause-item g c =

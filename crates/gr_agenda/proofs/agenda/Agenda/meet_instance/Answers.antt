@@ -6,13 +6,13 @@ use Rattle.gr_steps.specs.Steps.{CanMeet, IsMeeting}
 use Rattle.gr_order.proofs.MeetLemmas.{no_group_meets}
 use Rattle.gr_agenda.specs.Kept.{AreUndiverged}
 use Rattle.gr_agenda.proofs.KeptLemmas.{kept_met}
-use Rattle.gr_agenda.proofs.agenda.Agenda.pass.Goals as goal
+use Rattle.gr_agenda.proofs.agenda.Agenda.meet_instance.Goals as goal
 
 pub items-requires : goal.items-requires
 items-requires g c =
     let q = c.self.inside.order in
     let can = subst {A = Sequence} (λ p. CanMeet p.taken p.handled c.args.group) (sym c.self.view_is) c.requires in
-    let met = c.pass.ensures.step can.0 can.1 can.2 in
+    let met = c.meet_instance.ensures.step can.0 can.1 can.2 in
     let count : length c.shape.result.now ≡ length q.taken.sizes = ap length (c.shape.ensures.sizes ∙ ap (λ (s : Streams). s.sizes) (c.lanes.ensures.taken ∙ met.taken)) in
     ⊎_elim
     (λ (lt : c.args.group < length q.taken.sizes). omega (arith, lt, count))
@@ -24,11 +24,11 @@ invariant_of-self g c =
     let q = c.self.inside.order in
     let lists = c.self.inside.waiting.items in
     let can = subst {A = Sequence} (λ p. CanMeet p.taken p.handled c.args.group) (sym c.self.view_is) c.requires in
-    let met = c.pass.ensures.step can.0 can.1 can.2 in
+    let met = c.meet_instance.ensures.step can.0 can.1 can.2 in
     let size : c.items.result ≡ size_of q.taken c.args.group = c.items.ensures.size ∙ ap (λ (l : List ℕ). get_or l c.args.group 0) (c.shape.ensures.sizes ∙ ap (λ (s : Streams). s.sizes) (c.lanes.ensures.taken ∙ met.taken)) in (
-      kept_met q c.lanes-taken.ensures.sequence c.self.inside.todo c.put_items.new.todo lists lists c.self.invariant.0
+      kept_met q c.lanes-taken.ensures.sequence c.self.inside.worklist c.put_items.new.worklist lists lists c.self.invariant.0
           (λ r has. c.put_items.ensures.keeps r (c.put.ensures.keeps r has))
-          c.args.group can.0 c.pass.new.self met
+          c.args.group can.0 c.meet_instance.new.self met
           (c.put_items.ensures.keeps _ c.put.ensures.there)
           (λ i lt. c.put_items.ensures.there i (omega (arith, lt, size))),
       subst (λ (s : Streams). AreUndiverged s c.self.inside.undiverged.items) (sym met.taken) c.self.invariant.1,
@@ -36,5 +36,5 @@ invariant_of-self g c =
 
 pub returns-clause-step : goal.returns-clause-step
 returns-clause-step g c k a meeting =
-    subst {A = Sequence} (λ p. MeetsInstance p c.args.group k c.pass.new.self) c.self.view_is
-    (c.pass.ensures.step k a (subst {A = Sequence} (λ p. IsMeeting p.taken p.handled c.args.group k a) (sym c.self.view_is) meeting))
+    subst {A = Sequence} (λ p. MeetsInstance p c.args.group k c.meet_instance.new.self) c.self.view_is
+    (c.meet_instance.ensures.step k a (subst {A = Sequence} (λ p. IsMeeting p.taken p.handled c.args.group k a) (sym c.self.view_is) meeting))

@@ -1,7 +1,7 @@
 use Rattle.std.proofs.Common.{sym, subst}
 use Rattle.gr_agenda.specs.Lists.{Has, IsLast}
 use Rattle.gr_agenda.proofs.ListLemmas.{has_less, marked_less}
-use Rattle.gr_agenda.proofs.todo.Todo.drop_last.Goals as goal
+use Rattle.gr_agenda.proofs.worklist.Worklist.drop_last.Goals as goal
 
 pub returns-in-Some : goal.returns-in-Some
 returns-in-Some g c r has apart =

@@ -1,7 +1,7 @@
-//! Whether two accesses conflict.
+//! Whether two accesses race unless they are ordered.
 
 ghost use Rattle.std.specs.Prelude.{◌≡◌, ◌≢◌, ◌↔◌, IsTrue, MatchOption, Some};
-ghost use Rattle.gr_model.specs.Races.{Conflicts};
+ghost use Rattle.gr_model.specs.Races.{MayRace};
 ghost use Rattle.gr_model.specs.Streams as model;
 
 use crate::records::Records;
@@ -27,13 +27,13 @@ pub(crate) fn access_to<A: Allocator>(
 
 /// Whether two events are accesses of different items to a word, of which one modifies it, and not both atomic with
 /// inclusive scope.
-pub(crate) fn are_conflicting<A: Allocator>(
+pub(crate) fn may_race<A: Allocator>(
     records: &Records<A>,
     word: Word,
     first: EventId,
     second: EventId,
 ) -> bool
-    ensures { IsTrue result ↔ Conflicts records.now word first second }
+    ensures { IsTrue result ↔ MayRace records.now word first second }
 {
     match (
         access_to(records, word, first),
