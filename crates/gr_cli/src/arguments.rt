@@ -8,11 +8,12 @@ ghost use Rattle.gr_model.specs.declared.event.Word.{Word as AnyWord};
 ghost use Rattle.gr_cli.specs.declared.arguments.Request.TheVariants.{Perform, Miscounted, Misnamed};
 ghost use Rattle.gr_cli.specs.declared.arguments.Task.{Task as AnyTask};
 ghost use Rattle.gr_cli.specs.Words.{gpurace, command_named, explaining, faults, name_of, racing, AsksFor};
-ghost use Rattle.gr_cli.specs.Questions.{AsksForRaces, AsksToShow, IsListing, IsListingOf, IsMiscounted, IsMisnamed, IsMost, IsQuestion, IsRequestOf};
+ghost use Rattle.gr_cli.specs.Questions.{AsksForRaces, Options, AsksToShow, IsListing, IsListingOf, IsMiscounted, IsMisnamed, IsMost, IsQuestion, IsRequestOf};
 
 use clap::error::ErrorKind;
 use clap::{Arg, ArgAction, ArgMatches, Command, Error};
 use gr_model::event::Word;
+use gr_races::files::SideNames;
 use gr_show::words::{number_of, word_named};
 use std::alloc::{AllocError, Global};
 use std::convert::AsStr;
@@ -41,10 +42,12 @@ pub struct Question<'a> {
     pub files: Vec<&'a str>,
 }
 
-/// The races of a launch, whose streams are in these files, one each: of all kinds, or of at most so many.
+/// The races of a launch, whose streams are in these files, one each: of all kinds, or of at most so many, and with what
+/// side files say of them.
 #[derive(Drop)]
 pub struct Listing<'a> {
     pub most: Option<u32>,
+    pub sides: SideNames<'a>,
     pub files: Vec<&'a str>,
 }
 
@@ -134,9 +137,24 @@ Example:
   kind global write read one group words 48
   words global 896..943
   race global 896: 0 3 12 with 0 7 14
+  end kinds 1 races 48
+
+With side files, whose lines say where accesses stand and which words are which buffer:
+  gpurace races --places places --buffers buffers --most 1 group*.gpurace
+  kind global write read one group words 48
+  words global 896..943
+  race global 896: 0 3 12 with 0 7 14
+  buffer psc[448]
+  first scan.cl:4992:7
+  second scan.cl:5001:16
   end kinds 1 races 48";
 
 const MOST: &str = "Of how many kinds to tell at most";
+
+const PLACES: &str = "A file of lines GROUP ITEM INDEX TEXT: where in the source the access stands";
+
+const BUFFERS: &str =
+    "A file of lines g FIRST WORDS NAME or l GROUP FIRST WORDS NAME: which words are which buffer";
 
 /// A command without options.
 fn plain_command<'a>(alloc: Global, name: &'a str, about: &'a str) -> Command<'a>
@@ -175,6 +193,14 @@ fn races_command<'a>(alloc: Global) -> Result<Command<'a>, AllocError>
         .long("most")
         .value_name("N")
         .help(MOST);
+    let places = Arg::new(alloc, "places")
+        .long("places")
+        .value_name("FILE")
+        .help(PLACES);
+    let buffers = Arg::new(alloc, "buffers")
+        .long("buffers")
+        .value_name("FILE")
+        .help(BUFFERS);
     let files = Arg::new(alloc, "FILE")
         .required(true)
         .action(ArgAction::Append)
@@ -184,6 +210,8 @@ fn races_command<'a>(alloc: Global) -> Result<Command<'a>, AllocError>
         .long_about(LONG_RACES)
         .after_help(AFTER_RACES)
         .arg(most)?
+        .arg(places)?
+        .arg(buffers)?
         .arg(files)
 }
 
@@ -271,8 +299,12 @@ fn listing_of<'a>(alloc: Global, matches: &ArgMatches<'a>) -> Result<Request<'a>
     let Some(files) = matches.get_strs("FILE") else {
         return Ok(Request::Miscounted);
     };
+    let sides = SideNames {
+        places: matches.get_str("places"),
+        buffers: matches.get_str("buffers"),
+    };
     let files = Vec::from_slice(alloc, files)?;
-    Ok(Request::List(Listing { most, files }))
+    Ok(Request::List(Listing { most, sides, files }))
 }
 
 /// What the words ask for, the program's name not among them.
@@ -285,7 +317,7 @@ pub fn request_of<'a, S: AsStr>(alloc: Global, words: &'a [S]) -> Result<Request
     ensures memory { IfErr result (λ e. (u : AnyTask) → AsksFor u (map S.text words.now) → kind_of e ≡ ErrorKind.OutOfMemory) }
     ensures question { IfOk result (λ r. (w : AnyWord) (names : List (List ℕ)) → AsksToShow w names (map S.text words.now) → IsQuestion w names r) }
     ensures misnamed { IfOk result (λ r. IsMisnamed (map S.text words.now) → r ≡ Misnamed) }
-    ensures races { IfOk result (λ r. (most : Option ℕ) (names : List (List ℕ)) → AsksForRaces most names (map S.text words.now) → IsListing most names r) }
+    ensures races { IfOk result (λ r. (options : Options) (names : List (List ℕ)) → AsksForRaces options names (map S.text words.now) → IsListing options names r) }
     ensures miscounted { IfOk result (λ r. IsMiscounted (map S.text words.now) → r ≡ Miscounted) }
 {
     let matches = command(alloc)?.try_get_matches_from(words)?;

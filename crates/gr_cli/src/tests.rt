@@ -53,7 +53,7 @@ type Case = (
     u8,
 );
 
-const CASES: [Case; 54] = [
+const CASES: [Case; 58] = [
     ("a race", &["replay"], &RACE, REPORT, "", 1),
     ("a race, without a command", &[], &RACE, REPORT, "", 1),
     ("no race", &["replay"], &NO_RACE, CLEAN, "", 0),
@@ -408,6 +408,45 @@ const CASES: [Case; 54] = [
         2,
     ),
     (
+        "the races of a file, with side files",
+        &["races", "--places", "places", "--buffers=buffers", "race"],
+        &[],
+        RACE_NOTED,
+        "",
+        1,
+    ),
+    (
+        "a file of places that is out of form",
+        &[
+            "races",
+            "--places",
+            "buffers",
+            "--buffers",
+            "places",
+            "race",
+        ],
+        &[],
+        "",
+        "gpurace: places: line 1: bad line\n",
+        2,
+    ),
+    (
+        "a file of buffers that is out of form",
+        &["races", "--buffers", "places", "race"],
+        &[],
+        "",
+        "gpurace: buffers: line 1: bad line\n",
+        2,
+    ),
+    (
+        "a file of places that is not there",
+        &["races", "race", "--places", "missing"],
+        &[],
+        "",
+        "gpurace: read fault\n",
+        5,
+    ),
+    (
         "help on packing",
         &["pack", "--help"],
         &[],
@@ -432,6 +471,18 @@ words global 16\n\
 race global 16: 0 0 0 with 0 1 0\n\
 end kinds 1 races 1\n";
 
+const RACE_NOTED: &str = "kind global write read one group words 1\n\
+words global 16\n\
+race global 16: 0 0 0 with 0 1 0\n\
+buffer out[4]\n\
+first shift.cl:4\n\
+second shift.cl:6\n\
+end kinds 1 races 1\n";
+
+const PLACES: &[u8] = b"0 0 0 shift.cl:4\n0 1 0 shift.cl:6\n";
+
+const BUFFERS: &[u8] = b"g 12 64 out\n";
+
 const MISCOUNTED: &str = "error: N of --most is no number below 4294967296";
 
 const MISNAMED: &str = "error: SPACE and WORD name no word of memory: ";
@@ -443,6 +494,8 @@ fn open_stored<'a>(name: &str, back: &'a [u8]) -> io::Result<&'a [u8]> {
         "race" => Ok(RACE.as_slice()),
         "none" => Ok(NO_RACE.as_slice()),
         "cut" => Ok(CUT_OFF.as_slice()),
+        "places" => Ok(PLACES),
+        "buffers" => Ok(BUFFERS),
         "wanting" => Err(io::Error::from(ErrorKind::OutOfMemory)),
         _ => Err(io::Error::from(ErrorKind::NotFound)),
     }
