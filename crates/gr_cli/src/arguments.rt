@@ -2,12 +2,12 @@
 
 ghost use Rattle.std.specs.Prelude.{◌≡◌, ℕ, List, Option, false, IfOk, IfErr, map};
 ghost use Rattle.clap.specs.declared.builder.command.Command.TheViews.{out-Command as fields_of};
-ghost use Rattle.clap.specs.Walk.{rows_of};
+ghost use Rattle.clap.specs.Walk.{rows_of, rule_of};
 ghost use Rattle.clap.specs.Words.{FailsBy, app_of, found_of, kind_of, shape_of};
 ghost use Rattle.gr_model.specs.declared.event.Word.{Word as AnyWord};
 ghost use Rattle.gr_cli.specs.declared.arguments.Request.TheVariants.{Perform, Miscounted, Misnamed};
 ghost use Rattle.gr_cli.specs.declared.arguments.Task.{Task as AnyTask};
-ghost use Rattle.gr_cli.specs.Words.{gpurace, command_named, explaining, faults, name_of, racing, AsksFor};
+ghost use Rattle.gr_cli.specs.Words.{gpurace, command_named, explaining, faults, name_of, option_rule, racing, AsksFor};
 ghost use Rattle.gr_cli.specs.Questions.{AsksForRaces, Options, AsksToShow, IsListing, IsListingOf, IsMiscounted, IsMisnamed, IsMost, IsQuestion, IsRequestOf};
 
 use clap::error::ErrorKind;
@@ -184,23 +184,25 @@ fn explain_command<'a>(alloc: Global) -> Result<Command<'a>, AllocError>
         .arg(files)
 }
 
+/// An option with a value.
+fn option_arg<'a>(alloc: Global, name: &'a str, value: &'a str, help: &'a str) -> Arg<'a>
+    ensures rule { rule_of result ≡ option_rule name.now }
+    ensures alone { result.global ≡ false }
+{
+    Arg::new(alloc, name)
+        .long(name)
+        .value_name(value)
+        .help(help)
+}
+
 /// The command that shows all races.
 fn races_command<'a>(alloc: Global) -> Result<Command<'a>, AllocError>
     ensures shape { IfOk result (λ c. shape_of c ≡ racing) }
     ensures alone { IfOk result (λ c. (fields_of c).has_globals ≡ false) }
 {
-    let most = Arg::new(alloc, "most")
-        .long("most")
-        .value_name("N")
-        .help(MOST);
-    let places = Arg::new(alloc, "places")
-        .long("places")
-        .value_name("FILE")
-        .help(PLACES);
-    let buffers = Arg::new(alloc, "buffers")
-        .long("buffers")
-        .value_name("FILE")
-        .help(BUFFERS);
+    let most = option_arg(alloc, "most", "N", MOST);
+    let places = option_arg(alloc, "places", "FILE", PLACES);
+    let buffers = option_arg(alloc, "buffers", "FILE", BUFFERS);
     let files = Arg::new(alloc, "FILE")
         .required(true)
         .action(ArgAction::Append)
