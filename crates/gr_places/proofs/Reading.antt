@@ -1,0 +1,96 @@
+-- What the lines of a file say, as a loop reads them, and what is found in them.
+use Rattle.std.proofs.Common.{◌≡◌, ℕ, ◌+◌, Bool, true, false, List, [], ◌∷◌, ◌++◌, Option, Some, None, Result, Ok, Err, refl, sym, ap, map, ◌∙◌, append_assoc, length, arith}
+use Rattle.std.specs.List.{find}
+use Rattle.std.specs.Option.{is_some, option_and_then, option_map}
+use Rattle.std.specs.Result.{MatchResult, result_ok}
+use Rattle.std.specs.Str.{IsUtf8}
+use Rattle.std.proofs.lemmas.List.{append-nil}
+use Rattle.std.proofs.lemmas.Bool.{false_from_ne_true}
+use Rattle.std.proofs.lemmas.Str.{IsUtf8-from_is_utf8, is_utf8-from_IsUtf8}
+use Rattle.gr_model.specs.declared.event.Word.{Word}
+use Rattle.gr_places.specs.declared.buffers.BufferLine.{BufferLine}
+use Rattle.gr_places.specs.declared.places.Placed.{Placed}
+use Rattle.gr_places.specs.declared.places.PlaceLine.{PlaceLine}
+use Rattle.gr_places.specs.SideLines.{BufferSaid, ElementSaid, PlaceSaid, buffer_line, element_of, index_in, place_line, place_of, said_from, said_next, same_placed, text_said}
+
+-- what lines say, behind what those before them said
+abbrev pub behind : {X : Type 0} → List X → Result (List X) ℕ → Result (List X) ℕ
+behind done (Ok xs) = Ok (done ++ xs)
+behind done (Err f) = Err f
+
+pub behind_nothing : {X : Type 0} (rest : Result (List X) ℕ) → behind [] rest ≡ rest
+behind_nothing (Ok xs) = refl
+behind_nothing (Err f) = refl
+
+pub behind_more : {X : Type 0} (done : List X) (n : ℕ) (x : X) (rest : Result (List X) ℕ) → behind done (said_next n (Some x) rest) ≡ behind (done ++ x ∷ []) rest
+behind_more done n x (Ok xs) = ap (λ (ys : List _). Ok ys) (sym (append_assoc done (x ∷ []) xs))
+behind_more done n x (Err f) = refl
+
+pub behind_all : {X : Type 0} (done : List X) → behind done (Ok []) ≡ Ok done
+behind_all done = ap (λ (ys : List _). Ok ys) (append-nil done)
+
+module _ {X : Type 0} (said : List ℕ → Option X) (done : List X) (n : ℕ) (l : List ℕ) (ls : List (List ℕ)) where
+  -- a line that says nothing
+  pub line_fails : said l ≡ None → behind done (said_from said n (l ∷ ls)) ≡ Err n
+  line_fails none = ap (λ (o : Option X). behind done (said_next n o (said_from said (n + 1) ls))) none
+
+  -- a line that says this
+  pub line_goes_on : (x : X) → said l ≡ Some x → behind done (said_from said n (l ∷ ls)) ≡ behind (done ++ x ∷ []) (said_from said (n + 1) ls)
+  line_goes_on x some = ap (λ (o : Option X). behind done (said_next n o (said_from said (n + 1) ls))) some ∙ behind_more done n x (said_from said (n + 1) ls)
+
+-- the first that passes, seen through a view
+pub find_viewed : {X Y : Type 0} (view : X → Y) (test : Y → Bool) (xs : List X) → find test (map view xs) ≡ option_map view (find (λ x. test (view x)) xs)
+find_viewed view test [] = refl
+find_viewed view test (x ∷ xs) = here (test (view x)) refl (find_viewed view test xs)
+  where
+    here : (b : Bool) → test (view x) ≡ b → find test (map view xs) ≡ option_map view (find (λ x. test (view x)) xs) → find test (map view (x ∷ xs)) ≡ option_map view (find (λ x. test (view x)) (x ∷ xs))
+    here true e more = rw e refl
+    here false e more = rw e more
+
+-- ---- the text at the end of a line
+
+pub text_none : (bytes : List ℕ) → length bytes ≡ 0 → text_said bytes ≡ None
+unfolding text_said
+text_none [] none = refl
+text_none (b ∷ bytes) none = absurd (omega (arith, none))
+
+text_some : (bytes : List ℕ) → (length bytes ≡ 0 → ⊥) → IsUtf8 bytes → text_said bytes ≡ Some bytes
+unfolding text_said
+text_some [] some is = absurd (some refl)
+text_some (b ∷ bytes) some is = rw (is_utf8-from_IsUtf8 (b ∷ bytes) is) refl
+
+text_other : (bytes : List ℕ) → ¬ IsUtf8 bytes → text_said bytes ≡ None
+unfolding text_said
+text_other [] other = refl
+text_other (b ∷ bytes) other = rw (false_from_ne_true _ (λ t. other (IsUtf8-from_is_utf8 (b ∷ bytes) t))) refl
+
+pub text_read : {S E : Type 0} (view : S → List ℕ) (Q : E → Type 0) (bytes : List ℕ) (r : Result S E) → (length bytes ≡ 0 → ⊥) → MatchResult r (λ s. (view s ≡ bytes) × IsUtf8 bytes) (λ e. ¬ IsUtf8 bytes × Q e) → option_map view (result_ok r) ≡ text_said bytes
+text_read view Q bytes (Ok s) some m = ap (λ (t : List ℕ). Some t) m.0 ∙ sym (text_some bytes some m.1)
+text_read view Q bytes (Err e) some m = sym (text_other bytes m.0)
+
+-- ---- what is found in lines
+
+mapped_twice : {X Y Z : Type 0} (f : Y → Z) (g : X → Y) (o : Option X) → option_map f (option_map g o) ≡ option_map (λ x. f (g x)) o
+mapped_twice f g None = refl
+mapped_twice f g (Some x) = refl
+
+then_mapped : {X Y Z : Type 0} (f : Y → Option Z) (g : X → Y) (o : Option X) → option_and_then f (option_map g o) ≡ option_and_then (λ x. f (g x)) o
+then_mapped f g None = refl
+then_mapped f g (Some x) = refl
+
+pub place_found : (lines : List PlaceLine) (p : Placed) (o : Option PlaceLine) → o ≡ find (λ (l : PlaceLine). same_placed l.of p) lines → option_map (λ (l : PlaceLine). l.text.now) o ≡ place_of (map place_line lines) p
+place_found lines p o is =
+    ap (option_map (λ (l : PlaceLine). l.text.now)) is
+    ∙ sym (ap (option_map (λ (l : PlaceSaid). l.text)) (find_viewed place_line (λ (l : PlaceSaid). same_placed l.of p) lines) ∙ mapped_twice (λ (l : PlaceSaid). l.text) place_line (find (λ (l : PlaceLine). same_placed l.of p) lines))
+
+-- the element that a line makes of a word
+abbrev pub with_index : Word → BufferSaid → Option ElementSaid
+with_index w b = option_map (λ (k : ℕ). record { name = b.name; index = k }) (index_in b w)
+
+abbrev pub made : Word → BufferLine → Option ElementSaid
+made w l = with_index w (buffer_line l)
+
+pub element_found : (lines : List BufferLine) (w : Word) (o : Option BufferLine) → o ≡ find (λ (l : BufferLine). is_some (index_in (buffer_line l) w)) lines → option_and_then (made w) o ≡ element_of (map buffer_line lines) w
+element_found lines w o is =
+    ap (option_and_then (made w)) is
+    ∙ sym (ap (option_and_then (with_index w)) (find_viewed buffer_line (λ (b : BufferSaid). is_some (index_in b w)) lines) ∙ then_mapped (with_index w) buffer_line (find (λ (l : BufferLine). is_some (index_in (buffer_line l) w)) lines))

@@ -1,0 +1,13 @@
+use Rattle.std.proofs.Common.{eqb-true, sym, ap, ◌∙◌, ◌≡◌, true, length}
+use Rattle.std.specs.Option.{option_map}
+use Rattle.std.proofs.lemmas.Bool.{eq-eqb}
+use Rattle.gr_places.proofs.Reading.{text_none, text_read}
+use Rattle.gr_places.proofs.words.parse_text.Goals as goal
+
+pub returns-then-is_empty : goal.returns-then-is_empty
+returns-then-is_empty c = sym (text_none c.args.bytes.now (eqb-true _ _ (sym c.is_empty.ensures ∙ c.if-is_empty.true)))
+
+pub returns : goal.returns
+returns c =
+    let some : length c.args.bytes.now ≡ 0 → ⊥ = λ none. let yes : c.is_empty.result ≡ true = c.is_empty.ensures ∙ eq-eqb (length c.args.bytes.now) 0 none in absurd cc in
+    ap (option_map (λ text. text.now)) c.ok.ensures.value ∙ text_read (λ text. text.now) _ c.args.bytes.now c.from_utf8.result some c.from_utf8.ensures.cases

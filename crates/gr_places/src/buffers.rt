@@ -1,0 +1,161 @@
+//! Which words of memory belong to which buffer.
+
+ghost use Rattle.std.specs.Prelude.{◌≡◌, map};
+ghost use Rattle.std.specs.List.{find};
+ghost use Rattle.std.specs.Option.{is_some, option_map};
+ghost use Rattle.gr_places.specs.SideLines as spec;
+
+use crate::fault::SideFault;
+use crate::lines::{keep, split_line};
+use crate::words::{is_word, parse_number, parse_short, parse_text, split_word};
+use gr_model::event::Word;
+use std::alloc::Allocator;
+
+/// A line of a file of buffers.
+#[derive(Clone, Copy, Debug)]
+pub struct BufferLine<'a> {
+    /// The first word.
+    pub first: Word,
+    /// How many words there are.
+    pub words: u32,
+    /// The name, as the file has it: not empty.
+    pub name: &'a str,
+}
+
+/// A word of a buffer.
+#[derive(Clone, Copy, Debug)]
+pub struct Element<'a> {
+    /// The name of the buffer.
+    pub name: &'a str,
+    /// The place of the word in the buffer, from 0.
+    pub index: u32,
+}
+
+/// A number's place among so many numbers from the first on, if it is one of them.
+fn index_within(first: u32, words: u32, number: u32) -> Option<u32>
+    ensures { result ≡ spec.index_within first words number }
+{
+    let index = number.checked_sub(first)?;
+    if index < words { Some(index) } else { None }
+}
+
+impl<'a> BufferLine<'a> {
+    /// The place of a word in the buffer, if it belongs to it.
+    fn index_of(&self, word: Word) -> Option<u32>
+        ensures { result ≡ spec.index_in (spec.buffer_line self.now) word }
+    {
+        match (self.first, word) {
+            (Word::Global(first), Word::Global(number)) => index_within(first, self.words, number),
+            (Word::Local(group, first), Word::Local(other, number)) => {
+                if group == other {
+                    index_within(first, self.words, number)
+                } else {
+                    None
+                }
+            }
+            (Word::Global(_), Word::Local(_, _)) | (Word::Local(_, _), Word::Global(_)) => None,
+        }
+    }
+
+    /// Whether a word belongs to the buffer.
+    fn has(&self, word: Word) -> bool
+        ensures { result ≡ is_some (spec.index_in (spec.buffer_line self.now) word) }
+    {
+        self.index_of(word).is_some()
+    }
+}
+
+/// The first word, how many there are and the name, in the bytes of a line behind the memory.
+#[tactic(auto, unfolding(crate::specs::SideLines::words_said))]
+fn parse_words(bytes: &[u8]) -> Option<(u32, u32, &str)>
+    ensures { option_map (λ x. (x.0, x.1, x.2.now)) result ≡ spec.words_said bytes.now }
+{
+    let (first, rest) = split_word(bytes);
+    let (words, rest) = split_word(rest?);
+    let first = parse_number(first)?;
+    let words = parse_number(words)?;
+    let name = parse_text(rest?)?;
+    Some((first, words, name))
+}
+
+/// A buffer in global memory, of which these bytes stand behind the memory.
+#[tactic(auto, unfolding(crate::specs::SideLines::global_said))]
+fn parse_global(bytes: &[u8]) -> Option<BufferLine<'_>>
+    ensures { option_map spec.buffer_line result ≡ spec.global_said bytes.now }
+{
+    let (first, words, name) = parse_words(bytes)?;
+    let first = Word::Global(first);
+    Some(BufferLine { first, words, name })
+}
+
+/// A buffer in a group's local memory, of which these bytes stand behind the memory.
+#[tactic(auto, unfolding(crate::specs::SideLines::local_said))]
+fn parse_local(bytes: &[u8]) -> Option<BufferLine<'_>>
+    ensures { option_map spec.buffer_line result ≡ spec.local_said bytes.now }
+{
+    let (group, rest) = split_word(bytes);
+    let group = parse_short(group)?;
+    let (first, words, name) = parse_words(rest?)?;
+    let first = Word::Local(group, first);
+    Some(BufferLine { first, words, name })
+}
+
+/// What a line says, given without its line feed, or `None` if it has not the form of a line of buffers.
+#[tactic(auto, unfolding(crate::specs::SideLines::buffer_line_said))]
+fn parse_line(line: &[u8]) -> Option<BufferLine<'_>>
+    ensures { option_map spec.buffer_line result ≡ spec.buffer_line_said line.now }
+{
+    let (space, rest) = split_word(line);
+    let bytes = rest?;
+    if is_word(space, "g") {
+        parse_global(bytes)
+    } else if is_word(space, "l") {
+        parse_local(bytes)
+    } else {
+        None
+    }
+}
+
+/// What the lines of a file of buffers say, in their order.
+///
+/// # Errors
+/// `BadLine` with the number, from 1, of the first line that has not the form; `Memory` if an allocation is refused.
+pub fn read_buffers<A: Allocator>(
+    alloc: A,
+    text: &[u8],
+) -> Result<Vec<BufferLine<'_>, A>, SideFault>
+    ensures { spec.Answers (λ lines. map spec.buffer_line lines.items) result (spec.buffers_in text.now) }
+{
+    let mut lines = Vec::new(alloc);
+    let mut number: u64 = 0;
+    let mut rest = text;
+    while !rest.is_empty() {
+        number += 1;
+        let (line, after) = split_line(rest);
+        let Some(said) = parse_line(line) else {
+            return Err(SideFault::BadLine(number));
+        };
+        keep(&mut lines, said)?;
+        rest = after;
+    }
+    Ok(lines)
+}
+
+/// The first line that has a word.
+fn line_with<'a>(lines: &[BufferLine<'a>], word: Word) -> Option<BufferLine<'a>>
+    ensures { result ≡ find (λ l. is_some (spec.index_in (spec.buffer_line l) word)) lines.now }
+{
+    lines.iter().copied().find(|line| line.has(word))
+}
+
+/// The buffer of a word and the word's place in it, by the first line that has the word, or `None` if no line has it.
+pub fn element_of<'a>(lines: &[BufferLine<'a>], word: Word) -> Option<Element<'a>>
+    ensures { option_map spec.element result ≡ spec.element_of (map spec.buffer_line lines.now) word }
+{
+    let line = line_with(lines, word)?;
+    let index = line.index_of(word)?;
+    Some(Element {
+        name: line.name,
+        index,
+    })
+}

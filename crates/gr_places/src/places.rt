@@ -1,0 +1,119 @@
+//! Where in the source events and barriers stand.
+
+ghost use Rattle.std.specs.Prelude.{◌≡◌, map};
+ghost use Rattle.std.specs.List.{find};
+ghost use Rattle.std.specs.Option.{option_map};
+ghost use Rattle.gr_places.specs.SideLines as spec;
+
+use crate::fault::SideFault;
+use crate::lines::{keep, split_line};
+use crate::words::{is_digit_first, parse_number, parse_short, parse_text, split_word};
+use gr_model::event::{EventId, ItemId};
+use std::alloc::Allocator;
+
+/// What has a place in the source.
+#[derive(Clone, Copy, Debug, PartialEq, Eq)]
+pub enum Placed {
+    /// An event of the trace.
+    Event(EventId),
+    /// The barriers of a site.
+    Site(u32),
+}
+
+/// A line of a file of places.
+#[derive(Clone, Copy, Debug)]
+pub struct PlaceLine<'a> {
+    /// What stands there.
+    pub of: Placed,
+    /// The place, as the file has it: not empty, and it begins with no digit.
+    pub text: &'a str,
+}
+
+/// A place, which begins with no digit.
+#[tactic(auto, unfolding(crate::specs::SideLines::place_said))]
+fn parse_place(bytes: &[u8]) -> Option<&str>
+    ensures { option_map (λ text. text.now) result ≡ spec.place_said bytes.now }
+{
+    if is_digit_first(bytes) {
+        return None;
+    }
+    parse_text(bytes)
+}
+
+/// The line of an event, of which these bytes stand behind the group.
+#[tactic(auto, unfolding(crate::specs::SideLines::event_said))]
+fn parse_event<'a>(group: &[u8], bytes: &'a [u8]) -> Option<PlaceLine<'a>>
+    ensures { option_map spec.place_line result ≡ spec.event_said group.now bytes.entry.now }
+{
+    let (item, rest) = split_word(bytes);
+    let (index, rest) = split_word(rest?);
+    let at = ItemId {
+        group: parse_short(group)?,
+        item: parse_short(item)?,
+    };
+    let index = parse_number(index)?;
+    let text = parse_place(rest?)?;
+    let of = Placed::Event(EventId { at, index });
+    Some(PlaceLine { of, text })
+}
+
+/// The line of a site, of which these bytes stand behind its number.
+#[tactic(auto, unfolding(crate::specs::SideLines::site_said))]
+fn parse_site<'a>(site: &[u8], bytes: &'a [u8]) -> Option<PlaceLine<'a>>
+    ensures { option_map spec.place_line result ≡ spec.site_said site.now bytes.entry.now }
+{
+    let of = Placed::Site(parse_number(site)?);
+    let text = parse_place(bytes)?;
+    Some(PlaceLine { of, text })
+}
+
+/// What a line says, given without its line feed, or `None` if it has not the form of a line of places.
+#[tactic(auto, unfolding(crate::specs::SideLines::place_line_said))]
+fn parse_line(line: &[u8]) -> Option<PlaceLine<'_>>
+    ensures { option_map spec.place_line result ≡ spec.place_line_said line.now }
+{
+    let (first, rest) = split_word(line);
+    let bytes = rest?;
+    if is_digit_first(bytes) {
+        parse_event(first, bytes)
+    } else {
+        parse_site(first, bytes)
+    }
+}
+
+/// What the lines of a file of places say, in their order.
+///
+/// # Errors
+/// `BadLine` with the number, from 1, of the first line that has not the form; `Memory` if an allocation is refused.
+pub fn read_places<A: Allocator>(alloc: A, text: &[u8]) -> Result<Vec<PlaceLine<'_>, A>, SideFault>
+    ensures { spec.Answers (λ lines. map spec.place_line lines.items) result (spec.places_in text.now) }
+{
+    let mut lines = Vec::new(alloc);
+    let mut number: u64 = 0;
+    let mut rest = text;
+    while !rest.is_empty() {
+        number += 1;
+        let (line, after) = split_line(rest);
+        let Some(said) = parse_line(line) else {
+            return Err(SideFault::BadLine(number));
+        };
+        keep(&mut lines, said)?;
+        rest = after;
+    }
+    Ok(lines)
+}
+
+/// The first line of an event or a site.
+fn line_of<'a>(lines: &[PlaceLine<'a>], placed: Placed) -> Option<PlaceLine<'a>>
+    ensures { result ≡ find (λ l. spec.same_placed l.of placed) lines.now }
+{
+    lines.iter().copied().find(|line| line.of == placed)
+}
+
+/// The place of an event or a site, by the first line that has it, or `None` if no line has it.
+pub fn place_of<'a>(lines: &[PlaceLine<'a>], placed: Placed) -> Option<&'a str>
+    ensures { option_map (λ text. text.now) result ≡ spec.place_of (map spec.place_line lines.now) placed }
+{
+    let line = line_of(lines, placed)?;
+    Some(line.text)
+}
