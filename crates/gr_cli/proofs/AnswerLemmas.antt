@@ -22,8 +22,12 @@ use Rattle.gr_cli.specs.declared.arguments.Task.TheVariants.{Replay, Pack, Dump,
 use Rattle.gr_model.specs.declared.event.Word.{Word}
 use Rattle.gr_show.specs.Opening.{IsFileFault, IsShownOfFiles, ShowsPrefixOfFiles}
 use Rattle.gr_cli.specs.Answers.{IsAnswer, IsAnswerOf, IsDisplay, IsFaultOfFiles, IsFaultTold, IsRacesDisplay, IsReportOfFiles, IsRewriting, IsRunAnswer, WritesPrefixOfFiles}
-use Rattle.gr_races.specs.Opening.{AreRacesShownOfFiles, ShowsRacesPrefixOfFiles}
-use Rattle.gr_cli.specs.Statuses.{fault_status, race_status, IsReportStatus}
+use Rattle.gr_races.specs.declared.fault.RacesFault.{RacesFault}
+use Rattle.gr_races.specs.declared.fault.RacesFault.TheVariants.{Run}
+use Rattle.gr_races.specs.FaultText.{races_fault_line}
+use Rattle.gr_races.specs.Opening.{AreRacesShownOfFiles, IsRacesFault, ShowsRacesPrefixOfFiles}
+use Rattle.gr_cli.specs.Questions.{Options}
+use Rattle.gr_cli.specs.Statuses.{fault_status, race_status, races_fault_status, IsReportStatus}
 use Rattle.gr_cli.specs.Words.{AreHelp, AreWrong, IsHelp, IsWrongUsage}
 use Rattle.gr_cli.specs.declared.status.TheConstants.{NOTHING, USAGE, WANTING, FAILED}
 use Rattle.clap.specs.declared.error.kind.ErrorKind.{ErrorKind}
@@ -79,24 +83,28 @@ module _ {T X : Type 0} (remaining : T → Option (List ℕ)) (Gives : List ℕ 
   pub no_memory_to_display : (old new old_errors new_errors : Option (List ℕ)) (status : ℕ) → IsFaultTold old new old_errors new_errors status Memory → IsDisplay remaining Gives files w old new old_errors new_errors status
   no_memory_to_display old new old_errors new_errors status told = inr (Memory, record { fault = inl (inl refl); told = told; prefix = λ h. absurd cc })
 
-module _ {T X : Type 0} (remaining : T → Option (List ℕ)) (Gives : List ℕ → Result T X → Type 0) (files : List (List ℕ)) (most : Option ℕ) where
-  pub races_display_of : (outcome : Result Bool Fault) (old new old_errors new_errors : Option (List ℕ)) (status : ℕ)
-      → IfOk outcome (λ found. AreRacesShownOfFiles remaining Gives files most found old new)
-      → IfErr outcome (λ f. IsFileFault remaining Gives files f)
-      → IfErr outcome (λ f. f ≢ Write → Keeps old new)
-      → IfErr outcome (λ f. f ≡ Write → ShowsRacesPrefixOfFiles remaining Gives files most old new)
+memory_is_no_writing : Run Memory ≡ Run Write → ⊥
+memory_is_no_writing e = let same : Memory ≡ Write = cc in absurd cc
+
+module _ {T X : Type 0} (remaining : T → Option (List ℕ)) (Gives : List ℕ → Result T X → Type 0) (files : List (List ℕ)) (options : Options) where
+  pub races_display_of : (outcome : Result Bool RacesFault) (old new old_errors new_errors : Option (List ℕ)) (status : ℕ)
+      → IfOk outcome (λ found. AreRacesShownOfFiles remaining Gives options.sides files options.most found old new)
+      → IfErr outcome (λ f. IsRacesFault remaining Gives options.sides files f)
+      → IfErr outcome (λ f. f ≢ Run Write → Keeps old new)
+      → IfErr outcome (λ f. f ≡ Run Write → ShowsRacesPrefixOfFiles remaining Gives options.sides files options.most old new)
       → IfOk outcome (λ found. status ≡ race_status found)
       → OnOk outcome (Keeps old_errors new_errors)
-      → IfErr outcome (λ f. status ≡ fault_status f)
-      → IfErr outcome (λ f. AppendsPrefix old_errors new_errors (fault_line f))
-      → IsRacesDisplay remaining Gives files most old new old_errors new_errors status
+      → IfErr outcome (λ f. status ≡ races_fault_status f)
+      → IfErr outcome (λ f. AppendsPrefix old_errors new_errors (races_fault_line f))
+      → IsRacesDisplay remaining Gives files options old new old_errors new_errors status
   races_display_of (Ok found) old new old_errors new_errors status shown fault untouched prefix ends silent fault_ends line =
       inl (found, record { shown = shown; silent = silent; ends = ends })
   races_display_of (Err f) old new old_errors new_errors status shown fault untouched prefix ends silent fault_ends line =
       inr (f, record { fault = fault; told = record { line = line; ends = fault_ends; untouched = untouched }; prefix = prefix })
 
-  pub no_memory_to_list : (old new old_errors new_errors : Option (List ℕ)) (status : ℕ) → IsFaultTold old new old_errors new_errors status Memory → IsRacesDisplay remaining Gives files most old new old_errors new_errors status
-  no_memory_to_list old new old_errors new_errors status told = inr (Memory, record { fault = inl (inl refl); told = told; prefix = λ h. absurd cc })
+  pub no_memory_to_list : (old new old_errors new_errors : Option (List ℕ)) (status : ℕ) → IsFaultTold old new old_errors new_errors status Memory → IsRacesDisplay remaining Gives files options old new old_errors new_errors status
+  no_memory_to_list old new old_errors new_errors status told =
+      inr (Run Memory, record { fault = inl (inl refl); told = record { line = told.line; ends = told.ends; untouched = λ h. told.untouched (λ e. cc) }; prefix = λ h. absurd (memory_is_no_writing h) })
 
 module _ {T X : Type 0} (remaining : T → Option (List ℕ)) (Gives : List ℕ → Result T X → Type 0) (names : List (List ℕ)) where
   pub run_answer_of : {Z : Type 0} (outcome : Result (Report Z) Fault) (old new old_errors new_errors : Option (List ℕ)) (status : ℕ)

@@ -18,7 +18,7 @@ use Rattle.gr_cli.specs.declared.arguments.Request.TheVariants.{List as Lists, M
 use Rattle.gr_cli.specs.Plans.{IsNumberOr, IsPlan, IsPlanOf, IsPlanned, IsSetUp}
 use Rattle.gr_model.specs.declared.config.ConfigError.{ConfigError}
 use Rattle.gr_model.specs.Configs.{IsConfig, Settings}
-use Rattle.gr_cli.specs.Questions.{IsCounted, IsListing, IsListingOf, IsMost, IsNamed, IsQuestion, IsRequestOf}
+use Rattle.gr_cli.specs.Questions.{HasOptions, IsCounted, IsListing, IsListingOf, IsMost, IsNamed, IsQuestion, IsRequestOf, Options, options_of}
 
 nothing_is_some : {X : Type 0} (x : X) → None ≡ Some x → ⊥
 nothing_is_some {X = X} x e = true≢false (sym (ap (λ (o : Option X). is_some o) e))
@@ -32,6 +32,10 @@ module _ (f : Found) (id : Text) (o : Option (Bor Text)) (e : option_map (λ s. 
 
   pub text_is_none : o ≡ None → first_of id (rows_of f) ≡ None
   text_is_none none = sym (first_value-rows f id) ∙ sym e ∙ ap (option_map (λ (s : Bor Text). s.now)) none
+
+  -- what the values have under the name
+  pub text_there : option_map (λ s. s.now) o ≡ first_of id (rows_of f)
+  text_there = e ∙ first_value-rows f id
 
   pub no_text : o ≡ None → (t : Text) → first_of id (rows_of f) ≡ Some t → ⊥
   no_text none t at = nothing_is_some t (sym (ap (option_map (λ (s : Bor Text). s.now)) none) ∙ e ∙ first_value-rows f id ∙ at)
@@ -91,8 +95,17 @@ one_most rows (Some m) (Some n) a b =
     let other : IsNumber a.0 n = rw same at b.2 in
     ap Some (sym a.2.value ∙ other.value)
 
-pub listed : (rows : List Row) (r : Request) (most : Option ℕ) (files : List Text) → IsListingOf rows r → IsCounted rows most files → IsListing most files r
-listed rows (Lists l) most files h counted = (one_most rows l.most most h.number counted.number, injected (map (λ s. s.now) l.files.items) files (sym h.at_files ∙ counted.at_files))
+abbrev made : Option ℕ → Option Text → Option Text → Options
+made most places buffers = record { most = most; sides = record { places = places; buffers = buffers } }
+
+one_choice : (rows : List Row) (a b : Options) → HasOptions rows a → HasOptions rows b → a ≡ b
+one_choice rows a b h k =
+    ap (λ (m : Option ℕ). made m a.sides.places a.sides.buffers) (one_most rows a.most b.most h.most k.most)
+    ∙ ap (λ (p : Option Text). made b.most p a.sides.buffers) (sym h.places ∙ k.places)
+    ∙ ap (λ (p : Option Text). made b.most b.sides.places p) (sym h.buffers ∙ k.buffers)
+
+pub listed : (rows : List Row) (r : Request) (options : Options) (files : List Text) → IsListingOf rows r → IsCounted rows options files → IsListing options files r
+listed rows (Lists l) options files h counted = (one_choice rows (options_of l) options h.chosen counted.chosen, injected (map (λ s. s.now) l.files.items) files (sym h.at_files ∙ counted.at_files))
 listed rows Miscounted most files h counted = h most files counted
 listed rows (Perform t) most files h counted = h
 listed rows (Show q) most files h counted = h
@@ -100,8 +113,8 @@ listed rows Misnamed most files h counted = h
 listed rows (Run p) most files h counted = h
 listed rows Misconfigured most files h counted = h
 
-pub not_listed : (rows : List Row) (r : Request) → IsListingOf rows r → ((most : Option ℕ) (files : List Text) → IsCounted rows most files → ⊥) → r ≡ Miscounted
-not_listed rows (Lists l) h none = absurd (none l.most (map (λ s. s.now) l.files.items) h)
+pub not_listed : (rows : List Row) (r : Request) → IsListingOf rows r → ((options : Options) (files : List Text) → IsCounted rows options files → ⊥) → r ≡ Miscounted
+not_listed rows (Lists l) h none = absurd (none (options_of l) (map (λ s. s.now) l.files.items) h)
 not_listed rows Miscounted h none = refl
 not_listed rows (Perform t) h none = absurd h
 not_listed rows (Show q) h none = absurd h

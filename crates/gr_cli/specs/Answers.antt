@@ -15,13 +15,17 @@ use Rattle.gr_input.specs.Faults.{Fails}
 use Rattle.gr_text.specs.Texts.{packed}
 use Rattle.gr_text.specs.Dumps.{dumped, upgraded}
 use Rattle.gr_text.specs.Writes.{Writes, WritesPrefix as WritesPrefixOf}
-use Rattle.gr_races.specs.Opening.{AreRacesShownOfFiles, ShowsRacesPrefixOfFiles}
+use Rattle.gr_races.specs.declared.fault.RacesFault.{RacesFault}
+use Rattle.gr_races.specs.declared.fault.RacesFault.TheVariants.{Run}
+use Rattle.gr_races.specs.FaultText.{races_fault_line}
+use Rattle.gr_races.specs.Opening.{AreRacesShownOfFiles, IsRacesFault, ShowsRacesPrefixOfFiles}
 use Rattle.gr_show.specs.Opening.{AreOpened, IsFileFault, IsOpeningFault, IsShownOfFiles, ShowsPrefixOfFiles}
 use Rattle.gr_streams.specs.Streams.{IsExactOfEach, IsRunFault, WritesPrefixOfEach}
 use Rattle.gr_cli.specs.declared.arguments.Task.{Task}
 use Rattle.gr_cli.specs.declared.arguments.Task.TheVariants.{Replay, Pack, Dump, Upgrade}
 use Rattle.gr_cli.specs.declared.status.TheConstants.{NOTHING}
-use Rattle.gr_cli.specs.Statuses.{fault_status, race_status, IsReportStatus}
+use Rattle.gr_cli.specs.Questions.{Options}
+use Rattle.gr_cli.specs.Statuses.{fault_status, race_status, races_fault_status, IsReportStatus}
 
 -- r is the report of the input; its whole text is written, nothing is told on standard error, and the status is that of r
 pub record IsReported (input old new old_errors new_errors : Option (List ℕ)) (status : ℕ) (r : WholeReport) : Type 0 where
@@ -89,22 +93,28 @@ module _ {T X : Type 0} (remaining : T → Option (List ℕ)) (Gives : List ℕ 
   abbrev pub IsDisplay : Type 0
   IsDisplay = ((found : Bool) × IsDisplayed found) ⊎ ((f : Fault) × IsNotDisplayed f)
 
--- what is left behind where the races are to be shown of the launch whose streams the files of these names have
-module _ {T X : Type 0} (remaining : T → Option (List ℕ)) (Gives : List ℕ → Result T X → Type 0) (files : List (List ℕ)) (most : Option ℕ) (old new old_errors new_errors : Option (List ℕ)) (status : ℕ) where
+-- the line of f is told, or a prefix of it where standard error fails too; the status is that of f; and nothing is written, unless it is the writer that failed
+pub record IsRacesFaultTold (old new old_errors new_errors : Option (List ℕ)) (status : ℕ) (f : RacesFault) : Type 0 where
+  pub line : AppendsPrefix old_errors new_errors (races_fault_line f)
+  pub ends : status ≡ races_fault_status f
+  pub untouched : f ≢ Run Write → Keeps old new
+
+-- what is left behind where the races are to be shown, with these options, of the launch whose streams the files of these names have
+module _ {T X : Type 0} (remaining : T → Option (List ℕ)) (Gives : List ℕ → Result T X → Type 0) (files : List (List ℕ)) (options : Options) (old new old_errors new_errors : Option (List ℕ)) (status : ℕ) where
   -- the text of the races is written whole, nothing is told on standard error, and the status says whether there is one
   pub record AreRacesDisplayed (found : Bool) : Type 0 where
-    pub shown : AreRacesShownOfFiles remaining Gives files most found old new
+    pub shown : AreRacesShownOfFiles remaining Gives options.sides files options.most found old new
     pub silent : Keeps old_errors new_errors
     pub ends : status ≡ race_status found
 
   -- f is why there is no such text, and is told; where the writer failed, it has a prefix of the text
-  pub record AreRacesNotDisplayed (f : Fault) : Type 0 where
-    pub fault : IsFileFault remaining Gives files f
-    pub told : IsFaultTold old new old_errors new_errors status f
-    pub prefix : f ≡ Write → ShowsRacesPrefixOfFiles remaining Gives files most old new
+  pub record AreRacesNotDisplayed (f : RacesFault) : Type 0 where
+    pub fault : IsRacesFault remaining Gives options.sides files f
+    pub told : IsRacesFaultTold old new old_errors new_errors status f
+    pub prefix : f ≡ Run Write → ShowsRacesPrefixOfFiles remaining Gives options.sides files options.most old new
 
   abbrev pub IsRacesDisplay : Type 0
-  IsRacesDisplay = ((found : Bool) × AreRacesDisplayed found) ⊎ ((f : Fault) × AreRacesNotDisplayed f)
+  IsRacesDisplay = ((found : Bool) × AreRacesDisplayed found) ⊎ ((f : RacesFault) × AreRacesNotDisplayed f)
 
 -- what is left behind where a launch is to be run in threads, whose streams the files of these names have, one each
 module _ {T X : Type 0} (remaining : T → Option (List ℕ)) (Gives : List ℕ → Result T X → Type 0) (names : List (List ℕ)) where

@@ -4,6 +4,8 @@ use Rattle.clap.specs.Walk.{Row, Text, all_of, first_of}
 use Rattle.clap.specs.Words.{subcommand_of}
 use Rattle.gr_model.specs.declared.event.Word.{Word}
 use Rattle.gr_show.specs.Naming.{IsNumber, Names}
+use Rattle.gr_races.specs.Opening.{Pair, side_names}
+use Rattle.gr_cli.specs.declared.arguments.Listing.{Listing}
 use Rattle.gr_cli.specs.declared.arguments.Request.{Request}
 use Rattle.gr_cli.specs.declared.arguments.Request.TheVariants.{List as Lists, Miscounted, Misnamed, Show}
 use Rattle.gr_cli.specs.Words.{faults, gpurace}
@@ -56,35 +58,50 @@ abbrev pub IsMost : List Row → Option ℕ → Type 0
 IsMost rows None = first_of (codes "most") rows ≡ None
 IsMost rows (Some n) = (text : Text) × (first_of (codes "most") rows ≡ Some text) × IsNumber text n
 
+-- of how many kinds, and with which side files, the races are to be shown
+pub record Options : Type 0 where
+  pub most : Option ℕ
+  pub sides : Pair Text
+
+-- the values have these options
+pub record HasOptions (rows : List Row) (o : Options) : Type 0 where
+  pub most : IsMost rows o.most
+  pub places : first_of (codes "places") rows ≡ o.sides.places
+  pub buffers : first_of (codes "buffers") rows ≡ o.sides.buffers
+
+-- those of a listing
+abbrev pub options_of : Listing → Options
+options_of l = record { most = l.most; sides = side_names l.sides }
+
 -- the words are taken, and name the command `races`
 pub record AsksForCommandRaces (words : List Text) (rows : List Row) : Type 0 where
   pub taken : faults words ≡ []
   pub met : command_of words ≡ Some (codes "races", rows)
 
--- the values have so many kinds and the files
-pub record IsCounted (rows : List Row) (most : Option ℕ) (files : List Text) : Type 0 where
-  pub number : IsMost rows most
+-- the values have the options and the files
+pub record IsCounted (rows : List Row) (options : Options) (files : List Text) : Type 0 where
+  pub chosen : HasOptions rows options
   pub at_files : all_of (codes "FILE") rows ≡ Some files
 
--- of how many kinds and of which files the words ask for races
-pub record AsksForRaces (most : Option ℕ) (files : List Text) (words : List Text) : Type 0 where
+-- with which options and of which files the words ask for races
+pub record AsksForRaces (options : Options) (files : List Text) (words : List Text) : Type 0 where
   pub rows : List Row
   pub asks : AsksForCommandRaces words rows
-  pub counted : IsCounted rows most files
+  pub counted : IsCounted rows options files
 
 -- they ask for races, but have no such number
 pub record IsMiscounted (words : List Text) : Type 0 where
   pub rows : List Row
   pub asks : AsksForCommandRaces words rows
-  pub uncounted : (most : Option ℕ) (files : List Text) → ¬ IsCounted rows most files
+  pub uncounted : (options : Options) (files : List Text) → ¬ IsCounted rows options files
 
--- a request is for the races of these files, of so many kinds
-abbrev pub IsListing : Option ℕ → List Text → Request → Type 0
-IsListing most files (Lists l) = (l.most ≡ most) × (map (λ s. s.now) l.files.items ≡ files)
-IsListing most files _ = ⊥
+-- a request is for the races of these files, with these options
+abbrev pub IsListing : Options → List Text → Request → Type 0
+IsListing options files (Lists l) = (options_of l ≡ options) × (map (λ s. s.now) l.files.items ≡ files)
+IsListing options files _ = ⊥
 
 -- a request is the listing that the values ask for
 abbrev pub IsListingOf : List Row → Request → Type 0
-IsListingOf rows (Lists l) = IsCounted rows l.most (map (λ s. s.now) l.files.items)
-IsListingOf rows Miscounted = (most : Option ℕ) (files : List Text) → ¬ IsCounted rows most files
+IsListingOf rows (Lists l) = IsCounted rows (options_of l) (map (λ s. s.now) l.files.items)
+IsListingOf rows Miscounted = (options : Options) (files : List Text) → ¬ IsCounted rows options files
 IsListingOf rows _ = ⊥

@@ -40,20 +40,17 @@ explaining = (with_rule (with_rule (with_rule (new_app (codes "explain")) (wante
 abbrev pub tasks : App
 tasks = with_subcommand (with_subcommand (with_subcommand (with_subcommand (record { top = alone; subs = [] }) (command_named (codes "replay"))) (command_named (codes "pack"))) (command_named (codes "dump"))) (command_named (codes "upgrade"))
 
--- an option that takes a value
-abbrev pub optional : List ℕ → Rule
-optional name = record (new_rule name) { long = Some name; value_names = 1 }
+-- an option with a value
+abbrev pub option_rule : List ℕ → Rule
+option_rule id = record (new_rule id) { long = Some id; value_names = 1 }
 
--- the command that shows all races: how many kinds at most, and the files
-abbrev pub most_rule : Rule
-most_rule = record (new_rule (codes "most")) { long = Some (codes "most"); value_names = 1 }
-
+-- the command that shows all races: how many kinds at most, the side files, and the files
 abbrev pub racing : Shape
-racing = (with_rule (with_rule (new_app (codes "races")) most_rule) wanted_files).top
+racing = (with_rule (with_rule (with_rule (with_rule (new_app (codes "races")) (option_rule (codes "most"))) (option_rule (codes "places"))) (option_rule (codes "buffers"))) wanted_files).top
 
 -- the command that runs a launch in threads: how many workers and queues, the places of a queue, and the files
 abbrev pub running : Shape
-running = (with_rule (with_rule (with_rule (with_rule (new_app (codes "run")) (optional (codes "workers"))) (optional (codes "queues"))) (optional (codes "capacity"))) wanted_files).top
+running = (with_rule (with_rule (with_rule (with_rule (new_app (codes "run")) (option_rule (codes "workers"))) (option_rule (codes "queues"))) (option_rule (codes "capacity"))) wanted_files).top
 
 abbrev pub gpurace : App
 gpurace = with_subcommand (with_subcommand (with_subcommand tasks explaining) racing) running

@@ -8,14 +8,15 @@ ghost use Rattle.gr_model.specs.declared.event.Word.{Word as AnyWord};
 ghost use Rattle.gr_model.specs.Configs.{Settings};
 ghost use Rattle.gr_cli.specs.declared.arguments.Request.TheVariants.{Misconfigured, Miscounted, Misnamed, Perform};
 ghost use Rattle.gr_cli.specs.declared.arguments.Task.{Task as AnyTask};
-ghost use Rattle.gr_cli.specs.Words.{gpurace, command_named, explaining, faults, name_of, optional, racing, running, AsksFor};
+ghost use Rattle.gr_cli.specs.Words.{gpurace, command_named, explaining, faults, name_of, option_rule, racing, running, AsksFor};
 ghost use Rattle.gr_cli.specs.Plans.{AsksToRun, IsMisconfigured, IsNumberOr, IsPlan, IsPlanOf, IsSetUp};
-ghost use Rattle.gr_cli.specs.Questions.{AsksForRaces, AsksToShow, IsListing, IsListingOf, IsMiscounted, IsMisnamed, IsMost, IsQuestion, IsRequestOf};
+ghost use Rattle.gr_cli.specs.Questions.{AsksForRaces, Options, AsksToShow, IsListing, IsListingOf, IsMiscounted, IsMisnamed, IsMost, IsQuestion, IsRequestOf};
 
 use clap::error::ErrorKind;
 use clap::{Arg, ArgAction, ArgMatches, Command, Error};
 use gr_model::config::Config;
 use gr_model::event::Word;
+use gr_races::files::SideNames;
 use gr_show::words::{number_of, word_named};
 use std::alloc::{AllocError, Global};
 use std::convert::AsStr;
@@ -44,10 +45,12 @@ pub struct Question<'a> {
     pub files: Vec<&'a str>,
 }
 
-/// The races of a launch, whose streams are in these files, one each: of all kinds, or of at most so many.
+/// The races of a launch, whose streams are in these files, one each: of all kinds, or of at most so many, and with what
+/// side files say of them.
 #[derive(Drop)]
 pub struct Listing<'a> {
     pub most: Option<u32>,
+    pub sides: SideNames<'a>,
     pub files: Vec<&'a str>,
 }
 
@@ -149,9 +152,24 @@ Example:
   kind global write read one group words 48
   words global 896..943
   race global 896: 0 3 12 with 0 7 14
+  end kinds 1 races 48
+
+With side files, whose lines say where accesses stand and which words are which buffer:
+  gpurace races --places places --buffers buffers --most 1 group*.gpurace
+  kind global write read one group words 48
+  words global 896..943
+  race global 896: 0 3 12 with 0 7 14
+  buffer psc[448]
+  first scan.cl:4992:7
+  second scan.cl:5001:16
   end kinds 1 races 48";
 
 const MOST: &str = "Of how many kinds to tell at most";
+
+const PLACES: &str = "A file of lines GROUP ITEM INDEX TEXT: where in the source the access stands";
+
+const BUFFERS: &str =
+    "A file of lines g FIRST WORDS NAME or l GROUP FIRST WORDS NAME: which words are which buffer";
 
 const RUN: &str = "Reports on the trace in files, by several threads";
 
@@ -203,15 +221,25 @@ fn explain_command<'a>(alloc: Global) -> Result<Command<'a>, AllocError>
         .arg(files)
 }
 
+/// An option with a value.
+fn option_arg<'a>(alloc: Global, name: &'a str, value: &'a str, help: &'a str) -> Arg<'a>
+    ensures rule { rule_of result ≡ option_rule name.now }
+    ensures alone { result.global ≡ false }
+{
+    Arg::new(alloc, name)
+        .long(name)
+        .value_name(value)
+        .help(help)
+}
+
 /// The command that shows all races.
 fn races_command<'a>(alloc: Global) -> Result<Command<'a>, AllocError>
     ensures shape { IfOk result (λ c. shape_of c ≡ racing) }
     ensures alone { IfOk result (λ c. (fields_of c).has_globals ≡ false) }
 {
-    let most = Arg::new(alloc, "most")
-        .long("most")
-        .value_name("N")
-        .help(MOST);
+    let most = option_arg(alloc, "most", "N", MOST);
+    let places = option_arg(alloc, "places", "FILE", PLACES);
+    let buffers = option_arg(alloc, "buffers", "FILE", BUFFERS);
     let files = Arg::new(alloc, "FILE")
         .required(true)
         .action(ArgAction::Append)
@@ -221,15 +249,9 @@ fn races_command<'a>(alloc: Global) -> Result<Command<'a>, AllocError>
         .long_about(LONG_RACES)
         .after_help(AFTER_RACES)
         .arg(most)?
+        .arg(places)?
+        .arg(buffers)?
         .arg(files)
-}
-
-/// An option that takes a number.
-fn number_option<'a>(alloc: Global, name: &'a str, help: &'a str) -> Arg<'a>
-    ensures rule { rule_of result ≡ optional name.now }
-    ensures alone { result.global ≡ false }
-{
-    Arg::new(alloc, name).long(name).value_name("N").help(help)
 }
 
 /// The command that runs a launch in threads.
@@ -237,9 +259,9 @@ fn run_command<'a>(alloc: Global) -> Result<Command<'a>, AllocError>
     ensures shape { IfOk result (λ c. shape_of c ≡ running) }
     ensures alone { IfOk result (λ c. (fields_of c).has_globals ≡ false) }
 {
-    let workers = number_option(alloc, "workers", WORKERS);
-    let queues = number_option(alloc, "queues", QUEUES);
-    let capacity = number_option(alloc, "capacity", CAPACITY);
+    let workers = option_arg(alloc, "workers", "N", WORKERS);
+    let queues = option_arg(alloc, "queues", "N", QUEUES);
+    let capacity = option_arg(alloc, "capacity", "N", CAPACITY);
     let files = Arg::new(alloc, "FILE")
         .required(true)
         .action(ArgAction::Append)
@@ -340,8 +362,12 @@ fn listing_of<'a>(alloc: Global, matches: &ArgMatches<'a>) -> Result<Request<'a>
     let Some(files) = matches.get_strs("FILE") else {
         return Ok(Request::Miscounted);
     };
+    let sides = SideNames {
+        places: matches.get_str("places"),
+        buffers: matches.get_str("buffers"),
+    };
     let files = Vec::from_slice(alloc, files)?;
-    Ok(Request::List(Listing { most, files }))
+    Ok(Request::List(Listing { most, sides, files }))
 }
 
 /// The number below 2^32 behind an option, or `default` where the option is not there.
@@ -388,7 +414,7 @@ pub fn request_of<'a, S: AsStr>(alloc: Global, words: &'a [S]) -> Result<Request
     ensures memory { IfErr result (λ e. (u : AnyTask) → AsksFor u (map S.text words.now) → kind_of e ≡ ErrorKind.OutOfMemory) }
     ensures question { IfOk result (λ r. (w : AnyWord) (names : List (List ℕ)) → AsksToShow w names (map S.text words.now) → IsQuestion w names r) }
     ensures misnamed { IfOk result (λ r. IsMisnamed (map S.text words.now) → r ≡ Misnamed) }
-    ensures races { IfOk result (λ r. (most : Option ℕ) (names : List (List ℕ)) → AsksForRaces most names (map S.text words.now) → IsListing most names r) }
+    ensures races { IfOk result (λ r. (options : Options) (names : List (List ℕ)) → AsksForRaces options names (map S.text words.now) → IsListing options names r) }
     ensures miscounted { IfOk result (λ r. IsMiscounted (map S.text words.now) → r ≡ Miscounted) }
     ensures runs { IfOk result (λ r. (c : Settings) (names : List (List ℕ)) → AsksToRun c names (map S.text words.now) → IsPlan c names r) }
     ensures misconfigured { IfOk result (λ r. IsMisconfigured (map S.text words.now) → r ≡ Misconfigured) }

@@ -10,17 +10,22 @@ ghost use Rattle.gr_report.specs.Putting.{AppendsPrefix};
 ghost use Rattle.gr_report.specs.Whole.{whole_of};
 ghost use Rattle.gr_cli.specs.declared.arguments.Task.{Task as AnyTask};
 ghost use Rattle.gr_cli.specs.Answers.{IsAnswerOf, IsDisplay, IsFaultTold, IsRacesDisplay, IsRunAnswer};
+ghost use Rattle.gr_races.specs.FaultText.{races_fault_line};
 ghost use Rattle.gr_model.specs.Configs.{Settings};
 ghost use Rattle.gr_cli.specs.Plans.{AsksToRun, IsMisconfigured};
-ghost use Rattle.gr_cli.specs.Questions.{AsksForRaces, AsksToShow, IsMiscounted, IsMisnamed};
-ghost use Rattle.gr_cli.specs.Statuses.{fault_status, race_status, IsReportStatus};
+ghost use Rattle.gr_cli.specs.Questions.{AsksForRaces, AsksToShow, IsMiscounted, IsMisnamed, Options, options_of};
+ghost use Rattle.gr_cli.specs.Statuses.{fault_status, race_status, races_fault_status, IsReportStatus};
 ghost use Rattle.gr_cli.specs.Words.{AreHelp, AreWrong, AsksFor, IsHelp, IsWrongUsage, faults};
 
 use crate::arguments::{Listing, Plan, Question, Request, Task, request_of};
 use crate::running::run_files;
-use crate::status::{FAILED, NOTHING, USAGE, WANTING, status_of, status_of_race, status_of_report};
+use crate::status::{
+    FAILED, NOTHING, USAGE, WANTING, status_of, status_of_race, status_of_races_fault,
+    status_of_report,
+};
 use clap::Error;
 use clap::error::ErrorKind;
+use gr_races::fault::{RacesFault, write_races_fault};
 use gr_races::files::show_races_of_files;
 use gr_record::fault::Fault;
 use gr_replay::replay;
@@ -163,6 +168,28 @@ fn explain_misnaming<E: Write>(errors: &mut E) -> u8
     USAGE
 }
 
+/// Tells of a fault of races on standard error, and gives its status. That standard error fails is passed over.
+fn fail_listing<E: Write>(fault: &RacesFault, errors: &mut E) -> u8
+    ensures status { result ≡ races_fault_status fault.now }
+    ensures told { AppendsPrefix (E.contents errors.old) (E.contents errors.new) (races_fault_line fault.now) }
+{
+    let _ = write_races_fault(fault, errors);
+    status_of_races_fault(fault)
+}
+
+/// Tells of races that were to be shown and could not, and gives the status of what came of it.
+fn conclude_listing<E: Write>(outcome: Result<bool, RacesFault>, errors: &mut E) -> u8
+    ensures race { IfOk outcome (λ found. result ≡ race_status found) }
+    ensures silent { OnOk outcome (Keeps (E.contents errors.old) (E.contents errors.new)) }
+    ensures fault { IfErr outcome (λ fault. result ≡ races_fault_status fault) }
+    ensures told { IfErr outcome (λ fault. AppendsPrefix (E.contents errors.old) (E.contents errors.new) (races_fault_line fault)) }
+{
+    match outcome {
+        Ok(found) => status_of_race(found),
+        Err(fault) => fail_listing(&fault, errors),
+    }
+}
+
 /// Shows the races of the launch whose streams are in files, and gives the exit status.
 fn list<T: Read + Drop, O: Fn(&str) -> io::Result<T>, W: Write, E: Write>(
     alloc: Global,
@@ -172,11 +199,11 @@ fn list<T: Read + Drop, O: Fn(&str) -> io::Result<T>, W: Write, E: Write>(
     errors: &mut E,
 ) -> u8
     requires { O.IsAlwaysCallable opener }
-    ensures { IsRacesDisplay T.remaining (FnReturnsAt O.Fn opener) (map (λ s. s.now) listing.now.files.items) listing.now.most (W.contents writer.old) (W.contents writer.new) (E.contents errors.old) (E.contents errors.new) result }
+    ensures { IsRacesDisplay T.remaining (FnReturnsAt O.Fn opener) (map (λ s. s.now) listing.now.files.items) (options_of listing.now) (W.contents writer.old) (W.contents writer.new) (E.contents errors.old) (E.contents errors.new) result }
 {
     let files = listing.files.as_slice();
-    let outcome = show_races_of_files(alloc, files, opener, listing.most, writer);
-    conclude_showing(outcome, errors)
+    let outcome = show_races_of_files(alloc, &listing.sides, files, opener, listing.most, writer);
+    conclude_listing(outcome, errors)
 }
 
 /// Tells that the words have no number of kinds.
@@ -217,7 +244,7 @@ fn explain_misconfiguring<E: Write>(errors: &mut E) -> u8
 }
 
 /// Does what the words ask for, and gives the exit status. The words are those behind the program's name. Files are opened
-/// by `opener`, in their order, where the words name files; no other request opens one. Only a run in threads uses `rt`.
+/// by `opener` where the words name files; no other request opens one. Only a run in threads uses `rt`.
 pub fn execute<H, S, R, T, O, W, E>(
     rt: H,
     alloc: Global,
@@ -246,7 +273,7 @@ where
     ensures misnamed { IsMisnamed (map S.text words.now) → ((result ≡ USAGE) ⊎ (result ≡ WANTING)) × Keeps (W.contents writer.old) (W.contents writer.new) }
 
     // The races that are shown, of files.
-    ensures lists { (most : Option ℕ) (names : List (List ℕ)) → AsksForRaces most names (map S.text words.now) → IsRacesDisplay T.remaining (FnReturnsAt O.Fn opener) names most (W.contents writer.old) (W.contents writer.new) (E.contents errors.old) (E.contents errors.new) result }
+    ensures lists { (options : Options) (names : List (List ℕ)) → AsksForRaces options names (map S.text words.now) → IsRacesDisplay T.remaining (FnReturnsAt O.Fn opener) names options (W.contents writer.old) (W.contents writer.new) (E.contents errors.old) (E.contents errors.new) result }
     ensures miscounted { IsMiscounted (map S.text words.now) → ((result ≡ USAGE) ⊎ (result ≡ WANTING)) × Keeps (W.contents writer.old) (W.contents writer.new) }
 
     // The launch that is run in threads, of files.

@@ -2,8 +2,9 @@
 
 ghost use Rattle.std.specs.Prelude.{◌≡◌};
 ghost use Rattle.gr_report.specs.Whole.{whole_of};
-ghost use Rattle.gr_cli.specs.Statuses.{fault_status, race_status, IsReportStatus};
+ghost use Rattle.gr_cli.specs.Statuses.{fault_status, race_status, races_fault_status, IsReportStatus};
 
+use gr_races::fault::RacesFault;
 use gr_record::error::RecordError;
 use gr_record::fault::Fault;
 use gr_report::found;
@@ -44,6 +45,16 @@ pub fn status_of(fault: &Fault) -> u8
         | Fault::LongStream(_) => REFUSED,
         Fault::Memory | Fault::Threads => WANTING,
         Fault::Read | Fault::Write => FAILED,
+    }
+}
+
+/// The status of a run over races that failed.
+pub fn status_of_races_fault(fault: &RacesFault) -> u8
+    ensures { result ≡ races_fault_status fault.now }
+{
+    match fault {
+        RacesFault::Run(fault) => status_of(fault),
+        RacesFault::Places(_) | RacesFault::Buffers(_) => REFUSED,
     }
 }
 

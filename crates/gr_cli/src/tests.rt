@@ -56,7 +56,7 @@ type Case = (
     u8,
 );
 
-const CASES: [Case; 68] = [
+const CASES: [Case; 72] = [
     ("a race", &["replay"], &RACE, REPORT, "", 1),
     ("a race, without a command", &[], &RACE, REPORT, "", 1),
     ("no race", &["replay"], &NO_RACE, CLEAN, "", 0),
@@ -533,6 +533,45 @@ const CASES: [Case; 68] = [
         0,
     ),
     (
+        "the races of a file, with side files",
+        &["races", "--places", "places", "--buffers=buffers", "race"],
+        &[],
+        RACE_NOTED,
+        "",
+        1,
+    ),
+    (
+        "a file of places that is out of form",
+        &[
+            "races",
+            "--places",
+            "buffers",
+            "--buffers",
+            "places",
+            "race",
+        ],
+        &[],
+        "",
+        "gpurace: places: line 1: bad line\n",
+        2,
+    ),
+    (
+        "a file of buffers that is out of form",
+        &["races", "--buffers", "places", "race"],
+        &[],
+        "",
+        "gpurace: buffers: line 1: bad line\n",
+        2,
+    ),
+    (
+        "a file of places that is not there",
+        &["races", "race", "--places", "missing"],
+        &[],
+        "",
+        "gpurace: read fault\n",
+        5,
+    ),
+    (
         "help on packing",
         &["pack", "--help"],
         &[],
@@ -556,6 +595,18 @@ const RACE_BY_KIND: &str = "kind global write read one group words 1\n\
 words global 16\n\
 race global 16: 0 0 0 with 0 1 0\n\
 end kinds 1 races 1\n";
+
+const RACE_NOTED: &str = "kind global write read one group words 1\n\
+words global 16\n\
+race global 16: 0 0 0 with 0 1 0\n\
+buffer out[4]\n\
+first shift.cl:4\n\
+second shift.cl:6\n\
+end kinds 1 races 1\n";
+
+const PLACES: &[u8] = b"0 0 0 shift.cl:4\n0 1 0 shift.cl:6\n";
+
+const BUFFERS: &[u8] = b"g 12 64 out\n";
 
 const MISCOUNTED: &str = "error: N of --most is no number below 4294967296";
 
@@ -592,6 +643,8 @@ fn open_stored(alloc: Global, name: &str, back: &[u8]) -> io::Result<Cursor<Vec<
         "race" => RACE.as_slice(),
         "none" => NO_RACE.as_slice(),
         "cut" => CUT_OFF.as_slice(),
+        "places" => PLACES,
+        "buffers" => BUFFERS,
         "wanting" => return Err(io::Error::from(ErrorKind::OutOfMemory)),
         _ => return Err(io::Error::from(ErrorKind::NotFound)),
     };

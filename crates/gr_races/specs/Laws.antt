@@ -1,5 +1,5 @@
 -- What follows of the races of a launch kind by kind.
-use Rattle.std.specs.Prelude.{◌≡◌, false, List, All, AllPairs, IsTrue, map}
+use Rattle.std.specs.Prelude.{◌≡◌, false, List, [], All, AllPairs, IsTrue, map}
 use Rattle.std.specs.List.{list_any}
 use Rattle.gr_model.specs.declared.race.Race.{Race}
 use Rattle.gr_model.specs.RacePairs.{ArePairedRaces}
@@ -7,6 +7,7 @@ use Rattle.gr_model.specs.Streams.{Streams}
 use Rattle.gr_races.specs.declared.kinds.KindedRace.{KindedRace}
 use Rattle.gr_races.specs.Kinds.{all_kinded, same_kind}
 use Rattle.gr_races.specs.Listing.{kinds_of}
+use Rattle.gr_races.specs.Sides.{notes, nothing_said}
 
 -- no racing pair is without a kind
 abbrev pub EveryRaceHasAKind : Type 0
@@ -15,3 +16,7 @@ EveryRaceHasAKind = (s : Streams) (races : List Race) → ArePairedRaces s races
 -- no two of the kinds are the same, and the kind of each row is one of them
 abbrev pub EachRaceIsListedOnce : Type 0
 EachRaceIsListedOnce = (rows : List KindedRace) → AllPairs (λ k l. same_kind k l ≡ false) (kinds_of rows) × All (λ row. IsTrue (list_any (λ l. same_kind l row.kind) (kinds_of rows))) rows
+
+-- without side files nothing is said of a race
+abbrev pub NothingIsNoted : Type 0
+NothingIsNoted = (r : Race) → notes nothing_said r ≡ []

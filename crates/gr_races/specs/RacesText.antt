@@ -13,6 +13,7 @@ use Rattle.gr_races.specs.declared.kinds.RaceKind.{RaceKind}
 use Rattle.gr_races.specs.declared.runs.Run.{Run}
 use Rattle.gr_races.specs.Listing.{Entry}
 use Rattle.gr_races.specs.Runs.{number_of}
+use Rattle.gr_races.specs.Sides.{SidesSaid, notes}
 
 abbrev pub space_text : Space → List ℕ
 space_text Global = codes "kind global"
@@ -41,13 +42,13 @@ run_text r = word_text r.first ++ (if r.last == number_of r.first then [] else f
 abbrev pub words_line : List Run → List ℕ
 words_line runs = codes "words" ++ flat_map run_text runs ++ codes "\n"
 
--- the racing pair of the first race
-abbrev pub first_line : List Race → List ℕ
-first_line [] = []
-first_line (r ∷ races) = pair_text r.word r.first r.second ++ codes "\n"
+-- the racing pair of the first race, and what side files say of it
+abbrev pub first_lines : SidesSaid → List Race → List ℕ
+first_lines s [] = []
+first_lines s (r ∷ races) = pair_text r.word r.first r.second ++ codes "\n" ++ notes s r
 
-abbrev pub entry_text : Entry → List ℕ
-entry_text e = kind_line e.kind (length e.races) ++ words_line e.runs ++ first_line e.races
+abbrev pub entry_text : SidesSaid → Entry → List ℕ
+entry_text s e = kind_line e.kind (length e.races) ++ words_line e.runs ++ first_lines s e.races
 
 abbrev pub end_line : ℕ → ℕ → List ℕ
 end_line kinds races = field (codes "end kinds ") (decimal kinds) ++ field (codes " races ") (decimal races) ++ codes "\n"
@@ -58,5 +59,5 @@ at_most None xs = xs
 at_most (Some n) xs = take n xs
 
 -- at most so many kinds, and how many kinds and races there are
-abbrev pub races_text : Option ℕ → List Entry → ℕ → List ℕ
-races_text most entries races = flat_map entry_text (at_most most entries) ++ end_line (length entries) races
+abbrev pub races_text : SidesSaid → Option ℕ → List Entry → ℕ → List ℕ
+races_text s most entries races = flat_map (entry_text s) (at_most most entries) ++ end_line (length entries) races

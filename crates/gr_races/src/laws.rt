@@ -1,9 +1,14 @@
 //! Laws of kinds and runs. Each is the contract of a function that does nothing.
 
-ghost use Rattle.gr_races.specs.Laws.{EachRaceIsListedOnce, EveryRaceHasAKind};
+ghost use Rattle.gr_races.specs.Laws.{EachRaceIsListedOnce, EveryRaceHasAKind, NothingIsNoted};
 
 /// Each race of a launch has a kind, and stands among the races of just that kind.
 pub fn races_are_listed()
     ensures kinds { EveryRaceHasAKind }
     ensures once { EachRaceIsListedOnce }
+{}
+
+/// Without side files the text says of a race nothing but its words and its pair.
+pub fn nothing_is_noted()
+    ensures { NothingIsNoted }
 {}

@@ -3,12 +3,14 @@
 //! The text is docs/FORMATS.md, "Races".
 #![tactic(auto)]
 
+pub mod fault;
 pub mod files;
 pub mod kinds;
 pub mod laws;
 pub mod listing;
 pub mod runs;
 mod show;
+pub mod sides;
 pub mod text;
 
 pub use show::show_races;

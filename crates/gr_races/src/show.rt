@@ -7,9 +7,11 @@ ghost use Rattle.gr_record.specs.declared.fault.Fault.TheVariants as faults;
 ghost use Rattle.gr_replay.specs.Each.{all_known};
 ghost use Rattle.gr_races.specs.Listing.{entry_of};
 ghost use Rattle.gr_races.specs.Shown.{AreListedRaces, AreRacesShown, ShowsRacesPrefix};
+ghost use Rattle.gr_races.specs.Sides.{sides_said};
 ghost use Rattle.gr_show.specs.Shown.{IsShowFault};
 
 use crate::listing::{KindEntry, all_kinded, list_kinds};
+use crate::sides::Sides;
 use crate::text::write_races;
 use gr_explain::records::Records;
 use gr_explain::taking::take_all;
@@ -37,8 +39,8 @@ fn races_by_kind<A: Allocator + Copy>(
     Ok((list_kinds(alloc, &rows)?, found.races.len()))
 }
 
-/// Reads the streams of a launch, one from each reader, writes its races kind by kind, of at most so many kinds, and
-/// nothing else, and tells whether there is a race.
+/// Reads the streams of a launch, one from each reader, writes its races kind by kind, of at most so many kinds, with what
+/// side files say of them, and nothing else, and tells whether there is a race.
 ///
 /// # Errors
 /// Those of `read_each`; `Write` where the writer fails, which then has a prefix of the text. In every other case of an
@@ -46,20 +48,21 @@ fn races_by_kind<A: Allocator + Copy>(
 pub fn show_races<A: Allocator + Copy, T: Read + Drop, W: Write>(
     alloc: A,
     readers: Vec<T, A>,
+    sides: &Sides<'_>,
     most: Option<u32>,
     writer: &mut W,
 ) -> Result<bool, Fault>
-    ensures shown { IfOk result (λ found. AreRacesShown (all_known (map T.remaining readers.items)) most found (W.contents writer.old) (W.contents writer.new)) }
+    ensures shown { IfOk result (λ found. AreRacesShown (all_known (map T.remaining readers.items)) (sides_said sides.now) most found (W.contents writer.old) (W.contents writer.new)) }
     ensures fault { IfErr result (λ f. IfSome (all_known (map T.remaining readers.items)) (λ inputs. IsShowFault inputs f)) }
 
     // What a refusal leaves with the writer.
     ensures untouched { IfErr result (λ f. f ≢ faults.Write → Keeps (W.contents writer.old) (W.contents writer.new)) }
-    ensures prefix { IfErr result (λ f. f ≡ faults.Write → ShowsRacesPrefix (all_known (map T.remaining readers.items)) most (W.contents writer.old) (W.contents writer.new)) }
+    ensures prefix { IfErr result (λ f. f ≡ faults.Write → ShowsRacesPrefix (all_known (map T.remaining readers.items)) (sides_said sides.now) most (W.contents writer.old) (W.contents writer.new)) }
     ensures threads { IfErr result (λ f. f ≢ faults.Threads) }
 {
     let traces = read_each(alloc, readers)?;
     let (entries, races) = races_by_kind(alloc, &traces)?;
-    match write_races(writer, &entries, most, races) {
+    match write_races(writer, sides, &entries, most, races) {
         Ok(()) => Ok(races > 0),
         Err(_) => Err(Fault::Write),
     }

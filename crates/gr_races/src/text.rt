@@ -6,10 +6,12 @@ ghost use Rattle.std.specs.Io.KnownBytes.{Appends};
 ghost use Rattle.gr_report.specs.Putting.{AppendsPrefix, Puts};
 ghost use Rattle.gr_races.specs.Listing.{entry_of};
 ghost use Rattle.gr_races.specs.RacesText as spec;
+ghost use Rattle.gr_races.specs.Sides.{sides_said};
 
 use crate::kinds::{Operation, RaceKind};
 use crate::listing::KindEntry;
 use crate::runs::{Run, number_of};
+use crate::sides::{Sides, put_notes};
 use gr_model::event::Space;
 use gr_model::race::Race;
 use gr_report::putting::{WriteFault, finish, put, put_field};
@@ -86,35 +88,41 @@ fn put_words<W: Write>(writer: &mut W, runs: &[Run]) -> Result<(), WriteFault>
     put(writer, b"\n")
 }
 
-fn put_first<W: Write>(writer: &mut W, races: &[Race]) -> Result<(), WriteFault>
-    ensures { Puts (W.contents writer.old) (W.contents writer.new) result (spec.first_line races.now) }
+fn put_first<W: Write>(writer: &mut W, sides: &Sides<'_>, races: &[Race]) -> Result<(), WriteFault>
+    ensures { Puts (W.contents writer.old) (W.contents writer.new) result (spec.first_lines (sides_said sides.now) races.now) }
 {
     match races.first() {
         None => Ok(()),
         Some(race) => {
             put_pair(writer, race.word, race.first, race.second)?;
-            put(writer, b"\n")
+            put(writer, b"\n")?;
+            put_notes(writer, sides, race)
         }
     }
 }
 
-fn put_entry<A: Allocator, W: Write>(writer: &mut W, entry: &KindEntry<A>) -> Result<(), WriteFault>
-    ensures { Puts (W.contents writer.old) (W.contents writer.new) result (spec.entry_text (entry_of entry.now)) }
+fn put_entry<A: Allocator, W: Write>(
+    writer: &mut W,
+    sides: &Sides<'_>,
+    entry: &KindEntry<A>,
+) -> Result<(), WriteFault>
+    ensures { Puts (W.contents writer.old) (W.contents writer.new) result (spec.entry_text (sides_said sides.now) (entry_of entry.now)) }
 {
     let races = entry.races.as_slice();
     put_kind(writer, entry.kind, races.len())?;
     put_words(writer, entry.runs.as_slice())?;
-    put_first(writer, races)
+    put_first(writer, sides, races)
 }
 
 fn put_entries<A: Allocator, W: Write>(
     writer: &mut W,
+    sides: &Sides<'_>,
     entries: &[KindEntry<A>],
 ) -> Result<(), WriteFault>
-    ensures { Puts (W.contents writer.old) (W.contents writer.new) result (flat_map (λ e. spec.entry_text (entry_of e)) entries.now) }
+    ensures { Puts (W.contents writer.old) (W.contents writer.new) result (flat_map (λ e. spec.entry_text (sides_said sides.now) (entry_of e)) entries.now) }
 {
     for entry in entries {
-        put_entry(writer, entry)?;
+        put_entry(writer, sides, entry)?;
     }
     Ok(())
 }
@@ -139,30 +147,32 @@ fn at_most<A: Allocator>(entries: &[KindEntry<A>], most: Option<u32>) -> &[KindE
 
 fn put_races<A: Allocator, W: Write>(
     writer: &mut W,
+    sides: &Sides<'_>,
     entries: &[KindEntry<A>],
     most: Option<u32>,
     races: usize,
 ) -> Result<(), WriteFault>
-    ensures { Puts (W.contents writer.old) (W.contents writer.new) result (spec.races_text most (map entry_of entries.now) races) }
+    ensures { Puts (W.contents writer.old) (W.contents writer.new) result (spec.races_text (sides_said sides.now) most (map entry_of entries.now) races) }
 {
-    put_entries(writer, at_most(entries, most))?;
+    put_entries(writer, sides, at_most(entries, most))?;
     put_end(writer, entries.len(), races)
 }
 
-/// Writes the races of a launch kind by kind, of at most so many kinds, and an end that counts all of them, and flushes.
-/// It takes no memory.
+/// Writes the races of a launch kind by kind, of at most so many kinds, with what side files say of them, and an end that
+/// counts all of them, and flushes. It takes no memory.
 ///
 /// # Errors
 /// `WriteFault` if the writer fails, which has then taken a prefix of the text.
 pub(crate) fn write_races<A: Allocator, W: Write>(
     writer: &mut W,
+    sides: &Sides<'_>,
     entries: &[KindEntry<A>],
     most: Option<u32>,
     races: usize,
 ) -> Result<(), WriteFault>
-    ensures whole { OnOk result (Appends (W.contents writer.old) (W.contents writer.new) (spec.races_text most (map entry_of entries.now) races)) }
-    ensures prefix { OnErr result (AppendsPrefix (W.contents writer.old) (W.contents writer.new) (spec.races_text most (map entry_of entries.now) races)) }
+    ensures whole { OnOk result (Appends (W.contents writer.old) (W.contents writer.new) (spec.races_text (sides_said sides.now) most (map entry_of entries.now) races)) }
+    ensures prefix { OnErr result (AppendsPrefix (W.contents writer.old) (W.contents writer.new) (spec.races_text (sides_said sides.now) most (map entry_of entries.now) races)) }
 {
-    put_races(writer, entries, most, races)?;
+    put_races(writer, sides, entries, most, races)?;
     finish(writer)
 }

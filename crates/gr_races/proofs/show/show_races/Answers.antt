@@ -14,3 +14,15 @@ returns-in-Ok-clause-shown g c =
       text = rw (c.deref.ensures.value, listed.listed, listed.counted) at c.in-Ok.ensures.whole;
       said = race_said c.in_ok-traces.traces listed.races c.in_ok-entries.races listed.exact listed.counted;
     }
+
+pub returns-clause-prefix : goal.returns-clause-prefix
+returns-clause-prefix g c = λ _.
+    let listed = c.in_ok-entries.ensures in
+    record {
+      launch = c.in_ok-traces.traces;
+      spelled = c.in_ok-traces.ensures.launch;
+      accepted = search rules;
+      races = listed.races;
+      exact = listed.exact;
+      prefix = rw (c.deref.ensures.value, listed.listed, listed.counted) at c.in-Err.ensures.prefix;
+    }

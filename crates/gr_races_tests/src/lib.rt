@@ -1,0 +1,8 @@
+//! Tests of `gr_races`: the text of races with side files and without, the order of faults, and growths, opens, reads and
+//! writes that are refused.
+#![tactic(auto)]
+
+#[cfg(test)]
+mod ends;
+#[cfg(test)]
+mod shown;

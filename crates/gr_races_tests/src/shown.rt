@@ -1,0 +1,265 @@
+//! What is shown of launches whose streams and side files are in files.
+
+use crate::ends::{FailingReader, FailingWriter};
+use gr_model::memory::Memory;
+use gr_races::fault::{RacesFault, write_races_fault};
+use gr_races::files::{SideNames, show_races_of_files};
+use gr_record::fault::Fault;
+use gr_text::packing::pack_text;
+use refusing::Refusing;
+use std::alloc::{Allocator, Global};
+use std::io::{self, ErrorKind};
+use std::test::Fail;
+
+/// Two kinds of races: words 647 and 648 are written by two items, and local word 4 is written and read.
+const STREAM: &str =
+    "group 0 items 2 launch 7\n0 w g 647\n0 w g 648\n1 w g 647\n1 w g 648\n0 w l 4\n1 r l 4\nend\n";
+
+const PLAIN: &str = "kind global write write one group words 2\nwords global 647..648\n\
+race global 647: 0 0 0 with 0 1 0\n\
+kind local write read one group words 1\nwords local 0 4\n\
+race local 0 4: 0 0 2 with 0 1 2\nend kinds 2 races 3\n";
+
+const NOTED: &str = "kind global write write one group words 2\nwords global 647..648\n\
+race global 647: 0 0 0 with 0 1 0\nbuffer psc[199]\nfirst scan.cl:4992\nsecond scan.cl:4992\n\
+kind local write read one group words 1\nwords local 0 4\n\
+race local 0 4: 0 0 2 with 0 1 2\nbuffer tile[4]\nsecond scan.cl:5001\nend kinds 2 races 3\n";
+
+const PLACES: &[u8] =
+    b"0 0 0 scan.cl:4992\n0 1 0 scan.cl:4992\n0 1 2 scan.cl:5001\n1 scan.cl:5000\n";
+
+const BUFFERS: &[u8] = b"g 448 300 psc\nl 0 0 16 tile\n";
+
+/// The files of places and of buffers, of how many kinds, and the text.
+type Case = (
+    &'static str,
+    Option<&'static str>,
+    Option<&'static str>,
+    Option<u32>,
+    &'static str,
+);
+
+const CASES: [Case; 6] = [
+    ("no side files", None, None, None, PLAIN),
+    ("both", Some("places"), Some("buffers"), None, NOTED),
+    (
+        "side files that say nothing",
+        Some("empty"),
+        Some("empty"),
+        None,
+        PLAIN,
+    ),
+    (
+        "places alone",
+        Some("places"),
+        None,
+        Some(1),
+        "kind global write write one group words 2\nwords global 647..648\n\
+         race global 647: 0 0 0 with 0 1 0\nfirst scan.cl:4992\nsecond scan.cl:4992\n\
+         end kinds 2 races 3\n",
+    ),
+    (
+        "buffers alone",
+        None,
+        Some("buffers"),
+        Some(1),
+        "kind global write write one group words 2\nwords global 647..648\n\
+         race global 647: 0 0 0 with 0 1 0\nbuffer psc[199]\nend kinds 2 races 3\n",
+    ),
+    (
+        "no kinds",
+        Some("places"),
+        Some("buffers"),
+        Some(0),
+        "end kinds 2 races 3\n",
+    ),
+];
+
+/// The bytes of a file by its name, one at a time.
+fn open_stored<'a>(name: &str, stream: &'a [u8]) -> io::Result<FailingReader<'a>> {
+    let bytes = match name {
+        "stream" => stream,
+        "places" => PLACES,
+        "buffers" => BUFFERS,
+        "empty" => b"",
+        "bad" | "worse" => b"1 a\n1\n",
+        "failing" => {
+            return Ok(FailingReader {
+                bytes: PLACES,
+                calls: 3,
+            });
+        }
+        _ => return Err(io::Error::from(ErrorKind::NotFound)),
+    };
+    Ok(FailingReader {
+        bytes,
+        calls: usize::MAX,
+    })
+}
+
+/// Shows the races of files, and gives the answer and what was written.
+fn shown<A: Allocator + Copy>(
+    alloc: A,
+    heap: Global,
+    sides: &SideNames<'static>,
+    names: &[&'static str],
+    most: Option<u32>,
+    room: usize,
+) -> Result<(Result<bool, RacesFault>, Vec<u8>), Memory> {
+    let Ok(stream) = pack_text(heap, STREAM.as_bytes()) else {
+        return Err(Memory);
+    };
+    let mut writer = FailingWriter {
+        taken: Vec::new(heap),
+        room,
+        flushes: true,
+    };
+    let answer = show_races_of_files(
+        alloc,
+        sides,
+        names,
+        |name| open_stored(name, &stream),
+        most,
+        &mut writer,
+    );
+    Ok((answer, writer.taken))
+}
+
+#[test]
+fn races_are_shown(rt: HostRuntime) -> Result<(), Fail> {
+    let alloc = rt.alloc();
+    for (name, places, buffers, most, wanted) in CASES {
+        let sides = SideNames { places, buffers };
+        let (answer, text) = shown(alloc, alloc, &sides, &["stream"], most, usize::MAX)?;
+        assert_eq!(rt; answer, Ok(true), "{name}");
+        assert_eq!(rt; str::from_utf8(&text), Ok(wanted), "{name}");
+    }
+    Ok(())
+}
+
+/// The files of places and of buffers and that of the stream, the fault, and its line.
+type Refusal = (
+    &'static str,
+    Option<&'static str>,
+    Option<&'static str>,
+    &'static str,
+    RacesFault,
+    &'static str,
+);
+
+const REFUSALS: [Refusal; 7] = [
+    (
+        "a bad line of places",
+        Some("bad"),
+        Some("worse"),
+        "stream",
+        RacesFault::Places(2),
+        "gpurace: places: line 2: bad line\n",
+    ),
+    (
+        "a bad line of buffers",
+        Some("places"),
+        Some("bad"),
+        "empty",
+        RacesFault::Buffers(1),
+        "gpurace: buffers: line 1: bad line\n",
+    ),
+    (
+        "places that are not there",
+        Some("none"),
+        Some("bad"),
+        "stream",
+        RacesFault::Run(Fault::Read),
+        "gpurace: read fault\n",
+    ),
+    (
+        "a stream that is not there, before a bad line",
+        Some("bad"),
+        None,
+        "none",
+        RacesFault::Run(Fault::Read),
+        "gpurace: read fault\n",
+    ),
+    (
+        "places that can't be read",
+        Some("failing"),
+        Some("bad"),
+        "stream",
+        RacesFault::Run(Fault::Read),
+        "gpurace: read fault\n",
+    ),
+    (
+        "a bad line before buffers that can't be read",
+        Some("bad"),
+        Some("failing"),
+        "stream",
+        RacesFault::Places(2),
+        "gpurace: places: line 2: bad line\n",
+    ),
+    (
+        "a stream that fails",
+        Some("places"),
+        Some("buffers"),
+        "failing",
+        RacesFault::Run(Fault::Read),
+        "gpurace: read fault\n",
+    ),
+];
+
+#[test]
+fn faults_come_in_their_order(rt: HostRuntime) -> Result<(), Fail> {
+    let alloc = rt.alloc();
+    for (name, places, buffers, stream, wanted, wanted_line) in REFUSALS {
+        let sides = SideNames { places, buffers };
+        let (answer, text) = shown(alloc, alloc, &sides, &[stream], None, usize::MAX)?;
+        assert_eq!(rt; answer, Err(wanted), "{name}");
+        assert!(rt; text.is_empty(), "{name}");
+        let mut line = Vec::new(alloc);
+        assert!(rt; write_races_fault(&wanted, &mut line).is_ok(), "{name}");
+        assert_eq!(rt; str::from_utf8(&line), Ok(wanted_line), "{name}");
+    }
+    Ok(())
+}
+
+const BOTH: SideNames<'static> = SideNames {
+    places: Some("places"),
+    buffers: Some("buffers"),
+};
+
+#[test]
+fn a_failing_writer_has_a_prefix(rt: HostRuntime) -> Result<(), Fail> {
+    let alloc = rt.alloc();
+    for room in 0..NOTED.len() {
+        let (answer, text) = shown(alloc, alloc, &BOTH, &["stream"], None, room)?;
+        assert_eq!(rt; answer, Err(RacesFault::Run(Fault::Write)), "{room}");
+        assert!(rt;
+            text.len() == room && NOTED.as_bytes().starts_with(&text),
+            "{room}"
+        );
+    }
+    Ok(())
+}
+
+/// Refuses each growth in turn, until none is refused; how many were, or none if an answer was wrong.
+fn growths_refused(heap: Global) -> Result<Option<u64>, Memory> {
+    for at in 0..10_000_u64 {
+        let alloc = Refusing::new(heap, at);
+        let (answer, text) = shown(&alloc, heap, &BOTH, &["stream"], None, usize::MAX)?;
+        let whole = answer == Ok(true) && text.as_slice() == NOTED.as_bytes();
+        if !alloc.refused() {
+            return Ok(whole.then_some(at));
+        }
+        let refused = answer == Err(RacesFault::Run(Fault::Memory)) && text.is_empty();
+        if !whole && !refused {
+            return Ok(None);
+        }
+    }
+    Ok(None)
+}
+
+#[test]
+fn each_refused_growth_is_want_of_memory(rt: HostRuntime) -> Result<(), Fail> {
+    let refused = growths_refused(rt.alloc())?;
+    assert!(rt; refused.is_some_and(|refused| refused > 20));
+    Ok(())
+}
