@@ -1,27 +1,33 @@
 #!/bin/sh
-# Builds the plugin, records the kernels of tests/ with their mistakes and without, and compares what is found with what was
-# worked out by hand; and compares findings.py with gpurace on the examples. Says SKIPPED, with status 0, where Oclgrind or an
-# OpenCL loader to link with is not there.
+# Compares what is said of launches in folders that were written by hand with what was worked out by hand. Then builds
+# the plugin, records the kernels of tests/ with their mistakes and without, and compares in the same way. Says SKIPPED
+# of the second where Oclgrind or an OpenCL loader to link with is not there; the first is then done where
+# GPURACE_PROGRAM is set.
 #
 #   check.sh      GPURACE_PROGRAM names a built gpurace; without it ./gpurace builds one, which takes minutes
 set -eu
 here=$(cd "$(dirname "$0")" && pwd)
+failures=0
+folders() {
+    python3 "$here/tests/folders.py" "$1" || failures=$((failures + 1))
+}
+[ -z "${GPURACE_PROGRAM:-}" ] || folders "$GPURACE_PROGRAM"
 for needed in oclgrind oclgrind-kernel llvm-config-14 python3; do
     if ! command -v $needed > /dev/null; then
-        echo "check.sh: SKIPPED, nothing was checked: $needed is not here (Debian: apt-get install oclgrind liboclgrind-dev" \
-            "llvm-14-dev ocl-icd-opencl-dev opencl-headers g++ make)"
-        exit 0
+        echo "check.sh: SKIPPED, nothing was recorded: $needed is not here (Debian: apt-get install oclgrind" \
+            "liboclgrind-dev llvm-14-dev ocl-icd-opencl-dev opencl-headers g++ make)"
+        exit $failures
     fi
 done
 work=$(mktemp -d)
 trap 'rm -rf "$work"' EXIT INT TERM
 cd "$here/tests"
 if ! "${CC:-cc}" -Wall -Wextra -o "$work/sum_tiles" sum_tiles.c -lOpenCL; then
-    echo "check.sh: SKIPPED, nothing was checked: no OpenCL program can be built (Debian: apt-get install ocl-icd-opencl-dev)"
-    exit 0
+    echo "check.sh: SKIPPED, nothing was recorded: no OpenCL program can be built (Debian: apt-get install" \
+        "ocl-icd-opencl-dev)"
+    exit $failures
 fi
 
-failures=0
 fail() {
     echo "FAILED: $*"
     cat "$work/said"
@@ -48,7 +54,8 @@ expect() {
 expect "no mistake" 0 "sum 2016" "launch 0, sum_tiles: nothing found (4 groups of 16 work-items" \
     "1 launch: 0 with findings, 1 without, 0 not judged" -- "$work/sum_tiles" sum_tiles.cl 0
 # each item writes tile[l]; items below 8 then read tile[l + 8]: eight words in each of four groups
-expect "a barrier is missing" 1 "races 32 diverge 0 unmatched 0 held 0" "race on tile\[8..15\] of 4 groups (32 words)" \
+expect "a barrier is missing" 1 "races 32 diverge 0 unmatched 0 held 0" \
+    "race on tile\[8..15\] of 4 groups (32 words); on tile\[8\] of group 0:" \
     "kernel.cl:15:[0-9]*: write by group 0, item 8" "tile\[l\] = input\[get_global_id(0)\];" \
     "kernel.cl:19:[0-9]*: read by group 0, item 0" "one with CLK_LOCAL_MEM_FENCE would order them" -- "$work/sum_tiles" sum_tiles.cl 1
 expect "a flag is missing" 1 "races 32 diverge 0 unmatched 0 held 0" "the barrier between the two, kernel.cl:16:5, would order them with CLK_LOCAL_MEM_FENCE" \
@@ -87,7 +94,7 @@ expect "parts of words" 1 "races 2 diverge 0 unmatched 0 held 0" "race on bytes.
 # group 2 is stopped, and group 3 never begins
 expect "a kernel that is stopped" 2 "nothing found in what was recorded (4 groups of 2 work-items, 15 records)" \
     "records of 2 of 4 groups were lost (the first is group 2)" -- stopped.sim
-python3 pairs.py "${GPURACE_PROGRAM:-$here/../../gpurace}" || failures=$((failures + 1))
+[ -n "${GPURACE_PROGRAM:-}" ] || folders "$here/../../gpurace"
 
 [ $failures = 0 ] || exit 1
 echo "check.sh: the recorder and its reports are as expected"
