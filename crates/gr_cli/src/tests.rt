@@ -56,7 +56,7 @@ type Case = (
     u8,
 );
 
-const CASES: [Case; 72] = [
+const CASES: [Case; 54] = [
     ("a race", &["replay"], &RACE, REPORT, "", 1),
     ("a race, without a command", &[], &RACE, REPORT, "", 1),
     ("no race", &["replay"], &NO_RACE, CLEAN, "", 0),
@@ -410,6 +410,26 @@ const CASES: [Case; 72] = [
         "gpurace: stream 0: truncated\n",
         2,
     ),
+    (
+        "help on packing",
+        &["pack", "--help"],
+        &[],
+        "Writes the bytes",
+        "",
+        0,
+    ),
+    (
+        "a word too many behind dump",
+        &["dump", "file"],
+        &RACE,
+        "",
+        "error: unexpected argument 'file' found",
+        3,
+    ),
+];
+
+/// The same of words that ask for a run in threads, or for races with side files.
+const CASES_OF_FILES: [Case; 18] = [
     ("a run", &["run", "race"], &[], REPORT, "", 1),
     (
         "a run with the greatest numbers",
@@ -571,22 +591,6 @@ const CASES: [Case; 72] = [
         "gpurace: read fault\n",
         5,
     ),
-    (
-        "help on packing",
-        &["pack", "--help"],
-        &[],
-        "Writes the bytes",
-        "",
-        0,
-    ),
-    (
-        "a word too many behind dump",
-        &["dump", "file"],
-        &RACE,
-        "",
-        "error: unexpected argument 'file' found",
-        3,
-    ),
 ];
 
 const RACE_TEXT: &str = "group 0 items 2 launch 7\n0 w g 16\n1 r g 16\nend\n";
@@ -661,28 +665,47 @@ fn begins(text: &[u8], prefix: &str) -> bool {
     text.starts_with(prefix.as_bytes()) && (text.is_empty() == prefix.is_empty())
 }
 
+/// Whether the words of a case give the output, the errors and the status that it says.
+fn is_as_said<H: Threads + Wait + Clock + Copy + Send + 'static>(
+    rt: H,
+    alloc: Global,
+    case: &Case,
+    back: &[u8],
+) -> bool {
+    let (_, words, input, wanted, wanted_errors, wanted_status) = case;
+    let mut reader = *input;
+    let mut output = Vec::new(alloc);
+    let mut errors = Vec::new(alloc);
+    let status = execute(
+        rt,
+        alloc,
+        words,
+        &mut reader,
+        |name| open_stored(alloc, name, back),
+        &mut output,
+        &mut errors,
+    );
+    status == *wanted_status
+        && begins(output.as_slice(), wanted)
+        && begins(errors.as_slice(), wanted_errors)
+}
+
 #[test]
 fn words_and_input_give_output_and_status(rt: HostRuntime) -> Result<(), Fail> {
     let back = pack_text(rt.alloc(), HANDED_BACK_BY_ONE.as_bytes())?;
-    for (name, words, input, wanted, wanted_errors, wanted_status) in &CASES {
-        let mut reader = *input;
-        let mut output = Vec::new(rt.alloc());
-        let mut errors = Vec::new(rt.alloc());
-        let status = execute(
-            rt,
-            rt.alloc(),
-            words,
-            &mut reader,
-            |name| open_stored(rt.alloc(), name, &back),
-            &mut output,
-            &mut errors,
-        );
-        assert_eq!(rt; status, *wanted_status, "{name}");
-        assert!(rt; begins(output.as_slice(), wanted), "output of {name}");
-        assert!(rt;
-            begins(errors.as_slice(), wanted_errors),
-            "errors of {name}"
-        );
+    for case in &CASES {
+        let name = case.0;
+        assert!(rt; is_as_said(rt, rt.alloc(), case, &back), "{name}");
+    }
+    Ok(())
+}
+
+#[test]
+fn words_that_name_files_give_output_and_status(rt: HostRuntime) -> Result<(), Fail> {
+    let back = pack_text(rt.alloc(), HANDED_BACK_BY_ONE.as_bytes())?;
+    for case in &CASES_OF_FILES {
+        let name = case.0;
+        assert!(rt; is_as_said(rt, rt.alloc(), case, &back), "{name}");
     }
     Ok(())
 }
