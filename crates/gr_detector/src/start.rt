@@ -93,7 +93,7 @@ fn start_one<
 }
 
 /// Ends the threads of a run in which a worker's is missing: all streams get their ends.
-fn stop<R: Threads + Wait, A: Allocator>(
+fn stop<R: Threads + Wait + Clock, A: Allocator>(
     rt: &R,
     senders: Vec<Sender<A>, A>,
     sequencer: SequencerThread<A>,

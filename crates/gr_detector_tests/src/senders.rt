@@ -10,6 +10,7 @@ use gr_sender::sender::Sender;
 use std::alloc::Allocator;
 use std::sync::Wait;
 use std::thread::{Threads, join};
+use std::time::Clock;
 
 /// A plain access of a global word by an item.
 pub fn plain(item: u16, kind: Kind, word: u32) -> Event {
@@ -23,14 +24,14 @@ pub fn plain(item: u16, kind: Kind, word: u32) -> Event {
 }
 
 /// Sends an event, and waits until there is room. Tells whether it was sent.
-pub fn sends<R: Wait, A: Allocator>(rt: &R, sender: &mut Sender<A>, event: Event) -> bool
+pub fn sends<R: Wait + Clock, A: Allocator>(rt: &R, sender: &mut Sender<A>, event: Event) -> bool
     ensures { IsSameSender sender.old sender.new }
 {
     sender.send_wait(rt, event).is_ok()
 }
 
 /// Closes a sender that may be open, and gives its receipt.
-pub fn close<R: Wait, A: Allocator>(rt: &R, sender: Sender<A>, cut: bool) -> Option<Receipt>
+pub fn close<R: Wait + Clock, A: Allocator>(rt: &R, sender: Sender<A>, cut: bool) -> Option<Receipt>
     ensures { IfSome result (IsReceiptOf sender) }
 {
     let mut sender = sender;
@@ -39,7 +40,7 @@ pub fn close<R: Wait, A: Allocator>(rt: &R, sender: Sender<A>, cut: bool) -> Opt
 }
 
 /// Sends plain accesses of so many global words by item 0, and the end. `None` where the sender refused one of them.
-pub fn send_all<R: Wait, A: Allocator>(
+pub fn send_all<R: Wait + Clock, A: Allocator>(
     rt: &R,
     sender: Sender<A>,
     kind: Kind,
@@ -58,7 +59,7 @@ pub fn send_all<R: Wait, A: Allocator>(
 }
 
 /// Sends on two threads: writes of the words 0 to 99 by one sender, and reads of the words 50 to 148 by the other.
-pub fn send_both<R: Threads + Wait + Sync, A: Allocator + Send + Sync>(
+pub fn send_both<R: Threads + Wait + Clock + Sync, A: Allocator + Send + Sync>(
     rt: &R,
     first: Sender<A>,
     second: Sender<A>,

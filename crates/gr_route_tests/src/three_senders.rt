@@ -18,6 +18,7 @@ use gr_sender::sender::Sender;
 use std::alloc::Global;
 use std::sync::{Arc, Wait};
 use std::thread::{Threads, join, yield_now};
+use std::time::Clock;
 
 /// A plain write of a global word by item 0.
 pub fn write(word: u32) -> Event
@@ -33,7 +34,7 @@ pub fn write(word: u32) -> Event
 }
 
 /// Sends writes of the words below a count, and then the end. The sender comes back where it refused one of them.
-fn send_all<R: Wait>(rt: &R, sender: Sender, count: u32) -> Result<Receipt, Sender>
+fn send_all<R: Wait + Clock>(rt: &R, sender: Sender, count: u32) -> Result<Receipt, Sender>
     requires { sender.sent ≡ [] }
     ensures { IfOk result (IsReceiptOf sender count) }
 {
@@ -133,7 +134,7 @@ type Left = (
 );
 
 /// Runs three senders and a taker, each on a thread of its own.
-fn run<R: Threads + Wait + Sync>(
+fn run<R: Threads + Wait + Clock + Sync>(
     rt: &R,
     alloc: Global,
     queue: &Intake,
@@ -174,7 +175,7 @@ fn run<R: Threads + Wait + Sync>(
 
 /// Three senders of groups 0 to 2, each of one item, send the writes of the words below a count and then the end, while a
 /// taker pops until it has the three ends. Of each group, what was popped is what was sent. `None` where a sender refused.
-pub fn three_senders<R: Threads + Wait + Sync>(
+pub fn three_senders<R: Threads + Wait + Clock + Sync>(
     rt: &R,
     alloc: Global,
     capacity: u32,

@@ -12,13 +12,14 @@ ghost use Rattle.gr_model.specs.Streams.{is_complete};
 ghost use Rattle.gr_sender.specs.Refusals.{IsFull, IsSendRefusal, IsRefusalOfEnd, MaySend, is_full};
 
 use crate::receipt::Receipt;
-use crossbeam_utils::Backoff;
 use gr_model::event::{Event, event_ok};
 use gr_model::limits::MOST_RECORDS;
 use gr_route::intake::{Intake, IntakeSeat};
+use gr_threads::idle::Idle;
 use std::alloc::{Allocator, Global};
 use std::marker::Model;
 use std::sync::{Arc, Wait};
+use std::time::Clock;
 use thiserror::Error;
 
 /// Why an event or an end was not sent: the first cause that is there.
@@ -208,18 +209,18 @@ impl<A: Allocator> Sender<A> {
     ///
     /// # Errors
     /// Those of `send` but `Full`. The sender is then unchanged.
-    pub fn send_wait<R: Wait>(&mut self, rt: &R, event: Event) -> Result<(), SendError>
+    pub fn send_wait<R: Wait + Clock>(&mut self, rt: &R, event: Event) -> Result<(), SendError>
         ensures ok { OnOk result (self.new ≡ record self.old { sent = self.old.sent ++ event ∷ [] }) }
         ensures accepted { OnOk result (MaySend self.old event) }
         ensures unchanged { OnErr result (self.new ≡ self.old) }
         ensures refused { IfErr result (λ error. IsSendRefusal self.old event error) }
         ensures never_full { IfErr result (λ error. IsFalse (is_full error)) }
     {
-        let backoff = Backoff::new();
+        let idle = Idle::new();
         let again = &event;
         for _ in rt.forever() {
             match self.send(rt, *again) {
-                Err(SendError::Full(_)) => backoff.snooze(),
+                Err(SendError::Full(_)) => idle.wait(rt),
                 answer => return answer,
             }
         }
@@ -230,17 +231,17 @@ impl<A: Allocator> Sender<A> {
     ///
     /// # Errors
     /// `Closed` if the end was sent before. The sender is then unchanged.
-    pub fn close_wait<R: Wait>(&mut self, rt: &R, cut: bool) -> Result<(), SendError>
+    pub fn close_wait<R: Wait + Clock>(&mut self, rt: &R, cut: bool) -> Result<(), SendError>
         ensures ok { OnOk result (self.new ≡ record self.old { sent = self.old.sent ++ end_of cut ∷ [] }) }
         ensures accepted { OnOk result (IsFalse (is_complete self.old.sent)) }
         ensures unchanged { OnErr result (self.new ≡ self.old) }
         ensures refused { IfErr result (λ error. IsRefusalOfEnd self.old cut error) }
         ensures never_full { IfErr result (λ error. IsFalse (is_full error)) }
     {
-        let backoff = Backoff::new();
+        let idle = Idle::new();
         for _ in rt.forever() {
             match self.close(rt, cut) {
-                Err(SendError::Full(_)) => backoff.snooze(),
+                Err(SendError::Full(_)) => idle.wait(rt),
                 answer => return answer,
             }
         }

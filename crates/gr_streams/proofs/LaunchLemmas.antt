@@ -63,10 +63,10 @@ all_head : {X : Type 0} (P : X → Type 0) (x : X) (xs : List X) → P x → All
 all_head P x xs p all zero d lt = p
 all_head P x xs p all (suc k) d lt = all k d (omega (arith, lt))
 
-first_is : {X : Type 0} (x y : X) (xs ys : List X) → x ∷ xs ≡ y ∷ ys → x ≡ y
+pub first_is : {X : Type 0} (x y : X) (xs ys : List X) → x ∷ xs ≡ y ∷ ys → x ≡ y
 first_is x y xs ys e = cc
 
-rest_is : {X : Type 0} (x y : X) (xs ys : List X) → x ∷ xs ≡ y ∷ ys → xs ≡ ys
+pub rest_is : {X : Type 0} (x y : X) (xs ys : List X) → x ∷ xs ≡ y ∷ ys → xs ≡ ys
 rest_is x y xs ys e = cc
 
 pub receipts_of_run : (run : Run) (bs : List Begun) (rs : List Seat) → AreOfRun run bs → AreReceiptsFor bs rs → AreReceiptsOf run rs
@@ -85,10 +85,10 @@ receipts_of_run run (b ∷ bs) (r ∷ rs) all are =
 abbrev one : List Event → Option (List Event)
 one l = Some l
 
-abbrev groups_of : List Seat → List ℕ
+abbrev pub groups_of : List Seat → List ℕ
 groups_of rs = map (λ (r : Seat). r.group) rs
 
-abbrev header_groups : List Header → List ℕ
+abbrev pub header_groups : List Header → List ℕ
 header_groups hs = map (λ (h : Header). h.group) hs
 
 abbrev pushed_of : List Seat → List (List Event)
@@ -120,7 +120,7 @@ header_there (x ∷ hs) (r ∷ rs) same h (suc k, lt, is) =
     (rest.0, contains_tail (record { header = x; events = r.pushed }) rest.0 (streams_with hs (pushed_of rs)) rest.1, rest.2)
 
 -- the header of a bare stream
-header_in : (hs : List Header) (f : Flat) → Contains (bares hs) f → Contains hs f.header
+pub header_in : (hs : List Header) (f : Flat) → Contains (bares hs) f → Contains hs f.header
 header_in hs f (k, lt, is) =
     let below : k < length hs = omega (arith, lt, length-map hs bare) in
     (k, below, ap (λ (x : Flat). x.header) (sym (get_or-map bare hs k f.header f below) ∙ is))

@@ -7,3 +7,4 @@ pub mod ReadingLemmas
 pub mod JoinLemmas
 pub mod EachLemmas
 pub mod LaunchLemmas
+pub mod OnceLemmas

@@ -1,6 +1,8 @@
 -- What a run reports of streams that come from an input each, and why it refuses them.
 -- Source: docs/FORMATS.md, "Faults", and docs/MODEL.md, "The report".
-use Rattle.std.specs.Prelude.{◌≡◌, ◌⊎◌, ℕ, List, Option, Ok}
+use Rattle.std.specs.Prelude.{◌≡◌, ◌⊎◌, ℕ, List, Option, Ok, ⊤}
+use Rattle.gr_detector.specs.declared.error.FinishError.{FinishError}
+use Rattle.gr_detector.specs.declared.error.FinishError.TheVariants.{Memory as NoMemory, Receipts}
 use Rattle.gr_model.specs.declared.event.Event.{Event}
 use Rattle.gr_model.specs.Reports.{IsReportOf, WholeReport}
 use Rattle.gr_model.specs.Shapes.{IsShape}
@@ -36,6 +38,11 @@ IsInputFault inputs f =
 -- why inputs are not run: they are no launch, or else a thread could not be started, or the writer failed
 abbrev pub IsRunFault : List (List ℕ) → Fault → Type 0
 IsRunFault inputs f = IsInputFault inputs f ⊎ ((f ≡ faults.Threads) ⊎ (f ≡ faults.Write))
+
+-- a run that was finished with a receipt of each group has failed by want of memory alone
+abbrev pub IsWantOfMemory : {A : Type 0} → FinishError A → Type 0
+IsWantOfMemory (Receipts r v) = ⊥
+IsWantOfMemory NoMemory = ⊤
 
 -- a prefix of the text of the report was written
 abbrev pub WritesPrefixOfEach : List (List ℕ) → Option (List ℕ) → Option (List ℕ) → Type 0

@@ -18,6 +18,7 @@ use gr_sender::receipt::Receipt;
 use gr_sender::sender::Sender;
 use std::alloc::{Allocator, Global};
 use std::sync::Wait;
+use std::time::Clock;
 
 /// A stream on its way: what decodes it, and what sends its events.
 #[derive(Drop)]
@@ -40,7 +41,7 @@ pub(crate) struct Ended {
 }
 
 /// Sends an event, or the end that it is, and waits until there is room. Tells whether it was sent.
-fn send<R: Wait, A: Allocator>(rt: &R, sender: &mut Sender<A>, event: Event) -> bool
+fn send<R: Wait + Clock, A: Allocator>(rt: &R, sender: &mut Sender<A>, event: Event) -> bool
     ensures sent { IsTrue result → sender.new ≡ record sender.old { sent = sender.old.sent ++ sent_as event ∷ [] } }
     ensures refused { IsFalse result → (sender.new ≡ sender.old) × (sender.old.records ≡ MOST_RECORDS → ¬ MayFollow sender.old.items sender.old.sent event) }
 {
@@ -52,7 +53,7 @@ fn send<R: Wait, A: Allocator>(rt: &R, sender: &mut Sender<A>, event: Event) -> 
 
 /// Sends an event, unless one was refused before. Tells whether this one or one before it was refused; the sender is then
 /// closed.
-fn forward_one<R: Wait, A: Allocator>(
+fn forward_one<R: Wait + Clock, A: Allocator>(
     rt: &R,
     sender: &mut Sender<A>,
     refused: bool,
@@ -72,7 +73,7 @@ fn forward_one<R: Wait, A: Allocator>(
 }
 
 /// Sends the event that a part is, if it is one. Tells whether this one or one before it was refused.
-fn forward_part<R: Wait, A: Allocator>(
+fn forward_part<R: Wait + Clock, A: Allocator>(
     rt: &R,
     sender: &mut Sender<A>,
     refused: bool,
@@ -88,7 +89,7 @@ fn forward_part<R: Wait, A: Allocator>(
 }
 
 /// Sends the events among parts, in their order, up to one that is refused. Tells whether one was refused.
-fn forward_all<R: Wait, A: Allocator>(
+fn forward_all<R: Wait + Clock, A: Allocator>(
     rt: &R,
     sender: &mut Sender<A>,
     refused: bool,
@@ -105,7 +106,7 @@ fn forward_all<R: Wait, A: Allocator>(
 }
 
 /// Closes a sender with the cut mark, if it is open.
-fn close_cut<R: Wait, A: Allocator>(rt: &R, sender: &mut Sender<A>)
+fn close_cut<R: Wait + Clock, A: Allocator>(rt: &R, sender: &mut Sender<A>)
     ensures same { IsSameSender sender.old sender.new }
     ensures closed { IsTrue (is_complete sender.new.sent) }
     ensures whole { IsTrue (is_complete sender.old.sent) → sender.new ≡ sender.old }
@@ -115,7 +116,7 @@ fn close_cut<R: Wait, A: Allocator>(rt: &R, sender: &mut Sender<A>)
 }
 
 /// The receipt of a sender, which is closed with the cut mark if it is open.
-fn cut<R: Wait, A: Allocator>(rt: &R, sender: Sender<A>) -> Receipt
+fn cut<R: Wait + Clock, A: Allocator>(rt: &R, sender: Sender<A>) -> Receipt
     ensures group { result.group ≡ sender.group }
     ensures queue { result.queue ≡ sender.queue.queue }
     ensures whole { IsTrue (is_complete sender.sent) → result.pushed ≡ sender.sent }
@@ -148,7 +149,7 @@ impl<A: Allocator> Forward<A> {
     ///
     /// # Errors
     /// The first fault of the stream, at the piece that has it; `Memory` where the piece can't be decoded.
-    pub(crate) fn take<R: Wait>(&mut self, rt: &R, piece: &[u8]) -> Result<(), RecordError>
+    pub(crate) fn take<R: Wait + Clock>(&mut self, rt: &R, piece: &[u8]) -> Result<(), RecordError>
         ensures same { IsSameSender self.old.sender self.new.sender }
         ensures fed { HasMemory result → (fed : List ℕ) → IsFed fed self.old.decoder self.old.sender self.old.refused → IsFed (fed ++ piece.now) self.new.decoder self.new.sender self.new.refused }
         ensures fault { HasMemory result → result ≡ answer self.new.decoder.stop }
@@ -160,7 +161,7 @@ impl<A: Allocator> Forward<A> {
     }
 
     /// Ends the reading at a fault: what was sent is cut, unless the stream's end was sent.
-    pub(crate) fn fail<R: Wait>(self, rt: &R, fault: Fault) -> Ended
+    pub(crate) fn fail<R: Wait + Clock>(self, rt: &R, fault: Fault) -> Ended
         ensures group { result.receipt.group ≡ self.sender.group }
         ensures queue { result.receipt.queue ≡ self.sender.queue.queue }
         ensures fault { result.fault ≡ Some fault }
@@ -172,7 +173,7 @@ impl<A: Allocator> Forward<A> {
     }
 
     /// Ends the reading at the end of the stream at this place.
-    pub(crate) fn finish<R: Wait>(self, rt: &R, place: u64) -> Ended
+    pub(crate) fn finish<R: Wait + Clock>(self, rt: &R, place: u64) -> Ended
         ensures group { result.receipt.group ≡ self.sender.group }
         ensures queue { result.receipt.queue ≡ self.sender.queue.queue }
         ensures fault { IfErr (last_answer self.decoder.stop) (λ e. result.fault ≡ Some (stream_fault place e)) }

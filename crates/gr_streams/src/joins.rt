@@ -22,6 +22,7 @@ use std::io::Read;
 use std::sync::atomic::AtomicBool;
 use std::sync::{Arc, Wait};
 use std::thread::Threads;
+use std::time::Clock;
 
 /// Room for what is kept of the readers once the run has started, when no memory can be asked for any more.
 #[derive(Drop)]
@@ -69,7 +70,7 @@ pub(crate) fn start_all<R, A, T>(
     abandoned: &Arc<AtomicBool, A>,
 ) -> Vec<ReaderThread<T, A>, A>
 where
-    R: Threads + Wait + Copy + Send + 'static,
+    R: Threads + Wait + Clock + Copy + Send + 'static,
     A: Allocator + Copy + Send + Sync + Drop + 'static,
     T: Read + Send + Drop + 'static,
     requires headed { All (λ s. IsHeaded s.header s.prefix.items) sources.items }

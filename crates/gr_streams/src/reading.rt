@@ -15,6 +15,7 @@ use std::alloc::Allocator;
 use std::io::Read;
 use std::sync::atomic::{AtomicBool, Ordering};
 use std::sync::{Arc, Wait};
+use std::time::Clock;
 
 /// How often a reader is asked for bytes, at most.
 const MOST_READS: u64 = 4_294_967_296;
@@ -24,7 +25,7 @@ const PIECE_LENGTH: usize = 65_536;
 
 /// Reads the rest of a stream at a place, of which what was read before is on its way, and sends its events as they come. It
 /// ends at the reader's end, or at the first fault, or once the run was abandoned.
-fn read_rest<R: Wait, A: Allocator, T: Read>(
+fn read_rest<R: Wait + Clock, A: Allocator, T: Read>(
     rt: &R,
     place: u64,
     reader: &mut T,
@@ -57,7 +58,7 @@ fn read_rest<R: Wait, A: Allocator, T: Read>(
 
 /// Reads the stream at a place, whose header was read, and sends its events as they come.
 /// Requires: nothing was sent of it yet.
-pub(crate) fn read_on<R: Wait + Copy, A: Allocator, T: Read + Drop>(
+pub(crate) fn read_on<R: Wait + Clock + Copy, A: Allocator, T: Read + Drop>(
     rt: R,
     place: u64,
     source: Source<T>,

@@ -11,7 +11,7 @@ ghost use Rattle.gr_report.specs.Whole.{whole_of};
 ghost use Rattle.gr_streams.specs.Headers.{AreApart, AreHeadersOf};
 ghost use Rattle.gr_streams.specs.Records.{lists_of};
 ghost use Rattle.gr_streams.specs.Sources.{IsHeaded, known_of};
-ghost use Rattle.gr_streams.specs.Streams.{IsExactOfEach, IsReportOn, IsRunFault, WritesPrefixOfEach};
+ghost use Rattle.gr_streams.specs.Streams.{IsExactOfEach, IsReportOn, IsRunFault, IsWantOfMemory, WritesPrefixOfEach};
 
 use crate::headers::{Headed, read_headers};
 use crate::joins::{Joined, Room, join_all, room_for, start_all};
@@ -43,18 +43,20 @@ fn fault_of_start(error: StartError) -> Fault
 }
 
 /// The report of a run, unless a stream has a fault.
+/// Requires: each work-group had its receipt.
 fn judge<A: Allocator>(
     fault: Option<Fault>,
     finished: Result<Report<A>, FinishError<A>>,
 ) -> Result<Report<A>, Fault>
+    requires { IfErr finished IsWantOfMemory }
     ensures report { IfOk result (λ r. (fault ≡ None) × (finished ≡ Ok r)) }
     ensures fault { IfErr result (λ f. (fault ≡ Some f) ⊎ (f ≡ faults.Memory)) }
 {
     match (fault, finished) {
         (Some(fault), _) => Err(fault),
         (None, Ok(report)) => Ok(report),
-        // It is no want of receipts: there is one of each work-group.
-        (None, Err(_)) => Err(Fault::Memory),
+        (None, Err(FinishError::Memory)) => Err(Fault::Memory),
+        (None, Err(FinishError::Receipts(_, _))) => unreachable!(),
     }
 }
 

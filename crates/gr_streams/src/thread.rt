@@ -17,6 +17,7 @@ use std::sync::atomic::{AtomicBool, Ordering};
 use std::sync::{Arc, Wait};
 use std::thread;
 use std::thread::{Promise, PromisedHandle, Threads};
+use std::time::Clock;
 
 /// What a reader's thread promises of its end: what reading the stream at this place leaves, of this source, to this sender.
 #[derive(Drop)]
@@ -66,7 +67,7 @@ where
     /// Starts the thread that reads the stream at a place, whose header was read. Where it can't be started, the run is
     /// abandoned: the stream is cut, and the others end.
     /// Requires: the sender is of the header's group, and has sent nothing.
-    pub(crate) fn start<R: Threads + Wait + Copy + Send + 'static>(
+    pub(crate) fn start<R: Threads + Wait + Clock + Copy + Send + 'static>(
         rt: R,
         alloc: A,
         place: u64,

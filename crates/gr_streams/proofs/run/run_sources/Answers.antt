@@ -1,6 +1,7 @@
-use Rattle.std.proofs.Common.{◌∙◌, map, subst, sym}
-use Rattle.std.proofs.lemmas.Result.{IfOk-at_ok, IfOk-weaker}
-use Rattle.gr_detector.specs.Runs.{sent_by}
+use Rattle.std.proofs.Common.{◌∙◌, length, map, subst, sym}
+use Rattle.std.proofs.lemmas.Result.{IfErr-weaker, IfOk-at_ok, IfOk-weaker}
+use Rattle.gr_detector.specs.Refusals.{IsHandedBack}
+use Rattle.gr_detector.specs.Runs.{IsEachOnce, sent_by}
 use Rattle.gr_model.specs.Reports.{IsReportOf}
 use Rattle.gr_model.specs.Shapes.{IsShape}
 use Rattle.gr_report.specs.Whole.{whole_of}
@@ -8,8 +9,10 @@ use Rattle.gr_route.specs.IntakeSeats.{Seat}
 use Rattle.gr_streams.specs.Headers.{AreHeadersOf}
 use Rattle.gr_streams.specs.Records.{lists_of}
 use Rattle.gr_streams.specs.Sending.{Tells}
+use Rattle.gr_streams.specs.Streams.{IsWantOfMemory}
 use Rattle.gr_streams.specs.declared.source.Source.{Source}
 use Rattle.gr_streams.proofs.LaunchLemmas.{launch_sent, of_run, receipts_of_run, served}
+use Rattle.gr_streams.proofs.OnceLemmas.{each_once, only_memory}
 use Rattle.gr_streams.proofs.run.run_sources.Goals as goal
 
 pub start_all-threads-requires-clause-senders : goal.start_all-threads-requires-clause-senders
@@ -22,6 +25,15 @@ pub finish-requires : goal.finish-requires
 finish-requires g c =
     let run = c.in-Ok-start.started.1 in
     receipts_of_run run c.start_all-threads.result.items c.join_all-receipts.result.receipts.items (c.start_all-threads.ensures.run run (of_run run c.in-Ok-start.started.0.items c.in-Ok-start.ensures.senders)) c.join_all-receipts.ensures.receipts
+
+pub judge-requires : goal.judge-requires
+judge-requires g c =
+    let hs = map (λ (s : Source _). s.header) c.args.sources.items in
+    let run = c.in-Ok-start.started.1 in
+    let receipts = c.join_all-receipts.result.receipts.items in
+    let launch = subst (AreHeadersOf hs) (sym c.in-Ok-start.ensures.run.1) c.requires.shape in
+    let once : IsEachOnce (length run.sizes) receipts = each_once hs run.sizes receipts c.requires.apart launch (c.join_all-receipts.ensures.receipts.groups ∙ c.start_all-threads.ensures.begun.groups) in
+    IfErr-weaker c.finish.result (IsHandedBack run receipts) IsWantOfMemory (only_memory run receipts once) c.finish.ensures.refused
 
 pub returns-clause-report : goal.returns-clause-report
 returns-clause-report g c =
