@@ -3,4 +3,4 @@ pub mod LineWords
 pub mod LinesAgain
 pub mod LinesFound
 pub mod NamesRead
-pub mod Words
+pub mod FirstWords

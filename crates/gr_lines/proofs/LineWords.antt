@@ -12,7 +12,7 @@ use Rattle.gr_model.specs.declared.event.Order.TheVariants.{Relaxed, Acquire, Re
 use Rattle.gr_lines.specs.LineText.{space_word, scope_word, order_word, flags_word, later_text}
 use Rattle.gr_lines.specs.LineReading.{same, short_of, IsWord, first_of, space_said, scope_said, order_said, flags_said}
 use Rattle.gr_lines.proofs.LineNumbers.{same_is, number_back}
-use Rattle.gr_lines.proofs.Words.{first_back}
+use Rattle.gr_lines.proofs.FirstWords.{first_back}
 
 -- ---- digits
 

@@ -23,7 +23,7 @@ use Rattle.gr_lines.specs.LineText.{space_word, scope_word, order_word, flags_wo
 use Rattle.gr_lines.specs.LineReading.{same, number_of, short_of, behind_space, first_of, ◌>>=◌, at_end, space_said, scope_said, order_said, flags_said, header_said, version_said, name_said, names_said, kind_said, atomic_said, barrier_said, event_said, checked, end_said, line_said}
 use Rattle.gr_lines.specs.LineLaws.{IsSaid, ReadIsText}
 use Rattle.gr_lines.proofs.LineNumbers.{same_is, number_found}
-use Rattle.gr_lines.proofs.Words.{first_found}
+use Rattle.gr_lines.proofs.FirstWords.{first_found}
 
 -- ---- steps that did not fail
 

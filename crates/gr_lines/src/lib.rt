@@ -4,3 +4,4 @@
 pub mod line;
 pub mod line_text;
 pub mod parsing;
+pub mod words;

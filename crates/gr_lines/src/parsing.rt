@@ -2,62 +2,24 @@
 
 ghost use Rattle.std.specs.Prelude.{◌≡◌, ◌≢◌, ◌^◌, ◌<◌, ◌++◌, ℕ, List, Some, None, IfSome, MatchOption, All, decimal, ◌≤◌, take, []};
 ghost use Rattle.std.specs.Option.{option_map};
-ghost use Rattle.gr_lines.specs.LineReading.{same, number_of, IsWord, IsFirstSpace, behind_space, first_of, space_said, scope_said, order_said, flags_said, short_of, header_made, header_said, version_said, name_said, names_said, kind_said, atomic_said, barrier_said, event_said, checked, line_said};
+ghost use Rattle.gr_lines.specs.LineReading.{behind_space, space_said, scope_said, order_said, flags_said, header_made, header_said, version_said, name_said, names_said, kind_said, atomic_said, barrier_said, event_said, checked, line_said};
 ghost use Rattle.gr_lines.specs.declared.line.Line.{Line};
 ghost use Rattle.gr_lines.specs.LineText.{line_text};
 ghost use Rattle.gr_lines.specs.LineLaws.{IsSaid};
 
 use crate::line::Line;
+use crate::words::{is_word, parse_number, parse_short, split_word};
 use gr_model::event::{Event, ItemId, Kind, Name, Order, Scope, Space};
 use gr_model::limits::{MOST_GROUPS, MOST_ITEMS_OF_A_GROUP, MOST_NAMES};
 use gr_model::names::Names;
 use gr_record::header::{Header, Version};
 use gr_record::reading::{naming, order_fits};
-use itoa::Buffer;
 
 /// What stands in the places of an array of names that are not used.
 const UNUSED: Name = Name {
     at: ItemId { group: 0, item: 0 },
     release: 0,
 };
-
-/// Whether a word is this one.
-#[tactic(auto, unfolding(crate::specs::LineReading::same))]
-fn is_word(word: &[u8], expected: &str) -> bool
-    ensures { result ≡ same word.now expected.now }
-{
-    word == expected.as_bytes()
-}
-
-/// The number below 2^32 of which the word is the text.
-fn parse_number(word: &[u8]) -> Option<u32>
-    ensures { result ≡ number_of word.now }
-{
-    let number = str::from_utf8(word).ok()?.parse::<u32>().ok()?;
-    let mut buffer = Buffer::new();
-    if buffer.format(number).as_bytes() == word {
-        Some(number)
-    } else {
-        None
-    }
-}
-
-/// The place of the first space.
-fn first_space(bytes: &[u8]) -> Option<usize>
-    ensures { MatchOption result (IsWord bytes.now) (λ at. IsFirstSpace bytes.now at) }
-{
-    bytes.iter().position(|byte| *byte == b' ')
-}
-
-/// The first word, and what stands behind its space, if there is one.
-fn split_word(bytes: &[u8]) -> (&[u8], Option<&[u8]>)
-    ensures { (result.0.now, option_map (λ rest. rest.now) result.1) ≡ first_of bytes.now }
-{
-    match first_space(bytes) {
-        None => (bytes, None),
-        Some(at) => (&bytes[..at], Some(&bytes[at + 1..])),
-    }
-}
 
 #[tactic(auto, unfolding(crate::specs::LineReading::space_said))]
 fn parse_space(word: &[u8]) -> Option<Space>
@@ -115,19 +77,6 @@ fn parse_flags(word: &[u8]) -> Option<(bool, bool)>
         Some((false, true))
     } else if is_word(word, "gl") {
         Some((true, true))
-    } else {
-        None
-    }
-}
-
-/// The number below 2^16 of which the word is the text.
-#[tactic(auto, unfolding(crate::specs::LineReading::short_of))]
-fn parse_short(word: &[u8]) -> Option<u16>
-    ensures { result ≡ short_of word.now }
-{
-    let number = parse_number(word)?;
-    if number < 65_536 {
-        Some(number as u16)
     } else {
         None
     }

@@ -6,9 +6,11 @@ ghost use Rattle.std.specs.Option.{is_some, option_map};
 ghost use Rattle.gr_places.specs.SideLines as spec;
 
 use crate::fault::SideFault;
-use crate::lines::{keep, split_line};
-use crate::words::{is_word, parse_number, parse_short, parse_text, split_word};
+use crate::lines::keep;
+use crate::words::parse_text;
+use gr_lines::words::{is_word, parse_number, parse_short, split_word};
 use gr_model::event::Word;
+use gr_text::lines::split_line;
 use std::alloc::Allocator;
 
 /// A line of a file of buffers.

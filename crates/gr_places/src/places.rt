@@ -6,9 +6,11 @@ ghost use Rattle.std.specs.Option.{option_map};
 ghost use Rattle.gr_places.specs.SideLines as spec;
 
 use crate::fault::SideFault;
-use crate::lines::{keep, split_line};
-use crate::words::{is_digit_first, parse_number, parse_short, parse_text, split_word};
+use crate::lines::keep;
+use crate::words::{is_digit_first, parse_text};
+use gr_lines::words::{parse_number, parse_short, split_word};
 use gr_model::event::{EventId, ItemId};
+use gr_text::lines::split_line;
 use std::alloc::Allocator;
 
 /// What has a place in the source.

@@ -3,7 +3,7 @@
 
 pub mod forming;
 pub mod laws;
-mod lines;
+pub mod lines;
 pub mod packing;
 pub mod place;
 mod run;

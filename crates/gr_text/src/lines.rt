@@ -12,7 +12,7 @@ fn first_feed(text: &[u8]) -> Option<usize>
 
 /// The first line of a text without its line feed, and the text behind it.
 /// Requires: the text is not empty.
-pub(crate) fn split_line(text: &[u8]) -> (&[u8], &[u8])
+pub fn split_line(text: &[u8]) -> (&[u8], &[u8])
     requires { 0 < length text.now }
     ensures lines { lines_of text.now ≡ result.0.now ∷ lines_of result.1.now }
     ensures shorter { length result.1.now < length text.now }

@@ -1,7 +1,7 @@
 use Rattle.std.proofs.Common.{sym, ◌+◌}
 use Rattle.std.proofs.lemmas.List.{take_rest}
-use Rattle.gr_lines.proofs.Words.{first_whole, first_cut}
-use Rattle.gr_lines.proofs.parsing.split_word.Goals as goal
+use Rattle.gr_lines.proofs.FirstWords.{first_whole, first_cut}
+use Rattle.gr_lines.proofs.words.split_word.Goals as goal
 
 pub returns-in-None : goal.returns-in-None
 returns-in-None c = sym (first_whole c.args.bytes.now c.in-None.ensures)

@@ -6,7 +6,7 @@ use Rattle.std.specs.Str.Parse.{ParsesUnsigned}
 use Rattle.std.proofs.lemmas.Fmt.{IsAscii-decimal, parse-decimal}
 use Rattle.std.proofs.lemmas.Str.{IsUtf8-from_ascii}
 use Rattle.gr_lines.proofs.LineNumbers.{number_back, number_none}
-use Rattle.gr_places.proofs.words.parse_number.Goals as goal
+use Rattle.gr_lines.proofs.words.parse_number.Goals as goal
 
 at_none : {X E : Type 0} (r : Result X E) (P : X → Type 0) (Q : E → Type 0) → result_ok r ≡ None → MatchResult r P Q → (e : E) × Q e
 at_none (Ok x) P Q h m = absurd cc

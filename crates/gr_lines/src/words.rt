@@ -1,0 +1,58 @@
+//! The words of a line.
+
+ghost use Rattle.std.specs.Prelude.{◌≡◌, MatchOption};
+ghost use Rattle.std.specs.Option.{option_map};
+ghost use Rattle.gr_lines.specs.LineReading.{IsFirstSpace, IsWord, first_of, number_of, same, short_of};
+
+use itoa::Buffer;
+
+/// Whether a word is this one.
+#[tactic(auto, unfolding(crate::specs::LineReading::same))]
+pub fn is_word(word: &[u8], expected: &str) -> bool
+    ensures { result ≡ same word.now expected.now }
+{
+    word == expected.as_bytes()
+}
+
+/// The number below 2^32 of which the word is the text.
+pub fn parse_number(word: &[u8]) -> Option<u32>
+    ensures { result ≡ number_of word.now }
+{
+    let number = str::from_utf8(word).ok()?.parse::<u32>().ok()?;
+    let mut buffer = Buffer::new();
+    if buffer.format(number).as_bytes() == word {
+        Some(number)
+    } else {
+        None
+    }
+}
+
+/// The number below 2^16 of which the word is the text.
+#[tactic(auto, unfolding(crate::specs::LineReading::short_of))]
+pub fn parse_short(word: &[u8]) -> Option<u16>
+    ensures { result ≡ short_of word.now }
+{
+    let number = parse_number(word)?;
+    if number < 65_536 {
+        Some(number as u16)
+    } else {
+        None
+    }
+}
+
+/// The place of the first space.
+fn first_space(bytes: &[u8]) -> Option<usize>
+    ensures { MatchOption result (IsWord bytes.now) (λ at. IsFirstSpace bytes.now at) }
+{
+    bytes.iter().position(|byte| *byte == b' ')
+}
+
+/// The first word, and what stands behind its space, if there is one.
+pub fn split_word(bytes: &[u8]) -> (&[u8], Option<&[u8]>)
+    ensures { (result.0.now, option_map (λ rest. rest.now) result.1) ≡ first_of bytes.now }
+{
+    match first_space(bytes) {
+        None => (bytes, None),
+        Some(at) => (&bytes[..at], Some(&bytes[at + 1..])),
+    }
+}
