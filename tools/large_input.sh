@@ -1,6 +1,6 @@
 #!/bin/sh
 # Runs the program on an input of more than 64 MiB, and compares what it writes with what the formats ask for:
-# tools/large_input.sh [RECORDS], by default 4,000,000. PROGRAM names another program than the one in this tree.
+# tools/large_input.sh [RECORDS], by default 4,000,000. GPURACE_PROGRAM names another program than this tree's.
 # One stream of two items: item 0 writes the words from 4,000,000,000 on, each once, and item 1 reads the last of them, which
 # is the only race.
 set -eu
@@ -8,7 +8,7 @@ top=$(cd "$(dirname "$0")/.." && pwd)
 room=$(mktemp -d)
 trap 'rm -rf "$room"' EXIT
 : > "$room/empty"
-program=${PROGRAM:-$top/gpurace}
+program=${GPURACE_PROGRAM:-$top/gpurace}
 records=${1:-4000000}
 "$program" pack < "$room/empty" > "$room/none"    # builds the program where it is missing
 

@@ -2,14 +2,15 @@
 # How many instructions a record `gpurace replay` takes: tools/replay_instructions.sh [RECORDS...], by default 100000. For each
 # kernel of tools/kernel_traces.py, with GROUPS_OF groups (16) of ITEMS items (32), one line: kernel, records, instructions a
 # record as valgrind counts them, and of a run without valgrind the processor time and the peak memory. A run under valgrind
-# that takes longer than LIMIT seconds (600) is told as such. PROGRAM names another program than the one in this tree.
+# that takes longer than LIMIT seconds (600) is told as such. GPURACE_PROGRAM names another program than this tree's.
 set -eu
 top=$(cd "$(dirname "$0")/.." && pwd)
 room=$(mktemp -d)
 trap 'rm -rf "$room"' EXIT
 : > "$room/empty"
-"$top/gpurace" pack < "$room/empty" > "$room/none"    # builds the program where it is missing
-program=${PROGRAM:-$top/crates/gr_cli/out/gr_cli}
+program=${GPURACE_PROGRAM:-$top/gpurace}
+"$program" pack < "$room/empty" > "$room/none"    # builds the program where it is missing
+[ -n "${GPURACE_PROGRAM:-}" ] || program=$top/crates/gr_cli/out/gr_cli
 [ $# -gt 0 ] || set -- 100000
 for records in "$@"; do
     for kernel in matmul histogram reduction messages sparse; do

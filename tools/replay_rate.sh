@@ -2,13 +2,13 @@
 # How long `gpurace replay` takes, and how much memory: tools/replay_rate.sh [RECORDS...], by default 100000 and 1000000.
 # For each shape of tools/replay_traces.py, at 1, 64 and 2,048 items, one line: shape, items, records, wall time, processor
 # time, records a second of processor time, peak memory, status, the report's last line. A run that takes longer than LIMIT
-# seconds (600) is told as such. PROGRAM names another program than the one in this tree.
+# seconds (600) is told as such. GPURACE_PROGRAM names another program than the one in this tree.
 set -eu
 top=$(cd "$(dirname "$0")/.." && pwd)
 room=$(mktemp -d)
 trap 'rm -rf "$room"' EXIT
 : > "$room/empty"
-program=${PROGRAM:-$top/gpurace}
+program=${GPURACE_PROGRAM:-$top/gpurace}
 "$program" pack < "$room/empty" > "$room/none"    # builds the program where it is missing
 [ $# -gt 0 ] || set -- 100000 1000000
 for records in "$@"; do

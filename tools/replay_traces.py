@@ -73,6 +73,8 @@ SHAPES = {
 
 
 def main():
+    if len(sys.argv) != 4 or sys.argv[1] not in SHAPES:
+        sys.exit(__doc__)
     shape, records, items = sys.argv[1], int(sys.argv[2]), int(sys.argv[3])
     make = SHAPES[shape]
     sizes = groups_of(items)

@@ -5,8 +5,8 @@
 #
 # For each trace one line: its name, its records, instructions per record, those of the shadows with all that they call, and
 # the share. The traces are the kernels of tools/kernel_traces.py, of 16 groups of 32 items, and one word that one item
-# writes, that 2,048 items read, and that 2,048 items add to by device atomics. PROGRAM names another program than the one
-# in this tree.
+# writes, that 2,048 items read, and that 2,048 items add to by device atomics. GPURACE_PROGRAM names another program
+# than the one in this tree.
 set -eu
 top=$(cd "$(dirname "$0")/.." && pwd)
 records=${1:-100000}
@@ -14,9 +14,9 @@ records=${1:-100000}
 [ $# -gt 0 ] || set -- matmul histogram reduction messages sparse writer readers adders
 room=$(mktemp -d)
 trap 'rm -rf "$room"' EXIT
-program=${PROGRAM:-$top/gpurace}
+program=${GPURACE_PROGRAM:-$top/gpurace}
 "$program" --version > "$room/version"    # builds the program where it is missing
-[ -n "${PROGRAM:-}" ] || program=$top/crates/gr_cli/out/gr_cli
+[ -n "${GPURACE_PROGRAM:-}" ] || program=$top/crates/gr_cli/out/gr_cli
 
 for kernel in matmul histogram reduction messages sparse; do
     python3 "$top/tools/kernel_traces.py" "$kernel" "$room" --groups 16 --items 32 --records "$records" --joined > "$room/told"
