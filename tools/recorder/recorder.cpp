@@ -157,16 +157,15 @@ private:
     // Why a trace can't have the launch, or nothing.
     static std::string refusal_of(const Launch &launch) {
         const uint64_t items = launch.local.count(), groups = launch.groups.count();
-        const uint64_t window_items = std::min(items * launch.window_count, launch.global.count());
         if (items > GPURACE_MOST_ITEMS)
-            return "a work-group has " + std::to_string(items) + " work-items, and a trace has room for 256";
+            return "a work-group has " + std::to_string(items) + " work-items, and a trace has room for " +
+                   std::to_string(GPURACE_MOST_ITEMS);
         if (launch.window_count == 0)
             return "it has " + std::to_string(groups) + " work-groups, and none of the window";
-        const uint64_t room = std::min<uint64_t>(GPURACE_MOST_GROUPS, GPURACE_MOST_ITEMS_OF_LAUNCH / items);
-        if (launch.window_count > GPURACE_MOST_GROUPS || window_items > GPURACE_MOST_ITEMS_OF_LAUNCH)
-            return std::to_string(launch.window_count) + " work-groups of " + std::to_string(items) +
-                   " work-items are more than a trace has room for; --groups 0:" + std::to_string(room) +
-                   " records the first " + std::to_string(room);
+        const std::string most = std::to_string(GPURACE_MOST_GROUPS);
+        if (launch.window_count > GPURACE_MOST_GROUPS)
+            return "it has " + std::to_string(groups) + " work-groups, and a trace has room for " + most + "; --groups " +
+                   std::to_string(launch.window_first) + ":" + most + " records " + most + " of them";
         return "";
     }
 
