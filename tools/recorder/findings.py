@@ -21,8 +21,8 @@ RUN = re.compile(r"(?:global|local (\d+)) (\d+)(?:\.\.(\d+))?")
 BUFFER = re.compile(r"(?:g|l (\d+)) (\d+) (\d+) (.+)")
 MOST_SHOWN = 20      # kinds of races
 MOST_RUNS = 5        # of words of a buffer
-MOST_BUFFERS = 5     # whose words are shown with two accesses, of a kind
-MOST_EXPLAINED = 2000000  # bytes of streams; in larger ones `gpurace explain` takes long
+MOST_BUFFERS = 5     # of which two accesses are shown, of a kind
+MOST_EXPLAINED = 1000000  # bytes of streams, for which `gpurace explain` takes a second at most
 MOST_COLUMNS = 160   # of a line of source
 
 Event = collections.namedtuple("Event", "group item index")
