@@ -4,7 +4,7 @@
 # of the second where Oclgrind or an OpenCL loader to link with is not there; the first is then done where
 # GPURACE_PROGRAM is set.
 #
-#   check.sh      GPURACE_PROGRAM names a built gpurace; without it ./gpurace builds one, which takes minutes
+#   check.sh      GPURACE_PROGRAM names a built gpurace; without it ./gpurace builds one, which takes most of an hour
 set -eu
 here=$(cd "$(dirname "$0")" && pwd)
 failures=0
