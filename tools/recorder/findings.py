@@ -1,8 +1,8 @@
 """What gpurace finds in a recorded launch, in the kernel's own terms: buffers, work-items, lines of source.
 
 `findings(program, folder)` is all that others call. Which words race, which two accesses do, and where in the source
-these stand, is what `gpurace races` says; where a kind of races has words of several buffers, `gpurace explain` says two
-accesses for each of the others. Of the streams only barriers and the accesses that are shown are read.
+these stand, is what `gpurace races` says; of further words of a kind of races, `gpurace explain` says it, and those that
+are of other buffers or other places of the source are shown. Of the streams only barriers and shown accesses are read.
 """
 import collections
 import os
@@ -21,8 +21,8 @@ RUN = re.compile(r"(?:global|local (\d+)) (\d+)(?:\.\.(\d+))?")
 BUFFER = re.compile(r"(?:g|l (\d+)) (\d+) (\d+) (.+)")
 MOST_SHOWN = 20      # kinds of races
 MOST_RUNS = 5        # of words of a buffer
-MOST_BUFFERS = 5     # of which two accesses are shown, of a kind
-MOST_EXPLAINED = 1000000  # bytes of streams, for which `gpurace explain` takes a second at most
+MOST_EXPLAINED = 5   # further words of a kind
+MOST_BYTES = 500000  # of streams of which words are explained; each takes a part of a second
 MOST_COLUMNS = 160   # of a line of source
 
 Event = collections.namedtuple("Event", "group item index")
@@ -90,14 +90,15 @@ def pair_of(text):
 
 
 def further_of(program, folder, streams, race):
-    """Of each buffer with words of the kind, but that of the shown two accesses, the first word, with two that race on it."""
-    if sum(map(len, streams.values())) > MOST_EXPLAINED:
+    """Further words of the kind as races of their own: the first of each buffer, and then the first of each run."""
+    if sum(map(len, streams.values())) > MOST_BYTES:
         return []
-    first_of, buffers = {}, buffers_of(folder)
-    for run in race.runs:
-        for part, buffer in parts(run, buffers):
-            first_of.setdefault(buffer and buffer.name, part)
-    found = [explained(program, folder, streams, race.space, part) for part in list(first_of.values())[1:MOST_BUFFERS]]
+    buffers, first_of = buffers_of(folder), {}
+    pieces = [piece for run in race.runs for piece in parts(run, buffers)]
+    for part, buffer in pieces:
+        first_of.setdefault(buffer and buffer.name, part)
+    words = list(dict.fromkeys([*first_of.values(), *(part for part, _ in pieces)]))  # the first is shown already
+    found = [explained(program, folder, streams, race.space, part) for part in words[1:1 + MOST_EXPLAINED]]
     return [race for race in found if race]
 
 
@@ -166,18 +167,30 @@ class Launch:
         return self.places.get(str(site), f"site {site}")
 
     def kind_told(self, race, further):
+        """A kind of races, and those of its further words that are of other buffers or places than all before."""
         more = f" ({race.words} words); on {self.first_word(race)}:" if race.words > 1 else ""
         told = [f"race on {self.names(race)}{more}"] + self.pair_told(race)
+        seen = {self.sight(race)}
         for other in further:
-            told += [f"and on {self.names(other)}:"] + self.pair_told(other)
+            if self.sight(other) not in seen:
+                seen.add(self.sight(other))
+                told += [f"and on {self.names(other)}:"] + self.pair_told(other)
         return told
+
+    def sight(self, race):
+        """The buffer of the race's first word, and the places of its two accesses, whichever comes first."""
+        _, buffer = next(parts(race.runs[0], self.buffers))
+        return buffer and buffer.name, frozenset(self.places_of(race))
+
+    def places_of(self, race):
+        pair = (("first", race.first), ("second", race.second))
+        return [race.said.get(key) or self.places.get("%d %d %d" % event, "unknown") for key, event in pair]
 
     def pair_told(self, race):
         """The two accesses of a race, and what would order them."""
-        pair = (("first", race.first), ("second", race.second))
-        places = [race.said.get(key) or self.places.get("%d %d %d" % event, "unknown") for key, event in pair]
-        told = [text for event, place in zip((race.first, race.second), places) for text in self.access_told(event, place)]
-        return told + ["    " + self.missing(race, places[0] == places[1] != "unknown")]
+        first, second = self.places_of(race)
+        told = self.access_told(race.first, first) + self.access_told(race.second, second)
+        return told + ["    " + self.missing(race, first == second != "unknown")]
 
     def missing(self, race, is_one_place):
         """What would have ordered the two, which may stand at one place of the source."""

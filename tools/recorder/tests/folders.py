@@ -103,6 +103,20 @@ and on global word 200:
         tile[l] = input[l];
     the two are of different work-groups, which no barrier orders
 """),
+    # words 0 and 4 race at the same two places, and word 2 at others
+    "two places of one kind": Case(
+        ["group 0 items 4 launch 7\n0 w g 0\n1 r g 0\n0 w g 2\n1 r g 2\n0 w g 4\n1 r g 4\nend\n"],
+        {"buffers": "g 0 8 input\n", "places": "0 0 0 a.cl:1:1\n0 1 0 a.cl:2:1\n0 0 1 a.cl:3:1\n0 1 1 a.cl:4:1\n"
+                                               "0 0 2 a.cl:1:1\n0 1 2 a.cl:2:1\n"}, 1, """\
+race on input[0], input[2], input[4] (3 words); on input[0]:
+    a.cl:1:1: write by group 0, item 0
+    a.cl:2:1: read by group 0, item 1
+    no barrier stands between the two; one with CLK_GLOBAL_MEM_FENCE would order them
+and on input[2]:
+    a.cl:3:1: write by group 0, item 0
+    a.cl:4:1: read by group 0, item 1
+    no barrier stands between the two; one with CLK_GLOBAL_MEM_FENCE would order them
+"""),
     # two arrays of local memory, in two groups
     "two buffers of local memory": Case(
         [f"group {group} items 2 launch 7\n0 w l 64\n0 w l 128\n1 r l 128\n1 r l 64\nend\n" for group in (0, 1)],
