@@ -51,6 +51,17 @@ public:
     explicit Recorder(const Context *context) : Plugin(context), settings_(Settings::from_environment()) {}
     ~Recorder() override { finish(); }
 
+    // Writes what was recorded of the launch, if one is under way.
+    void finish() {
+        if (launch_) write_launch(*launch_, settings_, "");
+        launch_.reset();
+        sequences_ = Sequences();
+        calls_.clear();
+        explicit_.clear();
+        current_ = nullptr;
+        changed_ = nullptr;
+    }
+
     bool isThreadSafe() const override { return false; }
 
     void kernelBegin(const KernelInvocation *invocation) override {
@@ -167,17 +178,6 @@ private:
             return "it has " + std::to_string(groups) + " work-groups, and a trace has room for " + most + "; --groups " +
                    std::to_string(launch.window_first) + ":" + most + " records " + most + " of them";
         return "";
-    }
-
-    // Writes what was recorded of the launch, if one is under way.
-    void finish() {
-        if (launch_) write_launch(*launch_, settings_, "");
-        launch_.reset();
-        sequences_ = Sequences();
-        calls_.clear();
-        explicit_.clear();
-        current_ = nullptr;
-        changed_ = nullptr;
     }
 
     void name_global_buffers(const Kernel *kernel) {
@@ -368,7 +368,16 @@ private:
 };
 
 uint32_t Recorder::launches_ = 0;
-std::map<const Context *, std::unique_ptr<Recorder>> recorders; // of each context of the program
+
+// Of each context of the program. They are not destroyed with the library: a program may release its contexts later.
+auto &recorders = *new std::map<const Context *, std::unique_ptr<Recorder>>;
+
+// A launch that was stopped is under way still where the program ends without releasing its context.
+struct AtEnd {
+    ~AtEnd() {
+        for (const auto &[context, recorder] : recorders) recorder->finish();
+    }
+} at_end;
 
 } // namespace
 
