@@ -99,7 +99,7 @@ def further_of(program, folder, streams, race):
         first_of.setdefault(buffer and buffer.name, part)
     words = list(dict.fromkeys([*first_of.values(), *(part for part, _ in pieces)]))  # the first is shown already
     found = [explained(program, folder, streams, race.space, part) for part in words[1:1 + MOST_EXPLAINED]]
-    return [race for race in found if race]
+    return [other for other in found if other]
 
 
 def explained(program, folder, streams, space, run):
