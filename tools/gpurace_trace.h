@@ -42,7 +42,6 @@
 /* Limits: groups and items are counted from 0, records include the end. */
 #define GPURACE_MOST_GROUPS 64
 #define GPURACE_MOST_ITEMS 256
-#define GPURACE_MOST_ITEMS_OF_LAUNCH 16384
 #define GPURACE_MOST_RECORDS 16777216
 
 /* How many releases a record of version 2 has room for; one of version 1 has room for one. */

@@ -4,7 +4,7 @@
 # of the second where Oclgrind or an OpenCL loader to link with is not there; the first is then done where
 # GPURACE_PROGRAM is set.
 #
-#   check.sh      GPURACE_PROGRAM names a built gpurace; without it ./gpurace builds one, which takes minutes
+#   check.sh      GPURACE_PROGRAM names a built gpurace; without it ./gpurace builds one, which takes most of an hour
 set -eu
 here=$(cd "$(dirname "$0")" && pwd)
 failures=0
@@ -51,6 +51,15 @@ expect() {
     done < "$work/lines"
 }
 
+# has FILE LINE..: the file of the kept launch has these lines (patterns of grep)
+has() {
+    file=$work/kept/000-sum_tiles/$1
+    shift
+    for line in "$@"; do
+        grep -q -x -e "$line" "$file" || { cp "$file" "$work/said"; fail "$file: nowhere '$line'"; }
+    done
+}
+
 expect "no mistake" 0 "sum 2016" "launch 0, sum_tiles: nothing found (4 groups of 16 work-items" \
     "1 launch: 0 with findings, 1 without, 0 not judged" -- "$work/sum_tiles" sum_tiles.cl 0
 # each item writes tile[l]; items below 8 then read tile[l + 8]: eight words in each of four groups
@@ -69,6 +78,18 @@ expect "a window" 1 "races 16 diverge 0" "the report is of groups 1 to 2 of 4 (a
 expect "no group of the window" 2 "not recorded: it has 4 work-groups, and none of the window" \
     -- --groups 4:2 "$work/sum_tiles" sum_tiles.cl 1
 expect "another kernel" 2 "no launch was recorded" -- --kernel other "$work/sum_tiles" sum_tiles.cl 1
+expect "another launch" 2 "no launch was recorded" -- --launch 1 "$work/sum_tiles" sum_tiles.cl 1
+expect "this kernel, and this launch" 1 "races 32 diverge 0" -- --kernel sum_tiles --launch 0 "$work/sum_tiles" sum_tiles.cl 1
+expect "no program" 3 "there is no program ./sum" -- ./sum sum_tiles.cl 1
+expect "no file" 3 "there is no file sum.sim" -- sum.sim
+expect "a launch that is kept" 0 "recorded in $work/kept: 000-sum_tiles" \
+    -- --only-record --keep "$work/kept" "$work/sum_tiles" sum_tiles.cl 1
+# 160 records of a group: each of 16 items reads a number, writes it to the tile, comes to four barriers and writes a mark, a
+# byte; 15 sums are two reads and a write each; one item reads the last and writes it; and the end
+has buffers "g [0-9]* 64 input" "g [0-9]* 4 sums" "g [0-9]* 64 marks.byte" "l 0 [0-9]* 16 tile" "l 3 [0-9]* 16 tile"
+has info.txt "kernel sum_tiles" "launch 0" "global 64 1 1" "local 16 1 1" "groups 4" "items 64" "records 640" \
+    "accesses-of-parts-of-words 64"
+expect "a folder that is not empty" 3 "$work/kept is not empty" -- --keep "$work/kept" "$work/sum_tiles" sum_tiles.cl 0
 # six groups count themselves in turn; the last reads the five other parts
 expect "a hand-over" 0 "launch 0, sum_all: nothing found" \
     -- --opencl20 --build-options -DORDER=memory_order_acq_rel sum_all.sim
@@ -76,14 +97,17 @@ expect "a relaxed count" 1 "races 5 diverge 0 unmatched 0 held 0" "race on parts
     -- --opencl20 --build-options -DORDER=memory_order_relaxed sum_all.sim
 expect "releases alone" 1 "races 5 diverge 0 unmatched 0 held 0" \
     -- --opencl20 --build-options -DORDER=memory_order_release sum_all.sim
-# each count continues the sequences of all before it: the load names six releases, five of them by loads before it
-expect "releases, and a load that acquires" 0 "sum_all: nothing found (6 groups of 1 work-item, 42 records)" \
+# Each count continues the sequences of all before it: the load names six releases, four of them by a load before it. Six
+# groups write a part, count and end, the last one loads twice, and adds six parts with two reads and a write each.
+expect "releases, and a load that acquires" 0 "sum_all: nothing found (6 groups of 1 work-item, 38 records)" \
     -- --opencl20 --build-options "-DORDER=memory_order_release -DACQUIRES" sum_all.sim
 # of the six releases that the load is to name, four are of groups that are not recorded
-expect "a window of hand-overs" 0 "sum_all: nothing found (2 groups" "4 hand-overs from groups outside the window were not recorded" \
+expect "a window of hand-overs" 0 "sum_all: nothing found (2 groups" "hand-overs from groups outside the window, not recorded: 4" \
     -- --opencl20 --groups 4:2 --build-options "-DORDER=memory_order_release -DACQUIRES" sum_all.sim
-expect "a large launch" 2 "not recorded: 128 work-groups of 64 work-items are more than a trace has room for; --groups 0:32" \
+expect "a large launch" 2 "not recorded: it has 128 work-groups, and a trace has room for 64; --groups 0:64 records 64 of them" \
     -- large.sim
+expect "a large window" 2 "not recorded: it has 128 work-groups, and a trace has room for 64; --groups 1:64 records" \
+    -- --groups 1:65 large.sim
 expect "a window of it" 0 "large: nothing found (32 groups of 64 work-items, 2080 records)" "groups 96 to 127 of 128" \
     -- --groups 96:32 large.sim
 expect "a copy that is waited for" 0 "copy_tiles: nothing found" -- --build-options -DWAIT=1 copy_tiles.sim
@@ -91,6 +115,10 @@ expect "a copy that is not" 1 "races 16 diverge 0" "write by group 0, asynchrono
 # twelve bytes and shorts lie side by side; the thirteenth of each is written by several
 expect "parts of words" 1 "races 2 diverge 0 unmatched 0 held 0" "race on bytes.byte\[12\]" "write by group 4, item 0" \
     "write by group 4, item 1" "race on shorts.half\[12\]" "the two are of different work-groups" -- parts.sim
+# four work-items execute a fence, and one of them writes behind the buffer; two groups write four words and end
+expect "what is left out" 0 "left_out: nothing found (2 groups of 2 work-items, 6 records)" \
+    "note: fences not recorded, so that an order that they give is not seen: 4" \
+    "note: accesses out of bounds, not recorded: 1, the first at kernel.cl:8:" -- left_out.sim
 # group 2 is stopped, and group 3 never begins
 expect "a kernel that is stopped" 2 "nothing found in what was recorded (4 groups of 2 work-items, 15 records)" \
     "records of 2 of 4 groups were lost (the first is group 2)" -- stopped.sim

@@ -1,7 +1,8 @@
 """What gpurace finds in a recorded launch, in the kernel's own terms: buffers, work-items, lines of source.
 
 `findings(program, folder)` is all that others call. Which words race, which two accesses do, and where in the source
-these stand, is what `gpurace races` says. Of the streams only barriers and the accesses that are shown are read.
+these stand, is what `gpurace races` says; of further words of a kind of races, `gpurace explain` says it, and those that
+are of other buffers or other places of the source are shown. Of the streams only barriers and shown accesses are read.
 """
 import collections
 import os
@@ -20,12 +21,14 @@ RUN = re.compile(r"(?:global|local (\d+)) (\d+)(?:\.\.(\d+))?")
 BUFFER = re.compile(r"(?:g|l (\d+)) (\d+) (\d+) (.+)")
 MOST_SHOWN = 20      # kinds of races
 MOST_RUNS = 5        # of words of a buffer
+MOST_EXPLAINED = 5   # further words of a kind
+MOST_BYTES = 500000  # of streams of which words are explained; each takes a part of a second
 MOST_COLUMNS = 160   # of a line of source
 
 Event = collections.namedtuple("Event", "group item index")
 Access = collections.namedtuple("Access", "kind scope order")
 Barrier = collections.namedtuple("Barrier", "index site flags")
-Race = collections.namedtuple("Race", "space words runs first second said")  # a kind, and the lines that say it
+Race = collections.namedtuple("Race", "space words runs first second said")  # a kind, or a word of it; lines that say it
 Run = collections.namedtuple("Run", "group first last")  # of words; the group is None where they are global
 Buffer = collections.namedtuple("Buffer", "group first last name")
 
@@ -42,8 +45,9 @@ def findings(program, folder):
     if any(line[0] == "race" for line in lines):
         races, told = races_of(program, folder, streams)
     if races or any(line[0] in ("cut", "diverge", "unmatched") for line in lines):
-        launch = Launch(folder, streams.values(), lines, races)
-        told = [text for race in races for text in launch.race_told(race)] + told + launch.others()
+        further = [further_of(program, folder, streams, race) for race in races]
+        launch = Launch(folder, streams.values(), lines, races + sum(further, []))
+        told = [text for kind in zip(races, further) for text in launch.kind_told(*kind)] + told + launch.others()
     return ran.returncode, report, told
 
 
@@ -77,8 +81,35 @@ def race_of(said):
     """A kind of races, of what stands in its lines behind their first words."""
     runs = [Run(group and int(group), int(first), int(last or first)) for group, first, last in
             (run.groups() for run in RUN.finditer(said["words"]))]
-    first, second = (Event(*map(int, event.split())) for event in said["race"].split(": ")[1].split(" with "))
-    return Race(said["kind"].split()[0], int(said["kind"].split()[-1]), runs, first, second, said)
+    return Race(said["kind"].split()[0], int(said["kind"].split()[-1]), runs, *pair_of(said["race"]), said)
+
+
+def pair_of(text):
+    """The two accesses of `global W: G I N with G I N`."""
+    return (Event(*map(int, event.split())) for event in text.split(": ")[1].split(" with "))
+
+
+def further_of(program, folder, streams, race):
+    """Further words of the kind as races of their own: the first of each buffer, and then the first of each run."""
+    if sum(map(len, streams.values())) > MOST_BYTES:
+        return []
+    buffers, first_of = buffers_of(folder), {}
+    pieces = [piece for run in race.runs for piece in parts(run, buffers)]
+    for part, buffer in pieces:
+        first_of.setdefault(buffer and buffer.name, part)
+    words = list(dict.fromkeys([*first_of.values(), *(part for part, _ in pieces)]))  # the first is shown already
+    found = [explained(program, folder, streams, race.space, part) for part in words[1:1 + MOST_EXPLAINED]]
+    return [other for other in found if other]
+
+
+def explained(program, folder, streams, space, run):
+    """The first word of the run as a race of its own, by `gpurace explain`; None where that has failed."""
+    group, word, _ = run
+    words = [program, "explain", "g" if group is None else f"l{group}", str(word)]
+    ran = subprocess.run(words + [os.path.join(folder, name) for name in streams], capture_output=True)
+    if ran.returncode != 1:
+        return None
+    return Race(space, 1, [Run(group, word, word)], *pair_of(ran.stdout.decode()), {})
 
 
 class Group:
@@ -114,42 +145,55 @@ class Launch:
         numbers = {event.group for event in events} | {group for group, _ in self.divergent}
         self.groups = {group: Group(self.streams[group], [event for event in events if event.group == group])
                        for group in numbers}
-        self.buffers = [buffer_of(*said.groups()) for said in map(BUFFER.fullmatch, self.lines("buffers")) if said]
-        words = [line.split() for line in self.lines("info.txt")]
+        self.buffers = buffers_of(folder)
+        words = [line.split() for line in lines_of(folder, "info.txt")]
         self.copying = {tuple(map(int, line[1:])) for line in words if line[:1] == ["copying-item"]}  # (group, item)
-        self.source = list(self.lines("kernel.cl"))
-        self.places = self.find_places()
+        self.source = list(lines_of(folder, "kernel.cl"))
+        self.places = self.find_places({"%d %d %d" % event for event in events})
 
-    def lines(self, name):
-        path = os.path.join(self.folder, name)
-        if os.path.exists(path):
-            with open(path, encoding="utf-8", errors="replace", newline="\n") as given:
-                yield from (line.rstrip("\n") for line in given)
-
-    def find_places(self):
-        """The places of sites, by their numbers as text, and of unmatched acquires, by "GROUP ITEM INDEX"."""
-        unmatched = {" ".join(line[1:4]) for line in self.report if line[0] == "unmatched"}
+    def find_places(self, keys):
+        """The places of sites, by their numbers as text, and of these events and unmatched acquires, by "GROUP ITEM INDEX"."""
+        keys = keys | {" ".join(line[1:4]) for line in self.report if line[0] == "unmatched"}
         found = {}
-        for line in self.lines("places"):
-            parts = line.split(" ", 3)
-            is_event = len(parts) == 4 and parts[1][:1].isdigit()
-            key = " ".join(parts[:3]) if is_event else parts[0]
-            if not is_event or key in unmatched:
+        for line in lines_of(self.folder, "places"):
+            fields = line.split(" ", 3)
+            is_event = len(fields) == 4 and fields[1][:1].isdigit()
+            key = " ".join(fields[:3]) if is_event else fields[0]
+            if not is_event or key in keys:
                 found.setdefault(key, line[len(key) + 1:])
         return found
 
     def site_place(self, site):
         return self.places.get(str(site), f"site {site}")
 
-    def race_told(self, race):
+    def kind_told(self, race, further):
+        """A kind of races, and those of its further words that are of other buffers or places than all before."""
         more = f" ({race.words} words); on {self.first_word(race)}:" if race.words > 1 else ""
-        told = [f"race on {self.names(race)}{more}"]
-        for key, event in (("first", race.first), ("second", race.second)):
-            told += self.access_told(event, race.said.get(key, "unknown"))
-        return told + ["    " + self.missing(race)]
+        told = [f"race on {self.names(race)}{more}"] + self.pair_told(race)
+        seen = {self.sight(race)}
+        for other in further:
+            if self.sight(other) not in seen:
+                seen.add(self.sight(other))
+                told += [f"and on {self.names(other)}:"] + self.pair_told(other)
+        return told
 
-    def missing(self, race):
-        """What would have ordered the two."""
+    def sight(self, race):
+        """The buffer of the race's first word, and the places of its two accesses, whichever comes first."""
+        _, buffer = next(parts(race.runs[0], self.buffers))
+        return buffer and buffer.name, frozenset(self.places_of(race))
+
+    def places_of(self, race):
+        pair = (("first", race.first), ("second", race.second))
+        return [race.said.get(key) or self.places.get("%d %d %d" % event, "unknown") for key, event in pair]
+
+    def pair_told(self, race):
+        """The two accesses of a race, and what would order them."""
+        first, second = self.places_of(race)
+        told = self.access_told(race.first, first) + self.access_told(race.second, second)
+        return told + ["    " + self.missing(race, first == second != "unknown")]
+
+    def missing(self, race, is_one_place):
+        """What would have ordered the two, which may stand at one place of the source."""
         number = race.first.group
         if number != race.second.group:
             return "the two are of different work-groups, which no barrier orders"
@@ -162,6 +206,9 @@ class Launch:
             return f"the barrier between the two, {place}, would order them with {flag}"
         if between:
             return "the barriers between the two are divergent, and order nothing"
+        if is_one_place:
+            return ("the two are one place of the source: let one work-item do it, use an atomic, or, in a loop, a barrier "
+                    f"with {flag}")
         return f"no barrier stands between the two; one with {flag} would order them"
 
     def access_told(self, event, place):
@@ -188,21 +235,11 @@ class Launch:
         """The words by their buffers, runs of them joined; of local words, the groups too."""
         spans, groups = collections.defaultdict(set), collections.defaultdict(set)
         for run in race.runs:
-            for name, low, high in self.parts(run):
-                spans[name].add((low, high))
+            for part, buffer in parts(run, self.buffers):
+                name, start = (buffer.name, buffer.first) if buffer else (None, 0)
+                spans[name].add((part.first - start, part.last - start))
                 groups[name].add(run.group)
         return ", ".join(name_of(name, race.space, joined(spans[name]), sorted(groups[name])) for name in spans)
-
-    def parts(self, run):
-        """A run of words, cut where a buffer begins or ends: its name and the indexes in it; or None and the words."""
-        first = run.first
-        while first <= run.last:
-            here = [buffer for buffer in self.buffers if buffer.group == run.group and first <= buffer.last]
-            inside = next((buffer for buffer in here if buffer.first <= first), None)
-            end = inside.last if inside else min((buffer.first - 1 for buffer in here), default=run.last)
-            last, start = min(run.last, end), inside.first if inside else 0
-            yield inside.name if inside else None, first - start, last - start
-            first = last + 1
 
     def others(self):
         """What the report's lines say that name no race."""
@@ -241,8 +278,30 @@ class Launch:
         return told
 
 
+def lines_of(folder, name):
+    path = os.path.join(folder, name)
+    if os.path.exists(path):
+        with open(path, encoding="utf-8", errors="replace", newline="\n") as given:
+            yield from (line.rstrip("\n") for line in given)
+
+
+def buffers_of(folder):
+    return [buffer_of(*said.groups()) for said in map(BUFFER.fullmatch, lines_of(folder, "buffers")) if said]
+
+
 def buffer_of(group, first, words, name):
     return Buffer(group and int(group), int(first), int(first) + int(words) - 1, name)
+
+
+def parts(run, buffers):
+    """A run of words, cut where a buffer begins or ends; each part with its buffer, or None."""
+    first = run.first
+    while first <= run.last:
+        here = [buffer for buffer in buffers if buffer.group == run.group and first <= buffer.last]
+        inside = next((buffer for buffer in here if buffer.first <= first), None)
+        end = inside.last if inside else min((buffer.first - 1 for buffer in here), default=run.last)
+        yield Run(run.group, first, min(run.last, end)), inside
+        first = min(run.last, end) + 1
 
 
 def joined(spans):

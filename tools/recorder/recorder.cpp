@@ -51,6 +51,17 @@ public:
     explicit Recorder(const Context *context) : Plugin(context), settings_(Settings::from_environment()) {}
     ~Recorder() override { finish(); }
 
+    // Writes what was recorded of the launch, if one is under way.
+    void finish() {
+        if (launch_) write_launch(*launch_, settings_, "");
+        launch_.reset();
+        sequences_ = Sequences();
+        calls_.clear();
+        explicit_.clear();
+        current_ = nullptr;
+        changed_ = nullptr;
+    }
+
     bool isThreadSafe() const override { return false; }
 
     void kernelBegin(const KernelInvocation *invocation) override {
@@ -157,28 +168,16 @@ private:
     // Why a trace can't have the launch, or nothing.
     static std::string refusal_of(const Launch &launch) {
         const uint64_t items = launch.local.count(), groups = launch.groups.count();
-        const uint64_t window_items = std::min(items * launch.window_count, launch.global.count());
         if (items > GPURACE_MOST_ITEMS)
-            return "a work-group has " + std::to_string(items) + " work-items, and a trace has room for 256";
+            return "a work-group has " + std::to_string(items) + " work-items, and a trace has room for " +
+                   std::to_string(GPURACE_MOST_ITEMS);
         if (launch.window_count == 0)
             return "it has " + std::to_string(groups) + " work-groups, and none of the window";
-        const uint64_t room = std::min<uint64_t>(GPURACE_MOST_GROUPS, GPURACE_MOST_ITEMS_OF_LAUNCH / items);
-        if (launch.window_count > GPURACE_MOST_GROUPS || window_items > GPURACE_MOST_ITEMS_OF_LAUNCH)
-            return std::to_string(launch.window_count) + " work-groups of " + std::to_string(items) +
-                   " work-items are more than a trace has room for; --groups 0:" + std::to_string(room) +
-                   " records the first " + std::to_string(room);
+        const std::string most = std::to_string(GPURACE_MOST_GROUPS);
+        if (launch.window_count > GPURACE_MOST_GROUPS)
+            return "it has " + std::to_string(groups) + " work-groups, and a trace has room for " + most + "; --groups " +
+                   std::to_string(launch.window_first) + ":" + most + " records " + most + " of them";
         return "";
-    }
-
-    // Writes what was recorded of the launch, if one is under way.
-    void finish() {
-        if (launch_) write_launch(*launch_, settings_, "");
-        launch_.reset();
-        sequences_ = Sequences();
-        calls_.clear();
-        explicit_.clear();
-        current_ = nullptr;
-        changed_ = nullptr;
     }
 
     void name_global_buffers(const Kernel *kernel) {
@@ -369,7 +368,16 @@ private:
 };
 
 uint32_t Recorder::launches_ = 0;
-std::map<const Context *, std::unique_ptr<Recorder>> recorders; // of each context of the program
+
+// Of each context of the program. They are not destroyed with the library: a program may release its contexts later.
+auto &recorders = *new std::map<const Context *, std::unique_ptr<Recorder>>;
+
+// A launch that was stopped is under way still where the program ends without releasing its context.
+struct AtEnd {
+    ~AtEnd() {
+        for (const auto &[context, recorder] : recorders) recorder->finish();
+    }
+} at_end;
 
 } // namespace
 

@@ -248,15 +248,9 @@ Settings Settings::from_environment() {
 
 void write_launch(Launch &launch, const Settings &settings, const std::string &refusal) {
     std::string reason = refusal;
-    uint64_t items = 0;
-    for (const auto &[number, group] : launch.group) {
-        items += group.is_kept ? group.streamed_items() : 0;
+    for (const auto &[number, group] : launch.group)
         if (group.streamed_items() > GPURACE_MOST_ITEMS)
             reason = "its asynchronous copies need one more work-item in a group than the 256 that a trace has room for";
-    }
-    if (reason.empty() && items > GPURACE_MOST_ITEMS_OF_LAUNCH)
-        reason = "its asynchronous copies need one more work-item in each group, which makes more than 16,384; --groups records "
-                 "fewer groups";
     Writer writer(launch, settings);
     const bool is_written = writer.write(reason);
     const std::string told = !is_written        ? writer.folder() + " could not be written: " + std::strerror(errno)

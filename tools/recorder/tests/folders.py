@@ -63,15 +63,26 @@ race on local words 72..73 of group 0 (2 words); on local word 72 of group 0:
     no barrier stands between the two; one with CLK_LOCAL_MEM_FENCE would order them
 """),
     "an asynchronous copy": Case(
-        ["group 0 items 2 launch 7\n0 r l 64\n1 w l 64\nend\n"], {**SIDES, "info.txt": "copying-item 0 1\n"}, 1, """\
+        ["group 0 items 2 launch 7\n0 r l 64\n1 r l 64\n1 w l 64\nend\n"], {**SIDES, "info.txt": "copying-item 0 1\n",
+                                                                        "places": PLACES + "0 1 1 kernel.cl:5:20\n"},
+        1, """\
 race on tile[0] of group 0
     kernel.cl:3:13: read by group 0, item 0
         tile[l] = input[l];
-    kernel.cl:3:13: write by group 0, asynchronous copy
-        tile[l] = input[l];
+    kernel.cl:5:20: write by group 0, asynchronous copy
+        tile[l] += tile[l + 8];
     no barrier stands between the two; one with CLK_LOCAL_MEM_FENCE would order them
 """),
-    # words of two buffers and of none are of one kind
+    "one place of the source": Case(
+        ["group 0 items 2 launch 7\n0 w g 128\n1 w g 128\nend\n"], SIDES, 1, """\
+race on output[0]
+    kernel.cl:3:13: write by group 0, item 0
+        tile[l] = input[l];
+    kernel.cl:3:13: write by group 0, item 1
+        tile[l] = input[l];
+    the two are one place of the source: let one work-item do it, use an atomic, or, in a loop, a barrier with CLK_GLOBAL_MEM_FENCE
+"""),
+    # words of two buffers and of none are of one kind; two accesses are shown for each
     "two groups": Case(
         ["group 0 items 1 launch 7\n0 w g 5\n0 w g 128\n0 w g 200\nend\n",
          "group 1 items 1 launch 7 v2\n0 w g 200\n0 w g 128\n0 w g 5\nend\n"], SIDES, 1, """\
@@ -80,6 +91,44 @@ race on input[5], output[0], global word 200 (3 words); on input[5]:
         tile[l] = input[l];
     unknown: write by group 1, item 0
     the two are of different work-groups, which no barrier orders
+and on output[0]:
+    kernel.cl:5:20: write by group 0, item 0
+        tile[l] += tile[l + 8];
+    kernel.cl:5:20: write by group 1, item 0
+        tile[l] += tile[l + 8];
+    the two are of different work-groups, which no barrier orders
+and on global word 200:
+    unknown: write by group 0, item 0
+    kernel.cl:3:13: write by group 1, item 0
+        tile[l] = input[l];
+    the two are of different work-groups, which no barrier orders
+"""),
+    # words 0 and 4 race at the same two places, and word 2 at others
+    "two places of one kind": Case(
+        ["group 0 items 4 launch 7\n0 w g 0\n1 r g 0\n0 w g 2\n1 r g 2\n0 w g 4\n1 r g 4\nend\n"],
+        {"buffers": "g 0 8 input\n", "places": "0 0 0 a.cl:1:1\n0 1 0 a.cl:2:1\n0 0 1 a.cl:3:1\n0 1 1 a.cl:4:1\n"
+                                               "0 0 2 a.cl:1:1\n0 1 2 a.cl:2:1\n"}, 1, """\
+race on input[0], input[2], input[4] (3 words); on input[0]:
+    a.cl:1:1: write by group 0, item 0
+    a.cl:2:1: read by group 0, item 1
+    no barrier stands between the two; one with CLK_GLOBAL_MEM_FENCE would order them
+and on input[2]:
+    a.cl:3:1: write by group 0, item 0
+    a.cl:4:1: read by group 0, item 1
+    no barrier stands between the two; one with CLK_GLOBAL_MEM_FENCE would order them
+"""),
+    # two arrays of local memory, in two groups
+    "two buffers of local memory": Case(
+        [f"group {group} items 2 launch 7\n0 w l 64\n0 w l 128\n1 r l 128\n1 r l 64\nend\n" for group in (0, 1)],
+        {"buffers": "".join(f"l {group} 64 1 sum\nl {group} 128 4 tile\n" for group in (0, 1))}, 1, """\
+race on sum[0] of 2 groups, tile[0] of 2 groups (4 words); on sum[0] of group 0:
+    unknown: write by group 0, item 0
+    unknown: read by group 0, item 1
+    no barrier stands between the two; one with CLK_LOCAL_MEM_FENCE would order them
+and on tile[0] of group 0:
+    unknown: write by group 0, item 0
+    unknown: read by group 0, item 1
+    no barrier stands between the two; one with CLK_LOCAL_MEM_FENCE would order them
 """),
     "a flag is missing, and scopes are too narrow": Case(
         ["group 0 items 2 launch 7 v2\n0 bar 3 l\n1 bar 3 l\n0 w g 1\n1 bar 4 l\n0 bar 4 l\n1 r g 1\n"
