@@ -9,6 +9,8 @@ mod ends;
 #[cfg(test)]
 mod growths;
 #[cfg(test)]
+mod large;
+#[cfg(test)]
 mod launches;
 #[cfg(test)]
 mod pairs;

@@ -5,6 +5,7 @@ use Rattle.std.specs.List.{find}
 use Rattle.std.specs.Option.{is_some, option_and_then, option_map}
 use Rattle.std.specs.Str.{is_utf8}
 use Rattle.gr_lines.specs.LineReading.{◌>>=◌, first_of, number_of, same, short_of}
+use Rattle.gr_model.specs.declared.event.EventId.{EventId}
 use Rattle.gr_model.specs.declared.event.Word.{Word}
 use Rattle.gr_model.specs.declared.event.Word.TheVariants.{Global, Local}
 use Rattle.gr_text.specs.Lines.{lines_of}
@@ -15,7 +16,6 @@ use Rattle.gr_places.specs.declared.fault.SideFault.TheVariants.{BadLine, Memory
 use Rattle.gr_places.specs.declared.places.Placed.{Placed}
 use Rattle.gr_places.specs.declared.places.Placed.TheVariants.{Event, Site}
 use Rattle.gr_places.specs.declared.places.PlaceLine.{PlaceLine}
-use Rattle.gr_places.specs.contracts.places.PlacedPartialEq.TheImpl as equality
 
 -- ---- texts
 
@@ -82,8 +82,15 @@ place_line_said line =
 abbrev pub places_in : List ℕ → Result (List PlaceSaid) ℕ
 places_in text = said_from place_line_said 1 (lines_of text)
 
+abbrev pub same_event : EventId → EventId → Bool
+same_event e f = (e.at.group == f.at.group) && (e.at.item == f.at.item) && (e.index == f.index)
+
+-- the same event, or the same site
 abbrev pub same_placed : Placed → Placed → Bool
-same_placed p q = (equality.eq-value).it p q
+same_placed (Event e) (Event f) = same_event e f
+same_placed (Site s) (Site t) = s == t
+same_placed (Event e) (Site t) = false
+same_placed (Site s) (Event f) = false
 
 -- the place of an event or a site: that of the first line that has it
 abbrev pub place_of : List PlaceSaid → Placed → Option (List ℕ)

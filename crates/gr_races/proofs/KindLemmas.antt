@@ -1,8 +1,9 @@
 -- Each race of a launch has a kind, and it is said whether there is one.
-use Rattle.std.proofs.Common.{◌≡◌, ◌↔◌, ◌<◌, ◌||◌, ℕ, Bool, true, false, List, [], ◌∷◌, ◌++◌, Option, Some, Contains, IsTrue, All, option_and_then, ap, arith, length, map, refl, sym, ◌∙◌, true≢false}
+use Rattle.std.proofs.Common.{◌≡◌, ◌↔◌, ◌<◌, ◌||◌, ◌&&◌, ℕ, Bool, true, false, List, [], ◌∷◌, ◌++◌, Option, Some, Contains, IsTrue, All, option_and_then, ap, arith, length, map, refl, sym, ◌∙◌, true≢false}
 use Rattle.std.specs.Prelude.{AllPairs, if◌then◌else◌, nat_lt, option_map}
 use Rattle.std.specs.List.{cons_option, list_any}
-use Rattle.std.proofs.lemmas.Bool.{false_from_ne_true, lt-ltb, ltb-true}
+use Rattle.std.proofs.Math.Bool.{beq}
+use Rattle.std.proofs.lemmas.Bool.{and_parts, false_from_ne_true, lt-ltb, ltb-true}
 use Rattle.std.proofs.lemmas.List.Elements.{All-cons, All-contains, All-nil, Contains-append_left, Contains-append_right, Contains-push}
 use Rattle.std.proofs.lemmas.List.Folds.{list_any-append, list_any_at}
 use Rattle.std.proofs.lemmas.List.Quantifiers.{all_pairs_push}
@@ -12,6 +13,9 @@ use Rattle.gr_model.specs.declared.event.EventId.{EventId}
 use Rattle.gr_model.specs.declared.event.Kind.{Kind}
 use Rattle.gr_model.specs.declared.event.Kind.TheVariants as kinds
 use Rattle.gr_model.specs.declared.event.Word.{Word}
+use Rattle.gr_model.specs.contracts.event.SpacePartialEq.TheImpl as spaces
+use Rattle.gr_model.specs.declared.event.Space.{Space}
+use Rattle.gr_model.specs.declared.event.Space.TheVariants.{Global, Local}
 use Rattle.gr_model.specs.declared.race.Race.{Race}
 use Rattle.gr_model.specs.RacePairs.{ArePairedRaces, IsRacePair}
 use Rattle.gr_model.specs.Races.{IsRacy}
@@ -19,7 +23,9 @@ use Rattle.gr_model.specs.Streams.{Streams, event_at, word_at}
 use Rattle.gr_model.specs.Waits.{IsGrounded}
 use Rattle.gr_races.specs.declared.kinds.KindedRace.{KindedRace}
 use Rattle.gr_races.specs.declared.kinds.Operation.{Operation}
+use Rattle.gr_races.specs.declared.kinds.Operation.TheVariants as ops
 use Rattle.gr_races.specs.declared.kinds.RaceKind.{RaceKind}
+use Rattle.gr_races.specs.contracts.kinds.OperationPartialEq.TheImpl as operations
 use Rattle.gr_races.specs.contracts.kinds.RaceKindEq.TheImpl.Laws as equal
 use Rattle.gr_races.specs.Kinds.{all_kinded, kinded, operation_at, operation_of, same_kind, with_operations}
 use Rattle.gr_races.specs.Listing.{kinds_after, kinds_of, with_kind}
@@ -123,3 +129,63 @@ each_listed kinds (row ∷ rows) =
 
 pub each_race_is_listed_once : (rows : List KindedRace) → AllPairs (λ k l. same_kind k l ≡ false) (kinds_of rows) × All (λ (row : KindedRace). HasKind (kinds_of rows) row.kind) rows
 each_race_is_listed_once rows = (distinct_after [] rows (λ i j d before within. absurd (omega (arith, within))), each_listed [] rows)
+
+-- ---- the same kinds are one
+
+same_spaces : (a b : Space) → (spaces.eq-value).it a b ≡ true → a ≡ b
+same_spaces Global Global e = refl
+same_spaces Global Local e = absurd (true≢false (sym e))
+same_spaces Local Global e = absurd (true≢false (sym e))
+same_spaces Local Local e = refl
+
+same_operations : (a b : Operation) → (operations.eq-value).it a b ≡ true → a ≡ b
+same_operations ops.Read ops.Read e = refl
+same_operations ops.Read ops.Write e = absurd (true≢false (sym e))
+same_operations ops.Read ops.Load e = absurd (true≢false (sym e))
+same_operations ops.Read ops.Store e = absurd (true≢false (sym e))
+same_operations ops.Read ops.Rmw e = absurd (true≢false (sym e))
+same_operations ops.Write ops.Read e = absurd (true≢false (sym e))
+same_operations ops.Write ops.Write e = refl
+same_operations ops.Write ops.Load e = absurd (true≢false (sym e))
+same_operations ops.Write ops.Store e = absurd (true≢false (sym e))
+same_operations ops.Write ops.Rmw e = absurd (true≢false (sym e))
+same_operations ops.Load ops.Read e = absurd (true≢false (sym e))
+same_operations ops.Load ops.Write e = absurd (true≢false (sym e))
+same_operations ops.Load ops.Load e = refl
+same_operations ops.Load ops.Store e = absurd (true≢false (sym e))
+same_operations ops.Load ops.Rmw e = absurd (true≢false (sym e))
+same_operations ops.Store ops.Read e = absurd (true≢false (sym e))
+same_operations ops.Store ops.Write e = absurd (true≢false (sym e))
+same_operations ops.Store ops.Load e = absurd (true≢false (sym e))
+same_operations ops.Store ops.Store e = refl
+same_operations ops.Store ops.Rmw e = absurd (true≢false (sym e))
+same_operations ops.Rmw ops.Read e = absurd (true≢false (sym e))
+same_operations ops.Rmw ops.Write e = absurd (true≢false (sym e))
+same_operations ops.Rmw ops.Load e = absurd (true≢false (sym e))
+same_operations ops.Rmw ops.Store e = absurd (true≢false (sym e))
+same_operations ops.Rmw ops.Rmw e = refl
+
+same_answers : (a b : Bool) → beq a b ≡ true → a ≡ b
+same_answers true true e = refl
+same_answers true false e = absurd (true≢false (sym e))
+same_answers false true e = absurd (true≢false (sym e))
+same_answers false false e = refl
+
+same_is_one : (k l : RaceKind) → same_kind k l ≡ true → k ≡ l
+same_is_one k l e =
+    let space = (spaces.eq-value).it k.space l.space in
+    let first = (operations.eq-value).it k.first l.first in
+    let second = (operations.eq-value).it k.second l.second in
+    let group = beq k.one_group l.one_group in
+    let p = and_parts space (first && (second && group)) e in
+    let q = and_parts first (second && group) p.1 in
+    let r = and_parts second group q.1 in
+    λ i. record {
+      space = same_spaces k.space l.space p.0 i;
+      first = same_operations k.first l.first q.0 i;
+      second = same_operations k.second l.second r.0 i;
+      one_group = same_answers k.one_group l.one_group r.1 i;
+    }
+
+pub the_same_kinds_are_one : (k l : RaceKind) → IsTrue (same_kind k l) ↔ (k ≡ l)
+the_same_kinds_are_one k l = (same_is_one k l, λ is. sym (ap (same_kind k) is) ∙ equal.laws-law.refl k)

@@ -1,6 +1,11 @@
 //! Laws of kinds and runs. Each is the contract of a function that does nothing.
 
-ghost use Rattle.gr_races.specs.Laws.{EachRaceIsListedOnce, EveryRaceHasAKind, NothingIsNoted};
+ghost use Rattle.gr_races.specs.Laws.{EachRaceIsListedOnce, EveryRaceHasAKind, NothingIsNoted, SameKindsAreOne};
+
+/// Kinds are the same just where the memory, both accesses, and whether these are of one work-group are the same.
+pub fn the_same_kinds_are_one()
+    ensures { SameKindsAreOne }
+{}
 
 /// Each race of a launch has a kind, and stands among the races of just that kind.
 pub fn races_are_listed()

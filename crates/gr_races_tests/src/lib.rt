@@ -5,4 +5,6 @@
 #[cfg(test)]
 mod ends;
 #[cfg(test)]
+mod large;
+#[cfg(test)]
 mod shown;

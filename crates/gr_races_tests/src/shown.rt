@@ -97,7 +97,7 @@ fn open_stored<'a>(name: &str, stream: &'a [u8]) -> io::Result<FailingReader<'a>
     })
 }
 
-/// Shows the races of files, and gives the answer and what was written.
+/// Shows the races of files, and gives the answer and what was written. Flushes succeed where there is room without end.
 fn shown<A: Allocator + Copy>(
     alloc: A,
     heap: Global,
@@ -112,7 +112,7 @@ fn shown<A: Allocator + Copy>(
     let mut writer = FailingWriter {
         taken: Vec::new(heap),
         room,
-        flushes: true,
+        flushes: room == usize::MAX,
     };
     let answer = show_races_of_files(
         alloc,
@@ -206,6 +206,16 @@ const REFUSALS: [Refusal; 7] = [
     ),
 ];
 
+/// Whether the line of a fault is a fault of writing where the flush fails, and is written whole before it.
+fn is_refused_unflushed(heap: Global, fault: &RacesFault, line: &str) -> bool {
+    let mut writer = FailingWriter {
+        taken: Vec::new(heap),
+        room: usize::MAX,
+        flushes: false,
+    };
+    write_races_fault(fault, &mut writer).is_err() && writer.taken.as_slice() == line.as_bytes()
+}
+
 #[test]
 fn faults_come_in_their_order(rt: HostRuntime) -> Result<(), Fail> {
     let alloc = rt.alloc();
@@ -214,6 +224,7 @@ fn faults_come_in_their_order(rt: HostRuntime) -> Result<(), Fail> {
         let (answer, text) = shown(alloc, alloc, &sides, &[stream], None, usize::MAX)?;
         assert_eq!(rt; answer, Err(wanted), "{name}");
         assert!(rt; text.is_empty(), "{name}");
+        assert!(rt; is_refused_unflushed(alloc, &wanted, wanted_line), "{name}");
         let mut line = Vec::new(alloc);
         assert!(rt; write_races_fault(&wanted, &mut line).is_ok(), "{name}");
         assert_eq!(rt; str::from_utf8(&line), Ok(wanted_line), "{name}");
@@ -229,7 +240,7 @@ const BOTH: SideNames<'static> = SideNames {
 #[test]
 fn a_failing_writer_has_a_prefix(rt: HostRuntime) -> Result<(), Fail> {
     let alloc = rt.alloc();
-    for room in 0..NOTED.len() {
+    for room in 0..NOTED.len() + 1 {
         let (answer, text) = shown(alloc, alloc, &BOTH, &["stream"], None, room)?;
         assert_eq!(rt; answer, Err(RacesFault::Run(Fault::Write)), "{room}");
         assert!(rt;

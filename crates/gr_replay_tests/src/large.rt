@@ -2,7 +2,8 @@
 
 use crate::bytes::{END, joined};
 use crate::ends::FailingReader;
-use gr_replay::replay;
+use gr_replay::detect::{detect, detect_races};
+use gr_replay::{read_joined, replay};
 use std::alloc::{AllocError, Global};
 use std::io::{self, Read, Write};
 use std::test::Fail;
@@ -120,5 +121,17 @@ fn large_launches_are_reported(rt: HostRuntime) -> Result<(), Fail> {
         calls: usize::MAX,
     };
     assert!(rt; is_reported(rt.alloc(), &mut reader, &text), "50,000 races");
+    Ok(())
+}
+
+#[test]
+fn the_traces_of_the_greatest_launch_are_detected(rt: HostRuntime) -> Result<(), Fail> {
+    let bytes = greatest_launch(rt.alloc())?;
+    let Ok(traces) = read_joined(rt.alloc(), &mut bytes.as_slice()) else {
+        return Err("no launch")?;
+    };
+    let report = detect(rt.alloc(), &traces)?;
+    assert_eq!(rt; (report.groups, report.records), (64, 129));
+    assert_eq!(rt; detect_races(rt.alloc(), &traces)?.races.len(), 1);
     Ok(())
 }

@@ -2,4 +2,5 @@
 
 mod broken;
 mod ends;
+mod large;
 mod reports;

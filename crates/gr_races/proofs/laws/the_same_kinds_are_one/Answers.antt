@@ -1,0 +1,5 @@
+use Rattle.gr_races.proofs.KindLemmas.{the_same_kinds_are_one}
+use Rattle.gr_races.proofs.laws.the_same_kinds_are_one.Goals as goal
+
+pub returns : goal.returns
+returns c = the_same_kinds_are_one
