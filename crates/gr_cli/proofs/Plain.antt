@@ -4,7 +4,7 @@ use Rattle.std.specs.Prelude.{◌==◌, fold, is_some}
 use Rattle.clap.proofs.OnLiterals.{clap_on_literals}
 use Rattle.clap.specs.Kinds.{Kinds, or_else}
 use Rattle.clap.specs.Simple.{App, Shape, built, entered, names_of, subcommand_of, built_leaf, inherited}
-use Rattle.clap.specs.Walk.{Held, Names, Row, Rule, Step, Text, Walk, finished, idle, positional, settled, value, walk, walk_from, nothing_held, walked, rows_after, word_met, after_step, to_positional, arg_by_index}
+use Rattle.clap.specs.Walk.{Held, Names, Row, Rule, Step, Text, Walk, finished, idle, positional, settled, value, walk, walk_from, nothing_held, walked, rows_after, word_met, after_step}
 use Rattle.clap.specs.Faults.{check_fault, defaults_fault, entered_fault, fault_of, level_fault, settle_fault, step_fault, turn_fault, walk_fault, word_fault}
 use Rattle.clap.specs.declared.parser.matches.ValueSource.TheVariants.{CommandLine, DefaultValue}
 use Rattle.clap.specs.declared.builder.value_parser.ValueParser.TheVariants.{String}
