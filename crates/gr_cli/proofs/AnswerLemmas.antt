@@ -20,8 +20,8 @@ use Rattle.gr_text.specs.Dumps.{dumped, upgraded}
 use Rattle.gr_cli.specs.declared.arguments.Task.{Task}
 use Rattle.gr_cli.specs.declared.arguments.Task.TheVariants.{Replay, Pack, Dump, Upgrade}
 use Rattle.gr_model.specs.declared.event.Word.{Word}
-use Rattle.gr_show.specs.Opening.{IsFileFault, IsShownOfFiles, ShowsPrefixOfFiles}
-use Rattle.gr_cli.specs.Answers.{IsAnswer, IsAnswerOf, IsDisplay, IsFaultOfFiles, IsFaultTold, IsRacesDisplay, IsReportOfFiles, IsRewriting, IsRunAnswer, WritesPrefixOfFiles}
+use Rattle.gr_show.specs.Opening.{IsFileFault}
+use Rattle.gr_cli.specs.Answers.{IsAnswer, IsAnswerOf, IsDisplay, IsFaultOfFiles, IsFaultTold, IsRacesDisplay, IsReportOfFiles, IsRewriting, IsRunAnswer, IsShownOfFiles, ShowsPrefixOfFiles, WritesPrefixOfFiles}
 use Rattle.gr_races.specs.declared.fault.RacesFault.{RacesFault}
 use Rattle.gr_races.specs.declared.fault.RacesFault.TheVariants.{Run}
 use Rattle.gr_races.specs.FaultText.{races_fault_line}
@@ -64,23 +64,23 @@ rewriting_of meaning (Ok r) input old new old_errors new_errors status whole fau
 rewriting_of meaning (Err f) input old new old_errors new_errors status whole fault untouched prefix ends silent fault_ends line =
     inr (f, record { fault = fault; told = record { line = line; ends = fault_ends; untouched = untouched }; prefix = prefix })
 
-module _ {T X : Type 0} (remaining : T → Option (List ℕ)) (Gives : List ℕ → Result T X → Type 0) (files : List (List ℕ)) (w : Word) where
+module _ {T X : Type 0} (remaining : T → Option (List ℕ)) (Gives : List ℕ → Result T X → Type 0) (files : List (List ℕ)) (long : Bool) (w : Word) where
   pub display_of : (outcome : Result Bool Fault) (old new old_errors new_errors : Option (List ℕ)) (status : ℕ)
-      → IfOk outcome (λ found. IsShownOfFiles remaining Gives files w found old new)
+      → IfOk outcome (λ found. IsShownOfFiles remaining Gives files long w old new found)
       → IfErr outcome (λ f. IsFileFault remaining Gives files f)
       → IfErr outcome (λ f. f ≢ Write → Keeps old new)
-      → IfErr outcome (λ f. f ≡ Write → ShowsPrefixOfFiles remaining Gives files w old new)
+      → IfErr outcome (λ f. f ≡ Write → ShowsPrefixOfFiles remaining Gives files long w old new)
       → IfOk outcome (λ found. status ≡ race_status found)
       → OnOk outcome (Keeps old_errors new_errors)
       → IfErr outcome (λ f. status ≡ fault_status f)
       → IfErr outcome (λ f. AppendsPrefix old_errors new_errors (fault_line f))
-      → IsDisplay remaining Gives files w old new old_errors new_errors status
+      → IsDisplay remaining Gives files long w old new old_errors new_errors status
   display_of (Ok found) old new old_errors new_errors status shown fault untouched prefix ends silent fault_ends line =
       inl (found, record { shown = shown; silent = silent; ends = ends })
   display_of (Err f) old new old_errors new_errors status shown fault untouched prefix ends silent fault_ends line =
       inr (f, record { fault = fault; told = record { line = line; ends = fault_ends; untouched = untouched }; prefix = prefix })
 
-  pub no_memory_to_display : (old new old_errors new_errors : Option (List ℕ)) (status : ℕ) → IsFaultTold old new old_errors new_errors status Memory → IsDisplay remaining Gives files w old new old_errors new_errors status
+  pub no_memory_to_display : (old new old_errors new_errors : Option (List ℕ)) (status : ℕ) → IsFaultTold old new old_errors new_errors status Memory → IsDisplay remaining Gives files long w old new old_errors new_errors status
   no_memory_to_display old new old_errors new_errors status told = inr (Memory, record { fault = inl (inl refl); told = told; prefix = λ h. absurd cc })
 
 memory_is_no_writing : Run Memory ≡ Run Write → ⊥

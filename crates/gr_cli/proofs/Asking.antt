@@ -18,7 +18,7 @@ use Rattle.gr_cli.specs.declared.arguments.Request.TheVariants.{List as Lists, M
 use Rattle.gr_cli.specs.Plans.{IsNumberOr, IsPlan, IsPlanOf, IsPlanned, IsSetUp}
 use Rattle.gr_model.specs.declared.config.ConfigError.{ConfigError}
 use Rattle.gr_model.specs.Configs.{IsConfig, Settings}
-use Rattle.gr_cli.specs.Questions.{HasOptions, IsCounted, IsListing, IsListingOf, IsMost, IsNamed, IsQuestion, IsRequestOf, Options, options_of}
+use Rattle.gr_cli.specs.Questions.{HasOptions, IsCounted, IsListing, IsListingOf, IsMost, IsNamed, IsQuestion, IsRequestOf, Options, is_long, options_of}
 
 nothing_is_some : {X : Type 0} (x : X) → None ≡ Some x → ⊥
 nothing_is_some {X = X} x e = true≢false (sym (ap (λ (o : Option X). is_some o) e))
@@ -61,17 +61,17 @@ same_word rows v w some other a b =
     let same_number : b.number ≡ a.number = injected b.number a.number (sym b.at_number ∙ a.at_number) in
     (names_one a.space a.number v w a.names (rw (same_space, same_number) at b.names), injected some other (sym a.at_files ∙ b.at_files))
 
-pub asked : (rows : List Row) (r : Request) (w : Word) (files : List Text) → IsRequestOf rows r → IsNamed rows w files → IsQuestion w files r
-asked rows (Show q) w files h named = same_word rows q.word w (map (λ s. s.now) q.files.items) files h named
-asked rows Misnamed w files h named = h w files named
-asked rows (Perform t) w files h named = h
-asked rows (Lists l) w files h named = h
-asked rows Miscounted w files h named = h
-asked rows (Run p) w files h named = h
-asked rows Misconfigured w files h named = h
+pub asked : (rows : List Row) (r : Request) (long : Bool) (w : Word) (files : List Text) → IsRequestOf rows r → is_long rows ≡ long → IsNamed rows w files → IsQuestion long w files r
+asked rows (Show q) long w files h form named = (h.0 ∙ form, same_word rows q.word w (map (λ s. s.now) q.files.items) files h.1 named)
+asked rows Misnamed long w files h form named = h w files named
+asked rows (Perform t) long w files h form named = h
+asked rows (Lists l) long w files h form named = h
+asked rows Miscounted long w files h form named = h
+asked rows (Run p) long w files h form named = h
+asked rows Misconfigured long w files h form named = h
 
 pub not_asked : (rows : List Row) (r : Request) → IsRequestOf rows r → ((w : Word) (files : List Text) → IsNamed rows w files → ⊥) → r ≡ Misnamed
-not_asked rows (Show q) h none = absurd (none q.word (map (λ s. s.now) q.files.items) h)
+not_asked rows (Show q) h none = absurd (none q.word (map (λ s. s.now) q.files.items) h.1)
 not_asked rows Misnamed h none = refl
 not_asked rows (Perform t) h none = absurd h
 not_asked rows (Lists l) h none = absurd h

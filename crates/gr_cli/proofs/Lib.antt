@@ -2,3 +2,4 @@ pub mod AnswerLemmas
 pub mod Asking
 pub mod Naming
 pub mod Plain
+pub mod ShowingLemmas

@@ -4,9 +4,9 @@ use Rattle.std.specs.Prelude.{◌==◌, fold, is_some}
 use Rattle.clap.proofs.OnLiterals.{clap_on_literals}
 use Rattle.clap.specs.Kinds.{Kinds, or_else}
 use Rattle.clap.specs.Simple.{App, Shape, built, entered, names_of, subcommand_of, built_leaf, inherited}
-use Rattle.clap.specs.Walk.{Held, Names, Row, Rule, Step, Text, Walk, finished, idle, positional, settled, value, walk, walk_from, nothing_held, walked, rows_after, word_met, after_step, to_positional, arg_by_index}
+use Rattle.clap.specs.Walk.{Held, Names, Row, Rule, Step, Text, Walk, finished, idle, positional, settled, value, walk, walk_from, nothing_held, walked, rows_after, word_met, after_step}
 use Rattle.clap.specs.Faults.{check_fault, defaults_fault, entered_fault, fault_of, level_fault, settle_fault, step_fault, turn_fault, walk_fault, word_fault}
-use Rattle.clap.specs.declared.parser.matches.ValueSource.TheVariants.{CommandLine}
+use Rattle.clap.specs.declared.parser.matches.ValueSource.TheVariants.{CommandLine, DefaultValue}
 use Rattle.clap.specs.declared.builder.value_parser.ValueParser.TheVariants.{String}
 use Rattle.clap.specs.Values.{reading_of}
 use Rattle.std.specs.Int.{IsInRange}
@@ -17,7 +17,7 @@ use Rattle.gr_model.specs.declared.event.Word.TheVariants.{Global, Local}
 use Rattle.gr_show.specs.Naming.{IsNumber, Names as NamesWord}
 use Rattle.gr_cli.specs.Questions.{AsksToExplain, command_of}
 use Rattle.gr_cli.specs.Words.{explaining, faults, gpurace}
-use Rattle.gr_cli.specs.Plain.{ArePlain, IsPlain, PlainWordsAsk, PlainWordsMisname}
+use Rattle.gr_cli.specs.Plain.{ArePlain, IsPlain, LongWordsAsk, PlainWordsAsk, PlainWordsMisname}
 use Rattle.gr_cli.proofs.Asking.{unnamed}
 
 -- ---- one word
@@ -80,83 +80,131 @@ abbrev file_rows : List Text → List Row
 file_rows [] = []
 file_rows (f ∷ fs) = row (codes "FILE") (f ∷ fs) ∷ []
 
+-- the flag, where the long form is asked for, and its row before and behind those of the other words
+abbrev flag_words : Bool → List Text
+flag_words true = codes "--long" ∷ []
+flag_words false = []
+
+abbrev flag_given : Bool → List Row
+flag_given true = row (codes "long") (codes "true" ∷ []) ∷ []
+flag_given false = []
+
+abbrev flag_left_out : Bool → List Row
+flag_left_out true = []
+flag_left_out false = record (row (codes "long") (codes "false" ∷ [])) { source = Some DefaultValue } ∷ []
+
+abbrev begun : Bool → Walk
+begun long = walk_from (record { rows = flag_given long; pending = None; skip = 0 })
+
+takes_flag : walked showing.rules [] (walk_from nothing_held) (codes "--long") ≡ begun true
+unfolding clap_on_literals
+takes_flag = refl
+
+flag_fault : turn_fault showing [] (walk_from nothing_held) (codes "--long") ≡ []
+unfolding clap_on_literals
+flag_fault = refl
+
+begins : (long : Bool) (rest : List Text) → walk showing.rules [] nothing_held (flag_words long ++ rest) ≡ fold (walked showing.rules []) (begun long) rest
+begins true rest = ap (λ (w : Walk). fold (walked showing.rules []) w rest) takes_flag
+begins false rest = refl
+
+begins_without_fault : (long : Bool) (rest : List Text) → walk_fault showing [] (walk_from nothing_held) (flag_words long ++ rest) ≡ walk_fault showing [] (begun long) rest
+unfolding walk_fault
+begins_without_fault true rest = ap₂ (λ (k : Kinds) (w : Walk). or_else k (walk_fault showing [] w rest)) flag_fault takes_flag
+begins_without_fault false rest = refl
+
 module _ (space number : Text) (space_plain : IsPlain space) (number_plain : IsPlain number) where
-  abbrev base : List Row
-  base = row (codes "SPACE") (space ∷ []) ∷ row (codes "WORD") (number ∷ []) ∷ []
+  -- the walk behind SPACE, and behind WORD
+  abbrev behind_space : Bool → Walk
+  behind_space long = waiting_at 2 (flag_given long) (codes "SPACE") space
+
+  abbrev behind_number : Bool → Walk
+  behind_number long = waiting_at 3 (flag_given long ++ row (codes "SPACE") (space ∷ []) ∷ []) (codes "WORD") number
+
+  abbrev base : Bool → List Row
+  base long = flag_given long ++ row (codes "SPACE") (space ∷ []) ∷ row (codes "WORD") (number ∷ []) ∷ []
 
   -- the last file waits for the next word, and those before it are kept
-  abbrev with_files : List Text → Text → Walk
-  with_files prefix last =
-      record { held = record { rows = base ++ file_rows prefix; pending = Some (codes "FILE", last ∷ []); skip = 0 }; waiting = positional; position = 3; is_trailing = false; stopped = None }
+  abbrev with_files : Bool → List Text → Text → Walk
+  with_files long prefix last =
+      record { held = record { rows = base long ++ file_rows prefix; pending = Some (codes "FILE", last ∷ []); skip = 0 }; waiting = positional; position = 3; is_trailing = false; stopped = None }
 
-  takes_space : walked showing.rules [] (walk_from nothing_held) space ≡ waiting_at 2 [] (codes "SPACE") space
-  unfolding clap_on_literals
-  takes_space = ap (λ (m : Held × Step). after_step showing.rules space (walk_from nothing_held) m.0 m.1) (idle_value showing.rules 1 nothing_held space space_plain)
+  abbrev all_rows : Bool → List Text → List Row
+  all_rows long files = base long ++ file_rows files ++ flag_left_out long
 
-  takes_number : walked showing.rules [] (waiting_at 2 [] (codes "SPACE") space) number ≡ waiting_at 3 (row (codes "SPACE") (space ∷ []) ∷ []) (codes "WORD") number
+  takes_space : (long : Bool) → walked showing.rules [] (begun long) space ≡ behind_space long
   unfolding clap_on_literals
-  takes_number = ap (λ (m : Held × Step). after_step showing.rules number (waiting_at 2 [] (codes "SPACE") space) m.0 m.1) (idle_value showing.rules 2 (waiting_at 2 [] (codes "SPACE") space).held number number_plain)
+  takes_space true = ap (λ (m : Held × Step). after_step showing.rules space (begun true) m.0 m.1) (idle_value showing.rules 1 (begun true).held space space_plain)
+  takes_space false = ap (λ (m : Held × Step). after_step showing.rules space (begun false) m.0 m.1) (idle_value showing.rules 1 (begun false).held space space_plain)
 
-  takes_file : (file : Text) → IsPlain file → walked showing.rules [] (waiting_at 3 (row (codes "SPACE") (space ∷ []) ∷ []) (codes "WORD") number) file ≡ with_files [] file
+  takes_number : (long : Bool) → walked showing.rules [] (behind_space long) number ≡ behind_number long
   unfolding clap_on_literals
-  takes_file file plain = ap (λ (m : Held × Step). after_step showing.rules file (waiting_at 3 (row (codes "SPACE") (space ∷ []) ∷ []) (codes "WORD") number) m.0 m.1) (idle_value showing.rules 3 (waiting_at 3 (row (codes "SPACE") (space ∷ []) ∷ []) (codes "WORD") number).held file plain)
+  takes_number true = ap (λ (m : Held × Step). after_step showing.rules number (behind_space true) m.0 m.1) (idle_value showing.rules 2 (behind_space true).held number number_plain)
+  takes_number false = ap (λ (m : Held × Step). after_step showing.rules number (behind_space false) m.0 m.1) (idle_value showing.rules 2 (behind_space false).held number number_plain)
 
-  one_more : (prefix : List Text) (last : Text) → to_positional showing.rules (arg_by_index showing.rules 3) last (with_files prefix last) (with_files prefix last).held ≡ with_files (prefix ++ last ∷ []) last
+  takes_file : (long : Bool) (file : Text) → IsPlain file → walked showing.rules [] (behind_number long) file ≡ with_files long [] file
   unfolding clap_on_literals
-  one_more [] last = refl
-  one_more (f ∷ fs) last = refl
+  takes_file true file plain = ap (λ (m : Held × Step). after_step showing.rules file (behind_number true) m.0 m.1) (idle_value showing.rules 3 (behind_number true).held file plain)
+  takes_file false file plain = ap (λ (m : Held × Step). after_step showing.rules file (behind_number false) m.0 m.1) (idle_value showing.rules 3 (behind_number false).held file plain)
 
-  next_file : (prefix : List Text) (last word : Text) → IsPlain word → walked showing.rules [] (with_files prefix last) word ≡ with_files (prefix ++ last ∷ []) word
+  next_file : (long : Bool) (prefix : List Text) (last word : Text) → IsPlain word → walked showing.rules [] (with_files long prefix last) word ≡ with_files long (prefix ++ last ∷ []) word
   unfolding clap_on_literals
-  next_file [] last word plain = ap (λ (m : Held × Step). after_step showing.rules word (with_files [] last) m.0 m.1) (positional_value showing.rules 3 (with_files [] last).held word plain)
-  next_file (f ∷ fs) last word plain = ap (λ (m : Held × Step). after_step showing.rules word (with_files (f ∷ fs) last) m.0 m.1) (positional_value showing.rules 3 (with_files (f ∷ fs) last).held word plain)
+  next_file true [] last word plain = ap (λ (m : Held × Step). after_step showing.rules word (with_files true [] last) m.0 m.1) (positional_value showing.rules 3 (with_files true [] last).held word plain)
+  next_file true (f ∷ fs) last word plain = ap (λ (m : Held × Step). after_step showing.rules word (with_files true (f ∷ fs) last) m.0 m.1) (positional_value showing.rules 3 (with_files true (f ∷ fs) last).held word plain)
+  next_file false [] last word plain = ap (λ (m : Held × Step). after_step showing.rules word (with_files false [] last) m.0 m.1) (positional_value showing.rules 3 (with_files false [] last).held word plain)
+  next_file false (f ∷ fs) last word plain = ap (λ (m : Held × Step). after_step showing.rules word (with_files false (f ∷ fs) last) m.0 m.1) (positional_value showing.rules 3 (with_files false (f ∷ fs) last).held word plain)
 
   -- the walk over files
-  pub record Ends (prefix : List Text) (last : Text) (files : List Text) : Type 0 where
+  pub record Ends (long : Bool) (prefix : List Text) (last : Text) (files : List Text) : Type 0 where
     pub kept : List Text
     pub waits : Text
     pub all : kept ++ waits ∷ [] ≡ prefix ++ last ∷ files
-    pub walks : fold (walked showing.rules []) (with_files prefix last) files ≡ with_files kept waits
+    pub walks : fold (walked showing.rules []) (with_files long prefix last) files ≡ with_files long kept waits
 
-  over_files : (prefix : List Text) (last : Text) (files : List Text) → ArePlain files → Ends prefix last files
-  over_files prefix last [] plain = record { kept = prefix; waits = last; all = refl; walks = refl }
-  over_files prefix last (file ∷ files) plain =
-      let rest = over_files (prefix ++ last ∷ []) file files plain.1 in
+  over_files : (long : Bool) (prefix : List Text) (last : Text) (files : List Text) → ArePlain files → Ends long prefix last files
+  over_files long prefix last [] plain = record { kept = prefix; waits = last; all = refl; walks = refl }
+  over_files long prefix last (file ∷ files) plain =
+      let rest = over_files long (prefix ++ last ∷ []) file files plain.1 in
       record {
         kept = rest.kept;
         waits = rest.waits;
         all = rest.all ∙ append_assoc prefix (last ∷ []) (file ∷ files);
-        walks = ap (λ (w : Walk). fold (walked showing.rules []) w files) (next_file prefix last file plain.0) ∙ rest.walks;
+        walks = ap (λ (w : Walk). fold (walked showing.rules []) w files) (next_file long prefix last file plain.0) ∙ rest.walks;
       }
 
   -- the faults of the words
 
-  space_fault : turn_fault showing [] (walk_from nothing_held) space ≡ []
+  space_fault : (long : Bool) → turn_fault showing [] (begun long) space ≡ []
   unfolding clap_on_literals
-  space_fault = ap₂ (λ (k : Kinds) (m : Held × Step). or_else k (step_fault showing 1 m.0 m.1)) (idle_fault showing nothing_held space space_plain) (idle_value showing.rules 1 nothing_held space space_plain)
+  space_fault true = ap₂ (λ (k : Kinds) (m : Held × Step). or_else k (step_fault showing 1 m.0 m.1)) (idle_fault showing (begun true).held space space_plain) (idle_value showing.rules 1 (begun true).held space space_plain)
+  space_fault false = ap₂ (λ (k : Kinds) (m : Held × Step). or_else k (step_fault showing 1 m.0 m.1)) (idle_fault showing (begun false).held space space_plain) (idle_value showing.rules 1 (begun false).held space space_plain)
 
-  number_fault : turn_fault showing [] (waiting_at 2 [] (codes "SPACE") space) number ≡ []
+  number_fault : (long : Bool) → turn_fault showing [] (behind_space long) number ≡ []
   unfolding clap_on_literals
-  number_fault = ap₂ (λ (k : Kinds) (m : Held × Step). or_else k (step_fault showing 2 m.0 m.1)) (idle_fault showing (waiting_at 2 [] (codes "SPACE") space).held number number_plain) (idle_value showing.rules 2 (waiting_at 2 [] (codes "SPACE") space).held number number_plain)
+  number_fault true = ap₂ (λ (k : Kinds) (m : Held × Step). or_else k (step_fault showing 2 m.0 m.1)) (idle_fault showing (behind_space true).held number number_plain) (idle_value showing.rules 2 (behind_space true).held number number_plain)
+  number_fault false = ap₂ (λ (k : Kinds) (m : Held × Step). or_else k (step_fault showing 2 m.0 m.1)) (idle_fault showing (behind_space false).held number number_plain) (idle_value showing.rules 2 (behind_space false).held number number_plain)
 
-  file_fault : (file : Text) → IsPlain file → turn_fault showing [] (waiting_at 3 (row (codes "SPACE") (space ∷ []) ∷ []) (codes "WORD") number) file ≡ []
+  file_fault : (long : Bool) (file : Text) → IsPlain file → turn_fault showing [] (behind_number long) file ≡ []
   unfolding clap_on_literals
-  file_fault file plain =
-      let h = (waiting_at 3 (row (codes "SPACE") (space ∷ []) ∷ []) (codes "WORD") number).held in
-      ap₂ (λ (k : Kinds) (m : Held × Step). or_else k (step_fault showing 3 m.0 m.1)) (idle_fault showing h file plain) (idle_value showing.rules 3 h file plain)
+  file_fault true file plain = ap₂ (λ (k : Kinds) (m : Held × Step). or_else k (step_fault showing 3 m.0 m.1)) (idle_fault showing (behind_number true).held file plain) (idle_value showing.rules 3 (behind_number true).held file plain)
+  file_fault false file plain = ap₂ (λ (k : Kinds) (m : Held × Step). or_else k (step_fault showing 3 m.0 m.1)) (idle_fault showing (behind_number false).held file plain) (idle_value showing.rules 3 (behind_number false).held file plain)
 
-  next_fault : (prefix : List Text) (last word : Text) → IsPlain word → turn_fault showing [] (with_files prefix last) word ≡ []
+  next_fault : (long : Bool) (prefix : List Text) (last word : Text) → IsPlain word → turn_fault showing [] (with_files long prefix last) word ≡ []
   unfolding clap_on_literals
-  next_fault [] last word plain =
-      ap₂ (λ (k : Kinds) (m : Held × Step). or_else k (step_fault showing 3 m.0 m.1)) (positional_no_fault showing (with_files [] last).held word plain) (positional_value showing.rules 3 (with_files [] last).held word plain)
-  next_fault (f ∷ fs) last word plain =
-      ap₂ (λ (k : Kinds) (m : Held × Step). or_else k (step_fault showing 3 m.0 m.1)) (positional_no_fault showing (with_files (f ∷ fs) last).held word plain) (positional_value showing.rules 3 (with_files (f ∷ fs) last).held word plain)
+  next_fault true [] last word plain =
+      ap₂ (λ (k : Kinds) (m : Held × Step). or_else k (step_fault showing 3 m.0 m.1)) (positional_no_fault showing (with_files true [] last).held word plain) (positional_value showing.rules 3 (with_files true [] last).held word plain)
+  next_fault true (f ∷ fs) last word plain =
+      ap₂ (λ (k : Kinds) (m : Held × Step). or_else k (step_fault showing 3 m.0 m.1)) (positional_no_fault showing (with_files true (f ∷ fs) last).held word plain) (positional_value showing.rules 3 (with_files true (f ∷ fs) last).held word plain)
+  next_fault false [] last word plain =
+      ap₂ (λ (k : Kinds) (m : Held × Step). or_else k (step_fault showing 3 m.0 m.1)) (positional_no_fault showing (with_files false [] last).held word plain) (positional_value showing.rules 3 (with_files false [] last).held word plain)
+  next_fault false (f ∷ fs) last word plain =
+      ap₂ (λ (k : Kinds) (m : Held × Step). or_else k (step_fault showing 3 m.0 m.1)) (positional_no_fault showing (with_files false (f ∷ fs) last).held word plain) (positional_value showing.rules 3 (with_files false (f ∷ fs) last).held word plain)
 
-  files_fault : (prefix : List Text) (last : Text) (files : List Text) → ArePlain files → walk_fault showing [] (with_files prefix last) files ≡ []
+  files_fault : (long : Bool) (prefix : List Text) (last : Text) (files : List Text) → ArePlain files → walk_fault showing [] (with_files long prefix last) files ≡ []
   unfolding walk_fault
-  files_fault prefix last [] plain = refl
-  files_fault prefix last (file ∷ files) plain =
-      ap₂ (λ (k : Kinds) (w : Walk). or_else k (walk_fault showing [] w files)) (next_fault prefix last file plain.0) (next_file prefix last file plain.0) ∙ files_fault (prefix ++ last ∷ []) file files plain.1
+  files_fault long prefix last [] plain = refl
+  files_fault long prefix last (file ∷ files) plain =
+      ap₂ (λ (k : Kinds) (w : Walk). or_else k (walk_fault showing [] w files)) (next_fault long prefix last file plain.0) (next_file long prefix last file plain.0) ∙ files_fault long (prefix ++ last ∷ []) file files plain.1
 
   -- the whole command, from the end of its walk
 
@@ -164,41 +212,47 @@ module _ (space number : Text) (space_plain : IsPlain space) (number_plain : IsP
   of_walk end faults =
       or_else faults (or_else [] (or_else (settle_fault showing.rules showing.args_override_self end.held) (or_else (defaults_fault (settled showing.rules end.held).rows showing.rules) (check_fault showing (finished showing.rules end.held) false))))
 
-  no_fault_at_end : (kept : List Text) (waits : Text) → of_walk (with_files kept waits) [] ≡ []
+  no_fault_at_end : (long : Bool) (kept : List Text) (waits : Text) → of_walk (with_files long kept waits) [] ≡ []
   unfolding clap_on_literals of_walk
-  no_fault_at_end [] waits = refl
-  no_fault_at_end (f ∷ fs) waits = refl
+  no_fault_at_end true [] waits = refl
+  no_fault_at_end true (f ∷ fs) waits = refl
+  no_fault_at_end false [] waits = refl
+  no_fault_at_end false (f ∷ fs) waits = refl
 
-  rows_at_end : (kept : List Text) (waits : Text) → finished showing.rules (with_files kept waits).held ≡ base ++ file_rows (kept ++ waits ∷ [])
+  rows_at_end : (long : Bool) (kept : List Text) (waits : Text) → finished showing.rules (with_files long kept waits).held ≡ all_rows long (kept ++ waits ∷ [])
   unfolding clap_on_literals
-  rows_at_end [] waits = refl
-  rows_at_end (f ∷ fs) waits = refl
+  rows_at_end true [] waits = refl
+  rows_at_end true (f ∷ fs) waits = refl
+  rows_at_end false [] waits = refl
+  rows_at_end false (f ∷ fs) waits = refl
 
-  module _ (file : Text) (files : List Text) (plain : ArePlain (file ∷ files)) where
-    end : Ends [] file files
-    end = over_files [] file files plain.1
+  module _ (long : Bool) (file : Text) (files : List Text) (plain : ArePlain (file ∷ files)) where
+    end : Ends long [] file files
+    end = over_files long [] file files plain.1
 
-    walks_all : walk showing.rules [] nothing_held (space ∷ number ∷ file ∷ files) ≡ with_files end.kept end.waits
+    walks_all : walk showing.rules [] nothing_held (flag_words long ++ space ∷ number ∷ file ∷ files) ≡ with_files long end.kept end.waits
     walks_all =
-        ap (λ (w : Walk). fold (walked showing.rules []) w (number ∷ file ∷ files)) takes_space
-        ∙ ap (λ (w : Walk). fold (walked showing.rules []) w (file ∷ files)) takes_number
-        ∙ ap (λ (w : Walk). fold (walked showing.rules []) w files) (takes_file file plain.0)
+        begins long (space ∷ number ∷ file ∷ files)
+        ∙ ap (λ (w : Walk). fold (walked showing.rules []) w (number ∷ file ∷ files)) (takes_space long)
+        ∙ ap (λ (w : Walk). fold (walked showing.rules []) w (file ∷ files)) (takes_number long)
+        ∙ ap (λ (w : Walk). fold (walked showing.rules []) w files) (takes_file long file plain.0)
         ∙ end.walks
 
-    no_word_fault : walk_fault showing [] (walk_from nothing_held) (space ∷ number ∷ file ∷ files) ≡ []
+    no_word_fault : walk_fault showing [] (walk_from nothing_held) (flag_words long ++ space ∷ number ∷ file ∷ files) ≡ []
     unfolding walk_fault
     no_word_fault =
-        ap₂ (λ (k : Kinds) (w : Walk). or_else k (walk_fault showing [] w (number ∷ file ∷ files))) space_fault takes_space
-        ∙ ap₂ (λ (k : Kinds) (w : Walk). or_else k (walk_fault showing [] w (file ∷ files))) number_fault takes_number
-        ∙ ap₂ (λ (k : Kinds) (w : Walk). or_else k (walk_fault showing [] w files)) (file_fault file plain.0) (takes_file file plain.0)
-        ∙ files_fault [] file files plain.1
+        begins_without_fault long (space ∷ number ∷ file ∷ files)
+        ∙ ap₂ (λ (k : Kinds) (w : Walk). or_else k (walk_fault showing [] w (number ∷ file ∷ files))) (space_fault long) (takes_space long)
+        ∙ ap₂ (λ (k : Kinds) (w : Walk). or_else k (walk_fault showing [] w (file ∷ files))) (number_fault long) (takes_number long)
+        ∙ ap₂ (λ (k : Kinds) (w : Walk). or_else k (walk_fault showing [] w files)) (file_fault long file plain.0) (takes_file long file plain.0)
+        ∙ files_fault long [] file files plain.1
 
-    pub no_fault_below : level_fault showing [] nothing_held (space ∷ number ∷ file ∷ files) false [] ≡ []
+    pub no_fault_below : level_fault showing [] nothing_held (flag_words long ++ space ∷ number ∷ file ∷ files) false [] ≡ []
     unfolding of_walk
-    no_fault_below = ap₂ of_walk walks_all no_word_fault ∙ no_fault_at_end end.kept end.waits
+    no_fault_below = ap₂ of_walk walks_all no_word_fault ∙ no_fault_at_end long end.kept end.waits
 
-    pub rows_are : rows_after showing.rules [] (space ∷ number ∷ file ∷ files) ≡ base ++ file_rows (file ∷ files)
-    rows_are = ap (λ (w : Walk). finished showing.rules w.held) walks_all ∙ rows_at_end end.kept end.waits ∙ ap (λ (fs : List Text). base ++ file_rows fs) end.all
+    pub rows_are : rows_after showing.rules [] (flag_words long ++ space ∷ number ∷ file ∷ files) ≡ all_rows long (file ∷ files)
+    rows_are = ap (λ (w : Walk). finished showing.rules w.held) walks_all ∙ rows_at_end long end.kept end.waits ∙ ap (λ (fs : List Text). all_rows long fs) end.all
 
 -- ---- the program
 
@@ -253,27 +307,38 @@ is_met : (words : List Text) (rows : List Row) → subcommand_of gpurace words �
 unfolding command_of
 is_met words rows met = met
 
-plain_words_explain : (space number file : Text) (files : List Text) (space_plain : IsPlain space) (number_plain : IsPlain number) → ArePlain (file ∷ files) → AsksToExplain (explain ∷ space ∷ number ∷ file ∷ files) (base space number space_plain number_plain ++ file_rows (file ∷ files))
-plain_words_explain space number file files space_plain number_plain plain =
-    let rest = space ∷ number ∷ file ∷ files in
+plain_words_explain : (long : Bool) (space number file : Text) (files : List Text) (space_plain : IsPlain space) (number_plain : IsPlain number) → ArePlain (file ∷ files) → AsksToExplain (explain ∷ flag_words long ++ space ∷ number ∷ file ∷ files) (all_rows space number space_plain number_plain long (file ∷ files))
+plain_words_explain long space number file files space_plain number_plain plain =
+    let rest = flag_words long ++ space ∷ number ∷ file ∷ files in
     record {
-      taken = is_taken (explain ∷ rest) (faults_are_below rest ∙ below_is rest ∙ ap (λ (k : Kinds). or_else k []) (no_fault_below space number space_plain number_plain file files plain));
-      met = is_met (explain ∷ rest) _ (met_is rest ∙ ap (λ (rows : List Row). Some (explain, rows)) (rows_are space number space_plain number_plain file files plain));
+      taken = is_taken (explain ∷ rest) (faults_are_below rest ∙ below_is rest ∙ ap (λ (k : Kinds). or_else k []) (no_fault_below space number space_plain number_plain long file files plain));
+      met = is_met (explain ∷ rest) _ (met_is rest ∙ ap (λ (rows : List Row). Some (explain, rows)) (rows_are space number space_plain number_plain long file files plain));
     }
 
 pub plain_words_ask : PlainWordsAsk
 plain_words_ask space number file files w named plain =
     let texts = words_are_plain space number w named in
     record {
-      rows = base space number texts.0 texts.1 ++ file_rows (file ∷ files);
-      asks = plain_words_explain space number file files texts.0 texts.1 plain;
+      rows = all_rows space number texts.0 texts.1 false (file ∷ files);
+      asks = plain_words_explain false space number file files texts.0 texts.1 plain;
+      form = refl;
+      named = record { space = space; number = number; at_space = refl; at_number = refl; at_files = refl; names = named };
+    }
+
+pub long_words_ask : LongWordsAsk
+long_words_ask space number file files w named plain =
+    let texts = words_are_plain space number w named in
+    record {
+      rows = all_rows space number texts.0 texts.1 true (file ∷ files);
+      asks = plain_words_explain true space number file files texts.0 texts.1 plain;
+      form = refl;
       named = record { space = space; number = number; at_space = refl; at_number = refl; at_files = refl; names = named };
     }
 
 pub plain_words_misname : PlainWordsMisname
 plain_words_misname space number file files none plain =
     record {
-      rows = base space number plain.0 plain.1.0 ++ file_rows (file ∷ files);
-      asks = plain_words_explain space number file files plain.0 plain.1.0 plain.1.1;
-      unnamed = unnamed (base space number plain.0 plain.1.0 ++ file_rows (file ∷ files)) space number refl refl none;
+      rows = all_rows space number plain.0 plain.1.0 false (file ∷ files);
+      asks = plain_words_explain false space number file files plain.0 plain.1.0 plain.1.1;
+      unnamed = unnamed (all_rows space number plain.0 plain.1.0 false (file ∷ files)) space number refl refl none;
     }

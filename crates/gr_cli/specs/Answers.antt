@@ -1,15 +1,15 @@
 -- What a run of the program leaves behind: on standard output, on standard error, and its status.
 -- Source: docs/FORMATS.md, "Report", "Fault lines" and "Exit statuses".
-use Rattle.std.specs.Prelude.{◌≡◌, ◌≢◌, ◌⊎◌, ℕ, Bool, List, Option, Result, IfSome, map}
+use Rattle.std.specs.Prelude.{◌≡◌, ◌≢◌, ◌⊎◌, ℕ, Bool, false, true, List, Option, Result, IfSome}
 use Rattle.std.specs.Io.KnownBytes.{Appends, Keeps}
 use Rattle.gr_model.specs.declared.event.Word.{Word}
 use Rattle.gr_model.specs.Reports.{WholeReport}
+use Rattle.gr_model.specs.Streams.{Streams}
 use Rattle.gr_record.specs.declared.fault.Fault.{Fault}
 use Rattle.gr_record.specs.declared.fault.Fault.TheVariants.{Write}
 use Rattle.gr_report.specs.Putting.{AppendsPrefix}
 use Rattle.gr_report.specs.ReportText.{report_text}
 use Rattle.gr_report.specs.FaultText.{fault_line}
-use Rattle.gr_replay.specs.Each.{all_known}
 use Rattle.gr_replay.specs.Replays.{IsExact, IsReplayFault, WritesPrefix}
 use Rattle.gr_input.specs.Faults.{Fails}
 use Rattle.gr_text.specs.Texts.{packed}
@@ -19,7 +19,9 @@ use Rattle.gr_races.specs.declared.fault.RacesFault.{RacesFault}
 use Rattle.gr_races.specs.declared.fault.RacesFault.TheVariants.{Run}
 use Rattle.gr_races.specs.FaultText.{races_fault_line}
 use Rattle.gr_races.specs.Opening.{AreRacesShownOfFiles, IsRacesFault, ShowsRacesPrefixOfFiles}
-use Rattle.gr_show.specs.Opening.{AreOpened, IsFileFault, IsOpeningFault, IsShownOfFiles, ShowsPrefixOfFiles}
+use Rattle.gr_show.specs.Opening.{HoldsOfFiles, IsFileFault, IsOpeningFault}
+use Rattle.gr_show.specs.Shown.{IsLine, IsRacyIn, IsShown, ShowsPrefix}
+use Rattle.gr_long.specs.Shown.{IsAccountText}
 use Rattle.gr_streams.specs.Streams.{IsExactOfEach, IsRunFault, WritesPrefixOfEach}
 use Rattle.gr_cli.specs.declared.arguments.Task.{Task}
 use Rattle.gr_cli.specs.declared.arguments.Task.TheVariants.{Replay, Pack, Dump, Upgrade}
@@ -76,22 +78,36 @@ IsAnswerOf Pack input old new old_errors new_errors status = IsRewriting packed 
 IsAnswerOf Dump input old new old_errors new_errors status = IsRewriting dumped input old new old_errors new_errors status
 IsAnswerOf Upgrade input old new old_errors new_errors status = IsRewriting upgraded input old new old_errors new_errors status
 
--- what is left behind where a word is to be shown of the launch whose streams the files of these names have
-module _ {T X : Type 0} (remaining : T → Option (List ℕ)) (Gives : List ℕ → Result T X → Type 0) (files : List (List ℕ)) (w : Word) (old new old_errors new_errors : Option (List ℕ)) (status : ℕ) where
-  -- the line of the word is written whole, nothing is told on standard error, and the status says whether the word is racy
-  pub record IsDisplayed (found : Bool) : Type 0 where
-    pub shown : IsShownOfFiles remaining Gives files w found old new
-    pub silent : Keeps old_errors new_errors
-    pub ends : status ≡ race_status found
+-- the text that is shown of a word of a launch: its line, and in the long form what stands below it too
+abbrev pub IsTextOf : Bool → Word → Streams → List ℕ → Type 0
+IsTextOf false = IsLine
+IsTextOf true = IsAccountText
 
-  -- f is why there is no such line, and is told; where the writer failed, it has a prefix of the line
-  pub record IsNotDisplayed (f : Fault) : Type 0 where
-    pub fault : IsFileFault remaining Gives files f
-    pub told : IsFaultTold old new old_errors new_errors status f
-    pub prefix : f ≡ Write → ShowsPrefixOfFiles remaining Gives files w old new
+-- what is left behind where a word is to be shown, in this form, of the launch whose streams the files of these names have
+module _ {T X : Type 0} (remaining : T → Option (List ℕ)) (Gives : List ℕ → Result T X → Type 0) (files : List (List ℕ)) (long : Bool) (w : Word) (old new : Option (List ℕ)) where
+  -- the text of the word is written whole, and it is said whether the word is racy
+  abbrev pub IsShownOfFiles : Bool → Type 0
+  IsShownOfFiles found = HoldsOfFiles remaining Gives files (λ known. IsShown (IsTextOf long w) (IsRacyIn w) known found old new)
 
-  abbrev pub IsDisplay : Type 0
-  IsDisplay = ((found : Bool) × IsDisplayed found) ⊎ ((f : Fault) × IsNotDisplayed f)
+  -- a prefix of the text was written
+  abbrev pub ShowsPrefixOfFiles : Type 0
+  ShowsPrefixOfFiles = HoldsOfFiles remaining Gives files (λ known. ShowsPrefix (IsTextOf long w) known old new)
+
+  module _ (old_errors new_errors : Option (List ℕ)) (status : ℕ) where
+    -- the text of the word is written whole, nothing is told on standard error, and the status says whether the word is racy
+    pub record IsDisplayed (found : Bool) : Type 0 where
+      pub shown : IsShownOfFiles found
+      pub silent : Keeps old_errors new_errors
+      pub ends : status ≡ race_status found
+
+    -- f is why there is no such text, and is told; where the writer failed, it has a prefix of the text
+    pub record IsNotDisplayed (f : Fault) : Type 0 where
+      pub fault : IsFileFault remaining Gives files f
+      pub told : IsFaultTold old new old_errors new_errors status f
+      pub prefix : f ≡ Write → ShowsPrefixOfFiles
+
+    abbrev pub IsDisplay : Type 0
+    IsDisplay = ((found : Bool) × IsDisplayed found) ⊎ ((f : Fault) × IsNotDisplayed f)
 
 -- the line of f is told, or a prefix of it where standard error fails too; the status is that of f; and nothing is written, unless it is the writer that failed
 pub record IsRacesFaultTold (old new old_errors new_errors : Option (List ℕ)) (status : ℕ) (f : RacesFault) : Type 0 where
@@ -120,15 +136,15 @@ module _ {T X : Type 0} (remaining : T → Option (List ℕ)) (Gives : List ℕ 
 module _ {T X : Type 0} (remaining : T → Option (List ℕ)) (Gives : List ℕ → Result T X → Type 0) (names : List (List ℕ)) where
   -- it is the report of the bytes of the files, where these are known
   abbrev pub IsReportOfFiles : WholeReport → Type 0
-  IsReportOfFiles r = (files : List T) × AreOpened Gives names files × IfSome (all_known (map remaining files)) (λ inputs. IsExactOfEach inputs r)
+  IsReportOfFiles r = HoldsOfFiles remaining Gives names (λ known. IfSome known (λ inputs. IsExactOfEach inputs r))
 
   -- why there is none: a file can't be opened, or the bytes of the files are no launch, or a thread or memory is missing, or the writer failed
   abbrev pub IsFaultOfFiles : Fault → Type 0
-  IsFaultOfFiles f = IsOpeningFault Gives names f ⊎ ((files : List T) × AreOpened Gives names files × IfSome (all_known (map remaining files)) (λ inputs. IsRunFault inputs f))
+  IsFaultOfFiles f = IsOpeningFault Gives names f ⊎ HoldsOfFiles remaining Gives names (λ known. IfSome known (λ inputs. IsRunFault inputs f))
 
   -- a prefix of its text was written
   abbrev pub WritesPrefixOfFiles : Option (List ℕ) → Option (List ℕ) → Type 0
-  WritesPrefixOfFiles old new = (files : List T) × AreOpened Gives names files × IfSome (all_known (map remaining files)) (λ inputs. WritesPrefixOfEach inputs old new)
+  WritesPrefixOfFiles old new = HoldsOfFiles remaining Gives names (λ known. IfSome known (λ inputs. WritesPrefixOfEach inputs old new))
 
   module _ (old new old_errors new_errors : Option (List ℕ)) (status : ℕ) where
     -- the text of the report is written whole, nothing is told on standard error, and the status is that of the report

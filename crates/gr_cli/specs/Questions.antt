@@ -1,5 +1,7 @@
 -- The words that ask for one word of a launch to be shown.
-use Rattle.std.specs.Prelude.{◌≡◌, ℕ, List, [], Option, None, Some, codes, map}
+use Rattle.std.specs.Prelude.{◌≡◌, ℕ, Bool, false, List, [], Option, None, Some, codes, map}
+use Rattle.std.specs.Option.{option_map_or}
+use Rattle.std.specs.Str.{bytes_eq}
 use Rattle.clap.specs.Walk.{Row, Text, all_of, first_of}
 use Rattle.clap.specs.Words.{subcommand_of}
 use Rattle.gr_model.specs.declared.event.Word.{Word}
@@ -13,6 +15,10 @@ use Rattle.gr_cli.specs.Words.{faults, gpurace}
 -- the command that the words name, with the values of its arguments
 unfoldable pub command_of : List Text → Option (Text × List Row)
 command_of words = subcommand_of gpurace words
+
+-- whether the values have the flag `--long`: the value of a flag that is there is `true`
+abbrev pub is_long : List Row → Bool
+is_long rows = option_map_or (λ text. bytes_eq text (codes "true")) (first_of (codes "long") rows) false
 
 -- the values name the word and the files
 pub record IsNamed (rows : List Row) (w : Word) (files : List Text) : Type 0 where
@@ -28,10 +34,11 @@ pub record AsksToExplain (words : List Text) (rows : List Row) : Type 0 where
   pub taken : faults words ≡ []
   pub met : command_of words ≡ Some (codes "explain", rows)
 
--- the word that they ask for, and the files
-pub record AsksToShow (w : Word) (files : List Text) (words : List Text) : Type 0 where
+-- whether they ask for the long form, the word, and the files
+pub record AsksToShow (long : Bool) (w : Word) (files : List Text) (words : List Text) : Type 0 where
   pub rows : List Row
   pub asks : AsksToExplain words rows
+  pub form : is_long rows ≡ long
   pub named : IsNamed rows w files
 
 -- they name no word
@@ -40,14 +47,14 @@ pub record IsMisnamed (words : List Text) : Type 0 where
   pub asks : AsksToExplain words rows
   pub unnamed : (w : Word) (files : List Text) → ¬ IsNamed rows w files
 
--- a request is for this word and these files
-abbrev pub IsQuestion : Word → List Text → Request → Type 0
-IsQuestion w files (Show q) = (q.word ≡ w) × (map (λ s. s.now) q.files.items ≡ files)
-IsQuestion w files _ = ⊥
+-- a request is for this word in this form, and these files
+abbrev pub IsQuestion : Bool → Word → List Text → Request → Type 0
+IsQuestion long w files (Show q) = (q.long ≡ long) × (q.word ≡ w) × (map (λ s. s.now) q.files.items ≡ files)
+IsQuestion long w files _ = ⊥
 
 -- a request is what the values ask for
 abbrev pub IsRequestOf : List Row → Request → Type 0
-IsRequestOf rows (Show q) = IsNamed rows q.word (map (λ s. s.now) q.files.items)
+IsRequestOf rows (Show q) = (q.long ≡ is_long rows) × IsNamed rows q.word (map (λ s. s.now) q.files.items)
 IsRequestOf rows Misnamed = (w : Word) (files : List Text) → ¬ IsNamed rows w files
 IsRequestOf rows _ = ⊥
 

@@ -1,6 +1,6 @@
 -- The words that ask for a task, and the commands that they are read by.
 use Rattle.std.specs.Prelude.{◌≡◌, ◌≢◌, ◌⊎◌, ℕ, true, List, [], ◌∷◌, Some, codes}
-use Rattle.clap.specs.declared.builder.action.ArgAction.TheVariants.{Append}
+use Rattle.clap.specs.declared.builder.action.ArgAction.TheVariants.{Append, SetTrue}
 use Rattle.clap.specs.declared.error.kind.ErrorKind.{ErrorKind}
 use Rattle.clap.specs.declared.error.kind.ErrorKind.TheVariants.{DisplayHelp, DisplayVersion, OutOfMemory}
 use Rattle.gr_cli.specs.declared.arguments.Task.{Task}
@@ -33,9 +33,13 @@ wanted id = record (new_rule id) { required = true }
 abbrev pub wanted_files : Rule
 wanted_files = record (wanted (codes "FILE")) { action = Some Append }
 
--- the command that shows one word
+-- an option that is there or not
+abbrev pub flag_rule : List ℕ → Rule
+flag_rule id = record (new_rule id) { long = Some id; action = Some SetTrue }
+
+-- the command that shows one word: whether in the long form, the word, and the files
 abbrev pub explaining : Shape
-explaining = (with_rule (with_rule (with_rule (new_app (codes "explain")) (wanted (codes "SPACE"))) (wanted (codes "WORD"))) wanted_files).top
+explaining = (with_rule (with_rule (with_rule (with_rule (new_app (codes "explain")) (flag_rule (codes "long"))) (wanted (codes "SPACE"))) (wanted (codes "WORD"))) wanted_files).top
 
 abbrev pub tasks : App
 tasks = with_subcommand (with_subcommand (with_subcommand (with_subcommand (record { top = alone; subs = [] }) (command_named (codes "replay"))) (command_named (codes "pack"))) (command_named (codes "dump"))) (command_named (codes "upgrade"))

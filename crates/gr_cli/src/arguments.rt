@@ -1,6 +1,6 @@
 //! What the words of the command line ask for.
 
-ghost use Rattle.std.specs.Prelude.{◌≡◌, ℕ, List, Option, false, IfOk, IfErr, MatchOption, map};
+ghost use Rattle.std.specs.Prelude.{◌≡◌, ℕ, Bool, List, Option, false, IfOk, IfErr, MatchOption, map};
 ghost use Rattle.clap.specs.declared.builder.command.Command.TheViews.{out-Command as fields_of};
 ghost use Rattle.clap.specs.Walk.{rows_of, rule_of};
 ghost use Rattle.clap.specs.Words.{FailsBy, app_of, found_of, kind_of, shape_of};
@@ -8,9 +8,9 @@ ghost use Rattle.gr_model.specs.declared.event.Word.{Word as AnyWord};
 ghost use Rattle.gr_model.specs.Configs.{Settings};
 ghost use Rattle.gr_cli.specs.declared.arguments.Request.TheVariants.{Misconfigured, Miscounted, Misnamed, Perform};
 ghost use Rattle.gr_cli.specs.declared.arguments.Task.{Task as AnyTask};
-ghost use Rattle.gr_cli.specs.Words.{gpurace, command_named, explaining, faults, name_of, option_rule, racing, running, AsksFor};
+ghost use Rattle.gr_cli.specs.Words.{gpurace, command_named, explaining, faults, flag_rule, name_of, option_rule, racing, running, AsksFor};
 ghost use Rattle.gr_cli.specs.Plans.{AsksToRun, IsMisconfigured, IsNumberOr, IsPlan, IsPlanOf, IsSetUp};
-ghost use Rattle.gr_cli.specs.Questions.{AsksForRaces, Options, AsksToShow, IsListing, IsListingOf, IsMiscounted, IsMisnamed, IsMost, IsQuestion, IsRequestOf};
+ghost use Rattle.gr_cli.specs.Questions.{AsksForRaces, Options, AsksToShow, IsListing, IsListingOf, IsMiscounted, IsMisnamed, IsMost, IsQuestion, IsRequestOf, is_long};
 
 use clap::error::ErrorKind;
 use clap::{Arg, ArgAction, ArgMatches, Command, Error};
@@ -38,9 +38,10 @@ pub enum Task {
 #[derive(Debug, Drop)]
 struct NoNumber;
 
-/// A word of a launch, whose streams are in these files, one each.
+/// A word of a launch, whose streams are in these files, one each, and whether its long form is asked for.
 #[derive(Drop)]
 pub struct Question<'a> {
+    pub long: bool,
     pub word: Word,
     pub files: Vec<&'a str>,
 }
@@ -96,6 +97,7 @@ Examples:
   gpurace replay < trace.gpurace
   gpurace pack < trace.txt | gpurace replay
   gpurace explain g 16 group0.gpurace group1.gpurace
+  gpurace explain --long g 16 group0.gpurace group1.gpurace
   gpurace races group0.gpurace group1.gpurace
   gpurace run --workers 4 group0.gpurace group1.gpurace
 
@@ -123,13 +125,24 @@ Tells of one word which two accesses race on it, or that it has no race.
 The accesses are told as GROUP ITEM INDEX; an item's records are counted from 0. Of all racing pairs it is the least, by
 its first access and then by its second.
 
+With --long three lines stand below that of a race: what the first access is and what the second is, with the number of its
+record in its group's stream, from 0, and how many barriers of its item stand before it; and the cause of the race.
+
 The pair is found without clocks, in time that grows with the accesses to the word times the records of the launch: a trace
 of 100,000 records takes seconds, one of a million may take minutes.";
 
 const AFTER_EXPLAIN: &str = "\
-Example:
-  gpurace explain l3 4 group*.gpurace
-  race local 3 4: 3 0 12 with 3 1 12";
+Examples:
+  gpurace explain l0 4 group*.gpurace
+  race local 0 4: 0 0 0 with 0 1 0
+
+  gpurace explain --long l0 4 group*.gpurace
+  race local 0 4: 0 0 0 with 0 1 0
+  first write record 0 phase 0
+  second read record 1 phase 0
+  cause no-barrier: nothing orders the two; a barrier with CLK_LOCAL_MEM_FENCE between them would";
+
+const LONG: &str = "Tells also what the two accesses are, and the cause of their race";
 
 const SPACE: &str =
     "g for global memory, or l with a group from 0 to 63, as l3, for its local memory";
@@ -201,11 +214,23 @@ fn plain_command<'a>(alloc: Global, name: &'a str, about: &'a str) -> Command<'a
     Command::new(alloc, name).about(about)
 }
 
+/// An option that is there or not.
+fn flag_arg<'a>(alloc: Global, name: &'a str, help: &'a str) -> Arg<'a>
+    ensures rule { rule_of result ≡ flag_rule name.now }
+    ensures alone { result.global ≡ false }
+{
+    Arg::new(alloc, name)
+        .long(name)
+        .action(ArgAction::SetTrue)
+        .help(help)
+}
+
 /// The command that shows one word.
 fn explain_command<'a>(alloc: Global) -> Result<Command<'a>, AllocError>
     ensures shape { IfOk result (λ c. shape_of c ≡ explaining) }
     ensures alone { IfOk result (λ c. (fields_of c).has_globals ≡ false) }
 {
+    let long = flag_arg(alloc, "long", LONG);
     let space = Arg::new(alloc, "SPACE").required(true).help(SPACE);
     let word = Arg::new(alloc, "WORD").required(true).help(WORD);
     let files = Arg::new(alloc, "FILE")
@@ -216,6 +241,7 @@ fn explain_command<'a>(alloc: Global) -> Result<Command<'a>, AllocError>
         .about(EXPLAIN)
         .long_about(LONG_EXPLAIN)
         .after_help(AFTER_EXPLAIN)
+        .arg(long)?
         .arg(space)?
         .arg(word)?
         .arg(files)
@@ -318,6 +344,16 @@ fn task_named(name: &str) -> Task
     }
 }
 
+/// Whether the values of the command `explain` have the flag `--long`.
+fn asks_long(matches: &ArgMatches<'_>) -> bool
+    ensures { result ≡ is_long (rows_of (found_of matches.now)) }
+{
+    match matches.get_str("long") {
+        None => false,
+        Some(text) => text == "true",
+    }
+}
+
 /// The question that the values of the command `explain` ask.
 fn question_of<'a>(alloc: Global, matches: &ArgMatches<'a>) -> Result<Request<'a>, AllocError>
     ensures { IfOk result (λ r. IsRequestOf (rows_of (found_of matches.now)) r) }
@@ -334,8 +370,9 @@ fn question_of<'a>(alloc: Global, matches: &ArgMatches<'a>) -> Result<Request<'a
     let Some(word) = word_named(space, number) else {
         return Ok(Request::Misnamed);
     };
+    let long = asks_long(matches);
     let files = Vec::from_slice(alloc, files)?;
-    Ok(Request::Show(Question { word, files }))
+    Ok(Request::Show(Question { long, word, files }))
 }
 
 /// The number below 2^32 behind `--most`, if the option is there.
@@ -412,7 +449,7 @@ pub fn request_of<'a, S: AsStr>(alloc: Global, words: &'a [S]) -> Result<Request
     ensures fails { FailsBy (faults (map S.text words.now)) result }
     ensures task { IfOk result (λ r. (u : AnyTask) → AsksFor u (map S.text words.now) → r ≡ Perform u) }
     ensures memory { IfErr result (λ e. (u : AnyTask) → AsksFor u (map S.text words.now) → kind_of e ≡ ErrorKind.OutOfMemory) }
-    ensures question { IfOk result (λ r. (w : AnyWord) (names : List (List ℕ)) → AsksToShow w names (map S.text words.now) → IsQuestion w names r) }
+    ensures question { IfOk result (λ r. (long : Bool) (w : AnyWord) (names : List (List ℕ)) → AsksToShow long w names (map S.text words.now) → IsQuestion long w names r) }
     ensures misnamed { IfOk result (λ r. IsMisnamed (map S.text words.now) → r ≡ Misnamed) }
     ensures races { IfOk result (λ r. (options : Options) (names : List (List ℕ)) → AsksForRaces options names (map S.text words.now) → IsListing options names r) }
     ensures miscounted { IfOk result (λ r. IsMiscounted (map S.text words.now) → r ≡ Miscounted) }

@@ -1,6 +1,6 @@
 //! A run of the program, over values.
 
-ghost use Rattle.std.specs.Prelude.{◌≡◌, ◌⊎◌, ◌≤◌, ℕ, List, Option, IfOk, IfErr, OnOk, map};
+ghost use Rattle.std.specs.Prelude.{◌≡◌, ◌⊎◌, ◌≤◌, ℕ, Bool, List, IfOk, IfErr, OnOk, map};
 ghost use Rattle.std.specs.Fn.{FnReturnsAt};
 ghost use Rattle.std.specs.Io.KnownBytes.{Keeps};
 ghost use Rattle.clap.specs.Words.{kind_of};
@@ -19,6 +19,7 @@ ghost use Rattle.gr_cli.specs.Words.{AreHelp, AreWrong, AsksFor, IsHelp, IsWrong
 
 use crate::arguments::{Listing, Plan, Question, Request, Task, request_of};
 use crate::running::run_files;
+use crate::showing::show_word;
 use crate::status::{
     FAILED, NOTHING, USAGE, WANTING, status_of, status_of_race, status_of_races_fault,
     status_of_report,
@@ -31,7 +32,6 @@ use gr_record::fault::Fault;
 use gr_replay::replay;
 use gr_report::report::Report;
 use gr_report::write_fault;
-use gr_show::files::show_race_of_files;
 use gr_text::{dump, pack, upgrade};
 use std::alloc::Global;
 use std::convert::AsStr;
@@ -43,7 +43,7 @@ use std::time::Clock;
 const MISNAMED: &[u8] = b"\
 error: SPACE and WORD name no word of memory: SPACE is g, or l with a group from 0 to 63 as in l3, and WORD is a number \
 below 4294967296 in decimal digits\n\n\
-Usage: gpurace explain <SPACE> <WORD> <FILE>...\n\n\
+Usage: gpurace explain [OPTIONS] <SPACE> <WORD> <FILE>...\n\n\
 For more information, try '--help'.\n";
 
 const MISCOUNTED: &[u8] = b"\
@@ -153,11 +153,9 @@ fn show<T: Read + Drop, O: Fn(&str) -> io::Result<T>, W: Write, E: Write>(
     errors: &mut E,
 ) -> u8
     requires { O.IsAlwaysCallable opener }
-    ensures { IsDisplay T.remaining (FnReturnsAt O.Fn opener) (map (λ s. s.now) question.now.files.items) question.now.word (W.contents writer.old) (W.contents writer.new) (E.contents errors.old) (E.contents errors.new) result }
+    ensures { IsDisplay T.remaining (FnReturnsAt O.Fn opener) (map (λ s. s.now) question.now.files.items) question.now.long question.now.word (W.contents writer.old) (W.contents writer.new) (E.contents errors.old) (E.contents errors.new) result }
 {
-    let files = question.files.as_slice();
-    let outcome = show_race_of_files(alloc, files, opener, question.word, writer);
-    conclude_showing(outcome, errors)
+    conclude_showing(show_word(alloc, question, opener, writer), errors)
 }
 
 /// Tells that the words name no word of memory.
@@ -268,8 +266,8 @@ where
     ensures wrong { AreWrong (faults (map S.text words.now)) → ((result ≡ USAGE) ⊎ (result ≡ WANTING)) × Keeps (W.contents writer.old) (W.contents writer.new) }
     ensures help { AreHelp (faults (map S.text words.now)) → (result ≡ NOTHING) ⊎ (result ≡ WANTING) ⊎ (result ≡ FAILED) }
 
-    // The word that is shown, of files.
-    ensures shows { (w : AnyWord) (names : List (List ℕ)) → AsksToShow w names (map S.text words.now) → IsDisplay T.remaining (FnReturnsAt O.Fn opener) names w (W.contents writer.old) (W.contents writer.new) (E.contents errors.old) (E.contents errors.new) result }
+    // The word that is shown, of files: its line, and where the long form is asked for what stands below it.
+    ensures shows { (long : Bool) (w : AnyWord) (names : List (List ℕ)) → AsksToShow long w names (map S.text words.now) → IsDisplay T.remaining (FnReturnsAt O.Fn opener) names long w (W.contents writer.old) (W.contents writer.new) (E.contents errors.old) (E.contents errors.new) result }
     ensures misnamed { IsMisnamed (map S.text words.now) → ((result ≡ USAGE) ⊎ (result ≡ WANTING)) × Keeps (W.contents writer.old) (W.contents writer.new) }
 
     // The races that are shown, of files.

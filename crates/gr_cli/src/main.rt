@@ -8,6 +8,7 @@ mod arguments;
 mod execute;
 mod laws;
 mod running;
+mod showing;
 mod status;
 #[cfg(test)]
 mod tests;

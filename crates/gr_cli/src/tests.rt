@@ -46,6 +46,11 @@ const HANDED_BACK_BY_ONE: &str =
 
 const BACK_LINE: &str = "race global 16: 0 0 3 with 0 1 1\n";
 
+const BACK_ACCOUNT: &str = "race global 16: 0 0 3 with 0 1 1\n\
+first write record 8 phase 0\n\
+second read record 3 phase 0\n\
+cause no-barrier: nothing orders the two; a barrier with CLK_GLOBAL_MEM_FENCE between them would\n";
+
 /// Words and input, and what each output begins with (or is, where it is empty), and the status.
 type Case = (
     &'static str,
@@ -428,8 +433,24 @@ const CASES: [Case; 54] = [
     ),
 ];
 
-/// The same of words that ask for a run in threads, or for races with side files.
-const CASES_OF_FILES: [Case; 18] = [
+/// The same of words that ask for a run in threads, for races with side files, or for the long form of explain.
+const CASES_OF_FILES: [Case; 20] = [
+    (
+        "a racy word in the long form",
+        &["explain", "--long", "g", "16", "back"],
+        &[],
+        BACK_ACCOUNT,
+        "",
+        1,
+    ),
+    (
+        "a word without a race in the long form, which is asked for behind the file",
+        &["explain", "g", "20", "back", "--long"],
+        &[],
+        "no race global 20\n",
+        "",
+        0,
+    ),
     ("a run", &["run", "race"], &[], REPORT, "", 1),
     (
         "a run with the greatest numbers",

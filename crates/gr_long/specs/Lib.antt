@@ -2,4 +2,3 @@ pub mod Details
 pub mod Accounts
 pub mod AccountText
 pub mod Shown
-pub mod Opening

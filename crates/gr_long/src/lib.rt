@@ -6,7 +6,6 @@
 
 pub mod account;
 pub mod details;
-pub mod files;
 mod show;
 pub mod text;
 

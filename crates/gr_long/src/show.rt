@@ -4,8 +4,8 @@ ghost use Rattle.std.specs.Prelude.{◌≡◌, ◌≢◌, IfErr, IfOk, IfSome, m
 ghost use Rattle.std.specs.Io.KnownBytes.{Keeps};
 ghost use Rattle.gr_record.specs.declared.fault.Fault.TheVariants as faults;
 ghost use Rattle.gr_replay.specs.Each.{all_known};
-ghost use Rattle.gr_show.specs.Shown.{IsShowFault};
-ghost use Rattle.gr_long.specs.Shown.{IsAccountShown, ShowsAccountPrefix};
+ghost use Rattle.gr_show.specs.Shown.{IsRacyIn, IsShowFault, IsShown, ShowsPrefix};
+ghost use Rattle.gr_long.specs.Shown.{IsAccountText};
 
 use crate::account::account_of;
 use crate::text::write_account;
@@ -27,12 +27,12 @@ pub fn show_account<A: Allocator + Copy, T: Read + Drop, W: Write>(
     word: Word,
     writer: &mut W,
 ) -> Result<bool, Fault>
-    ensures shown { IfOk result (λ found. IsAccountShown (all_known (map T.remaining readers.items)) word found (W.contents writer.old) (W.contents writer.new)) }
+    ensures shown { IfOk result (λ found. IsShown (IsAccountText word) (IsRacyIn word) (all_known (map T.remaining readers.items)) found (W.contents writer.old) (W.contents writer.new)) }
     ensures fault { IfErr result (λ f. IfSome (all_known (map T.remaining readers.items)) (λ inputs. IsShowFault inputs f)) }
 
     // What a refusal leaves with the writer.
     ensures untouched { IfErr result (λ f. f ≢ faults.Write → Keeps (W.contents writer.old) (W.contents writer.new)) }
-    ensures prefix { IfErr result (λ f. f ≡ faults.Write → ShowsAccountPrefix (all_known (map T.remaining readers.items)) word (W.contents writer.old) (W.contents writer.new)) }
+    ensures prefix { IfErr result (λ f. f ≡ faults.Write → ShowsPrefix (IsAccountText word) (all_known (map T.remaining readers.items)) (W.contents writer.old) (W.contents writer.new)) }
     ensures threads { IfErr result (λ f. f ≢ faults.Threads) }
 {
     let traces = read_each(alloc, readers)?;

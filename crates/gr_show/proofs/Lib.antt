@@ -1,2 +1,3 @@
 pub mod NamingLemmas
 pub mod OpeningLemmas
+pub mod ShownLemmas

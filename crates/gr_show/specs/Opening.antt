@@ -1,11 +1,10 @@
--- Files that are opened by their names, and what is shown of a word of the launch whose streams they have.
+-- Files that are opened by their names, and what holds of their bytes.
 -- Source: docs/FORMATS.md, "Explanation".
-use Rattle.std.specs.Prelude.{◌≡◌, ◌⊎◌, ℕ, Bool, List, [], ◌∷◌, ◌++◌, map, Option, Result, Ok, Err, IfSome, ⊤}
-use Rattle.gr_model.specs.declared.event.Word.{Word}
+use Rattle.std.specs.Prelude.{◌≡◌, ◌⊎◌, ℕ, List, [], ◌∷◌, ◌++◌, map, Option, Result, Ok, Err, IfSome, ⊤}
 use Rattle.gr_record.specs.declared.fault.Fault.{Fault}
 use Rattle.gr_record.specs.declared.fault.Fault.TheVariants as faults
 use Rattle.gr_replay.specs.Each.{all_known}
-use Rattle.gr_show.specs.Shown.{IsShown, IsShowFault, ShowsPrefix}
+use Rattle.gr_show.specs.Shown.{IsShowFault}
 
 module _ {T E : Type 0} (Gives : List ℕ → Result T E → Type 0) where
   -- by what is given at each name, the files are those of the names, in their order
@@ -30,13 +29,12 @@ module _ {T E : Type 0} (Gives : List ℕ → Result T E → Type 0) where
   abbrev pub IsOpeningFault : List (List ℕ) → Fault → Type 0
   IsOpeningFault names f = (f ≡ faults.Memory) ⊎ ((f ≡ faults.Read) × IsFirstUnopened names)
 
--- the same of the launch whose streams the files of these names have, one each
+-- of files that are opened by these names
 module _ {T E : Type 0} (remaining : T → Option (List ℕ)) (Gives : List ℕ → Result T E → Type 0) (names : List (List ℕ)) where
-  abbrev pub IsShownOfFiles : Word → Bool → Option (List ℕ) → Option (List ℕ) → Type 0
-  IsShownOfFiles w found old new = (files : List T) × AreOpened Gives names files × IsShown (all_known (map remaining files)) w found old new
+  -- this holds of the bytes of the files, as far as those of all are known
+  abbrev pub HoldsOfFiles : (Option (List (List ℕ)) → Type 0) → Type 0
+  HoldsOfFiles Holds = (files : List T) × AreOpened Gives names files × Holds (all_known (map remaining files))
 
-  abbrev pub ShowsPrefixOfFiles : Word → Option (List ℕ) → Option (List ℕ) → Type 0
-  ShowsPrefixOfFiles w old new = (files : List T) × AreOpened Gives names files × ShowsPrefix (all_known (map remaining files)) w old new
-
+  -- why nothing is shown of them: one can't be opened; or why nothing is shown of their bytes
   abbrev pub IsFileFault : Fault → Type 0
-  IsFileFault f = IsOpeningFault Gives names f ⊎ ((files : List T) × AreOpened Gives names files × IfSome (all_known (map remaining files)) (λ inputs. IsShowFault inputs f))
+  IsFileFault f = IsOpeningFault Gives names f ⊎ HoldsOfFiles (λ known. IfSome known (λ inputs. IsShowFault inputs f))

@@ -1,4 +1,4 @@
--- What is shown of a word of a launch, and why nothing is.
+-- What is shown of a launch, and why nothing is; and the line of a word of it.
 -- Source: docs/FORMATS.md, "Explanation".
 use Rattle.std.specs.Prelude.{◌≡◌, ◌⊎◌, ◌↔◌, ℕ, Bool, List, Option, IfSome, IsTrue, MatchOption}
 use Rattle.std.specs.Io.KnownBytes.{Appends}
@@ -18,24 +18,34 @@ use Rattle.gr_show.specs.Explanations.{explanation_line}
 abbrev pub IsExplanation : Streams → Word → Option Pair → Type 0
 IsExplanation s w pair = MatchOption pair (¬ IsRacy s (IsGrounded s) w) (λ p. IsLeastRace s w p)
 
--- the inputs, where they are known, are the streams of a launch, which the model accepts; the line of the word's least racing pair is written whole; and it is said whether the word is racy
-pub record IsShown (known : Option (List (List ℕ))) (w : Word) (found : Bool) (old new : Option (List ℕ)) : Type 0 where
-  pub launch : Streams
-  pub spelled : IfSome known (λ inputs. ReadsEach inputs launch)
-  pub accepted : AreAccepted launch
+-- the line of the word's least racing pair, or that it has none
+pub record IsLine (w : Word) (s : Streams) (line : List ℕ) : Type 0 where
   pub pair : Option Pair
-  pub exact : IsExplanation launch w pair
-  pub line : Appends old new (explanation_line w pair)
-  pub said : IsTrue found ↔ IsRacy launch (IsGrounded launch) w
+  pub least : IsExplanation s w pair
+  pub is : line ≡ explanation_line w pair
 
--- a prefix of that line was written
-pub record ShowsPrefix (known : Option (List (List ℕ))) (w : Word) (old new : Option (List ℕ)) : Type 0 where
+-- the word is racy in a launch
+abbrev pub IsRacyIn : Word → Streams → Type 0
+IsRacyIn w s = IsRacy s (IsGrounded s) w
+
+-- the inputs, where they are known, are the streams of a launch, which the model accepts; a text of it is written whole; and it is said whether this is found in it
+pub record IsShown (IsTextOf : Streams → List ℕ → Type 0) (IsFoundIn : Streams → Type 0) (known : Option (List (List ℕ))) (found : Bool) (old new : Option (List ℕ)) : Type 0 where
   pub launch : Streams
   pub spelled : IfSome known (λ inputs. ReadsEach inputs launch)
   pub accepted : AreAccepted launch
-  pub pair : Option Pair
-  pub exact : IsExplanation launch w pair
-  pub prefix : AppendsPrefix old new (explanation_line w pair)
+  pub text : List ℕ
+  pub exact : IsTextOf launch text
+  pub written : Appends old new text
+  pub said : IsTrue found ↔ IsFoundIn launch
+
+-- a prefix of such a text was written
+pub record ShowsPrefix (IsTextOf : Streams → List ℕ → Type 0) (known : Option (List (List ℕ))) (old new : Option (List ℕ)) : Type 0 where
+  pub launch : Streams
+  pub spelled : IfSome known (λ inputs. ReadsEach inputs launch)
+  pub accepted : AreAccepted launch
+  pub text : List ℕ
+  pub exact : IsTextOf launch text
+  pub prefix : AppendsPrefix old new text
 
 -- why nothing is shown of inputs: they are no launch, or else the writer failed
 abbrev pub IsShowFault : List (List ℕ) → Fault → Type 0

@@ -22,12 +22,14 @@ returns-in_default-word_named c =
 
 pub returns : goal.returns
 returns c =
-    let f = found_of c.args.matches.now in
-    record {
-      space = c.in-Some.space.now;
-      number = c.in-Some-get_str.number.now;
-      at_space = text_is f (codes "SPACE") c.get_str.result c.get_str.ensures c.in-Some.space c.in-Some.is;
-      at_number = text_is f (codes "WORD") c.get_str-2.result c.get_str-2.ensures c.in-Some-get_str.number c.in-Some-get_str.is;
-      at_files = rw c.in_ok-files.ensures.items (texts_are f (codes "FILE") c.get_strs.result c.get_strs.ensures c.in-Some-get_strs.files c.in-Some-get_strs.is);
-      names = c.in-Some-word_named.ensures;
-    }
+    let f = found_of c.args.matches.now in (
+      c.asks_long-long.ensures,
+      record {
+        space = c.in-Some.space.now;
+        number = c.in-Some-get_str.number.now;
+        at_space = text_is f (codes "SPACE") c.get_str.result c.get_str.ensures c.in-Some.space c.in-Some.is;
+        at_number = text_is f (codes "WORD") c.get_str-2.result c.get_str-2.ensures c.in-Some-get_str.number c.in-Some-get_str.is;
+        at_files = rw c.in_ok-files.ensures.items (texts_are f (codes "FILE") c.get_strs.result c.get_strs.ensures c.in-Some-get_strs.files c.in-Some-get_strs.is);
+        names = c.in-Some-word_named.ensures;
+      },
+    )

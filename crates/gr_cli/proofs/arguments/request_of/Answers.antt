@@ -58,9 +58,9 @@ returns-in-Some-clause-task g c = λ u asks.
     absurd (no_task (app_of c.in_ok-command.field-0) c.in_ok-matches.matches c.in_ok-command.ensures (map g.S.AsStr.text c.args.words.now) c.in_ok-matches.ensures.matches u asks (c.in-Some.ensures.found.0 refl))
 
 pub returns-in-Some-clause-question : goal.returns-in-Some-clause-question
-returns-in-Some-clause-question g c = λ w names asks.
+returns-in-Some-clause-question g c = λ long w names asks.
     let rows = values_are (app_of c.in_ok-command.field-0) c.in_ok-matches.matches c.in_ok-command.ensures (map g.S.AsStr.text c.args.words.now) c.in_ok-matches.ensures.matches asks.rows asks.asks.met _ c.in-Some.ensures.rows in
-    asked asks.rows c.in_ok-question_of.field-0 w names (rw rows c.in_ok-question_of.ensures) asks.named
+    asked asks.rows c.in_ok-question_of.field-0 long w names (rw rows c.in_ok-question_of.ensures) asks.form asks.named
 
 pub returns-in-Some-clause-misnamed : goal.returns-in-Some-clause-misnamed
 returns-in-Some-clause-misnamed g c = λ is.
@@ -70,7 +70,7 @@ returns-in-Some-clause-misnamed g c = λ is.
 -- and where it was not, they do not ask for a word
 
 pub returns-in-None-clause-question : goal.returns-in-None-clause-question
-returns-in-None-clause-question g c = λ w names asks.
+returns-in-None-clause-question g c = λ long w names asks.
     true≢false (sym (c.in_default.ensures.found.1 (explain_is_named (app_of c.in_ok-command.field-0) c.in_ok-matches.matches c.in_ok-command.ensures (map g.S.AsStr.text c.args.words.now) c.in_ok-matches.ensures.matches asks.rows asks.asks.met)))
 
 pub returns-in-None-clause-misnamed : goal.returns-in-None-clause-misnamed
@@ -78,7 +78,7 @@ returns-in-None-clause-misnamed g c = λ is.
     absurd (true≢false (sym (c.in_default.ensures.found.1 (explain_is_named (app_of c.in_ok-command.field-0) c.in_ok-matches.matches c.in_ok-command.ensures (map g.S.AsStr.text c.args.words.now) c.in_ok-matches.ensures.matches is.rows is.asks.met))))
 
 pub returns-clause-question : goal.returns-clause-question
-returns-clause-question g c = λ w names asks.
+returns-clause-question g c = λ long w names asks.
     true≢false (sym (c.in_default.ensures.found.1 (explain_is_named (app_of c.in_ok-command.field-0) c.in_ok-matches.matches c.in_ok-command.ensures (map g.S.AsStr.text c.args.words.now) c.in_ok-matches.ensures.matches asks.rows asks.asks.met)))
 
 pub returns-clause-misnamed : goal.returns-clause-misnamed
@@ -128,7 +128,7 @@ returns-in-Some-subcommand_matches-clause-task g c = λ u asks.
     absurd (races_is_no_task (app_of c.in_ok-command.field-0) c.in_ok-matches.matches c.in_ok-command.ensures (map g.S.AsStr.text c.args.words.now) c.in_ok-matches.ensures.matches u asks (c.in-Some-subcommand_matches.ensures.found.0 refl))
 
 pub returns-in-Some-subcommand_matches-clause-question : goal.returns-in-Some-subcommand_matches-clause-question
-returns-in-Some-subcommand_matches-clause-question g c = λ w names asks.
+returns-in-Some-subcommand_matches-clause-question g c = λ long w names asks.
     absurd (nor_both (app_of c.in_ok-command.field-0) c.in_ok-matches.matches c.in_ok-command.ensures (map g.S.AsStr.text c.args.words.now) c.in_ok-matches.ensures.matches asks.rows asks.asks.met (c.in-Some-subcommand_matches.ensures.found.0 refl))
 
 pub returns-in-Some-subcommand_matches-clause-misnamed : goal.returns-in-Some-subcommand_matches-clause-misnamed
@@ -193,7 +193,7 @@ returns-in-Some-subcommand_matches-2-clause-task g c = λ u asks.
     absurd (run_is_no_task (app_of c.in_ok-command.field-0) c.in_ok-matches.matches c.in_ok-command.ensures (map g.S.AsStr.text c.args.words.now) c.in_ok-matches.ensures.matches u asks (c.in-Some-subcommand_matches-2.ensures.found.0 refl))
 
 pub returns-in-Some-subcommand_matches-2-clause-question : goal.returns-in-Some-subcommand_matches-2-clause-question
-returns-in-Some-subcommand_matches-2-clause-question g c = λ w names asks.
+returns-in-Some-subcommand_matches-2-clause-question g c = λ long w names asks.
     absurd (run_nor_explain (app_of c.in_ok-command.field-0) c.in_ok-matches.matches c.in_ok-command.ensures (map g.S.AsStr.text c.args.words.now) c.in_ok-matches.ensures.matches asks.rows asks.asks.met (c.in-Some-subcommand_matches-2.ensures.found.0 refl))
 
 pub returns-in-Some-subcommand_matches-2-clause-misnamed : goal.returns-in-Some-subcommand_matches-2-clause-misnamed

@@ -18,8 +18,8 @@ returns-in-Ok-Perform-clause-does g c = λ t asks.
     (same_task c.in-Ok-Perform.task t (sym c.in-Ok-Perform.field-0-is ∙ c.in-Ok-Perform.ensures.task t asks)) c.perform.ensures
 
 pub returns-in-Ok-Perform-clause-shows : goal.returns-in-Ok-Perform-clause-shows
-returns-in-Ok-Perform-clause-shows g c = λ w names asks.
-    let no = rw c.in-Ok-Perform.field-0-is at (c.in-Ok-Perform.ensures.question w names asks) in
+returns-in-Ok-Perform-clause-shows g c = λ long w names asks.
+    let no = rw c.in-Ok-Perform.field-0-is at (c.in-Ok-Perform.ensures.question long w names asks) in
     absurd no
 
 pub returns-in-Ok-Show-clause-does : goal.returns-in-Ok-Show-clause-does
@@ -27,25 +27,25 @@ returns-in-Ok-Show-clause-does g c = λ t asks.
     absurd (show_is_no_task c.in-Ok-Show.question t (sym c.in-Ok-Show.field-0-is ∙ c.in-Ok-Show.ensures.task t asks))
 
 pub returns-in-Ok-Show-clause-shows : goal.returns-in-Ok-Show-clause-shows
-returns-in-Ok-Show-clause-shows g c = λ w names asks.
-    let is = rw c.in-Ok-Show.field-0-is at (c.in-Ok-Show.ensures.question w names asks) in
-    rw (is.0, is.1) at c.show.ensures
+returns-in-Ok-Show-clause-shows g c = λ long w names asks.
+    let is = rw c.in-Ok-Show.field-0-is at (c.in-Ok-Show.ensures.question long w names asks) in
+    rw (is.0, is.1.0, is.1.1) at c.show.ensures
 
 pub returns-in-Ok-Misnamed-clause-does : goal.returns-in-Ok-Misnamed-clause-does
 returns-in-Ok-Misnamed-clause-does g c = λ t asks.
     absurd (misnamed_is_no_task t (sym c.in-Ok-Misnamed.field-0-is ∙ c.in-Ok-Misnamed.ensures.task t asks))
 
 pub returns-in-Ok-Misnamed-clause-shows : goal.returns-in-Ok-Misnamed-clause-shows
-returns-in-Ok-Misnamed-clause-shows g c = λ w names asks.
-    let no = rw c.in-Ok-Misnamed.field-0-is at (c.in-Ok-Misnamed.ensures.question w names asks) in
+returns-in-Ok-Misnamed-clause-shows g c = λ long w names asks.
+    let no = rw c.in-Ok-Misnamed.field-0-is at (c.in-Ok-Misnamed.ensures.question long w names asks) in
     absurd no
 
 pub returns-in-Err-clause-does : goal.returns-in-Err-clause-does
 returns-in-Err-clause-does g c = λ t asks. no_memory t (g.R.Read.remaining c.args.reader.now) _ _ _ _ _ (c.explain_usage.ensures.memory (c.in-Err.ensures.memory t asks))
 
 pub returns-in-Err-clause-shows : goal.returns-in-Err-clause-shows
-returns-in-Err-clause-shows g c = λ w names asks.
-    no_memory_to_display g.T.Read.remaining _ _ _ _ _ _ _ _ (c.explain_usage.ensures.memory (only_memory _ _ asks.asks.taken c.in-Err.ensures.fails))
+returns-in-Err-clause-shows g c = λ long w names asks.
+    no_memory_to_display g.T.Read.remaining _ _ long _ _ _ _ _ _ (c.explain_usage.ensures.memory (only_memory _ _ asks.asks.taken c.in-Err.ensures.fails))
 
 pub returns-in-Err-clause-misnamed : goal.returns-in-Err-clause-misnamed
 returns-in-Err-clause-misnamed g c = λ is.
@@ -74,8 +74,8 @@ returns-in-Ok-List-clause-does g c = λ t asks.
     absurd (list_is_no_task c.in-Ok-List.listing t (sym c.in-Ok-List.field-0-is ∙ c.in-Ok-List.ensures.task t asks))
 
 pub returns-in-Ok-List-clause-shows : goal.returns-in-Ok-List-clause-shows
-returns-in-Ok-List-clause-shows g c = λ w names asks.
-    let no = rw c.in-Ok-List.field-0-is at (c.in-Ok-List.ensures.question w names asks) in
+returns-in-Ok-List-clause-shows g c = λ long w names asks.
+    let no = rw c.in-Ok-List.field-0-is at (c.in-Ok-List.ensures.question long w names asks) in
     absurd no
 
 pub returns-in-Ok-List-clause-lists : goal.returns-in-Ok-List-clause-lists
@@ -88,8 +88,8 @@ returns-in-Ok-Miscounted-clause-does g c = λ t asks.
     absurd (miscounted_is_no_task t (sym c.in-Ok-Miscounted.field-0-is ∙ c.in-Ok-Miscounted.ensures.task t asks))
 
 pub returns-in-Ok-Miscounted-clause-shows : goal.returns-in-Ok-Miscounted-clause-shows
-returns-in-Ok-Miscounted-clause-shows g c = λ w names asks.
-    let no = rw c.in-Ok-Miscounted.field-0-is at (c.in-Ok-Miscounted.ensures.question w names asks) in
+returns-in-Ok-Miscounted-clause-shows g c = λ long w names asks.
+    let no = rw c.in-Ok-Miscounted.field-0-is at (c.in-Ok-Miscounted.ensures.question long w names asks) in
     absurd no
 
 pub returns-in-Ok-Miscounted-clause-lists : goal.returns-in-Ok-Miscounted-clause-lists
@@ -152,8 +152,8 @@ returns-in-Ok-Misconfigured-clause-does g c = λ t asks.
     absurd (misconfigured_is_no_task t (sym c.in-Ok-Misconfigured.field-0-is ∙ c.in-Ok-Misconfigured.ensures.task t asks))
 
 pub returns-in-Ok-Run-clause-shows : goal.returns-in-Ok-Run-clause-shows
-returns-in-Ok-Run-clause-shows g c = λ w names asks.
-    let no = rw c.in-Ok-Run.field-0-is at (c.in-Ok-Run.ensures.question w names asks) in
+returns-in-Ok-Run-clause-shows g c = λ long w names asks.
+    let no = rw c.in-Ok-Run.field-0-is at (c.in-Ok-Run.ensures.question long w names asks) in
     absurd no
 
 pub returns-in-Ok-Run-clause-lists : goal.returns-in-Ok-Run-clause-lists
@@ -162,8 +162,8 @@ returns-in-Ok-Run-clause-lists g c = λ most names asks.
     absurd no
 
 pub returns-in-Ok-Misconfigured-clause-shows : goal.returns-in-Ok-Misconfigured-clause-shows
-returns-in-Ok-Misconfigured-clause-shows g c = λ w names asks.
-    let no = rw c.in-Ok-Misconfigured.field-0-is at (c.in-Ok-Misconfigured.ensures.question w names asks) in
+returns-in-Ok-Misconfigured-clause-shows g c = λ long w names asks.
+    let no = rw c.in-Ok-Misconfigured.field-0-is at (c.in-Ok-Misconfigured.ensures.question long w names asks) in
     absurd no
 
 pub returns-in-Ok-Misconfigured-clause-lists : goal.returns-in-Ok-Misconfigured-clause-lists

@@ -1,6 +1,5 @@
-use Rattle.std.proofs.Common.{rules, ◌↔◌, Bool, IsTrue, subst, sym}
-use Rattle.gr_model.specs.Races.{IsRacy}
-use Rattle.gr_model.specs.Waits.{IsGrounded}
+use Rattle.std.proofs.Common.{rules, ◌↔◌, Bool, IsTrue, refl, subst, sym}
+use Rattle.gr_show.specs.Shown.{IsRacyIn}
 use Rattle.gr_long.proofs.AccountLemmas.{account_said}
 use Rattle.gr_long.proofs.show.show_account.Goals as goal
 
@@ -10,8 +9,18 @@ returns-in-Ok-clause-shown g c =
       launch = s;
       spelled = c.in_ok-traces.ensures.launch;
       accepted = search rules;
-      account = c.in_ok-account.account;
-      exact = c.in_ok-account.ensures;
-      text = c.in-Ok.ensures.whole;
-      said = subst (λ (b : Bool). IsTrue b ↔ IsRacy s (IsGrounded s) c.args.word) (sym c.is_some.ensures) (account_said s c.args.word c.in_ok-account.account c.in_ok-account.ensures);
+      text = _;
+      exact = record { account = c.in_ok-account.account; exact = c.in_ok-account.ensures; is = refl };
+      written = c.in-Ok.ensures.whole;
+      said = subst (λ (b : Bool). IsTrue b ↔ IsRacyIn c.args.word s) (sym c.is_some.ensures) (account_said s c.args.word c.in_ok-account.account c.in_ok-account.ensures);
     }
+
+pub returns-clause-prefix : goal.returns-clause-prefix
+returns-clause-prefix g c = λ _. record {
+  launch = c.in_ok-traces.traces;
+  spelled = c.in_ok-traces.ensures.launch;
+  accepted = search rules;
+  text = _;
+  exact = record { account = c.in_ok-account.account; exact = c.in_ok-account.ensures; is = refl };
+  prefix = c.in-Err.ensures.prefix;
+}

@@ -1,4 +1,4 @@
-use Rattle.std.proofs.Common.{rules}
+use Rattle.std.proofs.Common.{rules, refl}
 use Rattle.gr_races.proofs.KindLemmas.{race_said}
 use Rattle.gr_races.proofs.show.show_races.Goals as goal
 
@@ -9,9 +9,9 @@ returns-in-Ok-clause-shown g c =
       launch = c.in_ok-traces.traces;
       spelled = c.in_ok-traces.ensures.launch;
       accepted = search rules;
-      races = listed.races;
-      exact = listed.exact;
-      text = rw (c.deref.ensures.value, listed.listed, listed.counted) at c.in-Ok.ensures.whole;
+      text = _;
+      exact = record { races = listed.races; exact = listed.exact; is = refl };
+      written = rw (c.deref.ensures.value, listed.listed, listed.counted) at c.in-Ok.ensures.whole;
       said = race_said c.in_ok-traces.traces listed.races c.in_ok-entries.races listed.exact listed.counted;
     }
 
@@ -22,7 +22,7 @@ returns-clause-prefix g c = λ _.
       launch = c.in_ok-traces.traces;
       spelled = c.in_ok-traces.ensures.launch;
       accepted = search rules;
-      races = listed.races;
-      exact = listed.exact;
+      text = _;
+      exact = record { races = listed.races; exact = listed.exact; is = refl };
       prefix = rw (c.deref.ensures.value, listed.listed, listed.counted) at c.in-Err.ensures.prefix;
     }

@@ -1,0 +1,10 @@
+-- Whether a word is racy, by its least racing pair.
+use Rattle.std.proofs.Common.{◌↔◌, IsTrue, Option, None, Some, is_some, refl, sym, true≢false}
+use Rattle.gr_model.specs.declared.event.Word.{Word}
+use Rattle.gr_model.specs.RacePairs.{Pair}
+use Rattle.gr_model.specs.Streams.{Streams}
+use Rattle.gr_show.specs.Shown.{IsExplanation, IsRacyIn}
+
+pub race_said : (s : Streams) (w : Word) (pair : Option Pair) → IsExplanation s w pair → IsTrue (is_some pair) ↔ IsRacyIn w s
+race_said s w None none = (λ no. absurd (true≢false (sym no)), λ racy. absurd (none racy))
+race_said s w (Some p) least = (λ yes. (p.0, p.1, least.0.first, least.0.second, least.0.race), λ racy. refl)
