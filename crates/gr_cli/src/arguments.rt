@@ -103,19 +103,22 @@ Examples:
 
 Exit status:
   0  nothing was found, or what was asked for is done
-  1  a race, a divergent barrier or an unmatched acquire was found
+  1  something was found: a race; by replay and run also a divergent barrier or an unmatched acquire
   2  the trace was refused; standard error says where and why
   3  the arguments are wrong
   4  memory ran out, or a thread could not be started
   5  reading or writing failed";
 
-const REPLAY: &str = "Reports on the trace on standard input; this is done without a command too";
+const REPLAY: &str =
+    "Reports on the trace on standard input, as in `replay < FILE`; done without a command too";
 
-const PACK: &str = "Writes the bytes of the trace whose text is on standard input";
+const PACK: &str =
+    "Writes the bytes of the trace whose text is on standard input, as in `pack < TEXT > FILE`";
 
-const DUMP: &str = "Writes the text of the trace on standard input";
+const DUMP: &str = "Writes the text of the trace on standard input, as in `dump < FILE`";
 
-const UPGRADE: &str = "Writes the trace on standard input as streams of version 2";
+const UPGRADE: &str =
+    "Writes the trace on standard input as streams of version 2, as in `upgrade < OLD > NEW`";
 
 const EXPLAIN: &str = "Tells of one word which two accesses race on it";
 
@@ -129,7 +132,8 @@ With --long three lines stand below that of a race: what the first access is and
 record in its group's stream, from 0, and how many barriers of its item stand before it; and the cause of the race.
 
 The pair is found without clocks, in time that grows with the accesses to the word times the records of the launch: a trace
-of 100,000 records takes seconds, one of a million may take minutes.";
+of 100,000 records takes seconds, one of a million may take minutes. Accesses that are held back by an unmatched acquire are
+not judged; what is held, and all else that is no race, replay and run tell.";
 
 const AFTER_EXPLAIN: &str = "\
 Examples:
@@ -157,7 +161,8 @@ const LONG_RACES: &str = "\
 Tells of all words that have a race, kind by kind: which words they are, and of the first of them two accesses that race.
 
 A kind is the memory, what the two accesses do, and whether they are of one work-group. The accesses are told as GROUP ITEM
-INDEX; an item's records are counted from 0. The races are found by clocks, as replay finds them.";
+INDEX; an item's records are counted from 0. The races are found by clocks, as replay finds them. Divergent barriers, unmatched
+acquires and what these hold back are told by replay and run alone.";
 
 const AFTER_RACES: &str = "\
 Example:
@@ -190,8 +195,8 @@ const LONG_RUN: &str = "\
 Reports on the trace in files, by several threads: what is written and the status are those of replay on the same streams.
 
 Each file has a thread that reads it and sends its records on; one thread puts all records in order; workers look for races.
-So the files may be pipes that are still being written. A file that cannot be opened is told first, and then the headers'
-faults, in the order of the files.";
+So the files may be pipes that are still being written; where the whole trace is there already, replay takes less time. A file
+that cannot be opened is told first, and then the headers' faults, in the order of the files.";
 
 const AFTER_RUN: &str = "\
 Example:
