@@ -1,19 +1,16 @@
--- What is shown of a word of files that are open, or why nothing is.
-use Rattle.std.proofs.Common.{◌≡◌, ℕ, Bool, List, Option, Result, inr, map}
-use Rattle.std.specs.Prelude.{IfErr, IfOk, IfSome}
+-- What is shown of a word of files that are open.
+use Rattle.std.proofs.Common.{◌≡◌, ℕ, Bool, List, Option, Result, map}
+use Rattle.std.specs.Prelude.{IfErr, IfOk}
 use Rattle.std.proofs.lemmas.Result.{IfErr-weaker, IfOk-weaker}
 use Rattle.gr_model.specs.declared.event.Word.{Word}
 use Rattle.gr_record.specs.declared.fault.Fault.{Fault}
 use Rattle.gr_record.specs.declared.fault.Fault.TheVariants.{Write}
 use Rattle.gr_replay.specs.Each.{all_known}
-use Rattle.gr_show.specs.Opening.{AreOpened, IsFileFault}
-use Rattle.gr_show.specs.Shown.{IsRacyIn, IsShowFault, IsShown, ShowsPrefix}
+use Rattle.gr_show.specs.Opening.{AreOpened}
+use Rattle.gr_show.specs.Shown.{IsRacyIn, IsShown, ShowsPrefix}
 use Rattle.gr_cli.specs.Answers.{IsShownOfFiles, IsTextOf, ShowsPrefixOfFiles}
 
 module _ {T X : Type 0} (remaining : T → Option (List ℕ)) (Gives : List ℕ → Result T X → Type 0) (names : List (List ℕ)) (files : List T) (opened : AreOpened Gives names files) (outcome : Result Bool Fault) where
-  pub refused_of : IfErr outcome (λ f. IfSome (all_known (map remaining files)) (λ inputs. IsShowFault inputs f)) → IfErr outcome (λ f. IsFileFault remaining Gives names f)
-  refused_of = IfErr-weaker outcome _ _ (λ f fault. inr (files, opened, fault))
-
   module _ (long : Bool) (w : Word) (old new : Option (List ℕ)) where
     pub shown_of : IfOk outcome (λ found. IsShown (IsTextOf long w) (IsRacyIn w) (all_known (map remaining files)) found old new) → IfOk outcome (λ found. IsShownOfFiles remaining Gives names long w old new found)
     shown_of = IfOk-weaker outcome _ _ (λ found shown. (files, opened, shown))

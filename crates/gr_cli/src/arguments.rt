@@ -8,7 +8,7 @@ ghost use Rattle.gr_model.specs.declared.event.Word.{Word as AnyWord};
 ghost use Rattle.gr_model.specs.Configs.{Settings};
 ghost use Rattle.gr_cli.specs.declared.arguments.Request.TheVariants.{Misconfigured, Miscounted, Misnamed, Perform};
 ghost use Rattle.gr_cli.specs.declared.arguments.Task.{Task as AnyTask};
-ghost use Rattle.gr_cli.specs.Words.{gpurace, command_named, explaining, faults, flag_rule, name_of, option_rule, racing, running, AsksFor};
+ghost use Rattle.gr_cli.specs.Words.{gpurace, command_named, explaining, faults, flag_rule, name_of, option_rule, racing, running, wanted, AsksFor};
 ghost use Rattle.gr_cli.specs.Plans.{AsksToRun, IsMisconfigured, IsNumberOr, IsPlan, IsPlanOf, IsSetUp};
 ghost use Rattle.gr_cli.specs.Questions.{AsksForRaces, Options, AsksToShow, IsListing, IsListingOf, IsMiscounted, IsMisnamed, IsMost, IsQuestion, IsRequestOf, is_long};
 
@@ -230,14 +230,22 @@ fn flag_arg<'a>(alloc: Global, name: &'a str, help: &'a str) -> Arg<'a>
         .help(help)
 }
 
+/// A value that has to be given.
+fn wanted_arg<'a>(alloc: Global, name: &'a str, help: &'a str) -> Arg<'a>
+    ensures rule { rule_of result ≡ wanted name.now }
+    ensures alone { result.global ≡ false }
+{
+    Arg::new(alloc, name).required(true).help(help)
+}
+
 /// The command that shows one word.
 fn explain_command<'a>(alloc: Global) -> Result<Command<'a>, AllocError>
     ensures shape { IfOk result (λ c. shape_of c ≡ explaining) }
     ensures alone { IfOk result (λ c. (fields_of c).has_globals ≡ false) }
 {
     let long = flag_arg(alloc, "long", LONG);
-    let space = Arg::new(alloc, "SPACE").required(true).help(SPACE);
-    let word = Arg::new(alloc, "WORD").required(true).help(WORD);
+    let space = wanted_arg(alloc, "SPACE", SPACE);
+    let word = wanted_arg(alloc, "WORD", WORD);
     let files = Arg::new(alloc, "FILE")
         .required(true)
         .action(ArgAction::Append)

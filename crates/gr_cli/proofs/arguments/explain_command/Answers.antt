@@ -9,10 +9,10 @@ use Rattle.gr_cli.proofs.arguments.explain_command.Goals as goal
 pub returns-clause-shape : goal.returns-clause-shape
 returns-clause-shape c =
     let long_is : rule_of c.flag_arg-long.result ≡ flag_rule (codes "long") = c.flag_arg-long.ensures.rule in
-    let space_is : rule_of c.help-space.result ≡ wanted (codes "SPACE") = search rules in
-    let word_is : rule_of c.help-word.result ≡ wanted (codes "WORD") = search rules in
+    let space_is : rule_of c.wanted_arg-space.result ≡ wanted (codes "SPACE") = c.wanted_arg-space.ensures.rule in
+    let word_is : rule_of c.wanted_arg-word.result ≡ wanted (codes "WORD") = c.wanted_arg-word.ensures.rule in
     let files_is : rule_of c.help-files.result ≡ wanted_files = search rules in
-    let bare : app_of c.after_help.result ≡ new_app (codes "explain") = rw (c.after_help.ensures, c.long_about.ensures, c.about.ensures) c.new-4.ensures.app in
+    let bare : app_of c.after_help.result ≡ new_app (codes "explain") = rw (c.after_help.ensures, c.long_about.ensures, c.about.ensures) c.new-2.ensures.app in
     let first : app_of c.in_ok-arg.field-0 ≡ with_rule (new_app (codes "explain")) (flag_rule (codes "long")) = c.in_ok-arg.ensures.shape (search rules) ∙ ap₂ with_rule bare long_is in
     let second : app_of c.in_ok-arg-2.field-0 ≡ with_rule (with_rule (new_app (codes "explain")) (flag_rule (codes "long"))) (wanted (codes "SPACE")) = c.in_ok-arg-2.ensures.shape (search rules) ∙ ap₂ with_rule first space_is in
     let third : app_of c.in_ok-arg-3.field-0 ≡ with_rule (with_rule (with_rule (new_app (codes "explain")) (flag_rule (codes "long"))) (wanted (codes "SPACE"))) (wanted (codes "WORD")) = c.in_ok-arg-3.ensures.shape (search rules) ∙ ap₂ with_rule second word_is in
@@ -21,10 +21,10 @@ returns-clause-shape c =
 pub returns-clause-alone : goal.returns-clause-alone
 returns-clause-alone c =
     let long_is : c.flag_arg-long.result.global ≡ false = c.flag_arg-long.ensures.alone in
-    let space_is : c.help-space.result.global ≡ false = search rules in
-    let word_is : c.help-word.result.global ≡ false = search rules in
+    let space_is : c.wanted_arg-space.result.global ≡ false = c.wanted_arg-space.ensures.alone in
+    let word_is : c.wanted_arg-word.result.global ≡ false = c.wanted_arg-word.ensures.alone in
     let files_is : c.help-files.result.global ≡ false = search rules in
-    let bare : (fields_of c.after_help.result).has_globals ≡ false = rw (c.after_help.ensures, c.long_about.ensures, c.about.ensures) c.new-4.ensures.local in
+    let bare : (fields_of c.after_help.result).has_globals ≡ false = rw (c.after_help.ensures, c.long_about.ensures, c.about.ensures) c.new-2.ensures.local in
     let first : (fields_of c.in_ok-arg.field-0).has_globals ≡ false = c.in_ok-arg.ensures.globals ∙ rw (bare, long_is) refl in
     let second : (fields_of c.in_ok-arg-2.field-0).has_globals ≡ false = c.in_ok-arg-2.ensures.globals ∙ rw (first, space_is) refl in
     let third : (fields_of c.in_ok-arg-3.field-0).has_globals ≡ false = c.in_ok-arg-3.ensures.globals ∙ rw (second, word_is) refl in
