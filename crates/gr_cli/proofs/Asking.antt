@@ -62,7 +62,9 @@ same_word rows v w some other a b =
     (names_one a.space a.number v w a.names (rw (same_space, same_number) at b.names), injected some other (sym a.at_files ∙ b.at_files))
 
 pub asked : (rows : List Row) (r : Request) (long : Bool) (w : Word) (files : List Text) → IsRequestOf rows r → is_long rows ≡ long → IsNamed rows w files → IsQuestion long w files r
-asked rows (Show q) long w files h form named = (h.0 ∙ form, same_word rows q.word w (map (λ s. s.now) q.files.items) files h.1 named)
+asked rows (Show q) long w files h form named =
+    let same = same_word rows q.word w (map (λ s. s.now) q.files.items) files h.1 named in
+    (h.0 ∙ form, same.0, same.1)
 asked rows Misnamed long w files h form named = h w files named
 asked rows (Perform t) long w files h form named = h
 asked rows (Lists l) long w files h form named = h

@@ -2,4 +2,3 @@ pub mod AnswerLemmas
 pub mod Asking
 pub mod Naming
 pub mod Plain
-pub mod ShowingLemmas

@@ -29,7 +29,7 @@ returns-in-Ok-Show-clause-does g c = λ t asks.
 pub returns-in-Ok-Show-clause-shows : goal.returns-in-Ok-Show-clause-shows
 returns-in-Ok-Show-clause-shows g c = λ long w names asks.
     let is = rw c.in-Ok-Show.field-0-is at (c.in-Ok-Show.ensures.question long w names asks) in
-    rw (is.0, is.1.0, is.1.1) at c.show.ensures
+    rw (is.0, is.1, is.2) at c.show.ensures
 
 pub returns-in-Ok-Misnamed-clause-does : goal.returns-in-Ok-Misnamed-clause-does
 returns-in-Ok-Misnamed-clause-does g c = λ t asks.
