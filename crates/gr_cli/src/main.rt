@@ -1,21 +1,12 @@
 //! `gpurace`: reports the data races and the divergent barriers of an OpenCL kernel launch, from its trace.
 //!
-//! All that the program decides stands in functions over values (`execute`), so that tests run them in memory; `main`
-//! hands in the words, standard input, output and error, and what opens a file.
+//! All that the program decides stands in `gr_command`; `main` hands in the words, standard input, output and error, and what
+//! opens a file.
 #![tactic(auto)]
 
-mod arguments;
-mod execute;
-mod laws;
-mod running;
-mod showing;
-mod status;
-#[cfg(test)]
-mod tests;
-
-use execute::{execute, fail};
+use gr_command::execute::{execute, fail};
+use gr_command::status::USAGE;
 use gr_record::fault::Fault;
-use status::USAGE;
 use std::fs::File;
 use std::io::{BufWriter, ErrorKind, Write};
 use std::process::ExitCode;

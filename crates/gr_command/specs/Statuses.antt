@@ -1,0 +1,41 @@
+-- The exit statuses of the program.
+-- Source: docs/FORMATS.md, "Exit statuses".
+use Rattle.std.specs.Prelude.{◌≡◌, ◌⊎◌, ℕ, Bool, if◌then◌else◌}
+use Rattle.gr_model.specs.Reports.{WholeReport}
+use Rattle.gr_record.specs.declared.error.RecordError.TheVariants.{Memory as NoMemory}
+use Rattle.gr_record.specs.declared.fault.Fault.{Fault}
+use Rattle.gr_record.specs.declared.fault.Fault.TheVariants.{Stream, SameGroup, OtherLaunch, MissingGroup, Shape, BadLine, NoEnd, LongStream, Read, Write, Memory, Threads}
+use Rattle.gr_report.specs.Whole.{HasFinding}
+use Rattle.gr_races.specs.declared.fault.RacesFault.{RacesFault}
+use Rattle.gr_races.specs.declared.fault.RacesFault.TheVariants.{Buffers, Places, Run}
+use Rattle.gr_command.specs.declared.status.TheConstants.{NOTHING, FOUND, REFUSED, WANTING, FAILED}
+
+-- a fault of the input is a refusal
+abbrev pub fault_status : Fault → ℕ
+fault_status (Stream place NoMemory) = WANTING
+fault_status (Stream place error) = REFUSED
+fault_status (SameGroup place) = REFUSED
+fault_status (OtherLaunch place) = REFUSED
+fault_status (MissingGroup group) = REFUSED
+fault_status (Shape error) = REFUSED
+fault_status (BadLine line) = REFUSED
+fault_status NoEnd = REFUSED
+fault_status (LongStream line) = REFUSED
+fault_status Memory = WANTING
+fault_status Threads = WANTING
+fault_status Read = FAILED
+fault_status Write = FAILED
+
+-- and so is a side file that is out of form
+abbrev pub races_fault_status : RacesFault → ℕ
+races_fault_status (Run f) = fault_status f
+races_fault_status (Places line) = REFUSED
+races_fault_status (Buffers line) = REFUSED
+
+-- a report has the status of a finding where it has a race, a divergent barrier or an unmatched acquire
+abbrev pub IsReportStatus : WholeReport → ℕ → Type 0
+IsReportStatus r status = ((status ≡ FOUND) × HasFinding r) ⊎ ((status ≡ NOTHING) × ¬ HasFinding r)
+
+-- whether a word is racy
+abbrev pub race_status : Bool → ℕ
+race_status found = if found then FOUND else NOTHING

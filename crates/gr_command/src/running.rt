@@ -1,0 +1,51 @@
+//! Runs in threads of launches whose streams are in files.
+
+ghost use Rattle.std.specs.Prelude.{◌≡◌, ◌≢◌, IfErr, IfOk, map};
+ghost use Rattle.std.specs.Fn.{FnReturnsAt};
+ghost use Rattle.std.specs.Io.KnownBytes.{Appends, Keeps};
+ghost use Rattle.gr_record.specs.declared.fault.Fault.TheVariants as faults;
+ghost use Rattle.gr_report.specs.ReportText.{report_text};
+ghost use Rattle.gr_report.specs.Whole.{whole_of};
+ghost use Rattle.gr_command.specs.Answers.{IsFaultOfFiles, IsReportOfFiles, WritesPrefixOfFiles};
+
+use crate::arguments::Plan;
+use gr_record::fault::Fault;
+use gr_report::report::Report;
+use gr_show::files::open_all;
+use gr_streams::{NoWatch, run_streams};
+use std::alloc::Global;
+use std::io::{self, Read, Write};
+use std::sync::{Arc, Wait};
+use std::thread::Threads;
+use std::time::Clock;
+
+/// Opens the files of a plan, reads the streams of a launch, one from each, in threads, and writes the text of its report
+/// and nothing else.
+///
+/// # Errors
+/// Those of `open_all`, before anything is read; then those of `run_streams`.
+pub fn run_files<H, T, O, W>(
+    rt: H,
+    alloc: Global,
+    plan: &Plan<'_>,
+    opener: O,
+    writer: &mut W,
+) -> Result<Report, Fault>
+where
+    H: Threads + Wait + Clock + Copy + Send + 'static,
+    T: Read + Send + Drop + 'static,
+    O: Fn(&str) -> io::Result<T>,
+    W: Write,
+    requires { O.IsAlwaysCallable opener }
+    ensures report { IfOk result (λ r. IsReportOfFiles T.remaining (FnReturnsAt O.Fn opener) (map (λ s. s.now) plan.now.files.items) (whole_of r)) }
+    ensures text { IfOk result (λ r. Appends (W.contents writer.old) (W.contents writer.new) (report_text (whole_of r))) }
+    ensures fault { IfErr result (λ f. IsFaultOfFiles T.remaining (FnReturnsAt O.Fn opener) (map (λ s. s.now) plan.now.files.items) f) }
+    ensures untouched { IfErr result (λ f. f ≢ faults.Write → Keeps (W.contents writer.old) (W.contents writer.new)) }
+    ensures prefix { IfErr result (λ f. f ≡ faults.Write → WritesPrefixOfFiles T.remaining (FnReturnsAt O.Fn opener) (map (λ s. s.now) plan.now.files.items) (W.contents writer.old) (W.contents writer.new)) }
+{
+    let files = open_all(alloc, plan.files.as_slice(), opener)?;
+    let Ok(watch) = Arc::new(alloc, NoWatch) else {
+        return Err(Fault::Memory);
+    };
+    run_streams(rt, alloc, files, plan.config, watch, writer)
+}
