@@ -1,4 +1,1 @@
 pub mod AnswerLemmas
-pub mod Asking
-pub mod Naming
-pub mod Plain

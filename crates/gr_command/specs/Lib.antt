@@ -1,6 +1,3 @@
 pub mod Answers
-pub mod Plain
-pub mod Plans
-pub mod Questions
+pub mod Outcomes
 pub mod Statuses
-pub mod Words

@@ -36,6 +36,10 @@ races_fault_status (Buffers line) = REFUSED
 abbrev pub IsReportStatus : WholeReport → ℕ → Type 0
 IsReportStatus r status = ((status ≡ FOUND) × HasFinding r) ⊎ ((status ≡ NOTHING) × ¬ HasFinding r)
 
+-- whether files are accepted
+abbrev pub check_status : Bool → ℕ
+check_status accepted = if accepted then NOTHING else REFUSED
+
 -- whether a word is racy
 abbrev pub race_status : Bool → ℕ
 race_status found = if found then FOUND else NOTHING

@@ -1,33 +1,31 @@
 //! A run of the program, over values.
 
-ghost use Rattle.std.specs.Prelude.{◌≡◌, ◌⊎◌, ◌≤◌, ℕ, Bool, List, IfOk, IfErr, OnOk, map};
+ghost use Rattle.std.specs.Prelude.{◌≡◌, ◌⊎◌, ◌≤◌, IfOk, IfErr, OnOk, map};
 ghost use Rattle.std.specs.Fn.{FnReturnsAt};
 ghost use Rattle.std.specs.Io.KnownBytes.{Keeps};
 ghost use Rattle.clap.specs.Words.{kind_of};
-ghost use Rattle.gr_model.specs.declared.event.Word.{Word as AnyWord};
 ghost use Rattle.gr_report.specs.FaultText.{fault_line};
 ghost use Rattle.gr_report.specs.Putting.{AppendsPrefix};
 ghost use Rattle.gr_report.specs.Whole.{whole_of};
-ghost use Rattle.gr_command.specs.declared.arguments.Task.{Task as AnyTask};
-ghost use Rattle.gr_command.specs.Answers.{IsAnswerOf, IsDisplay, IsFaultTold, IsRacesDisplay, IsRunAnswer};
 ghost use Rattle.gr_races.specs.FaultText.{races_fault_line};
-ghost use Rattle.gr_model.specs.Configs.{Settings};
-ghost use Rattle.gr_command.specs.Plans.{AsksToRun, IsMisconfigured};
-ghost use Rattle.gr_command.specs.Questions.{AsksForRaces, AsksToShow, IsMiscounted, IsMisnamed, Options, options_of};
-ghost use Rattle.gr_command.specs.Statuses.{fault_status, race_status, races_fault_status, IsReportStatus};
-ghost use Rattle.gr_command.specs.Words.{AreHelp, AreWrong, AsksFor, IsHelp, IsWrongUsage, faults};
+ghost use Rattle.gr_arguments.specs.Asked.{Asked, AsksTo, asked_of, races_of, run_of, word_of};
+ghost use Rattle.gr_arguments.specs.Commands.{AreHelp, AreWrong, IsHelp, IsWrongUsage, faults};
+ghost use Rattle.gr_command.specs.Answers.{IsAnswerOf, IsCheckOutcome, IsDisplay, IsDone, IsFaultTold, IsRacesDisplay, IsRunAnswer};
+ghost use Rattle.gr_command.specs.Statuses.{check_status, fault_status, race_status, races_fault_status, IsReportStatus};
 
-use crate::arguments::{Listing, Plan, Question, Request, Task, request_of};
 use crate::running::run_files;
 use crate::showing::show_word;
 use crate::status::{
-    FAILED, NOTHING, USAGE, WANTING, status_of, status_of_race, status_of_races_fault,
-    status_of_report,
+    FAILED, NOTHING, USAGE, WANTING, status_of, status_of_check, status_of_race,
+    status_of_races_fault, status_of_report,
 };
 use clap::Error;
 use clap::error::ErrorKind;
+use gr_arguments::request::{Listing, Plan, Question, Request, Task};
+use gr_arguments::request_of;
+use gr_check::check_files;
 use gr_races::fault::{RacesFault, write_races_fault};
-use gr_races::files::show_races_of_files;
+use gr_races::files::{SideNames, show_races_of_files};
 use gr_record::fault::Fault;
 use gr_replay::replay;
 use gr_report::report::Report;
@@ -121,7 +119,7 @@ fn perform<R: Read, W: Write, E: Write>(
     writer: &mut W,
     errors: &mut E,
 ) -> u8
-    ensures { IsAnswerOf task (R.remaining reader.old) (W.contents writer.old) (W.contents writer.new) (E.contents errors.old) (E.contents errors.new) result }
+    ensures { IsAnswerOf (R.remaining reader.old) (W.contents writer.old) (W.contents writer.new) (E.contents errors.old) (E.contents errors.new) result task }
 {
     match task {
         Task::Replay => conclude(replay(alloc, reader, writer), errors),
@@ -153,17 +151,9 @@ fn show<T: Read + Drop, O: Fn(&str) -> io::Result<T>, W: Write, E: Write>(
     errors: &mut E,
 ) -> u8
     requires { O.IsAlwaysCallable opener }
-    ensures { IsDisplay T.remaining (FnReturnsAt O.Fn opener) (map (λ s. s.now) question.now.files.items) question.now.long question.now.word (W.contents writer.old) (W.contents writer.new) (E.contents errors.old) (E.contents errors.new) result }
+    ensures { IsDisplay T.remaining (FnReturnsAt O.Fn opener) (W.contents writer.old) (W.contents writer.new) (E.contents errors.old) (E.contents errors.new) result (word_of question.now) }
 {
     conclude_showing(show_word(alloc, question, opener, writer), errors)
-}
-
-/// Tells that the words name no word of memory.
-fn explain_misnaming<E: Write>(errors: &mut E) -> u8
-    ensures { result ≡ USAGE }
-{
-    let _ = errors.write_all(MISNAMED);
-    USAGE
 }
 
 /// Tells of a fault of races on standard error, and gives its status. That standard error fails is passed over.
@@ -197,19 +187,42 @@ fn list<T: Read + Drop, O: Fn(&str) -> io::Result<T>, W: Write, E: Write>(
     errors: &mut E,
 ) -> u8
     requires { O.IsAlwaysCallable opener }
-    ensures { IsRacesDisplay T.remaining (FnReturnsAt O.Fn opener) (map (λ s. s.now) listing.now.files.items) (options_of listing.now) (W.contents writer.old) (W.contents writer.new) (E.contents errors.old) (E.contents errors.new) result }
+    ensures { IsRacesDisplay T.remaining (FnReturnsAt O.Fn opener) (W.contents writer.old) (W.contents writer.new) (E.contents errors.old) (E.contents errors.new) result (races_of listing.now) }
 {
+    let sides = SideNames {
+        places: listing.places,
+        buffers: listing.buffers,
+    };
     let files = listing.files.as_slice();
-    let outcome = show_races_of_files(alloc, &listing.sides, files, opener, listing.most, writer);
+    let outcome = show_races_of_files(alloc, &sides, files, opener, listing.most, writer);
     conclude_listing(outcome, errors)
 }
 
-/// Tells that the words have no number of kinds.
-fn explain_miscounting<E: Write>(errors: &mut E) -> u8
-    ensures { result ≡ USAGE }
+/// Tells of a check that failed, and gives the status of what came of it.
+fn conclude_check<E: Write>(outcome: Result<bool, Fault>, errors: &mut E) -> u8
+    ensures accepted { IfOk outcome (λ accepted. result ≡ check_status accepted) }
+    ensures silent { OnOk outcome (Keeps (E.contents errors.old) (E.contents errors.new)) }
+    ensures fault { IfErr outcome (λ fault. result ≡ fault_status fault) }
+    ensures told { IfErr outcome (λ fault. AppendsPrefix (E.contents errors.old) (E.contents errors.new) (fault_line fault)) }
 {
-    let _ = errors.write_all(MISCOUNTED);
-    USAGE
+    match outcome {
+        Ok(accepted) => status_of_check(accepted),
+        Err(fault) => fail(&fault, errors),
+    }
+}
+
+/// Checks files, and gives the exit status.
+fn check<T: Read + Drop, O: Fn(&str) -> io::Result<T>, W: Write, E: Write>(
+    alloc: Global,
+    files: &[&str],
+    opener: O,
+    writer: &mut W,
+    errors: &mut E,
+) -> u8
+    requires { O.IsAlwaysCallable opener }
+    ensures { IsCheckOutcome T.remaining (FnReturnsAt O.Fn opener) (W.contents writer.old) (W.contents writer.new) (E.contents errors.old) (E.contents errors.new) result (map (λ s. s.now) files.now) }
+{
+    conclude_check(check_files(alloc, files, opener, writer), errors)
 }
 
 /// Runs the launch whose streams are in files, and gives the exit status.
@@ -228,17 +241,50 @@ where
     W: Write,
     E: Write,
     requires { O.IsAlwaysCallable opener }
-    ensures { IsRunAnswer T.remaining (FnReturnsAt O.Fn opener) (map (λ s. s.now) plan.now.files.items) (W.contents writer.old) (W.contents writer.new) (E.contents errors.old) (E.contents errors.new) result }
+    ensures { IsRunAnswer T.remaining (FnReturnsAt O.Fn opener) (W.contents writer.old) (W.contents writer.new) (E.contents errors.old) (E.contents errors.new) result (run_of plan.now).files }
 {
     conclude(run_files(rt, alloc, plan, opener, writer), errors)
 }
 
-/// Tells that the words have no numbers that a run may have.
-fn explain_misconfiguring<E: Write>(errors: &mut E) -> u8
+/// Tells that the words of a command are wrong, though they were taken.
+fn explain_misuse<E: Write>(why: &[u8], errors: &mut E) -> u8
     ensures { result ≡ USAGE }
 {
-    let _ = errors.write_all(MISCONFIGURED);
+    let _ = errors.write_all(why);
     USAGE
+}
+
+/// Does what is requested, and gives the exit status.
+fn answer<H, R, T, O, W, E>(
+    rt: H,
+    alloc: Global,
+    request: Request<'_>,
+    reader: &mut R,
+    opener: O,
+    writer: &mut W,
+    errors: &mut E,
+) -> u8
+where
+    H: Threads + Wait + Clock + Copy + Send + 'static,
+    R: Read,
+    T: Read + Send + Drop + 'static,
+    O: Fn(&str) -> io::Result<T>,
+    W: Write,
+    E: Write,
+    requires { O.IsAlwaysCallable opener }
+    ensures known { result ≤ FAILED }
+    ensures does { IsDone T.remaining (FnReturnsAt O.Fn opener) (R.remaining reader.old) (W.contents writer.old) (W.contents writer.new) (E.contents errors.old) (E.contents errors.new) result (asked_of request.entry) }
+{
+    match request {
+        Request::Perform(task) => perform(alloc, task, reader, writer, errors),
+        Request::Explain(Some(question)) => show(alloc, &question, opener, writer, errors),
+        Request::Races(Some(listing)) => list(alloc, &listing, opener, writer, errors),
+        Request::Run(Some(plan)) => run(rt, alloc, &plan, opener, writer, errors),
+        Request::Check(files) => check(alloc, files.as_slice(), opener, writer, errors),
+        Request::Explain(None) => explain_misuse(MISNAMED, errors),
+        Request::Races(None) => explain_misuse(MISCOUNTED, errors),
+        Request::Run(None) => explain_misuse(MISCONFIGURED, errors),
+    }
 }
 
 /// Does what the words ask for, and gives the exit status. The words are those behind the program's name. Files are opened
@@ -262,30 +308,12 @@ where
     E: Write,
     requires { O.IsAlwaysCallable opener }
     ensures known { result ≤ FAILED }
-    ensures does { (t : AnyTask) → AsksFor t (map S.text words.now) → IsAnswerOf t (R.remaining reader.old) (W.contents writer.old) (W.contents writer.new) (E.contents errors.old) (E.contents errors.new) result }
+    ensures does { (a : Asked) → AsksTo a (map S.text words.now) → IsDone T.remaining (FnReturnsAt O.Fn opener) (R.remaining reader.old) (W.contents writer.old) (W.contents writer.new) (E.contents errors.old) (E.contents errors.new) result a }
     ensures wrong { AreWrong (faults (map S.text words.now)) → ((result ≡ USAGE) ⊎ (result ≡ WANTING)) × Keeps (W.contents writer.old) (W.contents writer.new) }
     ensures help { AreHelp (faults (map S.text words.now)) → (result ≡ NOTHING) ⊎ (result ≡ WANTING) ⊎ (result ≡ FAILED) }
-
-    // The word that is shown, of files: its line, and where the long form is asked for what stands below it.
-    ensures shows { (long : Bool) (w : AnyWord) (names : List (List ℕ)) → AsksToShow long w names (map S.text words.now) → IsDisplay T.remaining (FnReturnsAt O.Fn opener) names long w (W.contents writer.old) (W.contents writer.new) (E.contents errors.old) (E.contents errors.new) result }
-    ensures misnamed { IsMisnamed (map S.text words.now) → ((result ≡ USAGE) ⊎ (result ≡ WANTING)) × Keeps (W.contents writer.old) (W.contents writer.new) }
-
-    // The races that are shown, of files.
-    ensures lists { (options : Options) (names : List (List ℕ)) → AsksForRaces options names (map S.text words.now) → IsRacesDisplay T.remaining (FnReturnsAt O.Fn opener) names options (W.contents writer.old) (W.contents writer.new) (E.contents errors.old) (E.contents errors.new) result }
-    ensures miscounted { IsMiscounted (map S.text words.now) → ((result ≡ USAGE) ⊎ (result ≡ WANTING)) × Keeps (W.contents writer.old) (W.contents writer.new) }
-
-    // The launch that is run in threads, of files.
-    ensures runs { (c : Settings) (names : List (List ℕ)) → AsksToRun c names (map S.text words.now) → IsRunAnswer T.remaining (FnReturnsAt O.Fn opener) names (W.contents writer.old) (W.contents writer.new) (E.contents errors.old) (E.contents errors.new) result }
-    ensures misconfigured { IsMisconfigured (map S.text words.now) → ((result ≡ USAGE) ⊎ (result ≡ WANTING)) × Keeps (W.contents writer.old) (W.contents writer.new) }
 {
     match request_of(alloc, words) {
-        Ok(Request::Perform(task)) => perform(alloc, task, reader, writer, errors),
-        Ok(Request::Show(question)) => show(alloc, &question, opener, writer, errors),
-        Ok(Request::Misnamed) => explain_misnaming(errors),
-        Ok(Request::List(listing)) => list(alloc, &listing, opener, writer, errors),
-        Ok(Request::Miscounted) => explain_miscounting(errors),
-        Ok(Request::Run(plan)) => run(rt, alloc, &plan, opener, writer, errors),
-        Ok(Request::Misconfigured) => explain_misconfiguring(errors),
+        Ok(request) => answer(rt, alloc, request, reader, opener, writer, errors),
         Err(error) => explain_usage(&error, writer, errors),
     }
 }

@@ -8,7 +8,7 @@ ghost use Rattle.gr_report.specs.ReportText.{report_text};
 ghost use Rattle.gr_report.specs.Whole.{whole_of};
 ghost use Rattle.gr_command.specs.Answers.{IsFaultOfFiles, IsReportOfFiles, WritesPrefixOfFiles};
 
-use crate::arguments::Plan;
+use gr_arguments::request::Plan;
 use gr_record::fault::Fault;
 use gr_report::report::Report;
 use gr_show::files::open_all;

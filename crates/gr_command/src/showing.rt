@@ -5,9 +5,10 @@ ghost use Rattle.std.specs.Fn.{FnReturnsAt};
 ghost use Rattle.std.specs.Io.KnownBytes.{Keeps};
 ghost use Rattle.gr_record.specs.declared.fault.Fault.TheVariants as faults;
 ghost use Rattle.gr_show.specs.Opening.{IsFileFault};
+ghost use Rattle.gr_arguments.specs.Asked.{word_of};
 ghost use Rattle.gr_command.specs.Answers.{IsShownOfFiles, ShowsPrefixOfFiles};
 
-use crate::arguments::Question;
+use gr_arguments::request::Question;
 use gr_long::show_account;
 use gr_record::fault::Fault;
 use gr_show::files::open_all;
@@ -27,10 +28,10 @@ pub fn show_word<T: Read + Drop, O: Fn(&str) -> io::Result<T>, W: Write>(
     writer: &mut W,
 ) -> Result<bool, Fault>
     requires { O.IsAlwaysCallable opener }
-    ensures shown { IfOk result (λ found. IsShownOfFiles T.remaining (FnReturnsAt O.Fn opener) (map (λ s. s.now) question.now.files.items) question.now.long question.now.word (W.contents writer.old) (W.contents writer.new) found) }
+    ensures shown { IfOk result (λ found. IsShownOfFiles T.remaining (FnReturnsAt O.Fn opener) (W.contents writer.old) (W.contents writer.new) (word_of question.now) found) }
     ensures fault { IfErr result (λ f. IsFileFault T.remaining (FnReturnsAt O.Fn opener) (map (λ s. s.now) question.now.files.items) f) }
     ensures untouched { IfErr result (λ f. f ≢ faults.Write → Keeps (W.contents writer.old) (W.contents writer.new)) }
-    ensures prefix { IfErr result (λ f. f ≡ faults.Write → ShowsPrefixOfFiles T.remaining (FnReturnsAt O.Fn opener) (map (λ s. s.now) question.now.files.items) question.now.long question.now.word (W.contents writer.old) (W.contents writer.new)) }
+    ensures prefix { IfErr result (λ f. f ≡ faults.Write → ShowsPrefixOfFiles T.remaining (FnReturnsAt O.Fn opener) (W.contents writer.old) (W.contents writer.new) (word_of question.now)) }
 {
     let files = open_all(alloc, question.files.as_slice(), opener)?;
     if question.long {

@@ -2,7 +2,7 @@
 
 ghost use Rattle.std.specs.Prelude.{◌≡◌};
 ghost use Rattle.gr_report.specs.Whole.{whole_of};
-ghost use Rattle.gr_command.specs.Statuses.{fault_status, race_status, races_fault_status, IsReportStatus};
+ghost use Rattle.gr_command.specs.Statuses.{check_status, fault_status, race_status, races_fault_status, IsReportStatus};
 
 use gr_races::fault::RacesFault;
 use gr_record::error::RecordError;
@@ -70,4 +70,11 @@ pub fn status_of_race(found: bool) -> u8
     ensures { result ≡ race_status found }
 {
     if found { FOUND } else { NOTHING }
+}
+
+/// The status of a check, by whether the files are accepted.
+pub fn status_of_check(accepted: bool) -> u8
+    ensures { result ≡ check_status accepted }
+{
+    if accepted { NOTHING } else { REFUSED }
 }

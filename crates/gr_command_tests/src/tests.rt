@@ -433,8 +433,8 @@ const CASES: [Case; 54] = [
     ),
 ];
 
-/// The same of words that ask for a run in threads, for races with side files, or for the long form of explain.
-const CASES_OF_FILES: [Case; 20] = [
+/// The same of words that ask for a run in threads, for races with side files, for the long form of explain, or for a check.
+const CASES_OF_FILES: [Case; 26] = [
     (
         "a racy word in the long form",
         &["explain", "--long", "g", "16", "back"],
@@ -611,6 +611,54 @@ const CASES_OF_FILES: [Case; 20] = [
         "",
         "gpurace: read fault\n",
         5,
+    ),
+    (
+        "a check of a file that is taken",
+        &["check", "none"],
+        &[],
+        "groups 1\nitems 2\nrecords 3\nreads 2\nwrites 0\nloads 0\nstores 0\nrmws 0\nbarriers 0\nends 1\n",
+        "",
+        0,
+    ),
+    (
+        "a check of a file that is cut off",
+        &["check", "cut"],
+        &[],
+        "gpurace: stream 0: truncated\nfile cut\nrecord 0 byte 12\nwrong: ",
+        "",
+        2,
+    ),
+    (
+        "a check of two files of one group",
+        &["check", "race", "none"],
+        &[],
+        "gpurace: stream 1: group given twice\nfile none\nbeside race\nwrong: ",
+        "",
+        2,
+    ),
+    (
+        "a check of a file that is not there",
+        &["check", "race", "missing"],
+        &[],
+        "",
+        "gpurace: read fault\n",
+        5,
+    ),
+    (
+        "a check of no file",
+        &["check"],
+        &[],
+        "",
+        "error: the following required arguments were not provided:\n  <FILE>...\n",
+        3,
+    ),
+    (
+        "help on check",
+        &["check", "--help"],
+        &[],
+        "Tells which record of which file is at fault",
+        "",
+        0,
     ),
 ];
 

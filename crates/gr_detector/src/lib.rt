@@ -7,5 +7,6 @@ mod joins;
 pub mod running;
 mod setup;
 pub mod start;
+mod stop;
 
 pub use gr_threads::watch::{NoWatch, Watch};

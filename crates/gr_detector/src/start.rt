@@ -1,12 +1,14 @@
 //! The start of a run.
 
-ghost use Rattle.std.specs.Prelude.{◌≡◌, ◌≤◌, [], IfOk, IfSome, vec_capacity, vec_len};
+ghost use Rattle.std.specs.Prelude.{◌≡◌, ◌<◌, ◌≤◌, [], IfErr, IfOk, IfSome, take, vec_capacity, vec_len};
+ghost use Rattle.gr_sequencer_thread.specs.Ends.{begin_line, end_line};
 ghost use Rattle.gr_sequencer_thread.specs.Feeds.{works_of};
 ghost use Rattle.gr_detector.specs.Runs.{AreSendersOf, run_of, worker_queues};
 
 use crate::error::StartError;
 use crate::running::Running;
 use crate::setup::{inlets_of, senders_of, workers_of};
+use crate::stop::{Stopped, stop};
 use gr_model::config::Config;
 use gr_model::memory::Memory;
 use gr_model::shape::Shape;
@@ -15,19 +17,25 @@ use gr_sequencer_thread::begin::Begin;
 use gr_sequencer_thread::thread::SequencerThread;
 use gr_threads::watch::Watch;
 use gr_worker_thread::thread::WorkerThread;
-use gr_worker_thread::worker::Worker;
+use gr_worker_thread::worker::{Worker, WorkerEnd};
 use std::alloc::Allocator;
 use std::sync::{Arc, Wait};
 use std::thread::Threads;
 use std::time::Clock;
 
+/// The workers of a run, with room for all their threads and for what these leave.
+#[derive(Drop)]
+struct Crew<A: Allocator> {
+    workers: Vec<Worker<A>, A>,
+    threads: Vec<WorkerThread<A>, A>,
+    ends: Vec<WorkerEnd<A>, A>,
+}
+
 /// What a run is set up of.
 struct Setup<A: Allocator> {
     senders: Vec<Sender<A>, A>,
     begin: Begin<A>,
-    workers: Vec<Worker<A>, A>,
-    // Room for all workers' threads.
-    threads: Vec<WorkerThread<A>, A>,
+    crew: Crew<A>,
 }
 
 /// Makes all that a run needs, before any thread is started.
@@ -38,23 +46,29 @@ fn set_up<A: Allocator + Copy>(
 ) -> Result<Setup<A>, Memory>
     ensures begin { IfOk result (λ s. (s.begin.config ≡ config) × (s.begin.sizes ≡ shape)) }
     ensures senders { IfOk result (λ s. AreSendersOf (run_of s.begin) s.senders.items) }
-    ensures workers { IfOk result (λ s. worker_queues s.workers.items ≡ works_of s.begin.givers) }
-    ensures room { IfOk result (λ s. (s.threads.items ≡ []) × (vec_len s.workers ≤ vec_capacity s.threads)) }
+    ensures workers { IfOk result (λ s. worker_queues s.crew.workers.items ≡ works_of s.begin.givers) }
+    ensures none { IfOk result (λ s. (s.crew.threads.items ≡ []) × (s.crew.ends.items ≡ [])) }
+    ensures room { IfOk result (λ s. (vec_len s.crew.workers ≤ vec_capacity s.crew.threads) × (vec_len s.crew.workers ≤ vec_capacity s.crew.ends)) }
 {
     let mut inlets = inlets_of(alloc, config)?;
     let senders = senders_of(alloc, &shape, &mut inlets)?;
     let (outlets, workers) = workers_of(alloc, config)?;
     let threads = Vec::with_capacity(alloc, workers.len())?;
+    let ends = Vec::with_capacity(alloc, workers.len())?;
     let begin = Begin::new(config, shape, inlets, outlets);
+    let crew = Crew {
+        workers,
+        threads,
+        ends,
+    };
     Ok(Setup {
         senders,
         begin,
-        workers,
-        threads,
+        crew,
     })
 }
 
-/// Starts the threads of all workers. Where one can't be started, those that were come back.
+/// Starts the threads of all workers, in order. Where one can't be started, the threads of those before it come back.
 fn start_all<
     R: Threads + Wait + Clock + Copy + Send + 'static,
     A: Allocator + Copy + Send + Sync + Drop + 'static,
@@ -68,7 +82,9 @@ fn start_all<
 ) -> Result<Vec<WorkerThread<A>, A>, Vec<WorkerThread<A>, A>>
     requires none { threads.items ≡ [] }
     requires room { vec_len workers ≤ vec_capacity threads }
-    ensures { IfOk result (λ v. v.items ≡ workers.items) }
+    ensures all { IfOk result (λ v. v.items ≡ workers.items) }
+    ensures first { IfErr result (λ v. v.items ≡ take (vec_len v) workers.items) }
+    ensures fewer { IfErr result (λ v. vec_len v < vec_len workers) }
 {
     let mut threads = threads;
     for worker in workers {
@@ -92,21 +108,47 @@ fn start_one<
     WorkerThread::start(rt, alloc, worker, watch)
 }
 
-/// Ends the threads of a run in which a worker's is missing: all streams get their ends.
-fn stop<R: Threads + Wait + Clock, A: Allocator>(
-    rt: &R,
+/// What the threads of a run are, once all of them were started: the sequencer's and the workers', with the senders.
+struct Started<A: Allocator> {
     senders: Vec<Sender<A>, A>,
     sequencer: SequencerThread<A>,
-    workers: Vec<WorkerThread<A>, A>,
-) {
-    for sender in senders {
-        let mut sender = sender;
-        // It refuses nothing: the sender is open, and waits until there is room.
-        let _ = sender.close_wait(rt, true);
-    }
-    drop(sequencer.join(rt));
-    for worker in workers {
-        drop(worker.join(rt));
+    threads: Vec<WorkerThread<A>, A>,
+}
+
+/// Starts the threads of all workers, where that of the sequencer was started. Where one can't be started, the run is
+/// stopped: what its threads leave comes back, that of the sequencer and those of the workers before it.
+fn start_workers<
+    R: Threads + Wait + Clock + Copy + Send + 'static,
+    A: Allocator + Copy + Send + Sync + Drop + 'static,
+    W: Watch + Send + Sync + Drop + 'static,
+>(
+    rt: R,
+    alloc: A,
+    senders: Vec<Sender<A>, A>,
+    sequencer: SequencerThread<A>,
+    crew: Crew<A>,
+    watch: &Arc<W, A>,
+) -> Result<Started<A>, Stopped<A>>
+    requires none { (crew.threads.items ≡ []) × (crew.ends.items ≡ []) }
+    requires room { (vec_len crew.workers ≤ vec_capacity crew.threads) × (vec_len crew.workers ≤ vec_capacity crew.ends) }
+    ensures senders { IfOk result (λ s. s.senders.items ≡ senders.items) }
+    ensures sequencer { IfOk result (λ s. s.sequencer ≡ sequencer) }
+    ensures workers { IfOk result (λ s. s.threads.items ≡ crew.workers.items) }
+    ensures sequencer_ended { IfErr result (λ s. end_line s.sequencer ≡ begin_line sequencer) }
+    ensures workers_ended { IfErr result (λ s. worker_queues s.workers.items ≡ worker_queues (take (vec_len s.workers) crew.workers.items)) }
+{
+    let Crew {
+        workers,
+        threads,
+        ends,
+    } = crew;
+    match start_all(rt, alloc, workers, threads, watch) {
+        Ok(threads) => Ok(Started {
+            senders,
+            sequencer,
+            threads,
+        }),
+        Err(threads) => Err(stop(&rt, senders, sequencer, threads, ends)),
     }
 }
 
@@ -145,8 +187,7 @@ pub fn start<
     let Setup {
         senders,
         begin,
-        workers,
-        threads,
+        crew,
     } = setup;
     let Ok(theirs) = Arc::try_clone(&watch) else {
         return Err(StartError::Memory);
@@ -154,11 +195,13 @@ pub fn start<
     let Some(sequencer) = SequencerThread::start(rt, alloc, begin, theirs) else {
         return Err(StartError::Threads);
     };
-    match start_all(rt, alloc, workers, threads, &watch) {
-        Ok(threads) => Ok((senders, Running::of(alloc, groups, sequencer, threads))),
-        Err(threads) => {
-            stop(&rt, senders, sequencer, threads);
-            Err(StartError::Threads)
-        }
-    }
+    let Ok(started) = start_workers(rt, alloc, senders, sequencer, crew, &watch) else {
+        return Err(StartError::Threads);
+    };
+    let Started {
+        senders,
+        sequencer,
+        threads,
+    } = started;
+    Ok((senders, Running::of(alloc, groups, sequencer, threads)))
 }

@@ -6,8 +6,14 @@ mod counts;
 #[cfg(test)]
 mod gates;
 #[cfg(test)]
+mod growths;
+#[cfg(test)]
+mod notes;
+#[cfg(test)]
 mod runs;
 #[cfg(test)]
 mod senders;
 #[cfg(test)]
 mod tests;
+#[cfg(test)]
+mod turns;

@@ -13,7 +13,7 @@ use gr_model::shape::Shape;
 use gr_report::report::Report;
 use gr_sender::receipt::Receipt;
 use gr_sender::sender::Sender;
-use std::alloc::Global;
+use std::alloc::{Allocator, Global};
 use std::sync::{Arc, Wait};
 use std::test::Fail;
 use std::thread::Threads;
@@ -44,13 +44,25 @@ pub fn begin<
     }
 }
 
+/// The last of the senders of a run, or `None` where there is none left.
+pub fn pop_last<A: Allocator>(
+    running: &Running<A>,
+    senders: &mut Vec<Sender<A>, A>,
+) -> Option<Sender<A>>
+    requires { All (IsSender running.now) senders.old.items }
+    ensures left { All (IsSender running.now) senders.new.items }
+    ensures last { IfSome result (IsSender running.now) }
+{
+    senders.pop()
+}
+
 /// The last of the senders of a run.
 pub fn last_of(running: &Running, senders: &mut Vec<Sender>) -> Result<Sender, Fail>
     requires { All (IsSender running.now) senders.old.items }
     ensures left { OnOk result (All (IsSender running.now) senders.new.items) }
     ensures last { IfOk result (IsSender running.now) }
 {
-    match senders.pop() {
+    match pop_last(running, senders) {
         Some(sender) => Ok(sender),
         None => Err("no sender")?,
     }

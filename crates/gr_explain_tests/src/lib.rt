@@ -16,5 +16,3 @@ mod launches;
 mod pairs;
 #[cfg(test)]
 mod shown;
-#[cfg(test)]
-mod words;

@@ -28,11 +28,11 @@ fn keep_input<A: Allocator>(
     Ok(())
 }
 
-/// Reads each reader to its end.
+/// Reads each reader to its end, in their order.
 ///
 /// # Errors
-/// `Read` and `Memory`, as they are met.
-fn read_inputs<A: Allocator + Copy, T: Read + Drop>(
+/// `Read` where a reader fails, or gives no end within 4,294,967,296 calls; `Memory` where a list can't be made.
+pub fn read_inputs<A: Allocator + Copy, T: Read + Drop>(
     alloc: A,
     readers: Vec<T, A>,
 ) -> Result<Vec<Vec<u8, A>, A>, Fault>
@@ -63,7 +63,11 @@ fn read_only_stream<'a>(streams: &[Stream<'a>], bytes: &'a [u8]) -> Result<Strea
 }
 
 /// The streams of these inputs, one in each, in their order.
-fn read_only_streams<'a, A: Allocator + Copy>(
+///
+/// # Errors
+/// The first fault of the streams from the left, `AfterEnd` where bytes stand behind a stream's end; `Memory` where the streams
+/// can't be kept.
+pub fn read_only_streams<'a, A: Allocator + Copy>(
     alloc: A,
     inputs: &'a [Vec<u8, A>],
 ) -> Result<Vec<Stream<'a>, A>, Fault>

@@ -80,7 +80,11 @@ fn put_text<W: Write>(writer: &mut W, fault: Fault) -> Result<(), WriteFault>
     }
 }
 
-fn put_fault<W: Write>(writer: &mut W, fault: Fault) -> Result<(), WriteFault>
+/// Writes the line of the fault (docs/FORMATS.md, "Fault lines"). It takes no memory.
+///
+/// # Errors
+/// `WriteFault` if the writer fails, which has then taken a prefix of the line.
+pub fn put_fault<W: Write>(writer: &mut W, fault: Fault) -> Result<(), WriteFault>
     ensures { Puts (W.contents writer.old) (W.contents writer.new) result (fault_line fault) }
 {
     put(writer, b"gpurace: ")?;
@@ -88,7 +92,7 @@ fn put_fault<W: Write>(writer: &mut W, fault: Fault) -> Result<(), WriteFault>
     put(writer, b"\n")
 }
 
-/// Writes the line of the fault (docs/FORMATS.md, "Fault lines"), and flushes. It takes no memory.
+/// Writes the line of the fault as `put_fault` does, and flushes. It takes no memory.
 ///
 /// # Errors
 /// `WriteFault` if the writer fails, which has then taken a prefix of the line.

@@ -9,7 +9,7 @@ pub mod report;
 mod report_text;
 pub mod rows;
 
-pub use fault_text::write_fault;
+pub use fault_text::{put_fault, write_fault};
 pub use putting::WriteFault;
 pub use report::found;
 pub use report_text::write;

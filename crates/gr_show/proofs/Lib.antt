@@ -1,3 +1,2 @@
-pub mod NamingLemmas
 pub mod OpeningLemmas
 pub mod ShownLemmas

@@ -1,4 +1,3 @@
 pub mod Explanations
-pub mod Naming
 pub mod Opening
 pub mod Shown

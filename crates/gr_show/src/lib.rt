@@ -6,6 +6,5 @@
 pub mod explanation;
 pub mod files;
 mod show;
-pub mod words;
 
 pub use show::show_race;

@@ -2,5 +2,6 @@
 
 mod broken;
 mod ends;
+mod growths;
 mod large;
 mod reports;

@@ -8,7 +8,7 @@ use gr_model::shape::Shape;
 use gr_model::traces::Traces;
 use gr_replay::detect::detect;
 use gr_report::report::Report;
-use std::alloc::Global;
+use std::alloc::{Allocator, Global};
 use std::sync::Arc;
 use std::test::*;
 
@@ -33,7 +33,7 @@ fn detected(alloc: Global) -> Result<Report, Fail> {
 }
 
 /// The words of the races of a report are the global words 50 to 99.
-fn names_the_shared_words(report: &Report) -> bool {
+pub(crate) fn names_the_shared_words<A: Allocator>(report: &Report<A>) -> bool {
     let races = report.races.as_slice();
     let mut number = 50_u32;
     for race in races {

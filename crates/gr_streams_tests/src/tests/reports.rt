@@ -1,7 +1,7 @@
 //! What is written of launches that are accepted.
 
 use crate::inputs::{Input, Races};
-use crate::launches::{LAUNCHES, RACE, RELEASE, packed, packed_all, report_with};
+use crate::launches::{LAUNCHES, RACE, RELEASE, fifty_words, packed, packed_all, report_with};
 use crate::runs::{Plan, config_of, run_bytes};
 use gr_replay::replay;
 use gr_streams::run_streams;
@@ -53,30 +53,12 @@ fn reports_are_those_of_replay(rt: HostRuntime) -> Result<(), Fail> {
     Ok(())
 }
 
-/// The text of a stream of plain accesses by item 0 of a group, one to each of these words.
-fn plain_text(alloc: Global, group: u16, kind: &str, words: (u32, u32)) -> Result<String, Fail> {
-    let mut text = format!(in alloc; "group {group} items 1 launch 7\n")?;
-    for word in words.0..words.1 {
-        text.push_str(&format!(in alloc; "0 {kind} g {word}\n")?)?;
-    }
-    text.push_str("end\n")?;
-    Ok(text)
-}
-
 #[test]
 fn fifty_words_race_through_queues_of_one_place(rt: HostRuntime) -> Result<(), Fail> {
-    let writes = plain_text(rt.alloc(), 0, "w", (0, 100))?;
-    let reads = plain_text(rt.alloc(), 1, "r", (50, 149))?;
-    let texts = [writes.as_str(), reads.as_str()];
-    let mut lines = format!(in rt.alloc(); "groups 2 items 2 records 201\n")?;
-    for word in 50..100 {
-        lines.push_str(&format!(in rt.alloc(); "race global {word}\n")?)?;
-    }
-    lines.push_str("end races 50 diverge 0 unmatched 0 held 0\n")?;
-    let streams = packed_all(rt.alloc(), &texts)?;
+    let (streams, wanted) = fifty_words(rt.alloc())?;
     let (answer, text) = run_bytes(rt, rt.alloc(), streams, (2, 1, 1))?;
     assert_eq!(rt; answer, Ok(()));
-    assert!(rt; text == report_with(rt.alloc(), &lines)?, "fifty words");
+    assert!(rt; text == wanted, "fifty words");
     Ok(())
 }
 

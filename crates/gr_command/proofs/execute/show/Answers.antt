@@ -1,8 +1,11 @@
-use Rattle.gr_command.proofs.AnswerLemmas.{display_of}
+use Rattle.gr_record.specs.declared.fault.Fault.TheVariants.{Write}
+use Rattle.gr_report.specs.FaultText.{fault_line}
+use Rattle.gr_command.specs.Statuses.{fault_status}
+use Rattle.gr_command.proofs.AnswerLemmas.{outcome_of}
 use Rattle.gr_command.proofs.execute.show.Goals as goal
 
 pub returns : goal.returns
 returns g c =
-    display_of g.T.Read.remaining _ _ c.args.question.now.long _ c.show_word.result _ _ _ _ _
+    outcome_of fault_line fault_status Write _ _ _ _ _ _ _ _ _ (λ found. found) c.show_word.result
     c.show_word.ensures.shown c.show_word.ensures.fault c.show_word.ensures.untouched c.show_word.ensures.prefix
     c.conclude_showing.ensures.race c.conclude_showing.ensures.silent c.conclude_showing.ensures.fault c.conclude_showing.ensures.told

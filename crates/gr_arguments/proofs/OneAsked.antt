@@ -1,0 +1,75 @@
+-- Words ask for one thing at most.
+use Rattle.std.proofs.Common.{◌≡◌, ◌∙◌, List, Option, None, Some, Bool, true, false, true≢false, sym, ap, codes, refl, subst}
+use Rattle.std.specs.Str.{bytes_eq}
+use Rattle.clap.specs.Walk.{Row, Text}
+use Rattle.gr_arguments.specs.declared.request.Task.{Task}
+use Rattle.gr_arguments.specs.declared.request.Task.TheVariants.{Replay, Pack, Dump, Upgrade}
+use Rattle.gr_arguments.specs.Asked.{Asked, AsksTo, IsAskedBy, IsAskedRaces, IsAskedRun, IsAskedWord, IsTheOne, check, explain, perform, races, run}
+use Rattle.gr_arguments.specs.Commands.{command_of, name_met, name_of, values_met}
+use Rattle.gr_arguments.specs.Plain.{WordsAskOnce}
+use Rattle.gr_arguments.proofs.Asking.{one_races, one_run, one_word}
+
+-- texts that differ are not the same
+apart : (x y : Text) → bytes_eq x y ≡ false → bytes_eq x x ≡ true → x ≡ y → ⊥
+apart x y differ same e = true≢false (sym same ∙ ap (λ (z : Text). bytes_eq x z) e ∙ differ)
+
+task_apart : (t : Task) (y : Text) → bytes_eq (codes "replay") y ≡ false → bytes_eq (codes "pack") y ≡ false → bytes_eq (codes "dump") y ≡ false → bytes_eq (codes "upgrade") y ≡ false → name_of t ≡ y → ⊥
+task_apart Replay y replay pack dump upgrade e = apart (codes "replay") y replay refl e
+task_apart Pack y replay pack dump upgrade e = apart (codes "pack") y pack refl e
+task_apart Dump y replay pack dump upgrade e = apart (codes "dump") y dump refl e
+task_apart Upgrade y replay pack dump upgrade e = apart (codes "upgrade") y upgrade refl e
+
+one_task : (t u : Task) → name_of t ≡ name_of u → t ≡ u
+one_task Replay Replay e = refl
+one_task Pack Pack e = refl
+one_task Dump Dump e = refl
+one_task Upgrade Upgrade e = refl
+one_task Replay Pack e = absurd (apart (codes "replay") (codes "pack") refl refl e)
+one_task Replay Dump e = absurd (apart (codes "replay") (codes "dump") refl refl e)
+one_task Replay Upgrade e = absurd (apart (codes "replay") (codes "upgrade") refl refl e)
+one_task Pack Replay e = absurd (apart (codes "pack") (codes "replay") refl refl e)
+one_task Pack Dump e = absurd (apart (codes "pack") (codes "dump") refl refl e)
+one_task Pack Upgrade e = absurd (apart (codes "pack") (codes "upgrade") refl refl e)
+one_task Dump Replay e = absurd (apart (codes "dump") (codes "replay") refl refl e)
+one_task Dump Pack e = absurd (apart (codes "dump") (codes "pack") refl refl e)
+one_task Dump Upgrade e = absurd (apart (codes "dump") (codes "upgrade") refl refl e)
+one_task Upgrade Replay e = absurd (apart (codes "upgrade") (codes "replay") refl refl e)
+one_task Upgrade Pack e = absurd (apart (codes "upgrade") (codes "pack") refl refl e)
+one_task Upgrade Dump e = absurd (apart (codes "upgrade") (codes "dump") refl refl e)
+
+-- of what one thing at most is, there is one
+the_one : {X : Type 0} (P : X → Type 0) → ((x y : X) → P x → P y → x ≡ y) → (o p : Option X) → IsTheOne P o → IsTheOne P p → o ≡ p
+the_one P one None None none none_too = refl
+the_one P one None (Some y) none is = absurd (none y is)
+the_one P one (Some x) None is none = absurd (none x is)
+the_one P one (Some x) (Some y) is is_too = ap Some (one x y is is_too)
+
+one_asked : (name : Text) (rows : List Row) (a b : Asked) → IsAskedBy name rows a → IsAskedBy name rows b → a ≡ b
+one_asked name rows (perform t) (perform u) h k = ap perform (one_task t u (sym h ∙ k))
+one_asked name rows (explain o) (explain p) h k = ap explain (the_one (IsAskedWord rows) (one_word rows) o p h.1 k.1)
+one_asked name rows (races o) (races p) h k = ap races (the_one (IsAskedRaces rows) (one_races rows) o p h.1 k.1)
+one_asked name rows (run o) (run p) h k = ap run (the_one (IsAskedRun rows) (one_run rows) o p h.1 k.1)
+one_asked name rows (check some) (check other) h k = ap check (sym h.1 ∙ k.1)
+one_asked name rows (perform t) (explain p) h k = absurd (task_apart t (codes "explain") refl refl refl refl (sym h ∙ k.0))
+one_asked name rows (perform t) (races p) h k = absurd (task_apart t (codes "races") refl refl refl refl (sym h ∙ k.0))
+one_asked name rows (perform t) (run p) h k = absurd (task_apart t (codes "run") refl refl refl refl (sym h ∙ k.0))
+one_asked name rows (explain o) (perform u) h k = absurd (task_apart u (codes "explain") refl refl refl refl (sym k ∙ h.0))
+one_asked name rows (races o) (perform u) h k = absurd (task_apart u (codes "races") refl refl refl refl (sym k ∙ h.0))
+one_asked name rows (run o) (perform u) h k = absurd (task_apart u (codes "run") refl refl refl refl (sym k ∙ h.0))
+one_asked name rows (explain o) (races p) h k = absurd (apart (codes "explain") (codes "races") refl refl (sym h.0 ∙ k.0))
+one_asked name rows (explain o) (run p) h k = absurd (apart (codes "explain") (codes "run") refl refl (sym h.0 ∙ k.0))
+one_asked name rows (races o) (explain p) h k = absurd (apart (codes "races") (codes "explain") refl refl (sym h.0 ∙ k.0))
+one_asked name rows (races o) (run p) h k = absurd (apart (codes "races") (codes "run") refl refl (sym h.0 ∙ k.0))
+one_asked name rows (run o) (explain p) h k = absurd (apart (codes "run") (codes "explain") refl refl (sym h.0 ∙ k.0))
+one_asked name rows (run o) (races p) h k = absurd (apart (codes "run") (codes "races") refl refl (sym h.0 ∙ k.0))
+one_asked name rows (perform t) (check other) h k = absurd (task_apart t (codes "check") refl refl refl refl (sym h ∙ k.0))
+one_asked name rows (explain o) (check other) h k = absurd (apart (codes "explain") (codes "check") refl refl (sym h.0 ∙ k.0))
+one_asked name rows (races o) (check other) h k = absurd (apart (codes "races") (codes "check") refl refl (sym h.0 ∙ k.0))
+one_asked name rows (run o) (check other) h k = absurd (apart (codes "run") (codes "check") refl refl (sym h.0 ∙ k.0))
+one_asked name rows (check some) (perform u) h k = absurd (task_apart u (codes "check") refl refl refl refl (sym k ∙ h.0))
+one_asked name rows (check some) (explain p) h k = absurd (apart (codes "check") (codes "explain") refl refl (sym h.0 ∙ k.0))
+one_asked name rows (check some) (races p) h k = absurd (apart (codes "check") (codes "races") refl refl (sym h.0 ∙ k.0))
+one_asked name rows (check some) (run p) h k = absurd (apart (codes "check") (codes "run") refl refl (sym h.0 ∙ k.0))
+
+pub words_ask_once : WordsAskOnce
+words_ask_once words a b h k = one_asked (name_met (command_of words)) (values_met (command_of words)) a b h.asks k.asks

@@ -1,0 +1,336 @@
+-- Words that begin with no hyphen, in the walk over the words of a command line.
+use Rattle.std.proofs.Common.{◌≡◌, ◌∙◌, ℕ, Bool, true, false, List, [], ◌∷◌, ◌++◌, Option, Some, None, refl, sym, ap, ap₂, append_assoc, append-nil, codes, arith, subst}
+use Rattle.std.specs.Prelude.{◌==◌, fold, is_some}
+use Rattle.clap.proofs.OnLiterals.{clap_on_literals}
+use Rattle.clap.specs.Kinds.{Kinds, or_else}
+use Rattle.clap.specs.Simple.{App, Shape, built, entered, names_of, subcommand_of, built_leaf, inherited}
+use Rattle.clap.specs.Walk.{Held, Names, Row, Rule, Step, Text, Walk, finished, idle, positional, settled, value, walk, walk_from, nothing_held, walked, rows_after, word_met, after_step}
+use Rattle.clap.specs.Faults.{check_fault, defaults_fault, entered_fault, fault_of, level_fault, settle_fault, step_fault, turn_fault, walk_fault, word_fault}
+use Rattle.clap.specs.declared.parser.matches.ValueSource.TheVariants.{CommandLine, DefaultValue}
+use Rattle.clap.specs.declared.builder.value_parser.ValueParser.TheVariants.{String}
+use Rattle.clap.specs.Values.{reading_of}
+use Rattle.std.specs.Int.{IsInRange}
+use Rattle.std.proofs.lemmas.Bool.Decides.{Decides-eqb}
+use Rattle.std.proofs.lemmas.Str.Parse.{digit_from_value}
+use Rattle.gr_model.specs.declared.event.Word.{Word}
+use Rattle.gr_model.specs.declared.event.Word.TheVariants.{Global, Local}
+use Rattle.gr_arguments.specs.Naming.{IsNumber, Names as NamesWord}
+use Rattle.gr_arguments.specs.Asked.{Asked, AsksTo, IsAskedBy}
+use Rattle.gr_arguments.specs.Asked as asked
+use Rattle.gr_arguments.specs.Commands.{command_of, explaining, faults, gpurace, name_met, values_met}
+use Rattle.gr_arguments.specs.Plain.{ArePlain, IsPlain, LongWordsAsk, PlainWordsAsk, PlainWordsMisname}
+use Rattle.gr_arguments.proofs.Asking.{unnamed}
+
+-- ---- one word
+
+-- where no command is due, such a word is a value, and no fault
+module _ (c : List Rule) (position : ℕ) (h : Held) where
+  idle_value : (word : Text) → IsPlain word → word_met c [] false idle position word h ≡ (h, value)
+  idle_value [] none = absurd none
+  idle_value (x ∷ xs) other = rw other (rw other refl)
+
+  positional_value : (word : Text) → IsPlain word → word_met c [] false positional position word h ≡ (h, value)
+  positional_value [] none = absurd none
+  positional_value (x ∷ xs) other = rw other (rw other refl)
+
+module _ (s : Shape) (h : Held) where
+  idle_fault : (word : Text) → IsPlain word → word_fault s [] false idle word h ≡ []
+  idle_fault [] none = absurd none
+  idle_fault (x ∷ xs) other = rw other (rw other refl)
+
+  positional_no_fault : (word : Text) → IsPlain word → word_fault s [] false positional word h ≡ []
+  positional_no_fault [] none = absurd none
+  positional_no_fault (x ∷ xs) other = rw other (rw other refl)
+
+-- ---- the words behind the command's name
+
+abbrev app : App
+app = built gpurace
+
+abbrev explain : Text
+explain = codes "explain"
+
+abbrev stopped_at : List Text → Walk
+stopped_at rest = record { held = nothing_held; waiting = idle; position = 1; is_trailing = false; stopped = Some (explain, rest) }
+
+enters : walked app.top.rules (names_of app) (walk_from nothing_held) explain ≡ stopped_at []
+unfolding clap_on_literals
+enters = refl
+
+stays : (c : List Rule) (names : Names) (before rest : List Text) → fold (walked c names) (stopped_at before) rest ≡ stopped_at (before ++ rest)
+unfolding walked
+stays c names before [] = ap stopped_at (sym (append-nil before))
+stays c names before (word ∷ rest) = stays c names (before ++ word ∷ []) rest ∙ ap stopped_at (append_assoc before (word ∷ []) rest)
+
+stops : (rest : List Text) → walk app.top.rules (names_of app) nothing_held (explain ∷ rest) ≡ stopped_at rest
+stops rest = ap (λ (w : Walk). fold (walked app.top.rules (names_of app)) w rest) enters ∙ stays app.top.rules (names_of app) [] rest
+
+-- ---- the words of the command
+
+abbrev showing : Shape
+showing = built_leaf (inherited gpurace.top explaining)
+
+abbrev row : Text → List Text → Row
+row id values = record { id = id; values = values; count = None; source = Some CommandLine; reading = reading_of String }
+
+abbrev waiting_at : ℕ → List Row → Text → Text → Walk
+waiting_at position rows id word =
+    record { held = record { rows = rows; pending = Some (id, word ∷ []); skip = 0 }; waiting = idle; position = position; is_trailing = false; stopped = None }
+
+abbrev file_rows : List Text → List Row
+file_rows [] = []
+file_rows (f ∷ fs) = row (codes "FILE") (f ∷ fs) ∷ []
+
+-- the flag, where the long form is asked for, and its row before and behind those of the other words
+abbrev flag_words : Bool → List Text
+flag_words true = codes "--long" ∷ []
+flag_words false = []
+
+abbrev flag_given : Bool → List Row
+flag_given true = row (codes "long") (codes "true" ∷ []) ∷ []
+flag_given false = []
+
+abbrev flag_left_out : Bool → List Row
+flag_left_out true = []
+flag_left_out false = record (row (codes "long") (codes "false" ∷ [])) { source = Some DefaultValue } ∷ []
+
+abbrev begun : Bool → Walk
+begun long = walk_from (record { rows = flag_given long; pending = None; skip = 0 })
+
+takes_flag : walked showing.rules [] (walk_from nothing_held) (codes "--long") ≡ begun true
+unfolding clap_on_literals
+takes_flag = refl
+
+flag_fault : turn_fault showing [] (walk_from nothing_held) (codes "--long") ≡ []
+unfolding clap_on_literals
+flag_fault = refl
+
+begins : (long : Bool) (rest : List Text) → walk showing.rules [] nothing_held (flag_words long ++ rest) ≡ fold (walked showing.rules []) (begun long) rest
+begins true rest = ap (λ (w : Walk). fold (walked showing.rules []) w rest) takes_flag
+begins false rest = refl
+
+begins_without_fault : (long : Bool) (rest : List Text) → walk_fault showing [] (walk_from nothing_held) (flag_words long ++ rest) ≡ walk_fault showing [] (begun long) rest
+unfolding walk_fault
+begins_without_fault true rest = ap₂ (λ (k : Kinds) (w : Walk). or_else k (walk_fault showing [] w rest)) flag_fault takes_flag
+begins_without_fault false rest = refl
+
+module _ (space number : Text) (space_plain : IsPlain space) (number_plain : IsPlain number) where
+  -- the walk behind SPACE, and behind WORD
+  abbrev behind_space : Bool → Walk
+  behind_space long = waiting_at 2 (flag_given long) (codes "SPACE") space
+
+  abbrev behind_number : Bool → Walk
+  behind_number long = waiting_at 3 (flag_given long ++ row (codes "SPACE") (space ∷ []) ∷ []) (codes "WORD") number
+
+  abbrev base : Bool → List Row
+  base long = flag_given long ++ row (codes "SPACE") (space ∷ []) ∷ row (codes "WORD") (number ∷ []) ∷ []
+
+  -- the last file waits for the next word, and those before it are kept
+  abbrev with_files : Bool → List Text → Text → Walk
+  with_files long prefix last =
+      record { held = record { rows = base long ++ file_rows prefix; pending = Some (codes "FILE", last ∷ []); skip = 0 }; waiting = positional; position = 3; is_trailing = false; stopped = None }
+
+  abbrev all_rows : Bool → List Text → List Row
+  all_rows long files = base long ++ file_rows files ++ flag_left_out long
+
+  takes_space : (long : Bool) → walked showing.rules [] (begun long) space ≡ behind_space long
+  unfolding clap_on_literals
+  takes_space true = ap (λ (m : Held × Step). after_step showing.rules space (begun true) m.0 m.1) (idle_value showing.rules 1 (begun true).held space space_plain)
+  takes_space false = ap (λ (m : Held × Step). after_step showing.rules space (begun false) m.0 m.1) (idle_value showing.rules 1 (begun false).held space space_plain)
+
+  takes_number : (long : Bool) → walked showing.rules [] (behind_space long) number ≡ behind_number long
+  unfolding clap_on_literals
+  takes_number true = ap (λ (m : Held × Step). after_step showing.rules number (behind_space true) m.0 m.1) (idle_value showing.rules 2 (behind_space true).held number number_plain)
+  takes_number false = ap (λ (m : Held × Step). after_step showing.rules number (behind_space false) m.0 m.1) (idle_value showing.rules 2 (behind_space false).held number number_plain)
+
+  takes_file : (long : Bool) (file : Text) → IsPlain file → walked showing.rules [] (behind_number long) file ≡ with_files long [] file
+  unfolding clap_on_literals
+  takes_file true file plain = ap (λ (m : Held × Step). after_step showing.rules file (behind_number true) m.0 m.1) (idle_value showing.rules 3 (behind_number true).held file plain)
+  takes_file false file plain = ap (λ (m : Held × Step). after_step showing.rules file (behind_number false) m.0 m.1) (idle_value showing.rules 3 (behind_number false).held file plain)
+
+  next_file : (long : Bool) (prefix : List Text) (last word : Text) → IsPlain word → walked showing.rules [] (with_files long prefix last) word ≡ with_files long (prefix ++ last ∷ []) word
+  unfolding clap_on_literals
+  next_file true [] last word plain = ap (λ (m : Held × Step). after_step showing.rules word (with_files true [] last) m.0 m.1) (positional_value showing.rules 3 (with_files true [] last).held word plain)
+  next_file true (f ∷ fs) last word plain = ap (λ (m : Held × Step). after_step showing.rules word (with_files true (f ∷ fs) last) m.0 m.1) (positional_value showing.rules 3 (with_files true (f ∷ fs) last).held word plain)
+  next_file false [] last word plain = ap (λ (m : Held × Step). after_step showing.rules word (with_files false [] last) m.0 m.1) (positional_value showing.rules 3 (with_files false [] last).held word plain)
+  next_file false (f ∷ fs) last word plain = ap (λ (m : Held × Step). after_step showing.rules word (with_files false (f ∷ fs) last) m.0 m.1) (positional_value showing.rules 3 (with_files false (f ∷ fs) last).held word plain)
+
+  -- the walk over files
+  pub record Ends (long : Bool) (prefix : List Text) (last : Text) (files : List Text) : Type 0 where
+    pub kept : List Text
+    pub waits : Text
+    pub all : kept ++ waits ∷ [] ≡ prefix ++ last ∷ files
+    pub walks : fold (walked showing.rules []) (with_files long prefix last) files ≡ with_files long kept waits
+
+  over_files : (long : Bool) (prefix : List Text) (last : Text) (files : List Text) → ArePlain files → Ends long prefix last files
+  over_files long prefix last [] plain = record { kept = prefix; waits = last; all = refl; walks = refl }
+  over_files long prefix last (file ∷ files) plain =
+      let rest = over_files long (prefix ++ last ∷ []) file files plain.1 in
+      record {
+        kept = rest.kept;
+        waits = rest.waits;
+        all = rest.all ∙ append_assoc prefix (last ∷ []) (file ∷ files);
+        walks = ap (λ (w : Walk). fold (walked showing.rules []) w files) (next_file long prefix last file plain.0) ∙ rest.walks;
+      }
+
+  -- the faults of the words
+
+  space_fault : (long : Bool) → turn_fault showing [] (begun long) space ≡ []
+  unfolding clap_on_literals
+  space_fault true = ap₂ (λ (k : Kinds) (m : Held × Step). or_else k (step_fault showing 1 m.0 m.1)) (idle_fault showing (begun true).held space space_plain) (idle_value showing.rules 1 (begun true).held space space_plain)
+  space_fault false = ap₂ (λ (k : Kinds) (m : Held × Step). or_else k (step_fault showing 1 m.0 m.1)) (idle_fault showing (begun false).held space space_plain) (idle_value showing.rules 1 (begun false).held space space_plain)
+
+  number_fault : (long : Bool) → turn_fault showing [] (behind_space long) number ≡ []
+  unfolding clap_on_literals
+  number_fault true = ap₂ (λ (k : Kinds) (m : Held × Step). or_else k (step_fault showing 2 m.0 m.1)) (idle_fault showing (behind_space true).held number number_plain) (idle_value showing.rules 2 (behind_space true).held number number_plain)
+  number_fault false = ap₂ (λ (k : Kinds) (m : Held × Step). or_else k (step_fault showing 2 m.0 m.1)) (idle_fault showing (behind_space false).held number number_plain) (idle_value showing.rules 2 (behind_space false).held number number_plain)
+
+  file_fault : (long : Bool) (file : Text) → IsPlain file → turn_fault showing [] (behind_number long) file ≡ []
+  unfolding clap_on_literals
+  file_fault true file plain = ap₂ (λ (k : Kinds) (m : Held × Step). or_else k (step_fault showing 3 m.0 m.1)) (idle_fault showing (behind_number true).held file plain) (idle_value showing.rules 3 (behind_number true).held file plain)
+  file_fault false file plain = ap₂ (λ (k : Kinds) (m : Held × Step). or_else k (step_fault showing 3 m.0 m.1)) (idle_fault showing (behind_number false).held file plain) (idle_value showing.rules 3 (behind_number false).held file plain)
+
+  next_fault : (long : Bool) (prefix : List Text) (last word : Text) → IsPlain word → turn_fault showing [] (with_files long prefix last) word ≡ []
+  unfolding clap_on_literals
+  next_fault true [] last word plain =
+      ap₂ (λ (k : Kinds) (m : Held × Step). or_else k (step_fault showing 3 m.0 m.1)) (positional_no_fault showing (with_files true [] last).held word plain) (positional_value showing.rules 3 (with_files true [] last).held word plain)
+  next_fault true (f ∷ fs) last word plain =
+      ap₂ (λ (k : Kinds) (m : Held × Step). or_else k (step_fault showing 3 m.0 m.1)) (positional_no_fault showing (with_files true (f ∷ fs) last).held word plain) (positional_value showing.rules 3 (with_files true (f ∷ fs) last).held word plain)
+  next_fault false [] last word plain =
+      ap₂ (λ (k : Kinds) (m : Held × Step). or_else k (step_fault showing 3 m.0 m.1)) (positional_no_fault showing (with_files false [] last).held word plain) (positional_value showing.rules 3 (with_files false [] last).held word plain)
+  next_fault false (f ∷ fs) last word plain =
+      ap₂ (λ (k : Kinds) (m : Held × Step). or_else k (step_fault showing 3 m.0 m.1)) (positional_no_fault showing (with_files false (f ∷ fs) last).held word plain) (positional_value showing.rules 3 (with_files false (f ∷ fs) last).held word plain)
+
+  files_fault : (long : Bool) (prefix : List Text) (last : Text) (files : List Text) → ArePlain files → walk_fault showing [] (with_files long prefix last) files ≡ []
+  unfolding walk_fault
+  files_fault long prefix last [] plain = refl
+  files_fault long prefix last (file ∷ files) plain =
+      ap₂ (λ (k : Kinds) (w : Walk). or_else k (walk_fault showing [] w files)) (next_fault long prefix last file plain.0) (next_file long prefix last file plain.0) ∙ files_fault long (prefix ++ last ∷ []) file files plain.1
+
+  -- the whole command, from the end of its walk
+
+  of_walk : Walk → Kinds → Kinds
+  of_walk end faults =
+      or_else faults (or_else [] (or_else (settle_fault showing.rules showing.args_override_self end.held) (or_else (defaults_fault (settled showing.rules end.held).rows showing.rules) (check_fault showing (finished showing.rules end.held) false))))
+
+  no_fault_at_end : (long : Bool) (kept : List Text) (waits : Text) → of_walk (with_files long kept waits) [] ≡ []
+  unfolding clap_on_literals of_walk
+  no_fault_at_end true [] waits = refl
+  no_fault_at_end true (f ∷ fs) waits = refl
+  no_fault_at_end false [] waits = refl
+  no_fault_at_end false (f ∷ fs) waits = refl
+
+  rows_at_end : (long : Bool) (kept : List Text) (waits : Text) → finished showing.rules (with_files long kept waits).held ≡ all_rows long (kept ++ waits ∷ [])
+  unfolding clap_on_literals
+  rows_at_end true [] waits = refl
+  rows_at_end true (f ∷ fs) waits = refl
+  rows_at_end false [] waits = refl
+  rows_at_end false (f ∷ fs) waits = refl
+
+  module _ (long : Bool) (file : Text) (files : List Text) (plain : ArePlain (file ∷ files)) where
+    end : Ends long [] file files
+    end = over_files long [] file files plain.1
+
+    walks_all : walk showing.rules [] nothing_held (flag_words long ++ space ∷ number ∷ file ∷ files) ≡ with_files long end.kept end.waits
+    walks_all =
+        begins long (space ∷ number ∷ file ∷ files)
+        ∙ ap (λ (w : Walk). fold (walked showing.rules []) w (number ∷ file ∷ files)) (takes_space long)
+        ∙ ap (λ (w : Walk). fold (walked showing.rules []) w (file ∷ files)) (takes_number long)
+        ∙ ap (λ (w : Walk). fold (walked showing.rules []) w files) (takes_file long file plain.0)
+        ∙ end.walks
+
+    no_word_fault : walk_fault showing [] (walk_from nothing_held) (flag_words long ++ space ∷ number ∷ file ∷ files) ≡ []
+    unfolding walk_fault
+    no_word_fault =
+        begins_without_fault long (space ∷ number ∷ file ∷ files)
+        ∙ ap₂ (λ (k : Kinds) (w : Walk). or_else k (walk_fault showing [] w (number ∷ file ∷ files))) (space_fault long) (takes_space long)
+        ∙ ap₂ (λ (k : Kinds) (w : Walk). or_else k (walk_fault showing [] w (file ∷ files))) (number_fault long) (takes_number long)
+        ∙ ap₂ (λ (k : Kinds) (w : Walk). or_else k (walk_fault showing [] w files)) (file_fault long file plain.0) (takes_file long file plain.0)
+        ∙ files_fault long [] file files plain.1
+
+    pub no_fault_below : level_fault showing [] nothing_held (flag_words long ++ space ∷ number ∷ file ∷ files) false [] ≡ []
+    unfolding of_walk
+    no_fault_below = ap₂ of_walk walks_all no_word_fault ∙ no_fault_at_end long end.kept end.waits
+
+    pub rows_are : rows_after showing.rules [] (flag_words long ++ space ∷ number ∷ file ∷ files) ≡ all_rows long (file ∷ files)
+    rows_are = ap (λ (w : Walk). finished showing.rules w.held) walks_all ∙ rows_at_end long end.kept end.waits ∙ ap (λ (fs : List Text). all_rows long fs) end.all
+
+-- ---- the program
+
+stopped_faults : (s : Shape) (names : Names) (before rest : List Text) → walk_fault s names (stopped_at before) rest ≡ []
+unfolding walk_fault walked
+stopped_faults s names before [] = refl
+stopped_faults s names before (word ∷ rest) = stopped_faults s names (before ++ word ∷ []) rest
+
+of_top : Walk → Kinds → Kinds
+of_top end faults =
+    or_else faults (or_else (entered_fault app end.stopped) (or_else (settle_fault app.top.rules app.top.args_override_self end.held) (or_else (defaults_fault (settled app.top.rules end.held).rows app.top.rules) (check_fault app.top (finished app.top.rules end.held) (is_some (entered app end.stopped))))))
+
+name_fault : turn_fault app.top (names_of app) (walk_from nothing_held) explain ≡ []
+unfolding clap_on_literals
+name_fault = refl
+
+faults_are_below : (rest : List Text) → fault_of gpurace (explain ∷ rest) ≡ of_top (stopped_at rest) []
+unfolding of_top walk_fault
+faults_are_below rest =
+    ap₂ of_top (stops rest) (ap₂ (λ (k : Kinds) (w : Walk). or_else k (walk_fault app.top (names_of app) w rest)) name_fault enters ∙ stopped_faults app.top (names_of app) [] rest)
+
+below_is : (rest : List Text) → of_top (stopped_at rest) [] ≡ or_else (level_fault showing [] nothing_held rest false []) []
+unfolding of_top clap_on_literals
+below_is rest = refl
+
+met_is : (rest : List Text) → subcommand_of gpurace (explain ∷ rest) ≡ Some (explain, rows_after showing.rules [] rest)
+unfolding clap_on_literals
+met_is rest = ap (λ (w : Walk). entered app w.stopped) (stops rest)
+
+-- what names a word is no option
+
+no_hyphen : (x : ℕ) → IsInRange 48 57 x → (x == 45) ≡ false
+no_hyphen x digit = go (x == 45) refl
+  where
+    go : (b : Bool) → (x == 45) ≡ b → b ≡ false
+    go false e = refl
+    go true e = let same : x ≡ 45 = (Decides-eqb x 45).0 e in absurd (omega (arith, same, digit.0))
+
+number_is_plain : (text : Text) (n : ℕ) → IsNumber text n → IsPlain text
+number_is_plain [] n is = absurd (omega (arith, is.digits.0))
+number_is_plain (x ∷ xs) n is = no_hyphen x (digit_from_value x is.digits.1.0)
+
+words_are_plain : (space number : Text) (w : Word) → NamesWord space number w → IsPlain space × IsPlain number
+words_are_plain space number (Global n) named = (subst IsPlain (sym named.0) refl, number_is_plain number n named.1)
+words_are_plain space number (Local g n) named = (subst IsPlain (sym named.0.spelled) refl, number_is_plain number n named.1)
+
+is_taken : (words : List Text) → fault_of gpurace words ≡ [] → faults words ≡ []
+unfolding faults
+is_taken words none = none
+
+is_met : (words : List Text) (rows : List Row) → subcommand_of gpurace words ≡ Some (explain, rows) → command_of words ≡ Some (explain, rows)
+unfolding command_of
+is_met words rows met = met
+
+-- such words ask for what the command `explain` asks for with their values
+plain_words_ask_by : (long : Bool) (space number file : Text) (files : List Text) (space_plain : IsPlain space) (number_plain : IsPlain number) → ArePlain (file ∷ files) → (a : Asked) → IsAskedBy explain (all_rows space number space_plain number_plain long (file ∷ files)) a → AsksTo a (explain ∷ flag_words long ++ space ∷ number ∷ file ∷ files)
+plain_words_ask_by long space number file files space_plain number_plain plain a asks =
+    let rest = flag_words long ++ space ∷ number ∷ file ∷ files in
+    let met = is_met (explain ∷ rest) _ (met_is rest ∙ ap (λ (rows : List Row). Some (explain, rows)) (rows_are space number space_plain number_plain long file files plain)) in
+    record {
+      taken = is_taken (explain ∷ rest) (faults_are_below rest ∙ below_is rest ∙ ap (λ (k : Kinds). or_else k []) (no_fault_below space number space_plain number_plain long file files plain));
+      asks = subst (λ (c : Option (Text × List Row)). IsAskedBy (name_met c) (values_met c) a) (sym met) asks;
+    }
+
+pub plain_words_ask : PlainWordsAsk
+plain_words_ask space number file files w named plain =
+    let texts = words_are_plain space number w named in
+    plain_words_ask_by false space number file files texts.0 texts.1 plain (asked.explain (Some (record { long = false; word = w; files = file ∷ files })))
+    (refl, record { form = refl; named = record { space = space; number = number; at_space = refl; at_number = refl; names = named }; at_files = refl })
+
+pub long_words_ask : LongWordsAsk
+long_words_ask space number file files w named plain =
+    let texts = words_are_plain space number w named in
+    plain_words_ask_by true space number file files texts.0 texts.1 plain (asked.explain (Some (record { long = true; word = w; files = file ∷ files })))
+    (refl, record { form = refl; named = record { space = space; number = number; at_space = refl; at_number = refl; names = named }; at_files = refl })
+
+pub plain_words_misname : PlainWordsMisname
+plain_words_misname space number file files none plain =
+    plain_words_ask_by false space number file files plain.0 plain.1.0 plain.1.1 (asked.explain None)
+    (refl, unnamed (all_rows space number plain.0 plain.1.0 false (file ∷ files)) space number refl refl none)

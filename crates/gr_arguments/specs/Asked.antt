@@ -1,0 +1,139 @@
+-- What the words of a command line ask for.
+use Rattle.std.specs.Prelude.{◌≡◌, ◌⊎◌, ℕ, Bool, false, List, [], Option, None, Some, MatchOption, codes, map, option_map}
+use Rattle.std.specs.Option.{option_map_or}
+use Rattle.std.specs.Str.{bytes_eq}
+use Rattle.clap.specs.Walk.{Row, Text, all_of, first_of}
+use Rattle.gr_model.specs.declared.event.Word.{Word}
+use Rattle.gr_model.specs.Configs.{IsConfig, Settings}
+use Rattle.gr_arguments.specs.Naming.{IsNumber, Names}
+use Rattle.gr_arguments.specs.declared.request.Listing.{Listing}
+use Rattle.gr_arguments.specs.declared.request.Plan.{Plan}
+use Rattle.gr_arguments.specs.declared.request.Question.{Question}
+use Rattle.gr_arguments.specs.declared.request.Request.{Request}
+use Rattle.gr_arguments.specs.declared.request.Request.TheVariants as request
+use Rattle.gr_arguments.specs.declared.request.Task.{Task}
+use Rattle.gr_arguments.specs.Commands.{command_of, faults, name_met, name_of, values_met}
+
+-- the files that the values have
+abbrev pub files_of : List Row → List Text
+files_of rows = option_map_or (λ files. files) (all_of (codes "FILE") rows) []
+
+-- whether the values have a flag: the value of a flag that is there is `true`
+abbrev pub has_flag : Text → List Row → Bool
+has_flag flag rows = option_map_or (λ text. bytes_eq text (codes "true")) (first_of flag rows) false
+
+-- ---- one word of a launch
+
+-- whether in the long form, which word, and in which files the streams of the launch are
+pub record AskedWord : Type 0 where
+  pub long : Bool
+  pub word : Word
+  pub files : List Text
+
+-- the values name the word
+pub record NamesWord (rows : List Row) (w : Word) : Type 0 where
+  pub space : Text
+  pub number : Text
+  pub at_space : first_of (codes "SPACE") rows ≡ Some space
+  pub at_number : first_of (codes "WORD") rows ≡ Some number
+  pub names : Names space number w
+
+-- the values of the command `explain` ask for this
+pub record IsAskedWord (rows : List Row) (a : AskedWord) : Type 0 where
+  pub form : has_flag (codes "long") rows ≡ a.long
+  pub named : NamesWord rows a.word
+  pub at_files : files_of rows ≡ a.files
+
+-- ---- all races of a launch
+
+-- of how many kinds at most, with which side files, and in which files the streams are
+pub record AskedRaces : Type 0 where
+  pub most : Option ℕ
+  pub places : Option Text
+  pub buffers : Option Text
+  pub files : List Text
+
+-- how many kinds the values ask for: a number, or none where the option is not there
+abbrev pub IsMost : List Row → Option ℕ → Type 0
+IsMost rows None = first_of (codes "most") rows ≡ None
+IsMost rows (Some n) = (text : Text) × (first_of (codes "most") rows ≡ Some text) × IsNumber text n
+
+-- the values of the command `races` ask for this
+pub record IsAskedRaces (rows : List Row) (a : AskedRaces) : Type 0 where
+  pub most : IsMost rows a.most
+  pub places : first_of (codes "places") rows ≡ a.places
+  pub buffers : first_of (codes "buffers") rows ≡ a.buffers
+  pub at_files : files_of rows ≡ a.files
+
+-- ---- a run in threads
+
+-- how it is set up, and in which files the streams are
+pub record AskedRun : Type 0 where
+  pub config : Settings
+  pub files : List Text
+
+-- the number that an option has, or else this one where the option is not there
+abbrev pub IsNumberOr : List Row → Text → ℕ → ℕ → Type 0
+IsNumberOr rows option default n = ((first_of option rows ≡ None) × (n ≡ default)) ⊎ ((text : Text) × (first_of option rows ≡ Some text) × IsNumber text n)
+
+-- the values have these numbers of workers, queues and places, which a run may have
+pub record IsSetUp (rows : List Row) (c : Settings) : Type 0 where
+  pub workers : IsNumberOr rows (codes "workers") 2 c.workers
+  pub queues : IsNumberOr rows (codes "queues") 1 c.queues
+  pub capacity : IsNumberOr rows (codes "capacity") 1024 c.capacity
+  pub may_be : IsConfig c
+
+-- the values of the command `run` ask for this
+pub record IsAskedRun (rows : List Row) (a : AskedRun) : Type 0 where
+  pub set_up : IsSetUp rows a.config
+  pub at_files : files_of rows ≡ a.files
+
+-- ---- all that words may ask for
+
+pub data Asked : Type 0 where
+  -- a task over standard input
+  perform : Task → Asked
+  -- one word; none where the values name no word of memory
+  explain : Option AskedWord → Asked
+  -- all races; none where the number of kinds is no number
+  races : Option AskedRaces → Asked
+  -- a run in threads; none where the numbers set up no run
+  run : Option AskedRun → Asked
+  -- which record of which of these files is at fault, or how many records of each kind there are
+  check : List Text → Asked
+
+-- this is the one that has the property, or nothing has it
+abbrev pub IsTheOne : {X : Type 0} → (X → Type 0) → Option X → Type 0
+IsTheOne P o = MatchOption o ((x : _) → ¬ P x) P
+
+-- the command of this name asks for this with these values
+abbrev pub IsAskedBy : Text → List Row → Asked → Type 0
+IsAskedBy name rows (perform t) = name ≡ name_of t
+IsAskedBy name rows (explain o) = (name ≡ codes "explain") × IsTheOne (IsAskedWord rows) o
+IsAskedBy name rows (races o) = (name ≡ codes "races") × IsTheOne (IsAskedRaces rows) o
+IsAskedBy name rows (run o) = (name ≡ codes "run") × IsTheOne (IsAskedRun rows) o
+IsAskedBy name rows (check files) = (name ≡ codes "check") × (files_of rows ≡ files)
+
+-- the words are taken, and ask for this
+pub record AsksTo (a : Asked) (words : List Text) : Type 0 where
+  pub taken : faults words ≡ []
+  pub asks : IsAskedBy (name_met (command_of words)) (values_met (command_of words)) a
+
+-- ---- requests
+
+abbrev pub word_of : Question → AskedWord
+word_of q = record { long = q.long; word = q.word; files = map (λ s. s.now) q.files.items }
+
+abbrev pub races_of : Listing → AskedRaces
+races_of l = record { most = l.most; places = option_map (λ s. s.now) l.places; buffers = option_map (λ s. s.now) l.buffers; files = map (λ s. s.now) l.files.items }
+
+abbrev pub run_of : Plan → AskedRun
+run_of p = record { config = p.config; files = map (λ s. s.now) p.files.items }
+
+-- what a request stands for
+abbrev pub asked_of : Request → Asked
+asked_of (request.Perform t) = perform t
+asked_of (request.Explain o) = explain (option_map word_of o)
+asked_of (request.Races o) = races (option_map races_of o)
+asked_of (request.Run o) = run (option_map run_of o)
+asked_of (request.Check files) = check (map (λ s. s.now) files.items)

@@ -1,0 +1,106 @@
+-- The commands by which the words of a command line are read, and why words are not taken.
+use Rattle.std.specs.Prelude.{◌≡◌, ◌≢◌, ◌⊎◌, ℕ, true, List, [], ◌∷◌, Option, Some, codes, if◌then◌else◌}
+use Rattle.std.specs.Option.{option_map_or}
+use Rattle.std.specs.Str.{bytes_eq}
+use Rattle.std.specs.List.{list_any}
+use Rattle.clap.specs.declared.builder.action.ArgAction.TheVariants.{Append, SetTrue}
+use Rattle.clap.specs.declared.error.kind.ErrorKind.{ErrorKind}
+use Rattle.clap.specs.declared.error.kind.ErrorKind.TheVariants.{DisplayHelp, DisplayVersion, OutOfMemory}
+use Rattle.clap.specs.Walk.{Row, Text}
+use Rattle.clap.specs.Words.{App, IsAmong, Rule, Shape, fault_of, new_app, new_rule, subcommand_of, with_rule, with_subcommand}
+use Rattle.gr_arguments.specs.declared.request.Task.{Task}
+use Rattle.gr_arguments.specs.declared.request.Task.TheVariants.{Replay, Pack, Dump, Upgrade}
+
+-- the command of a task
+abbrev pub name_of : Task → Text
+name_of Replay = codes "replay"
+name_of Pack = codes "pack"
+name_of Dump = codes "dump"
+name_of Upgrade = codes "upgrade"
+
+-- the program, whose words come without its own name
+abbrev pub alone : Shape
+alone = record (new_app (codes "gpurace")).top { no_binary_name = true; has_version = true }
+
+-- the program with its commands
+abbrev pub command_named : Text → Shape
+command_named name = (new_app name).top
+
+-- a value that has to be given, and the files, of which there is one at least
+abbrev pub wanted : Text → Rule
+wanted id = record (new_rule id) { required = true }
+
+abbrev pub wanted_files : Rule
+wanted_files = record (wanted (codes "FILE")) { action = Some Append }
+
+-- an option that is there or not
+abbrev pub flag_rule : Text → Rule
+flag_rule id = record (new_rule id) { long = Some id; action = Some SetTrue }
+
+-- an option with a value
+abbrev pub option_rule : Text → Rule
+option_rule id = record (new_rule id) { long = Some id; value_names = 1 }
+
+-- the command that shows one word: whether in the long form, the word, and the files
+abbrev pub explaining : Shape
+explaining = (with_rule (with_rule (with_rule (with_rule (new_app (codes "explain")) (flag_rule (codes "long"))) (wanted (codes "SPACE"))) (wanted (codes "WORD"))) wanted_files).top
+
+-- the command that shows all races: how many kinds at most, the side files, and the files
+abbrev pub racing : Shape
+racing = (with_rule (with_rule (with_rule (with_rule (new_app (codes "races")) (option_rule (codes "most"))) (option_rule (codes "places"))) (option_rule (codes "buffers"))) wanted_files).top
+
+-- the command that runs a launch in threads: how many workers and queues, the places of a queue, and the files
+abbrev pub running : Shape
+running = (with_rule (with_rule (with_rule (with_rule (new_app (codes "run")) (option_rule (codes "workers"))) (option_rule (codes "queues"))) (option_rule (codes "capacity"))) wanted_files).top
+
+-- the command that checks files
+abbrev pub checking : Shape
+checking = (with_rule (new_app (codes "check")) wanted_files).top
+
+abbrev pub tasks : App
+tasks = with_subcommand (with_subcommand (with_subcommand (with_subcommand (record { top = alone; subs = [] }) (command_named (codes "replay"))) (command_named (codes "pack"))) (command_named (codes "dump"))) (command_named (codes "upgrade"))
+
+abbrev pub gpurace : App
+gpurace = with_subcommand (with_subcommand (with_subcommand (with_subcommand tasks explaining) racing) running) checking
+
+-- ---- the command that words name
+
+-- the command and the values of its arguments
+unfoldable pub command_of : List Text → Option (Text × List Row)
+command_of words = subcommand_of gpurace words
+
+-- all commands but `replay`
+abbrev pub other_commands : List Text
+other_commands = codes "pack" ∷ codes "dump" ∷ codes "upgrade" ∷ codes "explain" ∷ codes "races" ∷ codes "run" ∷ codes "check" ∷ []
+
+-- the command of this name: where it is none of the others, it is `replay`
+abbrev pub meant : Text → Text
+meant name = if list_any (λ other. bytes_eq name other) other_commands then name else codes "replay"
+
+-- the name of the command, `replay` where the words name none; and the values
+abbrev pub name_met : Option (Text × List Row) → Text
+name_met command = option_map_or (λ p. meant p.0) command (codes "replay")
+
+abbrev pub values_met : Option (Text × List Row) → List Row
+values_met command = option_map_or (λ p. p.1) command []
+
+-- ---- words that are not taken
+
+-- help was asked for, or the version
+abbrev pub IsHelp : ErrorKind → Type 0
+IsHelp kind = (kind ≡ DisplayHelp) ⊎ (kind ≡ DisplayVersion)
+
+-- the words are wrong
+abbrev pub IsWrongUsage : ErrorKind → Type 0
+IsWrongUsage kind = ¬ IsHelp kind × (kind ≢ OutOfMemory)
+
+-- why the words are not taken, if they are not: what is wrong with the first that is
+unfoldable pub faults : List Text → List ErrorKind
+faults words = fault_of gpurace words
+
+-- the words are wrong, or ask for help, whichever of these kinds the error has
+abbrev pub AreWrong : List ErrorKind → Type 0
+AreWrong kinds = (kinds ≢ []) × ((k : ErrorKind) → IsAmong k kinds → IsWrongUsage k)
+
+abbrev pub AreHelp : List ErrorKind → Type 0
+AreHelp kinds = (kinds ≢ []) × ((k : ErrorKind) → IsAmong k kinds → IsHelp k)

@@ -1,0 +1,4 @@
+pub mod Asked
+pub mod Commands
+pub mod Naming
+pub mod Plain

@@ -1,0 +1,42 @@
+-- Which words ask for what, where no word is an option.
+use Rattle.std.specs.Prelude.{◌≡◌, ◌==◌, false, true, List, [], ◌∷◌, None, Some, ⊤, codes}
+use Rattle.clap.specs.Walk.{Text}
+use Rattle.gr_model.specs.declared.event.Word.{Word}
+use Rattle.gr_arguments.specs.declared.request.Task.{Task}
+use Rattle.gr_arguments.specs.declared.request.Task.TheVariants.{Replay}
+use Rattle.gr_arguments.specs.Asked.{Asked, AsksTo, explain, perform}
+use Rattle.gr_arguments.specs.Commands.{name_of}
+use Rattle.gr_arguments.specs.Naming.{Names}
+
+-- words ask for one thing at most
+abbrev pub WordsAskOnce : Type 0
+WordsAskOnce = (words : List Text) (a b : Asked) → AsksTo a words → AsksTo b words → a ≡ b
+
+-- the name of a task's command asks for the task
+abbrev pub NamesAsk : Type 0
+NamesAsk = (t : Task) → AsksTo (perform t) (name_of t ∷ [])
+
+-- and no word for a report
+abbrev pub NoWordAsks : Type 0
+NoWordAsks = AsksTo (perform Replay) []
+
+-- the word is not empty, and begins with another byte than a hyphen
+abbrev pub IsPlain : Text → Type 0
+IsPlain [] = ⊥
+IsPlain (x ∷ xs) = (x == 45) ≡ false
+
+abbrev pub ArePlain : List Text → Type 0
+ArePlain [] = ⊤
+ArePlain (word ∷ words) = IsPlain word × ArePlain words
+
+-- a word that is named is asked for by the words `explain SPACE WORD FILE..`
+abbrev pub PlainWordsAsk : Type 0
+PlainWordsAsk = (space number file : Text) (files : List Text) (w : Word) → Names space number w → ArePlain (file ∷ files) → AsksTo (explain (Some (record { long = false; word = w; files = file ∷ files }))) (codes "explain" ∷ space ∷ number ∷ file ∷ files)
+
+-- and by the words `explain --long SPACE WORD FILE..`, in the long form
+abbrev pub LongWordsAsk : Type 0
+LongWordsAsk = (space number file : Text) (files : List Text) (w : Word) → Names space number w → ArePlain (file ∷ files) → AsksTo (explain (Some (record { long = true; word = w; files = file ∷ files }))) (codes "explain" ∷ codes "--long" ∷ space ∷ number ∷ file ∷ files)
+
+-- and where the space and the number name none, for none
+abbrev pub PlainWordsMisname : Type 0
+PlainWordsMisname = (space number file : Text) (files : List Text) → ((w : Word) → ¬ Names space number w) → ArePlain (space ∷ number ∷ file ∷ files) → AsksTo (explain None) (codes "explain" ∷ space ∷ number ∷ file ∷ files)

@@ -1,0 +1,299 @@
+//! The program's commands and options, and their help.
+
+ghost use Rattle.std.specs.Prelude.{◌≡◌, false, IfOk};
+ghost use Rattle.clap.specs.declared.builder.command.Command.TheViews.{out-Command as fields_of};
+ghost use Rattle.clap.specs.Walk.{rule_of};
+ghost use Rattle.clap.specs.Words.{app_of, shape_of};
+ghost use Rattle.gr_arguments.specs.Commands.{gpurace, command_named, explaining, flag_rule, option_rule, racing, running, wanted, wanted_files, checking};
+
+use clap::{Arg, ArgAction, Command};
+use std::alloc::{AllocError, Global};
+
+const ABOUT: &str =
+    "Reports the data races of an OpenCL kernel launch, and its divergent barriers, from its trace";
+
+const LONG_ABOUT: &str = "\
+Reports the data races of an OpenCL kernel launch, and its divergent barriers, from a trace of what its work-items did.
+
+A race is that of the OpenCL 2.0 memory model: two accesses of different work-items to one word, at least one of
+them a write, not both atomic with inclusive scope, and neither of which happens before the other. The report is
+exact for the trace: it names each word that has a race, each divergent barrier, each acquire that never gets a
+release it names, and no other.";
+
+const AFTER_HELP: &str = "\
+Examples:
+  gpurace replay < trace.gpurace
+  gpurace pack < trace.txt | gpurace replay
+  gpurace explain g 16 group0.gpurace group1.gpurace
+  gpurace explain --long g 16 group0.gpurace group1.gpurace
+  gpurace races group0.gpurace group1.gpurace
+  gpurace run --workers 4 group0.gpurace group1.gpurace
+  gpurace check group0.gpurace group1.gpurace
+
+Exit status:
+  0  nothing was found, or what was asked for is done
+  1  something was found: a race; by replay and run also a divergent barrier or an unmatched acquire
+  2  the trace was refused; standard error says where and why
+  3  the arguments are wrong
+  4  memory ran out, or a thread could not be started
+  5  reading or writing failed";
+
+const REPLAY: &str =
+    "Reports on the trace on standard input, as in `replay < FILE`; done without a command too";
+
+const PACK: &str =
+    "Writes the bytes of the trace whose text is on standard input, as in `pack < TEXT > FILE`";
+
+const DUMP: &str = "Writes the text of the trace on standard input, as in `dump < FILE`";
+
+const UPGRADE: &str =
+    "Writes the trace on standard input as streams of version 2, as in `upgrade < OLD > NEW`";
+
+const EXPLAIN: &str = "Tells of one word which two accesses race on it";
+
+const LONG_EXPLAIN: &str = "\
+Tells of one word which two accesses race on it, or that it has no race.
+
+The accesses are told as GROUP ITEM INDEX; an item's records are counted from 0. Of all racing pairs it is the least, by
+its first access and then by its second.
+
+With --long three lines stand below that of a race: what the first access is and what the second is, with the number of its
+record in its group's stream, from 0, and how many barriers of its item stand before it; and the cause of the race.
+
+The pair is found without clocks, in time that grows with the accesses to the word times the records of the launch: a trace
+of 100,000 records takes seconds, one of a million may take minutes. Accesses that are held back by an unmatched acquire are
+not judged; what is held, and all else that is no race, replay and run tell.";
+
+const AFTER_EXPLAIN: &str = "\
+Examples:
+  gpurace explain l0 4 group*.gpurace
+  race local 0 4: 0 0 0 with 0 1 0
+
+  gpurace explain --long l0 4 group*.gpurace
+  race local 0 4: 0 0 0 with 0 1 0
+  first write record 0 phase 0
+  second read record 1 phase 0
+  cause no-barrier: nothing orders the two; a barrier with CLK_LOCAL_MEM_FENCE between them would";
+
+const LONG: &str = "Tells also what the two accesses are, and the cause of their race";
+
+const SPACE: &str =
+    "g for global memory, or l with a group from 0 to 63, as l3, for its local memory";
+
+const WORD: &str = "The number of the word, below 4294967296";
+
+const FILES: &str = "The streams of the launch, one in each file";
+
+const RACES: &str = "Tells of all races, kind by kind, with two accesses that race";
+
+const LONG_RACES: &str = "\
+Tells of all words that have a race, kind by kind: which words they are, and of the first of them two accesses that race.
+
+A kind is the memory, what the two accesses do, and whether they are of one work-group. The accesses are told as GROUP ITEM
+INDEX; an item's records are counted from 0. The races are found by clocks, as replay finds them. Divergent barriers, unmatched
+acquires and what these hold back are told by replay and run alone.";
+
+const AFTER_RACES: &str = "\
+Example:
+  gpurace races --most 1 group*.gpurace
+  kind global write read one group words 48
+  words global 896..943
+  race global 896: 0 3 12 with 0 7 14
+  end kinds 1 races 48
+
+With side files, whose lines say where accesses stand and which words are which buffer:
+  gpurace races --places places --buffers buffers --most 1 group*.gpurace
+  kind global write read one group words 48
+  words global 896..943
+  race global 896: 0 3 12 with 0 7 14
+  buffer psc[448]
+  first scan.cl:4992:7
+  second scan.cl:5001:16
+  end kinds 1 races 48";
+
+const MOST: &str = "Of how many kinds to tell at most";
+
+const PLACES: &str = "A file of lines GROUP ITEM INDEX TEXT: where in the source the access stands";
+
+const BUFFERS: &str =
+    "A file of lines g FIRST WORDS NAME or l GROUP FIRST WORDS NAME: which words are which buffer";
+
+const RUN: &str = "Reports on the trace in files, by several threads";
+
+const LONG_RUN: &str = "\
+Reports on the trace in files, by several threads: what is written and the status are those of replay on the same streams.
+
+Each file has a thread that reads it and sends its records on; one thread puts all records in order; workers look for races.
+So the files may be pipes that are still being written; where the whole trace is there already, replay takes less time. A file
+that cannot be opened is told first, and then the headers' faults, in the order of the files.";
+
+const AFTER_RUN: &str = "\
+Example:
+  gpurace run --workers 4 group*.gpurace
+  gpurace 1
+  groups 4 items 1024 records 81920
+  end races 0 diverge 0 unmatched 0 held 0";
+
+const WORKERS: &str = "How many threads look for races, 1 to 8; 2 if not given";
+
+const QUEUES: &str = "How many queues the records come through, 1 to 4; 1 if not given";
+
+const CAPACITY: &str = "For how many records each queue has room, 1 to 65536; 1024 if not given";
+
+const CHECK: &str = "Tells which record of a trace is at fault, and what would be right";
+
+const LONG_CHECK: &str = "\
+Tells which record of which file is at fault, what is wrong with it and what would be right; or, of a trace that is taken, how
+many groups, items and records of each kind it has. It looks for no race.";
+
+const AFTER_CHECK: &str = "\
+Example:
+  gpurace check group*.gpurace";
+
+/// A command without options.
+fn plain_command<'a>(alloc: Global, name: &'a str, about: &'a str) -> Command<'a>
+    ensures shape { shape_of result ≡ command_named name.now }
+    ensures alone { (fields_of result).has_globals ≡ false }
+{
+    Command::new(alloc, name).about(about)
+}
+
+/// An option that is there or not.
+fn flag_arg<'a>(alloc: Global, name: &'a str, help: &'a str) -> Arg<'a>
+    ensures rule { rule_of result ≡ flag_rule name.now }
+    ensures alone { result.global ≡ false }
+{
+    Arg::new(alloc, name)
+        .long(name)
+        .action(ArgAction::SetTrue)
+        .help(help)
+}
+
+/// A value that has to be given.
+fn wanted_arg<'a>(alloc: Global, name: &'a str, help: &'a str) -> Arg<'a>
+    ensures rule { rule_of result ≡ wanted name.now }
+    ensures alone { result.global ≡ false }
+{
+    Arg::new(alloc, name).required(true).help(help)
+}
+
+/// The files, of which there is one at least.
+fn files_arg<'a>(alloc: Global) -> Arg<'a>
+    ensures rule { rule_of result ≡ wanted_files }
+    ensures alone { result.global ≡ false }
+{
+    Arg::new(alloc, "FILE")
+        .required(true)
+        .action(ArgAction::Append)
+        .help(FILES)
+}
+
+/// The command that shows one word.
+fn explain_command<'a>(alloc: Global) -> Result<Command<'a>, AllocError>
+    ensures shape { IfOk result (λ c. shape_of c ≡ explaining) }
+    ensures alone { IfOk result (λ c. (fields_of c).has_globals ≡ false) }
+{
+    let long = flag_arg(alloc, "long", LONG);
+    let space = wanted_arg(alloc, "SPACE", SPACE);
+    let word = wanted_arg(alloc, "WORD", WORD);
+    let files = files_arg(alloc);
+    Command::new(alloc, "explain")
+        .about(EXPLAIN)
+        .long_about(LONG_EXPLAIN)
+        .after_help(AFTER_EXPLAIN)
+        .arg(long)?
+        .arg(space)?
+        .arg(word)?
+        .arg(files)
+}
+
+/// An option with a value.
+fn option_arg<'a>(alloc: Global, name: &'a str, value: &'a str, help: &'a str) -> Arg<'a>
+    ensures rule { rule_of result ≡ option_rule name.now }
+    ensures alone { result.global ≡ false }
+{
+    Arg::new(alloc, name)
+        .long(name)
+        .value_name(value)
+        .help(help)
+}
+
+/// The command that shows all races.
+fn races_command<'a>(alloc: Global) -> Result<Command<'a>, AllocError>
+    ensures shape { IfOk result (λ c. shape_of c ≡ racing) }
+    ensures alone { IfOk result (λ c. (fields_of c).has_globals ≡ false) }
+{
+    let most = option_arg(alloc, "most", "N", MOST);
+    let places = option_arg(alloc, "places", "FILE", PLACES);
+    let buffers = option_arg(alloc, "buffers", "FILE", BUFFERS);
+    let files = files_arg(alloc);
+    Command::new(alloc, "races")
+        .about(RACES)
+        .long_about(LONG_RACES)
+        .after_help(AFTER_RACES)
+        .arg(most)?
+        .arg(places)?
+        .arg(buffers)?
+        .arg(files)
+}
+
+/// The command that runs a launch in threads.
+fn run_command<'a>(alloc: Global) -> Result<Command<'a>, AllocError>
+    ensures shape { IfOk result (λ c. shape_of c ≡ running) }
+    ensures alone { IfOk result (λ c. (fields_of c).has_globals ≡ false) }
+{
+    let workers = option_arg(alloc, "workers", "N", WORKERS);
+    let queues = option_arg(alloc, "queues", "N", QUEUES);
+    let capacity = option_arg(alloc, "capacity", "N", CAPACITY);
+    let files = files_arg(alloc);
+    Command::new(alloc, "run")
+        .about(RUN)
+        .long_about(LONG_RUN)
+        .after_help(AFTER_RUN)
+        .arg(workers)?
+        .arg(queues)?
+        .arg(capacity)?
+        .arg(files)
+}
+
+/// The command that checks files.
+fn check_command<'a>(alloc: Global) -> Result<Command<'a>, AllocError>
+    ensures shape { IfOk result (λ c. shape_of c ≡ checking) }
+    ensures alone { IfOk result (λ c. (fields_of c).has_globals ≡ false) }
+{
+    let files = files_arg(alloc);
+    Command::new(alloc, "check")
+        .about(CHECK)
+        .long_about(LONG_CHECK)
+        .after_help(AFTER_CHECK)
+        .arg(files)
+}
+
+/// The program's commands and options, as help shows them.
+pub(crate) fn command<'a>(alloc: Global) -> Result<Command<'a>, AllocError>
+    ensures { IfOk result (λ c. app_of c ≡ gpurace) }
+{
+    let replay = plain_command(alloc, "replay", REPLAY);
+    let pack = plain_command(alloc, "pack", PACK);
+    let dump = plain_command(alloc, "dump", DUMP);
+    let upgrade = plain_command(alloc, "upgrade", UPGRADE);
+    let explain = explain_command(alloc)?;
+    let races = races_command(alloc)?;
+    let run = run_command(alloc)?;
+    let check = check_command(alloc)?;
+    Command::new(alloc, "gpurace")
+        .bin_name("gpurace")?
+        .no_binary_name(true)
+        .version("0.1.0")
+        .about(ABOUT)
+        .long_about(LONG_ABOUT)
+        .after_help(AFTER_HELP)
+        .subcommand(replay)?
+        .subcommand(pack)?
+        .subcommand(dump)?
+        .subcommand(upgrade)?
+        .subcommand(explain)?
+        .subcommand(races)?
+        .subcommand(run)?
+        .subcommand(check)
+}

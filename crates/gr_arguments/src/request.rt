@@ -1,0 +1,118 @@
+//! Requests: what the words of a command line ask for.
+
+ghost use Rattle.std.specs.Prelude.{◌≡◌, IfOk, map};
+ghost use Rattle.clap.specs.Walk.{rows_of};
+ghost use Rattle.clap.specs.Words.{FailsBy, found_of};
+ghost use Rattle.gr_arguments.specs.Asked.{AsksTo, IsAskedBy, asked_of};
+ghost use Rattle.gr_arguments.specs.Commands.{faults, meant};
+
+use crate::command::command;
+use crate::values::{files_of, listing_of, plan_of, question_of};
+use clap::{ArgMatches, Error};
+use gr_model::config::Config;
+use gr_model::event::Word;
+use std::alloc::{AllocError, Global};
+use std::convert::AsStr;
+
+/// What is done with the streams that stand one after another on standard input.
+#[derive(Clone, Copy, Debug, PartialEq, Eq)]
+pub enum Task {
+    /// Report on their launch.
+    Replay,
+    /// Write the bytes of the streams whose text stands there instead.
+    Pack,
+    /// Write their text.
+    Dump,
+    /// Write them in version 2.
+    Upgrade,
+}
+
+/// A word of a launch, whose streams are in these files, one each, and whether its long form is asked for.
+#[derive(Drop)]
+pub struct Question<'a> {
+    /// Whether the accesses and the cause of their race are to be told too.
+    pub long: bool,
+    /// The word.
+    pub word: Word,
+    /// The names of the files.
+    pub files: Vec<&'a str>,
+}
+
+/// The races of a launch, whose streams are in these files, one each, and what side files say of them.
+#[derive(Drop)]
+pub struct Listing<'a> {
+    /// Of how many kinds to tell at most; of all if there is no number.
+    pub most: Option<u32>,
+    /// The name of the file of places.
+    pub places: Option<&'a str>,
+    /// The name of the file of buffers.
+    pub buffers: Option<&'a str>,
+    /// The names of the files of the streams.
+    pub files: Vec<&'a str>,
+}
+
+/// How a launch is run in threads, whose streams are in these files, one each.
+#[derive(Drop)]
+pub struct Plan<'a> {
+    /// Workers, queues, and the places of a queue.
+    pub config: Config,
+    /// The names of the files.
+    pub files: Vec<&'a str>,
+}
+
+/// What the words of a command line ask for.
+#[derive(Drop)]
+pub enum Request<'a> {
+    /// A task over standard input.
+    Perform(Task),
+    /// The least racing pair of a word; `None` where the words name no word of memory.
+    Explain(Option<Question<'a>>),
+    /// The races of a launch by their kinds; `None` where how many is no number.
+    Races(Option<Listing<'a>>),
+    /// The report of a launch, by a run in threads; `None` where the words set up none.
+    Run(Option<Plan<'a>>),
+    /// Which record of which of these files is at fault, or how many records of each kind there are.
+    Check(Vec<&'a str>),
+}
+
+/// What the command of this name asks for with these values. A name that is none of the program's is `replay`.
+fn request_by<'a>(
+    alloc: Global,
+    name: &str,
+    values: &ArgMatches<'a>,
+) -> Result<Request<'a>, AllocError>
+    ensures { IfOk result (λ r. IsAskedBy (meant name.now) (rows_of (found_of values.now)) (asked_of r)) }
+{
+    if name == "explain" {
+        Ok(Request::Explain(question_of(alloc, values)?))
+    } else if name == "races" {
+        Ok(Request::Races(listing_of(alloc, values)?))
+    } else if name == "run" {
+        Ok(Request::Run(plan_of(alloc, values)?))
+    } else if name == "check" {
+        Ok(Request::Check(files_of(alloc, values)?))
+    } else if name == "pack" {
+        Ok(Request::Perform(Task::Pack))
+    } else if name == "dump" {
+        Ok(Request::Perform(Task::Dump))
+    } else if name == "upgrade" {
+        Ok(Request::Perform(Task::Upgrade))
+    } else {
+        Ok(Request::Perform(Task::Replay))
+    }
+}
+
+/// What the words ask for, the program's name not among them.
+///
+/// # Errors
+/// The text of help or of wrong usage, or `OutOfMemory`; of words that are taken this alone.
+pub fn request_of<'a, S: AsStr>(alloc: Global, words: &'a [S]) -> Result<Request<'a>, Error>
+    ensures fails { FailsBy (faults (map S.text words.now)) result }
+    ensures asks { IfOk result (λ r. AsksTo (asked_of r) (map S.text words.now)) }
+{
+    let matches = command(alloc)?.try_get_matches_from(words)?;
+    match matches.subcommand() {
+        None => Ok(Request::Perform(Task::Replay)),
+        Some((name, values)) => Ok(request_by(alloc, name, values)?),
+    }
+}

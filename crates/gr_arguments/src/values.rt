@@ -1,0 +1,130 @@
+//! What the values of a command's arguments ask for.
+
+ghost use Rattle.std.specs.Prelude.{◌≡◌, ℕ, Option, IfOk, IfErr, MatchOption, map, option_map};
+ghost use Rattle.clap.specs.Walk.{rows_of};
+ghost use Rattle.clap.specs.Words.{found_of};
+ghost use Rattle.gr_model.specs.Configs.{Settings};
+ghost use Rattle.gr_arguments.specs.Asked.{IsAskedRaces, IsAskedRun, IsAskedWord, IsMost, IsNumberOr, IsSetUp, IsTheOne, files_of as named_files, has_flag, races_of, run_of, word_of};
+
+use crate::request::{Listing, Plan, Question};
+use crate::words::{number_of, word_named};
+use clap::ArgMatches;
+use gr_model::config::Config;
+use std::alloc::{AllocError, Global};
+
+/// What stands behind an option is no number.
+#[derive(Debug, Drop)]
+struct NoNumber;
+
+/// Whether the values have this flag.
+fn asks_for(values: &ArgMatches<'_>, flag: &str) -> bool
+    ensures { result ≡ has_flag flag.now (rows_of (found_of values.now)) }
+{
+    match values.get_str(flag) {
+        None => false,
+        Some(text) => text == "true",
+    }
+}
+
+/// The files that the values name.
+pub(crate) fn files_of<'a>(
+    alloc: Global,
+    values: &ArgMatches<'a>,
+) -> Result<Vec<&'a str>, AllocError>
+    ensures { IfOk result (λ v. map (λ s. s.now) v.items ≡ named_files (rows_of (found_of values.now))) }
+{
+    match values.get_strs("FILE") {
+        None => Ok(Vec::new(alloc)),
+        Some(files) => Vec::from_slice(alloc, files),
+    }
+}
+
+/// The question that the values of the command `explain` ask.
+pub(crate) fn question_of<'a>(
+    alloc: Global,
+    values: &ArgMatches<'a>,
+) -> Result<Option<Question<'a>>, AllocError>
+    ensures { IfOk result (λ o. IsTheOne (IsAskedWord (rows_of (found_of values.now))) (option_map word_of o)) }
+{
+    let Some(space) = values.get_str("SPACE") else {
+        return Ok(None);
+    };
+    let Some(number) = values.get_str("WORD") else {
+        return Ok(None);
+    };
+    let Some(word) = word_named(space, number) else {
+        return Ok(None);
+    };
+    let long = asks_for(values, "long");
+    let files = files_of(alloc, values)?;
+    Ok(Some(Question { long, word, files }))
+}
+
+/// The number below 2^32 behind `--most`, if the option is there.
+fn most_of(values: &ArgMatches<'_>) -> Result<Option<u32>, NoNumber>
+    ensures some { IfOk result (λ most. IsMost (rows_of (found_of values.now)) most) }
+    ensures none { IfErr result (λ e. (most : Option ℕ) → ¬ IsMost (rows_of (found_of values.now)) most) }
+{
+    match values.get_str("most") {
+        None => Ok(None),
+        Some(text) => match number_of(text) {
+            None => Err(NoNumber),
+            Some(most) => Ok(Some(most)),
+        },
+    }
+}
+
+/// The listing that the values of the command `races` ask for.
+pub(crate) fn listing_of<'a>(
+    alloc: Global,
+    values: &ArgMatches<'a>,
+) -> Result<Option<Listing<'a>>, AllocError>
+    ensures { IfOk result (λ o. IsTheOne (IsAskedRaces (rows_of (found_of values.now))) (option_map races_of o)) }
+{
+    let Ok(most) = most_of(values) else {
+        return Ok(None);
+    };
+    let places = values.get_str("places");
+    let buffers = values.get_str("buffers");
+    let files = files_of(alloc, values)?;
+    Ok(Some(Listing {
+        most,
+        places,
+        buffers,
+        files,
+    }))
+}
+
+/// The number below 2^32 behind an option, or `default` where the option is not there.
+fn number_or(values: &ArgMatches<'_>, option: &str, default: u32) -> Option<u32>
+    ensures { MatchOption result ((n : ℕ) → ¬ IsNumberOr (rows_of (found_of values.now)) option.now default n) (λ n. IsNumberOr (rows_of (found_of values.now)) option.now default n) }
+{
+    match values.get_str(option) {
+        None => Some(default),
+        Some(text) => number_of(text),
+    }
+}
+
+/// How the values of the command `run` set up a run.
+fn config_of(values: &ArgMatches<'_>) -> Option<Config>
+    ensures { MatchOption result ((c : Settings) → ¬ IsSetUp (rows_of (found_of values.now)) c) (λ c. IsSetUp (rows_of (found_of values.now)) c) }
+{
+    let workers = u16::try_from(number_or(values, "workers", 2)?).ok()?;
+    let queues = u16::try_from(number_or(values, "queues", 1)?).ok()?;
+    let capacity = number_or(values, "capacity", 1024)?;
+    Config::new(workers, queues, capacity).ok()
+}
+
+/// The run that the values of the command `run` ask for.
+pub(crate) fn plan_of<'a>(
+    alloc: Global,
+    values: &ArgMatches<'a>,
+) -> Result<Option<Plan<'a>>, AllocError>
+    ensures { IfOk result (λ o. IsTheOne (IsAskedRun (rows_of (found_of values.now))) (option_map run_of o)) }
+{
+    let Some(config) = config_of(values) else {
+        return Ok(None);
+    };
+    let files = files_of(alloc, values)?;
+    Ok(Some(Plan { config, files }))
+}

@@ -1,0 +1,42 @@
+//! The word of memory that words of a command line name.
+
+ghost use Rattle.std.specs.Prelude.{ℕ, MatchOption};
+ghost use Rattle.gr_model.specs.declared.event.Word.{Word as AnyWord};
+ghost use Rattle.gr_arguments.specs.Naming.{IsGroupOf, IsNumber, Names};
+
+use gr_model::event::Word;
+use gr_model::limits::MOST_GROUPS;
+
+/// The number below 2^32 that is written in decimal digits, and without a sign. Zeros may lead.
+pub fn number_of(text: &str) -> Option<u32>
+    ensures { MatchOption result ((n : ℕ) → ¬ IsNumber text.now n) (λ n. IsNumber text.now n) }
+{
+    if text.as_bytes().first() == Some(&b'+') {
+        return None;
+    }
+    text.parse::<u32>().ok()
+}
+
+/// The group of a space of local memory: `l` and the group's number, from 0 to 63.
+pub fn group_of(space: &str) -> Option<u16>
+    ensures { MatchOption result ((g : ℕ) → ¬ IsGroupOf space.now g) (λ g. IsGroupOf space.now g) }
+{
+    let group = number_of(space.strip_prefix('l')?)?;
+    if (group as usize) < MOST_GROUPS {
+        Some(group as u16)
+    } else {
+        None
+    }
+}
+
+/// The word that a space, `g` or `l` with a group from 0 to 63 as in `l3`, and a number name.
+pub fn word_named(space: &str, number: &str) -> Option<Word>
+    ensures { MatchOption result ((w : AnyWord) → ¬ Names space.now number.now w) (λ w. Names space.now number.now w) }
+{
+    let number = number_of(number)?;
+    if space == "g" {
+        return Some(Word::Global(number));
+    }
+    let group = group_of(space)?;
+    Some(Word::Local(group, number))
+}

@@ -1,0 +1,4 @@
+mod FrontLemmas
+mod LawLemmas
+mod NeighbourLemmas
+mod SpotLemmas

@@ -1,0 +1,14 @@
+use Rattle.std.proofs.Common.{inl, inr}
+use Rattle.std.proofs.lemmas.Result.{err_from_is_err_and, IfErr-weaker, IfOk-weaker}
+use Rattle.gr_check.proofs.checking.launch_of.Goals as goal
+
+pub returns-in_err-streams-clause-fault : goal.returns-in_err-streams-clause-fault
+returns-in_err-streams-clause-fault g c =
+    let p = err_from_is_err_and c.from_residual.result c.from_residual.ensures.1 in
+    rw (p.1, p.2) (inl c.in_err-streams.ensures.exact)
+
+pub returns-clause-launch : goal.returns-clause-launch
+returns-clause-launch g c = IfOk-weaker c.traces_of.result _ _ (λ t launch. (_, c.in_ok-streams.ensures.exact, launch)) c.traces_of.ensures.launch
+
+pub returns-clause-fault : goal.returns-clause-fault
+returns-clause-fault g c = IfErr-weaker c.traces_of.result _ _ (λ f fault. inr (_, c.in_ok-streams.ensures.exact, fault)) c.traces_of.ensures.fault

@@ -1,0 +1,77 @@
+//! How many records of each kind a launch has.
+
+ghost use Rattle.std.specs.Prelude.{◌≡◌, length};
+ghost use Rattle.std.specs.List.{sum_by};
+ghost use Rattle.gr_check.specs.Counts.{count_in, count_of, is_of_kind};
+
+use gr_model::event::{Event, Kind};
+use gr_model::traces::Traces;
+use std::alloc::Allocator;
+
+/// What a record is, whatever its scope, its order and its flags are.
+#[derive(Clone, Copy, Debug, PartialEq, Eq)]
+pub enum RecordKind {
+    /// A plain read.
+    Read,
+    /// A plain write.
+    Write,
+    /// An atomic load.
+    Load,
+    /// An atomic store.
+    Store,
+    /// An atomic read-modify-write.
+    Rmw,
+    /// A barrier.
+    Barrier,
+    /// An end.
+    End,
+}
+
+/// Whether a record of this kind is one of those that are counted.
+fn is_of_kind(wanted: RecordKind, kind: Kind) -> bool
+    ensures { result ≡ is_of_kind wanted kind }
+{
+    match kind {
+        Kind::Read => wanted == RecordKind::Read,
+        Kind::Write => wanted == RecordKind::Write,
+        Kind::Load(_, _) => wanted == RecordKind::Load,
+        Kind::Store(_, _) => wanted == RecordKind::Store,
+        Kind::Rmw(_, _) => wanted == RecordKind::Rmw,
+        Kind::Barrier {
+            global: _,
+            local: _,
+        } => wanted == RecordKind::Barrier,
+        Kind::End { cut: _ } => wanted == RecordKind::End,
+    }
+}
+
+/// How many records of this kind a list has.
+fn count_in(wanted: RecordKind, list: &[Event]) -> usize
+    ensures { result ≡ count_in wanted list.now }
+{
+    list.iter()
+        .filter(|event| is_of_kind(wanted, event.kind))
+        .count()
+}
+
+/// How many records of this kind a launch has.
+pub fn count_of<A: Allocator>(wanted: RecordKind, traces: &Traces<A>) -> u64
+    ensures { result ≡ count_of wanted traces.now }
+{
+    let mut count: u64 = 0;
+    for group in 0..traces.shape().groups() {
+        count += count_in(wanted, traces.list(group)) as u64;
+    }
+    count
+}
+
+/// How many records a launch has, its ends among them.
+pub fn all_records<A: Allocator>(traces: &Traces<A>) -> u64
+    ensures { result ≡ sum_by length traces.now.lists }
+{
+    let mut records: u64 = 0;
+    for group in 0..traces.shape().groups() {
+        records += traces.list(group).len() as u64;
+    }
+    records
+}

@@ -1,0 +1,73 @@
+//! The end of a run of which not all threads could be started.
+//!
+//! What a thread leaves is a value that only its join gives. So whoever has those of all queues has joined all threads.
+
+ghost use Rattle.std.specs.Prelude.{◌≡◌, ◌≤◌, [], vec_capacity, vec_len};
+ghost use Rattle.gr_sequencer_thread.specs.Ends.{begin_line, end_line};
+ghost use Rattle.gr_detector.specs.Runs.{worker_queues};
+
+use gr_sender::sender::Sender;
+use gr_sequencer_thread::end::SequencerEnd;
+use gr_sequencer_thread::thread::SequencerThread;
+use gr_worker_thread::thread::WorkerThread;
+use gr_worker_thread::worker::WorkerEnd;
+use std::alloc::Allocator;
+use std::sync::Wait;
+use std::thread::Threads;
+use std::time::Clock;
+
+/// What the threads of a run leave that was stopped.
+#[derive(Drop)]
+pub(crate) struct Stopped<A: Allocator> {
+    pub(crate) sequencer: SequencerEnd<A>,
+    pub(crate) workers: Vec<WorkerEnd<A>, A>,
+}
+
+/// Gives all streams their ends.
+fn close_all<R: Wait + Clock, A: Allocator>(rt: &R, senders: Vec<Sender<A>, A>) {
+    for sender in senders {
+        let mut sender = sender;
+        // It refuses nothing: the sender is open, and waits until there is room.
+        let _ = sender.close_wait(rt, true);
+    }
+}
+
+/// Joins the threads of workers, and gives what they leave, in order.
+/// Requires: there is room for it.
+fn join_workers<R: Threads, A: Allocator>(
+    rt: &R,
+    workers: Vec<WorkerThread<A>, A>,
+    ends: Vec<WorkerEnd<A>, A>,
+) -> Vec<WorkerEnd<A>, A>
+    requires none { ends.items ≡ [] }
+    requires room { vec_len workers ≤ vec_capacity ends }
+    ensures queues { worker_queues result.items ≡ worker_queues workers.items }
+    ensures count { vec_len result ≡ vec_len workers }
+{
+    let mut ends = ends;
+    for worker in workers {
+        ends.push_reserved(worker.join(rt));
+    }
+    ends
+}
+
+/// Ends the threads of a run in which a worker's is missing, and gives what they leave.
+/// Requires: there is room for it.
+pub(crate) fn stop<R: Threads + Wait + Clock, A: Allocator>(
+    rt: &R,
+    senders: Vec<Sender<A>, A>,
+    sequencer: SequencerThread<A>,
+    workers: Vec<WorkerThread<A>, A>,
+    ends: Vec<WorkerEnd<A>, A>,
+) -> Stopped<A>
+    requires none { ends.items ≡ [] }
+    requires room { vec_len workers ≤ vec_capacity ends }
+    ensures sequencer { end_line result.sequencer ≡ begin_line sequencer }
+    ensures workers { worker_queues result.workers.items ≡ worker_queues workers.items }
+    ensures count { vec_len result.workers ≡ vec_len workers }
+{
+    close_all(rt, senders);
+    let sequencer = sequencer.join(rt);
+    let workers = join_workers(rt, workers, ends);
+    Stopped { sequencer, workers }
+}

@@ -1,0 +1,45 @@
+//! A watch whose end is noted.
+
+use gr_detector::Watch;
+use gr_model::event::Word;
+use std::sync::Arc;
+use std::sync::atomic::{AtomicU64, Ordering};
+
+/// What was seen of a watch: how many records were taken, and how often it was dropped.
+#[derive(Drop)]
+pub struct Notes {
+    pub takes: AtomicU64,
+    pub drops: AtomicU64,
+}
+
+impl Notes {
+    /// Of a watch that has seen nothing.
+    pub fn new() -> Notes {
+        Notes {
+            takes: AtomicU64::new(0),
+            drops: AtomicU64::new(0),
+        }
+    }
+}
+
+/// A watch that counts what is taken, and notes when it is dropped.
+pub struct Noted {
+    pub notes: Arc<Notes>,
+}
+
+impl Drop for Noted {
+    fn drop(self) {
+        self.notes.drops.fetch_add(1, Ordering::SeqCst);
+        let Noted { notes: _ } = self;
+    }
+}
+
+impl Watch for Noted {
+    fn at_take(&self, _group: u16) {
+        self.notes.takes.fetch_add(1, Ordering::SeqCst);
+    }
+
+    fn at_access(&self, _worker: u16) {}
+
+    fn at_race(&self, _worker: u16, _word: &Word) {}
+}
