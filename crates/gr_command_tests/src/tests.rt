@@ -433,8 +433,8 @@ const CASES: [Case; 54] = [
     ),
 ];
 
-/// The same of words that ask for a run in threads, for races with side files, for the long form of explain, or for a check.
-const CASES_OF_FILES: [Case; 26] = [
+/// The same of words that ask for a run in threads, for races with side files, or for the long form of explain.
+const CASES_OF_FILES: [Case; 20] = [
     (
         "a racy word in the long form",
         &["explain", "--long", "g", "16", "back"],
@@ -612,6 +612,10 @@ const CASES_OF_FILES: [Case; 26] = [
         "gpurace: read fault\n",
         5,
     ),
+];
+
+/// The same of words that ask for a check.
+const CASES_OF_CHECKS: [Case; 6] = [
     (
         "a check of a file that is taken",
         &["check", "none"],
@@ -777,6 +781,14 @@ fn words_that_name_files_give_output_and_status(rt: HostRuntime) -> Result<(), F
         assert!(rt; is_as_said(rt, rt.alloc(), case, &back), "{name}");
     }
     Ok(())
+}
+
+#[test]
+fn words_that_ask_for_a_check_give_output_and_status(rt: HostRuntime) {
+    for case in &CASES_OF_CHECKS {
+        let name = case.0;
+        assert!(rt; is_as_said(rt, rt.alloc(), case, &[]), "{name}");
+    }
 }
 
 #[test]

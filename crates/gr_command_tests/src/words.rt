@@ -1,7 +1,7 @@
 //! The words of memory that words of a command line name.
 
-use gr_model::event::Word;
 use gr_arguments::words::word_named;
+use gr_model::event::Word;
 
 /// A space and a number as they are written, and the word that they name.
 type Case = (&'static str, &'static str, Option<Word>);
