@@ -7,11 +7,12 @@ use Rattle.clap.specs.Matches.{first_value, matched_of, raw_values}
 use Rattle.clap.specs.Walk.{Row, Text, all_of, first_of, rows_of}
 use Rattle.clap.proofs.WalkLemmas.{first_value-rows, raw_values-rows}
 use Rattle.gr_model.specs.declared.config.ConfigError.{ConfigError}
+use Rattle.gr_model.specs.declared.event.EventId.{EventId}
 use Rattle.gr_model.specs.declared.event.Word.{Word}
 use Rattle.gr_model.specs.Configs.{IsConfig, Settings}
-use Rattle.gr_arguments.specs.Asked.{AskedRaces, AskedRun, AskedWord, IsAskedRaces, IsAskedRun, IsAskedWord, IsMost, IsNumberOr, IsSetUp, NamesWord}
-use Rattle.gr_arguments.specs.Naming.{IsNumber, Names}
-use Rattle.gr_arguments.proofs.NamingLemmas.{names_one}
+use Rattle.gr_arguments.specs.Asked.{AskedEvent, AskedRaces, AskedRun, AskedWord, IsAskedEvent, IsAskedRaces, IsAskedRun, IsAskedWord, IsMost, IsNumberOr, IsSetUp, NamesWord}
+use Rattle.gr_arguments.specs.Naming.{IsNumber, Names, NamesEvent}
+use Rattle.gr_arguments.proofs.NamingLemmas.{events_one, names_one}
 
 nothing_is_some : {X : Type 0} (x : X) → None ≡ Some x → ⊥
 nothing_is_some {X = X} x e = true≢false (sym (ap (λ (o : Option X). is_some o) e))
@@ -59,9 +60,10 @@ same_word rows v w a b =
 pub one_word : (rows : List Row) (a b : AskedWord) → IsAskedWord rows a → IsAskedWord rows b → a ≡ b
 one_word rows a b h k =
     let long : a.long ≡ b.long = sym h.form ∙ k.form in
+    let json : a.json ≡ b.json = sym h.as_json ∙ k.as_json in
     let word : a.word ≡ b.word = same_word rows a.word b.word h.named k.named in
     let files : a.files ≡ b.files = sym h.at_files ∙ k.at_files in
-    λ i. record { long = long i; word = word i; files = files i }
+    λ i. record { long = long i; json = json i; word = word i; files = files i }
 
 -- ---- the command `races`
 
@@ -84,8 +86,9 @@ one_races rows a b h k =
     let most : a.most ≡ b.most = one_most rows a.most b.most h.most k.most in
     let places : a.places ≡ b.places = sym h.places ∙ k.places in
     let buffers : a.buffers ≡ b.buffers = sym h.buffers ∙ k.buffers in
+    let causes : a.causes ≡ b.causes = sym h.with_causes ∙ k.with_causes in
     let files : a.files ≡ b.files = sym h.at_files ∙ k.at_files in
-    λ i. record { most = most i; places = places i; buffers = buffers i; files = files i }
+    λ i. record { most = most i; places = places i; buffers = buffers i; causes = causes i; files = files i }
 
 -- ---- the command `run`
 
@@ -127,5 +130,31 @@ set_up rows given (Err e) workers queues capacity accepted is =
 pub one_run : (rows : List Row) (a b : AskedRun) → IsAskedRun rows a → IsAskedRun rows b → a ≡ b
 one_run rows a b h k =
     let config : a.config ≡ b.config = one_set_up rows a.config b.config h.set_up k.set_up.workers k.set_up.queues k.set_up.capacity in
+    let json : a.json ≡ b.json = sym h.as_json ∙ k.as_json in
     let files : a.files ≡ b.files = sym h.at_files ∙ k.at_files in
-    λ i. record { config = config i; files = files i }
+    λ i. record { config = config i; json = json i; files = files i }
+
+-- ---- the command `why-held`
+
+-- where the three texts name no event, the values do not
+pub unnamed_event : (rows : List Row) (group item index : Text) → first_of (codes "GROUP") rows ≡ Some group → first_of (codes "ITEM") rows ≡ Some item → first_of (codes "INDEX") rows ≡ Some index → ((e : EventId) → NamesEvent group item index e → ⊥) → (a : AskedEvent) → IsAskedEvent rows a → ⊥
+unnamed_event rows group item index at_group at_item at_index none a is =
+    let same_group : is.group ≡ group = injected is.group group (sym is.at_group ∙ at_group) in
+    let same_item : is.item ≡ item = injected is.item item (sym is.at_item ∙ at_item) in
+    let same_index : is.index ≡ index = injected is.index index (sym is.at_index ∙ at_index) in
+    none a.event (rw (same_group, same_item, same_index) at is.names)
+
+-- the values name one event at most
+same_event : (rows : List Row) (a b : AskedEvent) → IsAskedEvent rows a → IsAskedEvent rows b → a.event ≡ b.event
+same_event rows a b h k =
+    let same_group : k.group ≡ h.group = injected k.group h.group (sym k.at_group ∙ h.at_group) in
+    let same_item : k.item ≡ h.item = injected k.item h.item (sym k.at_item ∙ h.at_item) in
+    let same_index : k.index ≡ h.index = injected k.index h.index (sym k.at_index ∙ h.at_index) in
+    let other : NamesEvent h.group h.item h.index b.event = rw (same_group, same_item, same_index) at k.names in
+    events_one h.group h.item h.index a.event b.event h.names other
+
+pub one_event : (rows : List Row) (a b : AskedEvent) → IsAskedEvent rows a → IsAskedEvent rows b → a ≡ b
+one_event rows a b h k =
+    let event : a.event ≡ b.event = same_event rows a b h k in
+    let files : a.files ≡ b.files = sym h.at_files ∙ k.at_files in
+    λ i. record { event = event i; files = files i }

@@ -1,8 +1,9 @@
 -- A space and a number name one word at most.
 use Rattle.std.proofs.Common.{◌≡◌, ◌∙◌, ℕ, List, codes, sym, ap, ap₂, arith, drop, get_or, refl}
+use Rattle.gr_model.specs.declared.event.EventId.{EventId}
 use Rattle.gr_model.specs.declared.event.Word.{Word}
 use Rattle.gr_model.specs.declared.event.Word.TheVariants.{Global, Local}
-use Rattle.gr_arguments.specs.Naming.{IsGroupOf, Names}
+use Rattle.gr_arguments.specs.Naming.{IsGroupOf, Names, NamesEvent}
 
 one_group : (space : List ℕ) (g h : ℕ) → IsGroupOf space g → IsGroupOf space h → g ≡ h
 one_group space g h a b =
@@ -20,3 +21,10 @@ names_one space number (Global m) (Global n) a b = ap Global (sym a.1.value ∙ 
 names_one space number (Local g m) (Local h n) a b = ap₂ Local (one_group space g h a.0 b.0) (sym a.1.value ∙ b.1.value)
 names_one space number (Global m) (Local h n) a b = absurd (no_group space h a.0 b.0)
 names_one space number (Local g m) (Global n) a b = absurd (no_group space g b.0 a.0)
+
+pub events_one : (group item index : List ℕ) (d e : EventId) → NamesEvent group item index d → NamesEvent group item index e → d ≡ e
+events_one group item index d e a b =
+    let groups : d.at.group ≡ e.at.group = sym a.group_is.is.value ∙ b.group_is.is.value in
+    let items : d.at.item ≡ e.at.item = sym a.item_is.is.value ∙ b.item_is.is.value in
+    let indexes : d.index ≡ e.index = sym a.index_is.value ∙ b.index_is.value in
+    λ i. record { at = record { group = groups i; item = items i }; index = indexes i }

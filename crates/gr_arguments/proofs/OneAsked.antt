@@ -4,10 +4,10 @@ use Rattle.std.specs.Str.{bytes_eq}
 use Rattle.clap.specs.Walk.{Row, Text}
 use Rattle.gr_arguments.specs.declared.request.Task.{Task}
 use Rattle.gr_arguments.specs.declared.request.Task.TheVariants.{Replay, Pack, Dump, Upgrade}
-use Rattle.gr_arguments.specs.Asked.{Asked, AsksTo, IsAskedBy, IsAskedRaces, IsAskedRun, IsAskedWord, IsTheOne, check, explain, perform, races, run}
+use Rattle.gr_arguments.specs.Asked.{Asked, AsksTo, IsAskedBy, IsAskedEvent, IsAskedRaces, IsAskedRun, IsAskedWord, IsTheOne, check, explain, perform, races, run, why_held}
 use Rattle.gr_arguments.specs.Commands.{command_of, name_met, name_of, values_met}
 use Rattle.gr_arguments.specs.Plain.{WordsAskOnce}
-use Rattle.gr_arguments.proofs.Asking.{one_races, one_run, one_word}
+use Rattle.gr_arguments.proofs.Asking.{one_event, one_races, one_run, one_word}
 
 -- texts that differ are not the same
 apart : (x y : Text) → bytes_eq x y ≡ false → bytes_eq x x ≡ true → x ≡ y → ⊥
@@ -70,6 +70,17 @@ one_asked name rows (check some) (perform u) h k = absurd (task_apart u (codes "
 one_asked name rows (check some) (explain p) h k = absurd (apart (codes "check") (codes "explain") refl refl (sym h.0 ∙ k.0))
 one_asked name rows (check some) (races p) h k = absurd (apart (codes "check") (codes "races") refl refl (sym h.0 ∙ k.0))
 one_asked name rows (check some) (run p) h k = absurd (apart (codes "check") (codes "run") refl refl (sym h.0 ∙ k.0))
+one_asked name rows (why_held o) (why_held p) h k = ap why_held (the_one (IsAskedEvent rows) (one_event rows) o p h.1 k.1)
+one_asked name rows (perform t) (why_held p) h k = absurd (task_apart t (codes "why-held") refl refl refl refl (sym h ∙ k.0))
+one_asked name rows (explain o) (why_held p) h k = absurd (apart (codes "explain") (codes "why-held") refl refl (sym h.0 ∙ k.0))
+one_asked name rows (races o) (why_held p) h k = absurd (apart (codes "races") (codes "why-held") refl refl (sym h.0 ∙ k.0))
+one_asked name rows (run o) (why_held p) h k = absurd (apart (codes "run") (codes "why-held") refl refl (sym h.0 ∙ k.0))
+one_asked name rows (check some) (why_held p) h k = absurd (apart (codes "check") (codes "why-held") refl refl (sym h.0 ∙ k.0))
+one_asked name rows (why_held o) (perform u) h k = absurd (task_apart u (codes "why-held") refl refl refl refl (sym k ∙ h.0))
+one_asked name rows (why_held o) (explain p) h k = absurd (apart (codes "why-held") (codes "explain") refl refl (sym h.0 ∙ k.0))
+one_asked name rows (why_held o) (races p) h k = absurd (apart (codes "why-held") (codes "races") refl refl (sym h.0 ∙ k.0))
+one_asked name rows (why_held o) (run p) h k = absurd (apart (codes "why-held") (codes "run") refl refl (sym h.0 ∙ k.0))
+one_asked name rows (why_held o) (check other) h k = absurd (apart (codes "why-held") (codes "check") refl refl (sym h.0 ∙ k.0))
 
 pub words_ask_once : WordsAskOnce
 words_ask_once words a b h k = one_asked (name_met (command_of words)) (values_met (command_of words)) a b h.asks k.asks

@@ -90,9 +90,12 @@ abbrev flag_given : Bool → List Row
 flag_given true = row (codes "long") (codes "true" ∷ []) ∷ []
 flag_given false = []
 
+abbrev left_out : Text → Row
+left_out flag = record (row flag (codes "false" ∷ [])) { source = Some DefaultValue }
+
 abbrev flag_left_out : Bool → List Row
-flag_left_out true = []
-flag_left_out false = record (row (codes "long") (codes "false" ∷ [])) { source = Some DefaultValue } ∷ []
+flag_left_out true = left_out (codes "json") ∷ []
+flag_left_out false = left_out (codes "long") ∷ left_out (codes "json") ∷ []
 
 abbrev begun : Bool → Walk
 begun long = walk_from (record { rows = flag_given long; pending = None; skip = 0 })
@@ -321,14 +324,14 @@ plain_words_ask_by long space number file files space_plain number_plain plain a
 pub plain_words_ask : PlainWordsAsk
 plain_words_ask space number file files w named plain =
     let texts = words_are_plain space number w named in
-    plain_words_ask_by false space number file files texts.0 texts.1 plain (asked.explain (Some (record { long = false; word = w; files = file ∷ files })))
-    (refl, record { form = refl; named = record { space = space; number = number; at_space = refl; at_number = refl; names = named }; at_files = refl })
+    plain_words_ask_by false space number file files texts.0 texts.1 plain (asked.explain (Some (record { long = false; json = false; word = w; files = file ∷ files })))
+    (refl, record { form = refl; as_json = refl; named = record { space = space; number = number; at_space = refl; at_number = refl; names = named }; at_files = refl })
 
 pub long_words_ask : LongWordsAsk
 long_words_ask space number file files w named plain =
     let texts = words_are_plain space number w named in
-    plain_words_ask_by true space number file files texts.0 texts.1 plain (asked.explain (Some (record { long = true; word = w; files = file ∷ files })))
-    (refl, record { form = refl; named = record { space = space; number = number; at_space = refl; at_number = refl; names = named }; at_files = refl })
+    plain_words_ask_by true space number file files texts.0 texts.1 plain (asked.explain (Some (record { long = true; json = false; word = w; files = file ∷ files })))
+    (refl, record { form = refl; as_json = refl; named = record { space = space; number = number; at_space = refl; at_number = refl; names = named }; at_files = refl })
 
 pub plain_words_misname : PlainWordsMisname
 plain_words_misname space number file files none plain =

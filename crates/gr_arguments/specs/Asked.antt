@@ -3,9 +3,11 @@ use Rattle.std.specs.Prelude.{◌≡◌, ◌⊎◌, ℕ, Bool, false, List, [], 
 use Rattle.std.specs.Option.{option_map_or}
 use Rattle.std.specs.Str.{bytes_eq}
 use Rattle.clap.specs.Walk.{Row, Text, all_of, first_of}
+use Rattle.gr_model.specs.declared.event.EventId.{EventId}
 use Rattle.gr_model.specs.declared.event.Word.{Word}
 use Rattle.gr_model.specs.Configs.{IsConfig, Settings}
-use Rattle.gr_arguments.specs.Naming.{IsNumber, Names}
+use Rattle.gr_arguments.specs.Naming.{IsNumber, Names, NamesEvent}
+use Rattle.gr_arguments.specs.declared.request.Inquiry.{Inquiry}
 use Rattle.gr_arguments.specs.declared.request.Listing.{Listing}
 use Rattle.gr_arguments.specs.declared.request.Plan.{Plan}
 use Rattle.gr_arguments.specs.declared.request.Question.{Question}
@@ -24,9 +26,10 @@ has_flag flag rows = option_map_or (λ text. bytes_eq text (codes "true")) (firs
 
 -- ---- one word of a launch
 
--- whether in the long form, which word, and in which files the streams of the launch are
+-- whether in the long form and as JSON, which word, and in which files the streams of the launch are
 pub record AskedWord : Type 0 where
   pub long : Bool
+  pub json : Bool
   pub word : Word
   pub files : List Text
 
@@ -41,16 +44,18 @@ pub record NamesWord (rows : List Row) (w : Word) : Type 0 where
 -- the values of the command `explain` ask for this
 pub record IsAskedWord (rows : List Row) (a : AskedWord) : Type 0 where
   pub form : has_flag (codes "long") rows ≡ a.long
+  pub as_json : has_flag (codes "json") rows ≡ a.json
   pub named : NamesWord rows a.word
   pub at_files : files_of rows ≡ a.files
 
 -- ---- all races of a launch
 
--- of how many kinds at most, with which side files, and in which files the streams are
+-- of how many kinds at most, with which side files, whether with causes, and in which files the streams are
 pub record AskedRaces : Type 0 where
   pub most : Option ℕ
   pub places : Option Text
   pub buffers : Option Text
+  pub causes : Bool
   pub files : List Text
 
 -- how many kinds the values ask for: a number, or none where the option is not there
@@ -63,13 +68,15 @@ pub record IsAskedRaces (rows : List Row) (a : AskedRaces) : Type 0 where
   pub most : IsMost rows a.most
   pub places : first_of (codes "places") rows ≡ a.places
   pub buffers : first_of (codes "buffers") rows ≡ a.buffers
+  pub with_causes : has_flag (codes "causes") rows ≡ a.causes
   pub at_files : files_of rows ≡ a.files
 
 -- ---- a run in threads
 
--- how it is set up, and in which files the streams are
+-- how it is set up, whether its report is to be JSON, and in which files the streams are
 pub record AskedRun : Type 0 where
   pub config : Settings
+  pub json : Bool
   pub files : List Text
 
 -- the number that an option has, or else this one where the option is not there
@@ -86,6 +93,25 @@ pub record IsSetUp (rows : List Row) (c : Settings) : Type 0 where
 -- the values of the command `run` ask for this
 pub record IsAskedRun (rows : List Row) (a : AskedRun) : Type 0 where
   pub set_up : IsSetUp rows a.config
+  pub as_json : has_flag (codes "json") rows ≡ a.json
+  pub at_files : files_of rows ≡ a.files
+
+-- ---- why an event is held
+
+-- which event, and in which files the streams are
+pub record AskedEvent : Type 0 where
+  pub event : EventId
+  pub files : List Text
+
+-- the values of the command `why-held` ask for this
+pub record IsAskedEvent (rows : List Row) (a : AskedEvent) : Type 0 where
+  pub group : Text
+  pub item : Text
+  pub index : Text
+  pub at_group : first_of (codes "GROUP") rows ≡ Some group
+  pub at_item : first_of (codes "ITEM") rows ≡ Some item
+  pub at_index : first_of (codes "INDEX") rows ≡ Some index
+  pub names : NamesEvent group item index a.event
   pub at_files : files_of rows ≡ a.files
 
 -- ---- all that words may ask for
@@ -101,6 +127,8 @@ pub data Asked : Type 0 where
   run : Option AskedRun → Asked
   -- which record of which of these files is at fault, or how many records of each kind there are
   check : List Text → Asked
+  -- why an event is held; none where the values name no event
+  why_held : Option AskedEvent → Asked
 
 -- this is the one that has the property, or nothing has it
 abbrev pub IsTheOne : {X : Type 0} → (X → Type 0) → Option X → Type 0
@@ -113,6 +141,7 @@ IsAskedBy name rows (explain o) = (name ≡ codes "explain") × IsTheOne (IsAske
 IsAskedBy name rows (races o) = (name ≡ codes "races") × IsTheOne (IsAskedRaces rows) o
 IsAskedBy name rows (run o) = (name ≡ codes "run") × IsTheOne (IsAskedRun rows) o
 IsAskedBy name rows (check files) = (name ≡ codes "check") × (files_of rows ≡ files)
+IsAskedBy name rows (why_held o) = (name ≡ codes "why-held") × IsTheOne (IsAskedEvent rows) o
 
 -- the words are taken, and ask for this
 pub record AsksTo (a : Asked) (words : List Text) : Type 0 where
@@ -122,13 +151,16 @@ pub record AsksTo (a : Asked) (words : List Text) : Type 0 where
 -- ---- requests
 
 abbrev pub word_of : Question → AskedWord
-word_of q = record { long = q.long; word = q.word; files = map (λ s. s.now) q.files.items }
+word_of q = record { long = q.long; json = q.json; word = q.word; files = map (λ s. s.now) q.files.items }
 
 abbrev pub races_of : Listing → AskedRaces
-races_of l = record { most = l.most; places = option_map (λ s. s.now) l.places; buffers = option_map (λ s. s.now) l.buffers; files = map (λ s. s.now) l.files.items }
+races_of l = record { most = l.most; places = option_map (λ s. s.now) l.places; buffers = option_map (λ s. s.now) l.buffers; causes = l.causes; files = map (λ s. s.now) l.files.items }
 
 abbrev pub run_of : Plan → AskedRun
-run_of p = record { config = p.config; files = map (λ s. s.now) p.files.items }
+run_of p = record { config = p.config; json = p.json; files = map (λ s. s.now) p.files.items }
+
+abbrev pub event_of : Inquiry → AskedEvent
+event_of i = record { event = i.event; files = map (λ s. s.now) i.files.items }
 
 -- what a request stands for
 abbrev pub asked_of : Request → Asked
@@ -137,3 +169,4 @@ asked_of (request.Explain o) = explain (option_map word_of o)
 asked_of (request.Races o) = races (option_map races_of o)
 asked_of (request.Run o) = run (option_map run_of o)
 asked_of (request.Check files) = check (map (λ s. s.now) files.items)
+asked_of (request.WhyHeld o) = why_held (option_map event_of o)

@@ -1,7 +1,8 @@
--- The word of memory that a space and a number name, as they are written on a command line.
+-- The word of memory that a space and a number name, and the event that three numbers name, as they are written on a command line.
 -- Source: docs/FORMATS.md, "Explanation".
 use Rattle.std.specs.Prelude.{◌≡◌, ◌<◌, ◌^◌, ◌++◌, ℕ, List, codes}
 use Rattle.std.specs.Str.Parse.{IsNumeral, digits_value}
+use Rattle.gr_model.specs.declared.event.EventId.{EventId}
 use Rattle.gr_model.specs.declared.event.Word.{Word}
 use Rattle.gr_model.specs.declared.event.Word.TheVariants.{Global, Local}
 use Rattle.gr_model.specs.declared.limits.TheConstants.{MOST_GROUPS}
@@ -23,3 +24,14 @@ pub record IsGroupOf (space : List ℕ) (g : ℕ) : Type 0 where
 abbrev pub Names : List ℕ → List ℕ → Word → Type 0
 Names space number (Global n) = (space ≡ codes "g") × IsNumber number n
 Names space number (Local g n) = IsGroupOf space g × IsNumber number n
+
+-- the same, below 2^16
+pub record IsShortNumber (text : List ℕ) (n : ℕ) : Type 0 where
+  pub is : IsNumber text n
+  pub below : n < 2 ^ 16
+
+-- the three numbers are an event's group, item and index
+pub record NamesEvent (group item index : List ℕ) (e : EventId) : Type 0 where
+  pub group_is : IsShortNumber group e.at.group
+  pub item_is : IsShortNumber item e.at.item
+  pub index_is : IsNumber index e.index

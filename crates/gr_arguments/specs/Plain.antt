@@ -31,11 +31,11 @@ ArePlain (word ∷ words) = IsPlain word × ArePlain words
 
 -- a word that is named is asked for by the words `explain SPACE WORD FILE..`
 abbrev pub PlainWordsAsk : Type 0
-PlainWordsAsk = (space number file : Text) (files : List Text) (w : Word) → Names space number w → ArePlain (file ∷ files) → AsksTo (explain (Some (record { long = false; word = w; files = file ∷ files }))) (codes "explain" ∷ space ∷ number ∷ file ∷ files)
+PlainWordsAsk = (space number file : Text) (files : List Text) (w : Word) → Names space number w → ArePlain (file ∷ files) → AsksTo (explain (Some (record { long = false; json = false; word = w; files = file ∷ files }))) (codes "explain" ∷ space ∷ number ∷ file ∷ files)
 
 -- and by the words `explain --long SPACE WORD FILE..`, in the long form
 abbrev pub LongWordsAsk : Type 0
-LongWordsAsk = (space number file : Text) (files : List Text) (w : Word) → Names space number w → ArePlain (file ∷ files) → AsksTo (explain (Some (record { long = true; word = w; files = file ∷ files }))) (codes "explain" ∷ codes "--long" ∷ space ∷ number ∷ file ∷ files)
+LongWordsAsk = (space number file : Text) (files : List Text) (w : Word) → Names space number w → ArePlain (file ∷ files) → AsksTo (explain (Some (record { long = true; json = false; word = w; files = file ∷ files }))) (codes "explain" ∷ codes "--long" ∷ space ∷ number ∷ file ∷ files)
 
 -- and where the space and the number name none, for none
 abbrev pub PlainWordsMisname : Type 0

@@ -4,7 +4,7 @@ ghost use Rattle.std.specs.Prelude.{◌≡◌, false, IfOk};
 ghost use Rattle.clap.specs.declared.builder.command.Command.TheViews.{out-Command as fields_of};
 ghost use Rattle.clap.specs.Walk.{rule_of};
 ghost use Rattle.clap.specs.Words.{app_of, shape_of};
-ghost use Rattle.gr_arguments.specs.Commands.{gpurace, command_named, explaining, flag_rule, option_rule, racing, running, wanted, wanted_files, checking};
+ghost use Rattle.gr_arguments.specs.Commands.{gpurace, command_named, explaining, flag_rule, option_rule, racing, running, wanted, wanted_files, checking, inquiring};
 
 use clap::{Arg, ArgAction, Command};
 use std::alloc::{AllocError, Global};
@@ -29,6 +29,7 @@ Examples:
   gpurace races group0.gpurace group1.gpurace
   gpurace run --workers 4 group0.gpurace group1.gpurace
   gpurace check group0.gpurace group1.gpurace
+  gpurace why-held 0 3 12 group0.gpurace group1.gpurace
 
 Exit status:
   0  nothing was found, or what was asked for is done
@@ -77,6 +78,8 @@ Examples:
 
 const LONG: &str = "Tells also what the two accesses are, and the cause of their race";
 
+const JSON: &str = "Writes JSON, an object a line, in place of text";
+
 const SPACE: &str =
     "g for global memory, or l with a group from 0 to 63, as l3, for its local memory";
 
@@ -109,6 +112,14 @@ With side files, whose lines say where accesses stand and which words are which 
   buffer psc[448]
   first scan.cl:4992:7
   second scan.cl:5001:16
+  end kinds 1 races 48
+
+With --causes the last line of a kind is the cause of the race that is shown, as explain --long tells it:
+  gpurace races --causes --most 1 group*.gpurace
+  kind global write read one group words 48
+  words global 896..943
+  race global 896: 0 3 12 with 0 7 14
+  cause no-barrier: nothing orders the two; a barrier with CLK_GLOBAL_MEM_FENCE between them would
   end kinds 1 races 48";
 
 const MOST: &str = "Of how many kinds to tell at most";
@@ -117,6 +128,8 @@ const PLACES: &str = "A file of lines GROUP ITEM INDEX TEXT: where in the source
 
 const BUFFERS: &str =
     "A file of lines g FIRST WORDS NAME or l GROUP FIRST WORDS NAME: which words are which buffer";
+
+const CAUSES: &str = "Tells also the cause of each race that is shown";
 
 const RUN: &str = "Reports on the trace in files, by several threads";
 
@@ -149,6 +162,25 @@ many groups, items and records of each kind it has. It looks for no race.";
 const AFTER_CHECK: &str = "\
 Example:
   gpurace check group*.gpurace";
+
+const WHY_HELD: &str = "Tells why an event is held";
+
+const LONG_WHY_HELD: &str = "\
+Tells why an event is held, and so not judged: what it waits for, what that waits for, and so on, to an acquire that names a
+release that is not there, or to events that wait for one another in a circle. An event is told as GROUP ITEM INDEX, as the report
+tells an unmatched acquire; an item's records are counted from 0.
+
+The status is 1 where the event is held, and else 0.";
+
+const AFTER_WHY_HELD: &str = "\
+Example:
+  gpurace why-held 0 3 12 group*.gpurace";
+
+const GROUP: &str = "The number of the event's work-group";
+
+const ITEM: &str = "The number of its work-item in the group";
+
+const INDEX: &str = "The number of its record in the work-item's trace";
 
 /// A command without options.
 fn plain_command<'a>(alloc: Global, name: &'a str, about: &'a str) -> Command<'a>
@@ -194,6 +226,7 @@ fn explain_command<'a>(alloc: Global) -> Result<Command<'a>, AllocError>
     ensures alone { IfOk result (λ c. (fields_of c).has_globals ≡ false) }
 {
     let long = flag_arg(alloc, "long", LONG);
+    let json = flag_arg(alloc, "json", JSON);
     let space = wanted_arg(alloc, "SPACE", SPACE);
     let word = wanted_arg(alloc, "WORD", WORD);
     let files = files_arg(alloc);
@@ -202,6 +235,7 @@ fn explain_command<'a>(alloc: Global) -> Result<Command<'a>, AllocError>
         .long_about(LONG_EXPLAIN)
         .after_help(AFTER_EXPLAIN)
         .arg(long)?
+        .arg(json)?
         .arg(space)?
         .arg(word)?
         .arg(files)
@@ -226,6 +260,7 @@ fn races_command<'a>(alloc: Global) -> Result<Command<'a>, AllocError>
     let most = option_arg(alloc, "most", "N", MOST);
     let places = option_arg(alloc, "places", "FILE", PLACES);
     let buffers = option_arg(alloc, "buffers", "FILE", BUFFERS);
+    let causes = flag_arg(alloc, "causes", CAUSES);
     let files = files_arg(alloc);
     Command::new(alloc, "races")
         .about(RACES)
@@ -234,6 +269,7 @@ fn races_command<'a>(alloc: Global) -> Result<Command<'a>, AllocError>
         .arg(most)?
         .arg(places)?
         .arg(buffers)?
+        .arg(causes)?
         .arg(files)
 }
 
@@ -245,6 +281,7 @@ fn run_command<'a>(alloc: Global) -> Result<Command<'a>, AllocError>
     let workers = option_arg(alloc, "workers", "N", WORKERS);
     let queues = option_arg(alloc, "queues", "N", QUEUES);
     let capacity = option_arg(alloc, "capacity", "N", CAPACITY);
+    let json = flag_arg(alloc, "json", JSON);
     let files = files_arg(alloc);
     Command::new(alloc, "run")
         .about(RUN)
@@ -253,6 +290,7 @@ fn run_command<'a>(alloc: Global) -> Result<Command<'a>, AllocError>
         .arg(workers)?
         .arg(queues)?
         .arg(capacity)?
+        .arg(json)?
         .arg(files)
 }
 
@@ -269,6 +307,25 @@ fn check_command<'a>(alloc: Global) -> Result<Command<'a>, AllocError>
         .arg(files)
 }
 
+/// The command that tells why an event is held.
+fn why_held_command<'a>(alloc: Global) -> Result<Command<'a>, AllocError>
+    ensures shape { IfOk result (λ c. shape_of c ≡ inquiring) }
+    ensures alone { IfOk result (λ c. (fields_of c).has_globals ≡ false) }
+{
+    let group = wanted_arg(alloc, "GROUP", GROUP);
+    let item = wanted_arg(alloc, "ITEM", ITEM);
+    let index = wanted_arg(alloc, "INDEX", INDEX);
+    let files = files_arg(alloc);
+    Command::new(alloc, "why-held")
+        .about(WHY_HELD)
+        .long_about(LONG_WHY_HELD)
+        .after_help(AFTER_WHY_HELD)
+        .arg(group)?
+        .arg(item)?
+        .arg(index)?
+        .arg(files)
+}
+
 /// The program's commands and options, as help shows them.
 pub(crate) fn command<'a>(alloc: Global) -> Result<Command<'a>, AllocError>
     ensures { IfOk result (λ c. app_of c ≡ gpurace) }
@@ -281,6 +338,7 @@ pub(crate) fn command<'a>(alloc: Global) -> Result<Command<'a>, AllocError>
     let races = races_command(alloc)?;
     let run = run_command(alloc)?;
     let check = check_command(alloc)?;
+    let why_held = why_held_command(alloc)?;
     Command::new(alloc, "gpurace")
         .bin_name("gpurace")?
         .no_binary_name(true)
@@ -295,5 +353,6 @@ pub(crate) fn command<'a>(alloc: Global) -> Result<Command<'a>, AllocError>
         .subcommand(explain)?
         .subcommand(races)?
         .subcommand(run)?
-        .subcommand(check)
+        .subcommand(check)?
+        .subcommand(why_held)
 }

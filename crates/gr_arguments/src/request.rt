@@ -7,10 +7,10 @@ ghost use Rattle.gr_arguments.specs.Asked.{AsksTo, IsAskedBy, asked_of};
 ghost use Rattle.gr_arguments.specs.Commands.{faults, meant};
 
 use crate::command::command;
-use crate::values::{files_of, listing_of, plan_of, question_of};
+use crate::values::{files_of, inquiry_of, listing_of, plan_of, question_of};
 use clap::{ArgMatches, Error};
 use gr_model::config::Config;
-use gr_model::event::Word;
+use gr_model::event::{EventId, Word};
 use std::alloc::{AllocError, Global};
 use std::convert::AsStr;
 
@@ -27,11 +27,13 @@ pub enum Task {
     Upgrade,
 }
 
-/// A word of a launch, whose streams are in these files, one each, and whether its long form is asked for.
+/// A word of a launch, whose streams are in these files, one each, and in which form it is to be told.
 #[derive(Drop)]
 pub struct Question<'a> {
     /// Whether the accesses and the cause of their race are to be told too.
     pub long: bool,
+    /// Whether it is to be told as JSON.
+    pub json: bool,
     /// The word.
     pub word: Word,
     /// The names of the files.
@@ -47,6 +49,8 @@ pub struct Listing<'a> {
     pub places: Option<&'a str>,
     /// The name of the file of buffers.
     pub buffers: Option<&'a str>,
+    /// Whether the causes of the races are to be told too.
+    pub causes: bool,
     /// The names of the files of the streams.
     pub files: Vec<&'a str>,
 }
@@ -56,6 +60,17 @@ pub struct Listing<'a> {
 pub struct Plan<'a> {
     /// Workers, queues, and the places of a queue.
     pub config: Config,
+    /// Whether the report is to be JSON.
+    pub json: bool,
+    /// The names of the files.
+    pub files: Vec<&'a str>,
+}
+
+/// An event of a launch, whose streams are in these files, one each.
+#[derive(Drop)]
+pub struct Inquiry<'a> {
+    /// The event.
+    pub event: EventId,
     /// The names of the files.
     pub files: Vec<&'a str>,
 }
@@ -73,6 +88,8 @@ pub enum Request<'a> {
     Run(Option<Plan<'a>>),
     /// Which record of which of these files is at fault, or how many records of each kind there are.
     Check(Vec<&'a str>),
+    /// Why an event is held; `None` where the words name no event.
+    WhyHeld(Option<Inquiry<'a>>),
 }
 
 /// What the command of this name asks for with these values. A name that is none of the program's is `replay`.
@@ -91,6 +108,8 @@ fn request_by<'a>(
         Ok(Request::Run(plan_of(alloc, values)?))
     } else if name == "check" {
         Ok(Request::Check(files_of(alloc, values)?))
+    } else if name == "why-held" {
+        Ok(Request::WhyHeld(inquiry_of(alloc, values)?))
     } else if name == "pack" {
         Ok(Request::Perform(Task::Pack))
     } else if name == "dump" {

@@ -4,10 +4,10 @@ ghost use Rattle.std.specs.Prelude.{◌≡◌, ℕ, Option, IfOk, IfErr, MatchOp
 ghost use Rattle.clap.specs.Walk.{rows_of};
 ghost use Rattle.clap.specs.Words.{found_of};
 ghost use Rattle.gr_model.specs.Configs.{Settings};
-ghost use Rattle.gr_arguments.specs.Asked.{IsAskedRaces, IsAskedRun, IsAskedWord, IsMost, IsNumberOr, IsSetUp, IsTheOne, files_of as named_files, has_flag, races_of, run_of, word_of};
+ghost use Rattle.gr_arguments.specs.Asked.{IsAskedEvent, IsAskedRaces, IsAskedRun, IsAskedWord, IsMost, IsNumberOr, IsSetUp, IsTheOne, event_of, files_of as named_files, has_flag, races_of, run_of, word_of};
 
-use crate::request::{Listing, Plan, Question};
-use crate::words::{number_of, word_named};
+use crate::request::{Inquiry, Listing, Plan, Question};
+use crate::words::{event_named, number_of, word_named};
 use clap::ArgMatches;
 use gr_model::config::Config;
 use std::alloc::{AllocError, Global};
@@ -56,8 +56,14 @@ pub(crate) fn question_of<'a>(
         return Ok(None);
     };
     let long = asks_for(values, "long");
+    let json = asks_for(values, "json");
     let files = files_of(alloc, values)?;
-    Ok(Some(Question { long, word, files }))
+    Ok(Some(Question {
+        long,
+        json,
+        word,
+        files,
+    }))
 }
 
 /// The number below 2^32 behind `--most`, if the option is there.
@@ -86,11 +92,13 @@ pub(crate) fn listing_of<'a>(
     };
     let places = values.get_str("places");
     let buffers = values.get_str("buffers");
+    let causes = asks_for(values, "causes");
     let files = files_of(alloc, values)?;
     Ok(Some(Listing {
         most,
         places,
         buffers,
+        causes,
         files,
     }))
 }
@@ -125,6 +133,34 @@ pub(crate) fn plan_of<'a>(
     let Some(config) = config_of(values) else {
         return Ok(None);
     };
+    let json = asks_for(values, "json");
     let files = files_of(alloc, values)?;
-    Ok(Some(Plan { config, files }))
+    Ok(Some(Plan {
+        config,
+        json,
+        files,
+    }))
+}
+
+/// The inquiry that the values of the command `why-held` make.
+pub(crate) fn inquiry_of<'a>(
+    alloc: Global,
+    values: &ArgMatches<'a>,
+) -> Result<Option<Inquiry<'a>>, AllocError>
+    ensures { IfOk result (λ o. IsTheOne (IsAskedEvent (rows_of (found_of values.now))) (option_map event_of o)) }
+{
+    let Some(group) = values.get_str("GROUP") else {
+        return Ok(None);
+    };
+    let Some(item) = values.get_str("ITEM") else {
+        return Ok(None);
+    };
+    let Some(index) = values.get_str("INDEX") else {
+        return Ok(None);
+    };
+    let Some(event) = event_named(group, item, index) else {
+        return Ok(None);
+    };
+    let files = files_of(alloc, values)?;
+    Ok(Some(Inquiry { event, files }))
 }

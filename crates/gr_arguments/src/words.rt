@@ -1,10 +1,11 @@
-//! The word of memory that words of a command line name.
+//! The word of memory and the event that words of a command line name.
 
 ghost use Rattle.std.specs.Prelude.{ℕ, MatchOption};
+ghost use Rattle.gr_model.specs.declared.event.EventId.{EventId as AnyEvent};
 ghost use Rattle.gr_model.specs.declared.event.Word.{Word as AnyWord};
-ghost use Rattle.gr_arguments.specs.Naming.{IsGroupOf, IsNumber, Names};
+ghost use Rattle.gr_arguments.specs.Naming.{IsGroupOf, IsNumber, IsShortNumber, Names, NamesEvent};
 
-use gr_model::event::Word;
+use gr_model::event::{EventId, ItemId, Word};
 use gr_model::limits::MOST_GROUPS;
 
 /// The number below 2^32 that is written in decimal digits, and without a sign. Zeros may lead.
@@ -39,4 +40,29 @@ pub fn word_named(space: &str, number: &str) -> Option<Word>
     }
     let group = group_of(space)?;
     Some(Word::Local(group, number))
+}
+
+/// The number below 2^16 that is written so.
+fn short_of(text: &str) -> Option<u16>
+    ensures { MatchOption result ((n : ℕ) → ¬ IsShortNumber text.now n) (λ n. IsShortNumber text.now n) }
+{
+    let number = number_of(text)?;
+    if number < 65536 {
+        Some(number as u16)
+    } else {
+        None
+    }
+}
+
+/// The event of this group, item and index: numbers in decimal digits, the first two below 2^16 and the third below 2^32.
+pub fn event_named(group: &str, item: &str, index: &str) -> Option<EventId>
+    ensures { MatchOption result ((e : AnyEvent) → ¬ NamesEvent group.now item.now index.now e) (λ e. NamesEvent group.now item.now index.now e) }
+{
+    let group = short_of(group)?;
+    let item = short_of(item)?;
+    let index = number_of(index)?;
+    Some(EventId {
+        at: ItemId { group, item },
+        index,
+    })
 }

@@ -2,10 +2,11 @@
 -- Source: docs/FORMATS.md, "Report", "Fault lines" and "Exit statuses".
 use Rattle.std.specs.Prelude.{◌≡◌, ◌≢◌, ◌⊎◌, ℕ, Bool, false, true, List, Option, None, Some, Result, IfSome}
 use Rattle.std.specs.Io.KnownBytes.{Appends, Keeps}
+use Rattle.std.specs.declared.alloc.Global.{Global}
 use Rattle.gr_model.specs.declared.event.Word.{Word}
 use Rattle.gr_model.specs.Reports.{WholeReport}
 use Rattle.gr_model.specs.Streams.{Streams}
-use Rattle.gr_arguments.specs.Asked.{Asked, AskedRaces, AskedWord, check, explain, perform, races, run}
+use Rattle.gr_arguments.specs.Asked.{Asked, AskedEvent, AskedRaces, AskedRun, AskedWord, check, explain, perform, races, run, why_held}
 use Rattle.gr_arguments.specs.declared.request.Task.{Task}
 use Rattle.gr_arguments.specs.declared.request.Task.TheVariants.{Replay, Pack, Dump, Upgrade}
 use Rattle.gr_record.specs.declared.fault.Fault.{Fault}
@@ -25,7 +26,11 @@ use Rattle.gr_races.specs.Opening.{AreRacesShownOfFiles, IsRacesFault, Pair, Sho
 use Rattle.gr_show.specs.Opening.{HoldsOfFiles, IsFileFault, IsOpeningFault}
 use Rattle.gr_show.specs.Shown.{IsLine, IsRacyIn, IsShown, ShowsPrefix}
 use Rattle.gr_long.specs.Shown.{IsAccountText}
-use Rattle.gr_streams.specs.Streams.{IsExactOfEach, IsRunFault, WritesPrefixOfEach}
+use Rattle.gr_held.specs.Shown.{IsHeldIn, IsWhyText}
+use Rattle.gr_json.specs.Reports.{report_json}
+use Rattle.gr_json.specs.Shown.{IsJsonAccount, IsJsonLine}
+use Rattle.gr_report.specs.Putting.{AppendsPrefix}
+use Rattle.gr_streams.specs.Streams.{IsExactOfEach, IsRunFault}
 use Rattle.gr_command.specs.declared.status.TheConstants.{NOTHING, USAGE, WANTING}
 use Rattle.gr_command.specs.Outcomes.{IsOutcome, IsTold}
 use Rattle.gr_command.specs.Statuses.{check_status, fault_status, race_status, races_fault_status, IsReportStatus}
@@ -62,10 +67,17 @@ module _ (input old new old_errors new_errors : Option (List ℕ)) (status : ℕ
 
 -- ---- launches whose streams are in files, one each
 
--- the text that is shown of a word of a launch: its line, and in the long form what stands below it too
-abbrev pub IsTextOf : Bool → Word → Streams → List ℕ → Type 0
-IsTextOf false = IsLine
-IsTextOf true = IsAccountText
+-- the text that is shown of a word of a launch: its line, and in the long form what stands below it too; or the same as JSON
+abbrev pub IsTextOf : (long json : Bool) → Word → Streams → List ℕ → Type 0
+IsTextOf false false = IsLine
+IsTextOf true false = IsAccountText
+IsTextOf false true = IsJsonLine
+IsTextOf true true = IsJsonAccount
+
+-- the text of a report, or the same as JSON
+abbrev pub text_of : Bool → WholeReport → List ℕ
+text_of false = report_text
+text_of true = report_json
 
 -- the names of the side files
 abbrev pub sides_of : AskedRaces → Pair (List ℕ)
@@ -81,18 +93,27 @@ module _ {T X : Type 0} (remaining : T → Option (List ℕ)) (Gives : List ℕ 
   abbrev pub IsFaultOfFiles : Fault → Type 0
   IsFaultOfFiles f = IsOpeningFault Gives names f ⊎ HoldsOfFiles remaining Gives names (λ known. IfSome known (λ inputs. IsRunFault inputs f))
 
-  -- a prefix of its text was written
-  abbrev pub WritesPrefixOfFiles : Option (List ℕ) → Option (List ℕ) → Type 0
-  WritesPrefixOfFiles old new = HoldsOfFiles remaining Gives names (λ known. IfSome known (λ inputs. WritesPrefixOfEach inputs old new))
+  -- a prefix of its text, or of its JSON, was written
+  abbrev pub WritesPrefixOfFiles : Bool → Option (List ℕ) → Option (List ℕ) → Type 0
+  WritesPrefixOfFiles json old new =
+      HoldsOfFiles remaining Gives names (λ known. IfSome known (λ inputs. (r : WholeReport) × IsExactOfEach inputs r × AppendsPrefix old new (text_of json r)))
 
 module _ {T X : Type 0} (remaining : T → Option (List ℕ)) (Gives : List ℕ → Result T X → Type 0) (old new : Option (List ℕ)) where
   -- the text of the word is written whole, and it is said whether the word is racy
   abbrev pub IsShownOfFiles : AskedWord → Bool → Type 0
-  IsShownOfFiles a found = HoldsOfFiles remaining Gives a.files (λ known. IsShown (IsTextOf a.long a.word) (IsRacyIn a.word) known found old new)
+  IsShownOfFiles a found = HoldsOfFiles remaining Gives a.files (λ known. IsShown (IsTextOf a.long a.json a.word) (IsRacyIn a.word) known found old new)
 
   -- a prefix of the text was written
   abbrev pub ShowsPrefixOfFiles : AskedWord → Type 0
-  ShowsPrefixOfFiles a = HoldsOfFiles remaining Gives a.files (λ known. ShowsPrefix (IsTextOf a.long a.word) known old new)
+  ShowsPrefixOfFiles a = HoldsOfFiles remaining Gives a.files (λ known. ShowsPrefix (IsTextOf a.long a.json a.word) known old new)
+
+  -- why an event is held is written whole, and it is said whether it is
+  abbrev pub IsToldOfFiles : AskedEvent → Bool → Type 0
+  IsToldOfFiles a held = HoldsOfFiles remaining Gives a.files (λ known. IsShown (IsWhyText Global a.event) (IsHeldIn a.event) known held old new)
+
+  -- a prefix of it was written
+  abbrev pub TellsPrefixOfFiles : AskedEvent → Type 0
+  TellsPrefixOfFiles a = HoldsOfFiles remaining Gives a.files (λ known. ShowsPrefix (IsWhyText Global a.event) known old new)
 
   module _ (old_errors new_errors : Option (List ℕ)) (status : ℕ) where
     -- the text of the word, and whether it is racy; or why there is none
@@ -105,8 +126,8 @@ module _ {T X : Type 0} (remaining : T → Option (List ℕ)) (Gives : List ℕ 
     abbrev pub IsRacesDisplay : AskedRaces → Type 0
     IsRacesDisplay a =
         IsOutcome races_fault_line races_fault_status (Run Write) old new old_errors new_errors status
-        (λ found. AreRacesShownOfFiles remaining Gives (sides_of a) a.files a.most found old new) (λ found ended. ended ≡ race_status found)
-        (IsRacesFault remaining Gives (sides_of a) a.files) (ShowsRacesPrefixOfFiles remaining Gives (sides_of a) a.files a.most old new)
+        (λ found. AreRacesShownOfFiles remaining Gives (sides_of a) a.files a.most a.causes found old new) (λ found ended. ended ≡ race_status found)
+        (IsRacesFault remaining Gives (sides_of a) a.files) (ShowsRacesPrefixOfFiles remaining Gives (sides_of a) a.files a.most a.causes old new)
 
     -- the text of a check, and whether the files are accepted; or why there is none
     abbrev pub IsCheckOutcome : List (List ℕ) → Type 0
@@ -115,12 +136,18 @@ module _ {T X : Type 0} (remaining : T → Option (List ℕ)) (Gives : List ℕ 
         (λ accepted. HoldsOfFiles remaining Gives names (λ known. IsChecked names known accepted old new)) (λ accepted ended. ended ≡ check_status accepted)
         (IsCheckFileFault remaining Gives names) (HoldsOfFiles remaining Gives names (λ known. ChecksPrefix names known old new))
 
-    -- the report of a run in threads, and its whole text; or why there is none
-    abbrev pub IsRunAnswer : List (List ℕ) → Type 0
-    IsRunAnswer names =
+    -- why an event is held, and whether it is; or why nothing is told
+    abbrev pub IsHeldOutcome : AskedEvent → Type 0
+    IsHeldOutcome a =
         IsOutcome fault_line fault_status Write old new old_errors new_errors status
-        (λ r. IsReportOfFiles remaining Gives names r × Appends old new (report_text r)) IsReportStatus
-        (IsFaultOfFiles remaining Gives names) (WritesPrefixOfFiles remaining Gives names old new)
+        (IsToldOfFiles a) (λ held ended. ended ≡ race_status held) (IsFileFault remaining Gives a.files) (TellsPrefixOfFiles a)
+
+    -- the report of a run in threads, and its whole text or JSON; or why there is none
+    abbrev pub IsRunAnswer : AskedRun → Type 0
+    IsRunAnswer a =
+        IsOutcome fault_line fault_status Write old new old_errors new_errors status
+        (λ r. IsReportOfFiles remaining Gives a.files r × Appends old new (text_of a.json r)) IsReportStatus
+        (IsFaultOfFiles remaining Gives a.files) (WritesPrefixOfFiles remaining Gives a.files a.json old new)
 
 -- ---- whatever words ask for
 
@@ -134,8 +161,10 @@ module _ {T X : Type 0} (remaining : T → Option (List ℕ)) (Gives : List ℕ 
   IsDone (perform t) = IsAnswerOf input old new old_errors new_errors status t
   IsDone (explain (Some a)) = IsDisplay remaining Gives old new old_errors new_errors status a
   IsDone (races (Some a)) = IsRacesDisplay remaining Gives old new old_errors new_errors status a
-  IsDone (run (Some a)) = IsRunAnswer remaining Gives old new old_errors new_errors status a.files
+  IsDone (run (Some a)) = IsRunAnswer remaining Gives old new old_errors new_errors status a
   IsDone (check names) = IsCheckOutcome remaining Gives old new old_errors new_errors status names
+  IsDone (why_held (Some a)) = IsHeldOutcome remaining Gives old new old_errors new_errors status a
   IsDone (explain None) = IsUsageTold old new status
   IsDone (races None) = IsUsageTold old new status
   IsDone (run None) = IsUsageTold old new status
+  IsDone (why_held None) = IsUsageTold old new status

@@ -8,20 +8,20 @@ ghost use Rattle.gr_report.specs.FaultText.{fault_line};
 ghost use Rattle.gr_report.specs.Putting.{AppendsPrefix};
 ghost use Rattle.gr_report.specs.Whole.{whole_of};
 ghost use Rattle.gr_races.specs.FaultText.{races_fault_line};
-ghost use Rattle.gr_arguments.specs.Asked.{Asked, AsksTo, asked_of, races_of, run_of, word_of};
+ghost use Rattle.gr_arguments.specs.Asked.{Asked, AsksTo, asked_of, event_of, races_of, run_of, word_of};
 ghost use Rattle.gr_arguments.specs.Commands.{AreHelp, AreWrong, IsHelp, IsWrongUsage, faults};
-ghost use Rattle.gr_command.specs.Answers.{IsAnswerOf, IsCheckOutcome, IsDisplay, IsDone, IsFaultTold, IsRacesDisplay, IsRunAnswer};
+ghost use Rattle.gr_command.specs.Answers.{IsAnswerOf, IsCheckOutcome, IsDisplay, IsDone, IsFaultTold, IsHeldOutcome, IsRacesDisplay, IsRunAnswer};
 ghost use Rattle.gr_command.specs.Statuses.{check_status, fault_status, race_status, races_fault_status, IsReportStatus};
 
 use crate::running::run_files;
-use crate::showing::show_word;
+use crate::showing::{show_word, tell_why_held};
 use crate::status::{
     FAILED, NOTHING, USAGE, WANTING, status_of, status_of_check, status_of_race,
     status_of_races_fault, status_of_report,
 };
 use clap::Error;
 use clap::error::ErrorKind;
-use gr_arguments::request::{Listing, Plan, Question, Request, Task};
+use gr_arguments::request::{Inquiry, Listing, Plan, Question, Request, Task};
 use gr_arguments::request_of;
 use gr_check::check_files;
 use gr_races::fault::{RacesFault, write_races_fault};
@@ -52,6 +52,12 @@ For more information, try '--help'.\n";
 const MISCONFIGURED: &[u8] = b"\
 error: N of --workers is 1 to 8, N of --queues is 1 to 4, and N of --capacity is 1 to 65536, in decimal digits\n\n\
 Usage: gpurace run [OPTIONS] <FILE>...\n\n\
+For more information, try '--help'.\n";
+
+const NO_EVENT: &[u8] = b"\
+error: GROUP, ITEM and INDEX name no event: GROUP and ITEM are numbers below 65536 and INDEX is one below 4294967296, in \
+decimal digits\n\n\
+Usage: gpurace why-held <GROUP> <ITEM> <INDEX> <FILE>...\n\n\
 For more information, try '--help'.\n";
 
 /// Tells of a fault on standard error, and gives its status. That standard error fails is passed over: there is nowhere
@@ -129,7 +135,7 @@ fn perform<R: Read, W: Write, E: Write>(
     }
 }
 
-/// Tells of a word that was to be shown and could not, and gives the status of what came of it.
+/// Tells of a word or an event that was to be shown and could not, and gives the status of what came of it.
 fn conclude_showing<E: Write>(outcome: Result<bool, Fault>, errors: &mut E) -> u8
     ensures race { IfOk outcome (λ found. result ≡ race_status found) }
     ensures silent { OnOk outcome (Keeps (E.contents errors.old) (E.contents errors.new)) }
@@ -194,7 +200,15 @@ fn list<T: Read + Drop, O: Fn(&str) -> io::Result<T>, W: Write, E: Write>(
         buffers: listing.buffers,
     };
     let files = listing.files.as_slice();
-    let outcome = show_races_of_files(alloc, &sides, files, opener, listing.most, writer);
+    let outcome = show_races_of_files(
+        alloc,
+        &sides,
+        files,
+        opener,
+        listing.most,
+        listing.causes,
+        writer,
+    );
     conclude_listing(outcome, errors)
 }
 
@@ -225,6 +239,20 @@ fn check<T: Read + Drop, O: Fn(&str) -> io::Result<T>, W: Write, E: Write>(
     conclude_check(check_files(alloc, files, opener, writer), errors)
 }
 
+/// Tells why an event of the launch whose streams are in files is held, and gives the exit status.
+fn inquire<T: Read + Drop, O: Fn(&str) -> io::Result<T>, W: Write, E: Write>(
+    alloc: Global,
+    inquiry: &Inquiry<'_>,
+    opener: O,
+    writer: &mut W,
+    errors: &mut E,
+) -> u8
+    requires { O.IsAlwaysCallable opener }
+    ensures { IsHeldOutcome T.remaining (FnReturnsAt O.Fn opener) (W.contents writer.old) (W.contents writer.new) (E.contents errors.old) (E.contents errors.new) result (event_of inquiry.now) }
+{
+    conclude_showing(tell_why_held(alloc, inquiry, opener, writer), errors)
+}
+
 /// Runs the launch whose streams are in files, and gives the exit status.
 fn run<H, T, O, W, E>(
     rt: H,
@@ -241,7 +269,7 @@ where
     W: Write,
     E: Write,
     requires { O.IsAlwaysCallable opener }
-    ensures { IsRunAnswer T.remaining (FnReturnsAt O.Fn opener) (W.contents writer.old) (W.contents writer.new) (E.contents errors.old) (E.contents errors.new) result (run_of plan.now).files }
+    ensures { IsRunAnswer T.remaining (FnReturnsAt O.Fn opener) (W.contents writer.old) (W.contents writer.new) (E.contents errors.old) (E.contents errors.new) result (run_of plan.now) }
 {
     conclude(run_files(rt, alloc, plan, opener, writer), errors)
 }
@@ -281,9 +309,11 @@ where
         Request::Races(Some(listing)) => list(alloc, &listing, opener, writer, errors),
         Request::Run(Some(plan)) => run(rt, alloc, &plan, opener, writer, errors),
         Request::Check(files) => check(alloc, files.as_slice(), opener, writer, errors),
+        Request::WhyHeld(Some(inquiry)) => inquire(alloc, &inquiry, opener, writer, errors),
         Request::Explain(None) => explain_misuse(MISNAMED, errors),
         Request::Races(None) => explain_misuse(MISCOUNTED, errors),
         Request::Run(None) => explain_misuse(MISCONFIGURED, errors),
+        Request::WhyHeld(None) => explain_misuse(NO_EVENT, errors),
     }
 }
 

@@ -4,23 +4,23 @@ ghost use Rattle.std.specs.Prelude.{◌≡◌, ◌≢◌, IfErr, IfOk, map};
 ghost use Rattle.std.specs.Fn.{FnReturnsAt};
 ghost use Rattle.std.specs.Io.KnownBytes.{Appends, Keeps};
 ghost use Rattle.gr_record.specs.declared.fault.Fault.TheVariants as faults;
-ghost use Rattle.gr_report.specs.ReportText.{report_text};
 ghost use Rattle.gr_report.specs.Whole.{whole_of};
-ghost use Rattle.gr_command.specs.Answers.{IsFaultOfFiles, IsReportOfFiles, WritesPrefixOfFiles};
+ghost use Rattle.gr_command.specs.Answers.{IsFaultOfFiles, IsReportOfFiles, WritesPrefixOfFiles, text_of};
 
 use gr_arguments::request::Plan;
+use gr_json::write_report_json;
 use gr_record::fault::Fault;
 use gr_report::report::Report;
 use gr_show::files::open_all;
-use gr_streams::{NoWatch, run_streams};
+use gr_streams::{NoWatch, detect_streams, run_streams};
 use std::alloc::Global;
 use std::io::{self, Read, Write};
 use std::sync::{Arc, Wait};
 use std::thread::Threads;
 use std::time::Clock;
 
-/// Opens the files of a plan, reads the streams of a launch, one from each, in threads, and writes the text of its report
-/// and nothing else.
+/// Opens the files of a plan, reads the streams of a launch, one from each, in threads, and writes the text of its report,
+/// or its JSON, and nothing else.
 ///
 /// # Errors
 /// Those of `open_all`, before anything is read; then those of `run_streams`.
@@ -38,14 +38,19 @@ where
     W: Write,
     requires { O.IsAlwaysCallable opener }
     ensures report { IfOk result (λ r. IsReportOfFiles T.remaining (FnReturnsAt O.Fn opener) (map (λ s. s.now) plan.now.files.items) (whole_of r)) }
-    ensures text { IfOk result (λ r. Appends (W.contents writer.old) (W.contents writer.new) (report_text (whole_of r))) }
+    ensures text { IfOk result (λ r. Appends (W.contents writer.old) (W.contents writer.new) (text_of plan.now.json (whole_of r))) }
     ensures fault { IfErr result (λ f. IsFaultOfFiles T.remaining (FnReturnsAt O.Fn opener) (map (λ s. s.now) plan.now.files.items) f) }
     ensures untouched { IfErr result (λ f. f ≢ faults.Write → Keeps (W.contents writer.old) (W.contents writer.new)) }
-    ensures prefix { IfErr result (λ f. f ≡ faults.Write → WritesPrefixOfFiles T.remaining (FnReturnsAt O.Fn opener) (map (λ s. s.now) plan.now.files.items) (W.contents writer.old) (W.contents writer.new)) }
+    ensures prefix { IfErr result (λ f. f ≡ faults.Write → WritesPrefixOfFiles T.remaining (FnReturnsAt O.Fn opener) (map (λ s. s.now) plan.now.files.items) plan.now.json (W.contents writer.old) (W.contents writer.new)) }
 {
     let files = open_all(alloc, plan.files.as_slice(), opener)?;
     let Ok(watch) = Arc::new(alloc, NoWatch) else {
         return Err(Fault::Memory);
     };
-    run_streams(rt, alloc, files, plan.config, watch, writer)
+    if !plan.json {
+        return run_streams(rt, alloc, files, plan.config, watch, writer);
+    }
+    let report = detect_streams(rt, alloc, files, plan.config, watch)?;
+    write_report_json(alloc, &report, writer)?;
+    Ok(report)
 }

@@ -1,14 +1,16 @@
-//! A word of a launch whose streams are in files.
+//! A word and an event of a launch whose streams are in files.
 
 ghost use Rattle.std.specs.Prelude.{◌≡◌, ◌≢◌, IfErr, IfOk, map};
 ghost use Rattle.std.specs.Fn.{FnReturnsAt};
 ghost use Rattle.std.specs.Io.KnownBytes.{Keeps};
 ghost use Rattle.gr_record.specs.declared.fault.Fault.TheVariants as faults;
 ghost use Rattle.gr_show.specs.Opening.{IsFileFault};
-ghost use Rattle.gr_arguments.specs.Asked.{word_of};
-ghost use Rattle.gr_command.specs.Answers.{IsShownOfFiles, ShowsPrefixOfFiles};
+ghost use Rattle.gr_arguments.specs.Asked.{event_of, word_of};
+ghost use Rattle.gr_command.specs.Answers.{IsShownOfFiles, IsToldOfFiles, ShowsPrefixOfFiles, TellsPrefixOfFiles};
 
-use gr_arguments::request::Question;
+use gr_arguments::request::{Inquiry, Question};
+use gr_held::show_why_held;
+use gr_json::{show_account_json, show_race_json};
 use gr_long::show_account;
 use gr_record::fault::Fault;
 use gr_show::files::open_all;
@@ -17,7 +19,7 @@ use std::alloc::Global;
 use std::io::{self, Read, Write};
 
 /// Opens the files of a question, reads the streams of a launch, one from each, writes the line of the word, and where the
-/// long form is asked for what stands below it, and nothing else, and tells whether the word has a race.
+/// long form is asked for what stands below it, as text or as JSON, and nothing else, and tells whether the word has a race.
 ///
 /// # Errors
 /// Those of `open_all`, before anything is read; then those of `show_race`, which are those of `show_account`.
@@ -34,9 +36,31 @@ pub fn show_word<T: Read + Drop, O: Fn(&str) -> io::Result<T>, W: Write>(
     ensures prefix { IfErr result (λ f. f ≡ faults.Write → ShowsPrefixOfFiles T.remaining (FnReturnsAt O.Fn opener) (W.contents writer.old) (W.contents writer.new) (word_of question.now)) }
 {
     let files = open_all(alloc, question.files.as_slice(), opener)?;
-    if question.long {
-        show_account(alloc, files, question.word, writer)
-    } else {
-        show_race(alloc, files, question.word, writer)
+    match (question.long, question.json) {
+        (false, false) => show_race(alloc, files, question.word, writer),
+        (true, false) => show_account(alloc, files, question.word, writer),
+        (false, true) => show_race_json(alloc, files, question.word, writer),
+        (true, true) => show_account_json(alloc, files, question.word, writer),
     }
+}
+
+/// Opens the files of an inquiry, reads the streams of a launch, one from each, writes why the event is held, and nothing
+/// else, and tells whether it is.
+///
+/// # Errors
+/// Those of `open_all`, before anything is read; then those of `show_why_held`.
+pub fn tell_why_held<T: Read + Drop, O: Fn(&str) -> io::Result<T>, W: Write>(
+    alloc: Global,
+    inquiry: &Inquiry<'_>,
+    opener: O,
+    writer: &mut W,
+) -> Result<bool, Fault>
+    requires { O.IsAlwaysCallable opener }
+    ensures told { IfOk result (λ held. IsToldOfFiles T.remaining (FnReturnsAt O.Fn opener) (W.contents writer.old) (W.contents writer.new) (event_of inquiry.now) held) }
+    ensures fault { IfErr result (λ f. IsFileFault T.remaining (FnReturnsAt O.Fn opener) (map (λ s. s.now) inquiry.now.files.items) f) }
+    ensures untouched { IfErr result (λ f. f ≢ faults.Write → Keeps (W.contents writer.old) (W.contents writer.new)) }
+    ensures prefix { IfErr result (λ f. f ≡ faults.Write → TellsPrefixOfFiles T.remaining (FnReturnsAt O.Fn opener) (W.contents writer.old) (W.contents writer.new) (event_of inquiry.now)) }
+{
+    let files = open_all(alloc, inquiry.files.as_slice(), opener)?;
+    show_why_held(alloc, files, inquiry.event, writer)
 }

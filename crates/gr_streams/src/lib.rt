@@ -11,4 +11,4 @@ mod source;
 mod thread;
 
 pub use gr_threads::watch::{NoWatch, Watch};
-pub use run::run_streams;
+pub use run::{detect_streams, run_streams};

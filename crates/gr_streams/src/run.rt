@@ -99,9 +99,12 @@ where
     judge(fault, running.finish(&rt, receipts))
 }
 
-/// Reads the headers of a launch's streams, one from each reader, then runs a detector in threads on the streams while they
-/// are read, and gives its report.
-fn detect_streams<R, A, T, W>(
+/// Reads the streams of a launch, one from each reader, each on a thread of its own, and sends them into a run in threads
+/// while they come. Gives the report and writes nothing. `watch` is shared by all threads of the run.
+///
+/// # Errors
+/// Those of `run_streams` but `Write`.
+pub fn detect_streams<R, A, T, W>(
     rt: R,
     alloc: A,
     readers: Vec<T, A>,

@@ -1,7 +1,7 @@
 use Rattle.std.proofs.Common.{◌≡◌, ◌∙◌, ap, ap₂, true, codes, []}
 use Rattle.std.proofs.lemmas.Result.{IfOk-weaker}
 use Rattle.clap.specs.Words.{App, app_of, new_app, with_subcommand}
-use Rattle.gr_arguments.specs.Commands.{alone, command_named, explaining, racing, running, tasks}
+use Rattle.gr_arguments.specs.Commands.{alone, checking, command_named, explaining, racing, running, tasks}
 use Rattle.gr_arguments.proofs.command.command.Goals as goal
 
 pub returns : goal.returns
@@ -15,4 +15,5 @@ returns c =
     let fifth : app_of c.in_ok-subcommand-5.field-0 ≡ with_subcommand tasks explaining = c.in_ok-subcommand-5.ensures.shape c.in_ok-explain.ensures.alone ∙ ap₂ with_subcommand fourth c.in_ok-explain.ensures.shape in
     let sixth : app_of c.in_ok-subcommand-6.field-0 ≡ with_subcommand (with_subcommand tasks explaining) racing = c.in_ok-subcommand-6.ensures.shape c.in_ok-races.ensures.alone ∙ ap₂ with_subcommand fifth c.in_ok-races.ensures.shape in
     let seventh : app_of c.in_ok-subcommand-7.field-0 ≡ with_subcommand (with_subcommand (with_subcommand tasks explaining) racing) running = c.in_ok-subcommand-7.ensures.shape c.in_ok-run.ensures.alone ∙ ap₂ with_subcommand sixth c.in_ok-run.ensures.shape in
-    IfOk-weaker c.subcommand-8.result _ _ (λ command added. added.shape c.in_ok-check.ensures.alone ∙ ap₂ with_subcommand seventh c.in_ok-check.ensures.shape) c.subcommand-8.ensures
+    let eighth : app_of c.in_ok-subcommand-8.field-0 ≡ with_subcommand (with_subcommand (with_subcommand (with_subcommand tasks explaining) racing) running) checking = c.in_ok-subcommand-8.ensures.shape c.in_ok-check.ensures.alone ∙ ap₂ with_subcommand seventh c.in_ok-check.ensures.shape in
+    IfOk-weaker c.subcommand-9.result _ _ (λ command added. added.shape c.in_ok-why_held.ensures.alone ∙ ap₂ with_subcommand eighth c.in_ok-why_held.ensures.shape) c.subcommand-9.ensures

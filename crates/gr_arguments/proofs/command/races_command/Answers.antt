@@ -1,8 +1,8 @@
-use Rattle.std.proofs.Common.{◌≡◌, ◌∙◌, ap, ap₂, codes, false, refl, rules}
+use Rattle.std.proofs.Common.{◌≡◌, ◌∙◌, ap, ap₂, codes, false, refl}
 use Rattle.std.proofs.lemmas.Result.{IfOk-weaker}
 use Rattle.clap.specs.declared.builder.command.Command.TheViews.{out-Command as fields_of}
 use Rattle.clap.specs.Words.{App, app_of, new_app, with_rule}
-use Rattle.gr_arguments.specs.Commands.{option_rule}
+use Rattle.gr_arguments.specs.Commands.{flag_rule, option_rule}
 use Rattle.gr_arguments.proofs.command.races_command.Goals as goal
 
 pub returns-clause-shape : goal.returns-clause-shape
@@ -11,7 +11,8 @@ returns-clause-shape c =
     let first : app_of c.in_ok-arg.field-0 ≡ with_rule (new_app (codes "races")) (option_rule (codes "most")) = c.in_ok-arg.ensures.shape c.option_arg-most.ensures.alone ∙ ap₂ with_rule bare c.option_arg-most.ensures.rule in
     let second : app_of c.in_ok-arg-2.field-0 ≡ with_rule (with_rule (new_app (codes "races")) (option_rule (codes "most"))) (option_rule (codes "places")) = c.in_ok-arg-2.ensures.shape c.option_arg-places.ensures.alone ∙ ap₂ with_rule first c.option_arg-places.ensures.rule in
     let third : app_of c.in_ok-arg-3.field-0 ≡ with_rule (with_rule (with_rule (new_app (codes "races")) (option_rule (codes "most"))) (option_rule (codes "places"))) (option_rule (codes "buffers")) = c.in_ok-arg-3.ensures.shape c.option_arg-buffers.ensures.alone ∙ ap₂ with_rule second c.option_arg-buffers.ensures.rule in
-    IfOk-weaker c.arg-4.result _ _ (λ command added. ap (λ (a : App). a.top) (added.shape c.files_arg-files.ensures.alone ∙ ap₂ with_rule third c.files_arg-files.ensures.rule)) c.arg-4.ensures
+    let fourth : app_of c.in_ok-arg-4.field-0 ≡ with_rule (with_rule (with_rule (with_rule (new_app (codes "races")) (option_rule (codes "most"))) (option_rule (codes "places"))) (option_rule (codes "buffers"))) (flag_rule (codes "causes")) = c.in_ok-arg-4.ensures.shape c.flag_arg-causes.ensures.alone ∙ ap₂ with_rule third c.flag_arg-causes.ensures.rule in
+    IfOk-weaker c.arg-5.result _ _ (λ command added. ap (λ (a : App). a.top) (added.shape c.files_arg-files.ensures.alone ∙ ap₂ with_rule fourth c.files_arg-files.ensures.rule)) c.arg-5.ensures
 
 pub returns-clause-alone : goal.returns-clause-alone
 returns-clause-alone c =
@@ -19,4 +20,5 @@ returns-clause-alone c =
     let first : (fields_of c.in_ok-arg.field-0).has_globals ≡ false = c.in_ok-arg.ensures.globals ∙ rw (bare, c.option_arg-most.ensures.alone) refl in
     let second : (fields_of c.in_ok-arg-2.field-0).has_globals ≡ false = c.in_ok-arg-2.ensures.globals ∙ rw (first, c.option_arg-places.ensures.alone) refl in
     let third : (fields_of c.in_ok-arg-3.field-0).has_globals ≡ false = c.in_ok-arg-3.ensures.globals ∙ rw (second, c.option_arg-buffers.ensures.alone) refl in
-    IfOk-weaker c.arg-4.result _ _ (λ command added. added.globals ∙ rw (third, c.files_arg-files.ensures.alone) refl) c.arg-4.ensures
+    let fourth : (fields_of c.in_ok-arg-4.field-0).has_globals ≡ false = c.in_ok-arg-4.ensures.globals ∙ rw (third, c.flag_arg-causes.ensures.alone) refl in
+    IfOk-weaker c.arg-5.result _ _ (λ command added. added.globals ∙ rw (fourth, c.files_arg-files.ensures.alone) refl) c.arg-5.ensures

@@ -22,6 +22,7 @@ returns c =
     let f = found_of c.args.values.now in
     record {
       form = sym c.asks_for-long.ensures;
+      as_json = sym c.asks_for-json.ensures;
       named = record {
         space = c.in-Some.space.now;
         number = c.in-Some-get_str.number.now;

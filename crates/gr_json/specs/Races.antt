@@ -1,0 +1,25 @@
+-- The least racing pair of a word as JSON.
+-- Source: docs/FORMATS.md, "JSON".
+use Rattle.std.specs.Prelude.{ℕ, List, Option, None, Some, codes}
+use Rattle.serde_json.specs.Data.{Data, member, no_members, object, string}
+use Rattle.gr_model.specs.declared.event.EventId.{EventId}
+use Rattle.gr_model.specs.declared.event.Word.{Word}
+use Rattle.gr_model.specs.RacePairs.{Pair}
+use Rattle.gr_json.specs.Lines.{json_line}
+use Rattle.gr_json.specs.Words.{event_data, word_data}
+
+-- a word, and two events that race on it
+abbrev pub pair_data : Word → EventId → EventId → Data
+pair_data w e f =
+    object
+    (member (codes "first") (event_data e)
+    (member (codes "second") (event_data f) (member (codes "type") (string (codes "race")) (member (codes "word") (word_data w) no_members))))
+
+-- a word and its racing pair, or a word that has none
+abbrev pub answer_data : Word → Option Pair → Data
+answer_data w (Some pair) = pair_data w pair.0 pair.1
+answer_data w None = object (member (codes "type") (string (codes "no race")) (member (codes "word") (word_data w) no_members))
+
+-- the same as a line
+abbrev pub explanation_json : Word → Option Pair → List ℕ
+explanation_json w pair = json_line (answer_data w pair)

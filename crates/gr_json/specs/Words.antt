@@ -1,0 +1,18 @@
+-- Words of memory and events as JSON.
+-- Source: docs/FORMATS.md, "JSON".
+use Rattle.std.specs.Prelude.{codes}
+use Rattle.serde_json.specs.Data.{Data, member, no_members, number, object, string, unsigned}
+use Rattle.gr_model.specs.declared.event.EventId.{EventId}
+use Rattle.gr_model.specs.declared.event.Word.{Word}
+use Rattle.gr_model.specs.declared.event.Word.TheVariants.{Global, Local}
+
+-- a word: its memory, its number, and the group of a local one
+abbrev pub word_data : Word → Data
+word_data (Global n) = object (member (codes "number") (number (unsigned n)) (member (codes "space") (string (codes "global")) no_members))
+word_data (Local group n) =
+    object (member (codes "group") (number (unsigned group)) (member (codes "number") (number (unsigned n)) (member (codes "space") (string (codes "local")) no_members)))
+
+-- an event, by its group, item and index
+abbrev pub event_data : EventId → Data
+event_data e =
+    object (member (codes "group") (number (unsigned e.at.group)) (member (codes "index") (number (unsigned e.index)) (member (codes "item") (number (unsigned e.at.item)) no_members)))

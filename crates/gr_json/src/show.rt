@@ -1,0 +1,105 @@
+//! From the readers of a launch's streams to the JSON of one word, and from a report to its JSON.
+
+ghost use Rattle.std.specs.Prelude.{◌≡◌, ◌≢◌, ◌⊎◌, IfErr, IfOk, IfSome, OnOk, map};
+ghost use Rattle.std.specs.Io.KnownBytes.{Appends, Keeps};
+ghost use Rattle.gr_record.specs.declared.fault.Fault.TheVariants as faults;
+ghost use Rattle.gr_replay.specs.Each.{all_known};
+ghost use Rattle.gr_report.specs.Putting.{AppendsPrefix};
+ghost use Rattle.gr_report.specs.Whole.{whole_of};
+ghost use Rattle.gr_show.specs.Shown.{IsRacyIn, IsShowFault, IsShown, ShowsPrefix};
+ghost use Rattle.gr_json.specs.Reports.{report_json};
+ghost use Rattle.gr_json.specs.Shown.{IsJsonAccount, IsJsonLine};
+
+use crate::account::account_json;
+use crate::lines::write_text;
+use crate::race::explanation_json;
+use crate::report::report_json;
+use gr_explain::explain::explain;
+use gr_long::account::account_of;
+use gr_model::event::Word;
+use gr_record::fault::Fault;
+use gr_replay::read_each;
+use gr_report::report::Report;
+use std::alloc::{Allocator, Global};
+use std::io::{Read, Write};
+
+/// Writes a report as lines of JSON, and flushes.
+///
+/// # Errors
+/// `Memory` where memory runs out; nothing is then written. `Write` where the writer fails, which then has a prefix of the
+/// lines.
+pub fn write_report_json<A: Allocator, W: Write>(
+    alloc: Global,
+    report: &Report<A>,
+    writer: &mut W,
+) -> Result<(), Fault>
+    ensures whole { OnOk result (Appends (W.contents writer.old) (W.contents writer.new) (report_json (whole_of report.now))) }
+    ensures fault { IfErr result (λ f. (f ≡ faults.Memory) ⊎ (f ≡ faults.Write)) }
+    ensures untouched { IfErr result (λ f. f ≢ faults.Write → Keeps (W.contents writer.old) (W.contents writer.new)) }
+    ensures prefix { IfErr result (λ f. f ≡ faults.Write → AppendsPrefix (W.contents writer.old) (W.contents writer.new) (report_json (whole_of report.now))) }
+{
+    let text = report_json(alloc, report)?;
+    match write_text(writer, &text) {
+        Ok(()) => Ok(()),
+        Err(_) => Err(Fault::Write),
+    }
+}
+
+/// Reads the streams of a launch, one from each reader, writes the word and its least racing pair, or that it has none, as a
+/// line of JSON and nothing else, and tells whether the word has a race.
+///
+/// # Errors
+/// Those of `read_each`; `Write` where the writer fails, which then has a prefix of the line. In every other case of an
+/// error nothing is written.
+pub fn show_race_json<T: Read + Drop, W: Write>(
+    alloc: Global,
+    readers: Vec<T>,
+    word: Word,
+    writer: &mut W,
+) -> Result<bool, Fault>
+    ensures shown { IfOk result (λ found. IsShown (IsJsonLine word) (IsRacyIn word) (all_known (map T.remaining readers.items)) found (W.contents writer.old) (W.contents writer.new)) }
+    ensures fault { IfErr result (λ f. IfSome (all_known (map T.remaining readers.items)) (λ inputs. IsShowFault inputs f)) }
+
+    // What a refusal leaves with the writer.
+    ensures untouched { IfErr result (λ f. f ≢ faults.Write → Keeps (W.contents writer.old) (W.contents writer.new)) }
+    ensures prefix { IfErr result (λ f. f ≡ faults.Write → ShowsPrefix (IsJsonLine word) (all_known (map T.remaining readers.items)) (W.contents writer.old) (W.contents writer.new)) }
+    ensures threads { IfErr result (λ f. f ≢ faults.Threads) }
+{
+    let traces = read_each(alloc, readers)?;
+    let pair = explain(alloc, &traces, word)?;
+    let text = explanation_json(alloc, word, pair)?;
+    match write_text(writer, &text) {
+        Ok(()) => Ok(pair.is_some()),
+        Err(_) => Err(Fault::Write),
+    }
+}
+
+/// Reads the streams of a launch, one from each reader, writes the word and its least racing pair, what the two accesses are
+/// and the cause of their race, or that the word has no race, as a line of JSON and nothing else, and tells whether the word has
+/// a race.
+///
+/// # Errors
+/// Those of `read_each`; `Write` where the writer fails, which then has a prefix of the line. In every other case of an
+/// error nothing is written.
+pub fn show_account_json<T: Read + Drop, W: Write>(
+    alloc: Global,
+    readers: Vec<T>,
+    word: Word,
+    writer: &mut W,
+) -> Result<bool, Fault>
+    ensures shown { IfOk result (λ found. IsShown (IsJsonAccount word) (IsRacyIn word) (all_known (map T.remaining readers.items)) found (W.contents writer.old) (W.contents writer.new)) }
+    ensures fault { IfErr result (λ f. IfSome (all_known (map T.remaining readers.items)) (λ inputs. IsShowFault inputs f)) }
+
+    // What a refusal leaves with the writer.
+    ensures untouched { IfErr result (λ f. f ≢ faults.Write → Keeps (W.contents writer.old) (W.contents writer.new)) }
+    ensures prefix { IfErr result (λ f. f ≡ faults.Write → ShowsPrefix (IsJsonAccount word) (all_known (map T.remaining readers.items)) (W.contents writer.old) (W.contents writer.new)) }
+    ensures threads { IfErr result (λ f. f ≢ faults.Threads) }
+{
+    let traces = read_each(alloc, readers)?;
+    let account = account_of(alloc, &traces, word)?;
+    let text = account_json(alloc, word, account)?;
+    match write_text(writer, &text) {
+        Ok(()) => Ok(account.is_some()),
+        Err(_) => Err(Fault::Write),
+    }
+}

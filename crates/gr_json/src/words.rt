@@ -1,0 +1,34 @@
+//! Words of memory and events as JSON.
+
+ghost use Rattle.std.specs.Prelude.{◌≡◌, IfOk};
+ghost use Rattle.serde_json.specs.View.{view};
+ghost use Rattle.gr_json.specs.Words.{event_data, word_data};
+
+use gr_model::event::{EventId, Word};
+use serde_json::{Value, json};
+use std::alloc::{AllocError, Global};
+
+/// A word of memory: its memory, its number, and the group of a local one.
+///
+/// # Errors
+/// `AllocError`: out of memory.
+pub fn word_value(alloc: Global, word: Word) -> Result<Value, AllocError>
+    ensures { IfOk result (λ v. view v ≡ word_data word) }
+{
+    match word {
+        Word::Global(number) => json!(in alloc; {"number": number, "space": "global"}),
+        Word::Local(group, number) => {
+            json!(in alloc; {"group": group, "number": number, "space": "local"})
+        }
+    }
+}
+
+/// An event: its group, its item and its index in the item's trace.
+///
+/// # Errors
+/// `AllocError`: out of memory.
+pub fn event_value(alloc: Global, event: EventId) -> Result<Value, AllocError>
+    ensures { IfOk result (λ v. view v ≡ event_data event) }
+{
+    json!(in alloc; {"group": event.at.group, "index": event.index, "item": event.at.item})
+}
