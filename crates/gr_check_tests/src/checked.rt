@@ -158,10 +158,11 @@ const LAUNCHES: [(&str, [File; 2], &[&str], &str); 4] = [
 #[test]
 fn launches_are_counted(rt: HostRuntime) -> Result<(), Fail> {
     let alloc = rt.alloc();
-    for (name, files, names, wanted) in LAUNCHES {
-        let (answer, text) = checked(alloc, alloc, files, names, usize::MAX)?;
+    for case in &LAUNCHES {
+        let (name, files, names, wanted) = case;
+        let (answer, text) = checked(alloc, alloc, *files, names, usize::MAX)?;
         assert_eq!(rt; answer, Ok(true), "{name}");
-        assert_eq!(rt; str::from_utf8(&text), Ok(wanted), "{name}");
+        assert_eq!(rt; str::from_utf8(&text), Ok(*wanted), "{name}");
     }
     Ok(())
 }
@@ -281,10 +282,11 @@ const PLACES: [(&str, File, &str); 21] = [
 #[test]
 fn faults_have_their_place(rt: HostRuntime) -> Result<(), Fail> {
     let alloc = rt.alloc();
-    for (name, file, wanted) in PLACES {
-        let (answer, text) = checked(alloc, alloc, [file, NONE], &["a"], usize::MAX)?;
+    for case in &PLACES {
+        let (name, file, wanted) = case;
+        let (answer, text) = checked(alloc, alloc, [*file, NONE], &["a"], usize::MAX)?;
         assert_eq!(rt; answer, Ok(false), "{name}");
-        assert_eq!(rt; str::from_utf8(split(&text).0), Ok(wanted), "{name}");
+        assert_eq!(rt; str::from_utf8(split(&text).0), Ok(*wanted), "{name}");
     }
     Ok(())
 }
@@ -349,10 +351,11 @@ const SEVERAL: [(&str, [File; 2], &[&str], &str); 9] = [
 #[test]
 fn faults_of_several_files_name_them(rt: HostRuntime) -> Result<(), Fail> {
     let alloc = rt.alloc();
-    for (name, files, names, wanted) in SEVERAL {
-        let (answer, text) = checked(alloc, alloc, files, names, usize::MAX)?;
+    for case in &SEVERAL {
+        let (name, files, names, wanted) = case;
+        let (answer, text) = checked(alloc, alloc, *files, names, usize::MAX)?;
         assert_eq!(rt; answer, Ok(false), "{name}");
-        assert_eq!(rt; str::from_utf8(split(&text).0), Ok(wanted), "{name}");
+        assert_eq!(rt; str::from_utf8(split(&text).0), Ok(*wanted), "{name}");
     }
     Ok(())
 }
@@ -500,12 +503,13 @@ const SENTENCES: [(&str, [File; 2], &[&str], &str); 18] = [
 #[test]
 fn faults_are_told_in_words(rt: HostRuntime) -> Result<(), Fail> {
     let alloc = rt.alloc();
-    for (name, files, names, wanted) in SENTENCES {
-        let (answer, text) = checked(alloc, alloc, files, names, usize::MAX)?;
+    for case in &SENTENCES {
+        let (name, files, names, wanted) = case;
+        let (answer, text) = checked(alloc, alloc, *files, names, usize::MAX)?;
         assert_eq!(rt; answer, Ok(false), "{name}");
         assert_eq!(rt;
             split(&text).1.map(str::from_utf8),
-            Some(Ok(wanted)),
+            Some(Ok(*wanted)),
             "{name}"
         );
     }
@@ -549,7 +553,8 @@ const UNREAD: [(&str, &[&str]); 4] = [
 #[test]
 fn faults_of_reading_write_nothing(rt: HostRuntime) -> Result<(), Fail> {
     let alloc = rt.alloc();
-    for (name, names) in UNREAD {
+    for case in &UNREAD {
+        let (name, names) = case;
         let (answer, text) = checked(alloc, alloc, REFUSED_FILES, names, usize::MAX)?;
         assert_eq!(rt; answer, Err(Fault::Read), "{name}");
         assert!(rt; text.is_empty(), "{name}");

@@ -666,6 +666,135 @@ const CASES_OF_CHECKS: [Case; 6] = [
     ),
 ];
 
+/// A launch with a finding of each kind: a race, a barrier that is not met alike, an acquire of a release that is not there, and
+/// a cut.
+const ODD: &str = "group 0 items 2 launch 7\n0 w g 16\n1 r g 16\n0 bar 1 gl\n1 bar 2 gl\n\
+     0 ld g 20 dev acq < 0 1 5\n0 r l 4\nend cut\n";
+
+const ODD_REPORT: &str = "{\"groups\":1,\"items\":2,\"records\":7,\"type\":\"launch\"}\n\
+{\"group\":0,\"type\":\"cut\"}\n\
+{\"type\":\"race\",\"word\":{\"number\":16,\"space\":\"global\"}}\n\
+{\"cause\":\"site\",\"group\":0,\"instance\":0,\"type\":\"diverge\"}\n\
+{\"cause\":\"absent\",\"event\":{\"group\":0,\"index\":2,\"item\":0},\"type\":\"unmatched\"}\n\
+{\"diverge\":1,\"held\":2,\"races\":1,\"type\":\"end\",\"unmatched\":1}\n";
+
+const ODD_RACE: &str =
+    "{\"first\":{\"group\":0,\"index\":0,\"item\":0},\"second\":{\"group\":0,\"index\":0,\"item\":1},\
+\"type\":\"race\",\"word\":{\"number\":16,\"space\":\"global\"}}\n";
+
+const ODD_ACCOUNT: &str = "{\"cause\":\"no-barrier\",\
+\"first\":{\"access\":{\"kind\":\"write\"},\"group\":0,\"index\":0,\"item\":0,\"phase\":0,\"record\":0},\
+\"second\":{\"access\":{\"kind\":\"read\"},\"group\":0,\"index\":0,\"item\":1,\"phase\":0,\"record\":1},\
+\"type\":\"race\",\"word\":{\"number\":16,\"space\":\"global\"}}\n";
+
+/// The same of words that ask for JSON, for causes, or why an event is held.
+const CASES_OF_ODD: [Case; 12] = [
+    (
+        "a run as JSON",
+        &["run", "--json", "back"],
+        &[],
+        ODD_REPORT,
+        "",
+        1,
+    ),
+    (
+        "a racy word as JSON",
+        &["explain", "--json", "g", "16", "back"],
+        &[],
+        ODD_RACE,
+        "",
+        1,
+    ),
+    (
+        "a word without a race as JSON",
+        &["explain", "l0", "4", "back", "--json"],
+        &[],
+        "{\"type\":\"no race\",\"word\":{\"group\":0,\"number\":4,\"space\":\"local\"}}\n",
+        "",
+        0,
+    ),
+    (
+        "the long form as JSON",
+        &["explain", "--json", "--long", "g", "16", "back"],
+        &[],
+        ODD_ACCOUNT,
+        "",
+        1,
+    ),
+    (
+        "a run as JSON of a file that is cut off",
+        &["run", "--json", "cut"],
+        &[],
+        "",
+        "gpurace: stream 0: truncated\n",
+        2,
+    ),
+    (
+        "the races with their causes",
+        &["races", "--causes", "back"],
+        &[],
+        ODD_RACES,
+        "",
+        1,
+    ),
+    (
+        "why an event is held",
+        &["why-held", "0", "0", "3", "back"],
+        &[],
+        "held 0 0 3 behind 0 0 2\nheld 0 0 2 absent 0 1 5\n",
+        "",
+        1,
+    ),
+    (
+        "why an event is held that is judged, with zeros",
+        &["why-held", "00", "01", "0000", "back"],
+        &[],
+        "judged 0 1 0\n",
+        "",
+        0,
+    ),
+    (
+        "why an event is held that is not there",
+        &["why-held", "65535", "0", "4294967295", "back"],
+        &[],
+        "no record 65535 0 4294967295\n",
+        "",
+        0,
+    ),
+    (
+        "why an event is held, of a group out of range",
+        &["why-held", "65536", "0", "0", "back"],
+        &[],
+        "",
+        NO_EVENT,
+        3,
+    ),
+    (
+        "why an event is held, of an item with a sign",
+        &["why-held", "0", "+0", "0", "missing"],
+        &[],
+        "",
+        NO_EVENT,
+        3,
+    ),
+    (
+        "why an event is held, of no file",
+        &["why-held", "0", "0", "0"],
+        &[],
+        "",
+        "error: the following required arguments were not provided:\n  <FILE>...\n",
+        3,
+    ),
+];
+
+const ODD_RACES: &str = "kind global write read one group words 1\n\
+words global 16\n\
+race global 16: 0 0 0 with 0 1 0\n\
+cause no-barrier: nothing orders the two; a barrier with CLK_GLOBAL_MEM_FENCE between them would\n\
+end kinds 1 races 1\n";
+
+const NO_EVENT: &str = "error: GROUP, ITEM and INDEX name no event: ";
+
 const RACE_TEXT: &str = "group 0 items 2 launch 7\n0 w g 16\n1 r g 16\nend\n";
 
 const RACE_BY_KIND: &str = "kind global write read one group words 1\n\
@@ -789,6 +918,18 @@ fn words_that_ask_for_a_check_give_output_and_status(rt: HostRuntime) {
         let name = case.0;
         assert!(rt; is_as_said(rt, rt.alloc(), case, &[]), "{name}");
     }
+}
+
+#[test]
+fn words_about_a_launch_of_all_findings_give_output_and_status(
+    rt: HostRuntime,
+) -> Result<(), Fail> {
+    let odd = pack_text(rt.alloc(), ODD.as_bytes())?;
+    for case in &CASES_OF_ODD {
+        let name = case.0;
+        assert!(rt; is_as_said(rt, rt.alloc(), case, &odd), "{name}");
+    }
+    Ok(())
 }
 
 #[test]
