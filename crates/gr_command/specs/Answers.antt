@@ -2,7 +2,6 @@
 -- Source: docs/FORMATS.md, "Report", "Fault lines" and "Exit statuses".
 use Rattle.std.specs.Prelude.{◌≡◌, ◌≢◌, ◌⊎◌, ℕ, Bool, false, true, List, Option, None, Some, Result, IfSome}
 use Rattle.std.specs.Io.KnownBytes.{Appends, Keeps}
-use Rattle.std.specs.declared.alloc.Global.{Global}
 use Rattle.gr_model.specs.declared.event.Word.{Word}
 use Rattle.gr_model.specs.Reports.{WholeReport}
 use Rattle.gr_model.specs.Streams.{Streams}
@@ -109,11 +108,11 @@ module _ {T X : Type 0} (remaining : T → Option (List ℕ)) (Gives : List ℕ 
 
   -- why an event is held is written whole, and it is said whether it is
   abbrev pub IsToldOfFiles : AskedEvent → Bool → Type 0
-  IsToldOfFiles a held = HoldsOfFiles remaining Gives a.files (λ known. IsShown (IsWhyText Global a.event) (IsHeldIn a.event) known held old new)
+  IsToldOfFiles a held = HoldsOfFiles remaining Gives a.files (λ known. IsShown (IsWhyText a.event) (IsHeldIn a.event) known held old new)
 
   -- a prefix of it was written
   abbrev pub TellsPrefixOfFiles : AskedEvent → Type 0
-  TellsPrefixOfFiles a = HoldsOfFiles remaining Gives a.files (λ known. ShowsPrefix (IsWhyText Global a.event) known old new)
+  TellsPrefixOfFiles a = HoldsOfFiles remaining Gives a.files (λ known. ShowsPrefix (IsWhyText a.event) known old new)
 
   module _ (old_errors new_errors : Option (List ℕ)) (status : ℕ) where
     -- the text of the word, and whether it is racy; or why there is none
