@@ -1,11 +1,10 @@
 //! The least racing pair of a word, what its accesses are, and the cause of their race, as JSON.
 
-ghost use Rattle.std.specs.Prelude.{◌≡◌, IfOk, string_bytes};
+ghost use Rattle.std.specs.Prelude.{◌≡◌, IfOk};
 ghost use Rattle.serde_json.specs.View.{view};
-ghost use Rattle.serde_json.specs.Written.{compact_text};
 ghost use Rattle.gr_json.specs.Accounts as spec;
 
-use crate::lines::push_line;
+use crate::lines::push_value;
 use crate::race::answer_value;
 use crate::words::word_value;
 use gr_causes::cause::Cause;
@@ -137,17 +136,6 @@ fn account_value(alloc: Global, word: Word, account: Option<Account>) -> Result<
     }
 }
 
-/// The text of the same.
-///
-/// # Errors
-/// `AllocError`: out of memory.
-fn account_text(alloc: Global, word: Word, account: Option<Account>) -> Result<String, AllocError>
-    ensures { IfOk result (λ s. string_bytes s ≡ compact_text (spec.account_data word account)) }
-{
-    let value = account_value(alloc, word, account)?;
-    value.to_string(alloc)
-}
-
 /// The line of a word's racing pair, what its accesses are and the cause of their race, or of a word that has none.
 ///
 /// # Errors
@@ -155,8 +143,8 @@ fn account_text(alloc: Global, word: Word, account: Option<Account>) -> Result<S
 pub fn account_json(alloc: Global, word: Word, account: Option<Account>) -> Result<Vec<u8>, Memory>
     ensures { IfOk result (λ text. text.items ≡ spec.account_json word account) }
 {
-    let answer = account_text(alloc, word, account)?;
+    let value = account_value(alloc, word, account)?;
     let mut text = Vec::new(alloc);
-    push_line(&mut text, &answer)?;
+    push_value(alloc, &mut text, &value)?;
     Ok(text)
 }

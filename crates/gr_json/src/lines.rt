@@ -1,20 +1,27 @@
 //! Texts of lines.
 
-ghost use Rattle.std.specs.Prelude.{◌≡◌, ◌++◌, OnErr, OnOk, codes};
+ghost use Rattle.std.specs.Prelude.{◌≡◌, ◌++◌, false, OnErr, OnOk};
 ghost use Rattle.std.specs.Io.KnownBytes.{Appends};
+ghost use Rattle.serde_json.specs.View.{view};
+ghost use Rattle.serde_json.specs.Written.{has_float};
 ghost use Rattle.gr_report.specs.Putting.{AppendsPrefix};
+ghost use Rattle.gr_json.specs.Lines.{json_line};
 
 use gr_model::memory::Memory;
 use gr_report::putting::{WriteFault, finish, put};
+use serde_json::Value;
+use std::alloc::Global;
 use std::io::Write;
 
-/// Adds a line to a text.
+/// Adds a value to a text, as a line of JSON.
 ///
 /// # Errors
 /// `Memory`: out of memory.
-pub(crate) fn push_line(text: &mut Vec<u8>, line: &str) -> Result<(), Memory>
-    ensures { OnOk result (text.new.items ≡ text.old.items ++ (line.now ++ codes "\n")) }
+pub(crate) fn push_value(alloc: Global, text: &mut Vec<u8>, value: &Value) -> Result<(), Memory>
+    requires { has_float (view value.now) ≡ false }
+    ensures { OnOk result (text.new.items ≡ text.old.items ++ json_line (view value.now)) }
 {
+    let line = value.to_string(alloc)?;
     text.extend_from_slice(line.as_bytes())?;
     text.push(b'\n')?;
     Ok(())

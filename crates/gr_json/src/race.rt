@@ -1,11 +1,10 @@
 //! The least racing pair of a word as JSON.
 
-ghost use Rattle.std.specs.Prelude.{◌≡◌, IfOk, string_bytes};
+ghost use Rattle.std.specs.Prelude.{◌≡◌, IfOk};
 ghost use Rattle.serde_json.specs.View.{view};
-ghost use Rattle.serde_json.specs.Written.{compact_text};
 ghost use Rattle.gr_json.specs.Races.{answer_data, explanation_json, pair_data};
 
-use crate::lines::push_line;
+use crate::lines::push_value;
 use crate::words::{event_value, word_value};
 use gr_model::event::{EventId, Word};
 use gr_model::memory::Memory;
@@ -50,21 +49,6 @@ pub(crate) fn answer_value(
     }
 }
 
-/// The text of a word and its racing pair, or of a word that has none.
-///
-/// # Errors
-/// `AllocError`: out of memory.
-fn answer_text(
-    alloc: Global,
-    word: Word,
-    pair: Option<(EventId, EventId)>,
-) -> Result<String, AllocError>
-    ensures { IfOk result (λ s. string_bytes s ≡ compact_text (answer_data word pair)) }
-{
-    let value = answer_value(alloc, word, pair)?;
-    value.to_string(alloc)
-}
-
 /// The line of a word and its racing pair, or of a word that has none.
 ///
 /// # Errors
@@ -76,8 +60,8 @@ pub fn explanation_json(
 ) -> Result<Vec<u8>, Memory>
     ensures { IfOk result (λ text. text.items ≡ explanation_json word pair) }
 {
-    let answer = answer_text(alloc, word, pair)?;
+    let value = answer_value(alloc, word, pair)?;
     let mut text = Vec::new(alloc);
-    push_line(&mut text, &answer)?;
+    push_value(alloc, &mut text, &value)?;
     Ok(text)
 }

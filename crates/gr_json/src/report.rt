@@ -1,54 +1,55 @@
 //! The report of a launch as JSON: a line each for how large the launch is, each finding, and the end.
 
-ghost use Rattle.std.specs.Prelude.{◌≡◌, ◌++◌, IfOk, OnOk, string_bytes};
+ghost use Rattle.std.specs.Prelude.{◌≡◌, ◌++◌, IfOk, OnOk};
 ghost use Rattle.std.specs.List.{flat_map};
-ghost use Rattle.serde_json.specs.Written.{compact_text};
+ghost use Rattle.serde_json.specs.View.{view};
 ghost use Rattle.gr_report.specs.Whole.{whole_of};
 ghost use Rattle.gr_json.specs.Lines.{json_line};
 ghost use Rattle.gr_json.specs.Reports as spec;
 
-use crate::lines::push_line;
+use crate::lines::push_value;
 use crate::words::{event_value, word_value};
 use gr_model::event::Word;
 use gr_model::memory::Memory;
 use gr_model::report::{AcquireCause, Divergence, DivergenceCause, Unmatched};
 use gr_report::report::Report;
-use serde_json::json;
+use serde_json::{Value, json};
 use std::alloc::{AllocError, Allocator, Global};
 
 /// How large the launch is.
 ///
 /// # Errors
 /// `AllocError`: out of memory.
-fn head_text<A: Allocator>(alloc: Global, report: &Report<A>) -> Result<String, AllocError>
-    ensures { IfOk result (λ s. string_bytes s ≡ compact_text (spec.head_data (whole_of report.now))) }
+fn head_value<A: Allocator>(alloc: Global, report: &Report<A>) -> Result<Value, AllocError>
+    ensures { IfOk result (λ v. view v ≡ spec.head_data (whole_of report.now)) }
 {
-    let head =
-        json!(in alloc; {"groups": report.groups, "items": report.items, "records": report.records, "type": "launch"})?;
-    head.to_string(alloc)
+    json!(in alloc; {
+        "groups": report.groups,
+        "items": report.items,
+        "records": report.records,
+        "type": "launch"
+    })
 }
 
 /// A group whose stream was cut.
 ///
 /// # Errors
 /// `AllocError`: out of memory.
-fn cut_text(alloc: Global, group: u16) -> Result<String, AllocError>
-    ensures { IfOk result (λ s. string_bytes s ≡ compact_text (spec.cut_data group)) }
+fn cut_value(alloc: Global, group: u16) -> Result<Value, AllocError>
+    ensures { IfOk result (λ v. view v ≡ spec.cut_data group) }
 {
-    let cut = json!(in alloc; {"group": group, "type": "cut"})?;
-    cut.to_string(alloc)
+    json!(in alloc; {"group": group, "type": "cut"})
 }
 
 /// A word that has a race.
 ///
 /// # Errors
 /// `AllocError`: out of memory.
-fn race_text(alloc: Global, word: Word) -> Result<String, AllocError>
-    ensures { IfOk result (λ s. string_bytes s ≡ compact_text (spec.race_data word)) }
+fn race_value(alloc: Global, word: Word) -> Result<Value, AllocError>
+    ensures { IfOk result (λ v. view v ≡ spec.race_data word) }
 {
     let word = word_value(alloc, word)?;
-    let race = json!(in alloc; {"type": "race", "word": word})?;
-    race.to_string(alloc)
+    json!(in alloc; {"type": "race", "word": word})
 }
 
 fn divergence_cause(cause: DivergenceCause) -> &'static str
@@ -65,13 +66,16 @@ fn divergence_cause(cause: DivergenceCause) -> &'static str
 ///
 /// # Errors
 /// `AllocError`: out of memory.
-fn divergence_text(alloc: Global, divergence: Divergence) -> Result<String, AllocError>
-    ensures { IfOk result (λ s. string_bytes s ≡ compact_text (spec.divergence_data divergence)) }
+fn divergence_value(alloc: Global, divergence: Divergence) -> Result<Value, AllocError>
+    ensures { IfOk result (λ v. view v ≡ spec.divergence_data divergence) }
 {
     let cause = divergence_cause(divergence.cause);
-    let found =
-        json!(in alloc; {"cause": cause, "group": divergence.group, "instance": divergence.instance, "type": "diverge"})?;
-    found.to_string(alloc)
+    json!(in alloc; {
+        "cause": cause,
+        "group": divergence.group,
+        "instance": divergence.instance,
+        "type": "diverge"
+    })
 }
 
 fn acquire_cause(cause: AcquireCause) -> &'static str
@@ -88,36 +92,39 @@ fn acquire_cause(cause: AcquireCause) -> &'static str
 ///
 /// # Errors
 /// `AllocError`: out of memory.
-fn unmatched_text(alloc: Global, acquire: Unmatched) -> Result<String, AllocError>
-    ensures { IfOk result (λ s. string_bytes s ≡ compact_text (spec.unmatched_data acquire)) }
+fn unmatched_value(alloc: Global, acquire: Unmatched) -> Result<Value, AllocError>
+    ensures { IfOk result (λ v. view v ≡ spec.unmatched_data acquire) }
 {
     let cause = acquire_cause(acquire.cause);
     let event = event_value(alloc, acquire.event)?;
-    let found = json!(in alloc; {"cause": cause, "event": event, "type": "unmatched"})?;
-    found.to_string(alloc)
+    json!(in alloc; {"cause": cause, "event": event, "type": "unmatched"})
 }
 
 /// How much of each was found, and how many events are held.
 ///
 /// # Errors
 /// `AllocError`: out of memory.
-fn end_text<A: Allocator>(alloc: Global, report: &Report<A>) -> Result<String, AllocError>
-    ensures { IfOk result (λ s. string_bytes s ≡ compact_text (spec.end_data (whole_of report.now))) }
+fn end_value<A: Allocator>(alloc: Global, report: &Report<A>) -> Result<Value, AllocError>
+    ensures { IfOk result (λ v. view v ≡ spec.end_data (whole_of report.now)) }
 {
     let races = report.races.as_slice().len();
     let diverge = report.divergences.as_slice().len();
     let unmatched = report.unmatched.as_slice().len();
-    let end =
-        json!(in alloc; {"diverge": diverge, "held": report.held, "races": races, "type": "end", "unmatched": unmatched})?;
-    end.to_string(alloc)
+    json!(in alloc; {
+        "diverge": diverge,
+        "held": report.held,
+        "races": races,
+        "type": "end",
+        "unmatched": unmatched
+    })
 }
 
 fn push_cuts(alloc: Global, text: &mut Vec<u8>, groups: &[u16]) -> Result<(), Memory>
     ensures { OnOk result (text.new.items ≡ text.old.items ++ flat_map (λ g. json_line (spec.cut_data g)) groups.now) }
 {
     for group in groups {
-        let line = cut_text(alloc, *group)?;
-        push_line(text, &line)?;
+        let value = cut_value(alloc, *group)?;
+        push_value(alloc, text, &value)?;
     }
     Ok(())
 }
@@ -126,8 +133,8 @@ fn push_races(alloc: Global, text: &mut Vec<u8>, words: &[Word]) -> Result<(), M
     ensures { OnOk result (text.new.items ≡ text.old.items ++ flat_map (λ w. json_line (spec.race_data w)) words.now) }
 {
     for word in words {
-        let line = race_text(alloc, *word)?;
-        push_line(text, &line)?;
+        let value = race_value(alloc, *word)?;
+        push_value(alloc, text, &value)?;
     }
     Ok(())
 }
@@ -140,8 +147,8 @@ fn push_divergences(
     ensures { OnOk result (text.new.items ≡ text.old.items ++ flat_map (λ d. json_line (spec.divergence_data d)) divergences.now) }
 {
     for divergence in divergences {
-        let line = divergence_text(alloc, *divergence)?;
-        push_line(text, &line)?;
+        let value = divergence_value(alloc, *divergence)?;
+        push_value(alloc, text, &value)?;
     }
     Ok(())
 }
@@ -150,8 +157,8 @@ fn push_unmatched(alloc: Global, text: &mut Vec<u8>, acquires: &[Unmatched]) -> 
     ensures { OnOk result (text.new.items ≡ text.old.items ++ flat_map (λ u. json_line (spec.unmatched_data u)) acquires.now) }
 {
     for acquire in acquires {
-        let line = unmatched_text(alloc, *acquire)?;
-        push_line(text, &line)?;
+        let value = unmatched_value(alloc, *acquire)?;
+        push_value(alloc, text, &value)?;
     }
     Ok(())
 }
@@ -163,8 +170,8 @@ fn push_head<A: Allocator>(
 ) -> Result<(), Memory>
     ensures { OnOk result (text.new.items ≡ text.old.items ++ json_line (spec.head_data (whole_of report.now))) }
 {
-    let line = head_text(alloc, report)?;
-    push_line(text, &line)
+    let value = head_value(alloc, report)?;
+    push_value(alloc, text, &value)
 }
 
 fn push_end<A: Allocator>(
@@ -174,8 +181,8 @@ fn push_end<A: Allocator>(
 ) -> Result<(), Memory>
     ensures { OnOk result (text.new.items ≡ text.old.items ++ json_line (spec.end_data (whole_of report.now))) }
 {
-    let line = end_text(alloc, report)?;
-    push_line(text, &line)
+    let value = end_value(alloc, report)?;
+    push_value(alloc, text, &value)
 }
 
 /// The report as lines of JSON, in the order of its text (docs/FORMATS.md, "JSON").
