@@ -1,5 +1,5 @@
 -- What values of arguments are, and that they ask for one thing at most.
-use Rattle.std.proofs.Common.{◌≡◌, ◌∙◌, ℕ, List, Option, None, Some, Bool, true, true≢false, sym, ap, map, Bor, codes, inl, inr, refl, subst, Result, Ok, Err, MatchOption}
+use Rattle.std.proofs.Common.{◌≡◌, ◌∙◌, ℕ, List, Option, None, Some, true≢false, sym, ap, map, Bor, codes, inl, inr, refl, subst, Result, Ok, Err, MatchOption}
 use Rattle.std.specs.Prelude.{◌↔◌, IfOk, IsOk, option_map, is_some}
 use Rattle.std.specs.Result.{result_ok}
 use Rattle.clap.specs.declared.parser.matches.Found.{Found}

@@ -6,11 +6,11 @@ use Rattle.clap.specs.declared.parser.matches.ArgMatches.{ArgMatches}
 use Rattle.clap.specs.declared.parser.matches.ArgMatches.TheViews.{out-ArgMatches, out-SubCommand}
 use Rattle.clap.specs.declared.parser.matches.SubCommand.{SubCommand}
 use Rattle.clap.specs.Walk.{Row}
-use Rattle.clap.specs.Words.{App, HasMatchesOf, Kinds, Text, fault_of, is_simple, is_simple_and_free, subcommand_name_of, subcommand_of, subcommand_rows, subcommand_rows_of}
+use Rattle.clap.specs.Words.{App, HasMatchesOf, Text, fault_of, is_simple, is_simple_and_free, subcommand_name_of, subcommand_of, subcommand_rows, subcommand_rows_of}
 use Rattle.clap.proofs.OnLiterals.{clap_on_literals}
 use Rattle.gr_arguments.specs.declared.request.Task.{Task}
 use Rattle.gr_arguments.specs.declared.request.Task.TheVariants.{Replay, Pack, Dump, Upgrade}
-use Rattle.gr_arguments.specs.Asked.{Asked, AsksTo, IsAskedBy, perform}
+use Rattle.gr_arguments.specs.Asked.{Asked, AsksTo, IsAskedBy}
 use Rattle.gr_arguments.specs.Commands.{command_of, faults, gpurace, name_met, name_of, values_met}
 use Rattle.gr_arguments.specs.Plain.{NamesAsk, NoWordAsks}
 

@@ -1,10 +1,10 @@
 -- Words ask for one thing at most.
-use Rattle.std.proofs.Common.{◌≡◌, ◌∙◌, List, Option, None, Some, Bool, true, false, true≢false, sym, ap, codes, refl, subst}
+use Rattle.std.proofs.Common.{◌≡◌, ◌∙◌, List, Option, None, Some, true, false, true≢false, sym, ap, codes, refl}
 use Rattle.std.specs.Str.{bytes_eq}
 use Rattle.clap.specs.Walk.{Row, Text}
 use Rattle.gr_arguments.specs.declared.request.Task.{Task}
 use Rattle.gr_arguments.specs.declared.request.Task.TheVariants.{Replay, Pack, Dump, Upgrade}
-use Rattle.gr_arguments.specs.Asked.{Asked, AsksTo, IsAskedBy, IsAskedEvent, IsAskedRaces, IsAskedRun, IsAskedWord, IsTheOne, check, explain, perform, races, run, why_held}
+use Rattle.gr_arguments.specs.Asked.{Asked, IsAskedBy, IsAskedEvent, IsAskedRaces, IsAskedRun, IsAskedWord, IsTheOne, check, explain, perform, races, run, why_held}
 use Rattle.gr_arguments.specs.Commands.{command_of, name_met, name_of, values_met}
 use Rattle.gr_arguments.specs.Plain.{WordsAskOnce}
 use Rattle.gr_arguments.proofs.Asking.{one_event, one_races, one_run, one_word}

@@ -1,5 +1,5 @@
 -- What a run leaves behind, from what its outcome says.
-use Rattle.std.proofs.Common.{◌≡◌, ◌≢◌, ◌⊎◌, ℕ, List, [], Option, None, Some, Result, Ok, Err, inl, inr, refl}
+use Rattle.std.proofs.Common.{◌≡◌, ◌≢◌, ◌⊎◌, ℕ, Bool, List, [], Option, None, Some, Result, Ok, Err, inl, inr, refl, subst, sym}
 use Rattle.std.specs.Prelude.{IfOk, IfErr, IfSome, OnOk}
 use Rattle.std.specs.Io.KnownBytes.{Keeps}
 use Rattle.clap.specs.Words.{IsAmong, Kinds}
@@ -9,6 +9,7 @@ use Rattle.gr_arguments.specs.Asked.{Asked, check, explain, perform, races, run,
 use Rattle.gr_arguments.specs.Commands.{AreHelp, AreWrong, IsHelp, IsWrongUsage}
 use Rattle.gr_arguments.specs.declared.request.Task.{Task}
 use Rattle.gr_arguments.specs.declared.request.Task.TheVariants.{Replay, Pack, Dump, Upgrade}
+use Rattle.gr_model.specs.Reports.{WholeReport}
 use Rattle.gr_input.specs.Faults.{Fails}
 use Rattle.gr_input.proofs.Outside.{at_any}
 use Rattle.gr_races.specs.declared.fault.RacesFault.{RacesFault}
@@ -17,9 +18,10 @@ use Rattle.gr_record.specs.declared.fault.Fault.{Fault}
 use Rattle.gr_record.specs.declared.fault.Fault.TheVariants.{Write, Memory}
 use Rattle.gr_replay.specs.Replays.{IsReplayFault}
 use Rattle.gr_report.specs.Putting.{AppendsPrefix}
+use Rattle.gr_streams.specs.Streams.{IsExactOfEach, IsRunFault}
 use Rattle.gr_text.specs.Texts.{packed}
 use Rattle.gr_text.specs.Dumps.{dumped, upgraded}
-use Rattle.gr_command.specs.Answers.{IsAnswerOf, IsDone, IsFaultTold, IsUsageTold}
+use Rattle.gr_command.specs.Answers.{IsAnswerOf, IsDone, IsFaultTold, IsUsageTold, text_of}
 use Rattle.gr_command.specs.Outcomes.{IsOutcome}
 use Rattle.gr_command.specs.declared.status.TheConstants.{NOTHING, USAGE, WANTING, FAILED}
 
@@ -76,6 +78,23 @@ module _ {T X : Type 0} (remaining : T → Option (List ℕ)) (Gives : List ℕ 
   no_memory_to_do (races None) = no_memory_to_read
   no_memory_to_do (run None) = no_memory_to_read
   no_memory_to_do (why_held None) = no_memory_to_read
+
+-- ---- a run whose report is JSON
+
+-- what holds of all inputs holds of those that are known
+pub of_any : (known : Option (List (List ℕ))) (P : List (List ℕ) → Type 0) → ((inputs : List (List ℕ)) → P inputs) → IfSome known P
+of_any None P p = tt
+of_any (Some inputs) P p = p inputs
+
+-- that memory ran out, or the writer failed, is why a run has no report
+pub run_fault : (inputs : List (List ℕ)) (f : Fault) → (f ≡ Memory) ⊎ (f ≡ Write) → IsRunFault inputs f
+run_fault inputs f (inl memory) = subst (IsRunFault inputs) (sym memory) (inl (inl tt))
+run_fault inputs f (inr writing) = subst (IsRunFault inputs) (sym writing) (inr (inr refl))
+
+-- a prefix of the text of a report, where that is the report of the inputs
+pub of_report : (json : Bool) (known : Option (List (List ℕ))) (old new : Option (List ℕ)) (r : WholeReport) → IfSome known (λ inputs. IsExactOfEach inputs r) → AppendsPrefix old new (text_of json r) → IfSome known (λ inputs. (s : WholeReport) × IsExactOfEach inputs s × AppendsPrefix old new (text_of json s))
+of_report json None old new r exact prefix = tt
+of_report json (Some inputs) old new r exact prefix = (r, exact, prefix)
 
 -- ---- words that are not taken
 

@@ -51,6 +51,8 @@ where
         return run_streams(rt, alloc, files, plan.config, watch, writer);
     }
     let report = detect_streams(rt, alloc, files, plan.config, watch)?;
-    write_report_json(alloc, &report, writer)?;
-    Ok(report)
+    match write_report_json(alloc, &report, writer) {
+        Ok(()) => Ok(report),
+        Err(fault) => Err(fault),
+    }
 }

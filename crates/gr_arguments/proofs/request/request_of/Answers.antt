@@ -1,8 +1,8 @@
 use Rattle.std.proofs.Common.{◌≡◌, ◌∙◌, [], map, refl, subst, sym}
-use Rattle.clap.specs.Words.{App, HasKind, Kinds, app_of, fault_of, found_of}
-use Rattle.clap.specs.Walk.{Text, rows_of}
+use Rattle.clap.specs.Words.{HasKind, Kinds, app_of, found_of}
+use Rattle.clap.specs.Walk.{rows_of}
 use Rattle.gr_arguments.specs.Asked.{asked_of, perform}
-use Rattle.gr_arguments.specs.Commands.{faults, gpurace}
+use Rattle.gr_arguments.specs.Commands.{faults}
 use Rattle.gr_arguments.specs.declared.request.Task.TheVariants.{Replay}
 use Rattle.gr_arguments.proofs.FailLemmas.{fails_by}
 use Rattle.gr_arguments.proofs.Meeting.{asks_none, asks_some, faults_are, is_free}
