@@ -128,11 +128,6 @@ pub done_where_none : {Z : Type 0} (o : Option (Handled Z)) (q : Sequence) → (
 done_where_none None q none is = is
 done_where_none (Some step) q none is = absurd (none step refl)
 
--- where nothing was handled nothing is kept
-pub kept_first : {Z : Type 0} (s : Streams) (order : List EventId) (wanted : List EventId) (accesses : List (EventId × Access Z)) → order ≡ [] → accesses ≡ [] → AreKept s (IsIn order) wanted accesses
-kept_first {Z} s order wanted accesses nothing none d has =
-    subst (λ (o : Option (Access Z)). IsKept s (IsIn order) d o) (sym (ap (λ kept. access_at kept d) none)) (λ there. let no : None ≡ Some d = subst (λ (l : List EventId). slice_get l there.0 ≡ Some d) nothing there.1 in cc)
-
 -- ---- the access of a step
 
 pub keeps_one : {Z : Type 0} (wanted : List EventId) (step : Handled Z) (e : EventId) (o : Option (Access Z)) (a : Access Z) (old new : List (EventId × Access Z)) → step ≡ One e o → o ≡ Some a → ((d : EventId) → access_at new d ≡ cond (same_event e d) (Some a) (access_at old d)) → KeepsStep wanted step old new
