@@ -142,13 +142,16 @@ same_word DeviceScope (Barrier global local) w = refl
 same_word DeviceScope (End cut) w = refl
 
 module _ {X : Type 0} (f : X → X) where
+  -- a list with its first element, where that passes a test
+  kept_first : (x : X) (xs : List X) (ys : List X) → ys ≡ map f xs → (b : Bool) → cond b (f x ∷ ys) ys ≡ map f (cond b (x ∷ xs) xs)
+  kept_first x xs ys same true = ap (λ zs. f x ∷ zs) same
+  kept_first x xs ys same false = same
+
   filtered : (test : X → Bool) → ((x : X) → test (f x) ≡ test x) → (xs : List X) → filter test (map f xs) ≡ map f (filter test xs)
   filtered test same [] = refl
-  filtered test same (x ∷ xs) = ap (λ b. cond b (f x ∷ filter test (map f xs)) (filter test (map f xs))) (same x) ∙ by_test (test x)
-    where
-      by_test : (b : Bool) → cond b (f x ∷ filter test (map f xs)) (filter test (map f xs)) ≡ map f (cond b (x ∷ filter test xs) (filter test xs))
-      by_test true = ap (λ ys. f x ∷ ys) (filtered test same xs)
-      by_test false = filtered test same xs
+  filtered test same (x ∷ xs) =
+      ap (λ b. cond b (f x ∷ filter test (map f xs)) (filter test (map f xs))) (same x)
+      ∙ kept_first x (filter test xs) (filter test (map f xs)) (filtered test same xs) (test x)
 
   got : (xs : List X) (k : ℕ) → slice_get (map f xs) k ≡ option_map f (slice_get xs k)
   got [] k = refl

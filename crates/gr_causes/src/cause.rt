@@ -67,12 +67,7 @@ fn is_mended(judgement: Judgement) -> bool
 }
 
 /// The cause of a race in a launch whose records these are, where it is known which relaxed rules make it none.
-fn cause_from<A: Allocator>(
-    lanes: &Lanes<A>,
-    race: &Race,
-    by_flags: bool,
-    by_scope: bool,
-) -> Cause
+fn cause_from<A: Allocator>(lanes: &Lanes<A>, race: &Race, by_flags: bool, by_scope: bool) -> Cause
     requires pair { IsPairOf lanes.now race.now }
     requires prefixes { ArePrefixes lanes.now }
     requires flags { IsTrue by_flags ↔ IsMended lanes.now relaxations.BothFlags race.now.word race.now.first race.now.second }
@@ -95,6 +90,33 @@ fn cause_from<A: Allocator>(
     }
 }
 
+/// The causes of races in a launch whose records these are, where they are judged so with flags relaxed, and so with
+/// scopes.
+///
+/// # Errors
+/// `Memory`: out of memory.
+fn causes_from<A: Allocator + Copy>(
+    alloc: A,
+    lanes: &Lanes<A>,
+    races: &[Race],
+    with_flags: &[Judgement],
+    with_scope: &[Judgement],
+) -> Result<Vec<Cause, A>, Memory>
+    requires pairs { All (IsPairOf lanes.now) races.now }
+    requires prefixes { ArePrefixes lanes.now }
+    requires flags { AreJudgements (spec.relaxed relaxations.BothFlags lanes.now) races.now with_flags.now }
+    requires scope { AreJudgements (spec.relaxed relaxations.DeviceScope lanes.now) races.now with_scope.now }
+    ensures { IfOk result (λ causes. AreCauses lanes.now races.now causes.items) }
+{
+    let mut causes = Vec::new(alloc);
+    for (place, race) in races.iter().enumerate() {
+        let by_flags = is_mended(with_flags[place]);
+        let by_scope = is_mended(with_scope[place]);
+        causes.push(cause_from(lanes, race, by_flags, by_scope))?;
+    }
+    Ok(causes)
+}
+
 /// The causes of races of two events on a word, the smaller event first; one for each race, in their order.
 ///
 /// It judges all of them once for each rule, and so takes time and memory that grow with the events of the launch, and
@@ -113,13 +135,7 @@ pub fn causes_of<A: Allocator + Copy>(
     let with_flags = judged_where(alloc, traces, Relaxation::BothFlags, races)?;
     let with_scope = judged_where(alloc, traces, Relaxation::DeviceScope, races)?;
     let order = take_all(alloc, traces)?;
-    let mut causes = Vec::new(alloc);
-    for (place, race) in races.iter().enumerate() {
-        let by_flags = is_mended(with_flags[place]);
-        let by_scope = is_mended(with_scope[place]);
-        causes.push(cause_from(order.lanes(), race, by_flags, by_scope))?;
-    }
-    Ok(causes)
+    causes_from(alloc, order.lanes(), races, &with_flags, &with_scope)
 }
 
 /// The cause of a race of two events on a word, the smaller event first: that of `causes_of`.

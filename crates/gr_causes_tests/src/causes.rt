@@ -37,7 +37,10 @@ fn several_races_have_the_causes_of_each(rt: HostRuntime) -> Result<(), Fail> {
         let answer = has_cause(alloc, alloc, &("alone", ALL_CAUSES, word, cause));
         assert!(rt; answer == Ok(true), "{word:?}");
     }
-    assert!(rt; have_causes(alloc, alloc, NO_RACE, &[]) == Ok(true), "no race");
+    assert!(rt;
+        have_causes(alloc, alloc, NO_RACE, &[]) == Ok(true),
+        "no race"
+    );
     Ok(())
 }
 

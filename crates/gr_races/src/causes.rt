@@ -1,6 +1,6 @@
 //! The causes of the races that are shown.
 
-ghost use Rattle.std.specs.Prelude.{◌≡◌, All, IfOk, map};
+ghost use Rattle.std.specs.Prelude.{◌≡◌, All, IfOk, filter_map, map, slice_get};
 ghost use Rattle.gr_causes.specs.Causes.{IsPairOf};
 ghost use Rattle.gr_races.specs.Listing.{entry_of};
 ghost use Rattle.gr_races.specs.Telling.{AreTold, first_races};
@@ -12,6 +12,13 @@ use gr_model::race::Race;
 use gr_model::traces::Traces;
 use std::alloc::Allocator;
 
+/// The first race of an entry.
+fn first_race<A: Allocator>(entry: &KindEntry<A>) -> Option<Race>
+    ensures { result ≡ slice_get entry.now.races.items 0 }
+{
+    entry.races.first().copied()
+}
+
 /// The first race of each entry.
 ///
 /// # Errors
@@ -20,11 +27,11 @@ fn first_races<A: Allocator + Copy>(
     alloc: A,
     entries: &[KindEntry<A>],
 ) -> Result<Vec<Race, A>, Memory>
-    ensures { IfOk result (λ races. races.items ≡ first_races (map entry_of entries.now)) }
+    ensures { IfOk result (λ races. races.items ≡ filter_map (λ entry. slice_get entry.races.items 0) entries.now) }
 {
     let races = entries
         .iter()
-        .filter_map(|entry| entry.races.first().copied())
+        .filter_map(|entry| first_race(entry))
         .collect(alloc)?;
     Ok(races)
 }

@@ -133,9 +133,7 @@ fn growths_refused(heap: Global) -> Result<Option<u64>, Memory> {
         let alloc = Refusing::new(heap, at);
         let shown = shown(&alloc, heap, &streams, Some(1));
         let whole = match &shown {
-            Ok((answer, text)) => {
-                *answer == Ok(true) && text.starts_with(FLAGS.as_bytes())
-            }
+            Ok((answer, text)) => { *answer == Ok(true) && text.starts_with(FLAGS.as_bytes()) }
             Err(_) => false,
         };
         if !alloc.refused() {

@@ -11,5 +11,7 @@ pub judge_races-requires : goal.judge_races-requires
 judge_races-requires g c =
     let s = c.args.traces.now in
     let r = c.args.relaxation in
-    subst (λ (t : Streams). All (AreAccesses t) c.args.races.now) (sym c.in_ok-relaxed.ensures)
-    (All-weaker (IsPairOf s) (AreAccesses (relaxed r s)) (still_accesses r s) c.args.races.now c.requires)
+    record {
+      accesses = subst (λ (t : Streams). All (AreAccesses t) c.args.races.now) (sym c.in_ok-relaxed.ensures)
+          (All-weaker (IsPairOf s) (AreAccesses (relaxed r s)) (still_accesses r s) c.args.races.now c.requires.pairs);
+    }
