@@ -7,7 +7,6 @@ use Rattle.gr_model.specs.declared.race.Race.{Race}
 use Rattle.gr_model.specs.Streams.{Streams}
 use Rattle.gr_causes.specs.declared.cause.Cause.{Cause}
 use Rattle.gr_causes.specs.declared.cause.Cause.TheVariants.{Flags, Scope, Divergence, NoBarrier, NoHandOver}
-use Rattle.gr_explain.specs.Judgements.{IsJudgement}
 use Rattle.gr_explain.specs.declared.judging.Judgement.{Judgement}
 use Rattle.gr_judge.specs.Judged.{AreJudgements, IsJudged}
 use Rattle.gr_judge.proofs.AnswerLemmas.{answer_at, answers_count}

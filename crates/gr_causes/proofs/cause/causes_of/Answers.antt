@@ -3,7 +3,7 @@ use Rattle.gr_model.specs.Streams.{ArePrefixes, Streams}
 use Rattle.gr_explain.specs.declared.judging.Judgement.{Judgement}
 use Rattle.gr_order.specs.Sequences.{Sequence}
 use Rattle.gr_judge.specs.Judged.{AreJudgements}
-use Rattle.gr_causes.specs.Causes.{AreCauses, IsPairOf}
+use Rattle.gr_causes.specs.Causes.{IsPairOf}
 use Rattle.gr_causes.specs.Relaxing.{relaxed}
 use Rattle.gr_causes.specs.declared.relaxing.Relaxation.TheVariants.{BothFlags, DeviceScope}
 use Rattle.gr_causes.proofs.cause.causes_of.Goals as goal
