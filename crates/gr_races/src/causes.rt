@@ -49,9 +49,10 @@ pub(crate) fn causes_told<A: Allocator + Copy>(
     requires pairs { All (IsPairOf traces.now) (first_races (map entry_of entries.now)) }
     ensures { IfOk result (λ told. AreTold traces.now causes (map entry_of entries.now) told.items) }
 {
-    if !causes {
-        return Ok(Vec::new(alloc));
+    if causes {
+        let races = first_races(alloc, entries)?;
+        causes_of(alloc, traces, &races)
+    } else {
+        Ok(Vec::new(alloc))
     }
-    let races = first_races(alloc, entries)?;
-    causes_of(alloc, traces, &races)
 }
