@@ -46,16 +46,14 @@ pub firsts_told : {Z : Type 0} (listed : List (KindEntry Z)) → filter_map (λ 
 firsts_told [] = refl
 firsts_told (e ∷ listed) = ap (cons_option (slice_get e.races.items 0)) (firsts_told listed)
 
+first_pair : (P : Race → Type 0) (races others : List Race) → All P races → All P others → All P (cons_option (slice_get races 0) others)
+first_pair P [] others of_races rest = rest
+first_pair P (r ∷ races) others of_races rest = All-cons P r others (All-head P r races of_races) rest
+
 first_pairs : (P : Race → Type 0) (listed : List Entry) → All (λ (e : Entry). All P e.races) listed → All P (first_races listed)
 first_pairs P [] all = All-nil P
-first_pairs P (e ∷ listed) all = here e.races (All-head (λ (e : Entry). All P e.races) e listed all)
-  where
-    rest : All P (first_races listed)
-    rest = first_pairs P listed (All-tail (λ (e : Entry). All P e.races) e listed all)
-
-    here : (races : List Race) → All P races → All P (cons_option (slice_get races 0) (first_races listed))
-    here [] of_races = rest
-    here (r ∷ races) of_races = All-cons P r (first_races listed) (All-head P r races of_races) rest
+first_pairs P (e ∷ listed) all =
+    first_pair P e.races (first_races listed) (All-head (λ (e : Entry). All P e.races) e listed all) (first_pairs P listed (All-tail (λ (e : Entry). All P e.races) e listed all))
 
 entry_pairs : (P : Race → Type 0) (rows : List KindedRace) (kinds : List RaceKind) → All (λ (row : KindedRace). P row.race) rows → All (λ (e : Entry). All P e.races) (map (entry rows) kinds)
 entry_pairs P rows [] all = All-nil (λ (e : Entry). All P e.races)

@@ -10,8 +10,8 @@ pub causes_of-requires : goal.causes_of-requires
 causes_of-requires g c =
     record { races = subst (λ (races : List Race). All (IsPairOf c.args.traces.now) races) (sym (c.deref.ensures.value ∙ (c.in_ok-races.ensures ∙ firsts_told c.args.entries.now))) c.requires.pairs }
 
-pub returns-then-causes : goal.returns-then-causes
-returns-then-causes g c =
+pub returns-in_ok-races : goal.returns-in_ok-races
+returns-in_ok-races g c =
     let s = c.args.traces.now in
     let firsts = c.deref.ensures.value ∙ (c.in_ok-races.ensures ∙ firsts_told c.args.entries.now) in
     let told = subst (λ (races : List Race). IfOk c.causes_of.result (λ v. AreCauses s races v.items)) firsts c.causes_of.ensures in
