@@ -1,17 +1,23 @@
 -- Where a rule is relaxed, lists that are accepted still are.
-use Rattle.std.proofs.Common.{◌≡◌, ℕ, ◌≤◌, List, [], ◌∷◌, map, Some, None, slice_get, get_or, zero, suc, refl, sym, ◌∙◌, subst}
+use Rattle.std.proofs.Common.{◌≡◌, ℕ, ◌≤◌, ◌==◌, ◌&&◌, Bool, true, false, cond, List, [], ◌∷◌, filter, map, Option, Some, None, option_and_then, option_map, slice_get, get_or, zero, suc, refl, sym, ap, ◌∙◌, subst}
+use Rattle.std.specs.Prelude.{not}
 use Rattle.std.proofs.lemmas.List.{length-map}
 use Rattle.gr_model.specs.declared.event.Event.{Event}
+use Rattle.gr_model.specs.declared.event.EventId.{EventId}
 use Rattle.gr_model.specs.declared.event.Kind.{Kind}
 use Rattle.gr_model.specs.declared.event.Kind.TheVariants.{Read, Write, Load, Store, Rmw, Barrier, End}
 use Rattle.gr_model.specs.declared.event.Name.{Name}
 use Rattle.gr_model.specs.declared.event.Space.{Space}
+use Rattle.gr_model.specs.declared.event.Word.{Word}
+use Rattle.gr_model.specs.declared.race.Race.{Race}
 use Rattle.gr_model.specs.declared.limits.TheConstants.{MOST_RECORDS}
-use Rattle.gr_model.specs.Access.{is_acquire_kind}
+use Rattle.gr_model.specs.Access.{event_word, is_acquire_kind, word_if_access, word_in}
 use Rattle.gr_model.specs.Events.{IsEventOk, IsKindOk, IsNamingOk, is_end_kind}
-use Rattle.gr_model.specs.Streams.{AreAccepted, AreGood, IsAccepted, IsGoodAt, Streams, is_complete, list_of, size_of}
+use Rattle.gr_model.specs.Streams.{AreAccepted, AreGood, IsAccepted, IsGoodAt, Streams, event_at, is_complete, is_of, list_of, size_of, word_at}
 use Rattle.gr_causes.specs.declared.relaxing.Relaxation.{Relaxation}
 use Rattle.gr_causes.specs.declared.relaxing.Relaxation.TheVariants.{BothFlags, DeviceScope}
+use Rattle.gr_judge.specs.Judged.{AreAccesses}
+use Rattle.gr_causes.specs.Causes.{IsPairOf}
 use Rattle.gr_causes.specs.Relaxing.{relaxed, relaxed_event, relaxed_kind}
 
 -- ---- one record
@@ -116,3 +122,60 @@ still_all_accepted r s accepted = record {
   count = length-map s.lists (map (relaxed_event r)) ∙ accepted.count;
   each = λ g lt. subst (IsAccepted (size_of s g)) (sym (relaxed_list_of r s g)) (still_accepted r (size_of s g) (list_of s g) (accepted.each g lt));
 }
+
+-- ---- what an event accesses
+
+same_word : (r : Relaxation) (k : Kind) (w : Word) → word_if_access (relaxed_kind r k) w ≡ word_if_access k w
+same_word BothFlags Read w = refl
+same_word BothFlags Write w = refl
+same_word BothFlags (Load scope order) w = refl
+same_word BothFlags (Store scope order) w = refl
+same_word BothFlags (Rmw scope order) w = refl
+same_word BothFlags (Barrier global local) w = refl
+same_word BothFlags (End cut) w = refl
+same_word DeviceScope Read w = refl
+same_word DeviceScope Write w = refl
+same_word DeviceScope (Load scope order) w = refl
+same_word DeviceScope (Store scope order) w = refl
+same_word DeviceScope (Rmw scope order) w = refl
+same_word DeviceScope (Barrier global local) w = refl
+same_word DeviceScope (End cut) w = refl
+
+module _ {X : Type 0} (f : X → X) where
+  -- a list with its first element, where that passes a test
+  kept_first : (x : X) (xs : List X) (ys : List X) → ys ≡ map f xs → (b : Bool) → cond b (f x ∷ ys) ys ≡ map f (cond b (x ∷ xs) xs)
+  kept_first x xs ys same true = ap (λ zs. f x ∷ zs) same
+  kept_first x xs ys same false = same
+
+  filtered : (test : X → Bool) → ((x : X) → test (f x) ≡ test x) → (xs : List X) → filter test (map f xs) ≡ map f (filter test xs)
+  filtered test same [] = refl
+  filtered test same (x ∷ xs) =
+      ap (λ b. cond b (f x ∷ filter test (map f xs)) (filter test (map f xs))) (same x)
+      ∙ kept_first x (filter test xs) (filter test (map f xs)) (filtered test same xs) (test x)
+
+  got : (xs : List X) (k : ℕ) → slice_get (map f xs) k ≡ option_map f (slice_get xs k)
+  got [] k = refl
+  got (x ∷ xs) zero = refl
+  got (x ∷ xs) (suc k) = got xs k
+
+still_event_at : (r : Relaxation) (s : Streams) (e : EventId) → event_at (relaxed r s) e ≡ option_map (relaxed_event r) (event_at s e)
+still_event_at r s e =
+    let test = is_of e.at.item in
+    let list = list_of s e.at.group in
+    ap (λ xs. slice_get (filter test xs) e.index) (relaxed_list_of r s e.at.group)
+    ∙ ap (λ xs. slice_get xs e.index) (filtered (relaxed_event r) test (λ x. ap (λ ended. (x.item == e.at.item) && not ended) (same_end r x.kind)) list)
+    ∙ got (relaxed_event r) (filter test list) e.index
+
+-- an event accesses the word that it accessed
+pub still_word : (r : Relaxation) (s : Streams) (e : EventId) → word_at (relaxed r s) e ≡ word_at s e
+still_word r s e = ap (option_and_then (event_word e.at.group)) (still_event_at r s e) ∙ of_event (event_at s e)
+  where
+    of_event : (o : Option Event) → option_and_then (event_word e.at.group) (option_map (relaxed_event r) o) ≡ option_and_then (event_word e.at.group) o
+    of_event None = refl
+    of_event (Some x) = same_word r x.kind (word_in x.space e.at.group x.word)
+
+-- so the two of a racing pair are accesses still
+pub still_accesses : (r : Relaxation) (s : Streams) (pair : Race) → IsPairOf s pair → AreAccesses (relaxed r s) pair
+still_accesses r s pair race =
+    let may_race = race.race.may_race in
+    record { first = (pair.word, still_word r s pair.first ∙ may_race.word_first); second = (pair.word, still_word r s pair.second ∙ may_race.word_second) }

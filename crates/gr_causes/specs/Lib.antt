@@ -1,4 +1,5 @@
 pub mod Relaxing
 pub mod Parting
 pub mod Causes
+pub mod CauseText
 pub mod Laws

@@ -1,4 +1,4 @@
-//! The cause of a race: the rule of the launch without which its two accesses would be no race.
+//! The causes of races: of each the rule of the launch without which its two accesses would be no race.
 //!
 //! Semantics: a rule is relaxed by other records, and the definition of a race is asked again. No happens-before of its
 //! own stands here.
@@ -8,3 +8,4 @@ mod between;
 pub mod cause;
 pub mod laws;
 pub mod relaxing;
+pub mod text;

@@ -1,6 +1,6 @@
 //! Launches as text (docs/FORMATS.md, "Text form"), each with a racy word and the cause of its least race.
 
-use gr_causes::cause::{Cause, cause_of};
+use gr_causes::cause::{Cause, cause_of, causes_of};
 use gr_causes::relaxing::{Relaxation, relaxed};
 use gr_explain::explain::explain;
 use gr_explain::judging::{Judgement, judge};
@@ -8,6 +8,7 @@ use gr_model::event::Word;
 use gr_model::memory::Memory;
 use gr_model::traces::Traces;
 use gr_record::fault::Fault;
+use gr_replay::detect::detect_races;
 use gr_replay::read_joined;
 use gr_text::packing::pack_text;
 use std::alloc::{Allocator, Global};
@@ -145,6 +146,21 @@ pub(crate) const HELD: Case = (
     Cause::Divergence,
 );
 
+/// A launch with a race of each cause.
+pub(crate) const ALL_CAUSES: &str =
+    "group 0 items 2 launch 7\n0 w g 16\n0 w l 4\n0 rmw g 24 grp rlx\n0 w g 28\n0 bar 1 g\n0 bar 2 g\n0 r g 32\n\
+     1 r g 16\n1 bar 1 g\n1 r l 4\n1 w g 32\nend\n\
+     group 1 items 1 launch 7\n0 rmw g 24 grp rlx\n0 r g 28\nend\n";
+
+/// The causes of its races, by their words: global 16, 24, 28 and 32, and local word 4.
+pub(crate) const EACH_CAUSE: [Cause; 5] = [
+    Cause::NoBarrier,
+    Cause::Scope,
+    Cause::NoHandOver,
+    Cause::Divergence,
+    Cause::Flags,
+];
+
 /// The traces of a launch's text, or `None` where the text is no launch.
 fn traces_of<A: Allocator + Copy>(
     alloc: A,
@@ -177,6 +193,21 @@ pub(crate) fn has_cause<A: Allocator + Copy>(
         return Ok(false);
     };
     Ok(cause_of(alloc, &traces, word, first, second)? == due)
+}
+
+/// Whether the causes of the races of all racy words, asked for at once, are these.
+pub(crate) fn have_causes<A: Allocator + Copy>(
+    alloc: A,
+    ample: Global,
+    text: &str,
+    due: &[Cause],
+) -> Result<bool, Memory> {
+    let Some(traces) = traces_of(alloc, ample, text)? else {
+        return Ok(false);
+    };
+    let found = detect_races(alloc, &traces)?;
+    let causes = causes_of(alloc, &traces, &found.races)?;
+    Ok(causes.as_slice() == due)
 }
 
 /// Whether the word has no race where a rule is relaxed.

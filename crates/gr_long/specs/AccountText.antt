@@ -8,12 +8,10 @@ use Rattle.gr_model.specs.declared.event.Order.TheVariants.{Relaxed, Acquire, Re
 use Rattle.gr_model.specs.declared.event.Scope.{Scope}
 use Rattle.gr_model.specs.declared.event.Scope.TheVariants.{Group, Device}
 use Rattle.gr_model.specs.declared.event.Word.{Word}
-use Rattle.gr_model.specs.declared.event.Word.TheVariants.{Global, Local}
 use Rattle.gr_model.specs.RacePairs.{Pair}
 use Rattle.gr_report.specs.Putting.{field}
 use Rattle.gr_show.specs.Explanations.{explanation_line}
-use Rattle.gr_causes.specs.declared.cause.Cause.{Cause}
-use Rattle.gr_causes.specs.declared.cause.Cause.TheVariants.{Flags, Scope as ScopeCause, Divergence, NoBarrier, NoHandOver}
+use Rattle.gr_causes.specs.CauseText.{cause_line}
 use Rattle.gr_long.specs.declared.account.Account.{Account}
 use Rattle.gr_long.specs.declared.details.Details.{Details}
 
@@ -44,19 +42,6 @@ kind_text (kinds.End cut) = codes " end"
 abbrev pub details_line : List ℕ → Details → List ℕ
 details_line label d =
     label ++ kind_text d.kind ++ field (codes " record ") (decimal d.number) ++ field (codes " phase ") (decimal d.phase) ++ codes "\n"
-
--- no barrier orders the two accesses of a word, and which flags one would need
-abbrev pub no_barrier_line : Word → List ℕ
-no_barrier_line (Global number) = codes "cause no-barrier: nothing orders the two; a barrier with CLK_GLOBAL_MEM_FENCE between them would\n"
-no_barrier_line (Local group number) = codes "cause no-barrier: nothing orders the two; a barrier with CLK_LOCAL_MEM_FENCE between them would\n"
-
--- the cause, and what would order the two accesses of a word
-abbrev pub cause_line : Word → Cause → List ℕ
-cause_line w Flags = codes "cause flags: with CLK_LOCAL_MEM_FENCE | CLK_GLOBAL_MEM_FENCE at every barrier the two would be ordered\n"
-cause_line w ScopeCause = codes "cause scope: with memory_scope_device at every atomic the two would be no race\n"
-cause_line w Divergence = codes "cause divergent: between the two stands a barrier that not all work-items of the group meet alike\n"
-cause_line w NoBarrier = no_barrier_line w
-cause_line w NoHandOver = codes "cause no-hand-over: nothing orders the two; a release that an acquire takes, at memory_scope_device, would\n"
 
 abbrev pub pair_of : Option Account → Option Pair
 pair_of None = None

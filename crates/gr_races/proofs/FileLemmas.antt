@@ -38,5 +38,5 @@ module _ {T E : Type 0} (remaining : T → Option (List ℕ)) (Gives : List ℕ 
     pub streams_refused : (f : Fault) → IfSome (all_known (map remaining files)) (λ inputs. IsShowFault inputs f) → IsRacesFault remaining Gives named names (Run f)
     streams_refused f fault = inr (inr (record { sides = sides; files = files; opened = opened; said = all_said; say = say; fault = fault }))
 
-    pub races_shown : (most : Option ℕ) (found : Bool) (old new : Option (List ℕ)) → AreRacesShown (all_known (map remaining files)) all_said most found old new → AreRacesShownOfFiles remaining Gives named names most found old new
-    races_shown most found old new shown = record { sides = sides; files = files; opened = opened; said = all_said; say = say; shown = shown }
+    pub races_shown : (most : Option ℕ) (causes found : Bool) (old new : Option (List ℕ)) → AreRacesShown (all_known (map remaining files)) all_said most causes found old new → AreRacesShownOfFiles remaining Gives named names most causes found old new
+    races_shown most causes found old new shown = record { sides = sides; files = files; opened = opened; said = all_said; say = say; shown = shown }

@@ -2,3 +2,4 @@ pub mod FileLemmas
 pub mod KindLemmas
 pub mod ListingLemmas
 pub mod RunLemmas
+pub mod TellingLemmas

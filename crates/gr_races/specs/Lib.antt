@@ -2,6 +2,7 @@ pub mod Kinds
 pub mod Runs
 pub mod Listing
 pub mod Sides
+pub mod Telling
 pub mod RacesText
 pub mod Shown
 pub mod FaultText

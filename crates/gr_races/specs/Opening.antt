@@ -60,21 +60,21 @@ RefusesBuffers bytes (Places line) = ⊥
 RefusesBuffers bytes (Buffers line) = buffers_in bytes ≡ Err line
 
 module _ {T E : Type 0} (remaining : T → Option (List ℕ)) (Gives : List ℕ → Result T E → Type 0) (named : Pair (List ℕ)) (names : List (List ℕ)) where
-  pub record AreRacesShownOfFiles (most : Option ℕ) (found : Bool) (old new : Option (List ℕ)) : Type 0 where
+  pub record AreRacesShownOfFiles (most : Option ℕ) (causes : Bool) (found : Bool) (old new : Option (List ℕ)) : Type 0 where
     pub sides : Pair T
     pub files : List T
     pub opened : AreAllOpened Gives named names sides files
     pub said : SidesSaid
     pub say : Say remaining sides said
-    pub shown : AreRacesShown (all_known (map remaining files)) said most found old new
+    pub shown : AreRacesShown (all_known (map remaining files)) said most causes found old new
 
-  pub record ShowsRacesPrefixOfFiles (most : Option ℕ) (old new : Option (List ℕ)) : Type 0 where
+  pub record ShowsRacesPrefixOfFiles (most : Option ℕ) (causes : Bool) (old new : Option (List ℕ)) : Type 0 where
     pub sides : Pair T
     pub files : List T
     pub opened : AreAllOpened Gives named names sides files
     pub said : SidesSaid
     pub say : Say remaining sides said
-    pub shown : ShowsRacesPrefix (all_known (map remaining files)) said most old new
+    pub shown : ShowsRacesPrefix (all_known (map remaining files)) said most causes old new
 
   -- the files are open, and this line of the places is the first that is out of form
   pub record IsPlacesFault (line : ℕ) : Type 0 where

@@ -7,10 +7,12 @@ use Rattle.gr_model.specs.RacePairs.{ArePairedRaces}
 use Rattle.gr_model.specs.Races.{IsRacy}
 use Rattle.gr_model.specs.Streams.{Streams}
 use Rattle.gr_model.specs.Waits.{IsGrounded}
+use Rattle.gr_causes.specs.declared.cause.Cause.{Cause}
 use Rattle.gr_races.specs.Kinds.{all_kinded}
 use Rattle.gr_races.specs.Listing.{Entry, entries}
-use Rattle.gr_races.specs.RacesText.{races_text}
+use Rattle.gr_races.specs.RacesText.{at_most, races_text}
 use Rattle.gr_races.specs.Sides.{SidesSaid}
+use Rattle.gr_races.specs.Telling.{AreTold}
 use Rattle.gr_show.specs.Shown.{IsShown, ShowsPrefix}
 
 -- the racy words of a launch, each with a racing pair, kind by kind, and how many there are
@@ -20,20 +22,22 @@ pub record AreListedRaces (s : Streams) (by_kind : List Entry) (count : ℕ) : T
   pub listed : by_kind ≡ entries (all_kinded s races)
   pub counted : count ≡ length races
 
--- the text of the races of a launch, of at most so many kinds, with what side files say
-pub record IsRacesText (sides : SidesSaid) (most : Option ℕ) (s : Streams) (text : List ℕ) : Type 0 where
+-- the text of the races of a launch, of at most so many kinds, with what side files say, and with causes where they are asked for
+pub record IsRacesText (sides : SidesSaid) (most : Option ℕ) (causes : Bool) (s : Streams) (text : List ℕ) : Type 0 where
   pub races : List Race
   pub exact : ArePairedRaces s races
-  pub is : text ≡ races_text sides most (entries (all_kinded s races)) (length races)
+  pub told : List Cause
+  pub causes_told : AreTold s causes (at_most most (entries (all_kinded s races))) told
+  pub is : text ≡ races_text sides most told (entries (all_kinded s races)) (length races)
 
 -- a word is racy
 abbrev pub HasRace : Streams → Type 0
 HasRace s = (w : Word) × IsRacy s (IsGrounded s) w
 
 -- that text is written whole, and it is said whether a word is racy
-abbrev pub AreRacesShown : Option (List (List ℕ)) → SidesSaid → Option ℕ → Bool → Option (List ℕ) → Option (List ℕ) → Type 0
-AreRacesShown known sides most found old new = IsShown (IsRacesText sides most) HasRace known found old new
+abbrev pub AreRacesShown : Option (List (List ℕ)) → SidesSaid → Option ℕ → Bool → Bool → Option (List ℕ) → Option (List ℕ) → Type 0
+AreRacesShown known sides most causes found old new = IsShown (IsRacesText sides most causes) HasRace known found old new
 
 -- a prefix of that text was written
-abbrev pub ShowsRacesPrefix : Option (List (List ℕ)) → SidesSaid → Option ℕ → Option (List ℕ) → Option (List ℕ) → Type 0
-ShowsRacesPrefix known sides most old new = ShowsPrefix (IsRacesText sides most) known old new
+abbrev pub ShowsRacesPrefix : Option (List (List ℕ)) → SidesSaid → Option ℕ → Bool → Option (List ℕ) → Option (List ℕ) → Type 0
+ShowsRacesPrefix known sides most causes old new = ShowsPrefix (IsRacesText sides most causes) known old new

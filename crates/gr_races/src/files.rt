@@ -151,7 +151,8 @@ fn buffers_of<A: Allocator>(alloc: A, bytes: &[u8]) -> Result<Vec<BufferLine<'_>
 
 /// Opens the side files that are named and the files of these names, reads the side files and then the streams of a
 /// launch, one from each file, writes its races kind by kind, of at most so many kinds, with what the side files say of
-/// them, and nothing else, and tells whether there is a race.
+/// them and, where they are asked for, with the causes of the first of each kind, and nothing else, and tells whether
+/// there is a race.
 ///
 /// # Errors
 /// `Run` with the fault of the first file that can't be opened: places, buffers, streams. Nothing is read before all are
@@ -163,6 +164,7 @@ pub fn show_races_of_files<'a, A, T, O, W>(
     names: &[&'a str],
     opener: O,
     most: Option<u32>,
+    causes: bool,
     writer: &mut W,
 ) -> Result<bool, RacesFault>
 where
@@ -171,10 +173,10 @@ where
     O: Fn(&str) -> io::Result<T>,
     W: Write,
     requires { O.IsAlwaysCallable opener }
-    ensures shown { IfOk result (λ found. spec.AreRacesShownOfFiles T.remaining (FnReturnsAt O.Fn opener) (spec.side_names sides.now) (map (λ s. s.now) names.now) most found (W.contents writer.old) (W.contents writer.new)) }
+    ensures shown { IfOk result (λ found. spec.AreRacesShownOfFiles T.remaining (FnReturnsAt O.Fn opener) (spec.side_names sides.now) (map (λ s. s.now) names.now) most causes found (W.contents writer.old) (W.contents writer.new)) }
     ensures fault { IfErr result (λ f. spec.IsRacesFault T.remaining (FnReturnsAt O.Fn opener) (spec.side_names sides.now) (map (λ s. s.now) names.now) f) }
     ensures untouched { IfErr result (λ f. f ≢ ARun faults.Write → Keeps (W.contents writer.old) (W.contents writer.new)) }
-    ensures prefix { IfErr result (λ f. f ≡ ARun faults.Write → spec.ShowsRacesPrefixOfFiles T.remaining (FnReturnsAt O.Fn opener) (spec.side_names sides.now) (map (λ s. s.now) names.now) most (W.contents writer.old) (W.contents writer.new)) }
+    ensures prefix { IfErr result (λ f. f ≡ ARun faults.Write → spec.ShowsRacesPrefixOfFiles T.remaining (FnReturnsAt O.Fn opener) (spec.side_names sides.now) (map (λ s. s.now) names.now) most causes (W.contents writer.old) (W.contents writer.new)) }
     ensures threads { IfErr result (λ f. f ≢ ARun faults.Threads) }
 {
     let Opened {
@@ -190,5 +192,5 @@ where
         places: &places,
         buffers: &buffers,
     };
-    Ok(show_races(alloc, streams, &said, most, writer)?)
+    Ok(show_races(alloc, streams, &said, most, causes, writer)?)
 }

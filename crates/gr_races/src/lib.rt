@@ -1,8 +1,10 @@
-//! The races of a launch by their kinds: for each kind its words, and of the least of them two events that race on it.
+//! The races of a launch by their kinds: for each kind its words, and of the least of them two events that race on it and,
+//! where it is asked for, the cause of their race.
 //!
 //! The text is docs/FORMATS.md, "Races".
 #![tactic(auto)]
 
+mod causes;
 pub mod fault;
 pub mod files;
 pub mod kinds;

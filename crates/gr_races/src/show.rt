@@ -10,9 +10,10 @@ ghost use Rattle.gr_races.specs.Shown.{AreListedRaces, AreRacesShown, ShowsRaces
 ghost use Rattle.gr_races.specs.Sides.{sides_said};
 ghost use Rattle.gr_show.specs.Shown.{IsShowFault};
 
+use crate::causes::causes_told;
 use crate::listing::{KindEntry, all_kinded, list_kinds};
 use crate::sides::Sides;
-use crate::text::write_races;
+use crate::text::{at_most, write_races};
 use gr_explain::records::Records;
 use gr_explain::taking::take_all;
 use gr_model::memory::Memory;
@@ -40,7 +41,8 @@ fn races_by_kind<A: Allocator + Copy>(
 }
 
 /// Reads the streams of a launch, one from each reader, writes its races kind by kind, of at most so many kinds, with what
-/// side files say of them, and nothing else, and tells whether there is a race.
+/// side files say of them and, where they are asked for, with the causes of the first of each kind, and nothing else, and
+/// tells whether there is a race.
 ///
 /// # Errors
 /// Those of `read_each`; `Write` where the writer fails, which then has a prefix of the text. In every other case of an
@@ -50,19 +52,21 @@ pub fn show_races<A: Allocator + Copy, T: Read + Drop, W: Write>(
     readers: Vec<T, A>,
     sides: &Sides<'_>,
     most: Option<u32>,
+    causes: bool,
     writer: &mut W,
 ) -> Result<bool, Fault>
-    ensures shown { IfOk result (λ found. AreRacesShown (all_known (map T.remaining readers.items)) (sides_said sides.now) most found (W.contents writer.old) (W.contents writer.new)) }
+    ensures shown { IfOk result (λ found. AreRacesShown (all_known (map T.remaining readers.items)) (sides_said sides.now) most causes found (W.contents writer.old) (W.contents writer.new)) }
     ensures fault { IfErr result (λ f. IfSome (all_known (map T.remaining readers.items)) (λ inputs. IsShowFault inputs f)) }
 
     // What a refusal leaves with the writer.
     ensures untouched { IfErr result (λ f. f ≢ faults.Write → Keeps (W.contents writer.old) (W.contents writer.new)) }
-    ensures prefix { IfErr result (λ f. f ≡ faults.Write → ShowsRacesPrefix (all_known (map T.remaining readers.items)) (sides_said sides.now) most (W.contents writer.old) (W.contents writer.new)) }
+    ensures prefix { IfErr result (λ f. f ≡ faults.Write → ShowsRacesPrefix (all_known (map T.remaining readers.items)) (sides_said sides.now) most causes (W.contents writer.old) (W.contents writer.new)) }
     ensures threads { IfErr result (λ f. f ≢ faults.Threads) }
 {
     let traces = read_each(alloc, readers)?;
     let (entries, races) = races_by_kind(alloc, &traces)?;
-    match write_races(writer, sides, &entries, most, races) {
+    let told = causes_told(alloc, &traces, causes, at_most(&entries, most))?;
+    match write_races(writer, sides, &entries, most, &told, races) {
         Ok(()) => Ok(races > 0),
         Err(_) => Err(Fault::Write),
     }

@@ -1,17 +1,20 @@
 //! The text of races.
 
-ghost use Rattle.std.specs.Prelude.{◌≡◌, map, OnErr, OnOk};
+ghost use Rattle.std.specs.Prelude.{◌≡◌, map, OnErr, OnOk, slice_get};
 ghost use Rattle.std.specs.List.{flat_map};
 ghost use Rattle.std.specs.Io.KnownBytes.{Appends};
 ghost use Rattle.gr_report.specs.Putting.{AppendsPrefix, Puts};
 ghost use Rattle.gr_races.specs.Listing.{entry_of};
 ghost use Rattle.gr_races.specs.RacesText as spec;
 ghost use Rattle.gr_races.specs.Sides.{sides_said};
+ghost use Rattle.gr_races.specs.Telling.{with_causes};
 
 use crate::kinds::{Operation, RaceKind};
 use crate::listing::KindEntry;
 use crate::runs::{Run, number_of};
 use crate::sides::{Sides, put_notes};
+use gr_causes::cause::Cause;
+use gr_causes::text::cause_line;
 use gr_model::event::Space;
 use gr_model::race::Race;
 use gr_report::putting::{WriteFault, finish, put, put_field};
@@ -88,15 +91,30 @@ fn put_words<W: Write>(writer: &mut W, runs: &[Run]) -> Result<(), WriteFault>
     put(writer, b"\n")
 }
 
-fn put_first<W: Write>(writer: &mut W, sides: &Sides<'_>, races: &[Race]) -> Result<(), WriteFault>
-    ensures { Puts (W.contents writer.old) (W.contents writer.new) result (spec.first_lines (sides_said sides.now) races.now) }
+fn put_cause<W: Write>(writer: &mut W, race: &Race, cause: Option<Cause>) -> Result<(), WriteFault>
+    ensures { Puts (W.contents writer.old) (W.contents writer.new) result (spec.cause_lines race.now cause) }
+{
+    match cause {
+        None => Ok(()),
+        Some(cause) => put(writer, cause_line(race.word, cause)),
+    }
+}
+
+fn put_first<W: Write>(
+    writer: &mut W,
+    sides: &Sides<'_>,
+    cause: Option<Cause>,
+    races: &[Race],
+) -> Result<(), WriteFault>
+    ensures { Puts (W.contents writer.old) (W.contents writer.new) result (spec.first_lines (sides_said sides.now) cause races.now) }
 {
     match races.first() {
         None => Ok(()),
         Some(race) => {
             put_pair(writer, race.word, race.first, race.second)?;
             put(writer, b"\n")?;
-            put_notes(writer, sides, race)
+            put_notes(writer, sides, race)?;
+            put_cause(writer, race, cause)
         }
     }
 }
@@ -105,24 +123,33 @@ fn put_entry<A: Allocator, W: Write>(
     writer: &mut W,
     sides: &Sides<'_>,
     entry: &KindEntry<A>,
+    cause: Option<Cause>,
 ) -> Result<(), WriteFault>
-    ensures { Puts (W.contents writer.old) (W.contents writer.new) result (spec.entry_text (sides_said sides.now) (entry_of entry.now)) }
+    ensures { Puts (W.contents writer.old) (W.contents writer.new) result (spec.entry_text (sides_said sides.now) (entry_of entry.now, cause)) }
 {
     let races = entry.races.as_slice();
     put_kind(writer, entry.kind, races.len())?;
     put_words(writer, entry.runs.as_slice())?;
-    put_first(writer, sides, races)
+    put_first(writer, sides, cause, races)
+}
+
+/// The cause that is told of the entry at a place, if there is one.
+fn cause_at(causes: &[Cause], place: usize) -> Option<Cause>
+    ensures { result ≡ slice_get causes.now place }
+{
+    causes.get(place).copied()
 }
 
 fn put_entries<A: Allocator, W: Write>(
     writer: &mut W,
     sides: &Sides<'_>,
     entries: &[KindEntry<A>],
+    causes: &[Cause],
 ) -> Result<(), WriteFault>
-    ensures { Puts (W.contents writer.old) (W.contents writer.new) result (flat_map (λ e. spec.entry_text (sides_said sides.now) (entry_of e)) entries.now) }
+    ensures { Puts (W.contents writer.old) (W.contents writer.new) result (flat_map (spec.entry_text (sides_said sides.now)) (with_causes (map entry_of entries.now) causes.now)) }
 {
-    for entry in entries {
-        put_entry(writer, sides, entry)?;
+    for (place, entry) in entries.iter().enumerate() {
+        put_entry(writer, sides, entry, cause_at(causes, place))?;
     }
     Ok(())
 }
@@ -136,7 +163,7 @@ fn put_end<W: Write>(writer: &mut W, kinds: usize, races: usize) -> Result<(), W
 }
 
 /// The first entries, at most this many.
-fn at_most<A: Allocator>(entries: &[KindEntry<A>], most: Option<u32>) -> &[KindEntry<A>]
+pub(crate) fn at_most<A: Allocator>(entries: &[KindEntry<A>], most: Option<u32>) -> &[KindEntry<A>]
     ensures { result.now ≡ spec.at_most most entries.now }
 {
     match most {
@@ -150,16 +177,17 @@ fn put_races<A: Allocator, W: Write>(
     sides: &Sides<'_>,
     entries: &[KindEntry<A>],
     most: Option<u32>,
+    causes: &[Cause],
     races: usize,
 ) -> Result<(), WriteFault>
-    ensures { Puts (W.contents writer.old) (W.contents writer.new) result (spec.races_text (sides_said sides.now) most (map entry_of entries.now) races) }
+    ensures { Puts (W.contents writer.old) (W.contents writer.new) result (spec.races_text (sides_said sides.now) most causes.now (map entry_of entries.now) races) }
 {
-    put_entries(writer, sides, at_most(entries, most))?;
+    put_entries(writer, sides, at_most(entries, most), causes)?;
     put_end(writer, entries.len(), races)
 }
 
-/// Writes the races of a launch kind by kind, of at most so many kinds, with what side files say of them, and an end that
-/// counts all of them, and flushes. It takes no memory.
+/// Writes the races of a launch kind by kind, of at most so many kinds, with what side files say of them and these causes,
+/// the first of the first kind, and an end that counts all of them, and flushes. It takes no memory.
 ///
 /// # Errors
 /// `WriteFault` if the writer fails, which has then taken a prefix of the text.
@@ -168,11 +196,12 @@ pub(crate) fn write_races<A: Allocator, W: Write>(
     sides: &Sides<'_>,
     entries: &[KindEntry<A>],
     most: Option<u32>,
+    causes: &[Cause],
     races: usize,
 ) -> Result<(), WriteFault>
-    ensures whole { OnOk result (Appends (W.contents writer.old) (W.contents writer.new) (spec.races_text (sides_said sides.now) most (map entry_of entries.now) races)) }
-    ensures prefix { OnErr result (AppendsPrefix (W.contents writer.old) (W.contents writer.new) (spec.races_text (sides_said sides.now) most (map entry_of entries.now) races)) }
+    ensures whole { OnOk result (Appends (W.contents writer.old) (W.contents writer.new) (spec.races_text (sides_said sides.now) most causes.now (map entry_of entries.now) races)) }
+    ensures prefix { OnErr result (AppendsPrefix (W.contents writer.old) (W.contents writer.new) (spec.races_text (sides_said sides.now) most causes.now (map entry_of entries.now) races)) }
 {
-    put_races(writer, sides, entries, most, races)?;
+    put_races(writer, sides, entries, most, causes, races)?;
     finish(writer)
 }

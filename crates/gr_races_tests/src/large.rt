@@ -116,6 +116,7 @@ fn a_large_launch_is_shown(rt: HostRuntime) -> Result<(), Fail> {
         &names,
         |name| open(&files, name),
         None,
+        false,
         &mut text,
     );
     assert_eq!(rt; answer, Ok(true));

@@ -3,6 +3,8 @@
 #![tactic(auto)]
 
 #[cfg(test)]
+mod causes;
+#[cfg(test)]
 mod ends;
 #[cfg(test)]
 mod large;

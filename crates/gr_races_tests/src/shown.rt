@@ -120,6 +120,7 @@ fn shown<A: Allocator + Copy>(
         names,
         |name| open_stored(name, &stream),
         most,
+        false,
         &mut writer,
     );
     Ok((answer, writer.taken))

@@ -1,6 +1,7 @@
 use Rattle.std.proofs.Common.{codes}
 use Rattle.gr_report.proofs.PuttingLemmas.{puts_then, puts_more, puts_err}
-use Rattle.gr_long.specs.AccountText.{cause_line, details_line}
+use Rattle.gr_causes.specs.CauseText.{cause_line}
+use Rattle.gr_long.specs.AccountText.{details_line}
 use Rattle.gr_long.proofs.text.put_race.Goals as goal
 
 pub returns-in_err-put_details : goal.returns-in_err-put_details

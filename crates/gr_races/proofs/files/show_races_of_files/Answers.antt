@@ -32,4 +32,4 @@ returns-clause-shown g c =
     let buffers_said = ap buffers_in (sym c.deref-2.ensures.value) ∙ c.in_ok-buffers.ensures.said in
     races_shown g.T.Read.remaining _ _ _ (record { places = files.places; buffers = files.buffers }) files.streams.items c.in_ok-places.ensures.opened
     c.in_ok-place_bytes.place_bytes.items c.in_ok-place_bytes.ensures.bytes _ places_said c.in_ok-buffer_bytes.buffer_bytes.items c.in_ok-buffer_bytes.ensures.bytes _ buffers_said
-    c.args.most c.in_ok-show_races.field-0 _ _ (rw (c.deref-3.ensures.value, c.deref-4.ensures.value) at c.in_ok-show_races.ensures.shown)
+    c.args.most c.args.causes c.in_ok-show_races.field-0 _ _ (rw (c.deref-3.ensures.value, c.deref-4.ensures.value) at c.in_ok-show_races.ensures.shown)

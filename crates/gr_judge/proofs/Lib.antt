@@ -1,0 +1,4 @@
+pub mod AnswerLemmas
+pub mod EventSets
+pub mod KeptLemmas
+pub mod JudgedLemmas

@@ -1,0 +1,80 @@
+//! Whether pairs of accesses of a launch race.
+
+ghost use Rattle.std.specs.Prelude.{◌≡◌, ◌↔◌, All, IfOk, IsTrue};
+ghost use Rattle.gr_model.specs.Streams.{Streams};
+ghost use Rattle.gr_model.specs.Waits.{IsGrounded};
+ghost use Rattle.gr_clocks.specs.ClockedAccess.{clocked};
+ghost use Rattle.gr_shadow.specs.Clashes as shadow;
+ghost use Rattle.gr_judge.specs.Accesses.{IsKept, access_at};
+ghost use Rattle.gr_judge.specs.Judged.{AreAccesses, AreJudgements, ClashOn, IsJudged};
+
+use crate::accesses::{Accesses, accesses_of, events_of};
+use gr_clocks::access::Access;
+use gr_explain::judging::Judgement;
+use gr_model::event::Word;
+use gr_model::memory::Memory;
+use gr_model::race::Race;
+use gr_model::traces::Traces;
+use gr_scopes::class::exempt;
+use std::alloc::Allocator;
+
+/// Whether an access is of another item than another one, not exempt with it, and does not count it.
+fn clashes<A: Allocator>(earlier: &Access<A>, later: &Access<A>) -> bool
+    ensures { result ≡ shadow.clashes (clocked earlier.now) (clocked later.now) }
+{
+    earlier.item != later.item
+        && !exempt(
+            earlier.class,
+            earlier.item.group,
+            later.class,
+            later.item.group,
+        )
+        && !later.clock.covers(earlier.item, earlier.index)
+}
+
+/// Whether two accesses are of a word and each clashes with the other: neither counts the other.
+fn are_race<A: Allocator>(word: Word, first: &Access<A>, second: &Access<A>) -> bool
+    ensures { IsTrue result ↔ (ClashOn word (clocked first.now) (clocked second.now) × ClashOn word (clocked second.now) (clocked first.now)) }
+{
+    first.word == word && second.word == word && clashes(first, second) && clashes(second, first)
+}
+
+/// What the two events of a pair are to each other on its word, where the accesses of those that are grounded were kept.
+fn judgement_of<A: Allocator>(accesses: &Accesses<A>, race: &Race) -> Judgement
+    ensures { (s : Streams) → AreAccesses s race.now → IsKept s (IsGrounded s) race.now.first (access_at accesses.now.entries race.now.first) → IsKept s (IsGrounded s) race.now.second (access_at accesses.now.entries race.now.second) → IsJudged s race.now result }
+{
+    match (accesses.get(&race.first), accesses.get(&race.second)) {
+        (Some(first), Some(second)) => {
+            if are_race(race.word, first, second) {
+                Judgement::Race
+            } else {
+                Judgement::NoRace
+            }
+        }
+        _ => Judgement::Held,
+    }
+}
+
+/// What the two accesses of each pair are to each other on its word: a race, no race, or one of them is held. The answers
+/// stand in the order of the pairs.
+///
+/// It handles the events of the launch once for all pairs. Time and memory grow with the events, and with the pairs.
+///
+/// # Errors
+/// `Memory`: out of memory.
+pub fn judge_races<A: Allocator + Copy>(
+    alloc: A,
+    traces: &Traces<A>,
+    races: &[Race],
+) -> Result<Vec<Judgement, A>, Memory>
+    requires accesses { All (AreAccesses traces.now) races.now }
+    ensures { IfOk result (λ judgements. AreJudgements traces.now races.now judgements.items) }
+{
+    let wanted = events_of(alloc, races)?;
+    let accesses = accesses_of(alloc, traces, &wanted)?;
+    let mut judgements = Vec::new(alloc);
+    for race in races {
+        judgements.push(judgement_of(&accesses, race))?;
+    }
+    Ok(judgements)
+}
