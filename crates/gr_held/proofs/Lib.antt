@@ -1,0 +1,3 @@
+pub mod HeldLemmas
+pub mod ChainLemmas
+pub mod WalkLemmas
