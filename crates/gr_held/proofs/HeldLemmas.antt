@@ -1,7 +1,7 @@
 -- Why the first held event of an item is held: one of its names, or an event before a barrier that it meets.
-use Rattle.std.proofs.Common.{◌≡◌, ℕ, ◌<◌, List, length, Some, slice_get, suc, sym, ap, ◌∙◌, subst, ⊎_elim, arith}
+use Rattle.std.proofs.Common.{◌≡◌, ◌↔◌, ℕ, ◌+◌, ◌<◌, ◌≤◌, List, length, Option, None, Some, false, is_some, true≢false, refl, slice_get, suc, eq-or-lt_of_le, sym, ap, ◌∙◌, subst, ⊎_elim, arith}
+use Rattle.std.specs.Prelude.{MatchOption}
 use Rattle.std.proofs.lemmas.Option.{slice_get_within}
-use Rattle.gr_model.specs.declared.event.Event.{Event}
 use Rattle.gr_model.specs.declared.event.EventId.{EventId}
 use Rattle.gr_model.specs.declared.event.ItemId.{ItemId}
 use Rattle.gr_model.specs.declared.event.Name.{Name}
@@ -9,18 +9,18 @@ use Rattle.gr_model.specs.Access.{is_release}
 use Rattle.gr_model.specs.Barriers.{IsConvergent, IsDivergent, StandsIn, Together}
 use Rattle.gr_model.specs.Instances.{Mark}
 use Rattle.gr_model.specs.LawfulOrders.{IsWholeOrder}
-use Rattle.gr_model.specs.Names.{HasItsReleases, HasName, release_place}
-use Rattle.gr_model.specs.Streams.{AreComplete, IsEvent, Streams, event_at, trace_of}
+use Rattle.gr_model.specs.Names.{HasItsReleases, HasName, IsOfItsWord, Matches, release_place}
+use Rattle.gr_model.specs.Streams.{AreComplete, IsEvent, Streams, trace_of, word_at}
 use Rattle.gr_model.specs.Waits.{IsGrounded, IsPrevious, Waits, for_arrival, for_meeting, for_previous, for_release}
 use Rattle.gr_model.proofs.Descent.{lawful_is_grounded}
 use Rattle.gr_model.proofs.GrowthLaws.{not_both}
 use Rattle.gr_model.proofs.Places.{places_from-there}
-use Rattle.gr_steps.proofs.BarrierPlaces.{barrier_there, same_instance}
+use Rattle.gr_steps.proofs.BarrierPlaces.{barrier_there, moved, same_instance}
 use Rattle.gr_steps.proofs.DecidedWaits.{settled}
 use Rattle.gr_steps.proofs.EventRecords.{one_release}
 use Rattle.gr_steps.proofs.Orders.{there_is}
 use Rattle.gr_steps.proofs.Reached.{reached, stage_in}
-use Rattle.gr_held.specs.Waiting.{HasGroundedRelease, HaveArrived, IsArrival, IsHeldEvent, IsLate, IsPassed}
+use Rattle.gr_held.specs.Waiting.{HasGroundedRelease, HaveArrived, IsArrival, IsFirstHeld, IsHeldEvent, IsLate, IsPassed}
 
 -- ---- events that are there
 
@@ -94,3 +94,41 @@ pub late_held : (s : Streams) (g k : ℕ) (d : EventId) → IsLate s g k d → I
 late_held s g k d late =
     let there = barrier_there s late.barrier g k late.stands in
     record { event = earlier_there s d late.barrier (there.0, there.1) late.previous.item (omega (arith, late.previous.next)); held = late.held }
+
+-- ---- what calls answer
+
+pub if_none : {X : Type 0} {P : Type 0} {Q : X → Type 0} (o : Option X) → is_some o ≡ false → MatchOption o P Q → P
+if_none None e p = p
+if_none (Some x) e q = absurd (true≢false e)
+
+module _ (s : Streams) where
+  -- the events before the barriers of one item more are grounded
+  pub one_item_more : (g k i : ℕ) → ((b d : EventId) → b.at.item < i → StandsIn s b g k → IsPrevious d b → IsGrounded s d) → ((b d : EventId) → b.at ≡ record { group = g; item = i } → StandsIn s b g k → IsPrevious d b → IsGrounded s d) → (b d : EventId) → b.at.item < i + 1 → StandsIn s b g k → IsPrevious d b → IsGrounded s d
+  one_item_more g k i before here b d lt stands p =
+      ⊎_elim
+      (λ (same : b.at.item ≡ i). here b d (λ j. record { group = stands.group j; item = same j }) stands p)
+      (λ (less : b.at.item < i). before b d less stands p)
+      (eq-or-lt_of_le (let le : b.at.item ≤ i = omega arith in le))
+
+  -- an event stands in one instance alone
+  pub late_by : (e : EventId) (n : ℕ) (o : Option EventId) → StandsIn s e e.at.group n → MatchOption o (HaveArrived s e.at.group n) (λ d. IsLate s e.at.group n d) → MatchOption o ((g k : ℕ) → StandsIn s e g k → HaveArrived s g k) (λ d. (g k : ℕ) × StandsIn s e g k × IsLate s g k d)
+  late_by e n None here arrived g k stands b d other p =
+      let same = same_instance s e g k e.at.group n stands here in
+      arrived b d (moved s b g k e.at.group n same.0 same.1 other) p
+  late_by e n (Some d) here late = (e.at.group, n, here, late)
+
+  -- the release of a name, on the word of the event that has the name
+  pub matches_of : (e : EventId) (n : Name) (index : ℕ) → HasName s e n → IsOfItsWord s e n → release_place s n ≡ Some index → Matches s e (record { at = n.at; index = index })
+  matches_of e n index named its place =
+      let same : its.0 ≡ index = let is : Some its.0 ≡ Some index = sym its.1 ∙ place in cc in
+      record {
+        name = n;
+        by = record { named = named; item = refl; place = place; word = sym (ap (λ (k : ℕ). word_at s (record { at = n.at; index = k })) (sym same) ∙ its.2) };
+      }
+
+  -- the first event of an item that is not grounded
+  pub first_is : (item : ItemId) (first : EventId) → first.at ≡ item → ((e : EventId) → e.at ≡ item → IsGrounded s e ↔ (e.index < first.index)) → IsFirstHeld s first
+  first_is item first at grounded = record {
+    held = λ g. let lt = (grounded first at).0 g in omega (arith, lt);
+    passed = λ d here lt. (grounded d (here ∙ at)).1 lt;
+  }

@@ -1,3 +1,4 @@
 pub mod HeldLemmas
 pub mod ChainLemmas
 pub mod WalkLemmas
+pub mod JudgedLemmas

@@ -1,5 +1,6 @@
 -- The items that a walk has visited.
-use Rattle.std.proofs.Common.{◌≡◌, ℕ, ◌+◌, ◌-◌, ◌<◌, ◌≤◌, List, [], ◌∷◌, ◌++◌, length, Some, slice_get, refl, sym, ap, ◌∙◌, subst, ⊎_elim, arith, eq-or-lt_of_le}
+use Rattle.std.proofs.Common.{◌≡◌, ℕ, suc, ◌+◌, ◌-◌, ◌<◌, ◌≤◌, List, [], ◌∷◌, ◌++◌, length, Option, None, Some, refl, sym, ap, ◌∙◌, subst, ⊎_elim, arith, eq-or-lt_of_le}
+use Rattle.std.specs.Prelude.{IfSome}
 use Rattle.std.proofs.lemmas.Bool.{cases_lt}
 use Rattle.gr_model.specs.declared.event.EventId.{EventId}
 use Rattle.gr_model.specs.declared.event.ItemId.{ItemId}
@@ -63,3 +64,15 @@ module _ (s : Streams) where
             (let one = tick_here e.at e.at refl in let counts = tick.counts e.at in omega (arith, one, counts, fresh))
             (λ j apart. let none = tick_there e.at j apart in let counts = tick.counts j in omega (arith, none, counts)) in
         omega (arith, sum)
+
+-- how many steps a walk can still make
+abbrev pub steps_left : Counts → List ℕ → Option EventId → ℕ
+steps_left visited sizes None = 0
+steps_left visited sizes (Some e) = suc (unvisited visited sizes)
+
+pub fewer_steps : (before after : Counts) (sizes : List ℕ) (e : EventId) (o next : Option EventId) → o ≡ Some e → IfSome next (λ d. unvisited after sizes < unvisited before sizes) → steps_left after sizes next < steps_left before sizes o
+fewer_steps before after sizes e o next is fewer = subst (λ (p : Option EventId). steps_left after sizes next < steps_left before sizes p) (sym is) (by_next next fewer)
+  where
+    by_next : (next : Option EventId) → IfSome next (λ d. unvisited after sizes < unvisited before sizes) → steps_left after sizes next < suc (unvisited before sizes)
+    by_next None fewer = omega arith
+    by_next (Some d) fewer = omega (arith, fewer)

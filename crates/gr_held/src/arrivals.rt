@@ -1,6 +1,6 @@
 //! The items of a group that don't come to their barrier of an instance.
 
-ghost use Rattle.std.specs.Prelude.{◌≡◌, ◌<◌, MatchOption, Some, length};
+ghost use Rattle.std.specs.Prelude.{◌≡◌, ◌<◌, ℕ, MatchOption, Some, length};
 ghost use Rattle.gr_model.specs.declared.event.EventId.{EventId as AnyEvent};
 ghost use Rattle.gr_model.specs.Barriers.{StandsIn};
 ghost use Rattle.gr_model.specs.Streams.{IsEvent, size_of};

@@ -31,6 +31,8 @@ pub(crate) fn reason_of<A: Allocator>(judged: &Judged<A>, event: EventId) -> Rea
     ensures cause { IsCause judged.now event result }
     ensures leads { LeadsToHeld judged.now result }
 {
+    // brings what is known of the launch into the proof
+    let _lanes = judged.lanes();
     match named_reason(judged, event) {
         Some(reason) => reason,
         None => match late_arrival(judged, event) {

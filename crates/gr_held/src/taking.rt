@@ -1,7 +1,7 @@
 //! All records of a launch, taken and handled as far as they can be.
 
 ghost use Rattle.std.specs.Prelude.{◌≡◌, ◌<◌, [], IfOk, OnOk, length};
-ghost use Rattle.gr_model.specs.Streams.{IsAccepted, list_of, size_of};
+ghost use Rattle.gr_model.specs.Streams.{AreAccepted, IsAccepted, list_of, size_of};
 ghost use Rattle.gr_explain.specs.Taking.{all_taken, with_list};
 ghost use Rattle.gr_order.specs.Answers.{CanMake};
 ghost use Rattle.gr_order.specs.Sequences.{IsDone, IsSequence};
@@ -44,7 +44,8 @@ pub(crate) fn take_all<A: Allocator + Copy>(
     alloc: A,
     traces: &Traces<A>,
 ) -> Result<Agenda<A>, Memory>
-    ensures { IfOk result (λ agenda. agenda ≡ all_taken traces.now) }
+    ensures taken { IfOk result (λ agenda. agenda ≡ all_taken traces.now) }
+    ensures accepted { IfOk result (λ agenda. AreAccepted traces.now) }
 {
     let mut agenda = Agenda::new(alloc, traces.shape().copy()?)?;
     for group in 0..traces.shape().groups() {

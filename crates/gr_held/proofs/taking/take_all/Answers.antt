@@ -20,8 +20,8 @@ loop-group-preserved g c =
     let there : c.loop-group.group < length s.lists = omega (arith, ap length c.shape-2.ensures.sizes, c.shape.ensures.accepted.count) in
     list_taken s c.loop-group.group c.loop-group.agenda c.take_list.new.agenda c.list.result.now there c.loop-group.invariant c.list.ensures.list c.in_ok-take_list.ensures
 
-pub returns : goal.returns
-returns g c =
+pub returns-clause-taken : goal.returns-clause-taken
+returns-clause-taken g c =
     let s = c.args.traces.now in
     let all : length s.lists ≤ c.loop-group.group = omega (arith, ap length c.shape-2.ensures.sizes, c.shape.ensures.accepted.count) in
     all_are_taken s c.loop-group.group c.loop-group.agenda all c.loop-group.invariant

@@ -1,0 +1,12 @@
+use Rattle.std.specs.Prelude.{IfSome}
+use Rattle.gr_held.specs.Chains.{IsChainTo}
+use Rattle.gr_held.specs.Waiting.{IsHeldEvent}
+use Rattle.gr_held.specs.Walks.{AreVisited}
+use Rattle.gr_held.proofs.WalkLemmas.{steps_left}
+use Rattle.gr_held.proofs.walk.chain_of.Given as goal
+
+abbrev pub invariant-loop-held : goal.invariant-loop-held
+invariant-loop-held g l = IsChainTo l.judged l.event l.links.items l.next × IfSome l.next (IsHeldEvent l.judged) × AreVisited l.judged l.links.items l.visited
+
+abbrev pub decreases-loop-held : goal.decreases-loop-held
+decreases-loop-held g l = steps_left l.visited l.judged.sizes l.next
