@@ -22,6 +22,13 @@ event_stays links more k e at = elim (slice_get links k) as (λ o. (slice_get li
   | Some l ↦ λ is. ap (option_map (λ l. l.event)) (slice_get-append links more k l is) ∙ (sym (ap (option_map (λ l. l.event)) is) ∙ at)
 ] refl
 
+-- a link that has an event is there
+pub event_within : (links : List Link) (k : ℕ) (e : EventId) → event_of links k ≡ Some e → k < length links
+event_within links k e at = elim (slice_get links k) as (λ o. (slice_get links k ≡ o) → k < length links) [
+  | None ↦ λ none. let clash : None ≡ Some e = sym (ap (option_map (λ l. l.event)) none) ∙ at in cc
+  | Some l ↦ λ is. slice_get_within links k l is
+] refl
+
 module _ (s : Streams) where
   -- and so do their reasons
   pub reason_stays : (links more : List Link) (p : ℕ) (e : EventId) (r : Reason) → IsReason s links p e r → IsReason s (links ++ more) p e r

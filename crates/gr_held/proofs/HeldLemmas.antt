@@ -97,9 +97,9 @@ late_held s g k d late =
 
 -- ---- what calls answer
 
-pub if_none : {X : Type 0} {P : Type 0} {Q : X → Type 0} (o : Option X) → is_some o ≡ false → MatchOption o P Q → P
-if_none None e p = p
-if_none (Some x) e q = absurd (true≢false e)
+pub if_none : {X : Type 0} (P : Type 0) (Q : X → Type 0) (o : Option X) → is_some o ≡ false → MatchOption o P Q → P
+if_none P Q None e p = p
+if_none P Q (Some x) e q = absurd (true≢false e)
 
 module _ (s : Streams) where
   -- the events before the barriers of one item more are grounded
@@ -112,7 +112,7 @@ module _ (s : Streams) where
 
   -- an event stands in one instance alone
   pub late_by : (e : EventId) (n : ℕ) (o : Option EventId) → StandsIn s e e.at.group n → MatchOption o (HaveArrived s e.at.group n) (λ d. IsLate s e.at.group n d) → MatchOption o ((g k : ℕ) → StandsIn s e g k → HaveArrived s g k) (λ d. (g k : ℕ) × StandsIn s e g k × IsLate s g k d)
-  late_by e n None here arrived g k stands b d other p =
+  late_by e n None here arrived = λ g k stands b d other p.
       let same = same_instance s e g k e.at.group n stands here in
       arrived b d (moved s b g k e.at.group n same.0 same.1 other) p
   late_by e n (Some d) here late = (e.at.group, n, here, late)

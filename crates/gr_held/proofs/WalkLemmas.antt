@@ -1,7 +1,7 @@
 -- The items that a walk has visited.
-use Rattle.std.proofs.Common.{◌≡◌, ℕ, suc, ◌+◌, ◌-◌, ◌<◌, ◌≤◌, List, [], ◌∷◌, ◌++◌, length, Option, None, Some, refl, sym, ap, ◌∙◌, subst, ⊎_elim, arith, eq-or-lt_of_le}
+use Rattle.std.proofs.Common.{◌≡◌, ◌↔◌, Bool, false, IsTrue, true≢false, ℕ, suc, ◌+◌, ◌-◌, ◌<◌, ◌≤◌, List, [], ◌∷◌, ◌++◌, length, Option, None, Some, refl, sym, ap, ◌∙◌, subst, ⊎_elim, arith, eq-or-lt_of_le}
 use Rattle.std.specs.Prelude.{IfSome}
-use Rattle.std.proofs.lemmas.Bool.{cases_lt}
+use Rattle.std.proofs.lemmas.Bool.{cases_eq, cases_lt}
 use Rattle.gr_model.specs.declared.event.EventId.{EventId}
 use Rattle.gr_model.specs.declared.event.ItemId.{ItemId}
 use Rattle.gr_model.specs.Shapes.{HasItem}
@@ -64,6 +64,13 @@ module _ (s : Streams) where
             (let one = tick_here e.at e.at refl in let counts = tick.counts e.at in omega (arith, one, counts, fresh))
             (λ j apart. let none = tick_there e.at j apart in let counts = tick.counts j in omega (arith, none, counts)) in
         omega (arith, sum)
+
+pub zero_if : (b : Bool) (n : ℕ) → IsTrue b ↔ (0 < n) → b ≡ false → n ≡ 0
+zero_if b n is unset = ⊎_elim (λ (same : n ≡ 0). same) (λ (some : n ≡ 0 → ⊥). absurd (true≢false (sym (is.1 (omega (arith, some))) ∙ unset))) (cases_eq n 0)
+
+pub if_some_all : {X : Type 0} (Q : Type 0) (o : Option X) → Q → IfSome o (λ x. Q)
+if_some_all Q None q = tt
+if_some_all Q (Some x) q = q
 
 -- how many steps a walk can still make
 abbrev pub steps_left : Counts → List ℕ → Option EventId → ℕ

@@ -35,10 +35,12 @@ fn place_in(links: &[Link], event: EventId) -> usize
     requires { (k : ℕ) × (event_of links.now k ≡ Some event) }
     ensures { event_of links.now result ≡ Some event }
 {
-    match links.iter().position(|link| link.event == event) {
-        Some(place) => place,
-        None => unreachable!(),
+    for place in 0..links.len() {
+        if links[place].event == event {
+            return place;
+        }
     }
+    unreachable!()
 }
 
 /// Adds a link.
@@ -94,6 +96,8 @@ fn visit<A: Allocator>(
     ensures visited { AreVisited judged.now (links.now ++ (record { event = event; reason = result }) ∷ []) visited.new }
     ensures fewer { IfSome (leads_to result) (λ d. unvisited visited.new judged.now.sizes < unvisited visited.old judged.now.sizes) }
 {
+    // brings what is known of the launch into the proof
+    let _lanes = judged.lanes();
     if visited.covers(event.at, 0) {
         return Reason::Circle(place_in(links, event));
     }

@@ -6,7 +6,7 @@ use Rattle.gr_held.proofs.arrivals.late_in.Goals as goal
 pub loop-item-preserved : goal.loop-item-preserved
 loop-item-preserved g c =
     one_item_more c.args.judged.now c.args.group c.args.number c.loop-item.item c.loop-item.invariant
-    (if_none c.held_before-held.result (sym c.is_some.ensures ∙ c.if-is_some.false) c.held_before-held.ensures)
+    (if_none _ _ c.held_before-held.result (sym c.is_some.ensures ∙ c.if-is_some.false) c.held_before-held.ensures)
 
 pub returns : goal.returns
 returns g c b d stands p =
