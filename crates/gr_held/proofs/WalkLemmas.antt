@@ -61,8 +61,8 @@ module _ (s : Streams) where
     fewer prefixes fresh =
         let has : HasItem s.sizes e.at = (group_of_event s prefixes e held.event.0 held.event.1, item_of_event s prefixes e held.event.0 held.event.1) in
         let sum = item_more (λ i. 1 - count_of after i) (λ i. 1 - count_of before i) s.sizes e.at has
-            (let one = tick_here e.at e.at refl in let counts = tick.counts e.at in omega (arith, one, counts, fresh))
-            (λ j apart. let none = tick_there e.at j apart in let counts = tick.counts j in omega (arith, none, counts)) in
+        (let one = tick_here e.at e.at refl in let counts = tick.counts e.at in omega (arith, one, counts, fresh))
+        (λ j apart. let none = tick_there e.at j apart in let counts = tick.counts j in omega (arith, none, counts)) in
         omega (arith, sum)
 
 pub zero_if : (b : Bool) (n : ℕ) → IsTrue b ↔ (0 < n) → b ≡ false → n ≡ 0

@@ -1,11 +1,11 @@
 use Rattle.gr_report.proofs.PuttingLemmas.{puts_err, lines_start, lines_next, lines_fail, lines_end}
 use Rattle.gr_held.specs.declared.reason.Link.{Link}
-use Rattle.gr_held.specs.declared.reason.Reason.TheVariants.{Circle}
+use Rattle.gr_held.specs.declared.reason.Reason.TheVariants.{Behind}
 use Rattle.gr_held.specs.WhyText.{link_line}
 use Rattle.gr_held.proofs.text.put_links.Goals as goal
 
 abbrev no_link : Link
-no_link = record { event = record { at = record { group = 0; item = 0 }; index = 0 }; reason = Circle 0 }
+no_link = record { event = record { at = record { group = 0; item = 0 }; index = 0 }; reason = Behind (record { at = record { group = 0; item = 0 }; index = 0 }) }
 
 pub loop-link-init : goal.loop-link-init
 loop-link-init g c = lines_start link_line c.args.links.now _
