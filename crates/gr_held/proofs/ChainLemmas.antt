@@ -8,7 +8,7 @@ use Rattle.gr_steps.proofs.Orders.{split_last}
 use Rattle.gr_held.specs.declared.reason.Link.{Link}
 use Rattle.gr_held.specs.declared.reason.Reason.{Reason}
 use Rattle.gr_held.specs.declared.reason.Reason.TheVariants.{Behind, Release, Barrier, Absent, OtherWord, Circle}
-use Rattle.gr_held.specs.Chains.{IsCause, IsChain, IsChainTo, IsReason, Lead, event_of, leads_to}
+use Rattle.gr_held.specs.Chains.{IsCause, IsChainTo, IsReason, Lead, event_of, leads_to}
 use Rattle.gr_held.specs.Waiting.{IsHeldEvent}
 
 -- a link for an event

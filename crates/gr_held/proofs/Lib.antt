@@ -2,3 +2,4 @@ pub mod HeldLemmas
 pub mod ChainLemmas
 pub mod WalkLemmas
 pub mod JudgedLemmas
+pub mod WhyLemmas

@@ -1,6 +1,6 @@
 -- Why an event of a launch is held, if it is.
 -- Source: docs/MODEL.md, "What waits for what".
-use Rattle.std.specs.Prelude.{List}
+use Rattle.std.specs.Prelude.{Bool, true, false, List}
 use Rattle.gr_model.specs.declared.event.EventId.{EventId}
 use Rattle.gr_model.specs.Streams.{IsEvent, Streams}
 use Rattle.gr_model.specs.Waits.{IsGrounded}
@@ -26,3 +26,9 @@ abbrev pub IsWhy : Streams → EventId → Answer → Type 0
 IsWhy s e no_record = ¬ IsEvent s e
 IsWhy s e judged = IsEvent s e × IsGrounded s e
 IsWhy s e (held links) = IsHeldEvent s e × IsChain s e links
+
+-- whether an answer is that the event is held
+abbrev pub says_held : Answer → Bool
+says_held no_record = false
+says_held judged = false
+says_held (held links) = true

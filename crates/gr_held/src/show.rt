@@ -8,7 +8,7 @@ ghost use Rattle.gr_show.specs.Shown.{IsShowFault, IsShown, ShowsPrefix};
 ghost use Rattle.gr_held.specs.Shown.{IsHeldIn, IsWhyText};
 
 use crate::text::write_why;
-use crate::why::{WhyHeld, why_held};
+use crate::why::why_held;
 use gr_model::event::EventId;
 use gr_record::fault::Fault;
 use gr_replay::read_each;
@@ -38,7 +38,7 @@ pub fn show_why_held<A: Allocator + Copy, T: Read + Drop, W: Write>(
     let traces = read_each(alloc, readers)?;
     let why = why_held(alloc, &traces, event)?;
     match write_why(writer, event, &why) {
-        Ok(()) => Ok(matches!(why, WhyHeld::Held(_))),
+        Ok(()) => Ok(why.is_held()),
         Err(_) => Err(Fault::Write),
     }
 }

@@ -1,7 +1,7 @@
 //! Why an event of a launch is held, if it is.
 
-ghost use Rattle.std.specs.Prelude.{IfOk};
-ghost use Rattle.gr_held.specs.Why.{IsWhy, answer_of};
+ghost use Rattle.std.specs.Prelude.{◌≡◌, IfOk};
+ghost use Rattle.gr_held.specs.Why.{IsWhy, answer_of, says_held};
 
 use crate::judged::Judged;
 use crate::reason::Link;
@@ -24,6 +24,18 @@ pub enum WhyHeld<A: Allocator = Global> {
     Held(Vec<Link, A>),
 }
 
+impl<A: Allocator> WhyHeld<A> {
+    /// Whether the answer is that the event is held.
+    pub fn is_held(&self) -> bool
+        ensures { result ≡ says_held (answer_of self.now) }
+    {
+        match self {
+            WhyHeld::NoRecord | WhyHeld::Judged => false,
+            WhyHeld::Held(_) => true,
+        }
+    }
+}
+
 /// Why an event of a launch is held, or that it is judged, or that it is not there.
 ///
 /// It handles all events of the launch once, and so takes time and memory that grow with them.
@@ -41,8 +53,8 @@ pub fn why_held<A: Allocator + Copy>(
     if judged.is_grounded(event) {
         return Ok(WhyHeld::Judged);
     }
-    if judged.record_of(event).is_none() {
-        return Ok(WhyHeld::NoRecord);
+    match judged.record_of(event) {
+        None => Ok(WhyHeld::NoRecord),
+        Some(_) => Ok(WhyHeld::Held(chain_of(alloc, &judged, event)?)),
     }
-    Ok(WhyHeld::Held(chain_of(alloc, &judged, event)?))
 }
