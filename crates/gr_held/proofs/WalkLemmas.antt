@@ -1,5 +1,5 @@
 -- The items that a walk has visited.
-use Rattle.std.proofs.Common.{◌≡◌, ◌↔◌, Bool, false, IsTrue, true≢false, ℕ, suc, ◌+◌, ◌-◌, ◌<◌, ◌≤◌, List, [], ◌∷◌, ◌++◌, length, Option, None, Some, refl, sym, ap, ◌∙◌, subst, ⊎_elim, arith, eq-or-lt_of_le}
+use Rattle.std.proofs.Common.{◌≡◌, ◌↔◌, Bool, false, IsTrue, true≢false, ℕ, suc, ◌-◌, ◌<◌, ◌≤◌, List, [], ◌∷◌, ◌++◌, length, Option, None, Some, refl, sym, ap, ◌∙◌, subst, ⊎_elim, arith, eq-or-lt_of_le}
 use Rattle.std.specs.Prelude.{IfSome}
 use Rattle.std.proofs.lemmas.Bool.{cases_eq, cases_lt}
 use Rattle.gr_model.specs.declared.event.EventId.{EventId}
@@ -7,7 +7,7 @@ use Rattle.gr_model.specs.declared.event.ItemId.{ItemId}
 use Rattle.gr_model.specs.Shapes.{HasItem}
 use Rattle.gr_model.specs.Streams.{ArePrefixes, Streams}
 use Rattle.gr_model.proofs.Cuts.{same_event}
-use Rattle.gr_clocks.specs.Counts.{Counts, IsTick, IsZero, count_of, sizes_of, tick_at}
+use Rattle.gr_clocks.specs.Counts.{Counts, IsTick, IsZero, count_of}
 use Rattle.gr_order.proofs.StateLemmas.{item_cases, tick_here, tick_there}
 use Rattle.gr_order.proofs.SumLemmas.{item_more}
 use Rattle.gr_steps.proofs.EventRecords.{group_of_event, item_of_event}
