@@ -1,0 +1,46 @@
+-- Events that are held, and for which events they wait.
+-- Source: docs/MODEL.md, "What waits for what".
+use Rattle.std.specs.Prelude.{◌≡◌, ◌<◌, ℕ}
+use Rattle.gr_model.specs.declared.event.EventId.{EventId}
+use Rattle.gr_model.specs.declared.event.Name.{Name}
+use Rattle.gr_model.specs.Barriers.{StandsIn, Together}
+use Rattle.gr_model.specs.Instances.{Mark}
+use Rattle.gr_model.specs.Names.{MatchesBy}
+use Rattle.gr_model.specs.Streams.{IsEvent, Streams}
+use Rattle.gr_model.specs.Waits.{IsGrounded, IsPrevious}
+
+-- an event that is there and is not grounded
+pub record IsHeldEvent (s : Streams) (e : EventId) : Type 0 where
+  pub event : IsEvent s e
+  pub held : ¬ IsGrounded s e
+
+-- all events before it in its item are grounded
+abbrev pub IsPassed : Streams → EventId → Type 0
+IsPassed s e = (d : EventId) → d.at ≡ e.at → d.index < e.index → IsGrounded s d
+
+-- it is the first event of its item that is held
+pub record IsFirstHeld (s : Streams) (e : EventId) : Type 0 where
+  pub held : ¬ IsGrounded s e
+  pub passed : IsPassed s e
+
+-- d is the event before a barrier with which e, a barrier too, stands in one convergent instance: e waits for its arrival
+pub record IsArrival (s : Streams) (e d : EventId) : Type 0 where
+  pub mark : Mark
+  pub barrier : EventId
+  pub together : Together s mark e barrier
+  pub previous : IsPrevious d barrier
+
+-- the release of one of its names is there, on its word, and grounded
+abbrev pub HasGroundedRelease : Streams → EventId → Name → Type 0
+HasGroundedRelease s e n = (d : EventId) × MatchesBy s n e d × IsGrounded s d
+
+-- the event before some barrier of an instance is held
+pub record IsLate (s : Streams) (g k : ℕ) (d : EventId) : Type 0 where
+  pub barrier : EventId
+  pub stands : StandsIn s barrier g k
+  pub previous : IsPrevious d barrier
+  pub held : ¬ IsGrounded s d
+
+-- the event before each barrier of an instance is grounded
+abbrev pub HaveArrived : Streams → ℕ → ℕ → Type 0
+HaveArrived s g k = (b d : EventId) → StandsIn s b g k → IsPrevious d b → IsGrounded s d
