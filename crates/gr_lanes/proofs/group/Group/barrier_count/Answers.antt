@@ -7,8 +7,9 @@ use Rattle.gr_lanes.proofs.IndexLemmas.{few_arrived, lacks_any}
 use Rattle.gr_lanes.proofs.group.Group.barrier_count.Goals as goal
 
 pub barrier_count-requires : goal.barrier_count-requires
-barrier_count-requires g c =
-    few_arrived c.self.inside.lanes.items c.self.inside.list c.self.invariant.indices c.deref.result.now c.deref.ensures.value c.args.item c.from.result c.from.ensures c.in-Some.lane.now c.in-Some.ensures.lookup.0 c.in-Some.ensures.lookup.1
+barrier_count-requires g c = record {
+  few = few_arrived c.self.inside.lanes.items c.self.inside.list c.self.invariant.indices c.deref.result.now c.deref.ensures.value c.args.item c.from.result c.from.ensures c.in-Some.lane.now c.in-Some.ensures.lookup.0 c.in-Some.ensures.lookup.1;
+}
 
 pub returns-in-None : goal.returns-in-None
 returns-in-None g c =
