@@ -258,7 +258,7 @@ module _ (s : Streams) (g : ℕ) (x : Event) (prefixes : ArePrefixes s) (can : C
           ap (λ (l : List Mark). slice_get l n) (longer_marks i ∙ (ap (λ (l : List Mark). filter_map mark_of old ++ l) (nothing_if (is_of i x)) ∙ append-nil (filter_map mark_of old)))
 
       pub plain_marks : AddsNoMark s more g
-      plain_marks n i a arrived = (i, arrived.0, sym (same_arrival n i) ∙ arrived.1)
+      plain_marks n i a arrived = (i, (arrived.0, sym (same_arrival n i) ∙ arrived.1))
 
       -- no instance of the group may meet now that might not before
       pub own_meets : (h : List EventId) → IsLawful s h → CanMeet more h g → CanMeet s h g
@@ -281,7 +281,7 @@ module _ (s : Streams) (g : ℕ) (x : Event) (prefixes : ArePrefixes s) (can : C
               let clash : None ≡ Some mark_there.0 = sym none ∙ (follows.came ∙ mark_there.1) in cc
 
       only_own : (i : ℕ) (b : Bool) → is_of i x ≡ b → (p : ℕ) (a : Mark) → slice_get (filter_map mark_of (cond b (x ∷ []) [])) p ≡ Some a → (x.item ≡ i) × (p ≡ 0) × (mark_of x ≡ Some a)
-      only_own i true is p a at = (item_is i is, one_mark (mark_of x) p a at)
+      only_own i true is p a at = let mark = one_mark (mark_of x) p a at in (item_is i is, mark.0, mark.1)
       only_own i false is p a at = cc
 
       -- the mark that comes is that of the one before
@@ -290,13 +290,13 @@ module _ (s : Streams) (g : ℕ) (x : Event) (prefixes : ArePrefixes s) (can : C
           let mine = only_own i (is_of i x) refl p a at in
           let count : length (filter_map mark_of (trace_of s (record { group = g; item = i }))) ≡ instance = ap (λ k. length (filter_map mark_of (trace_of s (record { group = g; item = k })))) (sym mine.0) ∙ count_marks (trace_of s own) in
           let number : n ≡ instance = omega (arith, place, mine.1, count) in
-          (follows.other, within, ap (λ m. arrivals s g m follows.other) number ∙ (follows.came ∙ mine.2))
+          (follows.other, (within, ap (λ m. arrivals s g m follows.other) number ∙ (follows.came ∙ mine.2)))
 
       pub following_marks : AddsNoMark s more g
       following_marks n i a arrived =
           let old = filter_map mark_of (trace_of s (record { group = g; item = i })) in
           let last : List Mark = filter_map mark_of (cond (is_of i x) (x ∷ []) []) in
           ⊎_elim
-          (λ (was : slice_get old n ≡ Some a). (i, arrived.0, was))
+          (λ (was : slice_get old n ≡ Some a). (i, (arrived.0, was)))
           (λ (new : (p : ℕ) × (n ≡ length old + p) × (slice_get last p ≡ Some a)). came_before n i a new.0 new.1 new.2)
           (split_last old last n a (ap (λ (l : List Mark). slice_get l n) (sym (longer_marks i)) ∙ arrived.1))

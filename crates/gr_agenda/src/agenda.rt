@@ -183,6 +183,14 @@ fn is_number(told: Option<u32>, number: u32) -> bool
     told == Some(number)
 }
 
+/// Whether an item's next event is its barrier of this number.
+fn is_next_barrier<A: Allocator>(order: &Order<A>, item: ItemId, number: u32) -> bool
+    ensures { IsTrue result → IsNextBarrier order.now item number }
+{
+    let frontier = order.frontier();
+    is_number(order.lanes().barrier_at(item, number), frontier.get(item))
+}
+
 /// The instance of a group that is known not to be divergent, if there is one.
 fn undiverged_of(undiverged: &[Option<u32>], group: u16) -> Option<u32>
     ensures { IfSome result (λ k. slice_get undiverged.now group ≡ Some (Some k)) }
@@ -346,10 +354,7 @@ impl<A: Allocator> Agenda<A> {
         let _taken = self.order.lanes();
         match undiverged_of(&self.undiverged, item.group) {
             None => false,
-            Some(instance) => {
-                is_at_barrier(&self.order, item)
-                    && is_number(next_barrier(&self.order, item), instance)
-            }
+            Some(instance) => is_next_barrier(&self.order, item, instance),
         }
     }
 
