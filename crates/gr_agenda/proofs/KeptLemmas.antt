@@ -26,8 +26,9 @@ use Rattle.gr_order.specs.Answers.{CanMake}
 use Rattle.gr_order.specs.Sequences.{HandlesEvent, IsSequence, MeetsInstance, Sequence, nothing, taking}
 use Rattle.gr_agenda.specs.Kept.{IsHeldUp, IsKept, IsNoted}
 use Rattle.gr_agenda.specs.Lists.{Has, IsWaiting, KeepsSteps, Steps}
+use Rattle.gr_agenda.specs.Reaches.{IsFollowing}
 use Rattle.gr_model.specs.Events.{is_end}
-use Rattle.gr_agenda.proofs.TakeFrames.{Takes, ready_was, held_was as held_before, still_held as held_behind, meets_was as meets_before, own_meets, takes_own, takes_wide}
+use Rattle.gr_agenda.proofs.TakeFrames.{AddsNoMark, Takes, barrier_goes_on, following_marks, ready_was, held_was as held_before, still_held as held_behind, meets_was as meets_before, own_meets, plain_marks, takes_own, takes_wide}
 use Rattle.gr_agenda.proofs.Frames.{Adds, held_was, meets_was, new_release, ready_or_held, still_held}
 
 -- the place of an event that passes a test is that of such an event
@@ -294,6 +295,16 @@ module _ {Z : Type 0} (q : Sequence) (t t2 : Steps) (lists : List (Vec ItemId Z)
             let here : record { group = g; item = d.at.item } ≡ d.at = λ i. record { group = sym own i; item = d.at.item } in
             subst (λ j. Has t2 (Item j)) here (items d.at.item within)
 
-    pub took_own : is_barrier x ≡ false → is_end x ≡ false → Has t2 (Item (record { group = g; item = x.item })) → IsKept q2 t2 lists
-    took_own plain ends item = kept_took (λ i. i ≡ record { group = g; item = x.item }) (takes_own q.taken g x is.prefixes can plain ends q.handled is.lawful) (λ i. item_cases i (record { group = g; item = x.item })) (λ i own. ap (λ (j : ItemId). j.group) own) (λ d there own. subst (λ j. Has t2 (Item j)) (sym own) item)
-        (λ meets. keeps (Group g) (kept.ready (Group g) (own_meets q.taken g x is.prefixes can plain ends q.handled is.lawful meets))) q2 took
+    abbrev own : ItemId
+    own = record { group = g; item = x.item }
+
+    took_own : is_end x ≡ false → AddsNoMark q.taken longer g → Has t2 (Item own) → (CanMeet longer q.handled g → Has t2 (Group g)) → IsKept q2 t2 lists
+    took_own ends marks item group = kept_took (λ i. i ≡ own) (takes_own q.taken g x is.prefixes can ends marks q.handled is.lawful) (λ i. item_cases i own) (λ i own. ap (λ (j : ItemId). j.group) own) (λ d there own. subst (λ j. Has t2 (Item j)) (sym own) item) group q2 took
+
+    pub took_plain : is_barrier x ≡ false → is_end x ≡ false → Has t2 (Item own) → IsKept q2 t2 lists
+    took_plain plain ends item = took_own ends (plain_marks q.taken g x is.prefixes can ends plain) item (λ meets. keeps (Group g) (kept.ready (Group g) (own_meets q.taken g x is.prefixes can ends plain q.handled is.lawful meets)))
+
+    pub took_following : IsFollowing q.taken g x → Has t2 (Group g) → Has t2 (Item own) → IsKept q2 t2 lists
+    took_following follows group item =
+        let ends = barrier_goes_on x.kind x.word follows.barrier in
+        took_own ends (following_marks q.taken g x is.prefixes can ends follows) item (λ meets. group)

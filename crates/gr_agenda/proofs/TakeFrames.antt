@@ -1,22 +1,26 @@
 -- What a record that is taken changes: an item or a group that it does not touch can go on only as before.
-use Rattle.std.proofs.Common.{Contains, cond, is_some, length, slice_index, ◌+◌, ◌≡◌, ◌<◌, ℕ, List, [], ◌∷◌, ◌++◌, Bool, true, false, Some, None, Option, refl, sym, ap, ◌∙◌, subst, inl, inr, ⊎_elim, filter, filter_map, slice_get, arith, append-nil, true≢false}
+use Rattle.std.proofs.Common.{Contains, cond, is_some, length, slice_index, ◌+◌, ◌≡◌, ◌<◌, ◌≤◌, ℕ, zero, suc, List, [], ◌∷◌, ◌++◌, Bool, true, false, Some, None, Option, refl, sym, ap, ◌∙◌, subst, inl, inr, ⊎_elim, filter, filter_map, slice_get, arith, append-nil, true≢false}
 use Rattle.std.specs.Prelude.{not, ◌&&◌, ◌==◌}
 use Rattle.std.specs.List.{cons_option}
 use Rattle.std.proofs.lemmas.List.{get_or-set_same, get_or-set_other}
 use Rattle.gr_model.proofs.Sending.{is_complete-push}
-use Rattle.gr_model.specs.Instances.{IsDivergentOf}
+use Rattle.gr_model.specs.declared.event.Kind.{Kind}
+use Rattle.gr_model.specs.declared.event.Kind.TheVariants.{Read, Write, Load, Store, Rmw, Barrier, End}
+use Rattle.gr_model.specs.Instances.{HasArrived, IsDivergentOf}
 use Rattle.gr_lanes.specs.Takes.{CanTake, with_record}
 use Rattle.gr_lanes.proofs.Growth.{record_grows}
-use Rattle.std.proofs.lemmas.Bool.{eqb-true}
-use Rattle.std.proofs.lemmas.Bool.{cases_eq}
+use Rattle.gr_lanes.proofs.IndexLemmas.{no_trace}
+use Rattle.gr_lanes.proofs.InstanceLemmas.{some_mark}
+use Rattle.gr_steps.proofs.Orders.{split_last}
+use Rattle.std.proofs.lemmas.Bool.{cases_eq, cases_lt, eqb-true}
 use Rattle.std.proofs.lemmas.List.Elements.{filter-append, filter_map-append}
 use Rattle.gr_model.specs.declared.event.Event.{Event}
 use Rattle.gr_model.specs.declared.event.EventId.{EventId}
 use Rattle.gr_model.specs.declared.event.ItemId.{ItemId}
 use Rattle.gr_model.specs.declared.event.Name.{Name}
 use Rattle.gr_model.specs.Access.{is_release}
-use Rattle.gr_model.specs.Barriers.{IsDivergent, StandsIn, arrivals, is_barrier, mark_of}
-use Rattle.gr_model.specs.Events.{is_end}
+use Rattle.gr_model.specs.Barriers.{IsDivergent, StandsIn, arrivals, is_barrier, mark_of, mark_of_kind}
+use Rattle.gr_model.specs.Events.{is_end, is_end_kind}
 use Rattle.gr_model.specs.Instances.{Mark}
 use Rattle.gr_model.specs.LawfulOrders.{IsIn, IsLawful}
 use Rattle.gr_model.specs.Names.{HasName, MatchesBy, names_of, release_place}
@@ -27,6 +31,7 @@ use Rattle.gr_model.proofs.Places.{places_from-append, places_from-within, slice
 use Rattle.std.proofs.lemmas.Option.{slice_get_within}
 use Rattle.gr_steps.specs.Steps.{CanMeet, IsMeeting, IsReady}
 use Rattle.gr_agenda.specs.Kept.{IsHeldUp}
+use Rattle.gr_agenda.specs.Reaches.{IsFollowing, next_instance}
 
 -- t has more records than s; an item of which T holds not has no more, and its instances are divergent only where they were
 pub record Takes (s t : Streams) (h : List EventId) (T : ItemId → Type 0) : Type 0 where
@@ -126,6 +131,34 @@ module _ (s t : Streams) (h : List EventId) (T : ItemId → Type 0) (takes : Tak
     pub meets_was : CanMeet t h g → CanMeet s h g
     meets_was = arrived_meets g same_arrivals
 
+-- ---- marks
+
+-- where an item of the group comes to an instance with a mark in t, some item came with it in s
+abbrev pub AddsNoMark : Streams → Streams → ℕ → Type 0
+AddsNoMark s t g = (n i : ℕ) (a : Mark) → HasArrived (size_of s g) (arrivals t g n) i a → (j : ℕ) × HasArrived (size_of s g) (arrivals s g n) j a
+
+-- a barrier is no end
+pub barrier_goes_on : (kind : Kind) (word : ℕ) → is_some (mark_of_kind kind word) ≡ true → is_end_kind kind ≡ false
+barrier_goes_on Read word b = refl
+barrier_goes_on Write word b = refl
+barrier_goes_on (Load scope order) word b = refl
+barrier_goes_on (Store scope order) word b = refl
+barrier_goes_on (Rmw scope order) word b = refl
+barrier_goes_on (Barrier global local) word b = refl
+barrier_goes_on (End cut) word b = cc
+
+count_marks : (xs : List Event) → length (filter_map mark_of xs) ≡ length (filter is_barrier xs)
+count_marks [] = refl
+count_marks (x ∷ xs) = elim (mark_of x) as (λ o. length (cons_option o (filter_map mark_of xs)) ≡ length (cond (is_some o) (x ∷ filter is_barrier xs) (filter is_barrier xs))) [
+  | None ↦ count_marks xs
+  | Some a ↦ ap suc (count_marks xs)
+]
+
+one_mark : (o : Option Mark) (p : ℕ) (a : Mark) → slice_get (cons_option o []) p ≡ Some a → (p ≡ 0) × (o ≡ Some a)
+one_mark None p a at = cc
+one_mark (Some b) zero a at = (refl, at)
+one_mark (Some b) (suc p) a at = cc
+
 -- ---- one record more of a group
 
 module _ (s : Streams) (g : ℕ) (x : Event) (prefixes : ArePrefixes s) (can : CanTake s g x) where
@@ -153,48 +186,33 @@ module _ (s : Streams) (g : ℕ) (x : Event) (prefixes : ArePrefixes s) (can : C
     divergent = λ d k n apart stands. other_divergent k n (λ same. apart (stands.group ∙ same));
   }
 
-  -- and where it is no barrier and no end, only its own
-  module _ (plain : is_barrier x ≡ false) (ends : is_end x ≡ false) where
+  -- and where it is no end, and no mark comes to an instance with which none came before, only its own
+  module _ (ends : is_end x ≡ false) where
     abbrev own : ItemId
     own = record { group = g; item = x.item }
-
-    unmarked : (o : Option Mark) → is_some o ≡ false → (ms : List Mark) → cons_option o ms ≡ ms
-    unmarked None none ms = refl
-    unmarked (Some m) none ms = cc
-
-    nothing_if : (b : Bool) → filter_map mark_of (cond b (x ∷ []) []) ≡ []
-    nothing_if true = unmarked (mark_of x) plain []
-    nothing_if false = refl
 
     longer_trace : (i : ℕ) → trace_of more (record { group = g; item = i }) ≡ trace_of s (record { group = g; item = i }) ++ cond (is_of i x) (x ∷ []) []
     longer_trace i = ap (λ (l : List Event). filter (is_of i) l) here ∙ filter-append (is_of i) (list_of s g) (x ∷ [])
 
-    same_arrival : (n i : ℕ) → arrivals more g n i ≡ arrivals s g n i
-    same_arrival n i =
-        let old = trace_of s (record { group = g; item = i }) in
-        let last : List Event = cond (is_of i x) (x ∷ []) [] in
-        ap (λ (l : List Event). slice_get (filter_map mark_of l) n) (longer_trace i)
-        ∙ ap (λ (l : List Mark). slice_get l n) (filter_map-append mark_of old last ∙ (ap (λ (l : List Mark). filter_map mark_of old ++ l) (nothing_if (is_of i x)) ∙ append-nil (filter_map mark_of old)))
+    longer_marks : (i : ℕ) → filter_map mark_of (trace_of more (record { group = g; item = i })) ≡ filter_map mark_of (trace_of s (record { group = g; item = i })) ++ filter_map mark_of (cond (is_of i x) (x ∷ []) [])
+    longer_marks i = ap (λ (l : List Event). filter_map mark_of l) (longer_trace i) ∙ filter_map-append mark_of (trace_of s (record { group = g; item = i })) (cond (is_of i x) (x ∷ []) [])
 
     not_complete : is_complete (list_of more g) ≡ false
     not_complete = ap is_complete here ∙ (is_complete-push (list_of s g) x ∙ ends)
 
-    same_divergent : (n : ℕ) → IsDivergent more g n → IsDivergent s g n
-    same_divergent n (inl (i, j, a, b, ha, hb, differ)) = inl (i, j, a, b, (ha.0, sym (same_arrival n i) ∙ ha.1), (hb.0, sym (same_arrival n j) ∙ hb.1), differ)
-    same_divergent n (inr missing) = absurd (true≢false (sym missing.0 ∙ not_complete))
-
-    pub divergent_was : (k n : ℕ) → IsDivergent more k n → IsDivergent s k n
-    divergent_was k n divergent = ⊎_elim
-        (λ (same : k ≡ g). subst (λ m. IsDivergent s m n) (sym same) (same_divergent n (subst (λ m. IsDivergent more m n) same divergent)))
-        (λ apart. other_divergent k n apart divergent)
-        (cases_eq k g)
+    item_is : (i : ℕ) → is_of i x ≡ true → x.item ≡ i
+    item_is i is = by_test (x.item == i) refl
+      where
+        by_test : (b : Bool) → (x.item == i) ≡ b → x.item ≡ i
+        by_test true t = eqb-true x.item i t
+        by_test false f = absurd (true≢false (sym is ∙ ap (λ (b : Bool). b && not (is_end x)) f))
 
     not_of : (i : ItemId) → i.group ≡ g → (i ≡ own → ⊥) → is_of i.item x ≡ false
-    not_of i group apart = by_test (x.item == i.item) refl
+    not_of i group apart = by_test (is_of i.item x) refl
       where
-        by_test : (b : Bool) → (x.item == i.item) ≡ b → is_of i.item x ≡ false
-        by_test true t = absurd (apart (let item : x.item ≡ i.item = eqb-true x.item i.item t in λ k. record { group = group k; item = sym item k }))
-        by_test false f = ap (λ (b : Bool). b && not (is_end x)) f
+        by_test : (b : Bool) → is_of i.item x ≡ b → is_of i.item x ≡ false
+        by_test true t = absurd (apart (let item : x.item ≡ i.item = item_is i.item t in λ k. record { group = group k; item = sym item k }))
+        by_test false f = f
 
     own_trace : (i : ItemId) → (i ≡ own → ⊥) → trace_of more i ≡ trace_of s i
     own_trace i apart = ⊎_elim
@@ -205,14 +223,80 @@ module _ (s : Streams) (g : ℕ) (x : Event) (prefixes : ArePrefixes s) (can : C
         (λ away. other_trace i away)
         (cases_eq i.group g)
 
-    pub takes_own : (h : List EventId) → IsLawful s h → Takes s more h (λ i. i ≡ own)
-    takes_own h lawful = record {
-      grows = record_grows s g x prefixes can;
-      lawful = lawful;
-      trace = own_trace;
-      divergent = λ d k n apart stands divergent. divergent_was k n divergent;
-    }
+    module _ (marks : AddsNoMark s more g) where
+      same_divergent : (n : ℕ) → IsDivergent more g n → IsDivergent s g n
+      same_divergent n (inl (i, j, a, b, ha, hb, differ)) = let first = marks n i a ha in let second = marks n j b hb in inl (first.0, second.0, a, b, first.1, second.1, differ)
+      same_divergent n (inr missing) = absurd (true≢false (sym missing.0 ∙ not_complete))
 
-    -- no instance of the group may meet now that might not before
-    pub own_meets : (h : List EventId) → IsLawful s h → CanMeet more h g → CanMeet s h g
-    own_meets h lawful = arrived_meets s more h (λ i. i ≡ own) (takes_own h lawful) g same_arrival
+      pub divergent_was : (k n : ℕ) → IsDivergent more k n → IsDivergent s k n
+      divergent_was k n divergent = ⊎_elim
+          (λ (same : k ≡ g). subst (λ m. IsDivergent s m n) (sym same) (same_divergent n (subst (λ m. IsDivergent more m n) same divergent)))
+          (λ apart. other_divergent k n apart divergent)
+          (cases_eq k g)
+
+      pub takes_own : (h : List EventId) → IsLawful s h → Takes s more h (λ i. i ≡ own)
+      takes_own h lawful = record {
+        grows = record_grows s g x prefixes can;
+        lawful = lawful;
+        trace = own_trace;
+        divergent = λ d k n apart stands divergent. divergent_was k n divergent;
+      }
+
+    -- a record that is no barrier brings no mark
+    module _ (plain : is_barrier x ≡ false) where
+      unmarked : (o : Option Mark) → is_some o ≡ false → (ms : List Mark) → cons_option o ms ≡ ms
+      unmarked None none ms = refl
+      unmarked (Some m) none ms = cc
+
+      nothing_if : (b : Bool) → filter_map mark_of (cond b (x ∷ []) []) ≡ []
+      nothing_if true = unmarked (mark_of x) plain []
+      nothing_if false = refl
+
+      same_arrival : (n i : ℕ) → arrivals more g n i ≡ arrivals s g n i
+      same_arrival n i =
+          let old = trace_of s (record { group = g; item = i }) in
+          ap (λ (l : List Mark). slice_get l n) (longer_marks i ∙ (ap (λ (l : List Mark). filter_map mark_of old ++ l) (nothing_if (is_of i x)) ∙ append-nil (filter_map mark_of old)))
+
+      pub plain_marks : AddsNoMark s more g
+      plain_marks n i a arrived = (i, (arrived.0, sym (same_arrival n i) ∙ arrived.1))
+
+      -- no instance of the group may meet now that might not before
+      pub own_meets : (h : List EventId) → IsLawful s h → CanMeet more h g → CanMeet s h g
+      own_meets h lawful = arrived_meets s more h (λ i. i ≡ own) (takes_own plain_marks h lawful) g same_arrival
+
+    -- a barrier that follows another of its instance brings the mark of that
+    module _ (follows : IsFollowing s g x) where
+      abbrev instance : ℕ
+      instance = next_instance s g x.item
+
+      mark_there : (a : Mark) × (mark_of x ≡ Some a)
+      mark_there = some_mark (mark_of x) follows.barrier
+
+      within : follows.other < size_of s g
+      within = ⊎_elim (λ (lt : follows.other < size_of s g). lt) (λ (ge : size_of s g ≤ follows.other). absurd (beyond ge)) (cases_lt follows.other (size_of s g))
+        where
+          beyond : size_of s g ≤ follows.other → ⊥
+          beyond ge =
+              let none : arrivals s g instance follows.other ≡ None = ap (λ (l : List Event). slice_get (filter_map mark_of l) instance) (no_trace (size_of s g) (list_of s g) (prefixes.each g can.group) follows.other ge) in
+              let clash : None ≡ Some mark_there.0 = sym none ∙ (follows.came ∙ mark_there.1) in cc
+
+      only_own : (i : ℕ) (b : Bool) → is_of i x ≡ b → (p : ℕ) (a : Mark) → slice_get (filter_map mark_of (cond b (x ∷ []) [])) p ≡ Some a → (x.item ≡ i) × (p ≡ 0) × (mark_of x ≡ Some a)
+      only_own i true is p a at = let mark = one_mark (mark_of x) p a at in (item_is i is, mark.0, mark.1)
+      only_own i false is p a at = cc
+
+      -- the mark that comes is that of the one before
+      came_before : (n i : ℕ) (a : Mark) (p : ℕ) → n ≡ length (filter_map mark_of (trace_of s (record { group = g; item = i }))) + p → slice_get (filter_map mark_of (cond (is_of i x) (x ∷ []) [])) p ≡ Some a → (j : ℕ) × HasArrived (size_of s g) (arrivals s g n) j a
+      came_before n i a p place at =
+          let mine = only_own i (is_of i x) refl p a at in
+          let count : length (filter_map mark_of (trace_of s (record { group = g; item = i }))) ≡ instance = ap (λ k. length (filter_map mark_of (trace_of s (record { group = g; item = k })))) (sym mine.0) ∙ count_marks (trace_of s own) in
+          let number : n ≡ instance = omega (arith, place, mine.1, count) in
+          (follows.other, (within, ap (λ m. arrivals s g m follows.other) number ∙ (follows.came ∙ mine.2)))
+
+      pub following_marks : AddsNoMark s more g
+      following_marks n i a arrived =
+          let old = filter_map mark_of (trace_of s (record { group = g; item = i })) in
+          let last : List Mark = filter_map mark_of (cond (is_of i x) (x ∷ []) []) in
+          ⊎_elim
+          (λ (was : slice_get old n ≡ Some a). (i, (arrived.0, was)))
+          (λ (new : (p : ℕ) × (n ≡ length old + p) × (slice_get last p ≡ Some a)). came_before n i a new.0 new.1 new.2)
+          (split_last old last n a (ap (λ (l : List Mark). slice_get l n) (sym (longer_marks i)) ∙ arrived.1))

@@ -12,14 +12,15 @@ use Rattle.gr_model.specs.Barriers.{IsDivergent, is_barrier}
 use Rattle.gr_model.specs.Events.{is_end}
 use Rattle.gr_model.specs.Streams.{Streams, event_at}
 use Rattle.gr_clocks.specs.Counts.{count_of}
-use Rattle.gr_lanes.specs.Takes.{CanTake}
+use Rattle.gr_lanes.specs.Takes.{CanTake, with_record}
 use Rattle.gr_steps.specs.Steps.{CanHandle}
 use Rattle.gr_steps.proofs.EventRecords.{barriers_name_nothing}
 use Rattle.gr_order.specs.Sequences.{IsSequence, Sequence, taking}
 use Rattle.gr_order.proofs.ReadyLemmas.{only_next, passes_if, ready_if, stands_there}
 use Rattle.gr_agenda.specs.Kept.{AreUndiverged, IsNextBarrier, IsForgotten}
+use Rattle.gr_agenda.specs.Reaches.{IsFollowing}
 use Rattle.gr_agenda.proofs.KeptLemmas.{passes_there}
-use Rattle.gr_agenda.proofs.TakeFrames.{divergent_was, other_divergent}
+use Rattle.gr_agenda.proofs.TakeFrames.{AddsNoMark, barrier_goes_on, divergent_was, following_marks, other_divergent, plain_marks}
 
 module _ (q : Sequence) (is : IsSequence q) (i : ItemId) (k : ℕ) (next : IsNextBarrier q i k) where
   abbrev e : EventId
@@ -49,8 +50,16 @@ module _ (q q2 : Sequence) (is : IsSequence q) (g : ℕ) (x : Event) (can : CanT
       (λ (apart : h ≡ g → ⊥). are h k (unsettled.others h k told) (other_divergent q.taken g x is.prefixes can h k apart (subst (λ (p : Sequence). IsDivergent p.taken h k) took divergent)))
       (cases_eq h g)
 
-  pub undiverged_own : is_barrier x ≡ false → is_end x ≡ false → AreUndiverged q2.taken undiverged
-  undiverged_own plain ends h k told divergent = are h k told (divergent_was q.taken g x is.prefixes can plain ends h k (subst (λ (p : Sequence). IsDivergent p.taken h k) took divergent))
+  undiverged_own : is_end x ≡ false → AddsNoMark q.taken (with_record q.taken g x) g → AreUndiverged q2.taken undiverged
+  undiverged_own ends marks h k told divergent = are h k told (divergent_was q.taken g x is.prefixes can ends marks h k (subst (λ (p : Sequence). IsDivergent p.taken h k) took divergent))
+
+  pub undiverged_plain : is_barrier x ≡ false → is_end x ≡ false → AreUndiverged q2.taken undiverged
+  undiverged_plain plain ends = undiverged_own ends (plain_marks q.taken g x is.prefixes can ends plain)
+
+  pub undiverged_following : IsFollowing q.taken g x → AreUndiverged q2.taken undiverged
+  undiverged_following follows =
+      let ends = barrier_goes_on x.kind x.word follows.barrier in
+      undiverged_own ends (following_marks q.taken g x is.prefixes can ends follows)
 
 -- ---- which are told
 

@@ -4,13 +4,11 @@
 //! names releases that were not handled stands in the list or among those that wait for one of these; and the instances that
 //! are noted as undiverged are not divergent.
 
-ghost use Rattle.std.specs.Prelude.{◌≡◌, false, ◌↔◌, ◌<◌, ◌⊎◌, IfOk, IfErr, IfSome, IsSomeAnd, OnOk, OnErr, IsTrue, MatchOption, All, Contains, Some, length, slice_get, ℕ};
+ghost use Rattle.std.specs.Prelude.{◌≡◌, ◌↔◌, ◌<◌, IfOk, IfErr, IfSome, IsSomeAnd, OnOk, OnErr, IsTrue, MatchOption, All, Contains, Some, length, slice_get, ℕ};
 ghost use Rattle.gr_model.specs.declared.event.EventId.{EventId as AnyEvent};
 ghost use Rattle.gr_model.specs.declared.event.ItemId.{ItemId as AnyItem};
 ghost use Rattle.gr_model.specs.declared.event.Name.{Name as AnyName};
 ghost use Rattle.gr_model.specs.declared.limits.TheConstants.{MOST_RECORDS};
-ghost use Rattle.gr_model.specs.Barriers.{is_barrier};
-ghost use Rattle.gr_model.specs.Events.{is_end};
 ghost use Rattle.gr_model.specs.Names.{release_place};
 ghost use Rattle.gr_model.specs.Streams.{list_of, size_of};
 ghost use Rattle.gr_order.specs.declared.steps.Ready.TheVariants.{Group, Item};
@@ -21,11 +19,12 @@ ghost use Rattle.gr_order.specs.Sequences.{HandlesEvent, IsDone, IsSequence, Mee
 ghost use Rattle.gr_agenda.specs.Kept.{AreUndiverged, IsHeldUp, IsNextBarrier, IsNoted, IsReleaseHandled, IsForgotten};
 ghost use Rattle.gr_agenda.specs.Lists.{Has, IsWaiting, KeepsSteps};
 
+use crate::reach::{Reach, reach_of};
 use crate::waiting::{LISTS, wait, wake};
 use crate::worklist::Worklist;
 use gr_lanes::kinds::is_barrier;
 use gr_lanes::seq_error::SeqError;
-use gr_model::event::{Event, EventId, ItemId, Kind, Name};
+use gr_model::event::{Event, EventId, ItemId, Name};
 use gr_model::memory::Memory;
 use gr_model::shape::Shape;
 use gr_order::order::Order;
@@ -56,19 +55,6 @@ impl<A: Allocator> Model for Agenda<A> {
     ghost view = { λ a. a.order };
 
     ghost invariant = { λ a. IsKept a.order a.worklist a.waiting.items × AreUndiverged a.order.taken a.undiverged.items };
-}
-
-/// Whether a record changes what the other items of its group wait for: a barrier or an end.
-fn concerns_group(event: &Event) -> bool
-    ensures { IsTrue result ⊎ ((is_barrier event.now ≡ false) × (is_end event.now ≡ false)) }
-{
-    matches!(
-        event.kind,
-        Kind::Barrier {
-            global: _,
-            local: _
-        } | Kind::End { cut: _ }
-    )
 }
 
 /// The name of an event, if it is a release.
@@ -197,6 +183,14 @@ fn is_number(told: Option<u32>, number: u32) -> bool
     told == Some(number)
 }
 
+/// Whether an item's next event is its barrier of this number.
+fn is_next_barrier<A: Allocator>(order: &Order<A>, item: ItemId, number: u32) -> bool
+    ensures { IsTrue result → IsNextBarrier order.now item number }
+{
+    let frontier = order.frontier();
+    is_number(order.lanes().barrier_at(item, number), frontier.get(item))
+}
+
 /// The instance of a group that is known not to be divergent, if there is one.
 fn undiverged_of(undiverged: &[Option<u32>], group: u16) -> Option<u32>
     ensures { IfSome result (λ k. slice_get undiverged.now group ≡ Some (Some k)) }
@@ -294,20 +288,25 @@ impl<A: Allocator> Agenda<A> {
             group,
             item: event.item,
         };
-        let wide = concerns_group(&event);
         // brings the order's invariant into the proof
-        let _taken = self.order.lanes();
+        let taken = self.order.lanes();
+        let reach = reach_of(taken, group, &event);
         self.order.take(group, event)?;
-        if wide {
-            forget_undiverged(&mut self.undiverged, group);
-            self.worklist.put(Ready::Group(group));
-            put_items(
-                &mut self.worklist,
-                group,
-                self.order.lanes().shape().items(group),
-            );
-        } else {
-            self.worklist.put(Ready::Item(at));
+        match reach {
+            Reach::Item => self.worklist.put(Ready::Item(at)),
+            Reach::Instance => {
+                self.worklist.put(Ready::Group(group));
+                self.worklist.put(Ready::Item(at));
+            }
+            Reach::Group => {
+                forget_undiverged(&mut self.undiverged, group);
+                self.worklist.put(Ready::Group(group));
+                put_items(
+                    &mut self.worklist,
+                    group,
+                    self.order.lanes().shape().items(group),
+                );
+            }
         }
         Ok(())
     }
@@ -355,10 +354,7 @@ impl<A: Allocator> Agenda<A> {
         let _taken = self.order.lanes();
         match undiverged_of(&self.undiverged, item.group) {
             None => false,
-            Some(instance) => {
-                is_at_barrier(&self.order, item)
-                    && is_number(next_barrier(&self.order, item), instance)
-            }
+            Some(instance) => is_next_barrier(&self.order, item, instance),
         }
     }
 

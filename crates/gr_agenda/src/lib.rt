@@ -2,5 +2,6 @@
 #![tactic(auto)]
 
 pub mod agenda;
+mod reach;
 mod waiting;
 mod worklist;

@@ -200,6 +200,9 @@ module _ (lanes : List Index) (list : List Event) (are : AreIndices lanes list) 
   pub lacks_records : false ≡ ltb j (length read) → (test : Event → Bool) (k : ℕ) → None ≡ slice_get (filter test (filter (is_of i) list)) k
   lacks_records beyond test k = sym (ap (λ l. slice_get (filter test l) k) (no_trace (length lanes) list are.prefix i (behind beyond)))
 
+  pub lacks_any : false ≡ ltb j (length read) → (test : Event → Bool) → 0 ≡ length (filter test (filter (is_of i) list))
+  lacks_any beyond test = sym (ap (λ l. length (filter test l)) (no_trace (length lanes) list are.prefix i (behind beyond)))
+
   module _ (lane : Index) (there : true ≡ ltb j (length read)) (reads : lane ≡ get_or read j lane) where
     pub lane_is : lane ≡ index_of list i
     lane_is =
@@ -221,6 +224,9 @@ module _ (lanes : List Index) (list : List Event) (are : AreIndices lanes list) 
 
     pub barriers_rise : AreRising lane.barriers
     barriers_rise = subst (λ (l : Index). AreRising l.barriers) (sym lane_is) (places_rise is_barrier 0 (filter (is_of i) list))
+
+    pub few_arrived : length lane.arrived < 4_294_967_296
+    few_arrived = subst (λ (l : Index). length l.arrived < 4_294_967_296) (sym lane_is) (omega (arith, few_that is_barrier, length-places is_barrier 0 (filter (is_of i) list)))
 
 -- ---- the records of releases and barriers
 

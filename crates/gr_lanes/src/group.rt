@@ -182,6 +182,17 @@ impl<A: Allocator> Group<A> {
         }
     }
 
+    /// How many barriers of an item were taken.
+    #[inline(always)]
+    pub(crate) fn barrier_count(&self, item: u16) -> u32
+        ensures { result ≡ length (filter model_barriers.is_barrier (filter (is_of item) self.now.list)) }
+    {
+        match self.lanes.get(usize::from(item)) {
+            None => 0,
+            Some(lane) => lane.barrier_count(),
+        }
+    }
+
     /// Takes the group's next record.
     ///
     /// # Errors

@@ -24,6 +24,17 @@ pub fn has_mark_of(mine: &Event, other: &Event) -> bool
     other.kind == mine.kind && other.word == mine.word
 }
 
+/// Whether an item came to an instance with the mark of a barrier.
+pub fn came_with<A: Allocator>(lanes: &Lanes<A>, item: ItemId, number: u32, mine: &Event) -> bool
+    requires { is_some (mark_of mine.now) ≡ true }
+    ensures { IsTrue result ↔ (arrivals lanes.now item.group number item.item ≡ mark_of mine.now) }
+{
+    match barrier(lanes, item, number) {
+        None => false,
+        Some(other) => has_mark_of(mine, &other),
+    }
+}
+
 /// Whether an item makes the instance of a barrier divergent: it came with another site or other flags, or it never comes.
 fn makes_divergent<A: Allocator>(lanes: &Lanes<A>, item: ItemId, number: u32, mine: &Event) -> bool
     requires { is_some (mark_of mine.now) ≡ true }

@@ -108,6 +108,15 @@ impl<A: Allocator> Lane<A> {
         number_of(&self.barriers, index)
     }
 
+    /// How many barriers the item has.
+    #[inline(always)]
+    pub(crate) fn barrier_count(&self) -> u32
+        requires few { length self.now.arrived < 4_294_967_296 }
+        ensures { result ≡ length self.now.arrived }
+    {
+        self.arrived.len() as u32
+    }
+
     /// Adds the item's next event. A barrier names no releases.
     ///
     /// # Errors
@@ -118,10 +127,14 @@ impl<A: Allocator> Lane<A> {
         ensures ok { OnOk result (self.new ≡ with_event self.old event.now release barrier) }
         ensures err { OnErr result (self.new ≡ self.old) }
     {
-        self.releases.reserve(usize::from(release))?;
-        self.barriers.reserve(usize::from(barrier))?;
-        self.released.reserve(usize::from(release))?;
-        self.arrived.reserve(usize::from(barrier))?;
+        if release {
+            self.releases.reserve(1)?;
+            self.released.reserve(1)?;
+        }
+        if barrier {
+            self.barriers.reserve(1)?;
+            self.arrived.reserve(1)?;
+        }
         let index = self.count;
         self.count += 1;
         if release {

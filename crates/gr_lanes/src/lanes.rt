@@ -2,9 +2,9 @@
 //!
 //! Invariant: there is a group for each of the shape, of its size, and each has a prefix of a list that it may have.
 
-ghost use Rattle.std.specs.Prelude.{◌≡◌, ◌≢◌, ◌↔◌, ◌<◌, ℕ, Some, IsTrue, IfOk, IfErr, MatchOption, OnOk, OnErr, length, option_and_then};
+ghost use Rattle.std.specs.Prelude.{◌≡◌, ◌≢◌, ◌↔◌, ◌<◌, ℕ, Some, IsTrue, IfOk, IfErr, MatchOption, OnOk, OnErr, filter, length, option_and_then};
 ghost use Rattle.gr_model.specs.declared.limits.TheConstants.{MOST_RECORDS};
-ghost use Rattle.gr_model.specs.Streams.{ArePrefixes, is_complete, list_of, place_of};
+ghost use Rattle.gr_model.specs.Streams.{ArePrefixes, is_complete, list_of, place_of, trace_of};
 ghost use Rattle.gr_model.specs.Access.{event_word, is_release};
 ghost use Rattle.gr_model.specs.Barriers.{is_barrier};
 ghost use Rattle.gr_lanes.specs.Indices.{record_of};
@@ -165,6 +165,17 @@ impl<A: Allocator> Lanes<A> {
         match self.groups.get(usize::from(event.at.group)) {
             None => None,
             Some(group) => group.barrier_number(event.at.item, event.index),
+        }
+    }
+
+    /// How many barriers of an item were taken.
+    #[inline(always)]
+    pub fn barrier_count(&self, item: ItemId) -> u32
+        ensures { result ≡ length (filter is_barrier (trace_of self.now item)) }
+    {
+        match self.groups.get(usize::from(item.group)) {
+            None => 0,
+            Some(group) => group.barrier_count(item.item),
         }
     }
 

@@ -2,13 +2,13 @@
 //! an acquire names.
 
 ghost use Rattle.std.specs.Prelude.{◌≡◌, ◌↔◌, ◌<◌, true, IsTrue, MatchOption, Some, is_some, length, ℕ};
-ghost use Rattle.gr_model.specs.Barriers.{arrivals, mark_of};
+ghost use Rattle.gr_model.specs.Barriers.{mark_of};
 ghost use Rattle.gr_model.specs.Streams as model;
 ghost use Rattle.gr_windows.specs.Windows.{AreWaiting};
 ghost use Rattle.gr_order.specs.Readiness.{AreReleased, IsNextInstance, IsReleased, MayPass, StandsNext};
 
 use gr_clocks::tally::Tally;
-use gr_lanes::instance::{barrier, has_mark_of, is_divergent};
+use gr_lanes::instance::{came_with, is_divergent};
 use gr_lanes::kinds::is_barrier;
 use gr_lanes::lanes::Lanes;
 use gr_model::event::{Event, EventId, ItemId, Name, Word, word_of};
@@ -83,17 +83,6 @@ pub(crate) fn is_ready<A: Allocator>(
     ensures { IsTrue result ↔ (AreReleased lanes.now frontier.now event.at.group taken.now × MayPass lanes.now event) }
 {
     has_its_releases(lanes, frontier, event.at.group, taken) && may_pass(lanes, event, taken)
-}
-
-/// Whether an item came to an instance with the mark of a barrier.
-fn came_with<A: Allocator>(lanes: &Lanes<A>, item: ItemId, number: u32, mine: &Event) -> bool
-    requires { is_some (mark_of mine.now) ≡ true }
-    ensures { IsTrue result ↔ (arrivals lanes.now item.group number item.item ≡ mark_of mine.now) }
-{
-    match barrier(lanes, item, number) {
-        None => false,
-        Some(other) => has_mark_of(mine, &other),
-    }
 }
 
 /// Whether an item's next event is its barrier of this number, and has the mark of another.

@@ -13,6 +13,8 @@ mod sequencers;
 #[cfg(test)]
 mod told;
 #[cfg(test)]
+mod turns;
+#[cfg(test)]
 mod waits;
 #[cfg(test)]
 mod woken;

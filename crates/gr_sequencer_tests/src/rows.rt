@@ -59,7 +59,7 @@ const GROUP_RELEASE: Kind = Kind::Store(Scope::Group, Order::Release);
 
 const BOTH: Kind = Kind::Rmw(Scope::Device, Order::Both);
 
-const BARRIER: Kind = Kind::Barrier {
+pub(crate) const BARRIER: Kind = Kind::Barrier {
     global: true,
     local: true,
 };

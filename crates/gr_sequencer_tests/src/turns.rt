@@ -1,0 +1,110 @@
+//! Barriers that are taken one by one, with all steps made behind each.
+
+use crate::calls::{new, step, take};
+use crate::rows::{BARRIER, event_of};
+use gr_model::event::Space;
+use gr_sequencer::handled::Handled;
+use gr_sequencer::sequencer::Sequencer;
+use refusing::Refusing;
+use std::alloc::Allocator;
+use std::test::Fail;
+
+/// Barriers of one group: their items and sites, in the order in which they are taken.
+type Barriers = [(u16, u32); 4];
+
+/// What is done behind a barrier: how many barriers are handled one by one, and whether an instance meets.
+type Done = (u32, bool);
+
+/// A row: its name, its barriers, and what is done behind each.
+type Row = (&'static str, Barriers, [Done; 4]);
+
+const ROWS: [Row; 5] = [
+    (
+        "all come with one site, side by side",
+        [(0, 7), (1, 7), (2, 7), (3, 7)],
+        [(0, false), (0, false), (0, false), (0, true)],
+    ),
+    (
+        "all come with one site, the neighbours last",
+        [(2, 7), (0, 7), (3, 7), (1, 7)],
+        [(0, false), (0, false), (0, false), (0, true)],
+    ),
+    (
+        "the last to come differs, and all go on",
+        [(0, 7), (1, 7), (2, 7), (3, 8)],
+        [(0, false), (0, false), (0, false), (4, false)],
+    ),
+    (
+        "one differs whose neighbours have not come, and those that come go on by themselves",
+        [(0, 7), (3, 8), (1, 7), (2, 8)],
+        [(0, false), (2, false), (1, false), (1, false)],
+    ),
+    (
+        "one differs from its neighbours, and they go on",
+        [(0, 7), (2, 7), (1, 8), (3, 7)],
+        [(0, false), (0, false), (3, false), (1, false)],
+    ),
+];
+
+/// What is done until no step is left, which is after few.
+fn steps<A: Allocator + Copy>(sequencer: &mut Sequencer<A>) -> Option<Done> {
+    let mut done: Done = (0, false);
+    for _ in 0..8 {
+        match step(sequencer)? {
+            None => return Some(done),
+            Some(
+                Handled::One {
+                    event: _,
+                    access: _,
+                },
+            ) => done.0 = done.0.checked_add(1)?,
+            Some(
+                Handled::Meet {
+                    group: _,
+                    instance: _,
+                },
+            ) => done.1 = true,
+        }
+    }
+    None
+}
+
+/// What is done behind each of the barriers.
+fn seen<A: Allocator + Copy>(alloc: A, barriers: &Barriers) -> Option<[Done; 4]> {
+    let mut sequencer = new(alloc, &[4])?;
+    let mut all = [(0, false); 4];
+    for (done, (item, site)) in all.iter_mut().zip(barriers.iter()) {
+        let barrier = event_of(&(0, *item, BARRIER, Space::Global, *site, &[]));
+        let _taken = take(&mut sequencer, 0, barrier)?.ok()?;
+        *done = steps(&mut sequencer)?;
+    }
+    Some(all)
+}
+
+/// How many growths were refused until none was left, or else at which one something else was done.
+fn refused<A: Allocator + Copy>(alloc: A, row: &Row) -> Result<u64, u64> {
+    let (_, barriers, done) = row;
+    for at in 0..1_000_u64 {
+        let heap = Refusing::new(alloc, at);
+        if seen(&heap, barriers) != Some(*done) {
+            return Err(at);
+        }
+        if !heap.refused() {
+            return Ok(at);
+        }
+    }
+    Err(1_000)
+}
+
+#[test]
+fn who_goes_on_behind_each_barrier(rt: HostRuntime) -> Result<(), Fail> {
+    for row in &ROWS {
+        let growths = refused(rt.alloc(), row);
+        assert!(rt;
+            growths.is_ok_and(|count| count > 4),
+            "{}: {growths:?}",
+            row.0
+        );
+    }
+    Ok(())
+}
