@@ -10,7 +10,7 @@ pub returns-in-Races-Some-clause-does : goal.returns-in-Races-Some-clause-does
 returns-in-Races-Some-clause-does g c = rw (c.in-Races-Some.is, c.in-Races-Some.field-0-is) (rw c.in-Races-Some.field-0-is at c.list.ensures)
 
 pub returns-in-Run-Some-clause-does : goal.returns-in-Run-Some-clause-does
-returns-in-Run-Some-clause-does g c = rw (c.in-Run-Some.is, c.in-Run-Some.field-0-is) (rw c.in-Run-Some.field-0-is at c.run.ensures)
+returns-in-Run-Some-clause-does g c = rw (c.in-Run-Some.is, c.in-Run-Some.field-0-is) c.run.ensures
 
 pub returns-in-WhyHeld-Some-clause-does : goal.returns-in-WhyHeld-Some-clause-does
 returns-in-WhyHeld-Some-clause-does g c = rw (c.in-WhyHeld-Some.is, c.in-WhyHeld-Some.field-0-is) (rw c.in-WhyHeld-Some.field-0-is at c.inquire.ensures)
