@@ -10,7 +10,7 @@ use Rattle.gr_model.specs.declared.config.ConfigError.{ConfigError}
 use Rattle.gr_model.specs.declared.event.EventId.{EventId}
 use Rattle.gr_model.specs.declared.event.Word.{Word}
 use Rattle.gr_model.specs.Configs.{IsConfig, Settings}
-use Rattle.gr_arguments.specs.Asked.{AskedEvent, AskedRaces, AskedRun, AskedWord, IsAskedEvent, IsAskedRaces, IsAskedRun, IsAskedWord, IsMost, IsNumberOr, IsSetUp, NamesWord}
+use Rattle.gr_arguments.specs.Asked.{AskedCheck, AskedEvent, AskedHistory, AskedRaces, AskedRun, AskedWord, IsAskedCheck, IsAskedEvent, IsAskedHistory, IsAskedRaces, IsAskedRun, IsAskedWord, IsMost, IsNumberOr, IsSetUp, IsTheOne, NamesWord}
 use Rattle.gr_arguments.specs.Naming.{IsNumber, Names, NamesEvent}
 use Rattle.gr_arguments.proofs.NamingLemmas.{events_one, names_one}
 
@@ -44,11 +44,16 @@ module _ (f : Found) (id : Text) (o : Option (Bor (List (Bor Text)))) (e : optio
 -- ---- the command `explain`
 
 -- where the space and the number name no word, the values do not
-pub unnamed : (rows : List Row) (space number : Text) → first_of (codes "SPACE") rows ≡ Some space → first_of (codes "WORD") rows ≡ Some number → ((w : Word) → Names space number w → ⊥) → (a : AskedWord) → IsAskedWord rows a → ⊥
-unnamed rows space number at_space at_number none a is =
-    let same_space : is.named.space ≡ space = injected is.named.space space (sym is.named.at_space ∙ at_space) in
-    let same_number : is.named.number ≡ number = injected is.named.number number (sym is.named.at_number ∙ at_number) in
-    none a.word (rw (same_space, same_number) at is.named.names)
+pub unnamed : (rows : List Row) (space number : Text) → first_of (codes "SPACE") rows ≡ Some space → first_of (codes "WORD") rows ≡ Some number → ((w : Word) → Names space number w → ⊥) → (w : Word) → NamesWord rows w → ⊥
+unnamed rows space number at_space at_number none w named =
+    let same_space : named.space ≡ space = injected named.space space (sym named.at_space ∙ at_space) in
+    let same_number : named.number ≡ number = injected named.number number (sym named.at_number ∙ at_number) in
+    none w (rw (same_space, same_number) at named.names)
+
+-- where they name one, the values do
+pub named_by : (rows : List Row) (space number : Text) → first_of (codes "SPACE") rows ≡ Some space → first_of (codes "WORD") rows ≡ Some number → (o : Option Word) → IsTheOne (Names space number) o → IsTheOne (NamesWord rows) o
+named_by rows space number at_space at_number None none = unnamed rows space number at_space at_number none
+named_by rows space number at_space at_number (Some w) names = record { space = space; number = number; at_space = at_space; at_number = at_number; names = names }
 
 -- the values name one word at most
 same_word : (rows : List Row) (v w : Word) → NamesWord rows v → NamesWord rows w → v ≡ w
@@ -64,6 +69,22 @@ one_word rows a b h k =
     let word : a.word ≡ b.word = same_word rows a.word b.word h.named k.named in
     let files : a.files ≡ b.files = sym h.at_files ∙ k.at_files in
     λ i. record { long = long i; json = json i; word = word i; files = files i }
+
+-- ---- the command `history`
+
+pub one_history : (rows : List Row) (a b : AskedHistory) → IsAskedHistory rows a → IsAskedHistory rows b → a ≡ b
+one_history rows a b h k =
+    let word : a.word ≡ b.word = same_word rows a.word b.word h.named k.named in
+    let files : a.files ≡ b.files = sym h.at_files ∙ k.at_files in
+    λ i. record { word = word i; files = files i }
+
+-- ---- the command `check`
+
+pub one_check : (rows : List Row) (a b : AskedCheck) → IsAskedCheck rows a → IsAskedCheck rows b → a ≡ b
+one_check rows a b h k =
+    let json : a.json ≡ b.json = sym h.as_json ∙ k.as_json in
+    let files : a.files ≡ b.files = sym h.at_files ∙ k.at_files in
+    λ i. record { json = json i; files = files i }
 
 -- ---- the command `races`
 
@@ -87,8 +108,9 @@ one_races rows a b h k =
     let places : a.places ≡ b.places = sym h.places ∙ k.places in
     let buffers : a.buffers ≡ b.buffers = sym h.buffers ∙ k.buffers in
     let causes : a.causes ≡ b.causes = sym h.with_causes ∙ k.with_causes in
+    let json : a.json ≡ b.json = sym h.as_json ∙ k.as_json in
     let files : a.files ≡ b.files = sym h.at_files ∙ k.at_files in
-    λ i. record { most = most i; places = places i; buffers = buffers i; causes = causes i; files = files i }
+    λ i. record { most = most i; places = places i; buffers = buffers i; causes = causes i; json = json i; files = files i }
 
 -- ---- the command `run`
 

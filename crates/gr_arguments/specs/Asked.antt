@@ -8,9 +8,11 @@ use Rattle.gr_model.specs.declared.event.Word.{Word}
 use Rattle.gr_model.specs.Configs.{IsConfig, Settings}
 use Rattle.gr_arguments.specs.Naming.{IsNumber, Names, NamesEvent}
 use Rattle.gr_arguments.specs.declared.request.Inquiry.{Inquiry}
+use Rattle.gr_arguments.specs.declared.request.Inspection.{Inspection}
 use Rattle.gr_arguments.specs.declared.request.Listing.{Listing}
 use Rattle.gr_arguments.specs.declared.request.Plan.{Plan}
 use Rattle.gr_arguments.specs.declared.request.Question.{Question}
+use Rattle.gr_arguments.specs.declared.request.Recall.{Recall}
 use Rattle.gr_arguments.specs.declared.request.Request.{Request}
 use Rattle.gr_arguments.specs.declared.request.Request.TheVariants as request
 use Rattle.gr_arguments.specs.declared.request.Task.{Task}
@@ -50,12 +52,13 @@ pub record IsAskedWord (rows : List Row) (a : AskedWord) : Type 0 where
 
 -- ---- all races of a launch
 
--- of how many kinds at most, with which side files, whether with causes, and in which files the streams are
+-- of how many kinds at most, with which side files, whether with causes and as JSON, and in which files the streams are
 pub record AskedRaces : Type 0 where
   pub most : Option ℕ
   pub places : Option Text
   pub buffers : Option Text
   pub causes : Bool
+  pub json : Bool
   pub files : List Text
 
 -- how many kinds the values ask for: a number, or none where the option is not there
@@ -69,6 +72,19 @@ pub record IsAskedRaces (rows : List Row) (a : AskedRaces) : Type 0 where
   pub places : first_of (codes "places") rows ≡ a.places
   pub buffers : first_of (codes "buffers") rows ≡ a.buffers
   pub with_causes : has_flag (codes "causes") rows ≡ a.causes
+  pub as_json : has_flag (codes "json") rows ≡ a.json
+  pub at_files : files_of rows ≡ a.files
+
+-- ---- all accesses to one word
+
+-- which word, and in which files the streams of the launch are
+pub record AskedHistory : Type 0 where
+  pub word : Word
+  pub files : List Text
+
+-- the values of the command `history` ask for this
+pub record IsAskedHistory (rows : List Row) (a : AskedHistory) : Type 0 where
+  pub named : NamesWord rows a.word
   pub at_files : files_of rows ≡ a.files
 
 -- ---- a run in threads
@@ -93,6 +109,18 @@ pub record IsSetUp (rows : List Row) (c : Settings) : Type 0 where
 -- the values of the command `run` ask for this
 pub record IsAskedRun (rows : List Row) (a : AskedRun) : Type 0 where
   pub set_up : IsSetUp rows a.config
+  pub as_json : has_flag (codes "json") rows ≡ a.json
+  pub at_files : files_of rows ≡ a.files
+
+-- ---- whether files are those of a launch
+
+-- whether as JSON, and which files
+pub record AskedCheck : Type 0 where
+  pub json : Bool
+  pub files : List Text
+
+-- the values of the command `check` ask for this
+pub record IsAskedCheck (rows : List Row) (a : AskedCheck) : Type 0 where
   pub as_json : has_flag (codes "json") rows ≡ a.json
   pub at_files : files_of rows ≡ a.files
 
@@ -123,10 +151,12 @@ pub data Asked : Type 0 where
   explain : Option AskedWord → Asked
   -- all races; none where the number of kinds is no number
   races : Option AskedRaces → Asked
+  -- all accesses to one word; none where the values name no word of memory
+  history : Option AskedHistory → Asked
   -- a run in threads; none where the numbers set up no run
   run : Option AskedRun → Asked
   -- which record of which of these files is at fault, or how many records of each kind there are
-  check : List Text → Asked
+  check : AskedCheck → Asked
   -- why an event is held; none where the values name no event
   why_held : Option AskedEvent → Asked
 
@@ -139,8 +169,9 @@ abbrev pub IsAskedBy : Text → List Row → Asked → Type 0
 IsAskedBy name rows (perform t) = name ≡ name_of t
 IsAskedBy name rows (explain o) = (name ≡ codes "explain") × IsTheOne (IsAskedWord rows) o
 IsAskedBy name rows (races o) = (name ≡ codes "races") × IsTheOne (IsAskedRaces rows) o
+IsAskedBy name rows (history o) = (name ≡ codes "history") × IsTheOne (IsAskedHistory rows) o
 IsAskedBy name rows (run o) = (name ≡ codes "run") × IsTheOne (IsAskedRun rows) o
-IsAskedBy name rows (check files) = (name ≡ codes "check") × (files_of rows ≡ files)
+IsAskedBy name rows (check a) = (name ≡ codes "check") × IsAskedCheck rows a
 IsAskedBy name rows (why_held o) = (name ≡ codes "why-held") × IsTheOne (IsAskedEvent rows) o
 
 -- the words are taken, and ask for this
@@ -154,7 +185,13 @@ abbrev pub word_of : Question → AskedWord
 word_of q = record { long = q.long; json = q.json; word = q.word; files = map (λ s. s.now) q.files.items }
 
 abbrev pub races_of : Listing → AskedRaces
-races_of l = record { most = l.most; places = option_map (λ s. s.now) l.places; buffers = option_map (λ s. s.now) l.buffers; causes = l.causes; files = map (λ s. s.now) l.files.items }
+races_of l = record { most = l.most; places = option_map (λ s. s.now) l.places; buffers = option_map (λ s. s.now) l.buffers; causes = l.causes; json = l.json; files = map (λ s. s.now) l.files.items }
+
+abbrev pub history_of : Recall → AskedHistory
+history_of r = record { word = r.word; files = map (λ s. s.now) r.files.items }
+
+abbrev pub check_of : Inspection → AskedCheck
+check_of i = record { json = i.json; files = map (λ s. s.now) i.files.items }
 
 abbrev pub run_of : Plan → AskedRun
 run_of p = record { config = p.config; json = p.json; files = map (λ s. s.now) p.files.items }
@@ -167,6 +204,7 @@ abbrev pub asked_of : Request → Asked
 asked_of (request.Perform t) = perform t
 asked_of (request.Explain o) = explain (option_map word_of o)
 asked_of (request.Races o) = races (option_map races_of o)
+asked_of (request.History o) = history (option_map history_of o)
 asked_of (request.Run o) = run (option_map run_of o)
-asked_of (request.Check files) = check (map (λ s. s.now) files.items)
+asked_of (request.Check i) = check (check_of i)
 asked_of (request.WhyHeld o) = why_held (option_map event_of o)

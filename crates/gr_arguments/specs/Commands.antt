@@ -47,11 +47,16 @@ explaining =
     (with_rule (with_rule (with_rule (with_rule (with_rule (new_app (codes "explain")) (flag_rule (codes "long"))) (flag_rule (codes "json"))) (wanted (codes "SPACE"))) (wanted (codes "WORD")))
     wanted_files).top
 
--- the command that shows all races: how many kinds at most, the side files, whether with causes, and the files
+-- the command that shows all races: how many kinds at most, the side files, whether with causes and as JSON, and the files
 abbrev pub racing : Shape
 racing =
-    (with_rule (with_rule (with_rule (with_rule (with_rule (new_app (codes "races")) (option_rule (codes "most"))) (option_rule (codes "places"))) (option_rule (codes "buffers"))) (flag_rule (codes "causes")))
+    (with_rule
+    (with_rule (with_rule (with_rule (with_rule (with_rule (new_app (codes "races")) (option_rule (codes "most"))) (option_rule (codes "places"))) (option_rule (codes "buffers"))) (flag_rule (codes "causes"))) (flag_rule (codes "json")))
     wanted_files).top
+
+-- the command that tells of all accesses to one word: the word, and the files
+abbrev pub recalling : Shape
+recalling = (with_rule (with_rule (with_rule (new_app (codes "history")) (wanted (codes "SPACE"))) (wanted (codes "WORD"))) wanted_files).top
 
 -- the command that runs a launch in threads: how many workers and queues, the places of a queue, whether as JSON, and the files
 abbrev pub running : Shape
@@ -59,9 +64,9 @@ running =
     (with_rule (with_rule (with_rule (with_rule (with_rule (new_app (codes "run")) (option_rule (codes "workers"))) (option_rule (codes "queues"))) (option_rule (codes "capacity"))) (flag_rule (codes "json")))
     wanted_files).top
 
--- the command that checks files
+-- the command that checks files: whether as JSON, and the files
 abbrev pub checking : Shape
-checking = (with_rule (new_app (codes "check")) wanted_files).top
+checking = (with_rule (with_rule (new_app (codes "check")) (flag_rule (codes "json"))) wanted_files).top
 
 -- the command that tells why an event is held: the event, and the files
 abbrev pub inquiring : Shape
@@ -71,7 +76,7 @@ abbrev pub tasks : App
 tasks = with_subcommand (with_subcommand (with_subcommand (with_subcommand (record { top = alone; subs = [] }) (command_named (codes "replay"))) (command_named (codes "pack"))) (command_named (codes "dump"))) (command_named (codes "upgrade"))
 
 abbrev pub gpurace : App
-gpurace = with_subcommand (with_subcommand (with_subcommand (with_subcommand (with_subcommand tasks explaining) racing) running) checking) inquiring
+gpurace = with_subcommand (with_subcommand (with_subcommand (with_subcommand (with_subcommand (with_subcommand tasks explaining) racing) recalling) running) checking) inquiring
 
 -- ---- the command that words name
 
@@ -81,7 +86,7 @@ command_of words = subcommand_of gpurace words
 
 -- all commands but `replay`
 abbrev pub other_commands : List Text
-other_commands = codes "pack" ∷ codes "dump" ∷ codes "upgrade" ∷ codes "explain" ∷ codes "races" ∷ codes "run" ∷ codes "check" ∷ codes "why-held" ∷ []
+other_commands = codes "pack" ∷ codes "dump" ∷ codes "upgrade" ∷ codes "explain" ∷ codes "races" ∷ codes "history" ∷ codes "run" ∷ codes "check" ∷ codes "why-held" ∷ []
 
 -- the command of this name: where it is none of the others, it is `replay`
 abbrev pub meant : Text → Text

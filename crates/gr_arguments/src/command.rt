@@ -4,7 +4,7 @@ ghost use Rattle.std.specs.Prelude.{◌≡◌, false, IfOk};
 ghost use Rattle.clap.specs.declared.builder.command.Command.TheViews.{out-Command as fields_of};
 ghost use Rattle.clap.specs.Walk.{rule_of};
 ghost use Rattle.clap.specs.Words.{app_of, shape_of};
-ghost use Rattle.gr_arguments.specs.Commands.{gpurace, command_named, explaining, flag_rule, option_rule, racing, running, wanted, wanted_files, checking, inquiring};
+ghost use Rattle.gr_arguments.specs.Commands.{gpurace, command_named, explaining, flag_rule, option_rule, racing, running, wanted, wanted_files, checking, inquiring, recalling};
 
 use clap::{Arg, ArgAction, Command};
 use std::alloc::{AllocError, Global};
@@ -27,6 +27,7 @@ Examples:
   gpurace explain g 16 group0.gpurace group1.gpurace
   gpurace explain --long g 16 group0.gpurace group1.gpurace
   gpurace races group0.gpurace group1.gpurace
+  gpurace history g 16 group0.gpurace group1.gpurace
   gpurace run --workers 4 group0.gpurace group1.gpurace
   gpurace check group0.gpurace group1.gpurace
   gpurace why-held 0 3 12 group0.gpurace group1.gpurace
@@ -176,6 +177,19 @@ const AFTER_WHY_HELD: &str = "\
 Example:
   gpurace why-held 0 3 12 group*.gpurace";
 
+const HISTORY: &str = "Tells of one word all accesses, and which are ordered behind which";
+
+const LONG_HISTORY: &str = "\
+Tells of one word all accesses to it, in an order in which they may have happened, and behind which of those above it each is
+ordered. Two accesses of which neither is ordered behind the other race, unless both read or both are atomic with inclusive
+scope. Accesses that are held are left out.
+
+The accesses are told as GROUP ITEM INDEX; an item's records are counted from 0.";
+
+const AFTER_HISTORY: &str = "\
+Example:
+  gpurace history l0 4 group*.gpurace";
+
 const GROUP: &str = "The number of the event's work-group";
 
 const ITEM: &str = "The number of its work-item in the group";
@@ -225,20 +239,15 @@ fn explain_command<'a>(alloc: Global) -> Result<Command<'a>, AllocError>
     ensures shape { IfOk result (λ c. shape_of c ≡ explaining) }
     ensures alone { IfOk result (λ c. (fields_of c).has_globals ≡ false) }
 {
-    let long = flag_arg(alloc, "long", LONG);
-    let json = flag_arg(alloc, "json", JSON);
-    let space = wanted_arg(alloc, "SPACE", SPACE);
-    let word = wanted_arg(alloc, "WORD", WORD);
-    let files = files_arg(alloc);
     Command::new(alloc, "explain")
         .about(EXPLAIN)
         .long_about(LONG_EXPLAIN)
         .after_help(AFTER_EXPLAIN)
-        .arg(long)?
-        .arg(json)?
-        .arg(space)?
-        .arg(word)?
-        .arg(files)
+        .arg(flag_arg(alloc, "long", LONG))?
+        .arg(flag_arg(alloc, "json", JSON))?
+        .arg(wanted_arg(alloc, "SPACE", SPACE))?
+        .arg(wanted_arg(alloc, "WORD", WORD))?
+        .arg(files_arg(alloc))
 }
 
 /// An option with a value.
@@ -257,20 +266,16 @@ fn races_command<'a>(alloc: Global) -> Result<Command<'a>, AllocError>
     ensures shape { IfOk result (λ c. shape_of c ≡ racing) }
     ensures alone { IfOk result (λ c. (fields_of c).has_globals ≡ false) }
 {
-    let most = option_arg(alloc, "most", "N", MOST);
-    let places = option_arg(alloc, "places", "FILE", PLACES);
-    let buffers = option_arg(alloc, "buffers", "FILE", BUFFERS);
-    let causes = flag_arg(alloc, "causes", CAUSES);
-    let files = files_arg(alloc);
     Command::new(alloc, "races")
         .about(RACES)
         .long_about(LONG_RACES)
         .after_help(AFTER_RACES)
-        .arg(most)?
-        .arg(places)?
-        .arg(buffers)?
-        .arg(causes)?
-        .arg(files)
+        .arg(option_arg(alloc, "most", "N", MOST))?
+        .arg(option_arg(alloc, "places", "FILE", PLACES))?
+        .arg(option_arg(alloc, "buffers", "FILE", BUFFERS))?
+        .arg(flag_arg(alloc, "causes", CAUSES))?
+        .arg(flag_arg(alloc, "json", JSON))?
+        .arg(files_arg(alloc))
 }
 
 /// The command that runs a launch in threads.
@@ -278,20 +283,15 @@ fn run_command<'a>(alloc: Global) -> Result<Command<'a>, AllocError>
     ensures shape { IfOk result (λ c. shape_of c ≡ running) }
     ensures alone { IfOk result (λ c. (fields_of c).has_globals ≡ false) }
 {
-    let workers = option_arg(alloc, "workers", "N", WORKERS);
-    let queues = option_arg(alloc, "queues", "N", QUEUES);
-    let capacity = option_arg(alloc, "capacity", "N", CAPACITY);
-    let json = flag_arg(alloc, "json", JSON);
-    let files = files_arg(alloc);
     Command::new(alloc, "run")
         .about(RUN)
         .long_about(LONG_RUN)
         .after_help(AFTER_RUN)
-        .arg(workers)?
-        .arg(queues)?
-        .arg(capacity)?
-        .arg(json)?
-        .arg(files)
+        .arg(option_arg(alloc, "workers", "N", WORKERS))?
+        .arg(option_arg(alloc, "queues", "N", QUEUES))?
+        .arg(option_arg(alloc, "capacity", "N", CAPACITY))?
+        .arg(flag_arg(alloc, "json", JSON))?
+        .arg(files_arg(alloc))
 }
 
 /// The command that checks files.
@@ -299,12 +299,12 @@ fn check_command<'a>(alloc: Global) -> Result<Command<'a>, AllocError>
     ensures shape { IfOk result (λ c. shape_of c ≡ checking) }
     ensures alone { IfOk result (λ c. (fields_of c).has_globals ≡ false) }
 {
-    let files = files_arg(alloc);
     Command::new(alloc, "check")
         .about(CHECK)
         .long_about(LONG_CHECK)
         .after_help(AFTER_CHECK)
-        .arg(files)
+        .arg(flag_arg(alloc, "json", JSON))?
+        .arg(files_arg(alloc))
 }
 
 /// The command that tells why an event is held.
@@ -312,33 +312,34 @@ fn why_held_command<'a>(alloc: Global) -> Result<Command<'a>, AllocError>
     ensures shape { IfOk result (λ c. shape_of c ≡ inquiring) }
     ensures alone { IfOk result (λ c. (fields_of c).has_globals ≡ false) }
 {
-    let group = wanted_arg(alloc, "GROUP", GROUP);
-    let item = wanted_arg(alloc, "ITEM", ITEM);
-    let index = wanted_arg(alloc, "INDEX", INDEX);
-    let files = files_arg(alloc);
     Command::new(alloc, "why-held")
         .about(WHY_HELD)
         .long_about(LONG_WHY_HELD)
         .after_help(AFTER_WHY_HELD)
-        .arg(group)?
-        .arg(item)?
-        .arg(index)?
-        .arg(files)
+        .arg(wanted_arg(alloc, "GROUP", GROUP))?
+        .arg(wanted_arg(alloc, "ITEM", ITEM))?
+        .arg(wanted_arg(alloc, "INDEX", INDEX))?
+        .arg(files_arg(alloc))
+}
+
+/// The command that tells of all accesses to one word.
+fn history_command<'a>(alloc: Global) -> Result<Command<'a>, AllocError>
+    ensures shape { IfOk result (λ c. shape_of c ≡ recalling) }
+    ensures alone { IfOk result (λ c. (fields_of c).has_globals ≡ false) }
+{
+    Command::new(alloc, "history")
+        .about(HISTORY)
+        .long_about(LONG_HISTORY)
+        .after_help(AFTER_HISTORY)
+        .arg(wanted_arg(alloc, "SPACE", SPACE))?
+        .arg(wanted_arg(alloc, "WORD", WORD))?
+        .arg(files_arg(alloc))
 }
 
 /// The program's commands and options, as help shows them.
 pub(crate) fn command<'a>(alloc: Global) -> Result<Command<'a>, AllocError>
     ensures { IfOk result (λ c. app_of c ≡ gpurace) }
 {
-    let replay = plain_command(alloc, "replay", REPLAY);
-    let pack = plain_command(alloc, "pack", PACK);
-    let dump = plain_command(alloc, "dump", DUMP);
-    let upgrade = plain_command(alloc, "upgrade", UPGRADE);
-    let explain = explain_command(alloc)?;
-    let races = races_command(alloc)?;
-    let run = run_command(alloc)?;
-    let check = check_command(alloc)?;
-    let why_held = why_held_command(alloc)?;
     Command::new(alloc, "gpurace")
         .bin_name("gpurace")?
         .no_binary_name(true)
@@ -346,13 +347,14 @@ pub(crate) fn command<'a>(alloc: Global) -> Result<Command<'a>, AllocError>
         .about(ABOUT)
         .long_about(LONG_ABOUT)
         .after_help(AFTER_HELP)
-        .subcommand(replay)?
-        .subcommand(pack)?
-        .subcommand(dump)?
-        .subcommand(upgrade)?
-        .subcommand(explain)?
-        .subcommand(races)?
-        .subcommand(run)?
-        .subcommand(check)?
-        .subcommand(why_held)
+        .subcommand(plain_command(alloc, "replay", REPLAY))?
+        .subcommand(plain_command(alloc, "pack", PACK))?
+        .subcommand(plain_command(alloc, "dump", DUMP))?
+        .subcommand(plain_command(alloc, "upgrade", UPGRADE))?
+        .subcommand(explain_command(alloc)?)?
+        .subcommand(races_command(alloc)?)?
+        .subcommand(history_command(alloc)?)?
+        .subcommand(run_command(alloc)?)?
+        .subcommand(check_command(alloc)?)?
+        .subcommand(why_held_command(alloc)?)
 }

@@ -7,7 +7,7 @@ ghost use Rattle.gr_arguments.specs.Asked.{AsksTo, IsAskedBy, asked_of};
 ghost use Rattle.gr_arguments.specs.Commands.{faults, meant};
 
 use crate::command::command;
-use crate::values::{files_of, inquiry_of, listing_of, plan_of, question_of};
+use crate::values::{inquiry_of, inspection_of, listing_of, plan_of, question_of, recall_of};
 use clap::{ArgMatches, Error};
 use gr_model::config::Config;
 use gr_model::event::{EventId, Word};
@@ -51,7 +51,27 @@ pub struct Listing<'a> {
     pub buffers: Option<&'a str>,
     /// Whether the causes of the races are to be told too.
     pub causes: bool,
+    /// Whether they are to be told as JSON.
+    pub json: bool,
     /// The names of the files of the streams.
+    pub files: Vec<&'a str>,
+}
+
+/// A word of a launch, whose streams are in these files, one each, and all of whose accesses are to be told.
+#[derive(Drop)]
+pub struct Recall<'a> {
+    /// The word.
+    pub word: Word,
+    /// The names of the files.
+    pub files: Vec<&'a str>,
+}
+
+/// Files that may be those of a launch's streams, one each.
+#[derive(Drop)]
+pub struct Inspection<'a> {
+    /// Whether what is found is to be JSON.
+    pub json: bool,
+    /// The names of the files.
     pub files: Vec<&'a str>,
 }
 
@@ -84,10 +104,12 @@ pub enum Request<'a> {
     Explain(Option<Question<'a>>),
     /// The races of a launch by their kinds; `None` where how many is no number.
     Races(Option<Listing<'a>>),
+    /// All accesses to a word; `None` where the words name no word of memory.
+    History(Option<Recall<'a>>),
     /// The report of a launch, by a run in threads; `None` where the words set up none.
     Run(Option<Plan<'a>>),
     /// Which record of which of these files is at fault, or how many records of each kind there are.
-    Check(Vec<&'a str>),
+    Check(Inspection<'a>),
     /// Why an event is held; `None` where the words name no event.
     WhyHeld(Option<Inquiry<'a>>),
 }
@@ -104,10 +126,12 @@ fn request_by<'a>(
         Ok(Request::Explain(question_of(alloc, values)?))
     } else if name == "races" {
         Ok(Request::Races(listing_of(alloc, values)?))
+    } else if name == "history" {
+        Ok(Request::History(recall_of(alloc, values)?))
     } else if name == "run" {
         Ok(Request::Run(plan_of(alloc, values)?))
     } else if name == "check" {
-        Ok(Request::Check(files_of(alloc, values)?))
+        Ok(Request::Check(inspection_of(alloc, values)?))
     } else if name == "why-held" {
         Ok(Request::WhyHeld(inquiry_of(alloc, values)?))
     } else if name == "pack" {

@@ -4,12 +4,13 @@ ghost use Rattle.std.specs.Prelude.{◌≡◌, ℕ, Option, IfOk, IfErr, MatchOp
 ghost use Rattle.clap.specs.Walk.{rows_of};
 ghost use Rattle.clap.specs.Words.{found_of};
 ghost use Rattle.gr_model.specs.Configs.{Settings};
-ghost use Rattle.gr_arguments.specs.Asked.{IsAskedEvent, IsAskedRaces, IsAskedRun, IsAskedWord, IsMost, IsNumberOr, IsSetUp, IsTheOne, event_of, files_of as named_files, has_flag, races_of, run_of, word_of};
+ghost use Rattle.gr_arguments.specs.Asked.{IsAskedCheck, IsAskedEvent, IsAskedHistory, IsAskedRaces, IsAskedRun, IsAskedWord, IsMost, IsNumberOr, IsSetUp, IsTheOne, NamesWord, check_of, event_of, files_of as named_files, has_flag, history_of, races_of, run_of, word_of as asked_word};
 
-use crate::request::{Inquiry, Listing, Plan, Question};
+use crate::request::{Inquiry, Inspection, Listing, Plan, Question, Recall};
 use crate::words::{event_named, number_of, word_named};
 use clap::ArgMatches;
 use gr_model::config::Config;
+use gr_model::event::Word;
 use std::alloc::{AllocError, Global};
 
 /// What stands behind an option is no number.
@@ -27,10 +28,7 @@ fn asks_for(values: &ArgMatches<'_>, flag: &str) -> bool
 }
 
 /// The files that the values name.
-pub(crate) fn files_of<'a>(
-    alloc: Global,
-    values: &ArgMatches<'a>,
-) -> Result<Vec<&'a str>, AllocError>
+fn files_of<'a>(alloc: Global, values: &ArgMatches<'a>) -> Result<Vec<&'a str>, AllocError>
     ensures { IfOk result (λ v. map (λ s. s.now) v.items ≡ named_files (rows_of (found_of values.now))) }
 {
     match values.get_strs("FILE") {
@@ -39,20 +37,27 @@ pub(crate) fn files_of<'a>(
     }
 }
 
+/// The word of memory that the values name, if they name one.
+fn word_of(values: &ArgMatches<'_>) -> Option<Word>
+    ensures { IsTheOne (NamesWord (rows_of (found_of values.now))) result }
+{
+    let Some(space) = values.get_str("SPACE") else {
+        return None;
+    };
+    let Some(number) = values.get_str("WORD") else {
+        return None;
+    };
+    word_named(space, number)
+}
+
 /// The question that the values of the command `explain` ask.
 pub(crate) fn question_of<'a>(
     alloc: Global,
     values: &ArgMatches<'a>,
 ) -> Result<Option<Question<'a>>, AllocError>
-    ensures { IfOk result (λ o. IsTheOne (IsAskedWord (rows_of (found_of values.now))) (option_map word_of o)) }
+    ensures { IfOk result (λ o. IsTheOne (IsAskedWord (rows_of (found_of values.now))) (option_map asked_word o)) }
 {
-    let Some(space) = values.get_str("SPACE") else {
-        return Ok(None);
-    };
-    let Some(number) = values.get_str("WORD") else {
-        return Ok(None);
-    };
-    let Some(word) = word_named(space, number) else {
+    let Some(word) = word_of(values) else {
         return Ok(None);
     };
     let long = asks_for(values, "long");
@@ -93,14 +98,42 @@ pub(crate) fn listing_of<'a>(
     let places = values.get_str("places");
     let buffers = values.get_str("buffers");
     let causes = asks_for(values, "causes");
+    let json = asks_for(values, "json");
     let files = files_of(alloc, values)?;
     Ok(Some(Listing {
         most,
         places,
         buffers,
         causes,
+        json,
         files,
     }))
+}
+
+/// What the values of the command `history` ask to recall.
+pub(crate) fn recall_of<'a>(
+    alloc: Global,
+    values: &ArgMatches<'a>,
+) -> Result<Option<Recall<'a>>, AllocError>
+    ensures { IfOk result (λ o. IsTheOne (IsAskedHistory (rows_of (found_of values.now))) (option_map history_of o)) }
+{
+    let Some(word) = word_of(values) else {
+        return Ok(None);
+    };
+    let files = files_of(alloc, values)?;
+    Ok(Some(Recall { word, files }))
+}
+
+/// What the values of the command `check` ask to inspect.
+pub(crate) fn inspection_of<'a>(
+    alloc: Global,
+    values: &ArgMatches<'a>,
+) -> Result<Inspection<'a>, AllocError>
+    ensures { IfOk result (λ i. IsAskedCheck (rows_of (found_of values.now)) (check_of i)) }
+{
+    let json = asks_for(values, "json");
+    let files = files_of(alloc, values)?;
+    Ok(Inspection { json, files })
 }
 
 /// The number below 2^32 behind an option, or `default` where the option is not there.

@@ -2,14 +2,17 @@ use Rattle.std.proofs.Common.{◌≡◌, ◌∙◌, ap, ap₂, codes, false, ref
 use Rattle.std.proofs.lemmas.Result.{IfOk-weaker}
 use Rattle.clap.specs.declared.builder.command.Command.TheViews.{out-Command as fields_of}
 use Rattle.clap.specs.Words.{App, app_of, new_app, with_rule}
+use Rattle.gr_arguments.specs.Commands.{flag_rule}
 use Rattle.gr_arguments.proofs.command.check_command.Goals as goal
 
 pub returns-clause-shape : goal.returns-clause-shape
 returns-clause-shape c =
     let bare : app_of c.after_help.result ≡ new_app (codes "check") = rw (c.after_help.ensures, c.long_about.ensures, c.about.ensures) c.new.ensures.app in
-    IfOk-weaker c.arg.result _ _ (λ command added. ap (λ (a : App). a.top) (added.shape c.files_arg-files.ensures.alone ∙ ap₂ with_rule bare c.files_arg-files.ensures.rule)) c.arg.ensures
+    let first : app_of c.in_ok-arg.field-0 ≡ with_rule (new_app (codes "check")) (flag_rule (codes "json")) = c.in_ok-arg.ensures.shape c.flag_arg.ensures.alone ∙ ap₂ with_rule bare c.flag_arg.ensures.rule in
+    IfOk-weaker c.arg-2.result _ _ (λ command added. ap (λ (a : App). a.top) (added.shape c.files_arg.ensures.alone ∙ ap₂ with_rule first c.files_arg.ensures.rule)) c.arg-2.ensures
 
 pub returns-clause-alone : goal.returns-clause-alone
 returns-clause-alone c =
     let bare : (fields_of c.after_help.result).has_globals ≡ false = rw (c.after_help.ensures, c.long_about.ensures, c.about.ensures) c.new.ensures.local in
-    IfOk-weaker c.arg.result _ _ (λ command added. added.globals ∙ rw (bare, c.files_arg-files.ensures.alone) refl) c.arg.ensures
+    let first : (fields_of c.in_ok-arg.field-0).has_globals ≡ false = c.in_ok-arg.ensures.globals ∙ rw (bare, c.flag_arg.ensures.alone) refl in
+    IfOk-weaker c.arg-2.result _ _ (λ command added. added.globals ∙ rw (first, c.files_arg.ensures.alone) refl) c.arg-2.ensures

@@ -8,17 +8,19 @@ use Rattle.gr_arguments.proofs.command.races_command.Goals as goal
 pub returns-clause-shape : goal.returns-clause-shape
 returns-clause-shape c =
     let bare : app_of c.after_help.result ≡ new_app (codes "races") = rw (c.after_help.ensures, c.long_about.ensures, c.about.ensures) c.new.ensures.app in
-    let first : app_of c.in_ok-arg.field-0 ≡ with_rule (new_app (codes "races")) (option_rule (codes "most")) = c.in_ok-arg.ensures.shape c.option_arg-most.ensures.alone ∙ ap₂ with_rule bare c.option_arg-most.ensures.rule in
-    let second : app_of c.in_ok-arg-2.field-0 ≡ with_rule (with_rule (new_app (codes "races")) (option_rule (codes "most"))) (option_rule (codes "places")) = c.in_ok-arg-2.ensures.shape c.option_arg-places.ensures.alone ∙ ap₂ with_rule first c.option_arg-places.ensures.rule in
-    let third : app_of c.in_ok-arg-3.field-0 ≡ with_rule (with_rule (with_rule (new_app (codes "races")) (option_rule (codes "most"))) (option_rule (codes "places"))) (option_rule (codes "buffers")) = c.in_ok-arg-3.ensures.shape c.option_arg-buffers.ensures.alone ∙ ap₂ with_rule second c.option_arg-buffers.ensures.rule in
-    let fourth : app_of c.in_ok-arg-4.field-0 ≡ with_rule (with_rule (with_rule (with_rule (new_app (codes "races")) (option_rule (codes "most"))) (option_rule (codes "places"))) (option_rule (codes "buffers"))) (flag_rule (codes "causes")) = c.in_ok-arg-4.ensures.shape c.flag_arg-causes.ensures.alone ∙ ap₂ with_rule third c.flag_arg-causes.ensures.rule in
-    IfOk-weaker c.arg-5.result _ _ (λ command added. ap (λ (a : App). a.top) (added.shape c.files_arg-files.ensures.alone ∙ ap₂ with_rule fourth c.files_arg-files.ensures.rule)) c.arg-5.ensures
+    let first : app_of c.in_ok-arg.field-0 ≡ with_rule (new_app (codes "races")) (option_rule (codes "most")) = c.in_ok-arg.ensures.shape c.option_arg.ensures.alone ∙ ap₂ with_rule bare c.option_arg.ensures.rule in
+    let second : app_of c.in_ok-arg-2.field-0 ≡ with_rule (with_rule (new_app (codes "races")) (option_rule (codes "most"))) (option_rule (codes "places")) = c.in_ok-arg-2.ensures.shape c.option_arg-2.ensures.alone ∙ ap₂ with_rule first c.option_arg-2.ensures.rule in
+    let third : app_of c.in_ok-arg-3.field-0 ≡ with_rule (with_rule (with_rule (new_app (codes "races")) (option_rule (codes "most"))) (option_rule (codes "places"))) (option_rule (codes "buffers")) = c.in_ok-arg-3.ensures.shape c.option_arg-3.ensures.alone ∙ ap₂ with_rule second c.option_arg-3.ensures.rule in
+    let fourth : app_of c.in_ok-arg-4.field-0 ≡ with_rule (with_rule (with_rule (with_rule (new_app (codes "races")) (option_rule (codes "most"))) (option_rule (codes "places"))) (option_rule (codes "buffers"))) (flag_rule (codes "causes")) = c.in_ok-arg-4.ensures.shape c.flag_arg.ensures.alone ∙ ap₂ with_rule third c.flag_arg.ensures.rule in
+    let fifth : app_of c.in_ok-arg-5.field-0 ≡ with_rule (with_rule (with_rule (with_rule (with_rule (new_app (codes "races")) (option_rule (codes "most"))) (option_rule (codes "places"))) (option_rule (codes "buffers"))) (flag_rule (codes "causes"))) (flag_rule (codes "json")) = c.in_ok-arg-5.ensures.shape c.flag_arg-2.ensures.alone ∙ ap₂ with_rule fourth c.flag_arg-2.ensures.rule in
+    IfOk-weaker c.arg-6.result _ _ (λ command added. ap (λ (a : App). a.top) (added.shape c.files_arg.ensures.alone ∙ ap₂ with_rule fifth c.files_arg.ensures.rule)) c.arg-6.ensures
 
 pub returns-clause-alone : goal.returns-clause-alone
 returns-clause-alone c =
     let bare : (fields_of c.after_help.result).has_globals ≡ false = rw (c.after_help.ensures, c.long_about.ensures, c.about.ensures) c.new.ensures.local in
-    let first : (fields_of c.in_ok-arg.field-0).has_globals ≡ false = c.in_ok-arg.ensures.globals ∙ rw (bare, c.option_arg-most.ensures.alone) refl in
-    let second : (fields_of c.in_ok-arg-2.field-0).has_globals ≡ false = c.in_ok-arg-2.ensures.globals ∙ rw (first, c.option_arg-places.ensures.alone) refl in
-    let third : (fields_of c.in_ok-arg-3.field-0).has_globals ≡ false = c.in_ok-arg-3.ensures.globals ∙ rw (second, c.option_arg-buffers.ensures.alone) refl in
-    let fourth : (fields_of c.in_ok-arg-4.field-0).has_globals ≡ false = c.in_ok-arg-4.ensures.globals ∙ rw (third, c.flag_arg-causes.ensures.alone) refl in
-    IfOk-weaker c.arg-5.result _ _ (λ command added. added.globals ∙ rw (fourth, c.files_arg-files.ensures.alone) refl) c.arg-5.ensures
+    let first : (fields_of c.in_ok-arg.field-0).has_globals ≡ false = c.in_ok-arg.ensures.globals ∙ rw (bare, c.option_arg.ensures.alone) refl in
+    let second : (fields_of c.in_ok-arg-2.field-0).has_globals ≡ false = c.in_ok-arg-2.ensures.globals ∙ rw (first, c.option_arg-2.ensures.alone) refl in
+    let third : (fields_of c.in_ok-arg-3.field-0).has_globals ≡ false = c.in_ok-arg-3.ensures.globals ∙ rw (second, c.option_arg-3.ensures.alone) refl in
+    let fourth : (fields_of c.in_ok-arg-4.field-0).has_globals ≡ false = c.in_ok-arg-4.ensures.globals ∙ rw (third, c.flag_arg.ensures.alone) refl in
+    let fifth : (fields_of c.in_ok-arg-5.field-0).has_globals ≡ false = c.in_ok-arg-5.ensures.globals ∙ rw (fourth, c.flag_arg-2.ensures.alone) refl in
+    IfOk-weaker c.arg-6.result _ _ (λ command added. added.globals ∙ rw (fifth, c.files_arg.ensures.alone) refl) c.arg-6.ensures

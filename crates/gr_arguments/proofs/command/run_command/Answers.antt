@@ -8,17 +8,17 @@ use Rattle.gr_arguments.proofs.command.run_command.Goals as goal
 pub returns-clause-shape : goal.returns-clause-shape
 returns-clause-shape c =
     let bare : app_of c.after_help.result ≡ new_app (codes "run") = rw (c.after_help.ensures, c.long_about.ensures, c.about.ensures) c.new.ensures.app in
-    let first : app_of c.in_ok-arg.field-0 ≡ with_rule (new_app (codes "run")) (option_rule (codes "workers")) = c.in_ok-arg.ensures.shape c.option_arg-workers.ensures.alone ∙ ap₂ with_rule bare c.option_arg-workers.ensures.rule in
-    let second : app_of c.in_ok-arg-2.field-0 ≡ with_rule (with_rule (new_app (codes "run")) (option_rule (codes "workers"))) (option_rule (codes "queues")) = c.in_ok-arg-2.ensures.shape c.option_arg-queues.ensures.alone ∙ ap₂ with_rule first c.option_arg-queues.ensures.rule in
-    let third : app_of c.in_ok-arg-3.field-0 ≡ with_rule (with_rule (with_rule (new_app (codes "run")) (option_rule (codes "workers"))) (option_rule (codes "queues"))) (option_rule (codes "capacity")) = c.in_ok-arg-3.ensures.shape c.option_arg-capacity.ensures.alone ∙ ap₂ with_rule second c.option_arg-capacity.ensures.rule in
-    let fourth : app_of c.in_ok-arg-4.field-0 ≡ with_rule (with_rule (with_rule (with_rule (new_app (codes "run")) (option_rule (codes "workers"))) (option_rule (codes "queues"))) (option_rule (codes "capacity"))) (flag_rule (codes "json")) = c.in_ok-arg-4.ensures.shape c.flag_arg-json.ensures.alone ∙ ap₂ with_rule third c.flag_arg-json.ensures.rule in
-    IfOk-weaker c.arg-5.result _ _ (λ command added. ap (λ (a : App). a.top) (added.shape c.files_arg-files.ensures.alone ∙ ap₂ with_rule fourth c.files_arg-files.ensures.rule)) c.arg-5.ensures
+    let first : app_of c.in_ok-arg.field-0 ≡ with_rule (new_app (codes "run")) (option_rule (codes "workers")) = c.in_ok-arg.ensures.shape c.option_arg.ensures.alone ∙ ap₂ with_rule bare c.option_arg.ensures.rule in
+    let second : app_of c.in_ok-arg-2.field-0 ≡ with_rule (with_rule (new_app (codes "run")) (option_rule (codes "workers"))) (option_rule (codes "queues")) = c.in_ok-arg-2.ensures.shape c.option_arg-2.ensures.alone ∙ ap₂ with_rule first c.option_arg-2.ensures.rule in
+    let third : app_of c.in_ok-arg-3.field-0 ≡ with_rule (with_rule (with_rule (new_app (codes "run")) (option_rule (codes "workers"))) (option_rule (codes "queues"))) (option_rule (codes "capacity")) = c.in_ok-arg-3.ensures.shape c.option_arg-3.ensures.alone ∙ ap₂ with_rule second c.option_arg-3.ensures.rule in
+    let fourth : app_of c.in_ok-arg-4.field-0 ≡ with_rule (with_rule (with_rule (with_rule (new_app (codes "run")) (option_rule (codes "workers"))) (option_rule (codes "queues"))) (option_rule (codes "capacity"))) (flag_rule (codes "json")) = c.in_ok-arg-4.ensures.shape c.flag_arg.ensures.alone ∙ ap₂ with_rule third c.flag_arg.ensures.rule in
+    IfOk-weaker c.arg-5.result _ _ (λ command added. ap (λ (a : App). a.top) (added.shape c.files_arg.ensures.alone ∙ ap₂ with_rule fourth c.files_arg.ensures.rule)) c.arg-5.ensures
 
 pub returns-clause-alone : goal.returns-clause-alone
 returns-clause-alone c =
     let bare : (fields_of c.after_help.result).has_globals ≡ false = rw (c.after_help.ensures, c.long_about.ensures, c.about.ensures) c.new.ensures.local in
-    let first : (fields_of c.in_ok-arg.field-0).has_globals ≡ false = c.in_ok-arg.ensures.globals ∙ rw (bare, c.option_arg-workers.ensures.alone) refl in
-    let second : (fields_of c.in_ok-arg-2.field-0).has_globals ≡ false = c.in_ok-arg-2.ensures.globals ∙ rw (first, c.option_arg-queues.ensures.alone) refl in
-    let third : (fields_of c.in_ok-arg-3.field-0).has_globals ≡ false = c.in_ok-arg-3.ensures.globals ∙ rw (second, c.option_arg-capacity.ensures.alone) refl in
-    let fourth : (fields_of c.in_ok-arg-4.field-0).has_globals ≡ false = c.in_ok-arg-4.ensures.globals ∙ rw (third, c.flag_arg-json.ensures.alone) refl in
-    IfOk-weaker c.arg-5.result _ _ (λ command added. added.globals ∙ rw (fourth, c.files_arg-files.ensures.alone) refl) c.arg-5.ensures
+    let first : (fields_of c.in_ok-arg.field-0).has_globals ≡ false = c.in_ok-arg.ensures.globals ∙ rw (bare, c.option_arg.ensures.alone) refl in
+    let second : (fields_of c.in_ok-arg-2.field-0).has_globals ≡ false = c.in_ok-arg-2.ensures.globals ∙ rw (first, c.option_arg-2.ensures.alone) refl in
+    let third : (fields_of c.in_ok-arg-3.field-0).has_globals ≡ false = c.in_ok-arg-3.ensures.globals ∙ rw (second, c.option_arg-3.ensures.alone) refl in
+    let fourth : (fields_of c.in_ok-arg-4.field-0).has_globals ≡ false = c.in_ok-arg-4.ensures.globals ∙ rw (third, c.flag_arg.ensures.alone) refl in
+    IfOk-weaker c.arg-5.result _ _ (λ command added. added.globals ∙ rw (fourth, c.files_arg.ensures.alone) refl) c.arg-5.ensures

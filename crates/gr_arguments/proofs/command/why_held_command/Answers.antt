@@ -8,15 +8,15 @@ use Rattle.gr_arguments.proofs.command.why_held_command.Goals as goal
 pub returns-clause-shape : goal.returns-clause-shape
 returns-clause-shape c =
     let bare : app_of c.after_help.result ≡ new_app (codes "why-held") = rw (c.after_help.ensures, c.long_about.ensures, c.about.ensures) c.new.ensures.app in
-    let first : app_of c.in_ok-arg.field-0 ≡ with_rule (new_app (codes "why-held")) (wanted (codes "GROUP")) = c.in_ok-arg.ensures.shape c.wanted_arg-group.ensures.alone ∙ ap₂ with_rule bare c.wanted_arg-group.ensures.rule in
-    let second : app_of c.in_ok-arg-2.field-0 ≡ with_rule (with_rule (new_app (codes "why-held")) (wanted (codes "GROUP"))) (wanted (codes "ITEM")) = c.in_ok-arg-2.ensures.shape c.wanted_arg-item.ensures.alone ∙ ap₂ with_rule first c.wanted_arg-item.ensures.rule in
-    let third : app_of c.in_ok-arg-3.field-0 ≡ with_rule (with_rule (with_rule (new_app (codes "why-held")) (wanted (codes "GROUP"))) (wanted (codes "ITEM"))) (wanted (codes "INDEX")) = c.in_ok-arg-3.ensures.shape c.wanted_arg-index.ensures.alone ∙ ap₂ with_rule second c.wanted_arg-index.ensures.rule in
-    IfOk-weaker c.arg-4.result _ _ (λ command added. ap (λ (a : App). a.top) (added.shape c.files_arg-files.ensures.alone ∙ ap₂ with_rule third c.files_arg-files.ensures.rule)) c.arg-4.ensures
+    let first : app_of c.in_ok-arg.field-0 ≡ with_rule (new_app (codes "why-held")) (wanted (codes "GROUP")) = c.in_ok-arg.ensures.shape c.wanted_arg.ensures.alone ∙ ap₂ with_rule bare c.wanted_arg.ensures.rule in
+    let second : app_of c.in_ok-arg-2.field-0 ≡ with_rule (with_rule (new_app (codes "why-held")) (wanted (codes "GROUP"))) (wanted (codes "ITEM")) = c.in_ok-arg-2.ensures.shape c.wanted_arg-2.ensures.alone ∙ ap₂ with_rule first c.wanted_arg-2.ensures.rule in
+    let third : app_of c.in_ok-arg-3.field-0 ≡ with_rule (with_rule (with_rule (new_app (codes "why-held")) (wanted (codes "GROUP"))) (wanted (codes "ITEM"))) (wanted (codes "INDEX")) = c.in_ok-arg-3.ensures.shape c.wanted_arg-3.ensures.alone ∙ ap₂ with_rule second c.wanted_arg-3.ensures.rule in
+    IfOk-weaker c.arg-4.result _ _ (λ command added. ap (λ (a : App). a.top) (added.shape c.files_arg.ensures.alone ∙ ap₂ with_rule third c.files_arg.ensures.rule)) c.arg-4.ensures
 
 pub returns-clause-alone : goal.returns-clause-alone
 returns-clause-alone c =
     let bare : (fields_of c.after_help.result).has_globals ≡ false = rw (c.after_help.ensures, c.long_about.ensures, c.about.ensures) c.new.ensures.local in
-    let first : (fields_of c.in_ok-arg.field-0).has_globals ≡ false = c.in_ok-arg.ensures.globals ∙ rw (bare, c.wanted_arg-group.ensures.alone) refl in
-    let second : (fields_of c.in_ok-arg-2.field-0).has_globals ≡ false = c.in_ok-arg-2.ensures.globals ∙ rw (first, c.wanted_arg-item.ensures.alone) refl in
-    let third : (fields_of c.in_ok-arg-3.field-0).has_globals ≡ false = c.in_ok-arg-3.ensures.globals ∙ rw (second, c.wanted_arg-index.ensures.alone) refl in
-    IfOk-weaker c.arg-4.result _ _ (λ command added. added.globals ∙ rw (third, c.files_arg-files.ensures.alone) refl) c.arg-4.ensures
+    let first : (fields_of c.in_ok-arg.field-0).has_globals ≡ false = c.in_ok-arg.ensures.globals ∙ rw (bare, c.wanted_arg.ensures.alone) refl in
+    let second : (fields_of c.in_ok-arg-2.field-0).has_globals ≡ false = c.in_ok-arg-2.ensures.globals ∙ rw (first, c.wanted_arg-2.ensures.alone) refl in
+    let third : (fields_of c.in_ok-arg-3.field-0).has_globals ≡ false = c.in_ok-arg-3.ensures.globals ∙ rw (second, c.wanted_arg-3.ensures.alone) refl in
+    IfOk-weaker c.arg-4.result _ _ (λ command added. added.globals ∙ rw (third, c.files_arg.ensures.alone) refl) c.arg-4.ensures

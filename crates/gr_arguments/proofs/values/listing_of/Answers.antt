@@ -11,5 +11,6 @@ returns c =
       places = sym (text_there f (codes "places") c.get_str-places.result c.get_str-places.ensures);
       buffers = sym (text_there f (codes "buffers") c.get_str-buffers.result c.get_str-buffers.ensures);
       with_causes = sym c.asks_for-causes.ensures;
+      as_json = sym c.asks_for-json.ensures;
       at_files = sym c.in_ok-files.ensures;
     }
