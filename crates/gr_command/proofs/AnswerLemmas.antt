@@ -5,7 +5,7 @@ use Rattle.std.specs.Io.KnownBytes.{Keeps}
 use Rattle.clap.specs.Words.{IsAmong, Kinds}
 use Rattle.clap.specs.declared.error.kind.ErrorKind.{ErrorKind}
 use Rattle.clap.specs.declared.error.kind.ErrorKind.TheVariants.{OutOfMemory}
-use Rattle.gr_arguments.specs.Asked.{Asked, check, explain, perform, races, run, why_held}
+use Rattle.gr_arguments.specs.Asked.{Asked, check, explain, history, perform, races, run, why_held}
 use Rattle.gr_arguments.specs.Commands.{AreHelp, AreWrong, IsHelp, IsWrongUsage}
 use Rattle.gr_arguments.specs.declared.request.Task.{Task}
 use Rattle.gr_arguments.specs.declared.request.Task.TheVariants.{Replay, Pack, Dump, Upgrade}
@@ -71,11 +71,13 @@ module _ {T X : Type 0} (remaining : T → Option (List ℕ)) (Gives : List ℕ 
   no_memory_to_do (explain (Some a)) = inr (Memory, record { why = inl (inl refl); told = told; prefix = λ h. absurd cc })
   no_memory_to_do (races (Some a)) =
       inr (Run Memory, record { why = inl (inl refl); told = record { line = told.line; ends = told.ends; untouched = λ h. told.untouched (λ e. cc) }; prefix = λ h. absurd (memory_is_no_writing h) })
+  no_memory_to_do (history (Some a)) = inr (Memory, record { why = inl (inl refl); told = told; prefix = λ h. absurd cc })
   no_memory_to_do (run (Some a)) = inr (Memory, record { why = inl (inl refl); told = told; prefix = λ h. absurd cc })
-  no_memory_to_do (check names) = inr (Memory, record { why = inl (inl refl); told = told; prefix = λ h. absurd cc })
+  no_memory_to_do (check a) = inr (Memory, record { why = inl (inl refl); told = told; prefix = λ h. absurd cc })
   no_memory_to_do (why_held (Some a)) = inr (Memory, record { why = inl (inl refl); told = told; prefix = λ h. absurd cc })
   no_memory_to_do (explain None) = no_memory_to_read
   no_memory_to_do (races None) = no_memory_to_read
+  no_memory_to_do (history None) = no_memory_to_read
   no_memory_to_do (run None) = no_memory_to_read
   no_memory_to_do (why_held None) = no_memory_to_read
 

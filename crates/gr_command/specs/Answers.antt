@@ -5,7 +5,7 @@ use Rattle.std.specs.Io.KnownBytes.{Appends, Keeps}
 use Rattle.gr_model.specs.declared.event.Word.{Word}
 use Rattle.gr_model.specs.Reports.{WholeReport}
 use Rattle.gr_model.specs.Streams.{Streams}
-use Rattle.gr_arguments.specs.Asked.{Asked, AskedEvent, AskedRaces, AskedRun, AskedWord, check, explain, perform, races, run, why_held}
+use Rattle.gr_arguments.specs.Asked.{Asked, AskedCheck, AskedEvent, AskedHistory, AskedRaces, AskedRun, AskedWord, check, explain, history, perform, races, run, why_held}
 use Rattle.gr_arguments.specs.declared.request.Task.{Task}
 use Rattle.gr_arguments.specs.declared.request.Task.TheVariants.{Replay, Pack, Dump, Upgrade}
 use Rattle.gr_record.specs.declared.fault.Fault.{Fault}
@@ -26,6 +26,7 @@ use Rattle.gr_show.specs.Opening.{HoldsOfFiles, IsFileFault, IsOpeningFault}
 use Rattle.gr_show.specs.Shown.{IsLine, IsRacyIn, IsShown, ShowsPrefix}
 use Rattle.gr_long.specs.Shown.{IsAccountText}
 use Rattle.gr_held.specs.Shown.{IsHeldIn, IsWhyText}
+use Rattle.gr_timeline.specs.Shown.{IsHistoryText}
 use Rattle.gr_json.specs.Reports.{report_json}
 use Rattle.gr_json.specs.Shown.{IsJsonAccount, IsJsonLine}
 use Rattle.gr_report.specs.Putting.{AppendsPrefix}
@@ -106,6 +107,14 @@ module _ {T X : Type 0} (remaining : T → Option (List ℕ)) (Gives : List ℕ 
   abbrev pub ShowsPrefixOfFiles : AskedWord → Type 0
   ShowsPrefixOfFiles a = HoldsOfFiles remaining Gives a.files (λ known. ShowsPrefix (IsTextOf a.long a.json a.word) known old new)
 
+  -- the accesses to the word are written whole, and it is said whether it is racy
+  abbrev pub IsRecalledOfFiles : AskedHistory → Bool → Type 0
+  IsRecalledOfFiles a found = HoldsOfFiles remaining Gives a.files (λ known. IsShown (IsHistoryText a.word) (IsRacyIn a.word) known found old new)
+
+  -- a prefix of them was written
+  abbrev pub RecallsPrefixOfFiles : AskedHistory → Type 0
+  RecallsPrefixOfFiles a = HoldsOfFiles remaining Gives a.files (λ known. ShowsPrefix (IsHistoryText a.word) known old new)
+
   -- why an event is held is written whole, and it is said whether it is
   abbrev pub IsToldOfFiles : AskedEvent → Bool → Type 0
   IsToldOfFiles a held = HoldsOfFiles remaining Gives a.files (λ known. IsShown (IsWhyText a.event) (IsHeldIn a.event) known held old new)
@@ -129,11 +138,17 @@ module _ {T X : Type 0} (remaining : T → Option (List ℕ)) (Gives : List ℕ 
         (IsRacesFault remaining Gives (sides_of a) a.files) (ShowsRacesPrefixOfFiles remaining Gives (sides_of a) a.files a.most a.causes old new)
 
     -- the text of a check, and whether the files are accepted; or why there is none
-    abbrev pub IsCheckOutcome : List (List ℕ) → Type 0
-    IsCheckOutcome names =
+    abbrev pub IsCheckOutcome : AskedCheck → Type 0
+    IsCheckOutcome a =
         IsOutcome fault_line fault_status Write old new old_errors new_errors status
-        (λ accepted. HoldsOfFiles remaining Gives names (λ known. IsChecked names known accepted old new)) (λ accepted ended. ended ≡ check_status accepted)
-        (IsCheckFileFault remaining Gives names) (HoldsOfFiles remaining Gives names (λ known. ChecksPrefix names known old new))
+        (λ accepted. HoldsOfFiles remaining Gives a.files (λ known. IsCheckedAs a.json a.files known accepted old new)) (λ accepted ended. ended ≡ check_status accepted)
+        (IsCheckFileFault remaining Gives a.files) (HoldsOfFiles remaining Gives a.files (λ known. ChecksPrefixAs a.json a.files known old new))
+
+    -- all accesses to a word, and whether it is racy; or why there are none
+    abbrev pub IsHistoryOutcome : AskedHistory → Type 0
+    IsHistoryOutcome a =
+        IsOutcome fault_line fault_status Write old new old_errors new_errors status
+        (IsRecalledOfFiles a) (λ found ended. ended ≡ race_status found) (IsFileFault remaining Gives a.files) (RecallsPrefixOfFiles a)
 
     -- why an event is held, and whether it is; or why nothing is told
     abbrev pub IsHeldOutcome : AskedEvent → Type 0
@@ -160,10 +175,12 @@ module _ {T X : Type 0} (remaining : T → Option (List ℕ)) (Gives : List ℕ 
   IsDone (perform t) = IsAnswerOf input old new old_errors new_errors status t
   IsDone (explain (Some a)) = IsDisplay remaining Gives old new old_errors new_errors status a
   IsDone (races (Some a)) = IsRacesDisplay remaining Gives old new old_errors new_errors status a
+  IsDone (history (Some a)) = IsHistoryOutcome remaining Gives old new old_errors new_errors status a
   IsDone (run (Some a)) = IsRunAnswer remaining Gives old new old_errors new_errors status a
-  IsDone (check names) = IsCheckOutcome remaining Gives old new old_errors new_errors status names
+  IsDone (check a) = IsCheckOutcome remaining Gives old new old_errors new_errors status a
   IsDone (why_held (Some a)) = IsHeldOutcome remaining Gives old new old_errors new_errors status a
   IsDone (explain None) = IsUsageTold old new status
   IsDone (races None) = IsUsageTold old new status
+  IsDone (history None) = IsUsageTold old new status
   IsDone (run None) = IsUsageTold old new status
   IsDone (why_held None) = IsUsageTold old new status

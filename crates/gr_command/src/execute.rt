@@ -8,20 +8,22 @@ ghost use Rattle.gr_report.specs.FaultText.{fault_line};
 ghost use Rattle.gr_report.specs.Putting.{AppendsPrefix};
 ghost use Rattle.gr_report.specs.Whole.{whole_of};
 ghost use Rattle.gr_races.specs.FaultText.{races_fault_line};
-ghost use Rattle.gr_arguments.specs.Asked.{Asked, AsksTo, asked_of, event_of, races_of, run_of, word_of};
+ghost use Rattle.gr_arguments.specs.Asked.{Asked, AsksTo, asked_of, check_of, event_of, history_of, races_of, run_of, word_of};
 ghost use Rattle.gr_arguments.specs.Commands.{AreHelp, AreWrong, IsHelp, IsWrongUsage, faults};
-ghost use Rattle.gr_command.specs.Answers.{IsAnswerOf, IsCheckOutcome, IsDisplay, IsDone, IsFaultTold, IsHeldOutcome, IsRacesDisplay, IsRunAnswer};
+ghost use Rattle.gr_command.specs.Answers.{IsAnswerOf, IsCheckOutcome, IsDisplay, IsDone, IsFaultTold, IsHeldOutcome, IsHistoryOutcome, IsRacesDisplay, IsRunAnswer};
 ghost use Rattle.gr_command.specs.Statuses.{check_status, fault_status, race_status, races_fault_status, IsReportStatus};
 
 use crate::running::run_files;
-use crate::showing::{show_word, tell_why_held};
+use crate::showing::{show_word, tell_history, tell_why_held};
 use crate::status::{
     FAILED, NOTHING, USAGE, WANTING, status_of, status_of_check, status_of_race,
     status_of_races_fault, status_of_report,
 };
 use clap::Error;
 use clap::error::ErrorKind;
-use gr_arguments::request::{Inquiry, Listing, Plan, Question, Request, Task};
+use gr_arguments::request::{
+    Inquiry, Inspection, Listing, Plan, Question, Recall, Request, Task,
+};
 use gr_arguments::request_of;
 use gr_check::check_files;
 use gr_races::fault::{RacesFault, write_races_fault};
@@ -47,6 +49,12 @@ For more information, try '--help'.\n";
 const MISCOUNTED: &[u8] = b"\
 error: N of --most is no number below 4294967296 in decimal digits\n\n\
 Usage: gpurace races [OPTIONS] <FILE>...\n\n\
+For more information, try '--help'.\n";
+
+const UNNAMED: &[u8] = b"\
+error: SPACE and WORD name no word of memory: SPACE is g, or l with a group from 0 to 63 as in l3, and WORD is a number \
+below 4294967296 in decimal digits\n\n\
+Usage: gpurace history <SPACE> <WORD> <FILE>...\n\n\
 For more information, try '--help'.\n";
 
 const MISCONFIGURED: &[u8] = b"\
@@ -253,6 +261,20 @@ fn inquire<T: Read + Drop, O: Fn(&str) -> io::Result<T>, W: Write, E: Write>(
     conclude_showing(tell_why_held(alloc, inquiry, opener, writer), errors)
 }
 
+/// Tells of all accesses to a word of the launch whose streams are in files, and gives the exit status.
+fn recall<T: Read + Drop, O: Fn(&str) -> io::Result<T>, W: Write, E: Write>(
+    alloc: Global,
+    recall: &Recall<'_>,
+    opener: O,
+    writer: &mut W,
+    errors: &mut E,
+) -> u8
+    requires { O.IsAlwaysCallable opener }
+    ensures { IsHistoryOutcome T.remaining (FnReturnsAt O.Fn opener) (W.contents writer.old) (W.contents writer.new) (E.contents errors.old) (E.contents errors.new) result (history_of recall.now) }
+{
+    conclude_showing(tell_history(alloc, recall, opener, writer), errors)
+}
+
 /// Runs the launch whose streams are in files, and gives the exit status.
 fn run<H, T, O, W, E>(
     rt: H,
@@ -307,11 +329,13 @@ where
         Request::Perform(task) => perform(alloc, task, reader, writer, errors),
         Request::Explain(Some(question)) => show(alloc, &question, opener, writer, errors),
         Request::Races(Some(listing)) => list(alloc, &listing, opener, writer, errors),
+        Request::History(Some(word)) => recall(alloc, &word, opener, writer, errors),
         Request::Run(Some(plan)) => run(rt, alloc, &plan, opener, writer, errors),
-        Request::Check(files) => check(alloc, files.as_slice(), opener, writer, errors),
+        Request::Check(inspection) => check(alloc, &inspection, opener, writer, errors),
         Request::WhyHeld(Some(inquiry)) => inquire(alloc, &inquiry, opener, writer, errors),
         Request::Explain(None) => explain_misuse(MISNAMED, errors),
         Request::Races(None) => explain_misuse(MISCOUNTED, errors),
+        Request::History(None) => explain_misuse(UNNAMED, errors),
         Request::Run(None) => explain_misuse(MISCONFIGURED, errors),
         Request::WhyHeld(None) => explain_misuse(NO_EVENT, errors),
     }

@@ -1,6 +1,6 @@
 //! A run of two senders in which one growth is refused.
 
-ghost use Rattle.std.specs.Prelude.{◌≡◌, [], All, IfOk, OnOk};
+ghost use Rattle.std.specs.Prelude.{◌≡◌, [], All, IfOk, IfSome, OnOk};
 ghost use Rattle.gr_detector.specs.Runs.{AreReceiptsOf};
 ghost use Rattle.gr_detector_tests.specs.Senders.{IsReceipt, IsSender};
 
@@ -65,17 +65,45 @@ fn room(heap: Heap) -> Result<Vec<Receipt, Heap>, Ended>
 }
 
 /// Adds a receipt to others of the same run, for which there is room.
+///
+/// # Errors
+/// `Wrongly` where there is none.
 fn keep(
     running: &Running<Heap>,
     receipts: &mut Vec<Receipt, Heap>,
-    receipt: Receipt,
+    receipt: Option<Receipt>,
 ) -> Result<(), Ended>
     requires all { AreReceiptsOf running.now receipts.old.items }
-    requires one { IsReceipt running.now receipt }
+    requires one { IfSome receipt (IsReceipt running.now) }
     ensures { OnOk result (AreReceiptsOf running.now receipts.new.items) }
 {
+    let Some(receipt) = receipt else {
+        return Err(Ended::Wrongly);
+    };
     receipts.push(receipt).map_err(|_| Ended::Wrongly)?;
     Ok(())
+}
+
+/// Sends with two senders on threads of their own, and keeps their receipts, for which there is room.
+fn receive_two<R: Threads + Wait + Clock + Copy + Send + Sync + 'static>(
+    rt: &R,
+    running: &Running<Heap>,
+    mut senders: Vec<Sender<Heap>, Heap>,
+    receipts: &mut Vec<Receipt, Heap>,
+) -> Result<(), Ended>
+    requires senders { All (IsSender running.now) senders.items }
+    requires none { receipts.old.items ≡ [] }
+    ensures { OnOk result (AreReceiptsOf running.now receipts.new.items) }
+{
+    let Some(second) = pop_last(running, &mut senders) else {
+        return Err(Ended::Wrongly);
+    };
+    let Some(first) = pop_last(running, &mut senders) else {
+        return Err(Ended::Wrongly);
+    };
+    let (first, second) = send_both_in_turns(rt, first, second);
+    keep(running, receipts, first)?;
+    keep(running, receipts, second)
 }
 
 /// Runs two senders on threads of their own, and gives the report.
@@ -85,14 +113,8 @@ pub fn run_two<R: Threads + Wait + Clock + Copy + Send + Sync + 'static>(
     watch: Noted,
 ) -> Result<Report<Heap>, Ended> {
     let mut receipts = room(heap)?;
-    let (mut senders, running) = start_two(rt, heap, watch)?;
-    let second = pop_last(&running, &mut senders).ok_or(Ended::Wrongly)?;
-    let first = pop_last(&running, &mut senders).ok_or(Ended::Wrongly)?;
-    let (first, second) = send_both_in_turns(&rt, first, second);
-    let first = first.ok_or(Ended::Wrongly)?;
-    let second = second.ok_or(Ended::Wrongly)?;
-    keep(&running, &mut receipts, first)?;
-    keep(&running, &mut receipts, second)?;
+    let (senders, running) = start_two(rt, heap, watch)?;
+    receive_two(&rt, &running, senders, &mut receipts)?;
     match running.finish(&rt, receipts) {
         Ok(report) => Ok(report),
         Err(FinishError::Memory) => Err(Ended::Memory),
