@@ -85,6 +85,26 @@ pub fn report_of<R: Threads>(rt: &R, running: Running, receipts: Vec<Receipt>) -
     running.finish(rt, receipts).ok()
 }
 
+/// The report of a run of one sender, which has this receipt if it was not refused.
+pub fn report_of_one<R: Threads>(
+    rt: &R,
+    alloc: Global,
+    running: Running,
+    receipt: Option<Receipt>,
+) -> Result<Report, Fail>
+    requires { IfSome receipt (IsReceipt running) }
+{
+    let Some(receipt) = receipt else {
+        return Err("refused")?;
+    };
+    let mut receipts = Vec::new(alloc);
+    add(&running, &mut receipts, receipt)?;
+    match report_of(rt, running, receipts) {
+        Some(report) => Ok(report),
+        None => Err("no report")?,
+    }
+}
+
 /// Hands in receipts that are not all. The run and the receipts come back, or `None` where they don't.
 pub fn hand_in<R: Threads>(
     rt: &R,

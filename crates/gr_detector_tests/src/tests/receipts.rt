@@ -1,6 +1,6 @@
 //! Receipts that are not all, and what a sender refuses.
 
-use crate::runs::{add, begin, hand_in, last_of, report_of};
+use crate::runs::{add, begin, hand_in, last_of, report_of, report_of_one};
 use crate::senders::{close, plain, sends};
 use gr_detector::NoWatch;
 use gr_model::event::Kind;
@@ -31,10 +31,8 @@ fn a_cut_stream_is_told(rt: HostRuntime) -> Result<(), Fail> {
     let (mut senders, running) = begin(rt, rt.alloc(), (&[2], 1, 1, 1), watch)?;
     let mut sender = last_of(&running, &mut senders)?;
     assert!(rt; sends(&rt, &mut sender, plain(0, Kind::Write, 16)), "sent");
-    let receipt = close(&rt, sender, true).ok_or("refused")?;
-    let mut receipts = Vec::new(rt.alloc());
-    add(&running, &mut receipts, receipt)?;
-    let report = report_of(&rt, running, receipts).ok_or("no report")?;
+    let receipt = close(&rt, sender, true);
+    let report = report_of_one(&rt, rt.alloc(), running, receipt)?;
     assert_eq!(rt; report.records, 2);
     assert_eq!(rt; report.races.as_slice().len(), 0);
     assert_eq!(rt; report.cut.as_slice(), [0].as_slice());

@@ -35,14 +35,10 @@ fn detected(alloc: Global) -> Result<Report, Fail> {
 /// The words of the races of a report are the global words 50 to 99.
 pub(crate) fn names_the_shared_words<A: Allocator>(report: &Report<A>) -> bool {
     let races = report.races.as_slice();
-    let mut number = 50_u32;
-    for race in races {
-        if *race != Word::Global(number) {
-            return false;
-        }
-        number = number.saturating_add(1);
-    }
     races.len() == 50
+        && (50_u32..)
+            .zip(races)
+            .all(|(number, race)| *race == Word::Global(number))
 }
 
 #[test]

@@ -1,7 +1,7 @@
 //! What is done while streams are still open, and by whom.
 
 use crate::gates::{Apart, Races, Turns, came};
-use crate::runs::{add, begin, last_of, report_of};
+use crate::runs::{begin, last_of, report_of_one};
 use crate::senders::{close, plain, sends};
 use gr_model::event::Kind;
 use std::sync::Arc;
@@ -20,10 +20,8 @@ fn a_race_is_seen_before_any_stream_ends(rt: HostRuntime) -> Result<(), Fail> {
     assert!(rt; sends(&rt, &mut sender, plain(0, Kind::Write, 16)), "sent");
     assert!(rt; sends(&rt, &mut sender, plain(1, Kind::Read, 16)), "sent");
     assert!(rt; came(&watch.seen, 1), "a race is seen");
-    let receipt = close(&rt, sender, false).ok_or("refused")?;
-    let mut receipts = Vec::new(rt.alloc());
-    add(&running, &mut receipts, receipt)?;
-    let report = report_of(&rt, running, receipts).ok_or("no report")?;
+    let receipt = close(&rt, sender, false);
+    let report = report_of_one(&rt, rt.alloc(), running, receipt)?;
     assert_eq!(rt; (report.races.as_slice().len(), report.records), (1, 3));
     Ok(())
 }
@@ -40,10 +38,8 @@ fn two_workers_are_at_work_at_once(rt: HostRuntime) -> Result<(), Fail> {
     let mut sender = last_of(&running, &mut senders)?;
     assert!(rt; sends(&rt, &mut sender, plain(0, Kind::Write, 16)), "sent");
     assert!(rt; sends(&rt, &mut sender, plain(0, Kind::Write, 17)), "sent");
-    let receipt = close(&rt, sender, false).ok_or("refused")?;
-    let mut receipts = Vec::new(rt.alloc());
-    add(&running, &mut receipts, receipt)?;
-    let report = report_of(&rt, running, receipts).ok_or("no report")?;
+    let receipt = close(&rt, sender, false);
+    let report = report_of_one(&rt, rt.alloc(), running, receipt)?;
     assert_eq!(rt; report.records, 3);
     assert_eq!(rt; watch.seconds.load(Ordering::SeqCst), 1);
     assert_eq!(rt; watch.missed.load(Ordering::SeqCst), 0);
@@ -66,10 +62,8 @@ fn the_sequencer_and_a_worker_wait_for_what_comes_later(rt: HostRuntime) -> Resu
     watch.sent.fetch_add(1, Ordering::SeqCst);
     assert!(rt; came(&watch.accesses, 1), "the first access");
     assert!(rt; sends(&rt, &mut sender, plain(0, Kind::Write, 17)), "sent");
-    let receipt = close(&rt, sender, false).ok_or("refused")?;
-    let mut receipts = Vec::new(rt.alloc());
-    add(&running, &mut receipts, receipt)?;
-    let report = report_of(&rt, running, receipts).ok_or("no report")?;
+    let receipt = close(&rt, sender, false);
+    let report = report_of_one(&rt, rt.alloc(), running, receipt)?;
     assert_eq!(rt; report.records, 3);
     assert_eq!(rt; watch.missed.load(Ordering::SeqCst), 0);
     Ok(())
