@@ -147,7 +147,7 @@ fn put_spot_in<W: Write>(
 }
 
 /// The bytes of the file at this place, if there is one.
-fn input_at<A: Allocator>(inputs: &[Vec<u8, A>], place: u64) -> Option<&[u8]>
+pub fn input_at<A: Allocator>(inputs: &[Vec<u8, A>], place: u64) -> Option<&[u8]>
     ensures { option_map (λ b. b.now) result ≡ slice_get (inputs_of inputs.now) place }
 {
     match inputs.get(place as usize) {
@@ -215,8 +215,8 @@ fn put_place<W: Write, A: Allocator>(
 fn put_sentences<W: Write>(writer: &mut W, fault: Fault) -> Result<(), WriteFault>
     ensures { Puts (W.contents writer.old) (W.contents writer.new) result (spec.sentences fault) }
 {
-    put_words(writer, b"wrong: ", wrong(fault))?;
-    put_words(writer, b"right: ", right(fault))
+    put_words(writer, b"wrong: ", wrong(fault).as_bytes())?;
+    put_words(writer, b"right: ", right(fault).as_bytes())
 }
 
 fn put_refusal<W: Write, A: Allocator>(
