@@ -11,12 +11,8 @@ use Rattle.gr_check.specs.Neighbours.{first_above, first_like}
 use Rattle.gr_check.specs.Sentences.{right, wrong}
 use Rattle.gr_check.specs.Spots.{spot}
 use Rattle.gr_json.specs.Lines.{json_line}
+use Rattle.gr_json.specs.Words.{text_data}
 use Rattle.gr_check_json.specs.Counts.{count}
-
--- a name, where there is one
-abbrev pub name_data : Option (List ℕ) → Data
-name_data None = null
-name_data (Some name) = string name
 
 -- the byte of a place in a stream
 abbrev pub byte_data : Option Spot → Data
@@ -35,16 +31,16 @@ record_data (Some (Behind byte)) = null
 -- a stream at fault, its file, and where in it the fault is
 abbrev pub stream_data : ℕ → Option (List ℕ) → Option Spot → Data
 stream_data place file at =
-    object (member (codes "byte") (byte_data at) (member (codes "file") (name_data file) (member (codes "record") (record_data at) (member (codes "stream") (count place) no_members))))
+    object (member (codes "byte") (byte_data at) (member (codes "file") (text_data file) (member (codes "record") (record_data at) (member (codes "stream") (count place) no_members))))
 
 -- a stream at fault, its file, and the one beside which it does not fit
 abbrev pub beside_data : ℕ → Option (List ℕ) → Option (List ℕ) → Data
 beside_data place file beside =
-    object (member (codes "beside") (name_data beside) (member (codes "file") (name_data file) (member (codes "stream") (count place) no_members)))
+    object (member (codes "beside") (text_data beside) (member (codes "file") (text_data file) (member (codes "stream") (count place) no_members)))
 
 -- a group that is missing, and the first file of a greater one
 abbrev pub missing_data : ℕ → Option (List ℕ) → Data
-missing_data g beside = object (member (codes "beside") (name_data beside) (member (codes "group") (count g) no_members))
+missing_data g beside = object (member (codes "beside") (text_data beside) (member (codes "group") (count g) no_members))
 
 -- what a fault is about
 abbrev pub place_data : List (List ℕ) → List (List ℕ) → Fault → Data

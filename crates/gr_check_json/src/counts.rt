@@ -61,7 +61,7 @@ fn counts_value(alloc: Global, traces: &Traces) -> Result<Value, AllocError>
 ///
 /// # Errors
 /// `Memory`: out of memory.
-pub fn counts_json(alloc: Global, traces: &Traces) -> Result<Vec<u8>, Memory>
+pub(crate) fn counts_json(alloc: Global, traces: &Traces) -> Result<Vec<u8>, Memory>
     ensures { IfOk result (λ text. text.items ≡ spec.counts_json traces.now) }
 {
     let value = counts_value(alloc, traces)?;

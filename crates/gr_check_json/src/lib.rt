@@ -4,9 +4,9 @@
 #![tactic(auto)]
 
 mod checking;
-pub mod counts;
+mod counts;
 mod files;
-pub mod refusals;
+mod refusals;
 
 pub use checking::check_json;
 pub use files::check_files_json;

@@ -11,24 +11,12 @@ use gr_check::sentences::{right, wrong};
 use gr_check::spot::{Spot, spot_of};
 use gr_check::text::input_at;
 use gr_json::lines::push_value;
+use gr_json::words::text_value;
 use gr_model::memory::Memory;
 use gr_record::error::RecordError;
 use gr_record::fault::Fault;
 use serde_json::{Value, json};
 use std::alloc::{AllocError, Global};
-
-/// A name, or null where there is none.
-///
-/// # Errors
-/// `AllocError`: out of memory.
-fn name_value(alloc: Global, name: Option<&str>) -> Result<Value, AllocError>
-    ensures { IfOk result (λ v. view v ≡ spec.name_data (option_map (λ s. s.now) name.entry)) }
-{
-    match name {
-        None => Ok(Value::Null),
-        Some(name) => Value::try_from_str(alloc, name),
-    }
-}
 
 /// The byte of a place in a stream.
 fn byte_value(spot: Option<Spot>) -> Value
@@ -76,7 +64,7 @@ fn stream_value(
 {
     let byte = byte_value(spot);
     let record = record_value(spot);
-    let file = name_value(alloc, file)?;
+    let file = text_value(alloc, file)?;
     json!(in alloc; {"byte": byte, "file": file, "record": record, "stream": place})
 }
 
@@ -92,8 +80,8 @@ fn beside_value(
 ) -> Result<Value, AllocError>
     ensures { IfOk result (λ v. view v ≡ spec.beside_data place (option_map (λ s. s.now) file.entry) (option_map (λ s. s.now) beside.entry)) }
 {
-    let file = name_value(alloc, file)?;
-    let beside = name_value(alloc, beside)?;
+    let file = text_value(alloc, file)?;
+    let beside = text_value(alloc, beside)?;
     json!(in alloc; {"beside": beside, "file": file, "stream": place})
 }
 
@@ -104,7 +92,7 @@ fn beside_value(
 fn missing_value(alloc: Global, group: u16, beside: Option<&str>) -> Result<Value, AllocError>
     ensures { IfOk result (λ v. view v ≡ spec.missing_data group (option_map (λ s. s.now) beside.entry)) }
 {
-    let beside = name_value(alloc, beside)?;
+    let beside = text_value(alloc, beside)?;
     json!(in alloc; {"beside": beside, "group": group})
 }
 
@@ -174,7 +162,7 @@ fn refusal_value(
 ///
 /// # Errors
 /// `Memory`: out of memory.
-pub fn refusal_json(
+pub(crate) fn refusal_json(
     alloc: Global,
     names: &[&str],
     inputs: &[Vec<u8>],

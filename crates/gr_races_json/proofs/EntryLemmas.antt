@@ -1,7 +1,7 @@
 -- The values of races have no float, and their lines stand in the order of the entries.
 use Rattle.std.proofs.Common.{◌≡◌, ◌<◌, ◌≤◌, ◌+◌, ℕ, false, List, [], ◌∷◌, ◌++◌, Option, None, Some, ap, arith, get_or, length, map, refl, slice_get, sym, take, ◌∙◌}
 use Rattle.std.specs.List.{flat_map}
-use Rattle.std.proofs.lemmas.List.{flat_map_more, take_all, take_more}
+use Rattle.std.proofs.lemmas.List.{flat_map_more, length-map, take_all, take_more}
 use Rattle.serde_json.specs.Written.{has_float, items_have_float}
 use Rattle.serde_json.specs.View.{items_of}
 use Rattle.gr_model.specs.declared.event.EventId.{EventId}
@@ -11,18 +11,20 @@ use Rattle.gr_model.specs.declared.race.Race.{Race}
 use Rattle.gr_causes.specs.declared.cause.Cause.{Cause}
 use Rattle.gr_causes.specs.declared.cause.Cause.TheVariants.{Flags, Scope, Divergence, NoBarrier, NoHandOver}
 use Rattle.gr_json.specs.Lines.{json_line}
-use Rattle.gr_json.specs.Words.{word_data}
+use Rattle.gr_json.specs.Words.{text_data, word_data}
 use Rattle.gr_places.specs.declared.places.Placed.TheVariants.{Event}
 use Rattle.gr_places.specs.SideLines as lines
 use Rattle.gr_races.specs.declared.listing.KindEntry.{KindEntry}
 use Rattle.gr_races.specs.declared.runs.Run.{Run}
 use Rattle.gr_races.specs.Listing.{Entry, entry_of}
+use Rattle.gr_races.specs.RacesText.{at_most}
 use Rattle.gr_races.specs.Sides.{SidesSaid}
 use Rattle.gr_races.specs.Telling.{with_causes}
+use Rattle.gr_races.proofs.ListingLemmas.{first_entries}
 use Rattle.gr_races.proofs.TellingLemmas.{count_shown, shown_at}
 use Rattle.gr_races_json.specs.Causes.{CausesAreAsInTheText, cause_data}
 use Rattle.gr_races_json.specs.Kinds.{run_data}
-use Rattle.gr_races_json.specs.Races.{access_data, buffer_data, entry_data, first_data, race_data, text_data}
+use Rattle.gr_races_json.specs.Races.{access_data, buffer_data, end_data, entry_data, first_data, race_data, races_json}
 
 word_plain : (w : Word) → has_float (word_data w) ≡ false
 word_plain (Global n) = refl
@@ -88,3 +90,18 @@ module _ {Z : Type 0} (s : SidesSaid) (listed : List (KindEntry Z)) (causes : Li
   all_lines le =
       let shown = with_causes (map entry_of listed) causes in
       so_far ∙ ap (λ (xs : List (Entry × Option Cause)). before ++ flat_map (entry_line s) xs) (take_all i shown (omega (arith, le, count_shown listed causes)))
+
+-- the lines of what is shown, and the end
+pub whole_of_races : {Z : Type 0} (s : SidesSaid) (most : Option ℕ) (listed shown : List (KindEntry Z)) (causes : List Cause) (races : ℕ) (begun text whole : List ℕ)
+    → begun ≡ []
+    → shown ≡ at_most most listed
+    → text ≡ begun ++ flat_map (λ x. json_line (entry_data s x)) (with_causes (map entry_of shown) causes)
+    → whole ≡ text ++ json_line (end_data (length listed) races)
+    → whole ≡ races_json s most causes (map entry_of listed) races
+whole_of_races s most listed shown causes races begun text whole none is lines ended =
+    ended
+    ∙ ap (λ (v : List ℕ). v ++ json_line (end_data (length listed) races))
+    (lines
+    ∙ ap (λ (v : List ℕ). v ++ flat_map (entry_line s) (with_causes (map entry_of shown) causes)) none
+    ∙ ap (λ (es : List Entry). flat_map (entry_line s) (with_causes es causes)) (ap (map entry_of) is ∙ first_entries most listed))
+    ∙ ap (λ (n : ℕ). flat_map (entry_line s) (with_causes (at_most most (map entry_of listed)) causes) ++ json_line (end_data n races)) (sym (length-map listed entry_of))

@@ -7,7 +7,7 @@ use Rattle.gr_model.specs.declared.event.EventId.{EventId}
 use Rattle.gr_model.specs.declared.race.Race.{Race}
 use Rattle.gr_causes.specs.declared.cause.Cause.{Cause}
 use Rattle.gr_json.specs.Lines.{json_line}
-use Rattle.gr_json.specs.Words.{word_data}
+use Rattle.gr_json.specs.Words.{text_data, word_data}
 use Rattle.gr_places.specs.declared.places.Placed.TheVariants.{Event}
 use Rattle.gr_places.specs.SideLines as lines
 use Rattle.gr_races.specs.Listing.{Entry}
@@ -16,11 +16,6 @@ use Rattle.gr_races.specs.Sides.{SidesSaid}
 use Rattle.gr_races.specs.Telling.{with_causes}
 use Rattle.gr_races_json.specs.Causes.{cause_data}
 use Rattle.gr_races_json.specs.Kinds.{kind_data, runs_data}
-
--- a text of a side file, where there is one
-abbrev pub text_data : Option (List ℕ) → Data
-text_data None = null
-text_data (Some text) = string text
 
 -- an event, and where it stands in the source
 abbrev pub access_data : SidesSaid → EventId → Data

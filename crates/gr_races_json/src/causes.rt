@@ -59,7 +59,11 @@ fn told_value(alloc: Global, word: Word, cause: Cause) -> Result<Value, AllocErr
 ///
 /// # Errors
 /// `AllocError`: out of memory.
-pub fn cause_value(alloc: Global, word: Word, cause: Option<Cause>) -> Result<Value, AllocError>
+pub(crate) fn cause_value(
+    alloc: Global,
+    word: Word,
+    cause: Option<Cause>,
+) -> Result<Value, AllocError>
     ensures { IfOk result (λ v. view v ≡ spec.cause_data word cause) }
 {
     match cause {

@@ -36,7 +36,7 @@ fn operation_name(operation: Operation) -> &'static str
 ///
 /// # Errors
 /// `AllocError`: out of memory.
-pub fn kind_value(alloc: Global, kind: RaceKind) -> Result<Value, AllocError>
+pub(crate) fn kind_value(alloc: Global, kind: RaceKind) -> Result<Value, AllocError>
     ensures { IfOk result (λ v. view v ≡ spec.kind_data kind) }
 {
     let first = operation_name(kind.first);
@@ -74,7 +74,7 @@ fn run_values(alloc: Global, runs: &[Run]) -> Result<Vec<Value>, AllocError>
 ///
 /// # Errors
 /// `AllocError`: out of memory.
-pub fn runs_value(alloc: Global, runs: &[Run]) -> Result<Value, AllocError>
+pub(crate) fn runs_value(alloc: Global, runs: &[Run]) -> Result<Value, AllocError>
     ensures { IfOk result (λ v. view v ≡ spec.runs_data runs.now) }
 {
     let values = run_values(alloc, runs)?;

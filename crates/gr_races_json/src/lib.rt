@@ -3,12 +3,13 @@
 //! The lines are docs/FORMATS.md, "JSON".
 #![tactic(auto)]
 
-pub mod causes;
-pub mod files;
-pub mod kinds;
+mod causes;
+mod files;
+mod kinds;
 pub mod laws;
-pub mod pairs;
-pub mod races;
+mod pairs;
+mod races;
 mod show;
 
+pub use files::show_races_json_of_files;
 pub use show::show_races_json;

@@ -1,6 +1,6 @@
 //! A racing pair with what side files say of it and its cause, as JSON.
 
-ghost use Rattle.std.specs.Prelude.{◌≡◌, IfOk, option_map};
+ghost use Rattle.std.specs.Prelude.{◌≡◌, IfOk};
 ghost use Rattle.serde_json.specs.View.{view};
 ghost use Rattle.gr_places.specs.SideLines.{element, element_of as element_said};
 ghost use Rattle.gr_races.specs.Sides.{sides_said};
@@ -8,7 +8,7 @@ ghost use Rattle.gr_races_json.specs.Races as spec;
 
 use crate::causes::cause_value;
 use gr_causes::cause::Cause;
-use gr_json::words::word_value;
+use gr_json::words::{text_value, word_value};
 use gr_model::event::{EventId, Word};
 use gr_model::race::Race;
 use gr_places::buffers::{Element, element_of};
@@ -16,19 +16,6 @@ use gr_places::places::{Placed, place_of};
 use gr_races::sides::Sides;
 use serde_json::{Value, json};
 use std::alloc::{AllocError, Global};
-
-/// A text, or null where there is none.
-///
-/// # Errors
-/// `AllocError`: out of memory.
-fn text_value(alloc: Global, text: Option<&str>) -> Result<Value, AllocError>
-    ensures { IfOk result (λ v. view v ≡ spec.text_data (option_map (λ s. s.now) text.entry)) }
-{
-    match text {
-        None => Ok(Value::Null),
-        Some(text) => Value::try_from_str(alloc, text),
-    }
-}
 
 /// An event, and where it stands in the source.
 ///
@@ -99,7 +86,7 @@ fn race_value(
 ///
 /// # Errors
 /// `AllocError`: out of memory.
-pub fn first_value(
+pub(crate) fn first_value(
     alloc: Global,
     sides: &Sides<'_>,
     cause: Option<Cause>,

@@ -102,7 +102,7 @@ fn push_end(alloc: Global, text: &mut Vec<u8>, kinds: usize, races: usize) -> Re
 ///
 /// # Errors
 /// `Memory`: out of memory.
-pub fn races_json(
+pub(crate) fn races_json(
     alloc: Global,
     sides: &Sides<'_>,
     entries: &[KindEntry],

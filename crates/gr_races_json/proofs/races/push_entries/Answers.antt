@@ -1,4 +1,5 @@
-use Rattle.std.proofs.Common.{◌∙◌, ◌++◌, ap, slice_get}
+use Rattle.std.proofs.Common.{◌∙◌, ◌++◌, Option, ap, slice_get}
+use Rattle.gr_causes.specs.declared.cause.Cause.{Cause}
 use Rattle.gr_json.specs.Lines.{json_line}
 use Rattle.gr_races.specs.declared.listing.KindEntry.{KindEntry}
 use Rattle.gr_races.specs.Listing.{entry_of}
@@ -13,8 +14,9 @@ loop-place-preserved c =
     let entries = c.args.entries.now in
     let causes = c.args.causes.now in
     let i = c.loop-place.place in
-    let told = rw c.cause_at.ensures at c.in_ok-push_entry.ensures in
-    told
+    let e = entry_of c.index-entries-place.result in
+    c.in_ok-push_entry.ensures
+    ∙ ap (λ (o : Option Cause). c.loop-place.text.items ++ json_line (entry_data s (e, o))) c.cause_at.ensures
     ∙ ap (λ (x : KindEntry _). c.loop-place.text.items ++ json_line (entry_data s (entry_of x, slice_get causes i))) c.index-entries-place.is
     ∙ line_added s entries causes i _ _ c.loop-place.invariant c.index-entries-place.result c.loop-place-test.true
 
