@@ -17,7 +17,7 @@ use std::alloc::Allocator;
 use std::io::{Read, Write};
 
 /// Whether a fault is one of reading or of memory, which no bytes determine.
-fn is_outside(fault: Fault) -> bool
+pub fn is_outside(fault: Fault) -> bool
     ensures outside { IsTrue result → IsOutside fault }
     ensures inside { IsFalse result → ¬ IsOutside fault }
 {
@@ -37,7 +37,10 @@ fn is_outside(fault: Fault) -> bool
 }
 
 /// The launch whose streams these inputs are, one each.
-fn launch_of<A: Allocator + Copy>(alloc: A, inputs: &[Vec<u8, A>]) -> Result<Traces<A>, Fault>
+///
+/// # Errors
+/// The first fault of the inputs, in the order of docs/FORMATS.md; `Memory`.
+pub fn launch_of<A: Allocator + Copy>(alloc: A, inputs: &[Vec<u8, A>]) -> Result<Traces<A>, Fault>
     ensures launch { IfOk result (λ t. ReadsEach (inputs_of inputs.now) t) }
     ensures accepted { IfOk result (λ t. AreAccepted t) }
     ensures fault { IfErr result (λ f. IsEachFault (inputs_of inputs.now) f) }

@@ -4,14 +4,14 @@
 //! The text is docs/FORMATS.md, "Check".
 #![tactic(auto)]
 
-mod checking;
+pub mod checking;
 pub mod counts;
 mod files;
 pub mod laws;
-mod neighbours;
-mod sentences;
+pub mod neighbours;
+pub mod sentences;
 pub mod spot;
-mod text;
+pub mod text;
 
 pub use checking::check;
 pub use files::check_files;

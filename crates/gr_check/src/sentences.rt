@@ -8,162 +8,162 @@ use gr_record::error::RecordError;
 use gr_record::fault::Fault;
 
 /// What is wrong in a stream.
-fn wrong_in_stream(error: RecordError) -> &'static [u8]
+fn wrong_in_stream(error: RecordError) -> &'static str
     ensures { result.now ≡ spec.wrong_in_stream error }
 {
     match error {
-        RecordError::BadMagic => b"it begins neither with GRT1 nor with GRT2",
+        RecordError::BadMagic => "it begins neither with GRT1 nor with GRT2",
         RecordError::BadHeader => {
-            b"the header's group is above 63, or its number of work-items is 0 or above 256"
+            "the header's group is above 63, or its number of work-items is 0 or above 256"
         }
-        RecordError::BadKind => b"byte 0 of the record is above 6",
+        RecordError::BadKind => "byte 0 of the record is above 6",
         RecordError::BadField(_) => {
-            b"this byte of the record has a value that a record of its kind may not have there"
+            "this byte of the record has a value that a record of its kind may not have there"
         }
-        RecordError::BadOrder => b"a load releases, or a store acquires",
+        RecordError::BadOrder => "a load releases, or a store acquires",
         RecordError::BadName => {
-            b"a name is out of range, not above the one before it, behind a place that is not used, or in a record that acquires nothing"
+            "a name is out of range, not above the one before it, behind a place that is not used, or in a record that acquires nothing"
         }
         RecordError::UnknownItem => {
-            b"the record's work-item is not below the header's number of work-items"
+            "the record's work-item is not below the header's number of work-items"
         }
-        RecordError::AfterEnd => b"bytes follow the end of the stream",
+        RecordError::AfterEnd => "bytes follow the end of the stream",
         RecordError::Truncated => {
-            b"the file is over before the header, this record or the end is whole"
+            "the file is over before the header, this record or the end is whole"
         }
-        RecordError::TooManyRecords => b"the record is one more than a stream may have",
-        RecordError::Memory => b"memory ran out",
+        RecordError::TooManyRecords => "the record is one more than a stream may have",
+        RecordError::Memory => "memory ran out",
     }
 }
 
 /// What is wrong with the sizes of groups.
-fn wrong_in_shape(error: ShapeError) -> &'static [u8]
+fn wrong_in_shape(error: ShapeError) -> &'static str
     ensures { result.now ≡ spec.wrong_in_shape error }
 {
     match error {
-        ShapeError::NoGroups => b"there is no stream",
-        ShapeError::TooManyGroups => b"there are more than 64 groups",
-        ShapeError::BadItems(_) => b"the group has no work-items, or more than 256",
-        ShapeError::TooManyItems => b"there are more than 16384 work-items in all",
+        ShapeError::NoGroups => "there is no stream",
+        ShapeError::TooManyGroups => "there are more than 64 groups",
+        ShapeError::BadItems(_) => "the group has no work-items, or more than 256",
+        ShapeError::TooManyItems => "there are more than 16384 work-items in all",
     }
 }
 
 /// What is wrong, without the end of the line.
-pub(crate) fn wrong(fault: Fault) -> &'static [u8]
+pub fn wrong(fault: Fault) -> &'static str
     ensures { result.now ≡ spec.wrong fault }
 {
     match fault {
         Fault::Stream(_, error) => wrong_in_stream(error),
-        Fault::SameGroup(_) => b"an earlier stream is of the same group",
-        Fault::OtherLaunch(_) => b"the launch number is not that of the first stream",
-        Fault::MissingGroup(_) => b"there is a stream of a greater group, and none of this one",
+        Fault::SameGroup(_) => "an earlier stream is of the same group",
+        Fault::OtherLaunch(_) => "the launch number is not that of the first stream",
+        Fault::MissingGroup(_) => "there is a stream of a greater group, and none of this one",
         Fault::Shape(error) => wrong_in_shape(error),
-        Fault::BadLine(_) => b"the line is not one that its place needs",
-        Fault::NoEnd => b"the text is over inside a stream",
-        Fault::LongStream(_) => b"the line is one record more than a stream may have",
-        Fault::Read => b"the input could not be read, or a file could not be opened",
-        Fault::Write => b"the output could not be written",
-        Fault::Memory => b"memory ran out",
-        Fault::Threads => b"a thread could not be started",
+        Fault::BadLine(_) => "the line is not one that its place needs",
+        Fault::NoEnd => "the text is over inside a stream",
+        Fault::LongStream(_) => "the line is one record more than a stream may have",
+        Fault::Read => "the input could not be read, or a file could not be opened",
+        Fault::Write => "the output could not be written",
+        Fault::Memory => "memory ran out",
+        Fault::Threads => "a thread could not be started",
     }
 }
 
 /// What would be right in the byte at this place of a record.
-fn right_at(place: u8) -> &'static [u8]
+fn right_at(place: u8) -> &'static str
     ensures { result.now ≡ spec.right_at place }
 {
     match place {
         1 => {
-            b"byte 1 is the memory of an access, 0 or 1; the flags of a barrier, 0 to 3; of an end 1 where records were lost, else 0"
+            "byte 1 is the memory of an access, 0 or 1; the flags of a barrier, 0 to 3; of an end 1 where records were lost, else 0"
         }
-        2 => b"byte 2 is the scope of an atomic access, 1 or 2, whatever its memory is, and else 0",
-        3 => b"byte 3 is the order of an atomic access, 1 to 4, and else 0",
-        6 | 7 => b"the bytes 6 and 7 are 0",
+        2 => "byte 2 is the scope of an atomic access, 1 or 2, whatever its memory is, and else 0",
+        3 => "byte 3 is the order of an atomic access, 1 to 4, and else 0",
+        6 | 7 => "the bytes 6 and 7 are 0",
         _ => {
-            b"the bytes 4, 5 and 8 to 11 of an end are 0, since an end is of no work-item and has no word"
+            "the bytes 4, 5 and 8 to 11 of an end are 0, since an end is of no work-item and has no word"
         }
     }
 }
 
 /// What would be right in a stream.
-fn right_in_stream(error: RecordError) -> &'static [u8]
+fn right_in_stream(error: RecordError) -> &'static str
     ensures { result.now ≡ spec.right_in_stream error }
 {
     match error {
         RecordError::BadMagic => {
-            b"each file begins with the header of a stream; a trace as text is packed first, by gpurace pack"
+            "each file begins with the header of a stream; a trace as text is packed first, by gpurace pack"
         }
         RecordError::BadHeader => {
-            b"a launch has at most 64 groups, from 0 on, each with 1 to 256 work-items; a larger one is recorded with fewer or smaller groups"
+            "a launch has at most 64 groups, from 0 on, each with 1 to 256 work-items; a larger one is recorded with fewer or smaller groups"
         }
         RecordError::BadKind => {
-            b"kinds are 0 to 6; often the records before it have not the length that the header's version has, 20 bytes in GRT1 and 44 in GRT2"
+            "kinds are 0 to 6; often the records before it have not the length that the header's version has, 20 bytes in GRT1 and 44 in GRT2"
         }
         RecordError::BadField(place) => right_at(place),
         RecordError::BadOrder => {
-            b"a load has order 1 or 2 and a store 1 or 3; an operation of memory_order_seq_cst is written as acquire, release or both, by what it does"
+            "a load has order 1 or 2 and a store 1 or 3; an operation of memory_order_seq_cst is written as acquire, release or both, by what it does"
         }
         RecordError::BadName => {
-            b"names stand in the first places, ascending by group, item and number, and only where the order is acquire or both; each place that is not used has eight bytes ff"
+            "names stand in the first places, ascending by group, item and number, and only where the order is acquire or both; each place that is not used has eight bytes ff"
         }
         RecordError::UnknownItem => {
-            b"bytes 4 and 5 are the work-item by its place in the group, from 0; often it is the global number that was written"
+            "bytes 4 and 5 are the work-item by its place in the group, from 0; often it is the global number that was written"
         }
         RecordError::AfterEnd => {
-            b"each file has one stream, and its end is its last record; several streams one after another are read by gpurace replay"
+            "each file has one stream, and its end is its last record; several streams one after another are read by gpurace replay"
         }
         RecordError::Truncated => {
-            b"the last record is an end, whose byte 1 is 1 where records were lost; often the producer was stopped, or is still writing"
+            "the last record is an end, whose byte 1 is 1 where records were lost; often the producer was stopped, or is still writing"
         }
         RecordError::TooManyRecords => {
-            b"a stream has at most 16777216 records, its end included; where the rest is left out, byte 1 of the end is 1"
+            "a stream has at most 16777216 records, its end included; where the rest is left out, byte 1 of the end is 1"
         }
-        RecordError::Memory => b"the same needs more memory",
+        RecordError::Memory => "the same needs more memory",
     }
 }
 
 /// What would be right in the sizes of groups.
-fn right_in_shape(error: ShapeError) -> &'static [u8]
+fn right_in_shape(error: ShapeError) -> &'static str
     ensures { result.now ≡ spec.right_in_shape error }
 {
     match error {
-        ShapeError::NoGroups => b"there is one stream at least; often the program before failed",
+        ShapeError::NoGroups => "there is one stream at least; often the program before failed",
         ShapeError::TooManyGroups => {
-            b"a launch has at most 64 groups; a larger one is recorded with fewer groups"
+            "a launch has at most 64 groups; a larger one is recorded with fewer groups"
         }
         ShapeError::BadItems(_) => {
-            b"a group has 1 to 256 work-items; a larger launch is recorded with smaller groups"
+            "a group has 1 to 256 work-items; a larger launch is recorded with smaller groups"
         }
         ShapeError::TooManyItems => {
-            b"a launch has at most 16384 work-items; a larger one is recorded with fewer or smaller groups"
+            "a launch has at most 16384 work-items; a larger one is recorded with fewer or smaller groups"
         }
     }
 }
 
 /// What would be right, without the end of the line.
-pub(crate) fn right(fault: Fault) -> &'static [u8]
+pub fn right(fault: Fault) -> &'static str
     ensures { result.now ≡ spec.right fault }
 {
     match fault {
         Fault::Stream(_, error) => right_in_stream(error),
         Fault::SameGroup(_) => {
-            b"each group has one stream; often a file is given twice, or files of two launches are mixed"
+            "each group has one stream; often a file is given twice, or files of two launches are mixed"
         }
         Fault::OtherLaunch(_) => {
-            b"all streams of a launch have the same launch number; often a file of an earlier launch was left among the others"
+            "all streams of a launch have the same launch number; often a file of an earlier launch was left among the others"
         }
         Fault::MissingGroup(_) => {
-            b"the groups are 0, 1, 2 and so on without a gap, and each has a stream, also where it did nothing; often a file is not given"
+            "the groups are 0, 1, 2 and so on without a gap, and each has a stream, also where it did nothing; often a file is not given"
         }
         Fault::Shape(error) => right_in_shape(error),
         Fault::BadLine(_) => {
-            b"a header stands first and after each end, and else a record; tokens are separated by one space"
+            "a header stands first and after each end, and else a record; tokens are separated by one space"
         }
-        Fault::NoEnd => b"each stream ends in a line end, or end cut where records were lost",
-        Fault::LongStream(_) => b"a stream has at most 16777216 records, its end included",
-        Fault::Read => b"each file is there and may be read",
-        Fault::Write => b"there is room for the output, and somebody reads it",
-        Fault::Memory => b"the same needs more memory",
-        Fault::Threads => b"the system allows more threads",
+        Fault::NoEnd => "each stream ends in a line end, or end cut where records were lost",
+        Fault::LongStream(_) => "a stream has at most 16777216 records, its end included",
+        Fault::Read => "each file is there and may be read",
+        Fault::Write => "there is room for the output, and somebody reads it",
+        Fault::Memory => "the same needs more memory",
+        Fault::Threads => "the system allows more threads",
     }
 }

@@ -147,7 +147,7 @@ fn put_spot_in<W: Write>(
 }
 
 /// The bytes of the file at this place, if there is one.
-fn input_at<A: Allocator>(inputs: &[Vec<u8, A>], place: u64) -> Option<&[u8]>
+pub fn input_at<A: Allocator>(inputs: &[Vec<u8, A>], place: u64) -> Option<&[u8]>
     ensures { option_map (λ b. b.now) result ≡ slice_get (inputs_of inputs.now) place }
 {
     match inputs.get(place as usize) {
@@ -212,11 +212,18 @@ fn put_place<W: Write, A: Allocator>(
     }
 }
 
+/// Writes a word, a sentence and the end of the line.
+fn put_sentence<W: Write>(writer: &mut W, before: &[u8], sentence: &str) -> Result<(), WriteFault>
+    ensures { Puts (W.contents writer.old) (W.contents writer.new) result (spec.words_line before.now sentence.now) }
+{
+    put_words(writer, before, sentence.as_bytes())
+}
+
 fn put_sentences<W: Write>(writer: &mut W, fault: Fault) -> Result<(), WriteFault>
     ensures { Puts (W.contents writer.old) (W.contents writer.new) result (spec.sentences fault) }
 {
-    put_words(writer, b"wrong: ", wrong(fault))?;
-    put_words(writer, b"right: ", right(fault))
+    put_sentence(writer, b"wrong: ", wrong(fault))?;
+    put_sentence(writer, b"right: ", right(fault))
 }
 
 fn put_refusal<W: Write, A: Allocator>(

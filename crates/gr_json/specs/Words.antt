@@ -1,7 +1,7 @@
--- Words of memory and events as JSON.
+-- Words of memory, events and texts as JSON.
 -- Source: docs/FORMATS.md, "JSON".
-use Rattle.std.specs.Prelude.{codes}
-use Rattle.serde_json.specs.Data.{Data, member, no_members, number, object, string, unsigned}
+use Rattle.std.specs.Prelude.{ℕ, List, Option, None, Some, codes}
+use Rattle.serde_json.specs.Data.{Data, member, no_members, null, number, object, string, unsigned}
 use Rattle.gr_model.specs.declared.event.EventId.{EventId}
 use Rattle.gr_model.specs.declared.event.Word.{Word}
 use Rattle.gr_model.specs.declared.event.Word.TheVariants.{Global, Local}
@@ -16,3 +16,8 @@ word_data (Local group n) =
 abbrev pub event_data : EventId → Data
 event_data e =
     object (member (codes "group") (number (unsigned e.at.group)) (member (codes "index") (number (unsigned e.index)) (member (codes "item") (number (unsigned e.at.item)) no_members)))
+
+-- a text, where there is one
+abbrev pub text_data : Option (List ℕ) → Data
+text_data None = null
+text_data (Some text) = string text

@@ -97,7 +97,7 @@ fn details_value(alloc: Global, event: EventId, details: &Details) -> Result<Val
 }
 
 /// The name of a cause.
-fn cause_name(cause: Cause) -> &'static str
+pub fn cause_name(cause: Cause) -> &'static str
     ensures { result.now ≡ spec.cause_name cause }
 {
     match cause {

@@ -2,7 +2,7 @@
 #![tactic(auto)]
 
 pub mod account;
-mod lines;
+pub mod lines;
 pub mod race;
 pub mod report;
 pub mod show;

@@ -17,7 +17,7 @@ use std::io::Write;
 ///
 /// # Errors
 /// `Memory`: out of memory.
-pub(crate) fn push_value(alloc: Global, text: &mut Vec<u8>, value: &Value) -> Result<(), Memory>
+pub fn push_value(alloc: Global, text: &mut Vec<u8>, value: &Value) -> Result<(), Memory>
     requires { has_float (view value.now) ≡ false }
     ensures { OnOk result (text.new.items ≡ text.old.items ++ json_line (view value.now)) }
 {
@@ -31,7 +31,7 @@ pub(crate) fn push_value(alloc: Global, text: &mut Vec<u8>, value: &Value) -> Re
 ///
 /// # Errors
 /// `WriteFault` if the writer fails, which has then taken a prefix of the text.
-pub(crate) fn write_text<W: Write>(writer: &mut W, text: &[u8]) -> Result<(), WriteFault>
+pub fn write_text<W: Write>(writer: &mut W, text: &[u8]) -> Result<(), WriteFault>
     ensures whole { OnOk result (Appends (W.contents writer.old) (W.contents writer.new) text.now) }
     ensures prefix { OnErr result (AppendsPrefix (W.contents writer.old) (W.contents writer.new) text.now) }
 {

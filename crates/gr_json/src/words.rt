@@ -1,8 +1,8 @@
-//! Words of memory and events as JSON.
+//! Words of memory, events and texts as JSON.
 
-ghost use Rattle.std.specs.Prelude.{◌≡◌, IfOk};
+ghost use Rattle.std.specs.Prelude.{◌≡◌, IfOk, option_map};
 ghost use Rattle.serde_json.specs.View.{view};
-ghost use Rattle.gr_json.specs.Words.{event_data, word_data};
+ghost use Rattle.gr_json.specs.Words.{event_data, text_data, word_data};
 
 use gr_model::event::{EventId, Word};
 use serde_json::{Value, json};
@@ -31,4 +31,17 @@ pub fn event_value(alloc: Global, event: EventId) -> Result<Value, AllocError>
     ensures { IfOk result (λ v. view v ≡ event_data event) }
 {
     json!(in alloc; {"group": event.at.group, "index": event.index, "item": event.at.item})
+}
+
+/// A text, or null where there is none.
+///
+/// # Errors
+/// `AllocError`: out of memory.
+pub fn text_value(alloc: Global, text: Option<&str>) -> Result<Value, AllocError>
+    ensures { IfOk result (λ v. view v ≡ text_data (option_map (λ s. s.now) text.entry)) }
+{
+    match text {
+        None => Ok(Value::Null),
+        Some(text) => Value::try_from_str(alloc, text),
+    }
 }

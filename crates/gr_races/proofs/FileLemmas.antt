@@ -1,5 +1,5 @@
 -- What is shown of files that are open, or why nothing is.
-use Rattle.std.proofs.Common.{◌≡◌, ℕ, Bool, List, Option, Result, Ok, Err, inl, inr, map}
+use Rattle.std.proofs.Common.{◌≡◌, ℕ, List, Option, Result, Ok, Err, inl, inr, map}
 use Rattle.std.specs.Prelude.{IfSome}
 use Rattle.gr_input.proofs.Outside.{at_known}
 use Rattle.gr_places.specs.SideLines.{BufferSaid, PlaceSaid, buffers_in, places_in}
@@ -7,8 +7,7 @@ use Rattle.gr_record.specs.declared.fault.Fault.{Fault}
 use Rattle.gr_replay.specs.Each.{all_known}
 use Rattle.gr_races.specs.declared.fault.RacesFault.{RacesFault}
 use Rattle.gr_races.specs.declared.fault.RacesFault.TheVariants.{Buffers, Places, Run}
-use Rattle.gr_races.specs.Opening.{AreAllOpened, AreRacesShownOfFiles, IsRacesFault, Pair, RefusesBuffers, Say, known_of}
-use Rattle.gr_races.specs.Shown.{AreRacesShown}
+use Rattle.gr_races.specs.Opening.{AreAllOpened, HoldsOfAllFiles, IsRacesFault, Pair, RefusesBuffers, Say, known_of}
 use Rattle.gr_races.specs.Sides.{SidesSaid}
 use Rattle.gr_show.specs.Shown.{IsShowFault}
 
@@ -38,5 +37,5 @@ module _ {T E : Type 0} (remaining : T → Option (List ℕ)) (Gives : List ℕ 
     pub streams_refused : (f : Fault) → IfSome (all_known (map remaining files)) (λ inputs. IsShowFault inputs f) → IsRacesFault remaining Gives named names (Run f)
     streams_refused f fault = inr (inr (record { sides = sides; files = files; opened = opened; said = all_said; say = say; fault = fault }))
 
-    pub races_shown : (most : Option ℕ) (causes found : Bool) (old new : Option (List ℕ)) → AreRacesShown (all_known (map remaining files)) all_said most causes found old new → AreRacesShownOfFiles remaining Gives named names most causes found old new
-    races_shown most causes found old new shown = record { sides = sides; files = files; opened = opened; said = all_said; say = say; shown = shown }
+    pub holds_of_all : (Holds : Option (List (List ℕ)) → SidesSaid → Type 0) → Holds (all_known (map remaining files)) all_said → HoldsOfAllFiles remaining Gives named names Holds
+    holds_of_all Holds shown = record { sides = sides; files = files; opened = opened; said = all_said; say = say; shown = shown }

@@ -60,21 +60,20 @@ RefusesBuffers bytes (Places line) = ⊥
 RefusesBuffers bytes (Buffers line) = buffers_in bytes ≡ Err line
 
 module _ {T E : Type 0} (remaining : T → Option (List ℕ)) (Gives : List ℕ → Result T E → Type 0) (named : Pair (List ℕ)) (names : List (List ℕ)) where
-  pub record AreRacesShownOfFiles (most : Option ℕ) (causes : Bool) (found : Bool) (old new : Option (List ℕ)) : Type 0 where
+  -- the files are open, the side files are in form, and this holds of the bytes of the streams' files, as far as they are known, and of what the side files say
+  pub record HoldsOfAllFiles (Holds : Option (List (List ℕ)) → SidesSaid → Type 0) : Type 0 where
     pub sides : Pair T
     pub files : List T
     pub opened : AreAllOpened Gives named names sides files
     pub said : SidesSaid
     pub say : Say remaining sides said
-    pub shown : AreRacesShown (all_known (map remaining files)) said most causes found old new
+    pub shown : Holds (all_known (map remaining files)) said
 
-  pub record ShowsRacesPrefixOfFiles (most : Option ℕ) (causes : Bool) (old new : Option (List ℕ)) : Type 0 where
-    pub sides : Pair T
-    pub files : List T
-    pub opened : AreAllOpened Gives named names sides files
-    pub said : SidesSaid
-    pub say : Say remaining sides said
-    pub shown : ShowsRacesPrefix (all_known (map remaining files)) said most causes old new
+  abbrev pub AreRacesShownOfFiles : Option ℕ → Bool → Bool → Option (List ℕ) → Option (List ℕ) → Type 0
+  AreRacesShownOfFiles most causes found old new = HoldsOfAllFiles (λ known said. AreRacesShown known said most causes found old new)
+
+  abbrev pub ShowsRacesPrefixOfFiles : Option ℕ → Bool → Option (List ℕ) → Option (List ℕ) → Type 0
+  ShowsRacesPrefixOfFiles most causes old new = HoldsOfAllFiles (λ known said. ShowsRacesPrefix known said most causes old new)
 
   -- the files are open, and this line of the places is the first that is out of form
   pub record IsPlacesFault (line : ℕ) : Type 0 where

@@ -22,13 +22,17 @@ pub record AreListedRaces (s : Streams) (by_kind : List Entry) (count : ℕ) : T
   pub listed : by_kind ≡ entries (all_kinded s races)
   pub counted : count ≡ length races
 
--- the text of the races of a launch, of at most so many kinds, with what side files say, and with causes where they are asked for
-pub record IsRacesText (sides : SidesSaid) (most : Option ℕ) (causes : Bool) (s : Streams) (text : List ℕ) : Type 0 where
+-- a text of the races of a launch, of which the causes that are told, the kinds and the number of races determine it, with causes where they are asked for
+pub record IsTextOfRaces (text_of : List Cause → List Entry → ℕ → List ℕ) (most : Option ℕ) (causes : Bool) (s : Streams) (text : List ℕ) : Type 0 where
   pub races : List Race
   pub exact : ArePairedRaces s races
   pub told : List Cause
   pub causes_told : AreTold s causes (at_most most (entries (all_kinded s races))) told
-  pub is : text ≡ races_text sides most told (entries (all_kinded s races)) (length races)
+  pub is : text ≡ text_of told (entries (all_kinded s races)) (length races)
+
+-- the text of the races of a launch, of at most so many kinds, with what side files say, and with causes where they are asked for
+abbrev pub IsRacesText : SidesSaid → Option ℕ → Bool → Streams → List ℕ → Type 0
+IsRacesText sides most causes = IsTextOfRaces (races_text sides most) most causes
 
 -- a word is racy
 abbrev pub HasRace : Streams → Type 0

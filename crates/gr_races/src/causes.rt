@@ -40,7 +40,7 @@ fn first_races<A: Allocator + Copy>(
 ///
 /// # Errors
 /// `Memory`: out of memory.
-pub(crate) fn causes_told<A: Allocator + Copy>(
+pub fn causes_told<A: Allocator + Copy>(
     alloc: A,
     traces: &Traces<A>,
     causes: bool,

@@ -35,10 +35,13 @@ pub struct SideNames<'a> {
 
 /// Files that are open: side files, each where there is one, and those of the streams.
 #[derive(Drop)]
-struct Opened<T: Drop, A: Allocator> {
-    places: Option<T>,
-    buffers: Option<T>,
-    streams: Vec<T, A>,
+pub struct Opened<T: Drop, A: Allocator> {
+    /// The file of places.
+    pub places: Option<T>,
+    /// The file of buffers.
+    pub buffers: Option<T>,
+    /// The files of the streams, in their order.
+    pub streams: Vec<T, A>,
 }
 
 /// Keeps a name, if there is one.
@@ -86,7 +89,7 @@ fn take_first<T: Drop, A: Allocator>(files: &mut Vec<T, A>, wanted: bool) -> Opt
 ///
 /// # Errors
 /// `Read` at the first that can't be opened; `Memory`.
-fn open_files<'a, A, T, O>(
+pub fn open_files<'a, A, T, O>(
     alloc: A,
     sides: &SideNames<'a>,
     names: &[&'a str],
@@ -115,7 +118,7 @@ where
 ///
 /// # Errors
 /// Those of `read_all`.
-fn bytes_of<A: Allocator, T: Read + Drop>(alloc: A, file: Option<T>) -> Result<Vec<u8, A>, Fault>
+pub fn bytes_of<A: Allocator, T: Read + Drop>(alloc: A, file: Option<T>) -> Result<Vec<u8, A>, Fault>
     ensures bytes { IfOk result (λ v. IfSome (spec.known_of T.remaining file) (λ bytes. v.items ≡ bytes)) }
     ensures faults { IfErr result IsOutside }
 {
@@ -126,7 +129,10 @@ fn bytes_of<A: Allocator, T: Read + Drop>(alloc: A, file: Option<T>) -> Result<V
 }
 
 /// What a file of places says.
-fn places_of<A: Allocator>(alloc: A, bytes: &[u8]) -> Result<Vec<PlaceLine<'_>, A>, RacesFault>
+///
+/// # Errors
+/// `Places` with the first line that is out of form; `Run` with `Memory`.
+pub fn places_of<A: Allocator>(alloc: A, bytes: &[u8]) -> Result<Vec<PlaceLine<'_>, A>, RacesFault>
     ensures said { IfOk result (λ lines. places_in bytes.now ≡ Ok (map place_line lines.items)) }
     ensures fault { IfErr result (spec.RefusesPlaces bytes.now) }
 {
@@ -138,7 +144,10 @@ fn places_of<A: Allocator>(alloc: A, bytes: &[u8]) -> Result<Vec<PlaceLine<'_>, 
 }
 
 /// What a file of buffers says.
-fn buffers_of<A: Allocator>(alloc: A, bytes: &[u8]) -> Result<Vec<BufferLine<'_>, A>, RacesFault>
+///
+/// # Errors
+/// `Buffers` with the first line that is out of form; `Run` with `Memory`.
+pub fn buffers_of<A: Allocator>(alloc: A, bytes: &[u8]) -> Result<Vec<BufferLine<'_>, A>, RacesFault>
     ensures said { IfOk result (λ lines. buffers_in bytes.now ≡ Ok (map buffer_line lines.items)) }
     ensures fault { IfErr result (spec.RefusesBuffers bytes.now) }
 {

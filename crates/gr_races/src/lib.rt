@@ -4,14 +4,14 @@
 //! The text is docs/FORMATS.md, "Races".
 #![tactic(auto)]
 
-mod causes;
+pub mod causes;
 pub mod fault;
 pub mod files;
 pub mod kinds;
 pub mod laws;
 pub mod listing;
 pub mod runs;
-mod show;
+pub mod show;
 pub mod sides;
 pub mod text;
 

@@ -28,7 +28,7 @@ use std::io::{Read, Write};
 ///
 /// # Errors
 /// `Memory`: out of memory.
-fn races_by_kind<A: Allocator + Copy>(
+pub fn races_by_kind<A: Allocator + Copy>(
     alloc: A,
     traces: &Traces<A>,
 ) -> Result<(Vec<KindEntry<A>, A>, usize), Memory>

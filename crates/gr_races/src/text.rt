@@ -163,7 +163,7 @@ fn put_end<W: Write>(writer: &mut W, kinds: usize, races: usize) -> Result<(), W
 }
 
 /// The first entries, at most this many.
-pub(crate) fn at_most<A: Allocator>(entries: &[KindEntry<A>], most: Option<u32>) -> &[KindEntry<A>]
+pub fn at_most<A: Allocator>(entries: &[KindEntry<A>], most: Option<u32>) -> &[KindEntry<A>]
     ensures { result.now ≡ spec.at_most most entries.now }
 {
     match most {

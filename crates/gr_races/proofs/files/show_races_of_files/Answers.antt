@@ -1,7 +1,7 @@
 use Rattle.std.proofs.Common.{◌∙◌, ap, sym}
 use Rattle.std.proofs.lemmas.Result.{err_from_is_err_and}
 use Rattle.gr_places.specs.SideLines.{buffers_in, places_in}
-use Rattle.gr_races.proofs.FileLemmas.{buffers_refused, races_shown, streams_refused}
+use Rattle.gr_races.proofs.FileLemmas.{buffers_refused, holds_of_all, streams_refused}
 use Rattle.gr_races.proofs.files.show_races_of_files.Goals as goal
 
 pub returns-in_err-buffers-clause-fault : goal.returns-in_err-buffers-clause-fault
@@ -30,6 +30,6 @@ returns-clause-shown g c =
     let files = c.in_ok-places.field-0 in
     let places_said = ap places_in (sym c.deref.ensures.value) ∙ c.in_ok-places-2.ensures.said in
     let buffers_said = ap buffers_in (sym c.deref-2.ensures.value) ∙ c.in_ok-buffers.ensures.said in
-    races_shown g.T.Read.remaining _ _ _ (record { places = files.places; buffers = files.buffers }) files.streams.items c.in_ok-places.ensures.opened
+    holds_of_all g.T.Read.remaining _ _ _ (record { places = files.places; buffers = files.buffers }) files.streams.items c.in_ok-places.ensures.opened
     c.in_ok-place_bytes.place_bytes.items c.in_ok-place_bytes.ensures.bytes _ places_said c.in_ok-buffer_bytes.buffer_bytes.items c.in_ok-buffer_bytes.ensures.bytes _ buffers_said
-    c.args.most c.args.causes c.in_ok-show_races.field-0 _ _ (rw (c.deref-3.ensures.value, c.deref-4.ensures.value) at c.in_ok-show_races.ensures.shown)
+    _ (rw (c.deref-3.ensures.value, c.deref-4.ensures.value) at c.in_ok-show_races.ensures.shown)

@@ -1,0 +1,2 @@
+mod EntryLemmas
+mod FileLemmas

@@ -1,0 +1,4 @@
+pub mod Causes
+pub mod Kinds
+pub mod Races
+pub mod Shown

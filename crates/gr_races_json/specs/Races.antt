@@ -1,0 +1,65 @@
+-- The races of a launch kind by kind as JSON.
+-- Source: docs/FORMATS.md, "JSON".
+use Rattle.std.specs.Prelude.{ℕ, List, [], ◌∷◌, ◌++◌, length, Option, None, Some, codes}
+use Rattle.std.specs.List.{flat_map}
+use Rattle.serde_json.specs.Data.{Data, member, no_members, null, number, object, string, unsigned}
+use Rattle.gr_model.specs.declared.event.EventId.{EventId}
+use Rattle.gr_model.specs.declared.race.Race.{Race}
+use Rattle.gr_causes.specs.declared.cause.Cause.{Cause}
+use Rattle.gr_json.specs.Lines.{json_line}
+use Rattle.gr_json.specs.Words.{text_data, word_data}
+use Rattle.gr_places.specs.declared.places.Placed.TheVariants.{Event}
+use Rattle.gr_places.specs.SideLines as lines
+use Rattle.gr_races.specs.Listing.{Entry}
+use Rattle.gr_races.specs.RacesText.{at_most}
+use Rattle.gr_races.specs.Sides.{SidesSaid}
+use Rattle.gr_races.specs.Telling.{with_causes}
+use Rattle.gr_races_json.specs.Causes.{cause_data}
+use Rattle.gr_races_json.specs.Kinds.{kind_data, runs_data}
+
+-- an event, and where it stands in the source
+abbrev pub access_data : SidesSaid → EventId → Data
+access_data s e =
+    object
+    (member (codes "group") (number (unsigned e.at.group))
+    (member (codes "index") (number (unsigned e.index))
+    (member (codes "item") (number (unsigned e.at.item)) (member (codes "place") (text_data (lines.place_of s.places (Event e))) no_members))))
+
+-- a word by its buffer and its place there
+abbrev pub element_data : lines.ElementSaid → Data
+element_data e = object (member (codes "index") (number (unsigned e.index)) (member (codes "name") (string e.name) no_members))
+
+abbrev pub buffer_data : Option lines.ElementSaid → Data
+buffer_data None = null
+buffer_data (Some e) = element_data e
+
+-- two events that race on a word, the word's buffer, and the cause that is told
+abbrev pub race_data : SidesSaid → Option Cause → Race → Data
+race_data s cause r =
+    object
+    (member (codes "buffer") (buffer_data (lines.element_of s.buffers r.word))
+    (member (codes "cause") (cause_data r.word cause)
+    (member (codes "first") (access_data s r.first) (member (codes "second") (access_data s r.second) (member (codes "word") (word_data r.word) no_members)))))
+
+-- the first of races
+abbrev pub first_data : SidesSaid → Option Cause → List Race → Data
+first_data s cause [] = null
+first_data s cause (r ∷ races) = race_data s cause r
+
+-- a kind, the first of its races, the runs of its words, and how many words there are
+abbrev pub entry_data : SidesSaid → Entry × Option Cause → Data
+entry_data s (e, cause) =
+    object
+    (member (codes "kind") (kind_data e.kind)
+    (member (codes "race") (first_data s cause e.races)
+    (member (codes "runs") (runs_data e.runs) (member (codes "type") (string (codes "kind")) (member (codes "words") (number (unsigned (length e.races))) no_members)))))
+
+-- how many kinds and races there are
+abbrev pub end_data : ℕ → ℕ → Data
+end_data kinds races =
+    object (member (codes "kinds") (number (unsigned kinds)) (member (codes "races") (number (unsigned races)) (member (codes "type") (string (codes "end")) no_members)))
+
+-- at most so many kinds, each with the cause that is told of it, and how many kinds and races there are, a line each
+abbrev pub races_json : SidesSaid → Option ℕ → List Cause → List Entry → ℕ → List ℕ
+races_json s most causes entries races =
+    flat_map (λ x. json_line (entry_data s x)) (with_causes (at_most most entries) causes) ++ json_line (end_data (length entries) races)

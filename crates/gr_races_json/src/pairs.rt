@@ -1,0 +1,101 @@
+//! A racing pair with what side files say of it and its cause, as JSON.
+
+ghost use Rattle.std.specs.Prelude.{◌≡◌, IfOk};
+ghost use Rattle.serde_json.specs.View.{view};
+ghost use Rattle.gr_places.specs.SideLines.{element, element_of as element_said};
+ghost use Rattle.gr_races.specs.Sides.{sides_said};
+ghost use Rattle.gr_races_json.specs.Races as spec;
+
+use crate::causes::cause_value;
+use gr_causes::cause::Cause;
+use gr_json::words::{text_value, word_value};
+use gr_model::event::{EventId, Word};
+use gr_model::race::Race;
+use gr_places::buffers::{Element, element_of};
+use gr_places::places::{Placed, place_of};
+use gr_races::sides::Sides;
+use serde_json::{Value, json};
+use std::alloc::{AllocError, Global};
+
+/// An event, and where it stands in the source.
+///
+/// # Errors
+/// `AllocError`: out of memory.
+fn access_value(alloc: Global, sides: &Sides<'_>, event: EventId) -> Result<Value, AllocError>
+    ensures { IfOk result (λ v. view v ≡ spec.access_data (sides_said sides.now) event) }
+{
+    let place = text_value(alloc, place_of(sides.places, Placed::Event(event)))?;
+    json!(in alloc; {
+        "group": event.at.group,
+        "index": event.index,
+        "item": event.at.item,
+        "place": place
+    })
+}
+
+/// A word by its buffer and its place there.
+///
+/// # Errors
+/// `AllocError`: out of memory.
+fn element_value(alloc: Global, named: &Element<'_>) -> Result<Value, AllocError>
+    ensures { IfOk result (λ v. view v ≡ spec.element_data (element named.now)) }
+{
+    json!(in alloc; {"index": named.index, "name": named.name})
+}
+
+/// The buffer of a word, or null where it is not said.
+///
+/// # Errors
+/// `AllocError`: out of memory.
+fn buffer_value(alloc: Global, sides: &Sides<'_>, word: Word) -> Result<Value, AllocError>
+    ensures { IfOk result (λ v. view v ≡ spec.buffer_data (element_said (sides_said sides.now).buffers word)) }
+{
+    match element_of(sides.buffers, word) {
+        None => Ok(Value::Null),
+        Some(named) => element_value(alloc, &named),
+    }
+}
+
+/// Two events that race on a word, the word's buffer, and the cause that is told.
+///
+/// # Errors
+/// `AllocError`: out of memory.
+fn race_value(
+    alloc: Global,
+    sides: &Sides<'_>,
+    cause: Option<Cause>,
+    race: &Race,
+) -> Result<Value, AllocError>
+    ensures { IfOk result (λ v. view v ≡ spec.race_data (sides_said sides.now) cause race.now) }
+{
+    let buffer = buffer_value(alloc, sides, race.word)?;
+    let cause = cause_value(alloc, race.word, cause)?;
+    let first = access_value(alloc, sides, race.first)?;
+    let second = access_value(alloc, sides, race.second)?;
+    let word = word_value(alloc, race.word)?;
+    json!(in alloc; {
+        "buffer": buffer,
+        "cause": cause,
+        "first": first,
+        "second": second,
+        "word": word
+    })
+}
+
+/// The first of races, or null where there is none.
+///
+/// # Errors
+/// `AllocError`: out of memory.
+pub(crate) fn first_value(
+    alloc: Global,
+    sides: &Sides<'_>,
+    cause: Option<Cause>,
+    races: &[Race],
+) -> Result<Value, AllocError>
+    ensures { IfOk result (λ v. view v ≡ spec.first_data (sides_said sides.now) cause races.now) }
+{
+    match races.first() {
+        None => Ok(Value::Null),
+        Some(race) => race_value(alloc, sides, cause, race),
+    }
+}

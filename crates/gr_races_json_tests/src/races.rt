@@ -1,0 +1,140 @@
+//! The lines of races.
+
+use crate::stored::{Stored, packed};
+use gr_model::memory::Memory;
+use gr_races::fault::RacesFault;
+use gr_races::files::SideNames;
+use gr_races_json::show_races_json_of_files;
+use gr_record::fault::Fault;
+use std::alloc::Global;
+use std::test::Fail;
+
+/// Two kinds of races: words 647 and 648 are written by two items, and local word 4 is written and read.
+const KINDS: &str =
+    "group 0 items 2 launch 7\n0 w g 647\n0 w g 648\n1 w g 647\n1 w g 648\n0 w l 4\n1 r l 4\nend\n";
+
+/// A word that is written and read behind a barrier that flags local memory, and a word that two items write.
+const CAUSES: &str =
+    "group 0 items 2 launch 7\n0 w g 16\n0 w g 20\n0 bar 1 l\n1 w g 20\n1 bar 1 l\n1 r g 16\nend\n";
+
+const PLACES: &str = "0 0 0 scan.cl:4992\n0 1 2 a \"b\"\\é\n";
+
+const BUFFERS: &str = "g 448 300 psc\nl 0 0 16 tile\n";
+
+/// A stream as text, whether there are side files, of how many kinds, whether causes are told, and the lines.
+type Case = (
+    &'static str,
+    &'static str,
+    bool,
+    Option<u32>,
+    bool,
+    &'static str,
+);
+
+const CASES: [Case; 4] = [
+    (
+        "side files",
+        KINDS,
+        true,
+        None,
+        false,
+        "{\"kind\":{\"first\":\"write\",\"one_group\":true,\"second\":\"write\",\"space\":\"global\"},\
+\"race\":{\"buffer\":{\"index\":199,\"name\":\"psc\"},\"cause\":null,\
+\"first\":{\"group\":0,\"index\":0,\"item\":0,\"place\":\"scan.cl:4992\"},\
+\"second\":{\"group\":0,\"index\":0,\"item\":1,\"place\":null},\
+\"word\":{\"number\":647,\"space\":\"global\"}},\
+\"runs\":[{\"first\":{\"number\":647,\"space\":\"global\"},\"last\":648}],\"type\":\"kind\",\"words\":2}\n\
+{\"kind\":{\"first\":\"write\",\"one_group\":true,\"second\":\"read\",\"space\":\"local\"},\
+\"race\":{\"buffer\":{\"index\":4,\"name\":\"tile\"},\"cause\":null,\
+\"first\":{\"group\":0,\"index\":2,\"item\":0,\"place\":null},\
+\"second\":{\"group\":0,\"index\":2,\"item\":1,\"place\":\"a \\\"b\\\"\\\\é\"},\
+\"word\":{\"group\":0,\"number\":4,\"space\":\"local\"}},\
+\"runs\":[{\"first\":{\"group\":0,\"number\":4,\"space\":\"local\"},\"last\":4}],\"type\":\"kind\",\"words\":1}\n\
+{\"kinds\":2,\"races\":3,\"type\":\"end\"}\n",
+    ),
+    (
+        "a cause, and one kind alone",
+        CAUSES,
+        false,
+        Some(1),
+        true,
+        "{\"kind\":{\"first\":\"write\",\"one_group\":true,\"second\":\"read\",\"space\":\"global\"},\
+\"race\":{\"buffer\":null,\
+\"cause\":{\"name\":\"flags\",\"sentence\":\"with CLK_LOCAL_MEM_FENCE | CLK_GLOBAL_MEM_FENCE at every barrier the two would be ordered\"},\
+\"first\":{\"group\":0,\"index\":0,\"item\":0,\"place\":null},\
+\"second\":{\"group\":0,\"index\":2,\"item\":1,\"place\":null},\
+\"word\":{\"number\":16,\"space\":\"global\"}},\
+\"runs\":[{\"first\":{\"number\":16,\"space\":\"global\"},\"last\":16}],\"type\":\"kind\",\"words\":1}\n\
+{\"kinds\":2,\"races\":2,\"type\":\"end\"}\n",
+    ),
+    (
+        "no kinds",
+        KINDS,
+        true,
+        Some(0),
+        true,
+        "{\"kinds\":2,\"races\":3,\"type\":\"end\"}\n",
+    ),
+    (
+        "no race",
+        "group 0 items 1 launch 7\n0 w g 16\nend\n",
+        false,
+        None,
+        true,
+        "{\"kinds\":0,\"races\":0,\"type\":\"end\"}\n",
+    ),
+];
+
+/// Shows the races of a stream, and gives the answer and what was written.
+fn shown(
+    alloc: Global,
+    stream: &str,
+    sides: &SideNames<'static>,
+    most: Option<u32>,
+    causes: bool,
+) -> Result<(Result<bool, RacesFault>, Vec<u8>), Memory> {
+    let a = packed(alloc, stream)?;
+    let stored = Stored {
+        a: &a,
+        b: b"",
+        places: PLACES.as_bytes(),
+        buffers: BUFFERS.as_bytes(),
+    };
+    let mut text = Vec::new(alloc);
+    let answer = show_races_json_of_files(
+        alloc,
+        sides,
+        &["a"],
+        |name| stored.open(name),
+        most,
+        causes,
+        &mut text,
+    );
+    Ok((answer, text))
+}
+
+#[test]
+fn races_are_shown(rt: HostRuntime) -> Result<(), Fail> {
+    for (name, stream, with_sides, most, causes, wanted) in CASES {
+        let sides = SideNames {
+            places: with_sides.then_some("places"),
+            buffers: with_sides.then_some("buffers"),
+        };
+        let (answer, text) = shown(rt.alloc(), stream, &sides, most, causes)?;
+        assert_eq!(rt; answer, Ok(name != "no race"), "{name}");
+        assert_eq!(rt; str::from_utf8(&text), Ok(wanted), "{name}");
+    }
+    Ok(())
+}
+
+#[test]
+fn a_missing_side_file_is_a_read_fault(rt: HostRuntime) -> Result<(), Fail> {
+    let sides = SideNames {
+        places: Some("none"),
+        buffers: None,
+    };
+    let (answer, text) = shown(rt.alloc(), KINDS, &sides, None, false)?;
+    assert_eq!(rt; answer, Err(RacesFault::Run(Fault::Read)));
+    assert!(rt; text.is_empty());
+    Ok(())
+}
