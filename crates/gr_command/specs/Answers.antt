@@ -13,6 +13,7 @@ use Rattle.gr_record.specs.declared.fault.Fault.TheVariants.{Write}
 use Rattle.gr_report.specs.ReportText.{report_text}
 use Rattle.gr_report.specs.FaultText.{fault_line}
 use Rattle.gr_check.specs.Checked.{ChecksPrefix, IsCheckFileFault, IsChecked}
+use Rattle.gr_check_json.specs.Checked.{ChecksJsonPrefix, IsCheckedJson}
 use Rattle.gr_replay.specs.Replays.{IsExact, IsReplayFault, WritesPrefix}
 use Rattle.gr_input.specs.Faults.{Fails}
 use Rattle.gr_text.specs.Texts.{packed}
@@ -21,7 +22,10 @@ use Rattle.gr_text.specs.Writes.{Writes, WritesPrefix as WritesPrefixOf}
 use Rattle.gr_races.specs.declared.fault.RacesFault.{RacesFault}
 use Rattle.gr_races.specs.declared.fault.RacesFault.TheVariants.{Run}
 use Rattle.gr_races.specs.FaultText.{races_fault_line}
-use Rattle.gr_races.specs.Opening.{AreRacesShownOfFiles, IsRacesFault, Pair, ShowsRacesPrefixOfFiles}
+use Rattle.gr_races.specs.Opening.{HoldsOfAllFiles, IsRacesFault, Pair}
+use Rattle.gr_races.specs.Shown.{HasRace, IsRacesText}
+use Rattle.gr_races.specs.Sides.{SidesSaid}
+use Rattle.gr_races_json.specs.Shown.{IsRacesJson}
 use Rattle.gr_show.specs.Opening.{HoldsOfFiles, IsFileFault, IsOpeningFault}
 use Rattle.gr_show.specs.Shown.{IsLine, IsRacyIn, IsShown, ShowsPrefix}
 use Rattle.gr_long.specs.Shown.{IsAccountText}
@@ -74,6 +78,21 @@ IsTextOf true false = IsAccountText
 IsTextOf false true = IsJsonLine
 IsTextOf true true = IsJsonAccount
 
+-- the text of the races of a launch, or the same as JSON
+abbrev pub IsRacesTextOf : Bool → SidesSaid → Option ℕ → Bool → Streams → List ℕ → Type 0
+IsRacesTextOf false = IsRacesText
+IsRacesTextOf true = IsRacesJson
+
+-- the text of a check of files of these names is written, or the same as JSON
+abbrev pub IsCheckedAs : Bool → List (List ℕ) → Option (List (List ℕ)) → Bool → Option (List ℕ) → Option (List ℕ) → Type 0
+IsCheckedAs false = IsChecked
+IsCheckedAs true = IsCheckedJson
+
+-- and a prefix of it
+abbrev pub ChecksPrefixAs : Bool → List (List ℕ) → Option (List (List ℕ)) → Option (List ℕ) → Option (List ℕ) → Type 0
+ChecksPrefixAs false = ChecksPrefix
+ChecksPrefixAs true = ChecksJsonPrefix
+
 -- the text of a report, or the same as JSON
 abbrev pub text_of : Bool → WholeReport → List ℕ
 text_of false = report_text
@@ -107,6 +126,22 @@ module _ {T X : Type 0} (remaining : T → Option (List ℕ)) (Gives : List ℕ 
   abbrev pub ShowsPrefixOfFiles : AskedWord → Type 0
   ShowsPrefixOfFiles a = HoldsOfFiles remaining Gives a.files (λ known. ShowsPrefix (IsTextOf a.long a.json a.word) known old new)
 
+  -- the text of the races is written whole, and it is said whether there is one
+  abbrev pub IsListedOfFiles : AskedRaces → Bool → Type 0
+  IsListedOfFiles a found = HoldsOfAllFiles remaining Gives (sides_of a) a.files (λ known said. IsShown (IsRacesTextOf a.json said a.most a.causes) HasRace known found old new)
+
+  -- a prefix of the text was written
+  abbrev pub ListsPrefixOfFiles : AskedRaces → Type 0
+  ListsPrefixOfFiles a = HoldsOfAllFiles remaining Gives (sides_of a) a.files (λ known said. ShowsPrefix (IsRacesTextOf a.json said a.most a.causes) known old new)
+
+  -- the text of the check is written whole, and it is said whether the files are accepted
+  abbrev pub IsCheckedOfFiles : AskedCheck → Bool → Type 0
+  IsCheckedOfFiles a accepted = HoldsOfFiles remaining Gives a.files (λ known. IsCheckedAs a.json a.files known accepted old new)
+
+  -- a prefix of the text was written
+  abbrev pub ChecksPrefixOfFiles : AskedCheck → Type 0
+  ChecksPrefixOfFiles a = HoldsOfFiles remaining Gives a.files (λ known. ChecksPrefixAs a.json a.files known old new)
+
   -- the accesses to the word are written whole, and it is said whether it is racy
   abbrev pub IsRecalledOfFiles : AskedHistory → Bool → Type 0
   IsRecalledOfFiles a found = HoldsOfFiles remaining Gives a.files (λ known. IsShown (IsHistoryText a.word) (IsRacyIn a.word) known found old new)
@@ -134,15 +169,13 @@ module _ {T X : Type 0} (remaining : T → Option (List ℕ)) (Gives : List ℕ 
     abbrev pub IsRacesDisplay : AskedRaces → Type 0
     IsRacesDisplay a =
         IsOutcome races_fault_line races_fault_status (Run Write) old new old_errors new_errors status
-        (λ found. AreRacesShownOfFiles remaining Gives (sides_of a) a.files a.most a.causes found old new) (λ found ended. ended ≡ race_status found)
-        (IsRacesFault remaining Gives (sides_of a) a.files) (ShowsRacesPrefixOfFiles remaining Gives (sides_of a) a.files a.most a.causes old new)
+        (IsListedOfFiles a) (λ found ended. ended ≡ race_status found) (IsRacesFault remaining Gives (sides_of a) a.files) (ListsPrefixOfFiles a)
 
     -- the text of a check, and whether the files are accepted; or why there is none
     abbrev pub IsCheckOutcome : AskedCheck → Type 0
     IsCheckOutcome a =
         IsOutcome fault_line fault_status Write old new old_errors new_errors status
-        (λ accepted. HoldsOfFiles remaining Gives a.files (λ known. IsCheckedAs a.json a.files known accepted old new)) (λ accepted ended. ended ≡ check_status accepted)
-        (IsCheckFileFault remaining Gives a.files) (HoldsOfFiles remaining Gives a.files (λ known. ChecksPrefixAs a.json a.files known old new))
+        (IsCheckedOfFiles a) (λ accepted ended. ended ≡ check_status accepted) (IsCheckFileFault remaining Gives a.files) (ChecksPrefixOfFiles a)
 
     -- all accesses to a word, and whether it is racy; or why there are none
     abbrev pub IsHistoryOutcome : AskedHistory → Type 0

@@ -14,20 +14,16 @@ ghost use Rattle.gr_command.specs.Answers.{IsAnswerOf, IsCheckOutcome, IsDisplay
 ghost use Rattle.gr_command.specs.Statuses.{check_status, fault_status, race_status, races_fault_status, IsReportStatus};
 
 use crate::running::run_files;
-use crate::showing::{show_word, tell_history, tell_why_held};
+use crate::showing::{show_check, show_listing, show_word, tell_history, tell_why_held};
 use crate::status::{
     FAILED, NOTHING, USAGE, WANTING, status_of, status_of_check, status_of_race,
     status_of_races_fault, status_of_report,
 };
 use clap::Error;
 use clap::error::ErrorKind;
-use gr_arguments::request::{
-    Inquiry, Inspection, Listing, Plan, Question, Recall, Request, Task,
-};
+use gr_arguments::request::{Inquiry, Inspection, Listing, Plan, Question, Recall, Request, Task};
 use gr_arguments::request_of;
-use gr_check::check_files;
 use gr_races::fault::{RacesFault, write_races_fault};
-use gr_races::files::{SideNames, show_races_of_files};
 use gr_record::fault::Fault;
 use gr_replay::replay;
 use gr_report::report::Report;
@@ -203,21 +199,7 @@ fn list<T: Read + Drop, O: Fn(&str) -> io::Result<T>, W: Write, E: Write>(
     requires { O.IsAlwaysCallable opener }
     ensures { IsRacesDisplay T.remaining (FnReturnsAt O.Fn opener) (W.contents writer.old) (W.contents writer.new) (E.contents errors.old) (E.contents errors.new) result (races_of listing.now) }
 {
-    let sides = SideNames {
-        places: listing.places,
-        buffers: listing.buffers,
-    };
-    let files = listing.files.as_slice();
-    let outcome = show_races_of_files(
-        alloc,
-        &sides,
-        files,
-        opener,
-        listing.most,
-        listing.causes,
-        writer,
-    );
-    conclude_listing(outcome, errors)
+    conclude_listing(show_listing(alloc, listing, opener, writer), errors)
 }
 
 /// Tells of a check that failed, and gives the status of what came of it.
@@ -236,15 +218,15 @@ fn conclude_check<E: Write>(outcome: Result<bool, Fault>, errors: &mut E) -> u8
 /// Checks files, and gives the exit status.
 fn check<T: Read + Drop, O: Fn(&str) -> io::Result<T>, W: Write, E: Write>(
     alloc: Global,
-    files: &[&str],
+    inspection: &Inspection<'_>,
     opener: O,
     writer: &mut W,
     errors: &mut E,
 ) -> u8
     requires { O.IsAlwaysCallable opener }
-    ensures { IsCheckOutcome T.remaining (FnReturnsAt O.Fn opener) (W.contents writer.old) (W.contents writer.new) (E.contents errors.old) (E.contents errors.new) result (map (λ s. s.now) files.now) }
+    ensures { IsCheckOutcome T.remaining (FnReturnsAt O.Fn opener) (W.contents writer.old) (W.contents writer.new) (E.contents errors.old) (E.contents errors.new) result (check_of inspection.now) }
 {
-    conclude_check(check_files(alloc, files, opener, writer), errors)
+    conclude_check(show_check(alloc, inspection, opener, writer), errors)
 }
 
 /// Tells why an event of the launch whose streams are in files is held, and gives the exit status.

@@ -1,17 +1,25 @@
-//! A word and an event of a launch whose streams are in files.
+//! What is shown of a launch whose streams are in files: a word, all races, a word's accesses, an event, a check.
 
 ghost use Rattle.std.specs.Prelude.{◌≡◌, ◌≢◌, IfErr, IfOk, map};
 ghost use Rattle.std.specs.Fn.{FnReturnsAt};
 ghost use Rattle.std.specs.Io.KnownBytes.{Keeps};
+ghost use Rattle.gr_races.specs.Opening.{IsRacesFault};
+ghost use Rattle.gr_races.specs.declared.fault.RacesFault.TheVariants.{Run as ARun};
 ghost use Rattle.gr_record.specs.declared.fault.Fault.TheVariants as faults;
 ghost use Rattle.gr_show.specs.Opening.{IsFileFault};
-ghost use Rattle.gr_arguments.specs.Asked.{event_of, history_of, word_of};
-ghost use Rattle.gr_command.specs.Answers.{IsRecalledOfFiles, IsShownOfFiles, IsToldOfFiles, RecallsPrefixOfFiles, ShowsPrefixOfFiles, TellsPrefixOfFiles};
+ghost use Rattle.gr_check.specs.Checked.{IsCheckFileFault};
+ghost use Rattle.gr_arguments.specs.Asked.{check_of, event_of, history_of, races_of, word_of};
+ghost use Rattle.gr_command.specs.Answers.{ChecksPrefixOfFiles, IsCheckedOfFiles, IsListedOfFiles, IsRecalledOfFiles, IsShownOfFiles, IsToldOfFiles, ListsPrefixOfFiles, RecallsPrefixOfFiles, ShowsPrefixOfFiles, TellsPrefixOfFiles, sides_of};
 
-use gr_arguments::request::{Inquiry, Question, Recall};
+use gr_arguments::request::{Inquiry, Inspection, Listing, Question, Recall};
+use gr_check::check_files;
+use gr_check_json::check_files_json;
 use gr_held::show_why_held;
 use gr_json::{show_account_json, show_race_json};
 use gr_long::show_account;
+use gr_races::fault::RacesFault;
+use gr_races::files::{SideNames, show_races_of_files};
+use gr_races_json::show_races_json_of_files;
 use gr_record::fault::Fault;
 use gr_show::files::open_all;
 use gr_show::show_race;
@@ -42,6 +50,61 @@ pub fn show_word<T: Read + Drop, O: Fn(&str) -> io::Result<T>, W: Write>(
         (true, false) => show_account(alloc, files, question.word, writer),
         (false, true) => show_race_json(alloc, files, question.word, writer),
         (true, true) => show_account_json(alloc, files, question.word, writer),
+    }
+}
+
+/// Writes the races of a launch whose streams are in files, kind by kind, as text or as JSON, and nothing else, and tells
+/// whether there is one.
+///
+/// # Errors
+/// Those of `show_races_of_files`.
+pub fn show_listing<T: Read + Drop, O: Fn(&str) -> io::Result<T>, W: Write>(
+    alloc: Global,
+    listing: &Listing<'_>,
+    opener: O,
+    writer: &mut W,
+) -> Result<bool, RacesFault>
+    requires { O.IsAlwaysCallable opener }
+    ensures shown { IfOk result (λ found. IsListedOfFiles T.remaining (FnReturnsAt O.Fn opener) (W.contents writer.old) (W.contents writer.new) (races_of listing.now) found) }
+    ensures fault { IfErr result (λ f. IsRacesFault T.remaining (FnReturnsAt O.Fn opener) (sides_of (races_of listing.now)) (map (λ s. s.now) listing.now.files.items) f) }
+    ensures untouched { IfErr result (λ f. f ≢ ARun faults.Write → Keeps (W.contents writer.old) (W.contents writer.new)) }
+    ensures prefix { IfErr result (λ f. f ≡ ARun faults.Write → ListsPrefixOfFiles T.remaining (FnReturnsAt O.Fn opener) (W.contents writer.old) (W.contents writer.new) (races_of listing.now)) }
+{
+    let sides = SideNames {
+        places: listing.places,
+        buffers: listing.buffers,
+    };
+    let files = listing.files.as_slice();
+    let (most, causes) = (listing.most, listing.causes);
+    if listing.json {
+        show_races_json_of_files(alloc, &sides, files, opener, most, causes, writer)
+    } else {
+        show_races_of_files(alloc, &sides, files, opener, most, causes, writer)
+    }
+}
+
+/// Checks the files of an inspection: writes what comes of it, as text or as JSON, and nothing else, and tells whether
+/// they are those of a launch.
+///
+/// # Errors
+/// Those of `check_files`.
+pub fn show_check<T: Read + Drop, O: Fn(&str) -> io::Result<T>, W: Write>(
+    alloc: Global,
+    inspection: &Inspection<'_>,
+    opener: O,
+    writer: &mut W,
+) -> Result<bool, Fault>
+    requires { O.IsAlwaysCallable opener }
+    ensures checked { IfOk result (λ accepted. IsCheckedOfFiles T.remaining (FnReturnsAt O.Fn opener) (W.contents writer.old) (W.contents writer.new) (check_of inspection.now) accepted) }
+    ensures fault { IfErr result (λ f. IsCheckFileFault T.remaining (FnReturnsAt O.Fn opener) (map (λ s. s.now) inspection.now.files.items) f) }
+    ensures untouched { IfErr result (λ f. f ≢ faults.Write → Keeps (W.contents writer.old) (W.contents writer.new)) }
+    ensures prefix { IfErr result (λ f. f ≡ faults.Write → ChecksPrefixOfFiles T.remaining (FnReturnsAt O.Fn opener) (W.contents writer.old) (W.contents writer.new) (check_of inspection.now)) }
+{
+    let files = inspection.files.as_slice();
+    if inspection.json {
+        check_files_json(alloc, files, opener, writer)
+    } else {
+        check_files(alloc, files, opener, writer)
     }
 }
 

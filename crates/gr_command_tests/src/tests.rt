@@ -615,7 +615,7 @@ const CASES_OF_FILES: [Case; 20] = [
 ];
 
 /// The same of words that ask for a check.
-const CASES_OF_CHECKS: [Case; 6] = [
+const CASES_OF_CHECKS: [Case; 8] = [
     (
         "a check of a file that is taken",
         &["check", "none"],
@@ -647,6 +647,23 @@ const CASES_OF_CHECKS: [Case; 6] = [
         "",
         "gpurace: read fault\n",
         5,
+    ),
+    (
+        "a check as JSON of a file that is taken",
+        &["check", "--json", "none"],
+        &[],
+        "{\"accepted\":true,\"groups\":1,\"items\":2,\"kinds\":{\"barriers\":0,\"ends\":1,\"loads\":0,\"reads\":2,\
+\"rmws\":0,\"stores\":0,\"writes\":0},\"records\":3,\"type\":\"check\"}\n",
+        "",
+        0,
+    ),
+    (
+        "a check as JSON of a file that is cut off",
+        &["check", "cut", "--json"],
+        &[],
+        "{\"accepted\":false,\"place\":{\"byte\":12,\"file\":\"cut\",\"record\":0,\"stream\":0},\"right\":\"the last record is an end",
+        "",
+        2,
     ),
     (
         "a check of no file",
@@ -687,8 +704,8 @@ const ODD_ACCOUNT: &str = "{\"cause\":\"no-barrier\",\
 \"second\":{\"access\":{\"kind\":\"read\"},\"group\":0,\"index\":0,\"item\":1,\"phase\":0,\"record\":1},\
 \"type\":\"race\",\"word\":{\"number\":16,\"space\":\"global\"}}\n";
 
-/// The same of words that ask for JSON, for causes, or why an event is held.
-const CASES_OF_ODD: [Case; 12] = [
+/// The same of words that ask for JSON, for causes, for the accesses to a word, or why an event is held.
+const CASES_OF_ODD: [Case; 17] = [
     (
         "a run as JSON",
         &["run", "--json", "back"],
@@ -736,6 +753,46 @@ const CASES_OF_ODD: [Case; 12] = [
         ODD_RACES,
         "",
         1,
+    ),
+    (
+        "the races as JSON",
+        &["races", "--json", "back"],
+        &[],
+        ODD_KIND,
+        "",
+        1,
+    ),
+    (
+        "all accesses to a word",
+        &["history", "g", "16", "back"],
+        &[],
+        ODD_HISTORY,
+        "",
+        1,
+    ),
+    (
+        "all accesses to a word whose one access is held",
+        &["history", "l0", "4", "back"],
+        &[],
+        "end accesses 0 races no\n",
+        "",
+        0,
+    ),
+    (
+        "all accesses to a word of a group out of range",
+        &["history", "l64", "4", "missing"],
+        &[],
+        "",
+        "error: SPACE and WORD name no word of memory: ",
+        3,
+    ),
+    (
+        "all accesses to a word, of a file that is cut off",
+        &["history", "g", "16", "cut"],
+        &[],
+        "",
+        "gpurace: stream 0: truncated\n",
+        2,
     ),
     (
         "why an event is held",
@@ -792,6 +849,17 @@ words global 16\n\
 race global 16: 0 0 0 with 0 1 0\n\
 cause no-barrier: nothing orders the two; a barrier with CLK_GLOBAL_MEM_FENCE between them would\n\
 end kinds 1 races 1\n";
+
+const ODD_KIND: &str =
+    "{\"kind\":{\"first\":\"write\",\"one_group\":true,\"second\":\"read\",\"space\":\"global\"},\
+\"race\":{\"buffer\":null,\"cause\":null,\"first\":{\"group\":0,\"index\":0,\"item\":0,\"place\":null},\
+\"second\":{\"group\":0,\"index\":0,\"item\":1,\"place\":null},\"word\":{\"number\":16,\"space\":\"global\"}},\
+\"runs\":[{\"first\":{\"number\":16,\"space\":\"global\"},\"last\":16}],\"type\":\"kind\",\"words\":1}\n\
+{\"kinds\":1,\"races\":1,\"type\":\"end\"}\n";
+
+const ODD_HISTORY: &str = "access 0 0 0 write record 0 phase 0 behind none\n\
+access 0 1 0 read record 1 phase 0 behind none\n\
+end accesses 2 races yes\n";
 
 const NO_EVENT: &str = "error: GROUP, ITEM and INDEX name no event: ";
 
