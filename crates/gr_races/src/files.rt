@@ -118,7 +118,10 @@ where
 ///
 /// # Errors
 /// Those of `read_all`.
-pub fn bytes_of<A: Allocator, T: Read + Drop>(alloc: A, file: Option<T>) -> Result<Vec<u8, A>, Fault>
+pub fn bytes_of<A: Allocator, T: Read + Drop>(
+    alloc: A,
+    file: Option<T>,
+) -> Result<Vec<u8, A>, Fault>
     ensures bytes { IfOk result (λ v. IfSome (spec.known_of T.remaining file) (λ bytes. v.items ≡ bytes)) }
     ensures faults { IfErr result IsOutside }
 {
@@ -147,7 +150,10 @@ pub fn places_of<A: Allocator>(alloc: A, bytes: &[u8]) -> Result<Vec<PlaceLine<'
 ///
 /// # Errors
 /// `Buffers` with the first line that is out of form; `Run` with `Memory`.
-pub fn buffers_of<A: Allocator>(alloc: A, bytes: &[u8]) -> Result<Vec<BufferLine<'_>, A>, RacesFault>
+pub fn buffers_of<A: Allocator>(
+    alloc: A,
+    bytes: &[u8],
+) -> Result<Vec<BufferLine<'_>, A>, RacesFault>
     ensures said { IfOk result (λ lines. buffers_in bytes.now ≡ Ok (map buffer_line lines.items)) }
     ensures fault { IfErr result (spec.RefusesBuffers bytes.now) }
 {

@@ -1,9 +1,5 @@
-//! Tests of `gr_races_json` and `gr_check_json`: the lines of launches and of refused files by hand.
+//! Tests of `gr_races_json`: the lines of launches by hand, with side files and without.
 #![tactic(auto)]
 
 #[cfg(test)]
-mod checks;
-#[cfg(test)]
 mod races;
-#[cfg(test)]
-mod stored;

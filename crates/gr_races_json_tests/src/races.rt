@@ -1,12 +1,13 @@
 //! The lines of races.
 
-use crate::stored::{Stored, packed};
 use gr_model::memory::Memory;
 use gr_races::fault::RacesFault;
 use gr_races::files::SideNames;
 use gr_races_json::show_races_json_of_files;
 use gr_record::fault::Fault;
+use gr_text::packing::pack_text;
 use std::alloc::Global;
+use std::io::{self, ErrorKind};
 use std::test::Fail;
 
 /// Two kinds of races: words 647 and 648 are written by two items, and local word 4 is written and read.
@@ -85,6 +86,24 @@ const CASES: [Case; 4] = [
     ),
 ];
 
+/// The bytes of a stream as text.
+fn packed(alloc: Global, text: &str) -> Result<Vec<u8>, Memory> {
+    match pack_text(alloc, text.as_bytes()) {
+        Ok(bytes) => Ok(bytes),
+        Err(_) => Err(Memory),
+    }
+}
+
+/// The bytes of a file by its name.
+fn open_stored<'a>(name: &str, stream: &'a [u8]) -> io::Result<&'a [u8]> {
+    match name {
+        "stream" => Ok(stream),
+        "places" => Ok(PLACES.as_bytes()),
+        "buffers" => Ok(BUFFERS.as_bytes()),
+        _ => Err(io::Error::from(ErrorKind::NotFound)),
+    }
+}
+
 /// Shows the races of a stream, and gives the answer and what was written.
 fn shown(
     alloc: Global,
@@ -93,19 +112,13 @@ fn shown(
     most: Option<u32>,
     causes: bool,
 ) -> Result<(Result<bool, RacesFault>, Vec<u8>), Memory> {
-    let a = packed(alloc, stream)?;
-    let stored = Stored {
-        a: &a,
-        b: b"",
-        places: PLACES.as_bytes(),
-        buffers: BUFFERS.as_bytes(),
-    };
+    let stream = packed(alloc, stream)?;
     let mut text = Vec::new(alloc);
     let answer = show_races_json_of_files(
         alloc,
         sides,
-        &["a"],
-        |name| stored.open(name),
+        &["stream"],
+        |name| open_stored(name, &stream),
         most,
         causes,
         &mut text,

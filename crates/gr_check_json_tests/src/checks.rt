@@ -1,10 +1,11 @@
 //! The lines of checks.
 
-use crate::stored::{Stored, packed};
 use gr_check_json::check_files_json;
 use gr_model::memory::Memory;
 use gr_record::fault::Fault;
+use gr_text::packing::pack_text;
 use std::alloc::Global;
+use std::io::{self, ErrorKind};
 use std::test::Fail;
 
 /// A header, and records 0 to 2 at the bytes 12, 32 and 52.
@@ -13,8 +14,8 @@ const SHORT: &str = "group 0 items 2 launch 7\n0 w g 16\n1 r g 16\nend\n";
 /// Group 1.
 const SECOND: &str = "group 1 items 1 launch 7\n0 r g 4\nend\n";
 
-/// The names of files, and the line; the file a has the stream of group 0, but its byte 32 is 9 where that is asked for, and b that
-/// of group 1.
+/// Whether byte 32 of the file a is 9, the names of files, whether they are accepted, and the line; a has the stream of group 0, and b
+/// that of group 1.
 type Case = (
     &'static str,
     bool,
@@ -70,6 +71,23 @@ const CASES: [Case; 5] = [
     ),
 ];
 
+/// The bytes of a stream as text.
+fn packed(alloc: Global, text: &str) -> Result<Vec<u8>, Memory> {
+    match pack_text(alloc, text.as_bytes()) {
+        Ok(bytes) => Ok(bytes),
+        Err(_) => Err(Memory),
+    }
+}
+
+/// The bytes of the files `a` and `b`.
+fn open_stored<'a>(name: &str, a: &'a [u8], b: &'a [u8]) -> io::Result<&'a [u8]> {
+    match name {
+        "a" => Ok(a),
+        "b" => Ok(b),
+        _ => Err(io::Error::from(ErrorKind::NotFound)),
+    }
+}
+
 /// The stream of group 0, of which a byte may be another one.
 fn first_stream(alloc: Global, is_bad: bool) -> Result<Vec<u8>, Memory> {
     let mut bytes = packed(alloc, SHORT)?;
@@ -89,14 +107,8 @@ fn checked(
 ) -> Result<(Result<bool, Fault>, Vec<u8>), Memory> {
     let a = first_stream(alloc, is_bad)?;
     let b = packed(alloc, SECOND)?;
-    let stored = Stored {
-        a: &a,
-        b: &b,
-        places: b"",
-        buffers: b"",
-    };
     let mut text = Vec::new(alloc);
-    let answer = check_files_json(alloc, names, |name| stored.open(name), &mut text);
+    let answer = check_files_json(alloc, names, |name| open_stored(name, &a, &b), &mut text);
     Ok((answer, text))
 }
 
