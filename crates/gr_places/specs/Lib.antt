@@ -1,1 +1,2 @@
 pub mod SideLines
+pub mod PlaceIndexes

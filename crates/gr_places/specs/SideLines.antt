@@ -1,7 +1,7 @@
 -- What the lines of side files say.
 -- Source: docs/FORMATS.md, "Side files".
 use Rattle.std.specs.Prelude.{◌≡◌, ℕ, ◌+◌, ◌-◌, Bool, false, ◌&&◌, ◌==◌, nat_le, nat_lt, if◌then◌else◌, List, [], ◌∷◌, Option, None, Some, Result, Ok, Err, codes}
-use Rattle.std.specs.List.{find}
+use Rattle.std.specs.List.{find, position_from}
 use Rattle.std.specs.Option.{is_some, option_and_then, option_map}
 use Rattle.std.specs.Str.{is_utf8}
 use Rattle.gr_lines.specs.LineReading.{◌>>=◌, first_of, number_of, same, short_of}
@@ -95,6 +95,14 @@ same_placed (Site s) (Event f) = false
 -- the place of an event or a site: that of the first line that has it
 abbrev pub place_of : List PlaceSaid → Placed → Option (List ℕ)
 place_of lines p = option_map (λ l. l.text) (find (λ l. same_placed l.of p) lines)
+
+-- the number of a text: how many lines stand before the first that has it
+abbrev pub text_number : List PlaceSaid → List ℕ → Option ℕ
+text_number lines t = position_from (λ l. same l.text t) 0 lines
+
+-- the number of the place of an event or a site
+abbrev pub place_number : List PlaceSaid → Placed → Option ℕ
+place_number lines p = option_and_then (text_number lines) (place_of lines p)
 
 -- ---- buffers
 

@@ -5,6 +5,7 @@
 
 pub mod buffers;
 pub mod fault;
+pub mod index;
 mod lines;
 pub mod places;
 mod words;

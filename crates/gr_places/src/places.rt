@@ -14,7 +14,7 @@ use gr_text::lines::split_line;
 use std::alloc::Allocator;
 
 /// What has a place in the source.
-#[derive(Clone, Copy, Debug, PartialEq, Eq)]
+#[derive(Clone, Copy, Debug, PartialEq, Eq, Hash)]
 pub enum Placed {
     /// An event of the trace.
     Event(EventId),

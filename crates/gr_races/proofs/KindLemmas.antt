@@ -1,9 +1,10 @@
 -- Each race of a launch has a kind, and it is said whether there is one.
-use Rattle.std.proofs.Common.{◌≡◌, ◌↔◌, ◌<◌, ◌||◌, ◌&&◌, ℕ, Bool, true, false, List, [], ◌∷◌, ◌++◌, Option, Some, Contains, IsTrue, All, option_and_then, ap, arith, length, map, refl, sym, ◌∙◌, true≢false}
+use Rattle.std.proofs.Common.{◌≡◌, ◌↔◌, ◌<◌, ◌||◌, ◌&&◌, ℕ, Bool, true, false, List, [], ◌∷◌, ◌++◌, Option, Some, Contains, IsTrue, All, None, nat_eq, option_and_then, ap, arith, length, map, refl, sym, ◌∙◌, true≢false}
 use Rattle.std.specs.Prelude.{AllPairs, if◌then◌else◌, nat_lt, option_map}
 use Rattle.std.specs.List.{cons_option, list_any}
+use Rattle.std.specs.Option.{option_eq}
 use Rattle.std.proofs.Math.Bool.{beq}
-use Rattle.std.proofs.lemmas.Bool.{and_parts, false_from_ne_true, lt-ltb, ltb-true}
+use Rattle.std.proofs.lemmas.Bool.{and_parts, eqb-true, false_from_ne_true, lt-ltb, ltb-true}
 use Rattle.std.proofs.lemmas.List.Elements.{All-cons, All-contains, All-nil, Contains-append_left, Contains-append_right, Contains-push}
 use Rattle.std.proofs.lemmas.List.Folds.{list_any-append, list_any_at}
 use Rattle.std.proofs.lemmas.List.Quantifiers.{all_pairs_push}
@@ -21,11 +22,14 @@ use Rattle.gr_model.specs.RacePairs.{ArePairedRaces, IsRacePair}
 use Rattle.gr_model.specs.Races.{IsRacy}
 use Rattle.gr_model.specs.Streams.{Streams, event_at, word_at}
 use Rattle.gr_model.specs.Waits.{IsGrounded}
+use Rattle.gr_places.specs.declared.places.Placed.{Placed}
 use Rattle.gr_races.specs.declared.kinds.KindedRace.{KindedRace}
 use Rattle.gr_races.specs.declared.kinds.Operation.{Operation}
 use Rattle.gr_races.specs.declared.kinds.Operation.TheVariants as ops
+use Rattle.gr_races.specs.declared.kinds.PlacePair.{PlacePair}
 use Rattle.gr_races.specs.declared.kinds.RaceKind.{RaceKind}
 use Rattle.gr_races.specs.contracts.kinds.OperationPartialEq.TheImpl as operations
+use Rattle.gr_races.specs.contracts.kinds.PlacePairPartialEq.TheImpl as pairs
 use Rattle.gr_races.specs.contracts.kinds.RaceKindEq.TheImpl.Laws as equal
 use Rattle.gr_races.specs.Kinds.{all_kinded, kinded, operation_at, operation_of, same_kind, with_operations}
 use Rattle.gr_races.specs.Listing.{kinds_after, kinds_of, with_kind}
@@ -59,26 +63,26 @@ operation_there s e x w at word =
     let is = some_operation x.kind _ w said in
     (is.0, ap (option_and_then (λ (x : Event). operation_of x.kind)) at ∙ is.1)
 
-kind_there : (s : Streams) (r : Race) → IsRacePair s r.word (r.first, r.second) → (row : KindedRace) × (kinded s r ≡ Some row) × (row.race ≡ r)
-kind_there s r pair =
+kind_there : (s : Streams) (numbers : Placed → Option ℕ) (r : Race) → IsRacePair s r.word (r.first, r.second) → (row : KindedRace) × (kinded s numbers r ≡ Some row) × (row.race ≡ r)
+kind_there s numbers r pair =
     let may_race = pair.race.may_race in
     let a = operation_there s r.first may_race.first r.word may_race.at_first may_race.word_first in
     let b = operation_there s r.second may_race.second r.word may_race.at_second may_race.word_second in (
-      with_operations r a.0 b.0,
-      ap (option_and_then (λ (a : Operation). option_map (λ (b : Operation). with_operations r a b) (operation_at s r.second))) a.1 ∙ ap (option_map (λ (b : Operation). with_operations r a.0 b)) b.1,
+      with_operations numbers r a.0 b.0,
+      ap (option_and_then (λ (a : Operation). option_map (λ (b : Operation). with_operations numbers r a b) (operation_at s r.second))) a.1 ∙ ap (option_map (λ (b : Operation). with_operations numbers r a.0 b)) b.1,
       refl,
     )
 
-all_have_kinds : (s : Streams) (races : List Race) → ((r : Race) → Contains races r → IsRacePair s r.word (r.first, r.second)) → map (λ (row : KindedRace). row.race) (all_kinded s races) ≡ races
-all_have_kinds s [] pairs = refl
-all_have_kinds s (r ∷ races) pairs =
-    let there = kind_there s r (pairs r (Contains-append_left (r ∷ []) races r (Contains-push [] r))) in
-    ap (λ (o : Option KindedRace). map (λ (row : KindedRace). row.race) (cons_option o (all_kinded s races))) there.1
-    ∙ ap (λ (q : Race). q ∷ map (λ (row : KindedRace). row.race) (all_kinded s races)) there.2
-    ∙ ap (λ (rs : List Race). r ∷ rs) (all_have_kinds s races (λ q h. pairs q (Contains-append_right (r ∷ []) races q h)))
+all_have_kinds : (s : Streams) (numbers : Placed → Option ℕ) (races : List Race) → ((r : Race) → Contains races r → IsRacePair s r.word (r.first, r.second)) → map (λ (row : KindedRace). row.race) (all_kinded s numbers races) ≡ races
+all_have_kinds s numbers [] pairs = refl
+all_have_kinds s numbers (r ∷ races) pairs =
+    let there = kind_there s numbers r (pairs r (Contains-append_left (r ∷ []) races r (Contains-push [] r))) in
+    ap (λ (o : Option KindedRace). map (λ (row : KindedRace). row.race) (cons_option o (all_kinded s numbers races))) there.1
+    ∙ ap (λ (q : Race). q ∷ map (λ (row : KindedRace). row.race) (all_kinded s numbers races)) there.2
+    ∙ ap (λ (rs : List Race). r ∷ rs) (all_have_kinds s numbers races (λ q h. pairs q (Contains-append_right (r ∷ []) races q h)))
 
-pub every_race_has_a_kind : (s : Streams) (races : List Race) → ArePairedRaces s races → map (λ (row : KindedRace). row.race) (all_kinded s races) ≡ races
-every_race_has_a_kind s races are = all_have_kinds s races (λ r there. All-contains (λ (r : Race). IsRacePair s r.word (r.first, r.second)) races r are.pairs there)
+pub every_race_has_a_kind : (s : Streams) (numbers : Placed → Option ℕ) (races : List Race) → ArePairedRaces s races → map (λ (row : KindedRace). row.race) (all_kinded s numbers races) ≡ races
+every_race_has_a_kind s numbers races are = all_have_kinds s numbers races (λ r there. All-contains (λ (r : Race). IsRacePair s r.word (r.first, r.second)) races r are.pairs there)
 
 -- ---- each kind is listed once
 
@@ -171,20 +175,37 @@ same_answers true false e = absurd (true≢false (sym e))
 same_answers false true e = absurd (true≢false (sym e))
 same_answers false false e = refl
 
+same_numbers : (a b : ℕ) → nat_eq a b ≡ true → a ≡ b
+same_numbers a b e = eqb-true a b e
+
+same_pairs : (a b : PlacePair) → (pairs.eq-value).it a b ≡ true → a ≡ b
+same_pairs a b e =
+    let p = and_parts (nat_eq a.first b.first) (nat_eq a.second b.second) e in
+    λ i. record { first = same_numbers a.first b.first p.0 i; second = same_numbers a.second b.second p.1 i }
+
+same_places : (a b : Option PlacePair) → option_eq (pairs.eq-value).it a b ≡ true → a ≡ b
+same_places None None e = refl
+same_places None (Some b) e = absurd (true≢false (sym e))
+same_places (Some a) None e = absurd (true≢false (sym e))
+same_places (Some a) (Some b) e = ap (λ (p : PlacePair). Some p) (same_pairs a b e)
+
 same_is_one : (k l : RaceKind) → same_kind k l ≡ true → k ≡ l
 same_is_one k l e =
     let space = (spaces.eq-value).it k.space l.space in
     let first = (operations.eq-value).it k.first l.first in
     let second = (operations.eq-value).it k.second l.second in
     let group = beq k.one_group l.one_group in
-    let p = and_parts space (first && (second && group)) e in
-    let q = and_parts first (second && group) p.1 in
-    let r = and_parts second group q.1 in
+    let places = option_eq (pairs.eq-value).it k.places l.places in
+    let p = and_parts space (first && (second && (group && places))) e in
+    let q = and_parts first (second && (group && places)) p.1 in
+    let r = and_parts second (group && places) q.1 in
+    let t = and_parts group places r.1 in
     λ i. record {
       space = same_spaces k.space l.space p.0 i;
       first = same_operations k.first l.first q.0 i;
       second = same_operations k.second l.second r.0 i;
-      one_group = same_answers k.one_group l.one_group r.1 i;
+      one_group = same_answers k.one_group l.one_group t.0 i;
+      places = same_places k.places l.places t.1 i;
     }
 
 pub the_same_kinds_are_one : (k l : RaceKind) → IsTrue (same_kind k l) ↔ (k ≡ l)

@@ -5,6 +5,8 @@ use Rattle.std.proofs.KnownBytes.{Appends-nil}
 use Rattle.std.proofs.lemmas.List.{append-nil, at_drop_all, take-map}
 use Rattle.gr_model.specs.declared.race.Race.{Race}
 use Rattle.gr_causes.specs.declared.cause.Cause.{Cause}
+use Rattle.gr_places.specs.PlaceIndexes.{Indexed, Indexes, number_at}
+use Rattle.gr_places.specs.SideLines.{PlaceSaid, place_number}
 use Rattle.gr_report.proofs.PuttingLemmas.{Prefix}
 use Rattle.gr_report.specs.Putting.{Puts}
 use Rattle.gr_show.specs.Explanations.{pair_text}
@@ -30,3 +32,7 @@ first_told s cause (x ∷ races) r is = let same : x ≡ r = cc in ap (λ (r : R
 pub first_entries : {Z : Type 0} (most : Option ℕ) (listed : List (KindEntry Z)) → map entry_of (at_most most listed) ≡ at_most most (map entry_of listed)
 first_entries None listed = refl
 first_entries (Some n) listed = sym (take-map entry_of n listed)
+
+-- the numbers that an index has are those that lines say
+pub numbers_said : (i : Indexed) (lines : List PlaceSaid) → Indexes i lines → number_at i ≡ place_number lines
+numbers_said i lines is = λ j p. is.numbers p j

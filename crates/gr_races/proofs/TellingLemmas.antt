@@ -8,6 +8,7 @@ use Rattle.gr_model.specs.RacePairs.{ArePairedRaces}
 use Rattle.gr_model.specs.Streams.{Streams}
 use Rattle.gr_causes.specs.Causes.{IsPairOf}
 use Rattle.gr_causes.specs.declared.cause.Cause.{Cause}
+use Rattle.gr_places.specs.declared.places.Placed.{Placed}
 use Rattle.gr_races.specs.declared.kinds.KindedRace.{KindedRace}
 use Rattle.gr_races.specs.declared.kinds.RaceKind.{RaceKind}
 use Rattle.gr_races.specs.Kinds.{all_kinded, same_kind}
@@ -72,8 +73,8 @@ some_of P None listed all = all
 some_of P (Some n) listed all = All-take P n listed all
 
 -- of each entry that is shown
-pub first_races_race : (s : Streams) (races : List Race) (most : Option ℕ) → ArePairedRaces s races → All (IsPairOf s) (first_races (at_most most (entries (all_kinded s races))))
-first_races_race s races most are =
-    let rows = all_kinded s races in
-    let all = from_map (IsPairOf s) rows (subst (λ (rs : List Race). All (IsPairOf s) rs) (sym (every_race_has_a_kind s races are)) are.pairs) in
+pub first_races_race : (s : Streams) (numbers : Placed → Option ℕ) (races : List Race) (most : Option ℕ) → ArePairedRaces s races → All (IsPairOf s) (first_races (at_most most (entries (all_kinded s numbers races))))
+first_races_race s numbers races most are =
+    let rows = all_kinded s numbers races in
+    let all = from_map (IsPairOf s) rows (subst (λ (rs : List Race). All (IsPairOf s) rs) (sym (every_race_has_a_kind s numbers races are)) are.pairs) in
     first_pairs (IsPairOf s) (at_most most (entries rows)) (some_of (λ (e : Entry). All (IsPairOf s) e.races) most (entries rows) (entry_pairs (IsPairOf s) rows (kinds_of rows) all))

@@ -1,6 +1,6 @@
 -- Kinds of races.
 -- Source: docs/FORMATS.md, "Races". They are this project's own.
-use Rattle.std.specs.Prelude.{Bool, ◌==◌, Option, None, Some, option_and_then, option_map, List}
+use Rattle.std.specs.Prelude.{ℕ, Bool, ◌==◌, Option, None, Some, option_and_then, option_map, List}
 use Rattle.std.specs.List.{filter_map}
 use Rattle.gr_model.specs.Access.{memory_of}
 use Rattle.gr_model.specs.declared.event.EventId.{EventId}
@@ -8,9 +8,12 @@ use Rattle.gr_model.specs.declared.event.Kind.{Kind}
 use Rattle.gr_model.specs.declared.event.Kind.TheVariants as kinds
 use Rattle.gr_model.specs.declared.race.Race.{Race}
 use Rattle.gr_model.specs.Streams.{Streams, event_at}
+use Rattle.gr_places.specs.declared.places.Placed.{Placed}
+use Rattle.gr_places.specs.declared.places.Placed.TheVariants.{Event}
 use Rattle.gr_races.specs.declared.kinds.KindedRace.{KindedRace}
 use Rattle.gr_races.specs.declared.kinds.Operation.{Operation}
 use Rattle.gr_races.specs.declared.kinds.Operation.TheVariants.{Read, Write, Load, Store, Rmw}
+use Rattle.gr_races.specs.declared.kinds.PlacePair.{PlacePair}
 use Rattle.gr_races.specs.declared.kinds.RaceKind.{RaceKind}
 use Rattle.gr_races.specs.contracts.kinds.RaceKindPartialEq.TheImpl as equality
 
@@ -28,20 +31,25 @@ operation_of (kinds.End cut) = None
 abbrev pub operation_at : Streams → EventId → Option Operation
 operation_at s e = option_and_then (λ x. operation_of x.kind) (event_at s e)
 
+-- the numbers of the places of two events, where both have one
+abbrev pub places_of : (Placed → Option ℕ) → Race → Option PlacePair
+places_of numbers r = option_and_then (λ m. option_map (λ n. record { first = m; second = n }) (numbers (Event r.second))) (numbers (Event r.first))
+
 -- a race of two events that do this
-abbrev pub with_operations : Race → Operation → Operation → KindedRace
-with_operations r a b = record {
-  kind = record { space = memory_of r.word; first = a; second = b; one_group = r.first.at.group == r.second.at.group };
+abbrev pub with_operations : (Placed → Option ℕ) → Race → Operation → Operation → KindedRace
+with_operations numbers r a b = record {
+  kind = record { space = memory_of r.word; first = a; second = b; one_group = r.first.at.group == r.second.at.group; places = places_of numbers r };
   race = r;
 }
 
--- a race with its kind: the memory of its word, what its two events do, and whether they are of one group
-abbrev pub kinded : Streams → Race → Option KindedRace
-kinded s r = option_and_then (λ a. option_map (λ b. with_operations r a b) (operation_at s r.second)) (operation_at s r.first)
+-- a race with its kind, where places have these numbers: the memory of its word, what its two events do, whether they are
+-- of one group, and where they stand, if both places are known
+abbrev pub kinded : Streams → (Placed → Option ℕ) → Race → Option KindedRace
+kinded s numbers r = option_and_then (λ a. option_map (λ b. with_operations numbers r a b) (operation_at s r.second)) (operation_at s r.first)
 
 -- races with their kinds
-abbrev pub all_kinded : Streams → List Race → List KindedRace
-all_kinded s races = filter_map (kinded s) races
+abbrev pub all_kinded : Streams → (Placed → Option ℕ) → List Race → List KindedRace
+all_kinded s numbers races = filter_map (kinded s numbers) races
 
 abbrev pub same_kind : RaceKind → RaceKind → Bool
 same_kind k l = (equality.eq-value).it k l

@@ -1,9 +1,10 @@
 -- What follows of the races of a launch kind by kind.
-use Rattle.std.specs.Prelude.{◌≡◌, ◌↔◌, false, List, [], All, AllPairs, IsTrue, map}
+use Rattle.std.specs.Prelude.{◌≡◌, ◌↔◌, false, ℕ, List, [], Option, All, AllPairs, IsTrue, map}
 use Rattle.std.specs.List.{list_any}
 use Rattle.gr_model.specs.declared.race.Race.{Race}
 use Rattle.gr_model.specs.RacePairs.{ArePairedRaces}
 use Rattle.gr_model.specs.Streams.{Streams}
+use Rattle.gr_places.specs.declared.places.Placed.{Placed}
 use Rattle.gr_races.specs.declared.kinds.KindedRace.{KindedRace}
 use Rattle.gr_races.specs.declared.kinds.RaceKind.{RaceKind}
 use Rattle.gr_races.specs.Kinds.{all_kinded, same_kind}
@@ -12,7 +13,7 @@ use Rattle.gr_races.specs.Sides.{notes, nothing_said}
 
 -- no racing pair is without a kind
 abbrev pub EveryRaceHasAKind : Type 0
-EveryRaceHasAKind = (s : Streams) (races : List Race) → ArePairedRaces s races → map (λ row. row.race) (all_kinded s races) ≡ races
+EveryRaceHasAKind = (s : Streams) (numbers : Placed → Option ℕ) (races : List Race) → ArePairedRaces s races → map (λ row. row.race) (all_kinded s numbers races) ≡ races
 
 -- two kinds are the same just where they are one
 abbrev pub SameKindsAreOne : Type 0

@@ -1,12 +1,15 @@
 //! What kind of race two accesses are.
 
 ghost use Rattle.std.specs.Prelude.{◌≡◌};
+ghost use Rattle.gr_places.specs.PlaceIndexes.{number_at};
 ghost use Rattle.gr_races.specs.Kinds as spec;
 
 use gr_clocks::clocks::memory_of;
 use gr_explain::records::Records;
 use gr_model::event::{EventId, Kind, Space};
 use gr_model::race::Race;
+use gr_places::index::PlaceIndex;
+use gr_places::places::Placed;
 use std::alloc::Allocator;
 
 /// What an access does, without its scope and its order.
@@ -24,6 +27,15 @@ pub enum Operation {
     Rmw,
 }
 
+/// Where both accesses of a race stand in the source, by the numbers of the places.
+#[derive(Clone, Copy, Debug, PartialEq, Eq)]
+pub struct PlacePair {
+    /// The number of the smaller event's place.
+    pub first: usize,
+    /// The number of the greater event's place.
+    pub second: usize,
+}
+
 /// The kind of a race.
 #[derive(Clone, Copy, Debug, PartialEq, Eq)]
 pub struct RaceKind {
@@ -35,6 +47,8 @@ pub struct RaceKind {
     pub second: Operation,
     /// Whether both events are of one work-group.
     pub one_group: bool,
+    /// Where both events stand, if the file of places has both.
+    pub places: Option<PlacePair>,
 }
 
 /// A race and its kind.
@@ -72,9 +86,22 @@ fn operation_at<A: Allocator>(records: &Records<A>, event: EventId) -> Option<Op
     operation_of(&taken.kind)
 }
 
+/// The places of both events of a race, or `None` where one of them has none.
+fn places_of<A: Allocator>(index: &PlaceIndex<'_, A>, race: &Race) -> Option<PlacePair>
+    ensures { result ≡ spec.places_of (number_at index.now) race.now }
+{
+    let first = index.number_of(Placed::Event(race.first))?;
+    let second = index.number_of(Placed::Event(race.second))?;
+    Some(PlacePair { first, second })
+}
+
 /// A race with its kind, or `None` where its events are not two accesses of the launch.
-pub(crate) fn kinded<A: Allocator>(records: &Records<A>, race: &Race) -> Option<KindedRace>
-    ensures { result ≡ spec.kinded records.now race.now }
+pub(crate) fn kinded<A: Allocator>(
+    records: &Records<A>,
+    index: &PlaceIndex<'_, A>,
+    race: &Race,
+) -> Option<KindedRace>
+    ensures { result ≡ spec.kinded records.now (number_at index.now) race.now }
 {
     let first = operation_at(records, race.first)?;
     let second = operation_at(records, race.second)?;
@@ -84,6 +111,7 @@ pub(crate) fn kinded<A: Allocator>(records: &Records<A>, race: &Race) -> Option<
             first,
             second,
             one_group: race.first.at.group == race.second.at.group,
+            places: places_of(index, race),
         },
         race: *race,
     })

@@ -2,6 +2,7 @@
 
 ghost use Rattle.std.specs.Prelude.{◌≡◌, IfOk, OnOk, map};
 ghost use Rattle.std.specs.List.{list_any};
+ghost use Rattle.gr_places.specs.PlaceIndexes.{number_at};
 ghost use Rattle.gr_races.specs.Kinds.{all_kinded, same_kind};
 ghost use Rattle.gr_races.specs.Listing as spec;
 
@@ -10,6 +11,7 @@ use crate::runs::{Run, runs_of};
 use gr_explain::records::Records;
 use gr_model::memory::Memory;
 use gr_model::race::Race;
+use gr_places::index::PlaceIndex;
 use std::alloc::{Allocator, Global};
 
 /// The races of one kind.
@@ -31,13 +33,14 @@ pub struct KindEntry<A: Allocator = Global> {
 pub(crate) fn all_kinded<A: Allocator + Copy>(
     alloc: A,
     records: &Records<A>,
+    index: &PlaceIndex<'_, A>,
     races: &[Race],
 ) -> Result<Vec<KindedRace, A>, Memory>
-    ensures { IfOk result (λ rows. rows.items ≡ all_kinded records.now races.now) }
+    ensures { IfOk result (λ rows. rows.items ≡ all_kinded records.now (number_at index.now) races.now) }
 {
     let rows = races
         .iter()
-        .filter_map(|race| kinded(records, race))
+        .filter_map(|race| kinded(records, index, race))
         .collect(alloc)?;
     Ok(rows)
 }

@@ -4,6 +4,8 @@ ghost use Rattle.std.specs.Prelude.{◌≡◌, ◌≢◌, IfErr, IfOk, IfSome, l
 ghost use Rattle.std.specs.Io.KnownBytes.{Keeps};
 ghost use Rattle.gr_model.specs.RacePairs.{ArePairedRaces};
 ghost use Rattle.gr_record.specs.declared.fault.Fault.TheVariants as faults;
+ghost use Rattle.gr_places.specs.PlaceIndexes.{number_at};
+ghost use Rattle.gr_places.specs.SideLines.{place_number};
 ghost use Rattle.gr_replay.specs.Each.{all_known};
 ghost use Rattle.gr_races.specs.Listing.{entry_of};
 ghost use Rattle.gr_races.specs.Shown.{AreListedRaces, AreRacesShown, ShowsRacesPrefix};
@@ -18,11 +20,29 @@ use gr_explain::records::Records;
 use gr_explain::taking::take_all;
 use gr_model::memory::Memory;
 use gr_model::traces::Traces;
+use gr_places::index::PlaceIndex;
 use gr_record::fault::Fault;
 use gr_replay::detect::detect_races;
 use gr_replay::read_each;
 use std::alloc::Allocator;
 use std::io::{Read, Write};
+
+/// The races of a launch kind by kind, where this index has the places, and how many there are.
+///
+/// # Errors
+/// `Memory`: out of memory.
+fn list_races<A: Allocator + Copy>(
+    alloc: A,
+    traces: &Traces<A>,
+    index: &PlaceIndex<'_, A>,
+) -> Result<(Vec<KindEntry<A>, A>, usize), Memory>
+    ensures { IfOk result (λ found. AreListedRaces traces.now (number_at index.now) (map entry_of found.0.items) found.1) }
+{
+    let found = detect_races(alloc, traces)?;
+    let records = Records::of(take_all(alloc, traces)?);
+    let rows = all_kinded(alloc, &records, index, &found.races)?;
+    Ok((list_kinds(alloc, &rows)?, found.races.len()))
+}
 
 /// The races of a launch kind by kind, and how many there are.
 ///
@@ -31,13 +51,12 @@ use std::io::{Read, Write};
 pub fn races_by_kind<A: Allocator + Copy>(
     alloc: A,
     traces: &Traces<A>,
+    sides: &Sides<'_>,
 ) -> Result<(Vec<KindEntry<A>, A>, usize), Memory>
-    ensures { IfOk result (λ found. AreListedRaces traces.now (map entry_of found.0.items) found.1) }
+    ensures { IfOk result (λ found. AreListedRaces traces.now (place_number (sides_said sides.now).places) (map entry_of found.0.items) found.1) }
 {
-    let found = detect_races(alloc, traces)?;
-    let records = Records::of(take_all(alloc, traces)?);
-    let rows = all_kinded(alloc, &records, &found.races)?;
-    Ok((list_kinds(alloc, &rows)?, found.races.len()))
+    let index = PlaceIndex::of(alloc, sides.places)?;
+    list_races(alloc, traces, &index)
 }
 
 /// Reads the streams of a launch, one from each reader, writes its races kind by kind, of at most so many kinds, with what
@@ -64,7 +83,7 @@ pub fn show_races<A: Allocator + Copy, T: Read + Drop, W: Write>(
     ensures threads { IfErr result (λ f. f ≢ faults.Threads) }
 {
     let traces = read_each(alloc, readers)?;
-    let (entries, races) = races_by_kind(alloc, &traces)?;
+    let (entries, races) = races_by_kind(alloc, &traces, sides)?;
     let told = causes_told(alloc, &traces, causes, at_most(&entries, most))?;
     match write_races(writer, sides, &entries, most, &told, races) {
         Ok(()) => Ok(races > 0),

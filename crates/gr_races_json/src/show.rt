@@ -44,7 +44,7 @@ pub fn show_races_json<T: Read + Drop, W: Write>(
     ensures threads { IfErr result (λ f. f ≢ faults.Threads) }
 {
     let traces = read_each(alloc, readers)?;
-    let (entries, races) = races_by_kind(alloc, &traces)?;
+    let (entries, races) = races_by_kind(alloc, &traces, sides)?;
     let told = causes_told(alloc, &traces, causes, at_most(&entries, most))?;
     let text = races_json(alloc, sides, &entries, most, &told, races)?;
     match write_text(writer, &text) {

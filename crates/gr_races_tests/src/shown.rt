@@ -20,13 +20,22 @@ race global 647: 0 0 0 with 0 1 0\n\
 kind local write read one group words 1\nwords local 0 4\n\
 race local 0 4: 0 0 2 with 0 1 2\nend kinds 2 races 3\n";
 
-const NOTED: &str = "kind global write write one group words 2\nwords global 647..648\n\
+/// The places of both accesses to word 647 are known, and so its race is of a kind of its own.
+const NOTED: &str = "kind global write write one group words 1\nwords global 647\n\
 race global 647: 0 0 0 with 0 1 0\nbuffer psc[199]\nfirst scan.cl:4992\nsecond scan.cl:4992\n\
+kind global write write one group words 1\nwords global 648\n\
+race global 648: 0 0 1 with 0 1 1\nbuffer psc[200]\n\
 kind local write read one group words 1\nwords local 0 4\n\
-race local 0 4: 0 0 2 with 0 1 2\nbuffer tile[4]\nsecond scan.cl:5001\nend kinds 2 races 3\n";
+race local 0 4: 0 0 2 with 0 1 2\nbuffer tile[4]\nsecond scan.cl:5001\nend kinds 3 races 3\n";
 
 const PLACES: &[u8] =
     b"0 0 0 scan.cl:4992\n0 1 0 scan.cl:4992\n0 1 2 scan.cl:5001\n1 scan.cl:5000\n";
+
+/// The accesses to word 648 stand at other lines than those to word 647.
+const TWO_PAIRS: &[u8] = b"0 0 0 scan.cl:7\n0 1 0 scan.cl:7\n0 0 1 scan.cl:7\n0 1 1 scan.cl:9\n";
+
+/// They stand at the same lines.
+const ONE_PAIR: &[u8] = b"0 0 0 scan.cl:7\n0 1 0 scan.cl:9\n0 0 1 scan.cl:7\n0 1 1 scan.cl:9\n";
 
 const BUFFERS: &[u8] = b"g 448 300 psc\nl 0 0 16 tile\n";
 
@@ -39,7 +48,7 @@ type Case = (
     &'static str,
 );
 
-const CASES: [Case; 6] = [
+const CASES: [Case; 8] = [
     ("no side files", None, None, None, PLAIN),
     ("both", Some("places"), Some("buffers"), None, NOTED),
     (
@@ -54,9 +63,9 @@ const CASES: [Case; 6] = [
         Some("places"),
         None,
         Some(1),
-        "kind global write write one group words 2\nwords global 647..648\n\
+        "kind global write write one group words 1\nwords global 647\n\
          race global 647: 0 0 0 with 0 1 0\nfirst scan.cl:4992\nsecond scan.cl:4992\n\
-         end kinds 2 races 3\n",
+         end kinds 3 races 3\n",
     ),
     (
         "buffers alone",
@@ -71,7 +80,27 @@ const CASES: [Case; 6] = [
         Some("places"),
         Some("buffers"),
         Some(0),
-        "end kinds 2 races 3\n",
+        "end kinds 3 races 3\n",
+    ),
+    (
+        "two pairs of places",
+        Some("two pairs"),
+        None,
+        Some(2),
+        "kind global write write one group words 1\nwords global 647\n\
+         race global 647: 0 0 0 with 0 1 0\nfirst scan.cl:7\nsecond scan.cl:7\n\
+         kind global write write one group words 1\nwords global 648\n\
+         race global 648: 0 0 1 with 0 1 1\nfirst scan.cl:7\nsecond scan.cl:9\n\
+         end kinds 3 races 3\n",
+    ),
+    (
+        "one pair of places",
+        Some("one pair"),
+        None,
+        Some(1),
+        "kind global write write one group words 2\nwords global 647..648\n\
+         race global 647: 0 0 0 with 0 1 0\nfirst scan.cl:7\nsecond scan.cl:9\n\
+         end kinds 2 races 3\n",
     ),
 ];
 
@@ -80,6 +109,8 @@ fn open_stored<'a>(name: &str, stream: &'a [u8]) -> io::Result<FailingReader<'a>
     let bytes = match name {
         "stream" => stream,
         "places" => PLACES,
+        "two pairs" => TWO_PAIRS,
+        "one pair" => ONE_PAIR,
         "buffers" => BUFFERS,
         "empty" => b"",
         "bad" | "worse" => b"1 a\n1\n",

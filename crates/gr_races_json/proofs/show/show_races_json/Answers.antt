@@ -1,5 +1,7 @@
 use Rattle.std.proofs.Common.{rules, ◌∙◌, All, List, ap, map, subst, sym}
 use Rattle.gr_causes.specs.Causes.{IsPairOf}
+use Rattle.gr_places.specs.SideLines.{place_number}
+use Rattle.gr_races.specs.Sides.{sides_said}
 use Rattle.gr_races.specs.Listing.{Entry, entry_of}
 use Rattle.gr_races.specs.RacesText.{at_most}
 use Rattle.gr_races.specs.Telling.{AreTold, first_races}
@@ -13,7 +15,7 @@ causes_told-requires g c =
     let s = c.in_ok-traces.traces in
     let listed = c.in_ok-entries.ensures in
     let shown = ap (map entry_of) (c.at_most.ensures ∙ ap (at_most c.args.most) c.deref.ensures.value) ∙ (first_entries c.args.most c.in_ok-entries.entries.items ∙ ap (at_most c.args.most) listed.listed) in
-    record { pairs = subst (λ (es : List Entry). All (IsPairOf s) (first_races es)) (sym shown) (first_races_race s listed.races c.args.most listed.exact) }
+    record { pairs = subst (λ (es : List Entry). All (IsPairOf s) (first_races es)) (sym shown) (first_races_race s (place_number (sides_said c.args.sides.now).places) listed.races c.args.most listed.exact) }
 
 pub returns-in-Ok-clause-shown : goal.returns-in-Ok-clause-shown
 returns-in-Ok-clause-shown g c =

@@ -1,0 +1,13 @@
+use Rattle.std.proofs.Common.{drop, length, map, ◌≤◌}
+use Rattle.gr_places.specs.PlaceIndexes.{AreTexts}
+use Rattle.gr_places.specs.SideLines.{place_line}
+use Rattle.gr_places.proofs.index.texts_of.Given as goal
+
+abbrev pub invariant-loop-left : goal.invariant-loop-left
+invariant-loop-left g l = record {
+  within : l.left ≤ length l.lines;
+  kept : AreTexts l.texts.entries (map place_line (drop l.left l.lines));
+}
+
+abbrev pub decreases-loop-left : goal.decreases-loop-left
+decreases-loop-left g l = l.left

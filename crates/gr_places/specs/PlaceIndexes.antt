@@ -1,0 +1,50 @@
+-- The places that lines say, as an index of them has them.
+-- Source: docs/FORMATS.md, "Side files".
+use Rattle.std.specs.Prelude.{◌≡◌, ℕ, Bool, List, Option}
+use Rattle.std.specs.Borrow.{Bor}
+use Rattle.std.specs.Map.{lookup}
+use Rattle.std.specs.Option.{option_and_then, option_map}
+use Rattle.gr_lines.specs.LineReading.{same}
+use Rattle.gr_places.specs.contracts.places.PlacedPartialEq.TheImpl as equality
+use Rattle.gr_places.specs.declared.places.Placed.{Placed}
+use Rattle.gr_places.specs.SideLines.{PlaceSaid, place_number, place_of, text_number}
+
+abbrev pub same_key : Placed → Placed → Bool
+same_key p q = (equality.eq-value).it p q
+
+-- the text that is kept for an event or a site
+abbrev pub text_in : List (Placed × Bor (List ℕ)) → Placed → Option (Bor (List ℕ))
+text_in entries p = lookup (same_key p) entries
+
+-- the number that is kept for a text
+abbrev pub number_in : List (Bor (List ℕ) × ℕ) → Bor (List ℕ) → Option ℕ
+number_in entries text = lookup (λ other. same text.now other.now) entries
+
+-- the texts that are kept are the places that lines say
+abbrev pub AreTexts : List (Placed × Bor (List ℕ)) → List PlaceSaid → Type 0
+AreTexts entries lines = (p : Placed) → option_map (λ text. text.now) (text_in entries p) ≡ place_of lines p
+
+-- the numbers that are kept are those of the texts of lines
+abbrev pub AreNumbers : List (Bor (List ℕ) × ℕ) → List PlaceSaid → Type 0
+AreNumbers entries lines = (text : Bor (List ℕ)) → number_in entries text ≡ text_number lines text.now
+
+-- what is kept: the text of each event and site, and the number of each text
+pub record Indexed : Type 0 where
+  pub texts : List (Placed × Bor (List ℕ))
+  pub numbers : List (Bor (List ℕ) × ℕ)
+
+abbrev pub indexed : List (Placed × Bor (List ℕ)) → List (Bor (List ℕ) × ℕ) → Indexed
+indexed texts numbers = record { texts = texts; numbers = numbers }
+
+-- the place of an event or a site
+abbrev pub place_at : Indexed → Placed → Option (List ℕ)
+place_at i p = option_map (λ text. text.now) (text_in i.texts p)
+
+-- the number of its place
+abbrev pub number_at : Indexed → Placed → Option ℕ
+number_at i p = option_and_then (number_in i.numbers) (text_in i.texts p)
+
+-- they are those that lines say
+pub record Indexes (i : Indexed) (lines : List PlaceSaid) : Type 0 where
+  pub places : (p : Placed) → place_at i p ≡ place_of lines p
+  pub numbers : (p : Placed) → number_at i p ≡ place_number lines p

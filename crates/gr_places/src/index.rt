@@ -1,0 +1,112 @@
+//! The places of many events, found without a look at each line.
+
+ghost use Rattle.std.specs.Prelude.{◌≡◌, IfOk, map};
+ghost use Rattle.std.specs.Option.{option_map};
+ghost use Rattle.gr_places.specs.declared.places.Placed.{Placed as AnyPlaced};
+ghost use Rattle.gr_places.specs.PlaceIndexes as spec;
+ghost use Rattle.gr_places.specs.SideLines.{place_line};
+
+use crate::places::{PlaceLine, Placed};
+use gr_model::memory::Memory;
+use indexmap::IndexMap;
+use std::alloc::{Allocator, Global};
+use std::hash::{BuildHasherDefault, FoldHasher};
+use std::marker::Model;
+
+/// The place of each event and site.
+type Texts<'a, A> = IndexMap<Placed, &'a str, BuildHasherDefault<FoldHasher>, A>;
+
+/// The number of each text.
+type Numbers<'a, A> = IndexMap<&'a str, usize, BuildHasherDefault<FoldHasher>, A>;
+
+/// The places that the lines of a file say, and their numbers. Two places have one number just where they have one text.
+#[derive(Drop)]
+#[derive_where(Debug)]
+pub struct PlaceIndex<'a, A: Allocator = Global> {
+    texts: Texts<'a, A>,
+    numbers: Numbers<'a, A>,
+}
+
+impl<'a, A: Allocator> Model for PlaceIndex<'a, A> {
+    ghost use Rattle.gr_places.specs.PlaceIndexes.{Indexed, indexed};
+
+    ghost Value = { Indexed };
+
+    ghost view = { λ s. indexed s.texts.entries s.numbers.entries };
+}
+
+/// The place of each event and site, by the first line that has it.
+///
+/// # Errors
+/// `Memory`: out of memory.
+fn texts_of<'a, A: Allocator + Copy>(
+    alloc: A,
+    lines: &[PlaceLine<'a>],
+) -> Result<Texts<'a, A>, Memory>
+    ensures { IfOk result (λ texts. spec.AreTexts texts.entries (map place_line lines.now)) }
+{
+    let mut texts = IndexMap::new(alloc);
+    let mut left = lines.len();
+    while left > 0 {
+        left -= 1;
+        texts.insert(lines[left].of, lines[left].text)?;
+    }
+    Ok(texts)
+}
+
+/// The number of each text, by the first line that has it.
+///
+/// # Errors
+/// `Memory`: out of memory.
+fn numbers_of<'a, A: Allocator + Copy>(
+    alloc: A,
+    lines: &[PlaceLine<'a>],
+) -> Result<Numbers<'a, A>, Memory>
+    ensures { IfOk result (λ numbers. spec.AreNumbers numbers.entries (map place_line lines.now)) }
+{
+    let mut numbers = IndexMap::new(alloc);
+    let mut left = lines.len();
+    while left > 0 {
+        left -= 1;
+        numbers.insert(lines[left].text, left)?;
+    }
+    Ok(numbers)
+}
+
+impl<'a, A: Allocator + Copy> PlaceIndex<'a, A> {
+    /// The index of the lines of a file of places.
+    ///
+    /// # Errors
+    /// `Memory`: out of memory.
+    pub fn of(alloc: A, lines: &[PlaceLine<'a>]) -> Result<PlaceIndex<'a, A>, Memory>
+        ensures { IfOk result (λ index. spec.Indexes index (map place_line lines.now)) }
+    {
+        let texts = texts_of(alloc, lines)?;
+        let numbers = numbers_of(alloc, lines)?;
+        Ok(PlaceIndex { texts, numbers })
+    }
+}
+
+impl<'a, A: Allocator> PlaceIndex<'a, A> {
+    fn text_of(&self, placed: Placed) -> Option<&'a str>
+        ensures { result ≡ spec.text_in self.now.texts placed }
+    {
+        self.texts.get(&placed).copied()
+    }
+
+    /// The place of an event or a site, or `None` if no line has it.
+    pub fn place_of(&self, placed: Placed) -> Option<&'a str>
+        ensures { option_map (λ text. text.now) result ≡ spec.place_at self.now placed }
+    {
+        self.text_of(placed)
+    }
+
+    /// The number of the place of an event or a site, or `None` if no line has it: how many lines stand before the first
+    /// that has the same text.
+    pub fn number_of(&self, placed: Placed) -> Option<usize>
+        ensures { result ≡ spec.number_at self.now placed }
+    {
+        let text = self.text_of(placed)?;
+        self.numbers.get(&text).copied()
+    }
+}
