@@ -53,7 +53,7 @@ kind_without_word (Rmw scope order) site w is = cc
 kind_without_word (Barrier global local) site w is = refl
 kind_without_word (End cut) site w is = refl
 
-barrier_has_none : (s : Streams) (g k : ℕ) (b : EventId) → StandsIn s b g k → word_at s b ≡ None
+pub barrier_has_none : (s : Streams) (g k : ℕ) (b : EventId) → StandsIn s b g k → word_at s b ≡ None
 barrier_has_none s g k b stands =
     let there = barrier_there s b g k stands in
     ap (option_and_then (event_word b.at.group)) there.1 ∙ kind_without_word there.0.kind there.0.word (word_in there.0.space b.at.group there.0.word) there.2

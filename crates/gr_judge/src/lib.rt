@@ -6,4 +6,4 @@
 
 mod accesses;
 pub mod judging;
-mod taking;
+pub mod taking;

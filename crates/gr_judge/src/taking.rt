@@ -37,10 +37,7 @@ fn take_list<A: Allocator + Copy>(
 ///
 /// # Errors
 /// `Memory`: out of memory.
-pub(crate) fn take_all<A: Allocator + Copy>(
-    alloc: A,
-    traces: &Traces<A>,
-) -> Result<Sequencer<A>, Memory>
+pub fn take_all<A: Allocator + Copy>(alloc: A, traces: &Traces<A>) -> Result<Sequencer<A>, Memory>
     ensures { IfOk result (λ sequencer. sequencer ≡ all_taken traces.now) }
 {
     let mut sequencer = Sequencer::new(alloc, traces.shape().copy()?)?;

@@ -1,0 +1,3 @@
+pub mod SelectionLemmas
+pub mod EntryLemmas
+pub mod HistoryLemmas

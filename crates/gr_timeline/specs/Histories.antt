@@ -1,0 +1,64 @@
+-- The accesses to one word of a launch, in an order in which they can be handled, each with those that happen before it.
+-- Source: docs/MODEL.md, "Lawful orders" and "Happens-before".
+use Rattle.std.specs.Prelude.{◌≡◌, ◌≢◌, ◌⊎◌, ℕ, ◌<◌, List, [], ◌∷◌, ◌++◌, None, Some, length, map, slice_get, take}
+use Rattle.gr_model.specs.declared.event.EventId.{EventId}
+use Rattle.gr_model.specs.declared.event.Word.{Word}
+use Rattle.gr_model.specs.Access.{memory_of}
+use Rattle.gr_model.specs.HappensBefore.{HappensBefore}
+use Rattle.gr_model.specs.LawfulOrders.{IsWholeOrder}
+use Rattle.gr_model.specs.Streams.{Streams, word_at}
+use Rattle.gr_clocks.specs.Counts.{Counts, count_of}
+use Rattle.gr_sequencer.specs.declared.handled.Handled.{Handled}
+use Rattle.gr_sequencer.specs.declared.handled.Handled.TheVariants.{One, Meet}
+use Rattle.gr_timeline.specs.declared.entry.Entry.{Entry}
+use Rattle.gr_timeline.specs.Selections.{AreThose}
+
+-- an access, how many stand above it, and some of those, whatever memory holds them
+pub record Line : Type 0 where
+  pub event : EventId
+  pub above : ℕ
+  pub behind : List EventId
+
+abbrev pub line_of : {Z : Type 0} → Entry Z → Line
+line_of x = record { event = x.event; above = x.above; behind = x.behind.items }
+
+abbrev pub lines_of : {Z : Type 0} → List (Entry Z) → List Line
+lines_of entries = map line_of entries
+
+-- the accesses themselves
+abbrev pub events_of : List Line → List EventId
+events_of lines = map (λ l. l.event) lines
+
+-- an event accesses this word
+abbrev pub IsOn : Streams → Word → EventId → Type 0
+IsOn s w e = word_at s e ≡ Some w
+
+-- the events of an order that access the word, each with those above it that happen before it
+pub record IsAlong (s : Streams) (w : Word) (order : List EventId) (lines : List Line) : Type 0 where
+  pub events : AreThose (IsOn s w) order (events_of lines)
+  pub above : (p : ℕ) (l : Line) → slice_get lines p ≡ Some l → l.above ≡ p
+  pub behind : (p : ℕ) (l : Line) → slice_get lines p ≡ Some l → AreThose (λ d. HappensBefore s (memory_of w) d l.event) (take p (events_of lines)) l.behind
+
+-- those of a lawful order of all grounded events
+pub record IsHistory (s : Streams) (w : Word) (lines : List Line) : Type 0 where
+  pub order : List EventId
+  pub whole : IsWholeOrder s order
+  pub along : IsAlong s w order lines
+
+-- ---- one access more
+
+-- a clock counts an event
+abbrev pub IsCounted : Counts → EventId → Type 0
+IsCounted c d = d.index < count_of c d.at
+
+-- an access is added, with those above it that a clock counts
+pub record IsAdded (e : EventId) (c : Counts) (old new : List Line) : Type 0 where
+  pub behind : List EventId
+  pub counted : AreThose (IsCounted c) (events_of old) behind
+  pub pushed : new ≡ old ++ record { event = e; above = length old; behind = behind } ∷ []
+
+-- what a step adds: its access, if it has one and that is of the word, and else nothing
+abbrev pub AddsStep : {Z : Type 0} → Word → Handled Z → List Line → List Line → Type 0
+AddsStep w (One e (Some a)) old new = ((a.word ≡ w) × IsAdded e a.clock old new) ⊎ ((a.word ≢ w) × (new ≡ old))
+AddsStep w (One e None) old new = new ≡ old
+AddsStep w (Meet g k) old new = new ≡ old

@@ -1,0 +1,33 @@
+//! The accesses to one word of a launch, in an order in which they can be handled.
+
+ghost use Rattle.std.specs.Prelude.{IfOk};
+ghost use Rattle.gr_timeline.specs.Histories.{IsHistory, lines_of};
+
+use crate::entry::Entry;
+use crate::handling::handle_all;
+use gr_judge::taking::take_all;
+use gr_model::event::Word;
+use gr_model::memory::Memory;
+use gr_model::traces::Traces;
+use std::alloc::Allocator;
+
+/// The accesses to a word that are grounded, each once, in a lawful order of the launch, and each with those above it that
+/// happen before it.
+///
+/// It handles the events of the launch once. Time and memory grow with the events, and with the accesses to the word
+/// times those above each.
+///
+/// # Errors
+/// `Memory`: out of memory.
+pub fn history_of<A: Allocator + Copy>(
+    alloc: A,
+    traces: &Traces<A>,
+    word: Word,
+) -> Result<Vec<Entry<A>, A>, Memory>
+    ensures { IfOk result (λ entries. IsHistory traces.now word (lines_of entries.items)) }
+{
+    let mut sequencer = take_all(alloc, traces)?;
+    let mut entries = Vec::new(alloc);
+    handle_all(alloc, &mut sequencer, &mut entries, word)?;
+    Ok(entries)
+}
