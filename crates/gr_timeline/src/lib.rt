@@ -1,7 +1,5 @@
-//! The history of one word of a launch: each access to it, in an order in which they can be handled, with what it is and
-//! behind which others it is ordered.
-//!
-//! Held accesses are left out. The lines are docs/FORMATS.md, "The text of history".
+//! The history of one word of a launch: each access to it that is not held, in an order in which they can be
+//! handled, each with those above it that happen before it.
 #![tactic(auto)]
 
 pub mod entry;
