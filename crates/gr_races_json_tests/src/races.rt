@@ -128,12 +128,13 @@ fn shown(
 
 #[test]
 fn races_are_shown(rt: HostRuntime) -> Result<(), Fail> {
+    let alloc = rt.alloc();
     for (name, stream, with_sides, most, causes, wanted) in CASES {
         let sides = SideNames {
             places: with_sides.then_some("places"),
             buffers: with_sides.then_some("buffers"),
         };
-        let (answer, text) = shown(rt.alloc(), stream, &sides, most, causes)?;
+        let (answer, text) = shown(alloc, stream, &sides, most, causes)?;
         assert_eq!(rt; answer, Ok(name != "no race"), "{name}");
         assert_eq!(rt; str::from_utf8(&text), Ok(wanted), "{name}");
     }
