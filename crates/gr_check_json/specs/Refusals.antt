@@ -2,7 +2,6 @@
 -- Source: docs/FORMATS.md, "JSON".
 use Rattle.std.specs.Prelude.{ℕ, false, List, Option, None, Some, codes, option_map, slice_get}
 use Rattle.serde_json.specs.Data.{Data, boolean, member, no_members, null, object, string}
-use Rattle.gr_record.specs.declared.error.RecordError.{RecordError}
 use Rattle.gr_record.specs.declared.fault.Fault.{Fault}
 use Rattle.gr_record.specs.declared.fault.Fault.TheVariants.{MissingGroup, OtherLaunch, SameGroup, Stream}
 use Rattle.gr_check.specs.declared.spot.Spot.{Spot}

@@ -22,23 +22,35 @@ const PLACES: &str = "0 0 0 scan.cl:4992\n0 1 2 a \"b\"\\é\n";
 
 const BUFFERS: &str = "g 448 300 psc\nl 0 0 16 tile\n";
 
-/// A stream as text, whether there are side files, of how many kinds, whether causes are told, and the lines.
+/// A stream as text, the names of side files, of how many kinds, whether causes are told, whether there is a race, and the lines.
 type Case = (
     &'static str,
     &'static str,
-    bool,
+    SideNames<'static>,
     Option<u32>,
+    bool,
     bool,
     &'static str,
 );
+
+const BOTH: SideNames<'static> = SideNames {
+    places: Some("places"),
+    buffers: Some("buffers"),
+};
+
+const NEITHER: SideNames<'static> = SideNames {
+    places: None,
+    buffers: None,
+};
 
 const CASES: [Case; 4] = [
     (
         "side files",
         KINDS,
-        true,
+        BOTH,
         None,
         false,
+        true,
         "{\"kind\":{\"first\":\"write\",\"one_group\":true,\"second\":\"write\",\"space\":\"global\"},\
 \"race\":{\"buffer\":{\"index\":199,\"name\":\"psc\"},\"cause\":null,\
 \"first\":{\"group\":0,\"index\":0,\"item\":0,\"place\":\"scan.cl:4992\"},\
@@ -56,8 +68,9 @@ const CASES: [Case; 4] = [
     (
         "a cause, and one kind alone",
         CAUSES,
-        false,
+        NEITHER,
         Some(1),
+        true,
         true,
         "{\"kind\":{\"first\":\"write\",\"one_group\":true,\"second\":\"read\",\"space\":\"global\"},\
 \"race\":{\"buffer\":null,\
@@ -71,17 +84,19 @@ const CASES: [Case; 4] = [
     (
         "no kinds",
         KINDS,
-        true,
+        BOTH,
         Some(0),
+        true,
         true,
         "{\"kinds\":2,\"races\":3,\"type\":\"end\"}\n",
     ),
     (
         "no race",
         "group 0 items 1 launch 7\n0 w g 16\nend\n",
-        false,
+        NEITHER,
         None,
         true,
+        false,
         "{\"kinds\":0,\"races\":0,\"type\":\"end\"}\n",
     ),
 ];
@@ -128,13 +143,10 @@ fn shown(
 
 #[test]
 fn races_are_shown(rt: HostRuntime) -> Result<(), Fail> {
-    for (name, stream, with_sides, most, causes, wanted) in CASES {
-        let sides = SideNames {
-            places: with_sides.then_some("places"),
-            buffers: with_sides.then_some("buffers"),
-        };
-        let (answer, text) = shown(rt.alloc(), stream, &sides, most, causes)?;
-        assert_eq!(rt; answer, Ok(name != "no race"), "{name}");
+    let alloc = rt.alloc();
+    for (name, stream, sides, most, causes, found, wanted) in CASES {
+        let (answer, text) = shown(alloc, stream, &sides, most, causes)?;
+        assert_eq!(rt; answer, Ok(found), "{name}");
         assert_eq!(rt; str::from_utf8(&text), Ok(wanted), "{name}");
     }
     Ok(())
