@@ -15,7 +15,7 @@ returns-in_err-put_known g c =
     puts_err _ c.from_residual-in_err-put_known.ensures.0 (puts_more (codes "\n") (puts_more (behind_text x.above x.behind.items) (puts_then c.in_ok-put_event.ensures c.in_err-put_known.ensures)))
 
 pub returns-in_err-put_behind : goal.returns-in_err-put_behind
-returns-in_err-put_behind g c = puts_err _ c.from_residual-in_err-put_behind.ensures.0 (puts_more (codes "\n") (puts_then (puts_then c.in_ok-put_event.ensures c.in_ok-put_known.ensures) c.in_err-put_behind.ensures))
+returns-in_err-put_behind g c = rw (← c.as_slice.ensures.value) (puts_err _ c.from_residual-in_err-put_behind.ensures.0 (puts_more (codes "\n") (puts_then (puts_then c.in_ok-put_event.ensures c.in_ok-put_known.ensures) c.in_err-put_behind.ensures)))
 
 pub returns : goal.returns
-returns g c = puts_then (puts_then (puts_then c.in_ok-put_event.ensures c.in_ok-put_known.ensures) c.in_ok-put_behind.ensures) c.put.ensures.puts
+returns g c = rw (← c.as_slice.ensures.value) (puts_then (puts_then (puts_then c.in_ok-put_event.ensures c.in_ok-put_known.ensures) c.in_ok-put_behind.ensures) c.put.ensures.puts)
