@@ -39,9 +39,12 @@ kind_text (kinds.Rmw scope order) = atomic_text (codes " rmw") scope order
 kind_text (kinds.Barrier global local) = codes " barrier"
 kind_text (kinds.End cut) = codes " end"
 
+-- what is told of an access
+abbrev pub told_text : Details → List ℕ
+told_text d = kind_text d.kind ++ field (codes " record ") (decimal d.number) ++ field (codes " phase ") (decimal d.phase)
+
 abbrev pub details_line : List ℕ → Details → List ℕ
-details_line label d =
-    label ++ kind_text d.kind ++ field (codes " record ") (decimal d.number) ++ field (codes " phase ") (decimal d.phase) ++ codes "\n"
+details_line label d = label ++ told_text d ++ codes "\n"
 
 abbrev pub pair_of : Option Account → Option Pair
 pair_of None = None

@@ -68,12 +68,8 @@ fn barriers_before(list: &[Event], item: u16, index: u32) -> usize
         .count()
 }
 
-/// What is told of an event of a launch.
-pub(crate) fn details_of<A: Allocator>(
-    traces: &Traces<A>,
-    records: &Records<A>,
-    event: EventId,
-) -> Details
+/// What is told of an event of a launch. It takes time that grows with the records of the event's group.
+pub fn details_of<A: Allocator>(traces: &Traces<A>, records: &Records<A>, event: EventId) -> Details
     requires same { records.now ≡ traces.now }
     requires there { model.IsEvent traces.now event }
     ensures { spec.details_of traces.now event ≡ Some result }

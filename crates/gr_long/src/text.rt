@@ -63,13 +63,23 @@ fn put_kind<W: Write>(writer: &mut W, kind: Kind) -> Result<(), WriteFault>
     }
 }
 
+/// Writes what is told of an access. It takes no memory.
+///
+/// # Errors
+/// `WriteFault` if the writer fails, which has then taken a prefix of these bytes.
+pub fn put_told<W: Write>(writer: &mut W, details: &Details) -> Result<(), WriteFault>
+    ensures { Puts (W.contents writer.old) (W.contents writer.new) result (spec.told_text details.now) }
+{
+    put_kind(writer, details.kind)?;
+    put_field(writer, b" record ", details.number)?;
+    put_field(writer, b" phase ", details.phase)
+}
+
 fn put_details<W: Write>(writer: &mut W, label: &[u8], details: &Details) -> Result<(), WriteFault>
     ensures { Puts (W.contents writer.old) (W.contents writer.new) result (spec.details_line label.now details.now) }
 {
     put(writer, label)?;
-    put_kind(writer, details.kind)?;
-    put_field(writer, b" record ", details.number)?;
-    put_field(writer, b" phase ", details.phase)?;
+    put_told(writer, details)?;
     put(writer, b"\n")
 }
 

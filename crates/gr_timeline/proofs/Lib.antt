@@ -1,3 +1,5 @@
 pub mod SelectionLemmas
 pub mod EntryLemmas
 pub mod HistoryLemmas
+pub mod TextLemmas
+pub mod ShownLemmas

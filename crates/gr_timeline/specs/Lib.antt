@@ -1,2 +1,4 @@
 pub mod Selections
 pub mod Histories
+pub mod HistoryText
+pub mod Shown

@@ -5,3 +5,7 @@
 pub mod entry;
 mod handling;
 pub mod history;
+mod show;
+mod text;
+
+pub use show::show_history;

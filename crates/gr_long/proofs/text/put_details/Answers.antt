@@ -1,28 +1,13 @@
-use Rattle.std.proofs.Common.{codes, decimal}
-use Rattle.gr_report.specs.Putting.{field}
+use Rattle.std.proofs.Common.{codes}
 use Rattle.gr_report.proofs.PuttingLemmas.{puts_then, puts_more, puts_err}
-use Rattle.gr_long.specs.AccountText.{kind_text}
+use Rattle.gr_long.specs.AccountText.{told_text}
 use Rattle.gr_long.proofs.text.put_details.Goals as goal
 
 pub returns-in_err-put : goal.returns-in_err-put
-returns-in_err-put g c =
-    let d = c.args.details.now in
-    puts_err _ c.from_residual.ensures.0 (puts_more (codes "\n") (puts_more (field (codes " phase ") (decimal d.phase)) (puts_more (field (codes " record ") (decimal d.number)) (puts_more (kind_text d.kind) c.in_err-put.ensures.puts))))
+returns-in_err-put g c = puts_err _ c.from_residual.ensures.0 (puts_more (codes "\n") (puts_more (told_text c.args.details.now) c.in_err-put.ensures.puts))
 
-pub returns-in_err-put_kind : goal.returns-in_err-put_kind
-returns-in_err-put_kind g c =
-    let d = c.args.details.now in
-    puts_err _ c.from_residual-in_err-put_kind.ensures.0 (puts_more (codes "\n") (puts_more (field (codes " phase ") (decimal d.phase)) (puts_more (field (codes " record ") (decimal d.number)) (puts_then c.in_ok-put.ensures.puts c.in_err-put_kind.ensures))))
-
-pub returns-in_err-put_field : goal.returns-in_err-put_field
-returns-in_err-put_field g c =
-    let d = c.args.details.now in
-    puts_err _ c.from_residual-in_err-put_field.ensures.0 (puts_more (codes "\n") (puts_more (field (codes " phase ") (decimal d.phase)) (puts_then (puts_then c.in_ok-put.ensures.puts c.in_ok-put_kind.ensures) c.in_err-put_field.ensures)))
-
-pub returns-in_err-put_field-2 : goal.returns-in_err-put_field-2
-returns-in_err-put_field-2 g c =
-    puts_err _ c.from_residual-in_err-put_field-2.ensures.0 (puts_more (codes "\n") (puts_then (puts_then (puts_then c.in_ok-put.ensures.puts c.in_ok-put_kind.ensures) c.in_ok-put_field.ensures) c.in_err-put_field-2.ensures))
+pub returns-in_err-put_told : goal.returns-in_err-put_told
+returns-in_err-put_told g c = puts_err _ c.from_residual-in_err-put_told.ensures.0 (puts_more (codes "\n") (puts_then c.in_ok-put.ensures.puts c.in_err-put_told.ensures))
 
 pub returns : goal.returns
-returns g c =
-    puts_then (puts_then (puts_then (puts_then c.in_ok-put.ensures.puts c.in_ok-put_kind.ensures) c.in_ok-put_field.ensures) c.in_ok-put_field-2.ensures) c.put-2.ensures.puts
+returns g c = puts_then (puts_then c.in_ok-put.ensures.puts c.in_ok-put_told.ensures) c.put-2.ensures.puts

@@ -1,0 +1,17 @@
+-- The lines of entries.
+use Rattle.std.proofs.Common.{◌≡◌, ◌==◌, ℕ, false, List, [], ◌∷◌, ◌++◌, ap, codes, cond, length, refl, ◌∙◌, map, subst, sym}
+use Rattle.std.specs.List.{flat_map}
+use Rattle.std.proofs.lemmas.List.Concat.{flat_map-cons}
+use Rattle.gr_model.specs.declared.event.EventId.{EventId}
+use Rattle.gr_timeline.specs.HistoryText.{behind_text, names_text}
+
+-- the lines of the values of a map
+pub mapped_lines : {X Y : Type 0} (f : Y → List ℕ) (g : X → Y) (xs : List X) → flat_map (λ x. f (g x)) xs ≡ flat_map f (map g xs)
+mapped_lines f g [] = refl
+mapped_lines f g (x ∷ xs) =
+    flat_map-cons (λ x. f (g x)) x xs ∙ ap (λ (rest : List ℕ). f (g x) ++ rest) (mapped_lines f g xs) ∙ sym (flat_map-cons f (g x) (map g xs))
+
+-- some of those above it, and not all
+pub named : (above : ℕ) (behind others : List EventId) (e : EventId) → behind ≡ e ∷ others → (length behind == above) ≡ false → behind_text above behind ≡ names_text e others
+named above behind others e is differs =
+    ap (behind_text above) is ∙ ap (λ b. cond b (codes " behind all") (names_text e others)) (subst (λ (l : List EventId). (length l == above) ≡ false) is differs)

@@ -1,0 +1,29 @@
+use Rattle.std.proofs.Common.{rules, refl}
+use Rattle.gr_timeline.specs.Histories.{lines_of}
+use Rattle.gr_timeline.proofs.ShownLemmas.{entries_are_events}
+use Rattle.gr_timeline.proofs.show.show_history.Goals as goal
+
+pub write_history-requires-clause-there : goal.write_history-requires-clause-there
+write_history-requires-clause-there g c = entries_are_events c.in_ok-traces.traces c.args.word _ c.in_ok-entries.ensures
+
+pub returns-in-Ok-clause-shown : goal.returns-in-Ok-clause-shown
+returns-in-Ok-clause-shown g c =
+    let s = c.in_ok-traces.traces in record {
+      launch = s;
+      spelled = c.in_ok-traces.ensures.launch;
+      accepted = search rules;
+      text = _;
+      exact = record { lines = lines_of c.in_ok-entries.entries.items; exact = c.in_ok-entries.ensures; racy = c.in_ok-racy.racy; said = c.in_ok-racy.ensures; is = refl };
+      written = c.in-Ok.ensures.whole;
+      said = c.in_ok-racy.ensures;
+    }
+
+pub returns-clause-prefix : goal.returns-clause-prefix
+returns-clause-prefix g c = λ _. record {
+  launch = c.in_ok-traces.traces;
+  spelled = c.in_ok-traces.ensures.launch;
+  accepted = search rules;
+  text = _;
+  exact = record { lines = lines_of c.in_ok-entries.entries.items; exact = c.in_ok-entries.ensures; racy = c.in_ok-racy.racy; said = c.in_ok-racy.ensures; is = refl };
+  prefix = c.in-Err.ensures.prefix;
+}

@@ -1,0 +1,152 @@
+//! The text of the history of a word.
+
+ghost use Rattle.std.specs.Prelude.{◌≡◌, All, OnErr, OnOk};
+ghost use Rattle.std.specs.Io.KnownBytes.{Appends};
+ghost use Rattle.std.specs.List.{flat_map};
+ghost use Rattle.gr_model.specs.Streams.{IsEvent};
+ghost use Rattle.gr_report.specs.Putting.{AppendsPrefix, Puts};
+ghost use Rattle.gr_show.specs.Explanations.{event_text};
+ghost use Rattle.gr_long.specs.Details.{details_of as spec_details_of};
+ghost use Rattle.gr_timeline.specs.Histories.{line_of, lines_of};
+ghost use Rattle.gr_timeline.specs.HistoryText as spec;
+
+use crate::entry::Entry;
+use gr_explain::records::Records;
+use gr_long::details::details_of;
+use gr_long::text::put_told;
+use gr_model::event::EventId;
+use gr_model::traces::Traces;
+use gr_report::putting::{WriteFault, finish, put, put_field};
+use std::alloc::Allocator;
+use std::io::Write;
+
+fn put_event<W: Write>(writer: &mut W, before: &[u8], event: EventId) -> Result<(), WriteFault>
+    ensures { Puts (W.contents writer.old) (W.contents writer.new) result (event_text before.now event) }
+{
+    put_field(writer, before, event.at.group)?;
+    put_field(writer, b" ", event.at.item)?;
+    put_field(writer, b" ", event.index)
+}
+
+fn put_events<W: Write>(writer: &mut W, before: &[u8], events: &[EventId]) -> Result<(), WriteFault>
+    ensures { Puts (W.contents writer.old) (W.contents writer.new) result (flat_map (event_text before.now) events.now) }
+{
+    for event in events {
+        put_event(writer, before, *event)?;
+    }
+    Ok(())
+}
+
+fn put_names<W: Write>(writer: &mut W, first: EventId, others: &[EventId]) -> Result<(), WriteFault>
+    ensures { Puts (W.contents writer.old) (W.contents writer.new) result (spec.names_text first others.now) }
+{
+    put_event(writer, b" behind ", first)?;
+    put_events(writer, b", ", others)
+}
+
+fn put_behind<W: Write>(writer: &mut W, above: usize, behind: &[EventId]) -> Result<(), WriteFault>
+    ensures { Puts (W.contents writer.old) (W.contents writer.new) result (spec.behind_text above behind.now) }
+{
+    match behind.split_first() {
+        None => put(writer, b" behind none"),
+        Some((first, others)) => {
+            if behind.len() == above {
+                put(writer, b" behind all")
+            } else {
+                put_names(writer, *first, others)
+            }
+        }
+    }
+}
+
+fn put_known<A: Allocator, W: Write>(
+    writer: &mut W,
+    traces: &Traces<A>,
+    records: &Records<A>,
+    event: EventId,
+) -> Result<(), WriteFault>
+    requires same { records.now ≡ traces.now }
+    requires there { IsEvent traces.now event }
+    ensures { Puts (W.contents writer.old) (W.contents writer.new) result (spec.known_text (spec_details_of traces.now event)) }
+{
+    let details = details_of(traces, records, event);
+    put_told(writer, &details)
+}
+
+fn put_entry<A: Allocator, W: Write>(
+    writer: &mut W,
+    traces: &Traces<A>,
+    records: &Records<A>,
+    entry: &Entry<A>,
+) -> Result<(), WriteFault>
+    requires same { records.now ≡ traces.now }
+    requires there { IsEvent traces.now entry.now.event }
+    ensures { Puts (W.contents writer.old) (W.contents writer.new) result (spec.line_text traces.now (line_of entry.now)) }
+{
+    put_event(writer, b"access ", entry.event)?;
+    put_known(writer, traces, records, entry.event)?;
+    put_behind(writer, entry.above, entry.behind.as_slice())?;
+    put(writer, b"\n")
+}
+
+fn put_entries<A: Allocator, W: Write>(
+    writer: &mut W,
+    traces: &Traces<A>,
+    records: &Records<A>,
+    entries: &[Entry<A>],
+) -> Result<(), WriteFault>
+    requires same { records.now ≡ traces.now }
+    requires there { All (λ x. IsEvent traces.now x.event) entries.now }
+    ensures { Puts (W.contents writer.old) (W.contents writer.new) result (flat_map (λ x. spec.line_text traces.now (line_of x)) entries.now) }
+{
+    for entry in entries {
+        put_entry(writer, traces, records, entry)?;
+    }
+    Ok(())
+}
+
+fn put_end<W: Write>(writer: &mut W, count: usize, racy: bool) -> Result<(), WriteFault>
+    ensures { Puts (W.contents writer.old) (W.contents writer.new) result (spec.end_line count racy) }
+{
+    put_field(writer, b"end accesses ", count)?;
+    if racy {
+        put(writer, b" races yes\n")
+    } else {
+        put(writer, b" races no\n")
+    }
+}
+
+fn put_history<A: Allocator, W: Write>(
+    writer: &mut W,
+    traces: &Traces<A>,
+    records: &Records<A>,
+    entries: &[Entry<A>],
+    racy: bool,
+) -> Result<(), WriteFault>
+    requires same { records.now ≡ traces.now }
+    requires there { All (λ x. IsEvent traces.now x.event) entries.now }
+    ensures { Puts (W.contents writer.old) (W.contents writer.new) result (spec.history_text traces.now (lines_of entries.now) racy) }
+{
+    put_entries(writer, traces, records, entries)?;
+    put_end(writer, entries.len(), racy)
+}
+
+/// Writes the history of a word, and flushes. It takes no memory.
+///
+/// # Errors
+/// `WriteFault` where the writer fails; what it took is then a prefix of the text.
+pub(crate) fn write_history<A: Allocator, W: Write>(
+    writer: &mut W,
+    traces: &Traces<A>,
+    records: &Records<A>,
+    entries: &[Entry<A>],
+    racy: bool,
+) -> Result<(), WriteFault>
+    requires same { records.now ≡ traces.now }
+    requires there { All (λ x. IsEvent traces.now x.event) entries.now }
+    ensures whole { OnOk result (Appends (W.contents writer.old) (W.contents writer.new) (spec.history_text traces.now (lines_of entries.now) racy)) }
+    ensures prefix { OnErr result (AppendsPrefix (W.contents writer.old) (W.contents writer.new) (spec.history_text traces.now (lines_of entries.now) racy)) }
+{
+    put_history(writer, traces, records, entries, racy)?;
+    finish(writer)
+}

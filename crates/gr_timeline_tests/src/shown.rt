@@ -1,0 +1,221 @@
+//! Histories of words, as text.
+
+use crate::ends::{FailingReader, FailingWriter};
+use gr_model::event::Word;
+use gr_model::memory::Memory;
+use gr_record::fault::Fault;
+use gr_text::packing::pack_text;
+use gr_timeline::show_history;
+use refusing::Refusing;
+use std::alloc::{Allocator, Global};
+use std::test::Fail;
+
+/// A word, the text that is due of it, and whether it is racy.
+type Asked = (Word, &'static str, bool);
+
+/// The text of each stream of a launch under a name, and what is asked of it.
+type Case = (&'static str, &'static [&'static str], &'static [Asked]);
+
+/// Item 0 writes, and releases to item 1, which reads.
+const PASSED: &str = "group 0 items 2 launch 7\n0 w g 16\n0 st g 20 dev rel\n\
+1 ld g 20 dev acq < 0 0 0\n1 r g 16\nend\n";
+
+const PASSED_TEXT: &str = "access 0 0 0 write record 0 phase 0 behind none\n\
+access 0 1 1 read record 3 phase 0 behind all\nend accesses 2 races no\n";
+
+/// Item 1 waits for a release of item 0 whose scope is another, and is not ordered behind it; item 2 is ordered behind
+/// item 1.
+const SCOPES: &str = "group 0 items 3 launch 7\n0 w g 16\n0 st g 20 grp rel\n\
+1 ld g 20 dev acq < 0 0 0\n1 w g 16\n1 r g 16\n1 st g 24 dev rel\n\
+2 ld g 24 dev acq < 0 1 0\n2 r g 16\nend\n";
+
+/// The items meet at a barrier, and item 1 then waits for a release that never comes.
+const BARRIER: &str = "group 0 items 2 launch 7\n0 rmw g 16 dev rlx\n0 bar 1 g\n1 bar 1 g\n\
+1 w g 16\n1 ld g 20 dev acq < 0 3 0\n1 w g 16\nend\n";
+
+const FIRST_GROUP: &str = "group 0 items 1 launch 7\n0 w l 5\n0 r l 5\nend\n";
+
+const SECOND_GROUP: &str = "group 1 items 1 launch 7\n0 w g 5\n0 r l 5\nend\n";
+
+const CASES: [Case; 4] = [
+    (
+        "what is passed on",
+        &[PASSED],
+        &[
+            (Word::Global(16), PASSED_TEXT, false),
+            (
+                Word::Global(20),
+                "access 0 0 1 store dev rel record 1 phase 0 behind none\naccess 0 1 0 load dev acq record 2 phase 0 behind all\nend accesses 2 races no\n",
+                false,
+            ),
+            (Word::Global(24), "end accesses 0 races no\n", false),
+            (Word::Local(9, 16), "end accesses 0 races no\n", false),
+        ],
+    ),
+    (
+        "scopes that differ",
+        &[SCOPES],
+        &[
+            (
+                Word::Global(16),
+                "access 0 0 0 write record 0 phase 0 behind none\naccess 0 1 1 write record 3 phase 0 behind none\naccess 0 1 2 read record 4 phase 0 behind 0 1 1\naccess 0 2 1 read record 7 phase 0 behind 0 1 1, 0 1 2\nend accesses 4 races yes\n",
+                true,
+            ),
+            (
+                Word::Global(20),
+                "access 0 0 1 store grp rel record 1 phase 0 behind none\naccess 0 1 0 load dev acq record 2 phase 0 behind none\nend accesses 2 races yes\n",
+                true,
+            ),
+        ],
+    ),
+    (
+        "a barrier, and an access that is held",
+        &[BARRIER],
+        &[(
+            Word::Global(16),
+            "access 0 0 0 rmw dev rlx record 0 phase 0 behind none\naccess 0 1 1 write record 3 phase 1 behind all\nend accesses 2 races no\n",
+            false,
+        )],
+    ),
+    (
+        "words of two groups",
+        &[SECOND_GROUP, FIRST_GROUP],
+        &[
+            (
+                Word::Local(0, 5),
+                "access 0 0 0 write record 0 phase 0 behind none\naccess 0 0 1 read record 1 phase 0 behind all\nend accesses 2 races no\n",
+                false,
+            ),
+            (
+                Word::Local(1, 5),
+                "access 1 0 1 read record 1 phase 0 behind none\nend accesses 1 races no\n",
+                false,
+            ),
+        ],
+    ),
+];
+
+/// The bytes of each stream.
+fn inputs_of(alloc: Global, texts: &[&str]) -> Result<Vec<Vec<u8>>, Fault> {
+    let mut inputs = Vec::new(alloc);
+    for text in texts {
+        let input = pack_text(alloc, text.as_bytes())?;
+        if inputs.push(input).is_err() {
+            return Err(Fault::Memory);
+        }
+    }
+    Ok(inputs)
+}
+
+/// Whether this text is written, or memory runs out with nothing written.
+fn is_shown<A: Allocator + Copy>(
+    alloc: A,
+    ample: Global,
+    inputs: &[Vec<u8>],
+    asked: Asked,
+) -> Result<bool, Memory> {
+    let (word, wanted, racy) = asked;
+    let mut readers = Vec::new(alloc);
+    for input in inputs {
+        readers.push(input.as_slice())?;
+    }
+    let mut text = Vec::new(ample);
+    match show_history(alloc, readers, word, &mut text) {
+        Ok(answer) => Ok(answer == racy && text.as_slice() == wanted.as_bytes()),
+        Err(Fault::Memory) if text.is_empty() => Err(Memory),
+        Err(_) => Ok(false),
+    }
+}
+
+/// Refuses each growth in turn, until none is refused; the first whose answer is wrong, if there is one.
+fn first_wrong_growth(alloc: Global, inputs: &[Vec<u8>], asked: Asked) -> Option<u64> {
+    for at in 0..10_000_u64 {
+        let heap = Refusing::new(alloc, at);
+        let answer = is_shown(&heap, alloc, inputs, asked);
+        if answer != Ok(true) && !(answer == Err(Memory) && heap.refused()) {
+            return Some(at);
+        }
+        if !heap.refused() {
+            return if at > 4 { None } else { Some(at) };
+        }
+    }
+    Some(10_000)
+}
+
+#[test]
+fn histories_are_shown_or_memory_runs_out(rt: HostRuntime) -> Result<(), Fail> {
+    for (name, texts, all_asked) in CASES {
+        let inputs = inputs_of(rt.alloc(), texts)?;
+        for asked in all_asked {
+            let (_, wanted, _) = *asked;
+            let answer = is_shown(rt.alloc(), rt.alloc(), &inputs, *asked);
+            assert!(rt; answer == Ok(true), "{name}: {wanted}");
+            let wrong = first_wrong_growth(rt.alloc(), &inputs, *asked);
+            assert_eq!(rt; wrong, None, "{name}: {wanted}");
+        }
+    }
+    Ok(())
+}
+
+/// What is answered and written where the reader succeeds at so many calls, and the writer takes so many bytes.
+fn shown_between(
+    alloc: Global,
+    input: &[u8],
+    calls: usize,
+    writer: &mut FailingWriter,
+) -> Result<bool, Fault> {
+    let mut readers = Vec::new(alloc);
+    let reader = FailingReader {
+        bytes: input,
+        calls,
+    };
+    if readers.push(reader).is_err() {
+        return Err(Fault::Memory);
+    }
+    show_history(alloc, readers, Word::Global(16), writer)
+}
+
+#[test]
+fn readers_and_writers_that_fail_are_told(rt: HostRuntime) -> Result<(), Fail> {
+    let input = pack_text(rt.alloc(), PASSED.as_bytes())?;
+    let (bytes, letters) = (112, PASSED_TEXT.len());
+    assert_eq!(rt; input.len(), bytes);
+    for calls in 0..bytes + 1 {
+        let mut writer = FailingWriter {
+            taken: Vec::new(rt.alloc()),
+            room: letters,
+            flushes: true,
+        };
+        let answer = shown_between(rt.alloc(), &input, calls, &mut writer);
+        assert_eq!(rt; answer, Err(Fault::Read), "after {calls} calls");
+        assert!(rt; writer.taken.is_empty(), "after {calls} calls");
+    }
+    for room in 0..letters + 1 {
+        let mut writer = FailingWriter {
+            taken: Vec::new(rt.alloc()),
+            room,
+            flushes: room < letters,
+        };
+        let answer = shown_between(rt.alloc(), &input, bytes + 1, &mut writer);
+        assert_eq!(rt; answer, Err(Fault::Write), "after {room} bytes");
+        assert!(rt;
+            writer.taken.len() == room && PASSED_TEXT.as_bytes().starts_with(&writer.taken),
+            "after {room} bytes"
+        );
+    }
+    Ok(())
+}
+
+#[test]
+fn inputs_that_are_no_launch_are_refused(rt: HostRuntime) -> Result<(), Fail> {
+    let inputs = inputs_of(rt.alloc(), &[FIRST_GROUP, FIRST_GROUP])?;
+    let mut readers = Vec::new(rt.alloc());
+    for input in &inputs {
+        readers.push(input.as_slice())?;
+    }
+    let mut text = Vec::new(rt.alloc());
+    let answer = show_history(rt.alloc(), readers, Word::Local(0, 5), &mut text);
+    assert_eq!(rt; answer, Err(Fault::SameGroup(1)));
+    assert!(rt; text.is_empty());
+    Ok(())
+}
