@@ -1,5 +1,6 @@
 -- The lines of entries.
-use Rattle.std.proofs.Common.{◌≡◌, ◌==◌, ℕ, false, List, [], ◌∷◌, ◌++◌, ap, codes, cond, length, refl, ◌∙◌, map, subst, sym}
+use Rattle.std.proofs.Common.{◌≡◌, ◌==◌, ℕ, Bool, false, true, List, [], ◌∷◌, ◌++◌, ap, codes, cond, length, refl, ◌∙◌, map, subst, sym}
+use Rattle.std.proofs.lemmas.Bool.Decides.{Decides-eqb}
 use Rattle.std.specs.List.{flat_map}
 use Rattle.std.proofs.lemmas.List.Concat.{flat_map-cons}
 use Rattle.gr_model.specs.declared.event.EventId.{EventId}
@@ -11,7 +12,14 @@ mapped_lines f g [] = refl
 mapped_lines f g (x ∷ xs) =
     flat_map-cons (λ x. f (g x)) x xs ∙ ap (λ (rest : List ℕ). f (g x) ++ rest) (mapped_lines f g xs) ∙ sym (flat_map-cons f (g x) (map g xs))
 
+unequal : (m n : ℕ) → (m ≡ n → ⊥) → (m == n) ≡ false
+unequal m n differ = go (m == n) refl
+  where
+    go : (b : Bool) → (m == n) ≡ b → b ≡ false
+    go false e = refl
+    go true e = absurd (differ ((Decides-eqb m n).0 e))
+
 -- some of those above it, and not all
-pub named : (above : ℕ) (behind others : List EventId) (e : EventId) → behind ≡ e ∷ others → (length behind == above) ≡ false → behind_text above behind ≡ names_text e others
-named above behind others e is differs =
-    ap (behind_text above) is ∙ ap (λ b. cond b (codes " behind all") (names_text e others)) (subst (λ (l : List EventId). (length l == above) ≡ false) is differs)
+pub named : (above : ℕ) (behind others : List EventId) (e : EventId) → behind ≡ e ∷ others → (length behind ≡ above → ⊥) → behind_text above behind ≡ names_text e others
+named above behind others e is differ =
+    ap (behind_text above) is ∙ ap (λ b. cond b (codes " behind all") (names_text e others)) (subst (λ (l : List EventId). (length l == above) ≡ false) is (unequal (length behind) above differ))

@@ -5,8 +5,10 @@ ghost use Rattle.std.specs.Io.KnownBytes.{Keeps};
 ghost use Rattle.gr_record.specs.declared.fault.Fault.TheVariants as faults;
 ghost use Rattle.gr_replay.specs.Each.{all_known};
 ghost use Rattle.gr_show.specs.Shown.{IsRacyIn, IsShowFault, IsShown, ShowsPrefix};
+ghost use Rattle.gr_timeline.specs.Histories.{IsHistory, lines_of};
 ghost use Rattle.gr_timeline.specs.Shown.{IsHistoryText};
 
+use crate::entry::Entry;
 use crate::history::history_of;
 use crate::text::write_history;
 use gr_explain::records::Records;
@@ -38,6 +40,22 @@ fn is_racy<A: Allocator + Copy>(alloc: A, traces: &Traces<A>, word: Word) -> Res
     Ok(has(report.races.as_slice(), word))
 }
 
+/// The history of a word of a launch, and whether the word is racy.
+///
+/// # Errors
+/// `Memory`: out of memory.
+fn told_of<A: Allocator + Copy>(
+    alloc: A,
+    traces: &Traces<A>,
+    word: Word,
+) -> Result<(Vec<Entry<A>, A>, bool), Memory>
+    ensures history { IfOk result (λ told. IsHistory traces.now word (lines_of told.0.items)) }
+    ensures racy { IfOk result (λ told. IsTrue told.1 ↔ IsRacyIn word traces.now) }
+{
+    let racy = is_racy(alloc, traces, word)?;
+    Ok((history_of(alloc, traces, word)?, racy))
+}
+
 /// Reads the streams of a launch, one from each reader, writes the history of a word and nothing else, and tells whether
 /// the word has a race.
 ///
@@ -59,9 +77,8 @@ pub fn show_history<A: Allocator + Copy, T: Read + Drop, W: Write>(
     ensures threads { IfErr result (λ f. f ≢ faults.Threads) }
 {
     let traces = read_each(alloc, readers)?;
-    let racy = is_racy(alloc, &traces, word)?;
     let records = Records::of(take_all(alloc, &traces)?);
-    let entries = history_of(alloc, &traces, word)?;
+    let (entries, racy) = told_of(alloc, &traces, word)?;
     match write_history(writer, &traces, &records, &entries, racy) {
         Ok(()) => Ok(racy),
         Err(_) => Err(Fault::Write),

@@ -4,7 +4,7 @@ use Rattle.gr_timeline.proofs.ShownLemmas.{entries_are_events}
 use Rattle.gr_timeline.proofs.show.show_history.Goals as goal
 
 pub write_history-requires-clause-there : goal.write_history-requires-clause-there
-write_history-requires-clause-there g c = entries_are_events c.in_ok-traces.traces c.args.word _ c.in_ok-entries.ensures
+write_history-requires-clause-there g c = rw c.deref.ensures.value (entries_are_events c.in_ok-traces.traces c.args.word c.in_ok-entries.entries.items c.in_ok-entries.ensures.history)
 
 pub returns-in-Ok-clause-shown : goal.returns-in-Ok-clause-shown
 returns-in-Ok-clause-shown g c =
@@ -13,9 +13,9 @@ returns-in-Ok-clause-shown g c =
       spelled = c.in_ok-traces.ensures.launch;
       accepted = search rules;
       text = _;
-      exact = record { lines = lines_of c.in_ok-entries.entries.items; exact = c.in_ok-entries.ensures; racy = c.in_ok-racy.racy; said = c.in_ok-racy.ensures; is = refl };
-      written = c.in-Ok.ensures.whole;
-      said = c.in_ok-racy.ensures;
+      exact = record { lines = lines_of c.in_ok-entries.entries.items; exact = c.in_ok-entries.ensures.history; racy = c.in_ok-entries.racy; said = c.in_ok-entries.ensures.racy; is = refl };
+      written = rw c.deref.ensures.value at c.in-Ok.ensures.whole;
+      said = c.in_ok-entries.ensures.racy;
     }
 
 pub returns-clause-prefix : goal.returns-clause-prefix
@@ -24,6 +24,6 @@ returns-clause-prefix g c = λ _. record {
   spelled = c.in_ok-traces.ensures.launch;
   accepted = search rules;
   text = _;
-  exact = record { lines = lines_of c.in_ok-entries.entries.items; exact = c.in_ok-entries.ensures; racy = c.in_ok-racy.racy; said = c.in_ok-racy.ensures; is = refl };
-  prefix = c.in-Err.ensures.prefix;
+  exact = record { lines = lines_of c.in_ok-entries.entries.items; exact = c.in_ok-entries.ensures.history; racy = c.in_ok-entries.racy; said = c.in_ok-entries.ensures.racy; is = refl };
+  prefix = rw c.deref.ensures.value at c.in-Err.ensures.prefix;
 }

@@ -7,7 +7,7 @@ pub returns-in_err-put_field : goal.returns-in_err-put_field
 returns-in_err-put_field g c = puts_err _ c.from_residual.ensures.0 (puts_more (racy_text c.args.racy) c.in_err-put_field.ensures)
 
 pub returns-then-racy : goal.returns-then-racy
-returns-then-racy g c = rw c.if-racy.true (puts_then c.in_ok-put_field.ensures c.put-then-racy.ensures.puts)
+returns-then-racy g c = rw c.if-racy.true (puts_then c.in_ok-put_field.ensures c.put.ensures.puts)
 
 pub returns-else-racy : goal.returns-else-racy
-returns-else-racy g c = rw c.if-racy.false (puts_then c.in_ok-put_field.ensures c.put-else-racy.ensures.puts)
+returns-else-racy g c = rw c.if-racy.false (puts_then c.in_ok-put_field.ensures c.put-2.ensures.puts)

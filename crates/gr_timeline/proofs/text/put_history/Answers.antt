@@ -20,5 +20,5 @@ returns g c =
     let s = c.args.traces.now in
     let entries = c.args.entries.now in
     let lines = subst (λ (text : List ℕ). Puts (g.W.Write.contents c.args.writer.now) (g.W.Write.contents c.put_entries.new.writer) (Ok c.in_ok-put_entries.field-0) text) (mapped_lines (line_text s) line_of entries) c.in_ok-put_entries.ensures in
-    let end = subst (λ (n : ℕ). Puts (g.W.Write.contents c.put_entries.new.writer) (g.W.Write.contents c.put_end.new.writer) c.put_end.result (end_line n c.args.racy)) (c.len.ensures ∙ sym (length-map entries line_of)) c.put_end.ensures in
+    let end = subst (λ (n : ℕ). Puts (g.W.Write.contents c.put_entries.new.writer) (g.W.Write.contents c.put_end.new.writer) c.put_end.result (end_line n c.args.racy)) (sym (length-map entries line_of)) c.put_end.ensures in
     puts_then lines end
