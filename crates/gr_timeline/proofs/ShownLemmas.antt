@@ -1,5 +1,6 @@
 -- What is shown of a history.
-use Rattle.std.proofs.Common.{◌≡◌, ◌↔◌, ◌<◌, ◌∙◌, ℕ, zero, suc, All, Bool, arith, get_or, length, true, Contains, List, [], ◌∷◌, Some, ap, refl, slice_get, sym}
+use Rattle.std.proofs.Common.{◌≡◌, ◌↔◌, ◌<◌, ◌∙◌, ℕ, zero, suc, All, Bool, arith, get_or, length, true, Contains, List, [], ◌∷◌, None, Option, Some, ap, refl, slice_get, sym}
+use Rattle.std.specs.Prelude.{IfSome}
 use Rattle.std.specs.List.{list_any}
 use Rattle.std.proofs.lemmas.Map.Views.{Contains-from_any, list_any-from_Contains}
 use Rattle.gr_model.specs.declared.event.EventId.{EventId}
@@ -34,3 +35,8 @@ module _ (words : List Word) (w : Word) where
     λ found. Contains-from_any same_from_equal w words (sym turned ∙ found),
     λ there. turned ∙ list_any-from_Contains equal.laws-law w words there,
   )
+
+-- what holds of all inputs holds of those that are known
+pub of_any : (known : Option (List (List ℕ))) (P : List (List ℕ) → Type 0) → ((inputs : List (List ℕ)) → P inputs) → IfSome known P
+of_any None P p = tt
+of_any (Some inputs) P p = p inputs

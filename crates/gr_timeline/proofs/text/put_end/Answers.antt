@@ -10,4 +10,4 @@ pub returns-then-racy : goal.returns-then-racy
 returns-then-racy g c = rw c.if-racy.true (puts_then c.in_ok-put_field.ensures c.put.ensures.puts)
 
 pub returns-else-racy : goal.returns-else-racy
-returns-else-racy g c = rw c.if-racy.false (puts_then c.in_ok-put_field.ensures c.put-2.ensures.puts)
+returns-else-racy g c = rw c.if-racy.false (puts_then c.in_ok-put_field.ensures c.put-else-racy.ensures.puts)
