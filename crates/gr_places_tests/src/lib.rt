@@ -4,4 +4,6 @@
 #[cfg(test)]
 mod buffers;
 #[cfg(test)]
+mod index;
+#[cfg(test)]
 mod places;

@@ -8,6 +8,9 @@ use Rattle.std.proofs.lemmas.Bool.{and_parts, eqb-true, false_from_ne_true, lt-l
 use Rattle.std.proofs.lemmas.List.Elements.{All-cons, All-contains, All-nil, Contains-append_left, Contains-append_right, Contains-push}
 use Rattle.std.proofs.lemmas.List.Folds.{list_any-append, list_any_at}
 use Rattle.std.proofs.lemmas.List.Quantifiers.{all_pairs_push}
+use Rattle.gr_causes.specs.declared.cause.Cause.{Cause}
+use Rattle.gr_causes.specs.declared.cause.Cause.TheVariants as why
+use Rattle.gr_causes.specs.contracts.cause.CausePartialEq.TheImpl as causes
 use Rattle.gr_model.specs.Access.{event_word, word_if_access, word_in}
 use Rattle.gr_model.specs.declared.event.Event.{Event}
 use Rattle.gr_model.specs.declared.event.EventId.{EventId}
@@ -33,6 +36,7 @@ use Rattle.gr_races.specs.contracts.kinds.PlacePairPartialEq.TheImpl as pairs
 use Rattle.gr_races.specs.contracts.kinds.RaceKindEq.TheImpl.Laws as equal
 use Rattle.gr_races.specs.Kinds.{all_kinded, kinded, operation_at, operation_of, same_kind, with_operations}
 use Rattle.gr_races.specs.Listing.{kinds_after, kinds_of, with_kind}
+use Rattle.gr_races.specs.Telling.{with_causes}
 
 -- ---- a launch has a racy word exactly where it has a race
 
@@ -63,26 +67,34 @@ operation_there s e x w at word =
     let is = some_operation x.kind _ w said in
     (is.0, ap (option_and_then (λ (x : Event). operation_of x.kind)) at ∙ is.1)
 
-kind_there : (s : Streams) (numbers : Placed → Option ℕ) (r : Race) → IsRacePair s r.word (r.first, r.second) → (row : KindedRace) × (kinded s numbers r ≡ Some row) × (row.race ≡ r)
-kind_there s numbers r pair =
+kind_there : (s : Streams) (numbers : Placed → Option ℕ) (r : Race) (cause : Option Cause) → IsRacePair s r.word (r.first, r.second) → (row : KindedRace) × (kinded s numbers (r, cause) ≡ Some row) × (row.race ≡ r)
+kind_there s numbers r cause pair =
     let may_race = pair.race.may_race in
     let a = operation_there s r.first may_race.first r.word may_race.at_first may_race.word_first in
     let b = operation_there s r.second may_race.second r.word may_race.at_second may_race.word_second in (
-      with_operations numbers r a.0 b.0,
-      ap (option_and_then (λ (a : Operation). option_map (λ (b : Operation). with_operations numbers r a b) (operation_at s r.second))) a.1 ∙ ap (option_map (λ (b : Operation). with_operations numbers r a.0 b)) b.1,
+      with_operations numbers r cause a.0 b.0,
+      ap (option_and_then (λ (a : Operation). option_map (λ (b : Operation). with_operations numbers r cause a b) (operation_at s r.second))) a.1 ∙ ap (option_map (λ (b : Operation). with_operations numbers r cause a.0 b)) b.1,
       refl,
     )
 
-all_have_kinds : (s : Streams) (numbers : Placed → Option ℕ) (races : List Race) → ((r : Race) → Contains races r → IsRacePair s r.word (r.first, r.second)) → map (λ (row : KindedRace). row.race) (all_kinded s numbers races) ≡ races
-all_have_kinds s numbers [] pairs = refl
-all_have_kinds s numbers (r ∷ races) pairs =
-    let there = kind_there s numbers r (pairs r (Contains-append_left (r ∷ []) races r (Contains-push [] r))) in
-    ap (λ (o : Option KindedRace). map (λ (row : KindedRace). row.race) (cons_option o (all_kinded s numbers races))) there.1
-    ∙ ap (λ (q : Race). q ∷ map (λ (row : KindedRace). row.race) (all_kinded s numbers races)) there.2
-    ∙ ap (λ (rs : List Race). r ∷ rs) (all_have_kinds s numbers races (λ q h. pairs q (Contains-append_right (r ∷ []) races q h)))
+one_more : (s : Streams) (numbers : Placed → Option ℕ) (r : Race) (cause : Option Cause) (rest : List (Race × Option Cause)) (races : List Race) → IsRacePair s r.word (r.first, r.second) → map (λ (row : KindedRace). row.race) (all_kinded s numbers rest) ≡ races → map (λ (row : KindedRace). row.race) (all_kinded s numbers ((r, cause) ∷ rest)) ≡ r ∷ races
+one_more s numbers r cause rest races pair more =
+    let there = kind_there s numbers r cause pair in
+    ap (λ (o : Option KindedRace). map (λ (row : KindedRace). row.race) (cons_option o (all_kinded s numbers rest))) there.1
+    ∙ ap (λ (q : Race). q ∷ map (λ (row : KindedRace). row.race) (all_kinded s numbers rest)) there.2
+    ∙ ap (λ (rs : List Race). r ∷ rs) more
 
-pub every_race_has_a_kind : (s : Streams) (numbers : Placed → Option ℕ) (races : List Race) → ArePairedRaces s races → map (λ (row : KindedRace). row.race) (all_kinded s numbers races) ≡ races
-every_race_has_a_kind s numbers races are = all_have_kinds s numbers races (λ r there. All-contains (λ (r : Race). IsRacePair s r.word (r.first, r.second)) races r are.pairs there)
+all_have_kinds : (s : Streams) (numbers : Placed → Option ℕ) (races : List Race) (told : List Cause) → ((r : Race) → Contains races r → IsRacePair s r.word (r.first, r.second)) → map (λ (row : KindedRace). row.race) (all_kinded s numbers (with_causes races told)) ≡ races
+all_have_kinds s numbers [] told pairs = refl
+all_have_kinds s numbers (r ∷ races) [] pairs =
+    one_more s numbers r None (with_causes races []) races (pairs r (Contains-append_left (r ∷ []) races r (Contains-push [] r)))
+    (all_have_kinds s numbers races [] (λ q h. pairs q (Contains-append_right (r ∷ []) races q h)))
+all_have_kinds s numbers (r ∷ races) (cause ∷ told) pairs =
+    one_more s numbers r (Some cause) (with_causes races told) races (pairs r (Contains-append_left (r ∷ []) races r (Contains-push [] r)))
+    (all_have_kinds s numbers races told (λ q h. pairs q (Contains-append_right (r ∷ []) races q h)))
+
+pub every_race_has_a_kind : (s : Streams) (numbers : Placed → Option ℕ) (races : List Race) (told : List Cause) → ArePairedRaces s races → map (λ (row : KindedRace). row.race) (all_kinded s numbers (with_causes races told)) ≡ races
+every_race_has_a_kind s numbers races told are = all_have_kinds s numbers races told (λ r there. All-contains (λ (r : Race). IsRacePair s r.word (r.first, r.second)) races r are.pairs there)
 
 -- ---- each kind is listed once
 
@@ -189,6 +201,39 @@ same_places None (Some b) e = absurd (true≢false (sym e))
 same_places (Some a) None e = absurd (true≢false (sym e))
 same_places (Some a) (Some b) e = ap (λ (p : PlacePair). Some p) (same_pairs a b e)
 
+same_why : (a b : Cause) → (causes.eq-value).it a b ≡ true → a ≡ b
+same_why why.Flags why.Flags e = refl
+same_why why.Flags why.Scope e = absurd (true≢false (sym e))
+same_why why.Flags why.Divergence e = absurd (true≢false (sym e))
+same_why why.Flags why.NoBarrier e = absurd (true≢false (sym e))
+same_why why.Flags why.NoHandOver e = absurd (true≢false (sym e))
+same_why why.Scope why.Flags e = absurd (true≢false (sym e))
+same_why why.Scope why.Scope e = refl
+same_why why.Scope why.Divergence e = absurd (true≢false (sym e))
+same_why why.Scope why.NoBarrier e = absurd (true≢false (sym e))
+same_why why.Scope why.NoHandOver e = absurd (true≢false (sym e))
+same_why why.Divergence why.Flags e = absurd (true≢false (sym e))
+same_why why.Divergence why.Scope e = absurd (true≢false (sym e))
+same_why why.Divergence why.Divergence e = refl
+same_why why.Divergence why.NoBarrier e = absurd (true≢false (sym e))
+same_why why.Divergence why.NoHandOver e = absurd (true≢false (sym e))
+same_why why.NoBarrier why.Flags e = absurd (true≢false (sym e))
+same_why why.NoBarrier why.Scope e = absurd (true≢false (sym e))
+same_why why.NoBarrier why.Divergence e = absurd (true≢false (sym e))
+same_why why.NoBarrier why.NoBarrier e = refl
+same_why why.NoBarrier why.NoHandOver e = absurd (true≢false (sym e))
+same_why why.NoHandOver why.Flags e = absurd (true≢false (sym e))
+same_why why.NoHandOver why.Scope e = absurd (true≢false (sym e))
+same_why why.NoHandOver why.Divergence e = absurd (true≢false (sym e))
+same_why why.NoHandOver why.NoBarrier e = absurd (true≢false (sym e))
+same_why why.NoHandOver why.NoHandOver e = refl
+
+same_causes : (a b : Option Cause) → option_eq (causes.eq-value).it a b ≡ true → a ≡ b
+same_causes None None e = refl
+same_causes None (Some b) e = absurd (true≢false (sym e))
+same_causes (Some a) None e = absurd (true≢false (sym e))
+same_causes (Some a) (Some b) e = ap (λ (c : Cause). Some c) (same_why a b e)
+
 same_is_one : (k l : RaceKind) → same_kind k l ≡ true → k ≡ l
 same_is_one k l e =
     let space = (spaces.eq-value).it k.space l.space in
@@ -196,16 +241,19 @@ same_is_one k l e =
     let second = (operations.eq-value).it k.second l.second in
     let group = beq k.one_group l.one_group in
     let places = option_eq (pairs.eq-value).it k.places l.places in
-    let p = and_parts space (first && (second && (group && places))) e in
-    let q = and_parts first (second && (group && places)) p.1 in
-    let r = and_parts second (group && places) q.1 in
-    let t = and_parts group places r.1 in
+    let cause = option_eq (causes.eq-value).it k.cause l.cause in
+    let p = and_parts space (first && (second && (group && (places && cause)))) e in
+    let q = and_parts first (second && (group && (places && cause))) p.1 in
+    let r = and_parts second (group && (places && cause)) q.1 in
+    let t = and_parts group (places && cause) r.1 in
+    let u = and_parts places cause t.1 in
     λ i. record {
       space = same_spaces k.space l.space p.0 i;
       first = same_operations k.first l.first q.0 i;
       second = same_operations k.second l.second r.0 i;
       one_group = same_answers k.one_group l.one_group t.0 i;
-      places = same_places k.places l.places t.1 i;
+      places = same_places k.places l.places u.0 i;
+      cause = same_causes k.cause l.cause u.1 i;
     }
 
 pub the_same_kinds_are_one : (k l : RaceKind) → IsTrue (same_kind k l) ↔ (k ≡ l)

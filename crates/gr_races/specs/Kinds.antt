@@ -2,6 +2,7 @@
 -- Source: docs/FORMATS.md, "Races". They are this project's own.
 use Rattle.std.specs.Prelude.{ℕ, Bool, ◌==◌, Option, None, Some, option_and_then, option_map, List}
 use Rattle.std.specs.List.{filter_map}
+use Rattle.gr_causes.specs.declared.cause.Cause.{Cause}
 use Rattle.gr_model.specs.Access.{memory_of}
 use Rattle.gr_model.specs.declared.event.EventId.{EventId}
 use Rattle.gr_model.specs.declared.event.Kind.{Kind}
@@ -36,19 +37,19 @@ abbrev pub places_of : (Placed → Option ℕ) → Race → Option PlacePair
 places_of numbers r = option_and_then (λ m. option_map (λ n. record { first = m; second = n }) (numbers (Event r.second))) (numbers (Event r.first))
 
 -- a race of two events that do this
-abbrev pub with_operations : (Placed → Option ℕ) → Race → Operation → Operation → KindedRace
-with_operations numbers r a b = record {
-  kind = record { space = memory_of r.word; first = a; second = b; one_group = r.first.at.group == r.second.at.group; places = places_of numbers r };
+abbrev pub with_operations : (Placed → Option ℕ) → Race → Option Cause → Operation → Operation → KindedRace
+with_operations numbers r cause a b = record {
+  kind = record { space = memory_of r.word; first = a; second = b; one_group = r.first.at.group == r.second.at.group; places = places_of numbers r; cause = cause };
   race = r;
 }
 
 -- a race with its kind, where places have these numbers: the memory of its word, what its two events do, whether they are
--- of one group, and where they stand, if both places are known
-abbrev pub kinded : Streams → (Placed → Option ℕ) → Race → Option KindedRace
-kinded s numbers r = option_and_then (λ a. option_map (λ b. with_operations numbers r a b) (operation_at s r.second)) (operation_at s r.first)
+-- of one group, where they stand, if both places are known, and the cause, if it is told
+abbrev pub kinded : Streams → (Placed → Option ℕ) → Race × Option Cause → Option KindedRace
+kinded s numbers (r, cause) = option_and_then (λ a. option_map (λ b. with_operations numbers r cause a b) (operation_at s r.second)) (operation_at s r.first)
 
--- races with their kinds
-abbrev pub all_kinded : Streams → (Placed → Option ℕ) → List Race → List KindedRace
+-- races, each with the cause that is told of it, with their kinds
+abbrev pub all_kinded : Streams → (Placed → Option ℕ) → List (Race × Option Cause) → List KindedRace
 all_kinded s numbers races = filter_map (kinded s numbers) races
 
 abbrev pub same_kind : RaceKind → RaceKind → Bool

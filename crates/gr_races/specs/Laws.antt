@@ -1,6 +1,7 @@
 -- What follows of the races of a launch kind by kind.
 use Rattle.std.specs.Prelude.{◌≡◌, ◌↔◌, false, ℕ, List, [], Option, All, AllPairs, IsTrue, map}
 use Rattle.std.specs.List.{list_any}
+use Rattle.gr_causes.specs.declared.cause.Cause.{Cause}
 use Rattle.gr_model.specs.declared.race.Race.{Race}
 use Rattle.gr_model.specs.RacePairs.{ArePairedRaces}
 use Rattle.gr_model.specs.Streams.{Streams}
@@ -9,11 +10,12 @@ use Rattle.gr_races.specs.declared.kinds.KindedRace.{KindedRace}
 use Rattle.gr_races.specs.declared.kinds.RaceKind.{RaceKind}
 use Rattle.gr_races.specs.Kinds.{all_kinded, same_kind}
 use Rattle.gr_races.specs.Listing.{kinds_of}
+use Rattle.gr_races.specs.Telling.{with_causes}
 use Rattle.gr_races.specs.Sides.{notes, nothing_said}
 
 -- no racing pair is without a kind
 abbrev pub EveryRaceHasAKind : Type 0
-EveryRaceHasAKind = (s : Streams) (numbers : Placed → Option ℕ) (races : List Race) → ArePairedRaces s races → map (λ row. row.race) (all_kinded s numbers races) ≡ races
+EveryRaceHasAKind = (s : Streams) (numbers : Placed → Option ℕ) (races : List Race) (told : List Cause) → ArePairedRaces s races → map (λ row. row.race) (all_kinded s numbers (with_causes races told)) ≡ races
 
 -- two kinds are the same just where they are one
 abbrev pub SameKindsAreOne : Type 0

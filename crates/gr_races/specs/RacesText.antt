@@ -16,7 +16,6 @@ use Rattle.gr_races.specs.declared.runs.Run.{Run}
 use Rattle.gr_races.specs.Listing.{Entry}
 use Rattle.gr_races.specs.Runs.{number_of}
 use Rattle.gr_races.specs.Sides.{SidesSaid, notes}
-use Rattle.gr_races.specs.Telling.{with_causes}
 
 abbrev pub space_text : Space → List ℕ
 space_text Global = codes "kind global"
@@ -55,8 +54,8 @@ abbrev pub first_lines : SidesSaid → Option Cause → List Race → List ℕ
 first_lines s cause [] = []
 first_lines s cause (r ∷ races) = pair_text r.word r.first r.second ++ codes "\n" ++ notes s r ++ cause_lines r cause
 
-abbrev pub entry_text : SidesSaid → Entry × Option Cause → List ℕ
-entry_text s (e, cause) = kind_line e.kind (length e.races) ++ words_line e.runs ++ first_lines s cause e.races
+abbrev pub entry_text : SidesSaid → Entry → List ℕ
+entry_text s e = kind_line e.kind (length e.races) ++ words_line e.runs ++ first_lines s e.kind.cause e.races
 
 abbrev pub end_line : ℕ → ℕ → List ℕ
 end_line kinds races = field (codes "end kinds ") (decimal kinds) ++ field (codes " races ") (decimal races) ++ codes "\n"
@@ -66,6 +65,6 @@ abbrev pub at_most : {X : Type 0} → Option ℕ → List X → List X
 at_most None xs = xs
 at_most (Some n) xs = take n xs
 
--- at most so many kinds, each with the cause that is told of it, and how many kinds and races there are
-abbrev pub races_text : SidesSaid → Option ℕ → List Cause → List Entry → ℕ → List ℕ
-races_text s most causes entries races = flat_map (entry_text s) (with_causes (at_most most entries) causes) ++ end_line (length entries) races
+-- at most so many kinds, and how many kinds and races there are
+abbrev pub races_text : SidesSaid → Option ℕ → List Entry → ℕ → List ℕ
+races_text s most entries races = flat_map (entry_text s) (at_most most entries) ++ end_line (length entries) races

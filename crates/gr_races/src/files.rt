@@ -166,7 +166,7 @@ pub fn buffers_of<A: Allocator>(
 
 /// Opens the side files that are named and the files of these names, reads the side files and then the streams of a
 /// launch, one from each file, writes its races kind by kind, of at most so many kinds, with what the side files say of
-/// them and, where they are asked for, with the causes of the first of each kind, and nothing else, and tells whether
+/// them and, where they are asked for, with the cause of all races of each kind, and nothing else, and tells whether
 /// there is a race.
 ///
 /// # Errors

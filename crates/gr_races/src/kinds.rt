@@ -4,6 +4,7 @@ ghost use Rattle.std.specs.Prelude.{◌≡◌};
 ghost use Rattle.gr_places.specs.PlaceIndexes.{number_at};
 ghost use Rattle.gr_races.specs.Kinds as spec;
 
+use gr_causes::cause::Cause;
 use gr_clocks::clocks::memory_of;
 use gr_explain::records::Records;
 use gr_model::event::{EventId, Kind, Space};
@@ -49,6 +50,8 @@ pub struct RaceKind {
     pub one_group: bool,
     /// Where both events stand, if the file of places has both.
     pub places: Option<PlacePair>,
+    /// The cause of the race, if causes were asked for.
+    pub cause: Option<Cause>,
 }
 
 /// A race and its kind.
@@ -95,13 +98,15 @@ fn places_of<A: Allocator>(index: &PlaceIndex<'_, A>, race: &Race) -> Option<Pla
     Some(PlacePair { first, second })
 }
 
-/// A race with its kind, or `None` where its events are not two accesses of the launch.
+/// A race with its kind, where this is the cause that is told of it, or `None` where its events are not two accesses of
+/// the launch.
 pub(crate) fn kinded<A: Allocator>(
     records: &Records<A>,
     index: &PlaceIndex<'_, A>,
     race: &Race,
+    cause: Option<Cause>,
 ) -> Option<KindedRace>
-    ensures { result ≡ spec.kinded records.now (number_at index.now) race.now }
+    ensures { result ≡ spec.kinded records.now (number_at index.now) (race.now, cause) }
 {
     let first = operation_at(records, race.first)?;
     let second = operation_at(records, race.second)?;
@@ -112,6 +117,7 @@ pub(crate) fn kinded<A: Allocator>(
             second,
             one_group: race.first.at.group == race.second.at.group,
             places: places_of(index, race),
+            cause,
         },
         race: *race,
     })

@@ -2,7 +2,8 @@
 
 ghost use Rattle.gr_races.specs.Laws.{EachRaceIsListedOnce, EveryRaceHasAKind, NothingIsNoted, SameKindsAreOne};
 
-/// Kinds are the same just where the memory, both accesses, and whether these are of one work-group are the same.
+/// Kinds are the same just where the memory, both accesses, whether these are of one work-group, the numbers of both places,
+/// and the cause are the same.
 pub fn the_same_kinds_are_one()
     ensures { SameKindsAreOne }
 {}

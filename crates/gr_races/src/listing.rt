@@ -1,13 +1,15 @@
 //! The races of a launch, kind by kind.
 
-ghost use Rattle.std.specs.Prelude.{◌≡◌, IfOk, OnOk, map};
+ghost use Rattle.std.specs.Prelude.{◌≡◌, IfOk, OnOk, map, slice_get};
 ghost use Rattle.std.specs.List.{list_any};
 ghost use Rattle.gr_places.specs.PlaceIndexes.{number_at};
 ghost use Rattle.gr_races.specs.Kinds.{all_kinded, same_kind};
 ghost use Rattle.gr_races.specs.Listing as spec;
+ghost use Rattle.gr_races.specs.Telling.{with_causes};
 
 use crate::kinds::{KindedRace, RaceKind, kinded};
 use crate::runs::{Run, runs_of};
+use gr_causes::cause::Cause;
 use gr_explain::records::Records;
 use gr_model::memory::Memory;
 use gr_model::race::Race;
@@ -26,7 +28,30 @@ pub struct KindEntry<A: Allocator = Global> {
     pub runs: Vec<Run, A>,
 }
 
-/// The races with their kinds.
+/// The cause that is told of the race at a place, if there is one.
+fn cause_at(causes: &[Cause], place: usize) -> Option<Cause>
+    ensures { result ≡ slice_get causes.now place }
+{
+    causes.get(place).copied()
+}
+
+/// Keeps a row, if there is one.
+///
+/// # Errors
+/// `Memory`: out of memory.
+fn keep_row<A: Allocator>(
+    rows: &mut Vec<KindedRace, A>,
+    row: Option<KindedRace>,
+) -> Result<(), Memory>
+    ensures { OnOk result (rows.new.items ≡ spec.with_row rows.old.items row) }
+{
+    if let Some(row) = row {
+        rows.push(row)?;
+    }
+    Ok(())
+}
+
+/// The races with their kinds, where these are the causes that are told of them, the first of the first race.
 ///
 /// # Errors
 /// `Memory`: out of memory.
@@ -35,13 +60,15 @@ pub(crate) fn all_kinded<A: Allocator + Copy>(
     records: &Records<A>,
     index: &PlaceIndex<'_, A>,
     races: &[Race],
+    causes: &[Cause],
 ) -> Result<Vec<KindedRace, A>, Memory>
-    ensures { IfOk result (λ rows. rows.items ≡ all_kinded records.now (number_at index.now) races.now) }
+    ensures { IfOk result (λ rows. rows.items ≡ all_kinded records.now (number_at index.now) (with_causes races.now causes.now)) }
 {
-    let rows = races
-        .iter()
-        .filter_map(|race| kinded(records, index, race))
-        .collect(alloc)?;
+    let mut rows = Vec::new(alloc);
+    for (place, race) in races.iter().enumerate() {
+        let row = kinded(records, index, race, cause_at(causes, place));
+        keep_row(&mut rows, row)?;
+    }
     Ok(rows)
 }
 

@@ -15,7 +15,7 @@ ghost use Rattle.gr_show.specs.Shown.{IsShowFault};
 use crate::causes::causes_told;
 use crate::listing::{KindEntry, all_kinded, list_kinds};
 use crate::sides::Sides;
-use crate::text::{at_most, write_races};
+use crate::text::write_races;
 use gr_explain::records::Records;
 use gr_explain::taking::take_all;
 use gr_model::memory::Memory;
@@ -35,12 +35,14 @@ fn list_races<A: Allocator + Copy>(
     alloc: A,
     traces: &Traces<A>,
     index: &PlaceIndex<'_, A>,
+    causes: bool,
 ) -> Result<(Vec<KindEntry<A>, A>, usize), Memory>
-    ensures { IfOk result (λ found. AreListedRaces traces.now (number_at index.now) (map entry_of found.0.items) found.1) }
+    ensures { IfOk result (λ found. AreListedRaces traces.now (number_at index.now) causes (map entry_of found.0.items) found.1) }
 {
     let found = detect_races(alloc, traces)?;
+    let told = causes_told(alloc, traces, causes, &found.races)?;
     let records = Records::of(take_all(alloc, traces)?);
-    let rows = all_kinded(alloc, &records, index, &found.races)?;
+    let rows = all_kinded(alloc, &records, index, &found.races, &told)?;
     Ok((list_kinds(alloc, &rows)?, found.races.len()))
 }
 
@@ -52,15 +54,16 @@ pub fn races_by_kind<A: Allocator + Copy>(
     alloc: A,
     traces: &Traces<A>,
     sides: &Sides<'_>,
+    causes: bool,
 ) -> Result<(Vec<KindEntry<A>, A>, usize), Memory>
-    ensures { IfOk result (λ found. AreListedRaces traces.now (place_number (sides_said sides.now).places) (map entry_of found.0.items) found.1) }
+    ensures { IfOk result (λ found. AreListedRaces traces.now (place_number (sides_said sides.now).places) causes (map entry_of found.0.items) found.1) }
 {
     let index = PlaceIndex::of(alloc, sides.places)?;
-    list_races(alloc, traces, &index)
+    list_races(alloc, traces, &index, causes)
 }
 
 /// Reads the streams of a launch, one from each reader, writes its races kind by kind, of at most so many kinds, with what
-/// side files say of them and, where they are asked for, with the causes of the first of each kind, and nothing else, and
+/// side files say of them and, where they are asked for, with the cause of all races of each kind, and nothing else, and
 /// tells whether there is a race.
 ///
 /// # Errors
@@ -83,9 +86,8 @@ pub fn show_races<A: Allocator + Copy, T: Read + Drop, W: Write>(
     ensures threads { IfErr result (λ f. f ≢ faults.Threads) }
 {
     let traces = read_each(alloc, readers)?;
-    let (entries, races) = races_by_kind(alloc, &traces, sides)?;
-    let told = causes_told(alloc, &traces, causes, at_most(&entries, most))?;
-    match write_races(writer, sides, &entries, most, &told, races) {
+    let (entries, races) = races_by_kind(alloc, &traces, sides, causes)?;
+    match write_races(writer, sides, &entries, most, races) {
         Ok(()) => Ok(races > 0),
         Err(_) => Err(Fault::Write),
     }

@@ -1,13 +1,12 @@
 //! The text of races.
 
-ghost use Rattle.std.specs.Prelude.{◌≡◌, map, OnErr, OnOk, slice_get};
+ghost use Rattle.std.specs.Prelude.{◌≡◌, map, OnErr, OnOk};
 ghost use Rattle.std.specs.List.{flat_map};
 ghost use Rattle.std.specs.Io.KnownBytes.{Appends};
 ghost use Rattle.gr_report.specs.Putting.{AppendsPrefix, Puts};
 ghost use Rattle.gr_races.specs.Listing.{entry_of};
 ghost use Rattle.gr_races.specs.RacesText as spec;
 ghost use Rattle.gr_races.specs.Sides.{sides_said};
-ghost use Rattle.gr_races.specs.Telling.{with_causes};
 
 use crate::kinds::{Operation, RaceKind};
 use crate::listing::KindEntry;
@@ -123,33 +122,24 @@ fn put_entry<A: Allocator, W: Write>(
     writer: &mut W,
     sides: &Sides<'_>,
     entry: &KindEntry<A>,
-    cause: Option<Cause>,
 ) -> Result<(), WriteFault>
-    ensures { Puts (W.contents writer.old) (W.contents writer.new) result (spec.entry_text (sides_said sides.now) (entry_of entry.now, cause)) }
+    ensures { Puts (W.contents writer.old) (W.contents writer.new) result (spec.entry_text (sides_said sides.now) (entry_of entry.now)) }
 {
     let races = entry.races.as_slice();
     put_kind(writer, entry.kind, races.len())?;
     put_words(writer, entry.runs.as_slice())?;
-    put_first(writer, sides, cause, races)
-}
-
-/// The cause that is told of the entry at a place, if there is one.
-fn cause_at(causes: &[Cause], place: usize) -> Option<Cause>
-    ensures { result ≡ slice_get causes.now place }
-{
-    causes.get(place).copied()
+    put_first(writer, sides, entry.kind.cause, races)
 }
 
 fn put_entries<A: Allocator, W: Write>(
     writer: &mut W,
     sides: &Sides<'_>,
     entries: &[KindEntry<A>],
-    causes: &[Cause],
 ) -> Result<(), WriteFault>
-    ensures { Puts (W.contents writer.old) (W.contents writer.new) result (flat_map (spec.entry_text (sides_said sides.now)) (with_causes (map entry_of entries.now) causes.now)) }
+    ensures { Puts (W.contents writer.old) (W.contents writer.new) result (flat_map (λ entry. spec.entry_text (sides_said sides.now) (entry_of entry)) entries.now) }
 {
-    for (place, entry) in entries.iter().enumerate() {
-        put_entry(writer, sides, entry, cause_at(causes, place))?;
+    for entry in entries {
+        put_entry(writer, sides, entry)?;
     }
     Ok(())
 }
@@ -177,17 +167,16 @@ fn put_races<A: Allocator, W: Write>(
     sides: &Sides<'_>,
     entries: &[KindEntry<A>],
     most: Option<u32>,
-    causes: &[Cause],
     races: usize,
 ) -> Result<(), WriteFault>
-    ensures { Puts (W.contents writer.old) (W.contents writer.new) result (spec.races_text (sides_said sides.now) most causes.now (map entry_of entries.now) races) }
+    ensures { Puts (W.contents writer.old) (W.contents writer.new) result (spec.races_text (sides_said sides.now) most (map entry_of entries.now) races) }
 {
-    put_entries(writer, sides, at_most(entries, most), causes)?;
+    put_entries(writer, sides, at_most(entries, most))?;
     put_end(writer, entries.len(), races)
 }
 
-/// Writes the races of a launch kind by kind, of at most so many kinds, with what side files say of them and these causes,
-/// the first of the first kind, and an end that counts all of them, and flushes. It takes no memory.
+/// Writes the races of a launch kind by kind, of at most so many kinds, with what side files say of them and the cause
+/// of each kind that has one, and an end that counts all of them, and flushes. It takes no memory.
 ///
 /// # Errors
 /// `WriteFault` if the writer fails, which has then taken a prefix of the text.
@@ -196,12 +185,11 @@ pub(crate) fn write_races<A: Allocator, W: Write>(
     sides: &Sides<'_>,
     entries: &[KindEntry<A>],
     most: Option<u32>,
-    causes: &[Cause],
     races: usize,
 ) -> Result<(), WriteFault>
-    ensures whole { OnOk result (Appends (W.contents writer.old) (W.contents writer.new) (spec.races_text (sides_said sides.now) most causes.now (map entry_of entries.now) races)) }
-    ensures prefix { OnErr result (AppendsPrefix (W.contents writer.old) (W.contents writer.new) (spec.races_text (sides_said sides.now) most causes.now (map entry_of entries.now) races)) }
+    ensures whole { OnOk result (Appends (W.contents writer.old) (W.contents writer.new) (spec.races_text (sides_said sides.now) most (map entry_of entries.now) races)) }
+    ensures prefix { OnErr result (AppendsPrefix (W.contents writer.old) (W.contents writer.new) (spec.races_text (sides_said sides.now) most (map entry_of entries.now) races)) }
 {
-    put_races(writer, sides, entries, most, causes, races)?;
+    put_races(writer, sides, entries, most, races)?;
     finish(writer)
 }

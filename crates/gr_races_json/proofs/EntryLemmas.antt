@@ -1,5 +1,5 @@
 -- The values of races have no float, and their lines stand in the order of the entries.
-use Rattle.std.proofs.Common.{◌≡◌, ◌<◌, ◌≤◌, ◌+◌, ℕ, false, List, [], ◌∷◌, ◌++◌, Option, None, Some, ap, arith, get_or, length, map, refl, slice_get, sym, take, ◌∙◌}
+use Rattle.std.proofs.Common.{◌≡◌, ◌<◌, ◌≤◌, ◌+◌, ℕ, false, List, [], ◌∷◌, ◌++◌, Option, None, Some, ap, get_or, length, map, refl, sym, take, ◌∙◌}
 use Rattle.std.specs.List.{flat_map}
 use Rattle.std.proofs.lemmas.List.{flat_map_more, length-map, take_all, take_more}
 use Rattle.serde_json.specs.Written.{has_float, items_have_float}
@@ -19,9 +19,7 @@ use Rattle.gr_races.specs.declared.runs.Run.{Run}
 use Rattle.gr_races.specs.Listing.{Entry, entry_of}
 use Rattle.gr_races.specs.RacesText.{at_most}
 use Rattle.gr_races.specs.Sides.{SidesSaid}
-use Rattle.gr_races.specs.Telling.{with_causes}
-use Rattle.gr_races.proofs.ListingLemmas.{first_entries}
-use Rattle.gr_races.proofs.TellingLemmas.{count_shown, shown_at}
+use Rattle.gr_races.proofs.ListingLemmas.{first_entries, texts_of_entries}
 use Rattle.gr_races_json.specs.Causes.{CausesAreAsInTheText, cause_data}
 use Rattle.gr_races_json.specs.Kinds.{run_data}
 use Rattle.gr_races_json.specs.Races.{access_data, buffer_data, end_data, entry_data, first_data, race_data, races_json}
@@ -57,8 +55,8 @@ first_plain : (s : SidesSaid) (cause : Option Cause) (races : List Race) → has
 first_plain s cause [] = refl
 first_plain s cause (r ∷ races) = race_plain s cause r
 
-pub entry_plain : (s : SidesSaid) (e : Entry) (cause : Option Cause) → has_float (entry_data s (e, cause)) ≡ false
-entry_plain s e cause = rw (first_plain s cause e.races, runs_plain e.runs) refl
+pub entry_plain : (s : SidesSaid) (e : Entry) → has_float (entry_data s e) ≡ false
+entry_plain s e = rw (first_plain s e.kind.cause e.races, runs_plain e.runs) refl
 
 -- ---- the sentences of causes
 
@@ -72,36 +70,32 @@ as_in_the_text w NoHandOver = refl
 
 -- ---- lines, one after the other
 
-abbrev entry_line : SidesSaid → Entry × Option Cause → List ℕ
-entry_line s x = json_line (entry_data s x)
+abbrev line_of : {Z : Type 0} → SidesSaid → KindEntry Z → List ℕ
+line_of s e = json_line (entry_data s (entry_of e))
 
-module _ {Z : Type 0} (s : SidesSaid) (listed : List (KindEntry Z)) (causes : List Cause) (i : ℕ) (before text : List ℕ) (so_far : text ≡ before ++ flat_map (λ x. json_line (entry_data s x)) (take i (with_causes (map entry_of listed) causes))) where
-  pub line_added : (e : KindEntry Z) → i < length listed → text ++ json_line (entry_data s (entry_of (get_or listed i e), slice_get causes i)) ≡ before ++ flat_map (λ x. json_line (entry_data s x)) (take (i + 1) (with_causes (map entry_of listed) causes))
+module _ {Z : Type 0} (s : SidesSaid) (listed : List (KindEntry Z)) (i : ℕ) (before text : List ℕ) (so_far : text ≡ before ++ flat_map (λ e. json_line (entry_data s (entry_of e))) (take i listed)) where
+  pub line_added : (e : KindEntry Z) → i < length listed → text ++ json_line (entry_data s (entry_of (get_or listed i e))) ≡ before ++ flat_map (λ e. json_line (entry_data s (entry_of e))) (take (i + 1) listed)
   line_added e lt =
-      let shown = with_causes (map entry_of listed) causes in
-      let d : Entry × Option Cause = (entry_of e, None) in
-      let within : i < length shown = omega (arith, lt, count_shown listed causes) in
-      ap (λ (v : List ℕ). v ++ entry_line s (entry_of (get_or listed i e), slice_get causes i)) so_far
-      ∙ ap (λ (x : Entry × Option Cause). (before ++ flat_map (entry_line s) (take i shown)) ++ entry_line s x) (sym (shown_at listed causes i e d lt))
-      ∙ flat_map_more (entry_line s) before (take i shown) (get_or shown i d)
-      ∙ ap (λ (xs : List (Entry × Option Cause)). before ++ flat_map (entry_line s) xs) (sym (take_more shown i d within))
+      ap (λ (v : List ℕ). v ++ line_of s (get_or listed i e)) so_far
+      ∙ flat_map_more (line_of s) before (take i listed) (get_or listed i e)
+      ∙ ap (λ (es : List (KindEntry Z)). before ++ flat_map (line_of s) es) (sym (take_more listed i e lt))
 
-  pub all_lines : length listed ≤ i → text ≡ before ++ flat_map (λ x. json_line (entry_data s x)) (with_causes (map entry_of listed) causes)
-  all_lines le =
-      let shown = with_causes (map entry_of listed) causes in
-      so_far ∙ ap (λ (xs : List (Entry × Option Cause)). before ++ flat_map (entry_line s) xs) (take_all i shown (omega (arith, le, count_shown listed causes)))
+  pub all_lines : length listed ≤ i → text ≡ before ++ flat_map (λ e. json_line (entry_data s (entry_of e))) listed
+  all_lines le = so_far ∙ ap (λ (es : List (KindEntry Z)). before ++ flat_map (line_of s) es) (take_all i listed le)
 
 -- the lines of what is shown, and the end
-pub whole_of_races : {Z : Type 0} (s : SidesSaid) (most : Option ℕ) (listed shown : List (KindEntry Z)) (causes : List Cause) (races : ℕ) (begun text whole : List ℕ)
+pub whole_of_races : {Z : Type 0} (s : SidesSaid) (most : Option ℕ) (listed shown : List (KindEntry Z)) (races : ℕ) (begun text whole : List ℕ)
     → begun ≡ []
     → shown ≡ at_most most listed
-    → text ≡ begun ++ flat_map (λ x. json_line (entry_data s x)) (with_causes (map entry_of shown) causes)
+    → text ≡ begun ++ flat_map (λ e. json_line (entry_data s (entry_of e))) shown
     → whole ≡ text ++ json_line (end_data (length listed) races)
-    → whole ≡ races_json s most causes (map entry_of listed) races
-whole_of_races s most listed shown causes races begun text whole none is lines ended =
+    → whole ≡ races_json s most (map entry_of listed) races
+whole_of_races s most listed shown races begun text whole none is lines ended =
+    let line = λ (e : Entry). json_line (entry_data s e) in
     ended
     ∙ ap (λ (v : List ℕ). v ++ json_line (end_data (length listed) races))
     (lines
-    ∙ ap (λ (v : List ℕ). v ++ flat_map (entry_line s) (with_causes (map entry_of shown) causes)) none
-    ∙ ap (λ (es : List Entry). flat_map (entry_line s) (with_causes es causes)) (ap (map entry_of) is ∙ first_entries most listed))
-    ∙ ap (λ (n : ℕ). flat_map (entry_line s) (with_causes (at_most most (map entry_of listed)) causes) ++ json_line (end_data n races)) (sym (length-map listed entry_of))
+    ∙ ap (λ (v : List ℕ). v ++ flat_map (line_of s) shown) none
+    ∙ texts_of_entries line shown
+    ∙ ap (λ (es : List Entry). flat_map line es) (ap (map entry_of) is ∙ first_entries most listed))
+    ∙ ap (λ (n : ℕ). flat_map line (at_most most (map entry_of listed)) ++ json_line (end_data n races)) (sym (length-map listed entry_of))

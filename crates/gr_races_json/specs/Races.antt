@@ -13,7 +13,6 @@ use Rattle.gr_places.specs.SideLines as lines
 use Rattle.gr_races.specs.Listing.{Entry}
 use Rattle.gr_races.specs.RacesText.{at_most}
 use Rattle.gr_races.specs.Sides.{SidesSaid}
-use Rattle.gr_races.specs.Telling.{with_causes}
 use Rattle.gr_races_json.specs.Causes.{cause_data}
 use Rattle.gr_races_json.specs.Kinds.{kind_data, runs_data}
 
@@ -47,11 +46,11 @@ first_data s cause [] = null
 first_data s cause (r ∷ races) = race_data s cause r
 
 -- a kind, the first of its races, the runs of its words, and how many words there are
-abbrev pub entry_data : SidesSaid → Entry × Option Cause → Data
-entry_data s (e, cause) =
+abbrev pub entry_data : SidesSaid → Entry → Data
+entry_data s e =
     object
     (member (codes "kind") (kind_data e.kind)
-    (member (codes "race") (first_data s cause e.races)
+    (member (codes "race") (first_data s e.kind.cause e.races)
     (member (codes "runs") (runs_data e.runs) (member (codes "type") (string (codes "kind")) (member (codes "words") (number (unsigned (length e.races))) no_members)))))
 
 -- how many kinds and races there are
@@ -59,7 +58,6 @@ abbrev pub end_data : ℕ → ℕ → Data
 end_data kinds races =
     object (member (codes "kinds") (number (unsigned kinds)) (member (codes "races") (number (unsigned races)) (member (codes "type") (string (codes "end")) no_members)))
 
--- at most so many kinds, each with the cause that is told of it, and how many kinds and races there are, a line each
-abbrev pub races_json : SidesSaid → Option ℕ → List Cause → List Entry → ℕ → List ℕ
-races_json s most causes entries races =
-    flat_map (λ x. json_line (entry_data s x)) (with_causes (at_most most entries) causes) ++ json_line (end_data (length entries) races)
+-- at most so many kinds, and how many kinds and races there are, a line each
+abbrev pub races_json : SidesSaid → Option ℕ → List Entry → ℕ → List ℕ
+races_json s most entries races = flat_map (λ e. json_line (entry_data s e)) (at_most most entries) ++ json_line (end_data (length entries) races)

@@ -8,4 +8,4 @@ use Rattle.gr_races_json.specs.Races.{races_json}
 
 -- the lines of the races of a launch, of at most so many kinds, with what side files say, and with causes where they are asked for
 abbrev pub IsRacesJson : SidesSaid → Option ℕ → Bool → Streams → List ℕ → Type 0
-IsRacesJson sides most causes = IsTextOfRaces sides (races_json sides most) most causes
+IsRacesJson sides most = IsTextOfRaces sides (races_json sides most)

@@ -19,8 +19,8 @@ use std::io::{self, Read, Write};
 
 /// Opens the side files that are named and the files of these names, reads the side files and then the streams of a
 /// launch, one from each file, writes its races kind by kind, of at most so many kinds, with what the side files say of
-/// them and, where they are asked for, with the causes of the first of each kind, as lines of JSON and nothing else, and
-/// tells whether there is a race.
+/// them and, where they are asked for, with the cause of all races of each kind, as lines of JSON and nothing else, and tells
+/// whether there is a race.
 ///
 /// # Errors
 /// Those of `show_races_of_files`, in its order.

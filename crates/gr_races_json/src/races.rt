@@ -1,17 +1,15 @@
 //! The races of a launch kind by kind as JSON.
 
-ghost use Rattle.std.specs.Prelude.{◌≡◌, ◌++◌, IfOk, OnOk, map, slice_get};
+ghost use Rattle.std.specs.Prelude.{◌≡◌, ◌++◌, IfOk, OnOk, map};
 ghost use Rattle.std.specs.List.{flat_map};
 ghost use Rattle.serde_json.specs.View.{view};
 ghost use Rattle.gr_json.specs.Lines.{json_line};
 ghost use Rattle.gr_races.specs.Listing.{entry_of};
 ghost use Rattle.gr_races.specs.Sides.{sides_said};
-ghost use Rattle.gr_races.specs.Telling.{with_causes};
 ghost use Rattle.gr_races_json.specs.Races as spec;
 
 use crate::kinds::{kind_value, runs_value};
 use crate::pairs::first_value;
-use gr_causes::cause::Cause;
 use gr_json::lines::push_value;
 use gr_model::memory::Memory;
 use gr_races::listing::KindEntry;
@@ -24,17 +22,12 @@ use std::alloc::{AllocError, Global};
 ///
 /// # Errors
 /// `AllocError`: out of memory.
-fn entry_value(
-    alloc: Global,
-    sides: &Sides<'_>,
-    entry: &KindEntry,
-    cause: Option<Cause>,
-) -> Result<Value, AllocError>
-    ensures { IfOk result (λ v. view v ≡ spec.entry_data (sides_said sides.now) (entry_of entry.now, cause)) }
+fn entry_value(alloc: Global, sides: &Sides<'_>, entry: &KindEntry) -> Result<Value, AllocError>
+    ensures { IfOk result (λ v. view v ≡ spec.entry_data (sides_said sides.now) (entry_of entry.now)) }
 {
     let kind = kind_value(alloc, entry.kind)?;
     let words = entry.races.len();
-    let race = first_value(alloc, sides, cause, &entry.races)?;
+    let race = first_value(alloc, sides, entry.kind.cause, &entry.races)?;
     let runs = runs_value(alloc, &entry.runs)?;
     json!(in alloc; {
         "kind": kind,
@@ -55,23 +48,15 @@ fn end_value(alloc: Global, kinds: usize, races: usize) -> Result<Value, AllocEr
     json!(in alloc; {"kinds": kinds, "races": races, "type": "end"})
 }
 
-/// The cause that is told of the entry at a place, if there is one.
-fn cause_at(causes: &[Cause], place: usize) -> Option<Cause>
-    ensures { result ≡ slice_get causes.now place }
-{
-    causes.get(place).copied()
-}
-
 fn push_entry(
     alloc: Global,
     text: &mut Vec<u8>,
     sides: &Sides<'_>,
     entry: &KindEntry,
-    cause: Option<Cause>,
 ) -> Result<(), Memory>
-    ensures { OnOk result (text.new.items ≡ text.old.items ++ json_line (spec.entry_data (sides_said sides.now) (entry_of entry.now, cause))) }
+    ensures { OnOk result (text.new.items ≡ text.old.items ++ json_line (spec.entry_data (sides_said sides.now) (entry_of entry.now))) }
 {
-    let value = entry_value(alloc, sides, entry, cause)?;
+    let value = entry_value(alloc, sides, entry)?;
     push_value(alloc, text, &value)
 }
 
@@ -80,12 +65,11 @@ fn push_entries(
     text: &mut Vec<u8>,
     sides: &Sides<'_>,
     entries: &[KindEntry],
-    causes: &[Cause],
 ) -> Result<(), Memory>
-    ensures { OnOk result (text.new.items ≡ text.old.items ++ flat_map (λ x. json_line (spec.entry_data (sides_said sides.now) x)) (with_causes (map entry_of entries.now) causes.now)) }
+    ensures { OnOk result (text.new.items ≡ text.old.items ++ flat_map (λ e. json_line (spec.entry_data (sides_said sides.now) (entry_of e))) entries.now) }
 {
-    for (place, entry) in entries.iter().enumerate() {
-        push_entry(alloc, text, sides, entry, cause_at(causes, place))?;
+    for entry in entries {
+        push_entry(alloc, text, sides, entry)?;
     }
     Ok(())
 }
@@ -97,8 +81,8 @@ fn push_end(alloc: Global, text: &mut Vec<u8>, kinds: usize, races: usize) -> Re
     push_value(alloc, text, &value)
 }
 
-/// The races of a launch kind by kind, of at most so many kinds, with what side files say of them and these causes, the first
-/// of the first kind, and an end that counts all of them, as lines of JSON.
+/// The races of a launch kind by kind, of at most so many kinds, with what side files say of them and the cause
+/// of each kind that has one, and an end that counts all of them, as lines of JSON.
 ///
 /// # Errors
 /// `Memory`: out of memory.
@@ -107,13 +91,12 @@ pub(crate) fn races_json(
     sides: &Sides<'_>,
     entries: &[KindEntry],
     most: Option<u32>,
-    causes: &[Cause],
     races: usize,
 ) -> Result<Vec<u8>, Memory>
-    ensures { IfOk result (λ text. text.items ≡ spec.races_json (sides_said sides.now) most causes.now (map entry_of entries.now) races) }
+    ensures { IfOk result (λ text. text.items ≡ spec.races_json (sides_said sides.now) most (map entry_of entries.now) races) }
 {
     let mut text = Vec::new(alloc);
-    push_entries(alloc, &mut text, sides, at_most(entries, most), causes)?;
+    push_entries(alloc, &mut text, sides, at_most(entries, most))?;
     push_end(alloc, &mut text, entries.len(), races)?;
     Ok(text)
 }

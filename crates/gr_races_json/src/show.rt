@@ -11,17 +11,15 @@ ghost use Rattle.gr_races_json.specs.Shown.{IsRacesJson};
 
 use crate::races::races_json;
 use gr_json::lines::write_text;
-use gr_races::causes::causes_told;
 use gr_races::show::races_by_kind;
 use gr_races::sides::Sides;
-use gr_races::text::at_most;
 use gr_record::fault::Fault;
 use gr_replay::read_each;
 use std::alloc::Global;
 use std::io::{Read, Write};
 
 /// Reads the streams of a launch, one from each reader, writes its races kind by kind, of at most so many kinds, with what
-/// side files say of them and, where they are asked for, with the causes of the first of each kind, as lines of JSON and
+/// side files say of them and, where they are asked for, with the cause of all races of each kind, as lines of JSON and
 /// nothing else, and tells whether there is a race.
 ///
 /// # Errors
@@ -44,9 +42,8 @@ pub fn show_races_json<T: Read + Drop, W: Write>(
     ensures threads { IfErr result (λ f. f ≢ faults.Threads) }
 {
     let traces = read_each(alloc, readers)?;
-    let (entries, races) = races_by_kind(alloc, &traces, sides)?;
-    let told = causes_told(alloc, &traces, causes, at_most(&entries, most))?;
-    let text = races_json(alloc, sides, &entries, most, &told, races)?;
+    let (entries, races) = races_by_kind(alloc, &traces, sides, causes)?;
+    let text = races_json(alloc, sides, &entries, most, races)?;
     match write_text(writer, &text) {
         Ok(()) => Ok(races > 0),
         Err(_) => Err(Fault::Write),

@@ -1,4 +1,4 @@
-//! The text of races with the causes of the first of each kind.
+//! The text of races with the cause of each kind.
 
 use gr_model::memory::Memory;
 use gr_races::show_races;
@@ -26,7 +26,7 @@ const FLAGS: &str = "kind global write read one group words 1\nwords global 16\n
 race global 16: 0 0 0 with 0 1 2\n\
 cause flags: with CLK_LOCAL_MEM_FENCE | CLK_GLOBAL_MEM_FENCE at every barrier the two would be ordered\n";
 
-const CASES: [Case; 5] = [
+const CASES: [Case; 6] = [
     (
         "flags, and no barrier",
         TWO_CAUSES,
@@ -49,10 +49,22 @@ const CASES: [Case; 5] = [
          end kinds 2 races 2\n",
     ),
     (
-        "the first race of a kind tells its cause",
+        "two causes of the same operations",
         &[
             "group 0 items 2 launch 7\n0 w l 4\n0 w l 6\n0 bar 1 g\n1 r l 4\n1 bar 1 g\n1 r l 6\nend\n",
         ],
+        None,
+        "kind local write read one group words 1\nwords local 0 4\n\
+         race local 0 4: 0 0 0 with 0 1 0\n\
+         cause no-barrier: nothing orders the two; a barrier with CLK_LOCAL_MEM_FENCE between them would\n\
+         kind local write read one group words 1\nwords local 0 6\n\
+         race local 0 6: 0 0 1 with 0 1 2\n\
+         cause flags: with CLK_LOCAL_MEM_FENCE | CLK_GLOBAL_MEM_FENCE at every barrier the two would be ordered\n\
+         end kinds 2 races 2\n",
+    ),
+    (
+        "one cause of two words",
+        &["group 0 items 2 launch 7\n0 w l 4\n0 w l 6\n1 r l 4\n1 r l 6\nend\n"],
         None,
         "kind local write read one group words 2\nwords local 0 4 local 0 6\n\
          race local 0 4: 0 0 0 with 0 1 0\n\

@@ -9,4 +9,4 @@ use Rattle.gr_races.proofs.show.races_by_kind.Goals as goal
 pub returns : goal.returns
 returns g c =
     let lines = (sides_said c.args.sides.now).places in
-    subst (λ (numbers : Placed → Option ℕ). IfOk c.list_races.result (λ found. AreListedRaces c.args.traces.now numbers (map entry_of found.0.items) found.1)) (numbers_said c.in_ok-index.index lines c.in_ok-index.ensures) c.list_races.ensures
+    subst (λ (numbers : Placed → Option ℕ). IfOk c.list_races.result (λ found. AreListedRaces c.args.traces.now numbers c.args.causes (map entry_of found.0.items) found.1)) (numbers_said c.in_ok-index.index lines c.in_ok-index.ensures) c.list_races.ensures

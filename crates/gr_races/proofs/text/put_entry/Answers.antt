@@ -7,14 +7,14 @@ pub returns-in_err-put_kind : goal.returns-in_err-put_kind
 returns-in_err-put_kind g c =
     let e = c.args.entry.now in
     let kind = rw c.as_slice-races.ensures.value at c.in_err-put_kind.ensures in
-    puts_err _ c.from_residual.ensures.0 (puts_more (first_lines (sides_said c.args.sides.now) c.args.cause e.races.items) (puts_more (words_line e.runs.items) kind))
+    puts_err _ c.from_residual.ensures.0 (puts_more (first_lines (sides_said c.args.sides.now) e.kind.cause e.races.items) (puts_more (words_line e.runs.items) kind))
 
 pub returns-in_err-put_words : goal.returns-in_err-put_words
 returns-in_err-put_words g c =
     let e = c.args.entry.now in
     let kind = rw c.as_slice-races.ensures.value at c.in_ok-put_kind.ensures in
     let words = rw c.as_slice.ensures.value at c.in_err-put_words.ensures in
-    puts_err _ c.from_residual-in_err-put_words.ensures.0 (puts_more (first_lines (sides_said c.args.sides.now) c.args.cause e.races.items) (puts_then kind words))
+    puts_err _ c.from_residual-in_err-put_words.ensures.0 (puts_more (first_lines (sides_said c.args.sides.now) e.kind.cause e.races.items) (puts_then kind words))
 
 pub returns : goal.returns
 returns g c =

@@ -6,4 +6,4 @@ use Rattle.gr_races_json.proofs.EntryLemmas.{entry_plain}
 use Rattle.gr_races_json.proofs.races.push_entry.Goals as goal
 
 pub push_value-requires : goal.push_value-requires
-push_value-requires c = ap has_float c.in_ok-value.ensures ∙ entry_plain (sides_said c.args.sides.now) (entry_of c.args.entry.now) c.args.cause
+push_value-requires c = ap has_float c.in_ok-value.ensures ∙ entry_plain (sides_said c.args.sides.now) (entry_of c.args.entry.now)
