@@ -4,7 +4,7 @@ pub returns-in-Explain-Some-clause-does : goal.returns-in-Explain-Some-clause-do
 returns-in-Explain-Some-clause-does g c = rw (c.in-Explain-Some.is, c.in-Explain-Some.field-0-is) (rw c.in-Explain-Some.field-0-is at c.show.ensures)
 
 pub returns-in-Check-clause-does : goal.returns-in-Check-clause-does
-returns-in-Check-clause-does g c = rw (c.in-Check.is) (rw c.in-Check.field-0-is at c.check.ensures)
+returns-in-Check-clause-does g c = rw c.in-Check.is c.check.ensures
 
 pub returns-in-History-Some-clause-does : goal.returns-in-History-Some-clause-does
 returns-in-History-Some-clause-does g c = rw (c.in-History-Some.is, c.in-History-Some.field-0-is) (rw c.in-History-Some.field-0-is at c.recall.ensures)
