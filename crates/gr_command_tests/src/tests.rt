@@ -434,7 +434,24 @@ const CASES: [Case; 54] = [
 ];
 
 /// The same of words that ask for a run in threads, for races with side files, or for the long form of explain.
-const CASES_OF_FILES: [Case; 20] = [
+const CASES_OF_FILES: [Case; 22] = [
+    (
+        "all accesses to a word that is handed over",
+        &["history", "g", "24", "back"],
+        &[],
+        "access 0 2 2 store dev rel record 6 phase 0 behind none\n\
+         access 0 0 2 load dev acq record 7 phase 0 behind all\nend accesses 2 races no\n",
+        "",
+        0,
+    ),
+    (
+        "all accesses to a word, of a file that is not there",
+        &["history", "g", "16", "race", "missing"],
+        &[],
+        "",
+        "gpurace: read fault\n",
+        5,
+    ),
     (
         "a racy word in the long form",
         &["explain", "--long", "g", "16", "back"],
@@ -705,7 +722,7 @@ const ODD_ACCOUNT: &str = "{\"cause\":\"no-barrier\",\
 \"type\":\"race\",\"word\":{\"number\":16,\"space\":\"global\"}}\n";
 
 /// The same of words that ask for JSON, for causes, for the accesses to a word, or why an event is held.
-const CASES_OF_ODD: [Case; 17] = [
+const CASES_OF_ODD: [Case; 16] = [
     (
         "a run as JSON",
         &["run", "--json", "back"],
@@ -759,14 +776,6 @@ const CASES_OF_ODD: [Case; 17] = [
         &["races", "--json", "back"],
         &[],
         ODD_KIND,
-        "",
-        1,
-    ),
-    (
-        "all accesses to a word",
-        &["history", "g", "16", "back"],
-        &[],
-        ODD_HISTORY,
         "",
         1,
     ),
@@ -856,10 +865,6 @@ const ODD_KIND: &str =
 \"second\":{\"group\":0,\"index\":0,\"item\":1,\"place\":null},\"word\":{\"number\":16,\"space\":\"global\"}},\
 \"runs\":[{\"first\":{\"number\":16,\"space\":\"global\"},\"last\":16}],\"type\":\"kind\",\"words\":1}\n\
 {\"kinds\":1,\"races\":1,\"type\":\"end\"}\n";
-
-const ODD_HISTORY: &str = "access 0 0 0 write record 0 phase 0 behind none\n\
-access 0 1 0 read record 1 phase 0 behind none\n\
-end accesses 2 races yes\n";
 
 const NO_EVENT: &str = "error: GROUP, ITEM and INDEX name no event: ";
 
