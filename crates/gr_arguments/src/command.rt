@@ -93,8 +93,8 @@ const RACES: &str = "Tells of all races, kind by kind, with two accesses that ra
 const LONG_RACES: &str = "\
 Tells of all words that have a race, kind by kind: which words they are, and of the first of them two accesses that race.
 
-A kind is the memory, what the two accesses do, and whether they are of one work-group. The accesses are told as GROUP ITEM
-INDEX; an item's records are counted from 0. The races are found by clocks, as replay finds them. Divergent barriers, unmatched
+A kind is the memory, what the two accesses do, whether they are of one work-group, where they stand in the source if --places
+has both, and with --causes the cause of the race. The accesses are told as GROUP ITEM INDEX; an item's records are counted from 0. The races are found by clocks, as replay finds them. Divergent barriers, unmatched
 acquires and what these hold back are told by replay and run alone.";
 
 const AFTER_RACES: &str = "\
@@ -115,7 +115,7 @@ With side files, whose lines say where accesses stand and which words are which 
   second scan.cl:5001:16
   end kinds 1 races 48
 
-With --causes the last line of a kind is the cause of the race that is shown, as explain --long tells it:
+With --causes the last line of a kind is the cause of all its races, as explain --long tells it:
   gpurace races --causes --most 1 group*.gpurace
   kind global write read one group words 48
   words global 896..943
@@ -181,8 +181,8 @@ const HISTORY: &str = "Tells of one word all accesses, and which are ordered beh
 
 const LONG_HISTORY: &str = "\
 Tells of one word all accesses to it, in an order in which they may have happened, and behind which of those above it each is
-ordered. Two accesses of which neither is ordered behind the other race, unless both read or both are atomic with inclusive
-scope. Accesses that are held are left out.
+ordered. Two accesses of different work-items of which neither is ordered behind the other race, unless both read or both are
+atomic with inclusive scope. Accesses that are held are left out.
 
 The accesses are told as GROUP ITEM INDEX; an item's records are counted from 0.";
 
