@@ -1,10 +1,10 @@
 //! The races of a launch of 64 work-groups, with side files of many lines.
 
-use crate::ends::FailingReader;
 use gr_races::telling::Races;
 use gr_sides::files::SideNames;
 use gr_sides::tell_of_files;
 use gr_text::packing::pack_text;
+use refusing::failing::FailingReader;
 use std::alloc::Global;
 use std::io::{self, ErrorKind};
 use std::test::Fail;

@@ -1,6 +1,5 @@
 //! What is shown of launches whose streams and side files are in files.
 
-use crate::ends::{FailingReader, FailingWriter};
 use gr_model::memory::Memory;
 use gr_races::telling::Races;
 use gr_record::fault::Fault;
@@ -9,6 +8,7 @@ use gr_sides::files::SideNames;
 use gr_sides::tell_of_files;
 use gr_text::packing::pack_text;
 use refusing::Refusing;
+use refusing::failing::{FailingReader, FailingWriter};
 use std::alloc::{Allocator, Global};
 use std::io::{self, ErrorKind};
 use std::test::Fail;

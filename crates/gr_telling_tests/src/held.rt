@@ -1,12 +1,12 @@
 //! Why events of launches by hand are held, as text.
 
-use crate::ends::{FailingReader, FailingWriter};
 use gr_held::show_why_held;
 use gr_model::event::{EventId, ItemId};
 use gr_model::memory::Memory;
 use gr_record::fault::Fault;
 use gr_text::packing::pack_text;
 use refusing::Refusing;
+use refusing::failing::{FailingReader, FailingWriter};
 use std::alloc::{Allocator, Global};
 use std::test::Fail;
 

@@ -4,10 +4,11 @@ use std::io::{self, ErrorKind, Read, Write};
 
 /// Gives one byte at a call, and fails at its last call.
 #[derive(Drop)]
-pub(crate) struct FailingReader<'a> {
-    pub(crate) bytes: &'a [u8],
+pub struct FailingReader<'a> {
+    /// What it has left.
+    pub bytes: &'a [u8],
     /// How many calls succeed.
-    pub(crate) calls: usize,
+    pub calls: usize,
 }
 
 impl Read for FailingReader<'_> {
@@ -29,10 +30,13 @@ impl Read for FailingReader<'_> {
 
 /// Takes one byte at a call as long as there is room, and then fails; so does a flush where that is wanted.
 #[derive(Drop)]
-pub(crate) struct FailingWriter {
-    pub(crate) taken: Vec<u8>,
-    pub(crate) room: usize,
-    pub(crate) flushes: bool,
+pub struct FailingWriter {
+    /// What it took.
+    pub taken: Vec<u8>,
+    /// How many bytes more it takes.
+    pub room: usize,
+    /// Whether a flush succeeds.
+    pub flushes: bool,
 }
 
 impl Write for FailingWriter {

@@ -1,11 +1,11 @@
 //! What is said of files whose streams may be those of a launch.
 
-use crate::ends::{FailingReader, FailingWriter};
 use gr_check::check_files;
 use gr_model::memory::Memory;
 use gr_record::fault::Fault;
 use gr_text::packing::pack_text;
 use refusing::Refusing;
+use refusing::failing::{FailingReader, FailingWriter};
 use std::alloc::{Allocator, Global};
 use std::io::{self, ErrorKind};
 use std::test::Fail;
