@@ -363,7 +363,10 @@ impl<A: Allocator> Agenda<A> {
         ensures { IsTrue result ↔ CanMake self.now step }
     {
         match step {
-            Ready::Item(item) => !self.is_undiverged_at(item) && self.order.next(item).is_some(),
+            Ready::Item(item) => {
+                self.order.is_free(item)
+                    || (!self.is_undiverged_at(item) && self.order.next(item).is_some())
+            }
             Ready::Group(group) => self.order.meeting(group).is_some(),
         }
     }

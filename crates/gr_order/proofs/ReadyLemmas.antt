@@ -1,5 +1,6 @@
 -- Instances and releases, by what is looked at.
-use Rattle.std.proofs.Common.{Contains, ◌≡◌, ℕ, ◌<◌, true, List, Some, None, slice_get, is_some, refl, sym, ap, ◌∙◌, subst, arith, option_and_then}
+use Rattle.std.proofs.Common.{Contains, ◌≡◌, ℕ, ◌<◌, true, false, true≢false, List, [], Some, None, slice_get, is_some, refl, sym, ap, ◌∙◌, subst, arith, option_and_then}
+use Rattle.std.specs.Prelude.{All}
 use Rattle.std.proofs.lemmas.List.Elements.{All-contains, All-contains_itself, All-weaker}
 use Rattle.gr_model.specs.declared.event.Event.{Event}
 use Rattle.gr_model.specs.Barriers.{IsDivergent, StandsIn, is_barrier, mark_of}
@@ -11,7 +12,7 @@ use Rattle.gr_model.specs.Names.{HasName, names_of, release_place}
 use Rattle.gr_model.specs.Streams.{ArePrefixes, Streams, event_at, place_of, trace_of, word_at}
 use Rattle.gr_model.specs.declared.event.EventId.{EventId}
 use Rattle.gr_model.proofs.Cuts.{same_event}
-use Rattle.gr_steps.proofs.BarrierPlaces.{same_instance}
+use Rattle.gr_steps.proofs.BarrierPlaces.{barrier_there, same_instance}
 use Rattle.gr_steps.specs.Steps.{CanHandle, IsReady}
 use Rattle.gr_steps.proofs.NextEvents.{next_is_ready, ready_is_next, ready_release}
 use Rattle.gr_steps.proofs.EventRecords.{item_of_event}
@@ -86,6 +87,14 @@ module _ (s : Streams) (order : List EventId) (lawful : IsLawful s order) (front
     pub ready_if : AreReleased s frontier e.at.group x → MayPass s e → IsReady s order e
     ready_if released pass = next_is_ready s order lawful counts first_ones e (x, at) next
         (λ n has. let r = All-contains (IsReleased s frontier e.at.group x) x.names n released (named n has) in (r.release, record { named = has; item = r.item; place = r.place; word = word ∙ r.word }, r.handled)) pass
+
+    -- no barrier, and nothing is named
+    pub ready_plain : is_barrier x ≡ false → x.names ≡ [] → IsReady s order e
+    ready_plain plain none =
+        ready_if (subst (All (IsReleased s frontier e.at.group x)) (sym none) (λ k d lt. absurd (omega (arith, lt)))) (λ group k stands.
+        let there = barrier_there s e group k stands in
+        let same : there.0 ≡ x = let both : Some there.0 ≡ Some x = sym there.1 ∙ at in cc in
+        absurd (true≢false (sym there.2 ∙ (ap is_barrier same ∙ plain))))
 
     pub ready_only : IsReady s order e → AreReleased s frontier e.at.group x × MayPass s e
     ready_only ready = (

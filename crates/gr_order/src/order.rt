@@ -21,7 +21,7 @@ ghost use Rattle.gr_order.specs.Sequences.{HandlesEvent, IsDone, IsGroupAtRest, 
 
 use crate::go_error::GoError;
 use crate::meeting::{add_next_events, count_next_events};
-use crate::ready::{is_ready, next_instance};
+use crate::ready::{is_plain, is_ready, next_instance};
 use crate::steps::Ready;
 use crate::waiting::{forget, keep};
 use gr_clocks::tally::Tally;
@@ -165,6 +165,18 @@ impl<A: Allocator> Order<A> {
                     None
                 }
             }
+        }
+    }
+
+    /// Whether an item's next event was taken, is no barrier and names no releases: then it may be handled. Others may be
+    /// handled too, which `next` tells.
+    #[inline(always)]
+    pub fn is_free(&self, item: ItemId) -> bool
+        ensures { IsTrue result → CanHandle self.now.taken self.now.handled item }
+    {
+        match self.windows.waiting(item, 0) {
+            None => false,
+            Some(event) => is_plain(&event),
         }
     }
 

@@ -1,7 +1,8 @@
 //! What is looked at to tell whether an item's next event may be handled: the instance of a barrier, and the releases that
 //! an acquire names.
 
-ghost use Rattle.std.specs.Prelude.{◌≡◌, ◌↔◌, ◌<◌, true, IsTrue, MatchOption, Some, is_some, length, ℕ};
+ghost use Rattle.std.specs.Prelude.{◌≡◌, ◌↔◌, ◌<◌, [], true, false, IsTrue, MatchOption, Some, is_some, length, ℕ};
+ghost use Rattle.gr_model.specs.Barriers as model_barriers;
 ghost use Rattle.gr_model.specs.Barriers.{mark_of};
 ghost use Rattle.gr_model.specs.Streams as model;
 ghost use Rattle.gr_windows.specs.Windows.{AreWaiting};
@@ -69,6 +70,13 @@ fn may_pass<A: Allocator>(lanes: &Lanes<A>, event: EventId, taken: &Event) -> bo
         None => true,
         Some(number) => is_divergent(lanes, event.at.group, number, taken),
     }
+}
+
+/// Whether an event is no barrier and names no releases.
+pub(crate) fn is_plain(event: &Event) -> bool
+    ensures { IsTrue result → (model_barriers.is_barrier event.now ≡ false) × (event.now.names ≡ []) }
+{
+    !is_barrier(event) && event.names.as_slice().is_empty()
 }
 
 /// Whether an item's next event waits for nothing that was not handled.

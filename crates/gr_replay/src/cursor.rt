@@ -7,7 +7,7 @@ ghost use Rattle.gr_replay.specs.Standing.{IsWholeStream, listed};
 
 use gr_model::event::Event;
 use gr_record::header::Header;
-use gr_record::reading::read_event;
+use gr_record::reading::read_good_event;
 use std::marker::Model;
 
 /// The records of one stream that were not read yet, up to its end. Contracts see their list.
@@ -58,9 +58,7 @@ impl<'a> Cursor<'a> {
             return None;
         }
         let (record, rest) = self.bytes.split_at(self.header.version.record_length());
-        let Ok(event) = read_event(self.header, record) else {
-            unreachable!()
-        };
+        let event = read_good_event(self.header, record);
         self.bytes = rest;
         self.ended = event.kind.is_end();
         Some(event)

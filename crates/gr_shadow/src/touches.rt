@@ -46,7 +46,7 @@ fn unseen_in<A: Allocator>(touches: &[Touch], access: &Access<A>) -> Option<Touc
 
 /// Touches of one class, and where it has group scope of one group: so all of them are exempt with a later access, or
 /// none. A touch is added without a search. A list that has grown to its limit is compacted, and the limit is then
-/// twice its length, so that it is never longer than twice the number of items in it, or `FEW`.
+/// four times its length, so that it is never longer than four times the number of items in it, or `FEW`.
 #[derive(Drop)]
 #[derive_where(Debug)]
 pub(crate) struct Touches<A: Allocator = Global> {
@@ -108,7 +108,7 @@ impl<A: Allocator> Touches<A> {
         self.touches.push(touch)?;
         if self.touches.len() >= self.limit {
             compact(&mut self.touches);
-            self.limit = self.touches.len().saturating_mul(2).max(FEW);
+            self.limit = self.touches.len().saturating_mul(4).max(FEW);
         }
         Ok(())
     }
