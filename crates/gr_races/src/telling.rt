@@ -12,7 +12,7 @@ use crate::show::show_races;
 use gr_record::fault::Fault;
 use gr_sides::sides::Sides;
 use gr_sides::telling::Telling;
-use std::alloc::Allocator;
+use std::alloc::Global;
 use std::io::{Read, Write};
 
 /// All races of a launch, kind by kind.
@@ -24,15 +24,15 @@ pub struct Races {
     pub causes: bool,
 }
 
-impl<A: Allocator + Copy> Telling<A> for Races {
+impl Telling<Global> for Races {
     ghost is_text = { λ races said. IsRacesText said races.most races.causes };
 
     ghost is_so = { λ races. HasRace };
 
     fn tell<T: Read + Drop, W: Write>(
         &self,
-        alloc: A,
-        readers: Vec<T, A>,
+        alloc: Global,
+        readers: Vec<T>,
         sides: &Sides<'_>,
         writer: &mut W,
     ) -> Result<bool, Fault>
