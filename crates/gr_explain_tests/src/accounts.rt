@@ -1,6 +1,5 @@
 //! The long form of `explain`: what the two accesses are, and the cause of their race.
 
-use crate::ends::{FailingReader, FailingWriter};
 use crate::shown::inputs_of;
 use gr_long::show_account;
 use gr_model::event::Word;
@@ -8,6 +7,7 @@ use gr_model::memory::Memory;
 use gr_record::fault::Fault;
 use gr_text::packing::pack_text;
 use refusing::Refusing;
+use refusing::failing::{FailingReader, FailingWriter};
 use std::alloc::{Allocator, Global};
 use std::test::Fail;
 

@@ -1,12 +1,12 @@
 //! One word of a launch of 64 work-groups, whose streams come a byte at a call.
 
-use crate::ends::FailingReader;
 use gr_long::show_account;
 use gr_model::event::Word;
 use gr_record::fault::Fault;
 use gr_show::files::open_all;
 use gr_show::show_race;
 use gr_text::packing::pack_text;
+use refusing::failing::FailingReader;
 use std::alloc::Global;
 use std::io::{self, ErrorKind};
 use std::test::Fail;

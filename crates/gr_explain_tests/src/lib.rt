@@ -5,8 +5,6 @@
 #[cfg(test)]
 mod accounts;
 #[cfg(test)]
-mod ends;
-#[cfg(test)]
 mod growths;
 #[cfg(test)]
 mod large;

@@ -1,6 +1,5 @@
 //! The lines of words, of launches whose streams come from a reader each.
 
-use crate::ends::{FailingReader, FailingWriter};
 use crate::launches::{HANDED_BACK_BY_ONE, HANDED_IN_THE_OTHER_MEMORY, RACE};
 use gr_model::event::Word;
 use gr_model::memory::Memory;
@@ -9,6 +8,7 @@ use gr_record::fault::Fault;
 use gr_show::show_race;
 use gr_text::packing::pack_text;
 use refusing::Refusing;
+use refusing::failing::{FailingReader, FailingWriter};
 use std::alloc::{Allocator, Global};
 use std::test::Fail;
 

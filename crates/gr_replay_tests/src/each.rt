@@ -1,13 +1,13 @@
 //! Streams that come from a reader each: which launch they are, and which fault is told of those that are refused.
 
 use crate::bytes::*;
-use crate::ends::FailingReader;
 use gr_model::memory::Memory;
 use gr_model::shape::ShapeError;
 use gr_record::error::RecordError;
 use gr_record::fault::Fault;
 use gr_replay::{read_each, read_joined};
 use refusing::Refusing;
+use refusing::failing::FailingReader;
 use std::alloc::{AllocError, Allocator, Global};
 use std::test::Fail;
 

@@ -1,12 +1,12 @@
 //! What a failing reader, a failing writer and a refused growth leave.
 
 use crate::bytes::*;
-use crate::ends::{FailingReader, FailingWriter};
 use crate::orders::CASES;
 use gr_model::memory::Memory;
 use gr_record::fault::Fault;
 use gr_replay::replay;
 use refusing::Refusing;
+use refusing::failing::{FailingReader, FailingWriter};
 use std::alloc::{AllocError, Allocator, Global};
 use std::test::Fail;
 

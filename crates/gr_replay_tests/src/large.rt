@@ -1,9 +1,9 @@
 //! Launches that are large, a reader and a writer that go byte by byte, and flushes.
 
 use crate::bytes::{END, joined};
-use crate::ends::FailingReader;
 use gr_replay::detect::{detect, detect_races};
 use gr_replay::{read_joined, replay};
+use refusing::failing::FailingReader;
 use std::alloc::{AllocError, Global};
 use std::io::{self, Read, Write};
 use std::test::Fail;

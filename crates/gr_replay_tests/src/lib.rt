@@ -6,8 +6,6 @@ mod bytes;
 #[cfg(test)]
 mod each;
 #[cfg(test)]
-mod ends;
-#[cfg(test)]
 mod failures;
 #[cfg(test)]
 mod faults;

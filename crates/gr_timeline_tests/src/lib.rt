@@ -3,6 +3,4 @@
 #![tactic(auto)]
 
 #[cfg(test)]
-mod ends;
-#[cfg(test)]
 mod shown;

@@ -1,12 +1,12 @@
 //! Histories of words, as text.
 
-use crate::ends::{FailingReader, FailingWriter};
 use gr_model::event::Word;
 use gr_model::memory::Memory;
 use gr_record::fault::Fault;
 use gr_text::packing::pack_text;
 use gr_timeline::show_history;
 use refusing::Refusing;
+use refusing::failing::{FailingReader, FailingWriter};
 use std::alloc::{Allocator, Global};
 use std::test::Fail;
 
