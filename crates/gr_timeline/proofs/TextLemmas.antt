@@ -1,9 +1,11 @@
 -- The lines of entries.
-use Rattle.std.proofs.Common.{◌≡◌, ◌==◌, ℕ, Bool, false, true, List, [], ◌∷◌, ◌++◌, ap, codes, cond, length, refl, ◌∙◌, map, Some, slice_get, subst, suc, sym}
+use Rattle.std.proofs.Common.{◌≡◌, ◌==◌, ℕ, Bool, false, true, List, [], ◌∷◌, ◌++◌, ap, codes, cond, length, refl, ◌∙◌, map, Ok, Option, Some, slice_get, subst, suc, sym}
 use Rattle.std.proofs.lemmas.Bool.Decides.{Decides-eqb}
 use Rattle.std.specs.List.{flat_map}
 use Rattle.std.proofs.lemmas.List.Concat.{flat_map-cons}
 use Rattle.gr_model.specs.declared.event.EventId.{EventId}
+use Rattle.std.proofs.KnownBytes.{Appends-nil}
+use Rattle.gr_report.specs.Putting.{Puts}
 use Rattle.gr_timeline.specs.HistoryText.{behind_text, names_text}
 
 -- the lines of the values of a map
@@ -30,3 +32,7 @@ unequal m n differ = go (m == n) refl
 pub named : (above : ℕ) (behind others : List EventId) (e : EventId) → behind ≡ e ∷ others → (length behind ≡ above → ⊥) → behind_text above behind ≡ names_text e others
 named above behind others e is differ =
     ap (behind_text above) is ∙ ap (λ b. cond b (codes " behind all") (names_text e others)) (subst (λ (l : List EventId). (length l == above) ≡ false) is (unequal (length behind) above differ))
+
+-- nothing is written
+pub puts_nothing : (old : Option (List ℕ)) → Puts old old (Ok tt) []
+puts_nothing old = record { whole = Appends-nil old; prefix = tt }
