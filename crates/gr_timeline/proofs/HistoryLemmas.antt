@@ -16,7 +16,8 @@ use Rattle.gr_sequencer.specs.Answers.{IsStep}
 use Rattle.gr_sequencer.specs.declared.handled.Handled.{Handled}
 use Rattle.gr_sequencer.specs.declared.handled.Handled.TheVariants.{One, Meet}
 use Rattle.gr_judge.proofs.KeptLemmas.{barrier_has_none}
-use Rattle.gr_timeline.specs.Histories.{AddsStep, IsAdded, IsAlong, IsCounted, IsHistory, IsOn, Line, events_of}
+use Rattle.gr_accesses.specs.Accesses.{IsOn}
+use Rattle.gr_timeline.specs.Histories.{AddsStep, IsAdded, IsAlong, IsCounted, IsHistory, Line, events_of}
 use Rattle.gr_timeline.specs.Selections.{AreThose, of_none}
 use Rattle.gr_timeline.proofs.SelectionLemmas.{other_more, others_more, those_more, those_where, those_within}
 

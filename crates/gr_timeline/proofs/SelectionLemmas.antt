@@ -1,5 +1,5 @@
 -- The elements of a list of which something is so, where the list grows.
-use Rattle.std.proofs.Common.{◌≡◌, ◌↔◌, ℕ, zero, suc, List, [], ◌∷◌, ◌++◌, Some, None, append-nil, refl, slice_get, subst}
+use Rattle.std.proofs.Common.{◌≡◌, ◌↔◌, ℕ, zero, suc, List, [], ◌∷◌, ◌++◌, Some, None, ap, append-nil, arith, refl, slice_get, subst, sym}
 use Rattle.gr_timeline.specs.Selections.{AreThose, of_none, of_one, of_other}
 
 module _ {X : Type 0} (P : X → Type 0) where
@@ -41,3 +41,28 @@ module _ {X : Type 0} (P : X → Type 0) where
   those_where Q _ _ same of_none = of_none
   those_where Q _ _ same (of_one {x = x} {xs = xs} {those = those} is rest) = of_one ((same 0 x refl).0 is) (those_where Q xs those (λ i y at. same (suc i) y at) rest)
   those_where Q _ _ same (of_other {x = x} {xs = xs} {those = those} is_not rest) = of_other (λ is. is_not ((same 0 x refl).1 is)) (those_where Q xs those (λ i y at. same (suc i) y at) rest)
+
+  -- it is so of each of those
+  pub those_hold : (xs those : List X) (i : ℕ) (x : X) → AreThose P xs those → slice_get those i ≡ Some x → P x
+  those_hold _ _ i x of_none at = let no : None ≡ Some x = at in cc
+  those_hold _ _ zero x (of_one {x = y} is rest) at = let h : Some y ≡ Some x = at in let same : y ≡ x = cc in subst P same is
+  those_hold _ _ (suc i) x (of_one {xs = xs} {those = those} is rest) at = those_hold xs those i x rest at
+  those_hold _ _ i x (of_other {xs = xs} {those = those} is_not rest) at = those_hold xs those i x rest at
+
+  -- each element of which it is so is one of those
+  pub those_have : (xs those : List X) (i : ℕ) (x : X) → AreThose P xs those → slice_get xs i ≡ Some x → P x → (p : ℕ) × (slice_get those p ≡ Some x)
+  those_have _ _ i x of_none at holds = let no : None ≡ Some x = at in cc
+  those_have _ _ zero x (of_one is rest) at holds = (0, at)
+  those_have _ _ (suc i) x (of_one {xs = xs} {those = those} is rest) at holds = let deeper = those_have xs those i x rest at holds in (suc deeper.0, deeper.1)
+  those_have _ _ zero x (of_other {x = y} is_not rest) at holds = let h : Some x ≡ Some y = sym at in let same : x ≡ y = cc in absurd (is_not (subst P same holds))
+  those_have _ _ (suc i) x (of_other {xs = xs} {those = those} is_not rest) at holds = those_have xs those i x rest at holds
+
+  -- where each element stands once, so does each of those
+  pub those_once : (xs those : List X) → AreThose P xs those → ((p q : ℕ) (x : X) → slice_get xs p ≡ Some x → slice_get xs q ≡ Some x → p ≡ q) → (p q : ℕ) (x : X) → slice_get those p ≡ Some x → slice_get those q ≡ Some x → p ≡ q
+  those_once _ _ of_none once p q x first second = let no : None ≡ Some x = first in cc
+  those_once _ _ (of_one is rest) once zero zero x first second = refl
+  those_once _ _ (of_one {xs = xs} {those = those} is rest) once zero (suc q) x first second = let deeper = those_within xs those q x rest second in absurd (omega (arith, once 0 (suc deeper.0) x first deeper.1))
+  those_once _ _ (of_one {xs = xs} {those = those} is rest) once (suc p) zero x first second = let deeper = those_within xs those p x rest first in absurd (omega (arith, once 0 (suc deeper.0) x second deeper.1))
+  those_once _ _ (of_one {xs = xs} {those = those} is rest) once (suc p) (suc q) x first second =
+      ap suc (those_once xs those rest (λ i j y a b. omega (arith, once (suc i) (suc j) y a b)) p q x first second)
+  those_once _ _ (of_other {xs = xs} {those = those} is_not rest) once p q x first second = those_once xs those rest (λ i j y a b. omega (arith, once (suc i) (suc j) y a b)) p q x first second

@@ -6,8 +6,9 @@ use Rattle.gr_model.specs.declared.event.Word.{Word}
 use Rattle.gr_model.specs.Access.{memory_of}
 use Rattle.gr_model.specs.HappensBefore.{HappensBefore}
 use Rattle.gr_model.specs.LawfulOrders.{IsWholeOrder}
-use Rattle.gr_model.specs.Streams.{Streams, word_at}
+use Rattle.gr_model.specs.Streams.{Streams}
 use Rattle.gr_clocks.specs.Counts.{Counts, count_of}
+use Rattle.gr_accesses.specs.Accesses.{IsOn}
 use Rattle.gr_sequencer.specs.declared.handled.Handled.{Handled}
 use Rattle.gr_sequencer.specs.declared.handled.Handled.TheVariants.{One, Meet}
 use Rattle.gr_timeline.specs.declared.entry.Entry.{Entry}
@@ -28,10 +29,6 @@ lines_of entries = map line_of entries
 -- the accesses themselves
 abbrev pub events_of : List Line → List EventId
 events_of lines = map (λ l. l.event) lines
-
--- an event accesses this word
-abbrev pub IsOn : Streams → Word → EventId → Type 0
-IsOn s w e = word_at s e ≡ Some w
 
 -- the events of an order that access the word, each with those above it that happen before it
 pub record IsAlong (s : Streams) (w : Word) (order : List EventId) (lines : List Line) : Type 0 where

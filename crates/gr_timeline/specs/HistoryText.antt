@@ -3,12 +3,10 @@
 use Rattle.std.specs.Prelude.{ℕ, Bool, true, false, List, [], ◌∷◌, ◌++◌, ◌==◌, Option, None, Some, codes, decimal, if◌then◌else◌, length}
 use Rattle.std.specs.List.{flat_map}
 use Rattle.gr_model.specs.declared.event.EventId.{EventId}
-use Rattle.gr_model.specs.Streams.{Streams}
 use Rattle.gr_report.specs.Putting.{field}
 use Rattle.gr_show.specs.Explanations.{event_text}
 use Rattle.gr_long.specs.declared.details.Details.{Details}
 use Rattle.gr_long.specs.AccountText.{told_text}
-use Rattle.gr_long.specs.Details.{details_of}
 use Rattle.gr_timeline.specs.Histories.{Line}
 
 -- what is told of an access, if it is there
@@ -26,16 +24,17 @@ behind_text above [] = codes " behind none"
 behind_text above (e ∷ events) = if length (e ∷ events) == above then codes " behind all" else names_text e events
 
 -- an access, what is told of it, and behind which others it is ordered
-abbrev pub line_text : Streams → Line → List ℕ
-line_text s l = event_text (codes "access ") l.event ++ known_text (details_of s l.event) ++ behind_text l.above l.behind ++ codes "\n"
+abbrev pub line_text : (EventId → Option Details) → Line → List ℕ
+line_text told l = event_text (codes "access ") l.event ++ known_text (told l.event) ++ behind_text l.above l.behind ++ codes "\n"
 
 abbrev pub racy_text : Bool → List ℕ
 racy_text true = codes " races yes\n"
 racy_text false = codes " races no\n"
 
--- how many accesses there are, and whether some of them race
-abbrev pub end_line : ℕ → Bool → List ℕ
-end_line count racy = field (codes "end accesses ") (decimal count) ++ racy_text racy
+-- how many accesses there are, how many others are held, and whether some of them race
+abbrev pub end_line : ℕ → ℕ → Bool → List ℕ
+end_line count held racy = field (codes "end accesses ") (decimal count) ++ field (codes " held ") (decimal held) ++ racy_text racy
 
-abbrev pub history_text : Streams → List Line → Bool → List ℕ
-history_text s lines racy = flat_map (line_text s) lines ++ end_line (length lines) racy
+-- where this is told of each event
+abbrev pub history_text : (EventId → Option Details) → List Line → ℕ → Bool → List ℕ
+history_text told lines held racy = flat_map (line_text told) lines ++ end_line (length lines) held racy

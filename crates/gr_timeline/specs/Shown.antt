@@ -4,13 +4,17 @@ use Rattle.std.specs.Prelude.{◌≡◌, ◌↔◌, ℕ, Bool, IsTrue, List}
 use Rattle.gr_model.specs.declared.event.Word.{Word}
 use Rattle.gr_model.specs.Streams.{Streams}
 use Rattle.gr_show.specs.Shown.{IsRacyIn}
+use Rattle.gr_long.specs.Details.{details_of}
+use Rattle.gr_accesses.specs.Held.{IsHeldCount}
 use Rattle.gr_timeline.specs.Histories.{IsHistory, Line}
 use Rattle.gr_timeline.specs.HistoryText.{history_text}
 
--- the text of a history of the word, with what is told of its accesses, and whether the word is racy
+-- the text of a history of the word, with what is told of its accesses, how many others are held, and whether the word is racy
 pub record IsHistoryText (w : Word) (s : Streams) (text : List ℕ) : Type 0 where
   pub lines : List Line
   pub exact : IsHistory s w lines
+  pub held : ℕ
+  pub are_held : IsHeldCount s w held
   pub racy : Bool
   pub said : IsTrue racy ↔ IsRacyIn w s
-  pub is : text ≡ history_text s lines racy
+  pub is : text ≡ history_text (details_of s) lines held racy

@@ -1,5 +1,5 @@
 //! The history of one word of a launch: each access to it that is not held, in an order in which they can be
-//! handled, each with those above it that happen before it.
+//! handled, each with those above it that happen before it; and how many accesses to it are held.
 #![tactic(auto)]
 
 pub mod entry;
@@ -7,5 +7,6 @@ mod handling;
 pub mod history;
 mod show;
 mod text;
+mod told;
 
 pub use show::show_history;

@@ -1,21 +1,19 @@
 //! The text of the history of a word.
 
-ghost use Rattle.std.specs.Prelude.{◌≡◌, All, OnErr, OnOk};
+ghost use Rattle.std.specs.Prelude.{OnErr, OnOk};
 ghost use Rattle.std.specs.Io.KnownBytes.{Appends};
 ghost use Rattle.std.specs.List.{flat_map};
-ghost use Rattle.gr_model.specs.Streams.{IsEvent};
 ghost use Rattle.gr_report.specs.Putting.{AppendsPrefix, Puts};
 ghost use Rattle.gr_show.specs.Explanations.{event_text};
-ghost use Rattle.gr_long.specs.Details.{details_of as spec_details_of};
+ghost use Rattle.gr_accesses.specs.Accesses.{details_at};
 ghost use Rattle.gr_timeline.specs.Histories.{line_of, lines_of};
 ghost use Rattle.gr_timeline.specs.HistoryText as spec;
 
 use crate::entry::Entry;
-use gr_explain::records::Records;
-use gr_long::details::details_of;
+use crate::told::Told;
+use gr_accesses::accesses::Accesses;
 use gr_long::text::put_told;
 use gr_model::event::EventId;
-use gr_model::traces::Traces;
 use gr_report::putting::{WriteFault, finish, put, put_field};
 use std::alloc::Allocator;
 use std::io::Write;
@@ -61,54 +59,46 @@ fn put_behind<W: Write>(writer: &mut W, above: usize, behind: &[EventId]) -> Res
 
 fn put_known<A: Allocator, W: Write>(
     writer: &mut W,
-    traces: &Traces<A>,
-    records: &Records<A>,
+    known: &Accesses<A>,
     event: EventId,
 ) -> Result<(), WriteFault>
-    requires same { records.now ≡ traces.now }
-    requires there { IsEvent traces.now event }
-    ensures { Puts (W.contents writer.old) (W.contents writer.new) result (spec.known_text (spec_details_of traces.now event)) }
+    ensures { Puts (W.contents writer.old) (W.contents writer.new) result (spec.known_text (details_at known.now.entries event)) }
 {
-    let details = details_of(traces, records, event);
-    put_told(writer, &details)
+    match known.get(&event) {
+        None => Ok(()),
+        Some(details) => put_told(writer, details),
+    }
 }
 
 fn put_entry<A: Allocator, W: Write>(
     writer: &mut W,
-    traces: &Traces<A>,
-    records: &Records<A>,
+    known: &Accesses<A>,
     entry: &Entry<A>,
 ) -> Result<(), WriteFault>
-    requires same { records.now ≡ traces.now }
-    requires there { IsEvent traces.now entry.now.event }
-    ensures { Puts (W.contents writer.old) (W.contents writer.new) result (spec.line_text traces.now (line_of entry.now)) }
+    ensures { Puts (W.contents writer.old) (W.contents writer.new) result (spec.line_text (details_at known.now.entries) (line_of entry.now)) }
 {
     put_event(writer, b"access ", entry.event)?;
-    put_known(writer, traces, records, entry.event)?;
+    put_known(writer, known, entry.event)?;
     put_behind(writer, entry.above, entry.behind.as_slice())?;
     put(writer, b"\n")
 }
 
 fn put_entries<A: Allocator, W: Write>(
     writer: &mut W,
-    traces: &Traces<A>,
-    records: &Records<A>,
+    known: &Accesses<A>,
     entries: &[Entry<A>],
 ) -> Result<(), WriteFault>
-    requires same { records.now ≡ traces.now }
-    requires there { All (λ x. IsEvent traces.now x.event) entries.now }
-    ensures { Puts (W.contents writer.old) (W.contents writer.new) result (flat_map (λ x. spec.line_text traces.now (line_of x)) entries.now) }
+    ensures { Puts (W.contents writer.old) (W.contents writer.new) result (flat_map (λ x. spec.line_text (details_at known.now.entries) (line_of x)) entries.now) }
 {
     for entry in entries {
-        put_entry(writer, traces, records, entry)?;
+        put_entry(writer, known, entry)?;
     }
     Ok(())
 }
 
-fn put_end<W: Write>(writer: &mut W, count: usize, racy: bool) -> Result<(), WriteFault>
-    ensures { Puts (W.contents writer.old) (W.contents writer.new) result (spec.end_line count racy) }
+fn put_racy<W: Write>(writer: &mut W, racy: bool) -> Result<(), WriteFault>
+    ensures { Puts (W.contents writer.old) (W.contents writer.new) result (spec.racy_text racy) }
 {
-    put_field(writer, b"end accesses ", count)?;
     if racy {
         put(writer, b" races yes\n")
     } else {
@@ -116,19 +106,24 @@ fn put_end<W: Write>(writer: &mut W, count: usize, racy: bool) -> Result<(), Wri
     }
 }
 
-fn put_history<A: Allocator, W: Write>(
+fn put_end<W: Write>(
     writer: &mut W,
-    traces: &Traces<A>,
-    records: &Records<A>,
-    entries: &[Entry<A>],
+    count: usize,
+    held: usize,
     racy: bool,
 ) -> Result<(), WriteFault>
-    requires same { records.now ≡ traces.now }
-    requires there { All (λ x. IsEvent traces.now x.event) entries.now }
-    ensures { Puts (W.contents writer.old) (W.contents writer.new) result (spec.history_text traces.now (lines_of entries.now) racy) }
+    ensures { Puts (W.contents writer.old) (W.contents writer.new) result (spec.end_line count held racy) }
 {
-    put_entries(writer, traces, records, entries)?;
-    put_end(writer, entries.len(), racy)
+    put_field(writer, b"end accesses ", count)?;
+    put_field(writer, b" held ", held)?;
+    put_racy(writer, racy)
+}
+
+fn put_history<A: Allocator, W: Write>(writer: &mut W, told: &Told<A>) -> Result<(), WriteFault>
+    ensures { Puts (W.contents writer.old) (W.contents writer.new) result (spec.history_text (details_at told.now.known.entries) (lines_of told.now.entries.items) told.now.held told.now.racy) }
+{
+    put_entries(writer, &told.known, &told.entries)?;
+    put_end(writer, told.entries.len(), told.held, told.racy)
 }
 
 /// Writes the history of a word, and flushes. It takes no memory.
@@ -137,16 +132,11 @@ fn put_history<A: Allocator, W: Write>(
 /// `WriteFault` where the writer fails; what it took is then a prefix of the text.
 pub(crate) fn write_history<A: Allocator, W: Write>(
     writer: &mut W,
-    traces: &Traces<A>,
-    records: &Records<A>,
-    entries: &[Entry<A>],
-    racy: bool,
+    told: &Told<A>,
 ) -> Result<(), WriteFault>
-    requires same { records.now ≡ traces.now }
-    requires there { All (λ x. IsEvent traces.now x.event) entries.now }
-    ensures whole { OnOk result (Appends (W.contents writer.old) (W.contents writer.new) (spec.history_text traces.now (lines_of entries.now) racy)) }
-    ensures prefix { OnErr result (AppendsPrefix (W.contents writer.old) (W.contents writer.new) (spec.history_text traces.now (lines_of entries.now) racy)) }
+    ensures whole { OnOk result (Appends (W.contents writer.old) (W.contents writer.new) (spec.history_text (details_at told.now.known.entries) (lines_of told.now.entries.items) told.now.held told.now.racy)) }
+    ensures prefix { OnErr result (AppendsPrefix (W.contents writer.old) (W.contents writer.new) (spec.history_text (details_at told.now.known.entries) (lines_of told.now.entries.items) told.now.held told.now.racy)) }
 {
-    put_history(writer, traces, records, entries, racy)?;
+    put_history(writer, told)?;
     finish(writer)
 }

@@ -21,7 +21,7 @@ const PASSED: &str = "group 0 items 2 launch 7\n0 w g 16\n0 st g 20 dev rel\n\
 1 ld g 20 dev acq < 0 0 0\n1 r g 16\nend\n";
 
 const PASSED_TEXT: &str = "access 0 0 0 write record 0 phase 0 behind none\n\
-access 0 1 1 read record 3 phase 0 behind all\nend accesses 2 races no\n";
+access 0 1 1 read record 3 phase 0 behind all\nend accesses 2 held 0 races no\n";
 
 /// Item 1 waits for a release of item 0 whose scope is another, and is not ordered behind it; item 2 is ordered behind
 /// item 1.
@@ -45,11 +45,15 @@ const CASES: [Case; 4] = [
             (Word::Global(16), PASSED_TEXT, false),
             (
                 Word::Global(20),
-                "access 0 0 1 store dev rel record 1 phase 0 behind none\naccess 0 1 0 load dev acq record 2 phase 0 behind all\nend accesses 2 races no\n",
+                "access 0 0 1 store dev rel record 1 phase 0 behind none\naccess 0 1 0 load dev acq record 2 phase 0 behind all\nend accesses 2 held 0 races no\n",
                 false,
             ),
-            (Word::Global(24), "end accesses 0 races no\n", false),
-            (Word::Local(9, 16), "end accesses 0 races no\n", false),
+            (Word::Global(24), "end accesses 0 held 0 races no\n", false),
+            (
+                Word::Local(9, 16),
+                "end accesses 0 held 0 races no\n",
+                false,
+            ),
         ],
     ),
     (
@@ -58,12 +62,12 @@ const CASES: [Case; 4] = [
         &[
             (
                 Word::Global(16),
-                "access 0 0 0 write record 0 phase 0 behind none\naccess 0 1 1 write record 3 phase 0 behind none\naccess 0 1 2 read record 4 phase 0 behind 0 1 1\naccess 0 2 1 read record 7 phase 0 behind 0 1 1, 0 1 2\nend accesses 4 races yes\n",
+                "access 0 0 0 write record 0 phase 0 behind none\naccess 0 1 1 write record 3 phase 0 behind none\naccess 0 1 2 read record 4 phase 0 behind 0 1 1\naccess 0 2 1 read record 7 phase 0 behind 0 1 1, 0 1 2\nend accesses 4 held 0 races yes\n",
                 true,
             ),
             (
                 Word::Global(20),
-                "access 0 0 1 store grp rel record 1 phase 0 behind none\naccess 0 1 0 load dev acq record 2 phase 0 behind none\nend accesses 2 races yes\n",
+                "access 0 0 1 store grp rel record 1 phase 0 behind none\naccess 0 1 0 load dev acq record 2 phase 0 behind none\nend accesses 2 held 0 races yes\n",
                 true,
             ),
         ],
@@ -71,11 +75,14 @@ const CASES: [Case; 4] = [
     (
         "a barrier, and an access that is held",
         &[BARRIER],
-        &[(
-            Word::Global(16),
-            "access 0 0 0 rmw dev rlx record 0 phase 0 behind none\naccess 0 1 1 write record 3 phase 1 behind all\nend accesses 2 races no\n",
-            false,
-        )],
+        &[
+            (
+                Word::Global(16),
+                "access 0 0 0 rmw dev rlx record 0 phase 0 behind none\naccess 0 1 1 write record 3 phase 1 behind all\nend accesses 2 held 1 races no\n",
+                false,
+            ),
+            (Word::Global(20), "end accesses 0 held 1 races no\n", false),
+        ],
     ),
     (
         "words of two groups",
@@ -83,12 +90,12 @@ const CASES: [Case; 4] = [
         &[
             (
                 Word::Local(0, 5),
-                "access 0 0 0 write record 0 phase 0 behind none\naccess 0 0 1 read record 1 phase 0 behind all\nend accesses 2 races no\n",
+                "access 0 0 0 write record 0 phase 0 behind none\naccess 0 0 1 read record 1 phase 0 behind all\nend accesses 2 held 0 races no\n",
                 false,
             ),
             (
                 Word::Local(1, 5),
-                "access 1 0 1 read record 1 phase 0 behind none\nend accesses 1 races no\n",
+                "access 1 0 1 read record 1 phase 0 behind none\nend accesses 1 held 0 races no\n",
                 false,
             ),
         ],

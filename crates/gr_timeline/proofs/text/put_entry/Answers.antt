@@ -1,13 +1,13 @@
 use Rattle.std.proofs.Common.{codes}
 use Rattle.gr_report.proofs.PuttingLemmas.{puts_then, puts_more, puts_err}
-use Rattle.gr_long.specs.Details.{details_of}
+use Rattle.gr_accesses.specs.Accesses.{details_at}
 use Rattle.gr_timeline.specs.HistoryText.{behind_text, known_text}
 use Rattle.gr_timeline.proofs.text.put_entry.Goals as goal
 
 pub returns-in_err-put_event : goal.returns-in_err-put_event
 returns-in_err-put_event g c =
     let x = c.args.entry.now in
-    puts_err _ c.from_residual.ensures.0 (puts_more (codes "\n") (puts_more (behind_text x.above x.behind.items) (puts_more (known_text (details_of c.args.traces.now x.event)) c.in_err-put_event.ensures)))
+    puts_err _ c.from_residual.ensures.0 (puts_more (codes "\n") (puts_more (behind_text x.above x.behind.items) (puts_more (known_text (details_at c.args.known.now.entries x.event)) c.in_err-put_event.ensures)))
 
 pub returns-in_err-put_known : goal.returns-in_err-put_known
 returns-in_err-put_known g c =

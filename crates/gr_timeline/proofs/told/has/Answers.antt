@@ -1,6 +1,6 @@
 use Rattle.std.proofs.Common.{◌∙◌, sym}
 use Rattle.gr_timeline.proofs.ShownLemmas.{found_is_there}
-use Rattle.gr_timeline.proofs.show.has.Goals as goal
+use Rattle.gr_timeline.proofs.told.has.Goals as goal
 
 pub returns : goal.returns
 returns c =

@@ -1,6 +1,6 @@
 use Rattle.std.proofs.Common.{◌↔◌, Contains, IsTrue, List, subst}
 use Rattle.gr_model.specs.declared.event.Word.{Word}
-use Rattle.gr_timeline.proofs.show.is_racy.Goals as goal
+use Rattle.gr_timeline.proofs.told.is_racy.Goals as goal
 
 pub returns : goal.returns
 returns g c =

@@ -1,0 +1,5 @@
+pub mod ListLemmas
+pub mod CountLemmas
+pub mod RecordLemmas
+pub mod GroupLemmas
+pub mod HeldLemmas

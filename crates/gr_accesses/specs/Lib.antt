@@ -1,0 +1,4 @@
+pub mod Accesses
+pub mod Counting
+pub mod Gathering
+pub mod Held
