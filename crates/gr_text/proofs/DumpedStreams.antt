@@ -33,7 +33,7 @@ all x = Ok x
 same_all : (x y : List Line) → all x ≡ all y → x ≡ y
 same_all x y e = cc
 
-none : {X : Type 0} (xs : List X) → length xs ≡ 0 → xs ≡ []
+pub none : {X : Type 0} (xs : List X) → length xs ≡ 0 → xs ≡ []
 none [] h = refl
 none (x ∷ xs) h = absurd (omega arith)
 
@@ -49,15 +49,15 @@ all_none P k d lt = absurd (omega arith)
 
 -- ---- one stream
 
-record StreamFound (bytes : List ℕ) (x : Found) : Type 0 where
-  stream : WholeStream
-  whole : IsWhole stream
-  parts : x.0 ≡ parts_in stream
-  spelled : bytes ≡ stream_spelling stream.header stream.events ++ x.1
-  fits : AreBytes x.1
-  shorter : length x.1 < length bytes
+pub record StreamFound (bytes : List ℕ) (x : Found) : Type 0 where
+  pub stream : WholeStream
+  pub whole : IsWhole stream
+  pub parts : x.0 ≡ parts_in stream
+  pub spelled : bytes ≡ stream_spelling stream.header stream.events ++ x.1
+  pub fits : AreBytes x.1
+  pub shorter : length x.1 < length bytes
 
-stream_found : (place : ℕ) (bytes : List ℕ) → AreBytes bytes → (x : Found) → stream_at place bytes ≡ Ok x → StreamFound bytes x
+pub stream_found : (place : ℕ) (bytes : List ℕ) → AreBytes bytes → (x : Found) → stream_at place bytes ≡ Ok x → StreamFound bytes x
 unfolding stream_at
 stream_found place bytes fits x e = by_header (front_header_at bytes) refl e
   where

@@ -6,3 +6,5 @@ pub mod PackedStreams
 pub mod SpelledStreams
 pub mod SaidStreams
 pub mod UpgradedStreams
+pub mod Partials
+pub mod PartialLaws

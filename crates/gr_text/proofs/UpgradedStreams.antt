@@ -1,5 +1,5 @@
 -- Streams that are upgraded are whole streams, of the same groups, items, launches and records.
-use Rattle.std.proofs.Common.{◌≡◌, ℕ, zero, suc, ◌+◌, ◌≤◌, List, [], ◌∷◌, ◌++◌, length, map, All, Result, Ok, Err, refl, sym, ap, ap₂, subst, ◌∙◌, arith}
+use Rattle.std.proofs.Common.{◌≡◌, ℕ, suc, List, [], ◌∷◌, ◌++◌, length, map, All, Result, Ok, Err, refl, sym, ap, ap₂, ◌∙◌, arith}
 use Rattle.std.specs.List.{flat_map}
 use Rattle.std.proofs.lemmas.List.Concat.{flat_map-append}
 use Rattle.gr_model.specs.declared.event.Event.{Event}
@@ -7,7 +7,6 @@ use Rattle.gr_record.specs.declared.fault.Fault.{Fault}
 use Rattle.gr_record.specs.declared.header.Header.{Header}
 use Rattle.gr_record.specs.declared.header.Version.TheVariants.{Two}
 use Rattle.gr_record.specs.PrefixLaws.{Runs}
-use Rattle.gr_record.specs.Laws.{AreBytes}
 use Rattle.gr_record.specs.Spelling.{event_spelling, events_spelling, header_spelling}
 use Rattle.gr_record.proofs.Places.{few_names}
 use Rattle.gr_lines.specs.declared.line.Line.{Line}

@@ -3,3 +3,4 @@ pub mod Texts
 pub mod Dumps
 pub mod Writes
 pub mod Wholes
+pub mod Partial

@@ -33,7 +33,7 @@ pub enum Form {
 
 /// Adds a line and its line feed.
 /// Requires: the header or record is in range.
-fn push_line<A: Allocator + Copy>(
+pub(crate) fn push_line<A: Allocator + Copy>(
     alloc: A,
     text: &mut Vec<u8, A>,
     line: &Line,

@@ -1,6 +1,7 @@
 //! Which texts and bytes are accepted. Each law is the contract of a function that does nothing, told in words in
 //! docs/FORMATS.md, "Stream" and "Text form".
 
+ghost use Rattle.gr_text.specs.Partial.{RefusedIsToldUpToItsFault, WholeStreamsStandWhole};
 ghost use Rattle.gr_text.specs.Wholes.{DumpedAreStreams, DumpedIsPackedAgain, PackedAreStreams, PackedIsDumpedAgain, UpgradedAreStreams, UpgradedStays, WholeStreamsAreDumped, WholeStreamsArePacked, WholeStreamsAreUpgraded};
 
 /// Bytes that are dumped are those of whole streams, one after another, and what is written is the text of these
@@ -38,4 +39,12 @@ pub fn upgraded_are_streams()
 pub fn streams_are_upgraded()
     ensures streams { WholeStreamsAreUpgraded }
     ensures again { UpgradedStays }
+{}
+
+/// Before the fault of refused bytes stand whole streams, as many as the fault's place says, and of the stream at fault
+/// either nothing, where its header is refused, or its header and the records behind which the next is refused. Of
+/// bytes without a fault all stands there.
+pub fn refused_is_told_up_to_its_fault()
+    ensures refused { RefusedIsToldUpToItsFault }
+    ensures whole { WholeStreamsStandWhole }
 {}

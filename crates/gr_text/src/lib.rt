@@ -5,7 +5,8 @@ pub mod forming;
 pub mod laws;
 pub mod lines;
 pub mod packing;
+pub mod partial;
 pub mod place;
 mod run;
 
-pub use run::{dump, pack, upgrade};
+pub use run::{dump, dump_partial, pack, upgrade};

@@ -2,15 +2,17 @@
 
 ghost use Rattle.std.specs.Prelude.{◌≡◌, ◌≢◌, IfErr, IfSome, OnOk};
 ghost use Rattle.std.specs.Io.KnownBytes.{Appends, Keeps};
-ghost use Rattle.gr_input.specs.Faults.{Fails};
+ghost use Rattle.gr_input.specs.Faults.{Fails, IsOutside};
 ghost use Rattle.gr_record.specs.declared.fault.Fault.TheVariants as faults;
 ghost use Rattle.gr_report.specs.Putting.{AppendsPrefix};
 ghost use Rattle.gr_text.specs.Texts.{packed};
 ghost use Rattle.gr_text.specs.Dumps.{dumped, upgraded};
+ghost use Rattle.gr_text.specs.Partial.{text_before_fault};
 ghost use Rattle.gr_text.specs.Writes.{Writes, WritesPrefix};
 
 use crate::forming::{Form, formed_bytes};
 use crate::packing::pack_text;
+use crate::partial::partial_text;
 use gr_input::read_all;
 use gr_record::fault::Fault;
 use gr_report::putting::{finish, put};
@@ -89,6 +91,34 @@ pub fn dump<A: Allocator + Copy, T: Read, W: Write>(
     let bytes = read_all(alloc, reader)?;
     let text = formed_bytes(alloc, Form::Text, bytes.as_slice())?;
     write_all(writer, text.as_slice())
+}
+
+/// Reads streams to their end, one after another, and writes their text; of streams that are refused the text of the
+/// headers and records before the first fault.
+///
+/// # Errors
+/// Those of `dump`. At `Stream` the text of what stands before the fault has been written. `Write` if the writer fails,
+/// which has then taken a prefix of the text. At `Read` and `Memory` nothing is written.
+pub fn dump_partial<A: Allocator + Copy, T: Read, W: Write>(
+    alloc: A,
+    reader: &mut T,
+    writer: &mut W,
+) -> Result<(), Fault>
+    ensures whole { OnOk result (IfSome (T.remaining reader.old) (λ bytes. Writes (dumped bytes) (W.contents writer.old) (W.contents writer.new))) }
+    ensures fault { IfErr result (λ f. f ≢ faults.Write → IfSome (T.remaining reader.old) (λ bytes. Fails f (dumped bytes))) }
+
+    // What a fault leaves with the writer.
+    ensures partial { IfErr result (λ f. f ≢ faults.Write → ¬ IsOutside f → IfSome (T.remaining reader.old) (λ bytes. Appends (W.contents writer.old) (W.contents writer.new) (text_before_fault bytes))) }
+    ensures untouched { IfErr result (λ f. IsOutside f → Keeps (W.contents writer.old) (W.contents writer.new)) }
+    ensures prefix { IfErr result (λ f. f ≡ faults.Write → IfSome (T.remaining reader.old) (λ bytes. AppendsPrefix (W.contents writer.old) (W.contents writer.new) (text_before_fault bytes))) }
+{
+    let bytes = read_all(alloc, reader)?;
+    let (text, fault) = partial_text(alloc, bytes.as_slice())?;
+    write_all(writer, text.as_slice())?;
+    match fault {
+        None => Ok(()),
+        Some(fault) => Err(fault),
+    }
 }
 
 /// Reads streams to their end, one after another, and writes the same streams in version 2: of the same groups, items

@@ -1,0 +1,9 @@
+use Rattle.std.proofs.Common.{arith}
+use Rattle.gr_record.specs.Laws.{AreBytes}
+use Rattle.gr_text.proofs.Partials.{in_range}
+use Rattle.gr_text.proofs.partial.read_in_range.Goals as goal
+
+pub returns-clause-range : goal.returns-clause-range
+returns-clause-range c =
+    let fits : AreBytes c.args.record.now = λ i. let b = c.type_inv.record i in omega arith in
+    in_range c.args.header c.requires.header c.args.record.now fits c.requires.length c.read_event.result c.read_event.ensures

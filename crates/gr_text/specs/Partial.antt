@@ -1,0 +1,91 @@
+-- The headers and records that stand in bytes before their first fault, and their text.
+-- Source: docs/FORMATS.md, "Text form".
+use Rattle.std.specs.Prelude.{◌≡◌, ◌⊎◌, ℕ, zero, suc, List, [], ◌∷◌, ◌++◌, length, map, All, Option, None, Some, Result, Ok, Err, IsFalse}
+use Rattle.std.specs.Option.{option_map_or}
+use Rattle.std.specs.List.{flat_map}
+use Rattle.gr_model.specs.declared.limits.TheConstants.{MOST_RECORDS}
+use Rattle.gr_model.specs.Streams.{is_complete}
+use Rattle.gr_lines.specs.declared.line.Line.{Line}
+use Rattle.gr_lines.specs.declared.line.Line.TheVariants as lines
+use Rattle.gr_record.specs.declared.error.RecordError.{RecordError}
+use Rattle.gr_record.specs.declared.fault.Fault.TheVariants as faults
+use Rattle.gr_record.specs.declared.header.Header.{Header}
+use Rattle.gr_record.specs.declared.stop.Stop.{Stop}
+use Rattle.gr_record.specs.declared.stop.Stop.TheVariants.{Inside, AtEnd, AtFault}
+use Rattle.gr_record.specs.Fronts.{records_of}
+use Rattle.gr_record.specs.Laws.{AreBytes}
+use Rattle.gr_record.specs.PrefixLaws.{IsPrefix}
+use Rattle.gr_record.specs.Spelling.{events_spelling}
+use Rattle.gr_record.specs.WholeStreams.{front_header_at, front_records_at, stream_spelling}
+use Rattle.gr_text.specs.Texts.{whole_line}
+use Rattle.gr_text.specs.Dumps.{dumped}
+use Rattle.gr_text.specs.Wholes.{WholeStream, IsWhole, bytes_of, parts_in, text_of}
+
+-- ---- one stream
+
+-- the header and the records before a fault, and the bytes behind the end where there is one
+pub record Front : Type 0 where
+  pub lines : List Line
+  pub behind : Option (List ℕ)
+
+-- the bytes that are left behind an end
+abbrev pub behind_end : Stop → List ℕ → Option (List ℕ)
+behind_end Inside rest = None
+behind_end AtEnd rest = Some rest
+behind_end (AtFault e) rest = None
+
+-- a stream from its header on, where one is read: its records as far as they are read
+abbrev pub front_behind : Result (Header × List ℕ) RecordError → Front
+front_behind (Err e) = record { lines = []; behind = None }
+front_behind (Ok h) =
+    let r = records_of h.0 MOST_RECORDS h.1 in
+    record { lines = lines.Header h.0 ∷ map lines.Event r.events; behind = behind_end r.stop r.rest }
+
+-- the stream at the front of the bytes
+abbrev pub front_at : List ℕ → Front
+front_at bytes = front_behind (front_header_at bytes)
+
+-- ---- all streams
+
+-- the headers and records of at most so many streams, before a fault
+unfoldable pub lines_before : ℕ → List ℕ → List Line
+lines_before zero bytes = []
+lines_before (suc most) bytes = (front_at bytes).lines ++ option_map_or (λ rest. lines_before most rest) (front_at bytes).behind []
+
+-- the text of what stands before the first fault; each stream has a byte at least
+abbrev pub text_before_fault : List ℕ → List ℕ
+text_before_fault bytes = flat_map whole_line (lines_before (length bytes) bytes)
+
+-- ---- laws
+
+-- before a fault that bytes do not have stands all that they are
+abbrev pub WholeStreamsStandWhole : Type 0
+WholeStreamsStandWhole = (bytes text : List ℕ) → dumped bytes ≡ Ok text → text_before_fault bytes ≡ text
+
+-- a header that is no header, and nothing before it; or a header and records that no end follows, and behind them what is refused
+abbrev pub IsRefusedAtHeader : RecordError → List ℕ → List Line → Type 0
+IsRefusedAtHeader e bytes xs = (front_header_at bytes ≡ Err e) × (xs ≡ [])
+
+pub record IsRefusedBehind (e : RecordError) (bytes : List ℕ) (xs : List Line) : Type 0 where
+  pub stream : WholeStream
+  pub prefix : IsPrefix MOST_RECORDS stream.header stream.events
+  pub unended : IsFalse (is_complete stream.events)
+  pub left : List ℕ
+  pub parts : bytes ≡ stream_spelling stream.header stream.events ++ left
+  pub refused : front_records_at stream.header (events_spelling stream.header.version stream.events ++ left) ≡ Err e
+  pub lines : xs ≡ parts_in stream
+
+-- whole streams, and behind them the bytes of the stream at fault, of which this stands before the fault
+pub record StandsBefore (place : ℕ) (e : RecordError) (bytes text : List ℕ) : Type 0 where
+  pub streams : List WholeStream
+  pub whole : All IsWhole streams
+  pub count : length streams ≡ place
+  pub rest : List ℕ
+  pub parts : bytes ≡ bytes_of streams ++ rest
+  pub lines : List Line
+  pub front : IsRefusedAtHeader e rest lines ⊎ IsRefusedBehind e rest lines
+  pub is : text ≡ text_of streams ++ flat_map whole_line lines
+
+-- what is told of refused bytes stands before their fault
+abbrev pub RefusedIsToldUpToItsFault : Type 0
+RefusedIsToldUpToItsFault = (bytes : List ℕ) (place : ℕ) (e : RecordError) → AreBytes bytes → dumped bytes ≡ Err (faults.Stream place e) → StandsBefore place e bytes (text_before_fault bytes)

@@ -1,0 +1,123 @@
+//! From bytes that may be refused to the text of what stands before their first fault.
+
+ghost use Rattle.std.specs.Prelude.{◌≡◌, ◌≢◌, ◌++◌, IfOk, IfSome, IsOk, MatchOption, OnOk, Err, length, map, option_map};
+ghost use Rattle.std.specs.List.{flat_map};
+ghost use Rattle.gr_input.specs.Faults.{IsOutside};
+ghost use Rattle.gr_lines.specs.declared.line.Line.TheVariants as lines;
+ghost use Rattle.gr_model.specs.Events.{IsEventOk};
+ghost use Rattle.gr_model.specs.declared.limits.TheConstants.{MOST_ITEMS_OF_A_GROUP, MOST_RECORDS};
+ghost use Rattle.gr_record.specs.declared.fault.Fault.TheVariants as faults;
+ghost use Rattle.gr_record.specs.Fronts.{records_of};
+ghost use Rattle.gr_record.specs.Reading.{event_at};
+ghost use Rattle.gr_record.specs.Spelling.{IsHeader};
+ghost use Rattle.gr_record.specs.Versions.{record_length};
+ghost use Rattle.gr_text.specs.Texts.{whole_line};
+ghost use Rattle.gr_text.specs.Dumps.{dumped};
+ghost use Rattle.gr_text.specs.Partial.{behind_end, front_at, text_before_fault as text_before};
+
+use crate::forming::{Form, formed_bytes, push_line};
+use gr_lines::line::Line;
+use gr_model::event::Event;
+use gr_model::limits::MOST_RECORDS;
+use gr_model::memory::Memory;
+use gr_record::error::RecordError;
+use gr_record::fault::Fault;
+use gr_record::header::Header;
+use gr_record::reading::read_event;
+use gr_record::stream::read_front_header;
+use std::alloc::Allocator;
+
+/// The record that these bytes are, in a stream of this header.
+/// Requires: the header is in range, and there are as many bytes as one of its records has.
+fn read_in_range(header: Header, record: &[u8]) -> Result<Event, RecordError>
+    requires header { IsHeader header }
+    requires length { length record.now ≡ record_length header.version }
+    ensures exact { result ≡ event_at header record.now }
+    ensures range { IfOk result (λ e. IsEventOk e MOST_ITEMS_OF_A_GROUP) }
+{
+    read_event(header, record)
+}
+
+/// Adds the lines of the records at the start of the bytes, which stand in a stream of this header, up to its end or to
+/// the first that is refused. Answers the bytes behind the end, if there is one.
+/// Requires: the header is in range.
+fn push_records<'a, A: Allocator + Copy>(
+    alloc: A,
+    text: &mut Vec<u8, A>,
+    header: Header,
+    bytes: &'a [u8],
+) -> Result<Option<&'a [u8]>, Memory>
+    requires { IsHeader header }
+    ensures text { OnOk result (text.new.items ≡ text.old.items ++ flat_map whole_line (map lines.Event (records_of header MOST_RECORDS bytes.now).events)) }
+    ensures rest { IfOk result (λ rest. option_map (λ s. s.now) rest ≡ behind_end (records_of header MOST_RECORDS bytes.now).stop (records_of header MOST_RECORDS bytes.now).rest) }
+{
+    let size = header.version.record_length();
+    let mut rest = bytes;
+    for _ in 0..MOST_RECORDS {
+        if rest.len() < size {
+            return Ok(None);
+        }
+        let (record, after) = rest.split_at(size);
+        let Ok(event) = read_in_range(header, record) else {
+            return Ok(None);
+        };
+        let is_end = event.kind.is_end();
+        push_line(alloc, text, &Line::Event(event))?;
+        if is_end {
+            return Ok(Some(after));
+        }
+        rest = after;
+    }
+    Ok(None)
+}
+
+/// Adds the lines of the header and the records of the stream at the start of the bytes, as far as they stand before a
+/// fault. Answers the bytes behind the end, if there is one.
+fn push_front<'a, A: Allocator + Copy>(
+    alloc: A,
+    text: &mut Vec<u8, A>,
+    bytes: &'a [u8],
+) -> Result<Option<&'a [u8]>, Memory>
+    ensures text { OnOk result (text.new.items ≡ text.old.items ++ flat_map whole_line (front_at bytes.now).lines) }
+    ensures rest { IfOk result (λ rest. option_map (λ s. s.now) rest ≡ (front_at bytes.now).behind) }
+{
+    let Ok((header, records)) = read_front_header(bytes) else {
+        return Ok(None);
+    };
+    push_line(alloc, text, &Line::Header(header))?;
+    push_records(alloc, text, header, records)
+}
+
+/// The text of the headers and records that stand in the bytes before their first fault; of streams that have none all.
+///
+/// # Errors
+/// `Memory` if an allocation is refused.
+pub fn text_before_fault<A: Allocator + Copy>(alloc: A, bytes: &[u8]) -> Result<Vec<u8, A>, Memory>
+    ensures { IfOk result (λ text. text.items ≡ text_before bytes.now) }
+{
+    let mut text = Vec::new(alloc);
+    let mut rest = bytes;
+    for _ in 0..bytes.len() {
+        let Some(behind) = push_front(alloc, &mut text, rest)? else {
+            return Ok(text);
+        };
+        rest = behind;
+    }
+    Ok(text)
+}
+
+/// The text of what stands in the bytes before their first fault, and that fault; of streams that have none their text.
+pub(crate) fn partial_text<A: Allocator + Copy>(
+    alloc: A,
+    bytes: &[u8],
+) -> Result<(Vec<u8, A>, Option<Fault>), Memory>
+    ensures text { IfOk result (λ x. x.0.items ≡ text_before bytes.now) }
+    ensures fault { IfOk result (λ x. MatchOption x.1 (IsOk (dumped bytes.now)) (λ f. dumped bytes.now ≡ Err f)) }
+    ensures inside { IfOk result (λ x. IfSome x.1 (λ f. ¬ IsOutside f × (f ≢ faults.Write))) }
+{
+    match formed_bytes(alloc, Form::Text, bytes) {
+        Ok(text) => Ok((text, None)),
+        Err(Fault::Memory) => Err(Memory),
+        Err(fault) => Ok((text_before_fault(alloc, bytes)?, Some(fault))),
+    }
+}
