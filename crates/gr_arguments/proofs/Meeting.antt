@@ -1,10 +1,13 @@
 -- The command that a parse met.
-use Rattle.std.proofs.Common.{◌≡◌, ◌∙◌, true, true≢false, List, [], ◌∷◌, Option, Some, None, refl, sym, ap, ap₂, subst}
+use Rattle.std.proofs.Common.{◌≡◌, ◌∙◌, Bool, false, true, true≢false, codes, List, [], ◌∷◌, Option, Some, None, refl, sym, ap, ap₂, subst}
 use Rattle.std.specs.Prelude.{Box, is_some, option_map}
 use Rattle.std.specs.Box.{box_value}
 use Rattle.clap.specs.declared.parser.matches.ArgMatches.{ArgMatches}
 use Rattle.clap.specs.declared.parser.matches.ArgMatches.TheViews.{out-ArgMatches, out-SubCommand}
 use Rattle.clap.specs.declared.parser.matches.SubCommand.{SubCommand}
+use Rattle.clap.specs.declared.parser.matches.ValueSource.TheVariants.{CommandLine, DefaultValue}
+use Rattle.clap.specs.declared.builder.value_parser.ValueParser.TheVariants.{String}
+use Rattle.clap.specs.Values.{reading_of}
 use Rattle.clap.specs.Walk.{Row}
 use Rattle.clap.specs.Words.{App, HasMatchesOf, Text, fault_of, is_simple, is_simple_and_free, subcommand_name_of, subcommand_of, subcommand_rows, subcommand_rows_of}
 use Rattle.clap.proofs.OnLiterals.{clap_on_literals}
@@ -12,7 +15,7 @@ use Rattle.gr_arguments.specs.declared.request.Task.{Task}
 use Rattle.gr_arguments.specs.declared.request.Task.TheVariants.{Replay, Pack, Dump, Upgrade}
 use Rattle.gr_arguments.specs.Asked.{Asked, AsksTo, IsAskedBy}
 use Rattle.gr_arguments.specs.Commands.{command_of, faults, gpurace, name_met, name_of, values_met}
-use Rattle.gr_arguments.specs.Plain.{NamesAsk, NoWordAsks}
+use Rattle.gr_arguments.specs.Plain.{NamesAsk, NoWordAsks, words_of}
 
 gpurace_is_simple : is_simple gpurace ≡ true
 unfolding clap_on_literals
@@ -24,24 +27,36 @@ gpurace_is_free = refl
 
 -- ---- the names of tasks
 
-names_taken : (t : Task) → faults (name_of t ∷ []) ≡ []
+names_taken : (t : Task) → faults (words_of t) ≡ []
 unfolding clap_on_literals faults
 names_taken Replay = refl
 names_taken Pack = refl
-names_taken Dump = refl
+names_taken (Dump false) = refl
+names_taken (Dump true) = refl
 names_taken Upgrade = refl
 
-names_met : (t : Task) → command_of (name_of t ∷ []) ≡ Some (name_of t, [])
+-- the row of the flag of `dump`, where it is there and where it is not
+abbrev flag_row : Bool → Row
+flag_row true = record { id = codes "partial"; values = codes "true" ∷ []; count = None; source = Some CommandLine; reading = reading_of String }
+flag_row false = record { id = codes "partial"; values = codes "false" ∷ []; count = None; source = Some DefaultValue; reading = reading_of String }
+
+abbrev rows_of_task : Task → List Row
+rows_of_task (Dump partial) = flag_row partial ∷ []
+rows_of_task t = []
+
+names_met : (t : Task) → command_of (words_of t) ≡ Some (name_of t, rows_of_task t)
 unfolding clap_on_literals command_of
 names_met Replay = refl
 names_met Pack = refl
-names_met Dump = refl
+names_met (Dump false) = refl
+names_met (Dump true) = refl
 names_met Upgrade = refl
 
 pub names_ask : NamesAsk
 names_ask Replay = record { taken = names_taken Replay; asks = rw (names_met Replay) refl }
 names_ask Pack = record { taken = names_taken Pack; asks = rw (names_met Pack) refl }
-names_ask Dump = record { taken = names_taken Dump; asks = rw (names_met Dump) refl }
+names_ask (Dump false) = record { taken = names_taken (Dump false); asks = rw (names_met (Dump false)) (refl, refl) }
+names_ask (Dump true) = record { taken = names_taken (Dump true); asks = rw (names_met (Dump true)) (refl, refl) }
 names_ask Upgrade = record { taken = names_taken Upgrade; asks = rw (names_met Upgrade) refl }
 
 none_taken : faults [] ≡ []

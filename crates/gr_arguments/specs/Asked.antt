@@ -16,6 +16,7 @@ use Rattle.gr_arguments.specs.declared.request.Recall.{Recall}
 use Rattle.gr_arguments.specs.declared.request.Request.{Request}
 use Rattle.gr_arguments.specs.declared.request.Request.TheVariants as request
 use Rattle.gr_arguments.specs.declared.request.Task.{Task}
+use Rattle.gr_arguments.specs.declared.request.Task.TheVariants.{Dump}
 use Rattle.gr_arguments.specs.Commands.{command_of, faults, name_met, name_of, values_met}
 
 -- the files that the values have
@@ -25,6 +26,13 @@ files_of rows = option_map_or (λ files. files) (all_of (codes "FILE") rows) []
 -- whether the values have a flag: the value of a flag that is there is `true`
 abbrev pub has_flag : Text → List Row → Bool
 has_flag flag rows = option_map_or (λ text. bytes_eq text (codes "true")) (first_of flag rows) false
+
+-- ---- a task over standard input
+
+-- the command of this name asks for this task with these values; of a text that of all, or also of what stands before a fault
+abbrev pub IsAskedTask : Text → List Row → Task → Type 0
+IsAskedTask name rows (Dump partial) = (name ≡ codes "dump") × (has_flag (codes "partial") rows ≡ partial)
+IsAskedTask name rows t = name ≡ name_of t
 
 -- ---- one word of a launch
 
@@ -166,7 +174,7 @@ IsTheOne P o = MatchOption o ((x : _) → ¬ P x) P
 
 -- the command of this name asks for this with these values
 abbrev pub IsAskedBy : Text → List Row → Asked → Type 0
-IsAskedBy name rows (perform t) = name ≡ name_of t
+IsAskedBy name rows (perform t) = IsAskedTask name rows t
 IsAskedBy name rows (explain o) = (name ≡ codes "explain") × IsTheOne (IsAskedWord rows) o
 IsAskedBy name rows (races o) = (name ≡ codes "races") × IsTheOne (IsAskedRaces rows) o
 IsAskedBy name rows (history o) = (name ≡ codes "history") × IsTheOne (IsAskedHistory rows) o

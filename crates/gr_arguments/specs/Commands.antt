@@ -15,7 +15,7 @@ use Rattle.gr_arguments.specs.declared.request.Task.TheVariants.{Replay, Pack, D
 abbrev pub name_of : Task → Text
 name_of Replay = codes "replay"
 name_of Pack = codes "pack"
-name_of Dump = codes "dump"
+name_of (Dump partial) = codes "dump"
 name_of Upgrade = codes "upgrade"
 
 -- the program, whose words come without its own name
@@ -40,6 +40,10 @@ flag_rule id = record (new_rule id) { long = Some id; action = Some SetTrue }
 -- an option with a value
 abbrev pub option_rule : Text → Rule
 option_rule id = record (new_rule id) { long = Some id; value_names = 1 }
+
+-- the command that writes streams as text: whether also what stands before a fault
+abbrev pub dumping : Shape
+dumping = (with_rule (new_app (codes "dump")) (flag_rule (codes "partial"))).top
 
 -- the command that shows one word: whether in the long form and as JSON, the word, and the files
 abbrev pub explaining : Shape
@@ -73,7 +77,7 @@ abbrev pub inquiring : Shape
 inquiring = (with_rule (with_rule (with_rule (with_rule (new_app (codes "why-held")) (wanted (codes "GROUP"))) (wanted (codes "ITEM"))) (wanted (codes "INDEX"))) wanted_files).top
 
 abbrev pub tasks : App
-tasks = with_subcommand (with_subcommand (with_subcommand (with_subcommand (record { top = alone; subs = [] }) (command_named (codes "replay"))) (command_named (codes "pack"))) (command_named (codes "dump"))) (command_named (codes "upgrade"))
+tasks = with_subcommand (with_subcommand (with_subcommand (with_subcommand (record { top = alone; subs = [] }) (command_named (codes "replay"))) (command_named (codes "pack"))) dumping) (command_named (codes "upgrade"))
 
 abbrev pub gpurace : App
 gpurace = with_subcommand (with_subcommand (with_subcommand (with_subcommand (with_subcommand (with_subcommand tasks explaining) racing) recalling) running) checking) inquiring

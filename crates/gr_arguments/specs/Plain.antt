@@ -3,7 +3,7 @@ use Rattle.std.specs.Prelude.{◌≡◌, ◌==◌, false, true, List, [], ◌∷
 use Rattle.clap.specs.Walk.{Text}
 use Rattle.gr_model.specs.declared.event.Word.{Word}
 use Rattle.gr_arguments.specs.declared.request.Task.{Task}
-use Rattle.gr_arguments.specs.declared.request.Task.TheVariants.{Replay}
+use Rattle.gr_arguments.specs.declared.request.Task.TheVariants.{Dump, Replay}
 use Rattle.gr_arguments.specs.Asked.{Asked, AsksTo, explain, perform}
 use Rattle.gr_arguments.specs.Commands.{name_of}
 use Rattle.gr_arguments.specs.Naming.{Names}
@@ -12,9 +12,14 @@ use Rattle.gr_arguments.specs.Naming.{Names}
 abbrev pub WordsAskOnce : Type 0
 WordsAskOnce = (words : List Text) (a b : Asked) → AsksTo a words → AsksTo b words → a ≡ b
 
--- the name of a task's command asks for the task
+-- the words of a task: the name of its command, and its flag where it has one
+abbrev pub words_of : Task → List Text
+words_of (Dump true) = codes "dump" ∷ codes "--partial" ∷ []
+words_of t = name_of t ∷ []
+
+-- these ask for the task
 abbrev pub NamesAsk : Type 0
-NamesAsk = (t : Task) → AsksTo (perform t) (name_of t ∷ [])
+NamesAsk = (t : Task) → AsksTo (perform t) (words_of t)
 
 -- and no word for a report
 abbrev pub NoWordAsks : Type 0

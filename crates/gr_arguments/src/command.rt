@@ -4,7 +4,7 @@ ghost use Rattle.std.specs.Prelude.{◌≡◌, false, IfOk};
 ghost use Rattle.clap.specs.declared.builder.command.Command.TheViews.{out-Command as fields_of};
 ghost use Rattle.clap.specs.Walk.{rule_of};
 ghost use Rattle.clap.specs.Words.{app_of, shape_of};
-ghost use Rattle.gr_arguments.specs.Commands.{gpurace, command_named, explaining, flag_rule, option_rule, racing, running, wanted, wanted_files, checking, inquiring, recalling};
+ghost use Rattle.gr_arguments.specs.Commands.{gpurace, command_named, dumping, explaining, flag_rule, option_rule, racing, running, wanted, wanted_files, checking, inquiring, recalling};
 
 use clap::{Arg, ArgAction, Command};
 use std::alloc::{AllocError, Global};
@@ -47,6 +47,21 @@ const PACK: &str =
     "Writes the bytes of the trace whose text is on standard input, as in `pack < TEXT > FILE`";
 
 const DUMP: &str = "Writes the text of the trace on standard input, as in `dump < FILE`";
+
+const LONG_DUMP: &str = "\
+Writes the text of the trace on standard input, a line for each header and each record, as in `dump < FILE`.
+
+Of a trace that is refused nothing is written; with --partial the lines of all headers and records that stand before the fault
+are. The status is that of the fault either way, and standard error says where and why.";
+
+const AFTER_DUMP: &str = "\
+Example:
+  gpurace dump --partial < trace.gpurace
+  group 0 items 2 launch 7
+  0 w g 16
+  gpurace: stream 0: truncated";
+
+const PARTIAL: &str = "Writes of a trace that is refused what stands before the fault";
 
 const UPGRADE: &str =
     "Writes the trace on standard input as streams of version 2, as in `upgrade < OLD > NEW`";
@@ -234,6 +249,18 @@ fn files_arg<'a>(alloc: Global) -> Arg<'a>
         .help(FILES)
 }
 
+/// The command that writes streams as text.
+fn dump_command<'a>(alloc: Global) -> Result<Command<'a>, AllocError>
+    ensures shape { IfOk result (λ c. shape_of c ≡ dumping) }
+    ensures alone { IfOk result (λ c. (fields_of c).has_globals ≡ false) }
+{
+    Command::new(alloc, "dump")
+        .about(DUMP)
+        .long_about(LONG_DUMP)
+        .after_help(AFTER_DUMP)
+        .arg(flag_arg(alloc, "partial", PARTIAL))
+}
+
 /// The command that shows one word.
 fn explain_command<'a>(alloc: Global) -> Result<Command<'a>, AllocError>
     ensures shape { IfOk result (λ c. shape_of c ≡ explaining) }
@@ -349,7 +376,7 @@ pub(crate) fn command<'a>(alloc: Global) -> Result<Command<'a>, AllocError>
         .after_help(AFTER_HELP)
         .subcommand(plain_command(alloc, "replay", REPLAY))?
         .subcommand(plain_command(alloc, "pack", PACK))?
-        .subcommand(plain_command(alloc, "dump", DUMP))?
+        .subcommand(dump_command(alloc)?)?
         .subcommand(plain_command(alloc, "upgrade", UPGRADE))?
         .subcommand(explain_command(alloc)?)?
         .subcommand(races_command(alloc)?)?

@@ -7,7 +7,9 @@ ghost use Rattle.gr_arguments.specs.Asked.{AsksTo, IsAskedBy, asked_of};
 ghost use Rattle.gr_arguments.specs.Commands.{faults, meant};
 
 use crate::command::command;
-use crate::values::{inquiry_of, inspection_of, listing_of, plan_of, question_of, recall_of};
+use crate::values::{
+    dump_of, inquiry_of, inspection_of, listing_of, plan_of, question_of, recall_of,
+};
 use clap::{ArgMatches, Error};
 use gr_model::config::Config;
 use gr_model::event::{EventId, Word};
@@ -21,8 +23,8 @@ pub enum Task {
     Replay,
     /// Write the bytes of the streams whose text stands there instead.
     Pack,
-    /// Write their text.
-    Dump,
+    /// Write their text; where they are refused and it is to be `partial`, the text of what stands before the fault.
+    Dump { partial: bool },
     /// Write them in version 2.
     Upgrade,
 }
@@ -137,7 +139,7 @@ fn request_by<'a>(
     } else if name == "pack" {
         Ok(Request::Perform(Task::Pack))
     } else if name == "dump" {
-        Ok(Request::Perform(Task::Dump))
+        Ok(Request::Perform(dump_of(values)))
     } else if name == "upgrade" {
         Ok(Request::Perform(Task::Upgrade))
     } else {

@@ -1,12 +1,13 @@
 //! What the values of a command's arguments ask for.
 
-ghost use Rattle.std.specs.Prelude.{◌≡◌, ℕ, Option, IfOk, IfErr, MatchOption, map, option_map};
+ghost use Rattle.std.specs.Prelude.{◌≡◌, ℕ, Option, IfOk, IfErr, MatchOption, codes, map, option_map};
 ghost use Rattle.clap.specs.Walk.{rows_of};
 ghost use Rattle.clap.specs.Words.{found_of};
 ghost use Rattle.gr_model.specs.Configs.{Settings};
+ghost use Rattle.gr_arguments.specs.declared.request.Task.TheVariants.{Dump};
 ghost use Rattle.gr_arguments.specs.Asked.{IsAskedCheck, IsAskedEvent, IsAskedHistory, IsAskedRaces, IsAskedRun, IsAskedWord, IsMost, IsNumberOr, IsSetUp, IsTheOne, NamesWord, check_of, event_of, files_of as named_files, has_flag, history_of, races_of, run_of, word_of as asked_word};
 
-use crate::request::{Inquiry, Inspection, Listing, Plan, Question, Recall};
+use crate::request::{Inquiry, Inspection, Listing, Plan, Question, Recall, Task};
 use crate::words::{event_named, number_of, word_named};
 use clap::ArgMatches;
 use gr_model::config::Config;
@@ -24,6 +25,15 @@ fn asks_for(values: &ArgMatches<'_>, flag: &str) -> bool
     match values.get_str(flag) {
         None => false,
         Some(text) => text == "true",
+    }
+}
+
+/// The task that the values of the command `dump` ask for.
+pub(crate) fn dump_of(values: &ArgMatches<'_>) -> Task
+    ensures { result ≡ Dump (has_flag (codes "partial") (rows_of (found_of values.now))) }
+{
+    Task::Dump {
+        partial: asks_for(values, "partial"),
     }
 }
 

@@ -1,7 +1,7 @@
 -- What a run leaves behind, from what its outcome says.
-use Rattle.std.proofs.Common.{◌≡◌, ◌≢◌, ◌⊎◌, ℕ, Bool, List, [], Option, None, Some, Result, Ok, Err, inl, inr, refl, subst, sym}
+use Rattle.std.proofs.Common.{◌≡◌, ◌≢◌, ◌⊎◌, ℕ, Bool, true, false, List, [], Option, None, Some, Result, Ok, Err, inl, inr, refl, subst, sym}
 use Rattle.std.specs.Prelude.{IfOk, IfErr, IfSome, OnOk}
-use Rattle.std.specs.Io.KnownBytes.{Keeps}
+use Rattle.std.specs.Io.KnownBytes.{Appends, Keeps}
 use Rattle.clap.specs.Words.{IsAmong, Kinds}
 use Rattle.clap.specs.declared.error.kind.ErrorKind.{ErrorKind}
 use Rattle.clap.specs.declared.error.kind.ErrorKind.TheVariants.{OutOfMemory}
@@ -10,18 +10,22 @@ use Rattle.gr_arguments.specs.Commands.{AreHelp, AreWrong, IsHelp, IsWrongUsage}
 use Rattle.gr_arguments.specs.declared.request.Task.{Task}
 use Rattle.gr_arguments.specs.declared.request.Task.TheVariants.{Replay, Pack, Dump, Upgrade}
 use Rattle.gr_model.specs.Reports.{WholeReport}
-use Rattle.gr_input.specs.Faults.{Fails}
+use Rattle.gr_input.specs.Faults.{Fails, IsOutside}
 use Rattle.gr_input.proofs.Outside.{at_any}
 use Rattle.gr_sides.specs.declared.fault.SidesFault.{SidesFault}
 use Rattle.gr_sides.specs.declared.fault.SidesFault.TheVariants.{Run}
 use Rattle.gr_record.specs.declared.fault.Fault.{Fault}
 use Rattle.gr_record.specs.declared.fault.Fault.TheVariants.{Write, Memory}
 use Rattle.gr_replay.specs.Replays.{IsReplayFault}
+use Rattle.gr_report.specs.FaultText.{fault_line}
 use Rattle.gr_report.specs.Putting.{AppendsPrefix}
 use Rattle.gr_streams.specs.Streams.{IsExactOfEach, IsRunFault}
 use Rattle.gr_text.specs.Texts.{packed}
 use Rattle.gr_text.specs.Dumps.{dumped, upgraded}
-use Rattle.gr_command.specs.Answers.{IsAnswerOf, IsDone, IsFaultTold, IsUsageTold, text_of}
+use Rattle.gr_text.specs.Partial.{text_before_fault}
+use Rattle.gr_text.specs.Writes.{Writes}
+use Rattle.gr_command.specs.Answers.{IsAnswerOf, IsDone, IsFaultTold, IsPartialDump, IsUsageTold, text_of}
+use Rattle.gr_command.specs.Statuses.{fault_status}
 use Rattle.gr_command.specs.Outcomes.{IsOutcome}
 use Rattle.gr_command.specs.declared.status.TheConstants.{NOTHING, USAGE, WANTING, FAILED}
 
@@ -51,6 +55,23 @@ pub done_of : {F : Type 0} (P : Type 0) (outcome : Result (Unit {0}) F) → OnOk
 done_of P (Ok r) p = p
 done_of P (Err f) p = tt
 
+-- a dump in part, as its call leaves it
+module _ (input old new old_errors new_errors : Option (List ℕ)) (status : ℕ) where
+  pub partial_of : (outcome : Result (Unit {0}) Fault)
+      → OnOk outcome (IfSome input (λ bytes. Writes (dumped bytes) old new))
+      → IfErr outcome (λ f. f ≢ Write → IfSome input (λ bytes. Fails f (dumped bytes)))
+      → IfErr outcome (λ f. f ≢ Write → ¬ IsOutside f → IfSome input (λ bytes. Appends old new (text_before_fault bytes)))
+      → IfErr outcome (λ f. IsOutside f → Keeps old new)
+      → IfErr outcome (λ f. f ≡ Write → IfSome input (λ bytes. AppendsPrefix old new (text_before_fault bytes)))
+      → OnOk outcome (status ≡ NOTHING)
+      → OnOk outcome (Keeps old_errors new_errors)
+      → IfErr outcome (λ f. status ≡ fault_status f)
+      → IfErr outcome (λ f. AppendsPrefix old_errors new_errors (fault_line f))
+      → IsPartialDump input old new old_errors new_errors status
+  partial_of (Ok done) whole why partial untouched prefix ends silent fault_ends line = inl (whole, silent, ends)
+  partial_of (Err f) whole why partial untouched prefix ends silent fault_ends line =
+      inr (f, record { why = why; line = line; ends = fault_ends; partial = partial; untouched = untouched; prefix = prefix })
+
 -- ---- where memory ran out before anything was done
 
 memory_is_no_writing : Run Memory ≡ Run Write → ⊥
@@ -60,7 +81,9 @@ module _ {T X : Type 0} (remaining : T → Option (List ℕ)) (Gives : List ℕ 
   no_memory_to_perform : (t : Task) → IsAnswerOf input old new old_errors new_errors status t
   no_memory_to_perform Replay = inr (Memory, record { why = at_any input (λ bytes. IsReplayFault bytes Memory) (λ bytes. inl (inl tt)); told = told; prefix = λ h. absurd cc })
   no_memory_to_perform Pack = inr (Memory, record { why = λ _. at_any input (λ bytes. Fails Memory (packed bytes)) (λ bytes. tt); told = told; prefix = λ h. absurd cc })
-  no_memory_to_perform Dump = inr (Memory, record { why = λ _. at_any input (λ bytes. Fails Memory (dumped bytes)) (λ bytes. tt); told = told; prefix = λ h. absurd cc })
+  no_memory_to_perform (Dump true) =
+      inr (Memory, record { why = λ _. at_any input (λ bytes. Fails Memory (dumped bytes)) (λ bytes. tt); line = told.line; ends = told.ends; partial = λ _ inside. absurd (inside tt); untouched = λ _. told.untouched (λ e. cc); prefix = λ h. absurd cc })
+  no_memory_to_perform (Dump false) = inr (Memory, record { why = λ _. at_any input (λ bytes. Fails Memory (dumped bytes)) (λ bytes. tt); told = told; prefix = λ h. absurd cc })
   no_memory_to_perform Upgrade = inr (Memory, record { why = λ _. at_any input (λ bytes. Fails Memory (upgraded bytes)) (λ bytes. tt); told = told; prefix = λ h. absurd cc })
 
   no_memory_to_read : IsUsageTold old new status

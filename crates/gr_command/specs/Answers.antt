@@ -15,9 +15,10 @@ use Rattle.gr_report.specs.FaultText.{fault_line}
 use Rattle.gr_check.specs.Checked.{ChecksPrefix, IsCheckFileFault, IsChecked}
 use Rattle.gr_check_json.specs.Checked.{ChecksJsonPrefix, IsCheckedJson}
 use Rattle.gr_replay.specs.Replays.{IsExact, IsReplayFault, WritesPrefix}
-use Rattle.gr_input.specs.Faults.{Fails}
+use Rattle.gr_input.specs.Faults.{Fails, IsOutside}
 use Rattle.gr_text.specs.Texts.{packed}
 use Rattle.gr_text.specs.Dumps.{dumped, upgraded}
+use Rattle.gr_text.specs.Partial.{text_before_fault}
 use Rattle.gr_text.specs.Writes.{Writes, WritesPrefix as WritesPrefixOf}
 use Rattle.gr_sides.specs.declared.fault.SidesFault.{SidesFault}
 use Rattle.gr_sides.specs.declared.fault.SidesFault.TheVariants.{Run}
@@ -62,11 +63,25 @@ module _ (input old new old_errors new_errors : Option (List ℕ)) (status : ℕ
       (λ (done : Unit {0}). IfSome input (λ bytes. Writes (meaning bytes) old new)) (λ done ended. ended ≡ NOTHING)
       (λ f. f ≢ Write → IfSome input (λ bytes. Fails f (meaning bytes))) (IfSome input (λ bytes. WritesPrefixOf (meaning bytes) old new))
 
+  -- a fault is told, and its status is that of the run; what stands before it in the input is written, or nothing where reading fails or memory runs out, or a prefix where the writer fails
+  pub record IsPartlyDone (f : Fault) : Type 0 where
+    pub why : f ≢ Write → IfSome input (λ bytes. Fails f (dumped bytes))
+    pub line : AppendsPrefix old_errors new_errors (fault_line f)
+    pub ends : status ≡ fault_status f
+    pub partial : f ≢ Write → ¬ IsOutside f → IfSome input (λ bytes. Appends old new (text_before_fault bytes))
+    pub untouched : IsOutside f → Keeps old new
+    pub prefix : f ≡ Write → IfSome input (λ bytes. AppendsPrefix old new (text_before_fault bytes))
+
+  -- the text of the input is written whole; or it has a fault
+  abbrev pub IsPartialDump : Type 0
+  IsPartialDump = (IfSome input (λ bytes. Writes (dumped bytes) old new) × Keeps old_errors new_errors × (status ≡ NOTHING)) ⊎ ((f : Fault) × IsPartlyDone f)
+
   -- what each task leaves behind
   abbrev pub IsAnswerOf : Task → Type 0
   IsAnswerOf Replay = IsAnswer
   IsAnswerOf Pack = IsRewriting packed
-  IsAnswerOf Dump = IsRewriting dumped
+  IsAnswerOf (Dump false) = IsRewriting dumped
+  IsAnswerOf (Dump true) = IsPartialDump
   IsAnswerOf Upgrade = IsRewriting upgraded
 
 -- ---- launches whose streams are in files, one each

@@ -28,7 +28,7 @@ use gr_replay::replay;
 use gr_report::report::Report;
 use gr_report::write_fault;
 use gr_sides::fault::{SidesFault, write_sides_fault};
-use gr_text::{dump, pack, upgrade};
+use gr_text::{dump, dump_partial, pack, upgrade};
 use std::alloc::Global;
 use std::convert::AsStr;
 use std::io::{self, Read, Write};
@@ -121,7 +121,7 @@ fn conclude_rewriting<E: Write>(outcome: Result<(), Fault>, errors: &mut E) -> u
 }
 
 /// Does the task, and gives the exit status. Either all that the task gives on the input is written, and nothing is told
-/// on standard error; or standard error tells why it gives nothing, and the status is that of the fault.
+/// on standard error; or standard error tells why it does not, and the status is that of the fault.
 fn perform<R: Read, W: Write, E: Write>(
     alloc: Global,
     task: Task,
@@ -134,7 +134,10 @@ fn perform<R: Read, W: Write, E: Write>(
     match task {
         Task::Replay => conclude(replay(alloc, reader, writer), errors),
         Task::Pack => conclude_rewriting(pack(alloc, reader, writer), errors),
-        Task::Dump => conclude_rewriting(dump(alloc, reader, writer), errors),
+        Task::Dump { partial: false } => conclude_rewriting(dump(alloc, reader, writer), errors),
+        Task::Dump { partial: true } => {
+            conclude_rewriting(dump_partial(alloc, reader, writer), errors)
+        }
         Task::Upgrade => conclude_rewriting(upgrade(alloc, reader, writer), errors),
     }
 }

@@ -61,7 +61,7 @@ type Case = (
     u8,
 );
 
-const CASES: [Case; 54] = [
+const CASES: [Case; 58] = [
     ("a race", &["replay"], &RACE, REPORT, "", 1),
     ("a race, without a command", &[], &RACE, REPORT, "", 1),
     ("no race", &["replay"], &NO_RACE, CLEAN, "", 0),
@@ -158,6 +158,38 @@ const CASES: [Case; 54] = [
         "",
         "gpurace: stream 0: truncated\n",
         2,
+    ),
+    (
+        "what stands of a stream that is cut off",
+        &["dump", "--partial"],
+        &CUT_OFF,
+        "group 0 items 2 launch 7\n",
+        "gpurace: stream 0: truncated\n",
+        2,
+    ),
+    (
+        "the text of a race, where a part would do",
+        &["dump", "--partial"],
+        &RACE,
+        RACE_TEXT,
+        "",
+        0,
+    ),
+    (
+        "help on dump",
+        &["dump", "--help"],
+        &[],
+        "Writes the text of the trace on standard input, a line for each header",
+        "",
+        0,
+    ),
+    (
+        "a part of a report",
+        &["replay", "--partial"],
+        &RACE,
+        "",
+        "error: unexpected argument '--partial' found",
+        3,
     ),
     (
         "a line of another place",
@@ -440,7 +472,7 @@ const CASES_OF_FILES: [Case; 22] = [
         &["history", "g", "24", "back"],
         &[],
         "access 0 2 2 store dev rel record 6 phase 0 behind none\n\
-         access 0 0 2 load dev acq record 7 phase 0 behind all\nend accesses 2 races no\n",
+         access 0 0 2 load dev acq record 7 phase 0 behind all\nend accesses 2 held 0 races no\n",
         "",
         0,
     ),
@@ -783,7 +815,7 @@ const CASES_OF_ODD: [Case; 16] = [
         "all accesses to a word whose one access is held",
         &["history", "l0", "4", "back"],
         &[],
-        "end accesses 0 races no\n",
+        "end accesses 0 held 1 races no\n",
         "",
         0,
     ),

@@ -4,5 +4,6 @@ mod ends;
 mod growths;
 mod large;
 mod pairs;
+mod partial;
 mod refused;
 mod upgrades;

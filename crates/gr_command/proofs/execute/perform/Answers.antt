@@ -2,7 +2,7 @@ use Rattle.gr_record.specs.declared.fault.Fault.TheVariants.{Write}
 use Rattle.gr_report.specs.FaultText.{fault_line}
 use Rattle.gr_report.specs.Whole.{whole_of}
 use Rattle.gr_command.specs.Statuses.{fault_status}
-use Rattle.gr_command.proofs.AnswerLemmas.{both, done_of, outcome_of}
+use Rattle.gr_command.proofs.AnswerLemmas.{both, done_of, outcome_of, partial_of}
 use Rattle.gr_command.proofs.execute.perform.Goals as goal
 
 pub returns-in-Replay : goal.returns-in-Replay
@@ -19,12 +19,19 @@ returns-in-Pack g c =
     (done_of _ c.pack.result c.pack.ensures.whole) c.pack.ensures.fault c.pack.ensures.untouched c.pack.ensures.prefix
     (done_of _ c.pack.result c.conclude_rewriting.ensures.done) c.conclude_rewriting.ensures.silent c.conclude_rewriting.ensures.fault c.conclude_rewriting.ensures.told)
 
-pub returns-in-Dump : goal.returns-in-Dump
-returns-in-Dump g c =
-    rw c.in-Dump.is
+pub returns-in-Dump-false : goal.returns-in-Dump-false
+returns-in-Dump-false g c =
+    rw c.in-Dump-false.is
     (outcome_of fault_line fault_status Write _ _ _ _ _ _ _ _ _ (λ done. done) c.dump.result
     (done_of _ c.dump.result c.dump.ensures.whole) c.dump.ensures.fault c.dump.ensures.untouched c.dump.ensures.prefix
-    (done_of _ c.dump.result c.conclude_rewriting-in-Dump.ensures.done) c.conclude_rewriting-in-Dump.ensures.silent c.conclude_rewriting-in-Dump.ensures.fault c.conclude_rewriting-in-Dump.ensures.told)
+    (done_of _ c.dump.result c.conclude_rewriting-in-Dump-false.ensures.done) c.conclude_rewriting-in-Dump-false.ensures.silent c.conclude_rewriting-in-Dump-false.ensures.fault c.conclude_rewriting-in-Dump-false.ensures.told)
+
+pub returns-in-Dump-true : goal.returns-in-Dump-true
+returns-in-Dump-true g c =
+    rw c.in-Dump-true.is
+    (partial_of _ _ _ _ _ _ c.dump_partial.result
+    c.dump_partial.ensures.whole c.dump_partial.ensures.fault c.dump_partial.ensures.partial c.dump_partial.ensures.untouched c.dump_partial.ensures.prefix
+    c.conclude_rewriting-in-Dump-true.ensures.done c.conclude_rewriting-in-Dump-true.ensures.silent c.conclude_rewriting-in-Dump-true.ensures.fault c.conclude_rewriting-in-Dump-true.ensures.told)
 
 pub returns-in-Upgrade : goal.returns-in-Upgrade
 returns-in-Upgrade g c =
