@@ -12,8 +12,8 @@ use Rattle.gr_arguments.specs.declared.request.Task.TheVariants.{Replay, Pack, D
 use Rattle.gr_model.specs.Reports.{WholeReport}
 use Rattle.gr_input.specs.Faults.{Fails, IsOutside}
 use Rattle.gr_input.proofs.Outside.{at_any}
-use Rattle.gr_sides.specs.declared.fault.SidesFault.{SidesFault}
-use Rattle.gr_sides.specs.declared.fault.SidesFault.TheVariants.{Run}
+use Rattle.gr_races.specs.declared.fault.RacesFault.{RacesFault}
+use Rattle.gr_races.specs.declared.fault.RacesFault.TheVariants.{Run}
 use Rattle.gr_record.specs.declared.fault.Fault.{Fault}
 use Rattle.gr_record.specs.declared.fault.Fault.TheVariants.{Write, Memory}
 use Rattle.gr_replay.specs.Replays.{IsReplayFault}

@@ -20,12 +20,12 @@ use Rattle.gr_text.specs.Texts.{packed}
 use Rattle.gr_text.specs.Dumps.{dumped, upgraded}
 use Rattle.gr_text.specs.Partial.{text_before_fault}
 use Rattle.gr_text.specs.Writes.{Writes, WritesPrefix as WritesPrefixOf}
-use Rattle.gr_sides.specs.declared.fault.SidesFault.{SidesFault}
-use Rattle.gr_sides.specs.declared.fault.SidesFault.TheVariants.{Run}
-use Rattle.gr_sides.specs.FaultText.{sides_fault_line}
-use Rattle.gr_sides.specs.Opening.{HoldsOfAllFiles, IsSidesFault, Pair}
+use Rattle.gr_races.specs.declared.fault.RacesFault.{RacesFault}
+use Rattle.gr_races.specs.declared.fault.RacesFault.TheVariants.{Run}
+use Rattle.gr_races.specs.FaultText.{races_fault_line}
+use Rattle.gr_races.specs.Opening.{HoldsOfAllFiles, IsRacesFault, Pair}
 use Rattle.gr_races.specs.Shown.{HasRace, IsRacesText}
-use Rattle.gr_sides.specs.Sides.{SidesSaid}
+use Rattle.gr_races.specs.Sides.{SidesSaid}
 use Rattle.gr_races_json.specs.Shown.{IsRacesJson}
 use Rattle.gr_show.specs.Opening.{HoldsOfFiles, IsFileFault, IsOpeningFault}
 use Rattle.gr_show.specs.Shown.{IsLine, IsRacyIn, IsShown, ShowsPrefix}
@@ -38,7 +38,7 @@ use Rattle.gr_report.specs.Putting.{AppendsPrefix}
 use Rattle.gr_streams.specs.Streams.{IsExactOfEach, IsRunFault}
 use Rattle.gr_command.specs.declared.status.TheConstants.{NOTHING, USAGE, WANTING}
 use Rattle.gr_command.specs.Outcomes.{IsOutcome, IsTold}
-use Rattle.gr_command.specs.Statuses.{check_status, fault_status, race_status, sides_fault_status, IsReportStatus}
+use Rattle.gr_command.specs.Statuses.{check_status, fault_status, race_status, races_fault_status, IsReportStatus}
 
 -- ---- tasks over standard input
 
@@ -183,8 +183,8 @@ module _ {T X : Type 0} (remaining : T → Option (List ℕ)) (Gives : List ℕ 
     -- the text of the races, and whether there is one; or why there is none
     abbrev pub IsRacesDisplay : AskedRaces → Type 0
     IsRacesDisplay a =
-        IsOutcome sides_fault_line sides_fault_status (Run Write) old new old_errors new_errors status
-        (IsListedOfFiles a) (λ found ended. ended ≡ race_status found) (IsSidesFault remaining Gives (sides_of a) a.files) (ListsPrefixOfFiles a)
+        IsOutcome races_fault_line races_fault_status (Run Write) old new old_errors new_errors status
+        (IsListedOfFiles a) (λ found ended. ended ≡ race_status found) (IsRacesFault remaining Gives (sides_of a) a.files) (ListsPrefixOfFiles a)
 
     -- the text of a check, and whether the files are accepted; or why there is none
     abbrev pub IsCheckOutcome : AskedCheck → Type 0

@@ -3,8 +3,8 @@
 ghost use Rattle.std.specs.Prelude.{◌≡◌, ◌≢◌, IfErr, IfOk, map};
 ghost use Rattle.std.specs.Fn.{FnReturnsAt};
 ghost use Rattle.std.specs.Io.KnownBytes.{Keeps};
-ghost use Rattle.gr_sides.specs.Opening.{IsSidesFault};
-ghost use Rattle.gr_sides.specs.declared.fault.SidesFault.TheVariants.{Run as ARun};
+ghost use Rattle.gr_races.specs.Opening.{IsRacesFault};
+ghost use Rattle.gr_races.specs.declared.fault.RacesFault.TheVariants.{Run as ARun};
 ghost use Rattle.gr_record.specs.declared.fault.Fault.TheVariants as faults;
 ghost use Rattle.gr_show.specs.Opening.{IsFileFault};
 ghost use Rattle.gr_check.specs.Checked.{IsCheckFileFault};
@@ -17,14 +17,12 @@ use gr_check_json::check_files_json;
 use gr_held::show_why_held;
 use gr_json::{show_account_json, show_race_json};
 use gr_long::show_account;
-use gr_races::telling::Races;
-use gr_races_json::telling::RacesJson;
+use gr_races::fault::RacesFault;
+use gr_races::files::{SideNames, show_races_of_files};
+use gr_races_json::show_races_json_of_files;
 use gr_record::fault::Fault;
 use gr_show::files::open_all;
 use gr_show::show_race;
-use gr_sides::fault::SidesFault;
-use gr_sides::files::SideNames;
-use gr_sides::tell_of_files;
 use gr_timeline::show_history;
 use std::alloc::Global;
 use std::io::{self, Read, Write};
@@ -59,16 +57,16 @@ pub fn show_word<T: Read + Drop, O: Fn(&str) -> io::Result<T>, W: Write>(
 /// whether there is one.
 ///
 /// # Errors
-/// Those of `tell_of_files`.
+/// Those of `show_races_of_files`.
 pub fn show_listing<T: Read + Drop, O: Fn(&str) -> io::Result<T>, W: Write>(
     alloc: Global,
     listing: &Listing<'_>,
     opener: O,
     writer: &mut W,
-) -> Result<bool, SidesFault>
+) -> Result<bool, RacesFault>
     requires { O.IsAlwaysCallable opener }
     ensures shown { IfOk result (λ found. IsListedOfFiles T.remaining (FnReturnsAt O.Fn opener) (W.contents writer.old) (W.contents writer.new) (races_of listing.now) found) }
-    ensures fault { IfErr result (λ f. IsSidesFault T.remaining (FnReturnsAt O.Fn opener) (sides_of (races_of listing.now)) (map (λ s. s.now) listing.now.files.items) f) }
+    ensures fault { IfErr result (λ f. IsRacesFault T.remaining (FnReturnsAt O.Fn opener) (sides_of (races_of listing.now)) (map (λ s. s.now) listing.now.files.items) f) }
     ensures untouched { IfErr result (λ f. f ≢ ARun faults.Write → Keeps (W.contents writer.old) (W.contents writer.new)) }
     ensures prefix { IfErr result (λ f. f ≡ ARun faults.Write → ListsPrefixOfFiles T.remaining (FnReturnsAt O.Fn opener) (W.contents writer.old) (W.contents writer.new) (races_of listing.now)) }
 {
@@ -79,11 +77,9 @@ pub fn show_listing<T: Read + Drop, O: Fn(&str) -> io::Result<T>, W: Write>(
     let files = listing.files.as_slice();
     let (most, causes) = (listing.most, listing.causes);
     if listing.json {
-        let races = RacesJson { most, causes };
-        tell_of_files(alloc, &races, &sides, files, opener, writer)
+        show_races_json_of_files(alloc, &sides, files, opener, most, causes, writer)
     } else {
-        let races = Races { most, causes };
-        tell_of_files(alloc, &races, &sides, files, opener, writer)
+        show_races_of_files(alloc, &sides, files, opener, most, causes, writer)
     }
 }
 

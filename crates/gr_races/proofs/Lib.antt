@@ -1,3 +1,4 @@
+pub mod FileLemmas
 pub mod KindLemmas
 pub mod ListingLemmas
 pub mod RunLemmas

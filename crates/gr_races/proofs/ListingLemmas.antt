@@ -19,8 +19,7 @@ use Rattle.gr_races.specs.Listing.{Entry, entry_of, with_row}
 use Rattle.gr_races.specs.Telling.{with_causes}
 use Rattle.gr_races.proofs.TellingLemmas.{count_told, told_at}
 use Rattle.gr_races.specs.RacesText.{at_most, cause_lines, first_lines}
-use Rattle.gr_races.specs.Notes.{notes}
-use Rattle.gr_sides.specs.Sides.{SidesSaid}
+use Rattle.gr_races.specs.Sides.{SidesSaid, notes}
 
 pub puts_nothing : (old : Option (List ℕ)) → Puts old old (Ok tt) []
 puts_nothing old = record { whole = Appends-nil old; prefix = tt }

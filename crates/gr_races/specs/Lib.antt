@@ -1,8 +1,10 @@
 pub mod Kinds
 pub mod Runs
 pub mod Listing
-pub mod Notes
+pub mod Sides
 pub mod Telling
 pub mod RacesText
 pub mod Shown
+pub mod FaultText
+pub mod Opening
 pub mod Laws

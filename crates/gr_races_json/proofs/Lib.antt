@@ -1,1 +1,2 @@
 mod EntryLemmas
+mod FileLemmas

@@ -4,11 +4,12 @@
 #![tactic(auto)]
 
 mod causes;
+mod files;
 mod kinds;
 pub mod laws;
 mod pairs;
 mod races;
 mod show;
-pub mod telling;
 
+pub use files::show_races_json_of_files;
 pub use show::show_races_json;

@@ -1,8 +1,6 @@
 //! The races of a launch of 64 work-groups, with side files of many lines.
 
-use gr_races::telling::Races;
-use gr_sides::files::SideNames;
-use gr_sides::tell_of_files;
+use gr_races::files::{SideNames, show_races_of_files};
 use gr_text::packing::pack_text;
 use refusing::failing::FailingReader;
 use std::alloc::Global;
@@ -102,11 +100,6 @@ const SIDES: SideNames<'static> = SideNames {
     buffers: Some("buffers"),
 };
 
-const ALL: Races = Races {
-    most: None,
-    causes: false,
-};
-
 #[test]
 fn a_large_launch_is_shown(rt: HostRuntime) -> Result<(), Fail> {
     let alloc = rt.alloc();
@@ -117,8 +110,15 @@ fn a_large_launch_is_shown(rt: HostRuntime) -> Result<(), Fail> {
         .map(|name| name.as_str())
         .collect::<Vec<&str>>(alloc)?;
     let mut text = Vec::new(alloc);
-    let opener = |name: &str| open(&files, name);
-    let answer = tell_of_files(alloc, &ALL, &SIDES, &names, opener, &mut text);
+    let answer = show_races_of_files(
+        alloc,
+        &SIDES,
+        &names,
+        |name| open(&files, name),
+        None,
+        false,
+        &mut text,
+    );
     assert_eq!(rt; answer, Ok(true));
     assert!(rt; text.starts_with(FIRST.as_bytes()), "the first kind");
     assert!(rt;

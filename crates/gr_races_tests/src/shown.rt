@@ -1,11 +1,9 @@
 //! What is shown of launches whose streams and side files are in files.
 
 use gr_model::memory::Memory;
-use gr_races::telling::Races;
+use gr_races::fault::{RacesFault, write_races_fault};
+use gr_races::files::{SideNames, show_races_of_files};
 use gr_record::fault::Fault;
-use gr_sides::fault::{SidesFault, write_sides_fault};
-use gr_sides::files::SideNames;
-use gr_sides::tell_of_files;
 use gr_text::packing::pack_text;
 use refusing::Refusing;
 use refusing::failing::{FailingReader, FailingWriter};
@@ -138,7 +136,7 @@ fn shown<A: Allocator + Copy>(
     names: &[&'static str],
     most: Option<u32>,
     room: usize,
-) -> Result<(Result<bool, SidesFault>, Vec<u8>), Memory> {
+) -> Result<(Result<bool, RacesFault>, Vec<u8>), Memory> {
     let Ok(stream) = pack_text(heap, STREAM.as_bytes()) else {
         return Err(Memory);
     };
@@ -147,12 +145,15 @@ fn shown<A: Allocator + Copy>(
         room,
         flushes: room == usize::MAX,
     };
-    let races = Races {
+    let answer = show_races_of_files(
+        alloc,
+        sides,
+        names,
+        |name| open_stored(name, &stream),
         most,
-        causes: false,
-    };
-    let opener = |name: &str| open_stored(name, &stream);
-    let answer = tell_of_files(alloc, &races, sides, names, opener, &mut writer);
+        false,
+        &mut writer,
+    );
     Ok((answer, writer.taken))
 }
 
@@ -174,7 +175,7 @@ type Refusal = (
     Option<&'static str>,
     Option<&'static str>,
     &'static str,
-    SidesFault,
+    RacesFault,
     &'static str,
 );
 
@@ -184,7 +185,7 @@ const REFUSALS: [Refusal; 7] = [
         Some("bad"),
         Some("worse"),
         "stream",
-        SidesFault::Places(2),
+        RacesFault::Places(2),
         "gpurace: places: line 2: bad line\n",
     ),
     (
@@ -192,7 +193,7 @@ const REFUSALS: [Refusal; 7] = [
         Some("places"),
         Some("bad"),
         "empty",
-        SidesFault::Buffers(1),
+        RacesFault::Buffers(1),
         "gpurace: buffers: line 1: bad line\n",
     ),
     (
@@ -200,7 +201,7 @@ const REFUSALS: [Refusal; 7] = [
         Some("none"),
         Some("bad"),
         "stream",
-        SidesFault::Run(Fault::Read),
+        RacesFault::Run(Fault::Read),
         "gpurace: read fault\n",
     ),
     (
@@ -208,7 +209,7 @@ const REFUSALS: [Refusal; 7] = [
         Some("bad"),
         None,
         "none",
-        SidesFault::Run(Fault::Read),
+        RacesFault::Run(Fault::Read),
         "gpurace: read fault\n",
     ),
     (
@@ -216,7 +217,7 @@ const REFUSALS: [Refusal; 7] = [
         Some("failing"),
         Some("bad"),
         "stream",
-        SidesFault::Run(Fault::Read),
+        RacesFault::Run(Fault::Read),
         "gpurace: read fault\n",
     ),
     (
@@ -224,7 +225,7 @@ const REFUSALS: [Refusal; 7] = [
         Some("bad"),
         Some("failing"),
         "stream",
-        SidesFault::Places(2),
+        RacesFault::Places(2),
         "gpurace: places: line 2: bad line\n",
     ),
     (
@@ -232,19 +233,19 @@ const REFUSALS: [Refusal; 7] = [
         Some("places"),
         Some("buffers"),
         "failing",
-        SidesFault::Run(Fault::Read),
+        RacesFault::Run(Fault::Read),
         "gpurace: read fault\n",
     ),
 ];
 
 /// Whether the line of a fault is a fault of writing where the flush fails, and is written whole before it.
-fn is_refused_unflushed(heap: Global, fault: &SidesFault, line: &str) -> bool {
+fn is_refused_unflushed(heap: Global, fault: &RacesFault, line: &str) -> bool {
     let mut writer = FailingWriter {
         taken: Vec::new(heap),
         room: usize::MAX,
         flushes: false,
     };
-    write_sides_fault(fault, &mut writer).is_err() && writer.taken.as_slice() == line.as_bytes()
+    write_races_fault(fault, &mut writer).is_err() && writer.taken.as_slice() == line.as_bytes()
 }
 
 #[test]
@@ -257,7 +258,7 @@ fn faults_come_in_their_order(rt: HostRuntime) -> Result<(), Fail> {
         assert!(rt; text.is_empty(), "{name}");
         assert!(rt; is_refused_unflushed(alloc, &wanted, wanted_line), "{name}");
         let mut line = Vec::new(alloc);
-        assert!(rt; write_sides_fault(&wanted, &mut line).is_ok(), "{name}");
+        assert!(rt; write_races_fault(&wanted, &mut line).is_ok(), "{name}");
         assert_eq!(rt; str::from_utf8(&line), Ok(wanted_line), "{name}");
     }
     Ok(())
@@ -273,7 +274,7 @@ fn a_failing_writer_has_a_prefix(rt: HostRuntime) -> Result<(), Fail> {
     let alloc = rt.alloc();
     for room in 0..NOTED.len() + 1 {
         let (answer, text) = shown(alloc, alloc, &BOTH, &["stream"], None, room)?;
-        assert_eq!(rt; answer, Err(SidesFault::Run(Fault::Write)), "{room}");
+        assert_eq!(rt; answer, Err(RacesFault::Run(Fault::Write)), "{room}");
         assert!(rt;
             text.len() == room && NOTED.as_bytes().starts_with(&text),
             "{room}"
@@ -291,7 +292,7 @@ fn growths_refused(heap: Global) -> Result<Option<u64>, Memory> {
         if !alloc.refused() {
             return Ok(whole.then_some(at));
         }
-        let refused = answer == Err(SidesFault::Run(Fault::Memory)) && text.is_empty();
+        let refused = answer == Err(RacesFault::Run(Fault::Memory)) && text.is_empty();
         if !whole && !refused {
             return Ok(None);
         }

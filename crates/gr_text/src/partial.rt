@@ -29,13 +29,13 @@ use std::alloc::Allocator;
 
 /// The record that these bytes are, in a stream of this header.
 /// Requires: the header is in range, and there are as many bytes as one of its records has.
-fn read_in_range(header: Header, record: &[u8]) -> Result<Event, RecordError>
+fn read_in_range(header: Header, bytes: &[u8]) -> Result<Event, RecordError>
     requires header { IsHeader header }
-    requires length { length record.now ≡ record_length header.version }
-    ensures exact { result ≡ event_at header record.now }
+    requires length { length bytes.now ≡ record_length header.version }
+    ensures exact { result ≡ event_at header bytes.now }
     ensures range { IfOk result (λ e. IsEventOk e MOST_ITEMS_OF_A_GROUP) }
 {
-    read_event(header, record)
+    read_event(header, bytes)
 }
 
 /// Adds the lines of the records at the start of the bytes, which stand in a stream of this header, up to its end or to

@@ -5,5 +5,5 @@ use Rattle.gr_text.proofs.partial.read_in_range.Goals as goal
 
 pub returns-clause-range : goal.returns-clause-range
 returns-clause-range c =
-    let fits : AreBytes c.args.record.now = λ i. let b = c.type_inv.record i in omega arith in
-    in_range c.args.header c.requires.header c.args.record.now fits c.requires.length c.read_event.result c.read_event.ensures
+    let fits : AreBytes c.args.bytes.now = λ i. let b = c.type_inv.bytes i in omega arith in
+    in_range c.args.header c.requires.header c.args.bytes.now fits c.requires.length c.read_event.result c.read_event.ensures

@@ -1,0 +1,61 @@
+//! The races of a launch whose streams are in files, with what side files say of them, as JSON.
+
+ghost use Rattle.std.specs.Prelude.{◌≡◌, ◌≢◌, IfErr, IfOk, map};
+ghost use Rattle.std.specs.Fn.{FnReturnsAt};
+ghost use Rattle.std.specs.Io.KnownBytes.{Keeps};
+ghost use Rattle.gr_record.specs.declared.fault.Fault.TheVariants as faults;
+ghost use Rattle.gr_races.specs.Opening.{HoldsOfAllFiles, IsRacesFault, side_names};
+ghost use Rattle.gr_races.specs.Shown.{HasRace};
+ghost use Rattle.gr_races.specs.declared.fault.RacesFault.TheVariants.{Run as ARun};
+ghost use Rattle.gr_show.specs.Shown.{IsShown, ShowsPrefix};
+ghost use Rattle.gr_races_json.specs.Shown.{IsRacesJson};
+
+use crate::show::show_races_json;
+use gr_races::fault::RacesFault;
+use gr_races::files::{Opened, SideNames, buffers_of, bytes_of, open_files, places_of};
+use gr_races::sides::Sides;
+use std::alloc::Global;
+use std::io::{self, Read, Write};
+
+/// Opens the side files that are named and the files of these names, reads the side files and then the streams of a
+/// launch, one from each file, writes its races kind by kind, of at most so many kinds, with what the side files say of
+/// them and, where they are asked for, with the cause of all races of each kind, as lines of JSON and nothing else, and tells
+/// whether there is a race.
+///
+/// # Errors
+/// Those of `show_races_of_files`, in its order.
+pub fn show_races_json_of_files<'a, T, O, W>(
+    alloc: Global,
+    sides: &SideNames<'a>,
+    names: &[&'a str],
+    opener: O,
+    most: Option<u32>,
+    causes: bool,
+    writer: &mut W,
+) -> Result<bool, RacesFault>
+where
+    T: Read + Drop,
+    O: Fn(&str) -> io::Result<T>,
+    W: Write,
+    requires { O.IsAlwaysCallable opener }
+    ensures shown { IfOk result (λ found. HoldsOfAllFiles T.remaining (FnReturnsAt O.Fn opener) (side_names sides.now) (map (λ s. s.now) names.now) (λ known said. IsShown (IsRacesJson said most causes) HasRace known found (W.contents writer.old) (W.contents writer.new))) }
+    ensures fault { IfErr result (λ f. IsRacesFault T.remaining (FnReturnsAt O.Fn opener) (side_names sides.now) (map (λ s. s.now) names.now) f) }
+    ensures untouched { IfErr result (λ f. f ≢ ARun faults.Write → Keeps (W.contents writer.old) (W.contents writer.new)) }
+    ensures prefix { IfErr result (λ f. f ≡ ARun faults.Write → HoldsOfAllFiles T.remaining (FnReturnsAt O.Fn opener) (side_names sides.now) (map (λ s. s.now) names.now) (λ known said. ShowsPrefix (IsRacesJson said most causes) known (W.contents writer.old) (W.contents writer.new))) }
+    ensures threads { IfErr result (λ f. f ≢ ARun faults.Threads) }
+{
+    let Opened {
+        places,
+        buffers,
+        streams,
+    } = open_files(alloc, sides, names, opener)?;
+    let place_bytes = bytes_of(alloc, places)?;
+    let places = places_of(alloc, &place_bytes)?;
+    let buffer_bytes = bytes_of(alloc, buffers)?;
+    let buffers = buffers_of(alloc, &buffer_bytes)?;
+    let said = Sides {
+        places: &places,
+        buffers: &buffers,
+    };
+    Ok(show_races_json(alloc, streams, &said, most, causes, writer)?)
+}

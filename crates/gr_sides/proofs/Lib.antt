@@ -1,2 +1,0 @@
-pub mod FileLemmas
-pub mod Putting

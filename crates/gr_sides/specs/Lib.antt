@@ -1,3 +1,0 @@
-pub mod Sides
-pub mod FaultText
-pub mod Opening
