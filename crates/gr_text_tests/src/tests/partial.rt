@@ -76,7 +76,7 @@ fn a_stream_that_breaks_off_is_told_up_to_its_last_whole_record(
 
 /// A place in the stream of the first race, the byte that stands there instead, the fault, and how many bytes of its text
 /// stand before it.
-const CHANGES: [(usize, u8, RecordError, usize); 8] = [
+const CHANGES: [(u8, u8, RecordError, usize); 8] = [
     (0, 0x48, RecordError::BadMagic, 0),
     (4, 64, RecordError::BadHeader, 0),
     (12, 7, RecordError::BadKind, 25),
@@ -88,9 +88,9 @@ const CHANGES: [(usize, u8, RecordError, usize); 8] = [
 ];
 
 /// The stream of the first race, and behind it the same with another byte at this place, and then the first once more.
-fn changed_among(alloc: Global, at: usize, byte: u8) -> Result<Vec<u8>, AllocError> {
+fn changed_among(alloc: Global, at: u8, byte: u8) -> Result<Vec<u8>, AllocError> {
     let mut all = joined(alloc, RACE.2, RACE.2)?;
-    if let Some(changed) = all[72..].get_mut(at) {
+    if let Some(changed) = all.get_mut(72 + usize::from(at)) {
         *changed = byte;
     }
     all.extend_from_slice(RACE.2)?;

@@ -21,14 +21,14 @@ returns-in-Pack g c =
 
 pub returns-in-Dump-false : goal.returns-in-Dump-false
 returns-in-Dump-false g c =
-    rw (c.in-Dump-false.is, c.in-Dump-false.partial-is)
+    rw (c.in-Dump-false.is, c.in-Dump-false.partial-test)
     (outcome_of fault_line fault_status Write _ _ _ _ _ _ _ _ _ (λ done. done) c.dump.result
     (done_of _ c.dump.result c.dump.ensures.whole) c.dump.ensures.fault c.dump.ensures.untouched c.dump.ensures.prefix
     (done_of _ c.dump.result c.conclude_rewriting-in-Dump-false.ensures.done) c.conclude_rewriting-in-Dump-false.ensures.silent c.conclude_rewriting-in-Dump-false.ensures.fault c.conclude_rewriting-in-Dump-false.ensures.told)
 
 pub returns-in-Dump-true : goal.returns-in-Dump-true
 returns-in-Dump-true g c =
-    rw (c.in-Dump-true.is, c.in-Dump-true.partial-is)
+    rw (c.in-Dump-true.is, c.in-Dump-true.partial-test)
     (partial_of _ _ _ _ _ _ c.dump_partial.result
     c.dump_partial.ensures.whole c.dump_partial.ensures.fault c.dump_partial.ensures.partial c.dump_partial.ensures.untouched c.dump_partial.ensures.prefix
     c.conclude_rewriting-in-Dump-true.ensures.done c.conclude_rewriting-in-Dump-true.ensures.silent c.conclude_rewriting-in-Dump-true.ensures.fault c.conclude_rewriting-in-Dump-true.ensures.told)
