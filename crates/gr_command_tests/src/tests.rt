@@ -61,7 +61,7 @@ type Case = (
     u8,
 );
 
-const CASES: [Case; 58] = [
+const CASES: [Case; 54] = [
     ("a race", &["replay"], &RACE, REPORT, "", 1),
     ("a race, without a command", &[], &RACE, REPORT, "", 1),
     ("no race", &["replay"], &NO_RACE, CLEAN, "", 0),
@@ -158,38 +158,6 @@ const CASES: [Case; 58] = [
         "",
         "gpurace: stream 0: truncated\n",
         2,
-    ),
-    (
-        "what stands of a stream that is cut off",
-        &["dump", "--partial"],
-        &CUT_OFF,
-        "group 0 items 2 launch 7\n",
-        "gpurace: stream 0: truncated\n",
-        2,
-    ),
-    (
-        "the text of a race, where a part would do",
-        &["dump", "--partial"],
-        &RACE,
-        RACE_TEXT,
-        "",
-        0,
-    ),
-    (
-        "help on dump",
-        &["dump", "--help"],
-        &[],
-        "Writes the text of the trace on standard input, a line for each header",
-        "",
-        0,
-    ),
-    (
-        "a part of a report",
-        &["replay", "--partial"],
-        &RACE,
-        "",
-        "error: unexpected argument '--partial' found",
-        3,
     ),
     (
         "a line of another place",
@@ -461,6 +429,42 @@ const CASES: [Case; 58] = [
         &RACE,
         "",
         "error: unexpected argument 'file' found",
+        3,
+    ),
+];
+
+/// Dumps, whole and in part.
+const CASES_OF_DUMPS: [Case; 4] = [
+    (
+        "what stands of a stream that is cut off",
+        &["dump", "--partial"],
+        &CUT_OFF,
+        "group 0 items 2 launch 7\n",
+        "gpurace: stream 0: truncated\n",
+        2,
+    ),
+    (
+        "the text of a race, where a part would do",
+        &["dump", "--partial"],
+        &RACE,
+        RACE_TEXT,
+        "",
+        0,
+    ),
+    (
+        "help on dump",
+        &["dump", "--help"],
+        &[],
+        "Writes the text of the trace on standard input, a line for each header",
+        "",
+        0,
+    ),
+    (
+        "a part of a report",
+        &["replay", "--partial"],
+        &RACE,
+        "",
+        "error: unexpected argument '--partial' found",
         3,
     ),
 ];
@@ -1005,6 +1009,14 @@ fn words_and_input_give_output_and_status(rt: HostRuntime) -> Result<(), Fail> {
         assert!(rt; is_as_said(rt, rt.alloc(), case, &back), "{name}");
     }
     Ok(())
+}
+
+#[test]
+fn words_that_ask_for_a_dump_give_output_and_status(rt: HostRuntime) {
+    for case in &CASES_OF_DUMPS {
+        let name = case.0;
+        assert!(rt; is_as_said(rt, rt.alloc(), case, &[]), "{name}");
+    }
 }
 
 #[test]
