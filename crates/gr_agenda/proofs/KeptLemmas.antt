@@ -38,7 +38,7 @@ passes_there s test e k place =
     (h.1, (let same : e.index ≡ h.0 = omega (arith, h.2) in ap (slice_get (trace_of s e.at)) same ∙ h.3), h.4)
 
 -- an event that has a name is there
-named_there : (s : Streams) (d : EventId) (n : Name) → HasName s d n → IsEvent s d
+pub named_there : (s : Streams) (d : EventId) (n : Name) → HasName s d n → IsEvent s d
 named_there s d n named = elim (event_at s d) as (λ o. (event_at s d ≡ o) → IsEvent s d) [
   | None ↦ λ none. absurd (let within = subst (λ names. Contains names n) (ap names_of none) named in omega (arith, within.1))
   | Some x ↦ λ at. (x, at)

@@ -4,3 +4,4 @@ pub mod Named
 pub mod ListLemmas
 pub mod KeptLemmas
 pub mod UndivergedLemmas
+pub mod AtOnceLemmas

@@ -12,9 +12,10 @@ ghost use Rattle.gr_model.specs.declared.limits.TheConstants.{MOST_RECORDS};
 ghost use Rattle.gr_model.specs.Names.{release_place};
 ghost use Rattle.gr_model.specs.Streams.{list_of, size_of};
 ghost use Rattle.gr_order.specs.declared.steps.Ready.TheVariants.{Group, Item};
-ghost use Rattle.gr_lanes.specs.Takes.{CanTake, IsEventButItem, IsTakeFault};
+ghost use Rattle.gr_lanes.specs.Takes.{CanTake, IsEventButItem, IsTakeFault, next_of};
 ghost use Rattle.gr_steps.specs.Steps.{CanHandle, CanMeet, IsReady};
 ghost use Rattle.gr_order.specs.Answers.{CanMake};
+ghost use Rattle.gr_order.specs.AtOnce.{GoesAtOnce};
 ghost use Rattle.gr_order.specs.Sequences.{HandlesEvent, IsDone, IsSequence, MeetsNext, nothing, taking};
 ghost use Rattle.gr_agenda.specs.Kept.{AreUndiverged, IsHeldUp, IsNextBarrier, IsNoted, IsReleaseHandled, IsForgotten};
 ghost use Rattle.gr_agenda.specs.Lists.{Has, IsWaiting, KeepsSteps};
@@ -144,6 +145,20 @@ fn named_by<A: Allocator>(order: &Order<A>, item: ItemId) -> Option<Name>
     match order.waiting(item) {
         None => None,
         Some(event) => first_unhandled(order, &event),
+    }
+}
+
+/// Whether a step is that of an item whose every event was handled: it can't be made, and nothing holds it up.
+fn is_idle<A: Allocator>(order: &Order<A>, step: Ready) -> bool
+    ensures none { IsTrue result → ¬ CanMake order.now step }
+    ensures free { IsTrue result → (d : AnyEvent) (n : AnyName) → Item d.at ≡ step → ¬ IsHeldUp order.now.taken order.now.handled d n }
+{
+    // brings the order's frontier and its invariant into the proof
+    let _frontier = order.frontier();
+    let _taken = order.lanes();
+    match step {
+        Ready::Group(_) => false,
+        Ready::Item(item) => order.waiting(item).is_none(),
     }
 }
 
@@ -300,15 +315,30 @@ impl<A: Allocator> Agenda<A> {
             }
             Reach::Group => {
                 forget_undiverged(&mut self.undiverged, group);
-                self.worklist.put(Ready::Group(group));
                 put_items(
                     &mut self.worklist,
                     group,
                     self.order.lanes().shape().items(group),
                 );
+                // last, so that it is looked at first: where the instance meets, its items need no look before
+                self.worklist.put(Ready::Group(group));
             }
         }
         Ok(())
+    }
+
+    /// Takes the next record of a group and handles its event, which can be handled at once: then no other step can be made
+    /// that could not be made before. It takes no memory.
+    pub fn take_at_once(&mut self, group: u16, event: Event)
+        requires good { IsEventButItem event }
+        requires room { length (list_of self.old.taken group) < MOST_RECORDS }
+        requires goes { GoesAtOnce self.old group event }
+        ensures step { HandlesEvent (taking self.old group event) (next_of self.old.taken group event) self.new }
+        ensures sequence { IsSequence self.new }
+    {
+        // brings the order's invariant into the proof
+        let _taken = self.order.lanes();
+        self.order.take_at_once(group, event);
     }
 
     /// Handles an event that may be handled.
@@ -372,7 +402,7 @@ impl<A: Allocator> Agenda<A> {
     }
 
     /// Looks at the last step of the list. Gives it if it can be made; else takes it off the list, and notes what its item
-    /// waits for.
+    /// waits for, if it waits.
     fn try_last(&mut self) -> Option<Ready>
         ensures found { IfSome result (λ r. CanMake self.old r) }
         ensures unchanged { self.new ≡ self.old }
@@ -381,6 +411,10 @@ impl<A: Allocator> Agenda<A> {
             None => return None,
             Some(step) => step,
         };
+        if is_idle(&self.order, step) {
+            self.worklist.drop_last();
+            return None;
+        }
         if self.can_make(step) {
             return Some(step);
         }

@@ -137,6 +137,24 @@ module _ {sizes : List ℕ} {groups : List GroupList} {g : ℕ} {now : GroupList
   pub prefixes_so : ArePrefixes (taken_of sizes (set groups g new))
   prefixes_so = set_groups.prefixes
 
+-- the group takes a record that may be taken, the lists and the group by other names
+pub taking_of : (sizes : List ℕ) (groups : List GroupList) → AreGroups sizes groups → (s : Streams) → taken_of sizes groups ≡ s → (g h : ℕ) → g ≡ h → (now : GroupList) → now ≡ get_or groups g now
+    → (x : Event) → CanTake s h x → IsEventButItem x → length (list_of s h) < MOST_RECORDS → (new : GroupList) → new ≡ record { size = now.size; list = now.list ++ x ∷ [] } → Taking sizes groups g now x new
+taking_of sizes groups are s taken g h same now reads x can good room new is =
+    let there : g < length sizes = omega (arith, same, can.group, ap length (ap (λ (t : Streams). t.sizes) taken)) in
+    let within = group_there sizes groups are g there in
+    let list : now.list ≡ list_of s h = group_list sizes groups are g now within reads ∙ (ap (list_of (taken_of sizes groups)) same ∙ ap (λ (t : Streams). list_of t h) taken) in
+    let size : now.size ≡ size_of s h = group_size sizes groups are g now within reads ∙ (ap (size_of (taken_of sizes groups)) same ∙ ap (λ (t : Streams). size_of t h) taken) in record {
+      are = are;
+      there = there;
+      reads = reads;
+      open_list = λ h. can.before_end (subst (λ (l : List Event). IsTrue (is_complete l)) list h);
+      item = omega (arith, can.item, size);
+      good = good;
+      room = subst (λ (l : List Event). length l < MOST_RECORDS) (sym list) room;
+      is = is;
+    }
+
 -- ---- cut streams
 
 module _ (sizes : List ℕ) (groups found : List GroupList) (are : AreGroups sizes groups) (is : found ≡ groups) (g h : ℕ) (here : g ≡ h) (within : true ≡ nat_lt g (length found)) (now : GroupList) (reads : now ≡ get_or found g now) (s : Streams) (taken : taken_of sizes groups ≡ s) where

@@ -1,10 +1,13 @@
 -- Lists grow by a record that is taken.
 use Rattle.std.proofs.Common.{◌≡◌, ℕ, [], ◌∷◌, ◌++◌, refl, sym, ap, ◌∙◌, subst, ⊎_elim, arith, append-nil, IsTrue}
-use Rattle.std.proofs.lemmas.Bool.{cases_eq}
-use Rattle.std.proofs.lemmas.List.{get_or-set_same, get_or-set_other}
+use Rattle.std.specs.Prelude.{◌<◌, length}
+use Rattle.std.proofs.lemmas.Bool.{cases_eq, false_from_ne_true}
+use Rattle.std.proofs.lemmas.List.{get_or-set_same, get_or-set_other, length-set}
 use Rattle.gr_model.specs.declared.event.Event.{Event}
-use Rattle.gr_model.specs.Streams.{ArePrefixes, Grows, Streams, is_complete, list_of}
-use Rattle.gr_lanes.specs.Takes.{CanTake, with_record}
+use Rattle.gr_model.specs.declared.limits.TheConstants.{MOST_RECORDS}
+use Rattle.gr_model.specs.Streams.{ArePrefixes, Grows, IsPrefix, Streams, is_complete, list_of, size_of}
+use Rattle.gr_model.proofs.StreamPrefixes.{prefix_push}
+use Rattle.gr_lanes.specs.Takes.{CanTake, IsEventButItem, with_record}
 
 module _ (s : Streams) (g : ℕ) (x : Event) (prefixes : ArePrefixes s) (can : CanTake s g x) where
   pub here : list_of (with_record s g x) g ≡ list_of s g ++ x ∷ []
@@ -25,3 +28,16 @@ module _ (s : Streams) (g : ℕ) (x : Event) (prefixes : ArePrefixes s) (can : C
         (λ apart. other h apart)
         (cases_eq h g);
   }
+
+  pub prefixes_grow : IsEventButItem x → length (list_of s g) < MOST_RECORDS → ArePrefixes (with_record s g x)
+  prefixes_grow good room = record {
+    shape = prefixes.shape;
+    count = length-set s.lists g (list_of s g ++ x ∷ []) ∙ prefixes.count;
+    each = λ h there. ⊎_elim
+        (λ (same : h ≡ g). subst (λ n. IsPrefix (size_of s n) (list_of (with_record s g x) n)) (sym same) own)
+        (λ apart. subst (IsPrefix (size_of s h)) (sym (other h apart)) (prefixes.each h there))
+        (cases_eq h g);
+  }
+    where
+      own : IsPrefix (size_of s g) (list_of (with_record s g x) g)
+      own = subst (IsPrefix (size_of s g)) (sym here) (prefix_push (size_of s g) (list_of s g) x (prefixes.each g can.group) (can.item, good.0, good.1) (false_from_ne_true (is_complete (list_of s g)) can.before_end) room)

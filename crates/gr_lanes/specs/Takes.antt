@@ -1,9 +1,12 @@
 -- What is taken of a launch's streams: the records that have come of each work-group, one more at a time.
 -- Source: docs/MODEL.md, "Streams and traces".
-use Rattle.std.specs.Prelude.{◌≡◌, ℕ, ◌<◌, ◌≤◌, List, [], ◌∷◌, ◌++◌, length, map, slice_set, IsTrue}
+use Rattle.std.specs.Prelude.{◌≡◌, ℕ, ◌<◌, ◌≤◌, List, [], ◌∷◌, ◌++◌, length, map, slice_set, IsTrue, false}
 use Rattle.gr_model.specs.declared.event.Event.{Event}
-use Rattle.gr_model.specs.Events.{IsNamingOk, IsKindOk}
-use Rattle.gr_model.specs.Streams.{Streams, list_of, size_of, is_complete}
+use Rattle.gr_model.specs.declared.event.EventId.{EventId}
+use Rattle.gr_model.specs.Access.{is_release}
+use Rattle.gr_model.specs.Barriers.{is_barrier}
+use Rattle.gr_model.specs.Events.{IsNamingOk, IsKindOk, is_end}
+use Rattle.gr_model.specs.Streams.{Streams, list_of, size_of, trace_of, is_complete}
 use Rattle.gr_lanes.specs.declared.seq_error.SeqError.{SeqError}
 use Rattle.gr_lanes.specs.declared.seq_error.SeqError.TheVariants.{UnknownGroup, AfterEnd, UnknownItem, Memory}
 
@@ -14,6 +17,17 @@ nothing_taken sizes = record { sizes = sizes; lists = map (λ n. []) sizes }
 -- one record more of a group
 abbrev pub with_record : Streams → ℕ → Event → Streams
 with_record s g x = record { sizes = s.sizes; lists = slice_set s.lists g (list_of s g ++ x ∷ []) }
+
+-- the event that a record of a group is, where it is taken: the next of its item
+abbrev pub next_of : Streams → ℕ → Event → EventId
+next_of s g x = record { at = record { group = g; item = x.item }; index = length (trace_of s (record { group = g; item = x.item })) }
+
+-- a mere access: an access that releases nothing and names nothing
+pub record IsMereAccess (x : Event) : Type 0 where
+  pub ends : is_end x ≡ false
+  pub barrier : is_barrier x ≡ false
+  pub release : is_release x ≡ false
+  pub names : x.names ≡ []
 
 -- a record that some group may have, whatever its item
 abbrev pub IsEventButItem : Event → Type 0

@@ -11,6 +11,7 @@ ghost use Rattle.gr_model.specs.Barriers as model_barriers;
 ghost use Rattle.gr_model.specs.Events.{IsEventOk};
 ghost use Rattle.gr_model.specs.Streams.{is_complete, is_of, places_from};
 ghost use Rattle.gr_lanes.specs.Indices.{EndsCut, IsNumberAmong, no_index, indexed};
+ghost use Rattle.gr_lanes.specs.Takes.{IsMereAccess};
 
 use crate::kinds::{is_barrier, is_release};
 use crate::lane::Lane;
@@ -63,6 +64,16 @@ fn index<A: Allocator>(lanes: &mut [Lane<A>], event: &Event) -> Result<(), Memor
         return Ok(());
     }
     lanes[usize::from(event.item)].add(event, is_release(event), is_barrier(event))
+}
+
+/// Adds the group's next record, a mere access, to the lane of its item.
+fn index_access<A: Allocator>(lanes: &mut [Lane<A>], event: &Event)
+    requires item { event.now.item < length lanes.old }
+    requires few { (slice_index_or lanes.old event.now.item no_index).count < 4_294_967_295 }
+    requires access { IsMereAccess event.now }
+    ensures { lanes.new ≡ indexed lanes.old event.now }
+{
+    lanes[usize::from(event.item)].add_access(event);
 }
 
 impl<A: Allocator + Copy> Group<A> {
@@ -191,6 +202,20 @@ impl<A: Allocator> Group<A> {
             None => 0,
             Some(lane) => lane.barrier_count(),
         }
+    }
+
+    /// Takes the group's next record, a mere access. It takes no memory.
+    pub(crate) fn take_access(&mut self, event: Event)
+        requires good { IsEventOk event self.old.size }
+        requires before_end { ¬ IsTrue (is_complete self.old.list) }
+        requires room { length self.old.list < MOST_RECORDS }
+        requires access { IsMereAccess event }
+        ensures { self.new ≡ record { size = self.old.size; list = self.old.list ++ event ∷ [] } }
+    {
+        index_access(&mut self.lanes, &event);
+        self.list.push(&event);
+        self.taken += 1;
+        self.last = Some(event);
     }
 
     /// Takes the group's next record.

@@ -1,8 +1,9 @@
 //! What a record is.
 
-ghost use Rattle.std.specs.Prelude.{◌≡◌};
+ghost use Rattle.std.specs.Prelude.{◌≡◌, ◌↔◌, IsTrue};
 ghost use Rattle.gr_model.specs.Access as model;
 ghost use Rattle.gr_model.specs.Barriers as model_barriers;
+ghost use Rattle.gr_lanes.specs.Takes.{IsMereAccess};
 
 use gr_model::event::{Event, Kind};
 
@@ -33,4 +34,15 @@ pub fn is_barrier(event: &Event) -> bool
             local: _
         }
     )
+}
+
+/// Whether an event is a mere access: one that releases nothing and names nothing.
+#[inline(always)]
+pub fn is_mere_access(event: &Event) -> bool
+    ensures { IsTrue result ↔ IsMereAccess event.now }
+{
+    !event.kind.is_end()
+        && !is_barrier(event)
+        && !is_release(event)
+        && event.names.as_slice().is_empty()
 }

@@ -3,7 +3,7 @@
 //! A lane knows how many events an item has, and which of them are releases and barriers: of these it has the records, and
 //! of no other event.
 
-ghost use Rattle.std.specs.Prelude.{◌≡◌, ◌≢◌, ◌<◌, ℕ, [], true, MatchOption, OnOk, OnErr, length, slice_get};
+ghost use Rattle.std.specs.Prelude.{◌≡◌, ◌≢◌, ◌<◌, ℕ, [], true, false, MatchOption, OnOk, OnErr, length, slice_get};
 ghost use Rattle.gr_lanes.specs.Indices.{AreRising, no_index, with_event};
 
 use crate::bare::Bare;
@@ -115,6 +115,14 @@ impl<A: Allocator> Lane<A> {
         ensures { result ≡ length self.now.arrived }
     {
         self.arrived.len() as u32
+    }
+
+    /// Adds the item's next event, which is neither a release nor a barrier. It takes no memory.
+    pub(crate) fn add_access(&mut self, event: &Event)
+        requires few { self.old.count < 4_294_967_295 }
+        ensures { self.new ≡ with_event self.old event.now false false }
+    {
+        self.count += 1;
     }
 
     /// Adds the item's next event. A barrier names no releases.

@@ -11,7 +11,7 @@ ghost use Rattle.gr_lanes.specs.Indices.{record_of};
 ghost use Rattle.gr_model.specs.Reports.{IsCut};
 ghost use Rattle.gr_model.specs.Names.{release_place};
 ghost use Rattle.gr_lanes.specs.declared.seq_error.SeqError.TheVariants.{Memory as OutOfMemory};
-ghost use Rattle.gr_lanes.specs.Takes.{nothing_taken, with_record, IsEventButItem, CanTake, IsTakeFault};
+ghost use Rattle.gr_lanes.specs.Takes.{nothing_taken, with_record, IsEventButItem, IsMereAccess, CanTake, IsTakeFault};
 
 use crate::group::Group;
 use crate::seq_error::SeqError;
@@ -194,6 +194,18 @@ impl<A: Allocator> Lanes<A> {
             return Some(SeqError::UnknownItem);
         }
         None
+    }
+
+    /// Takes the next record of a group, which may be taken and is a mere access. It takes no memory.
+    pub fn take_access(&mut self, group: u16, event: Event)
+        requires can { CanTake self.old group event }
+        requires access { IsMereAccess event }
+        requires good { IsEventButItem event }
+        requires room { length (list_of self.old group) < MOST_RECORDS }
+        ensures taken { self.new ≡ with_record self.old group event }
+        ensures prefixes { ArePrefixes self.new }
+    {
+        self.groups[usize::from(group)].take_access(event);
     }
 
     /// Takes the next record of a group.

@@ -7,3 +7,4 @@ pub mod SumLemmas
 pub mod TakenLemmas
 pub mod HeldLemmas
 pub mod WaitLemmas
+pub mod AtOnceLemmas

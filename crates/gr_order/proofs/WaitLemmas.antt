@@ -33,13 +33,13 @@ none_added g x i is = ap (λ b. cond b (x ∷ []) []) is
 pub end_adds_none : (g : ℕ) (x : Event) (i : ItemId) → is_end x ≡ true → added g x i ≡ []
 end_adds_none g x i end = none_added g x i (ap (λ b. (i.group == g) && b) (end_is_of x i.item end) ∙ and_false (i.group == g))
 
-adds_here : (g : ℕ) (x : Event) → is_end x ≡ false → added g x (item_of g x.item) ≡ x ∷ []
+pub adds_here : (g : ℕ) (x : Event) → is_end x ≡ false → added g x (item_of g x.item) ≡ x ∷ []
 adds_here g x on =
     let is : is_at g x (item_of g x.item) ≡ true =
     ap (λ b. b && is_of x.item x) (eq-eqb g g refl) ∙ (ap (λ b. b && not (is_end x)) (eq-eqb x.item x.item refl) ∙ ap not on) in
     ap (λ b. cond b (x ∷ []) []) is
 
-adds_none : (g : ℕ) (x : Event) (i : ItemId) → (i ≡ item_of g x.item → ⊥) → added g x i ≡ []
+pub adds_none : (g : ℕ) (x : Event) (i : ItemId) → (i ≡ item_of g x.item → ⊥) → added g x i ≡ []
 adds_none g x i apart = none_added g x i (⊎_elim
     (λ (group : i.group ≡ g). ⊎_elim
     (λ (item : x.item ≡ i.item). absurd (apart (λ d. record { group = group d; item = sym item d })))
@@ -75,7 +75,7 @@ forgets_event before g x old new on keeps changes =
 
 -- ---- a record is taken
 
-trace_grows : (s : Streams) (g : ℕ) (x : Event) → ArePrefixes s → CanTake s g x → (i : ItemId) → trace_of (with_record s g x) i ≡ trace_of s i ++ added g x i
+pub trace_grows : (s : Streams) (g : ℕ) (x : Event) → ArePrefixes s → CanTake s g x → (i : ItemId) → trace_of (with_record s g x) i ≡ trace_of s i ++ added g x i
 trace_grows s g x prefixes can i = ⊎_elim
     (λ (same : i.group ≡ g).
     let list : list_of (with_record s g x) i.group ≡ list_of s i.group ++ x ∷ [] = ap (list_of (with_record s g x)) same ∙ (here s g x prefixes can ∙ ap (λ n. list_of s n ++ x ∷ []) (sym same)) in

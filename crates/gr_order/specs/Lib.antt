@@ -3,3 +3,4 @@ pub mod Answers
 pub mod States
 pub mod Readiness
 pub mod Waiting
+pub mod AtOnce

@@ -4,16 +4,17 @@
 //! a tally, the frontier. Of each item the other events are kept, from the first that was not handled on, and no longer. The
 //! order itself exists in proofs alone: no memory holds it, and no step needs any.
 
-ghost use Rattle.std.specs.Prelude.{◌≡◌, ◌+◌, ◌<◌, IsOkUnless, IfOk, IfErr, OnOk, MatchOption, OnErr, length, IsTrue, not, ◌↔◌};
+ghost use Rattle.std.specs.Prelude.{◌≡◌, ◌+◌, ◌<◌, IsOkUnless, IfOk, IfErr, IfSome, OnOk, MatchOption, OnErr, length, IsTrue, not, ◌↔◌};
 ghost use Rattle.gr_model.specs.declared.limits.TheConstants.{MOST_RECORDS};
 ghost use Rattle.gr_model.specs.Events.{is_end};
 ghost use Rattle.gr_model.specs.Reports.{IsHeld};
 ghost use Rattle.gr_model.specs.Streams.{AreComplete, event_at, list_of};
 ghost use Rattle.gr_order.specs.declared.go_error.GoError.TheVariants.{NotReady};
-ghost use Rattle.gr_lanes.specs.Takes.{CanTake, IsEventButItem, IsTakeFault};
+ghost use Rattle.gr_lanes.specs.Takes.{CanTake, IsEventButItem, IsTakeFault, next_of, with_record};
 ghost use Rattle.gr_steps.specs.Steps.{CanHandle, CanMeet, IsAtRest, IsMeeting, IsReady};
 ghost use Rattle.gr_model.specs.Instances.{Mark};
 ghost use Rattle.gr_order.specs.Answers.{CanMake, IsHandleFault, IsMeetFault};
+ghost use Rattle.gr_order.specs.AtOnce.{GoesAtOnce};
 ghost use Rattle.gr_clocks.specs.Counts.{Counts, count_of, sizes_of};
 ghost use Rattle.gr_windows.specs.Windows.{AreWaiting};
 ghost use Rattle.gr_order.specs.States.{AreBelowFrontier};
@@ -26,6 +27,7 @@ use crate::steps::Ready;
 use crate::waiting::{forget, keep};
 use gr_clocks::tally::Tally;
 use gr_history::history::History;
+use gr_lanes::kinds::is_mere_access;
 use gr_lanes::lanes::Lanes;
 use gr_lanes::seq_error::SeqError;
 use gr_model::event::{Event, EventId, ItemId};
@@ -189,6 +191,51 @@ impl<A: Allocator> Order<A> {
             return None;
         }
         next_instance(&self.lanes, &self.frontier, &self.windows, group)
+    }
+
+    /// The event that a record of a group is where it is taken, if it may be taken and its event can then be handled at once:
+    /// it is a mere access, and no event of its item waits.
+    #[inline(always)]
+    pub fn at_once(&self, group: u16, event: &Event) -> Option<EventId>
+        ensures goes { MatchOption result (¬ GoesAtOnce self.now group event.now) (λ e. GoesAtOnce self.now group event.now × (e ≡ next_of self.now.taken group event.now)) }
+        ensures ready { IfSome result (λ e. IsReady (with_record self.now.taken group event.now) self.now.handled e) }
+    {
+        if !is_mere_access(event) {
+            return None;
+        }
+        match self.lanes.refusal(group, event) {
+            None => {}
+            Some(_) => return None,
+        }
+        let at = ItemId {
+            group,
+            item: event.item,
+        };
+        match self.windows.waiting(at, 0) {
+            None => Some(EventId {
+                at,
+                index: self.frontier.get(at),
+            }),
+            Some(_) => None,
+        }
+    }
+
+    /// Takes the next record of a group and handles its event, which can be handled at once. It takes no memory.
+    pub fn take_at_once(&mut self, group: u16, event: Event)
+        requires good { IsEventButItem event }
+        requires room { length (list_of self.old.taken group) < MOST_RECORDS }
+        requires goes { GoesAtOnce self.old group event }
+        ensures step { HandlesEvent (taking self.old group event) (next_of self.old.taken group event) self.new }
+        ensures sequence { IsSequence self.new }
+    {
+        let at = ItemId {
+            group,
+            item: event.item,
+        };
+        let index = self.frontier.get(at);
+        self.lanes.take_access(group, event);
+        self.handled.push(&EventId { at, index });
+        self.frontier.raise(at);
     }
 
     /// Takes the next record of a group. It is one that some group may have, whatever its item.

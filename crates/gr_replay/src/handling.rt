@@ -16,7 +16,10 @@ use std::alloc::Allocator;
 ///
 /// # Errors
 /// `Memory`: out of memory.
-fn shade<A: Allocator + Copy>(shadows: &mut Shadows<A>, step: Handled<A>) -> Result<(), Memory>
+pub(crate) fn shade<A: Allocator + Copy>(
+    shadows: &mut Shadows<A>,
+    step: Handled<A>,
+) -> Result<(), Memory>
     ensures { (accesses : List ClockedAccess) → StandsFor accesses shadows.old → OnOk result (StandsFor (accesses ++ accesses_of step) shadows.new) }
 {
     match step {

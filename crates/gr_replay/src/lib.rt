@@ -12,6 +12,7 @@ mod races;
 pub mod records;
 mod run;
 mod taking;
+mod turn;
 
 pub use each::read_each;
 pub use launch::read_joined;

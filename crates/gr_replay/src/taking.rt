@@ -1,6 +1,7 @@
 //! All records of a launch, taken by a sequencer and handled as they can be.
 //!
-//! Records are taken in rounds, and what can be handled is handled after each, so that no more of them are kept than wait.
+//! A record whose event can be handled at once is taken and handled in one call. The others wait, and what waits is looked at
+//! now and then (`turn`), so that no more records are kept than wait.
 
 ghost use Rattle.std.specs.Prelude.{◌≡◌, ◌↔◌, ◌<◌, ◌++◌, [], All, IfOk, IsTrue, OnOk, length, map};
 ghost use Rattle.std.specs.List.{sum_by};
@@ -12,21 +13,53 @@ ghost use Rattle.gr_replay.specs.Launch.{streams_of};
 ghost use Rattle.gr_replay.specs.Sequencing.{AreShadowsOf, AreTakenFrom, with_list, with_more};
 
 use crate::cursor::Cursor;
-use crate::handling::handle_ready;
+use crate::handling::{handle_ready, shade};
 use crate::joined::Stream;
 use crate::launch::Launch;
+use crate::turn::{MOST_IN_TURN, Turn};
 use gr_lanes::seq_error::SeqError;
 use gr_model::event::Event;
 use gr_model::memory::Memory;
+use gr_model::shape::Shape;
 use gr_model::traces::Traces;
 use gr_sequencer::sequencer::Sequencer;
 use gr_shadow::shadows::Shadows;
 use std::alloc::Allocator;
 
-/// How many records of a group a round has.
-const ROUND: u32 = 4096;
+/// Has a sequencer take a record of a group, and handle its event where that can be done at once. Tells whether the event
+/// waits.
+///
+/// # Errors
+/// `Memory`: out of memory.
+fn take_one<A: Allocator + Copy>(
+    sequencer: &mut Sequencer<A>,
+    shadows: &mut Shadows<A>,
+    group: u16,
+    event: Event,
+) -> Result<bool, Memory>
+    requires can { CanTake sequencer.old.taken group event }
+    requires good { IsEventButItem event }
+    requires room { length (list_of sequencer.old.taken group) < MOST_RECORDS }
+    requires sequence { IsSequence sequencer.old }
+    requires shadows { AreShadowsOf sequencer.old shadows.old }
+    ensures taken { OnOk result (sequencer.new.taken ≡ with_record sequencer.old.taken group event) }
+    ensures sequence { IsSequence sequencer.new }
+    ensures shadows { OnOk result (AreShadowsOf sequencer.new shadows.new) }
+{
+    match sequencer.take_and_handle(group, event) {
+        Ok(None) => Ok(true),
+        Ok(Some(step)) => {
+            shade(shadows, step)?;
+            Ok(false)
+        }
+        Err(error) => match error {
+            SeqError::Memory => Err(Memory),
+            _ => unreachable!(),
+        },
+    }
+}
 
-/// Has a sequencer take a record of a group, and at the end of a round handle what can be.
+/// Has a sequencer take a record of a group in its turn, and handle what can be where it is time to.
 ///
 /// # Errors
 /// `Memory`: out of memory.
@@ -35,6 +68,7 @@ fn take_record<A: Allocator + Copy>(
     shadows: &mut Shadows<A>,
     group: u16,
     event: Event,
+    turn: &mut Turn,
 ) -> Result<(), Memory>
     requires can { CanTake sequencer.old.taken group event }
     requires good { IsEventButItem event }
@@ -45,15 +79,9 @@ fn take_record<A: Allocator + Copy>(
     ensures sequence { OnOk result (IsSequence sequencer.new) }
     ensures shadows { OnOk result (AreShadowsOf sequencer.new shadows.new) }
 {
-    match sequencer.take(group, event) {
-        Ok(()) => {}
-        Err(error) => match error {
-            SeqError::Memory => return Err(Memory),
-            _ => unreachable!(),
-        },
-    }
-    if sequencer.taken(group) % ROUND == 0 {
+    if take_one(sequencer, shadows, group, event)? && turn.is_to_look(&event) {
         handle_ready(sequencer, shadows)?;
+        turn.note_look(sequencer.held());
     }
     Ok(())
 }
@@ -66,6 +94,7 @@ fn take_list<A: Allocator + Copy>(
     sequencer: &mut Sequencer<A>,
     shadows: &mut Shadows<A>,
     group: u16,
+    items: u16,
     list: &[Event],
 ) -> Result<(), Memory>
     requires there { group < length sequencer.old.taken.lists }
@@ -77,8 +106,9 @@ fn take_list<A: Allocator + Copy>(
     ensures sequence { OnOk result (IsSequence sequencer.new) }
     ensures shadows { OnOk result (AreShadowsOf sequencer.new shadows.new) }
 {
+    let mut turn = Turn::new(items, sequencer.held());
     for event in list {
-        take_record(sequencer, shadows, group, *event)?;
+        take_record(sequencer, shadows, group, *event, &mut turn)?;
     }
     Ok(())
 }
@@ -100,7 +130,8 @@ pub(crate) fn take_traces<A: Allocator + Copy>(
     ensures shadows { OnOk result (AreShadowsOf sequencer.new shadows.new) }
 {
     for group in 0..traces.shape().groups() {
-        take_list(sequencer, shadows, group, traces.list(group))?;
+        let items = traces.shape().items(group);
+        take_list(sequencer, shadows, group, items, traces.list(group))?;
     }
     handle_ready(sequencer, shadows)?;
     Ok(())
@@ -130,7 +161,7 @@ fn are_done(cursors: &[Cursor<'_>]) -> bool
     cursors.iter().all(|cursor| cursor.is_done())
 }
 
-/// Has a sequencer take a round of a group's records, or fewer where fewer are to come.
+/// Has a sequencer take some of a group's records, one at least where some are to come.
 ///
 /// # Errors
 /// `Memory`: out of memory.
@@ -138,6 +169,7 @@ fn take_some<A: Allocator + Copy>(
     sequencer: &mut Sequencer<A>,
     shadows: &mut Shadows<A>,
     group: u16,
+    items: u16,
     cursor: &mut Cursor<'_>,
 ) -> Result<(), Memory>
     requires there { group < length sequencer.old.taken.lists }
@@ -149,27 +181,56 @@ fn take_some<A: Allocator + Copy>(
     ensures sequence { OnOk result (IsSequence sequencer.new) }
     ensures shadows { OnOk result (AreShadowsOf sequencer.new shadows.new) }
 {
-    for _ in 0..ROUND {
+    let mut turn = Turn::new(items, sequencer.held());
+    for _ in 0..MOST_IN_TURN {
         match cursor.next() {
             None => break,
-            Some(event) => take_record(sequencer, shadows, group, event)?,
+            Some(event) => take_record(sequencer, shadows, group, event, &mut turn)?,
+        }
+        if turn.is_over() {
+            break;
         }
     }
     Ok(())
 }
 
-/// Has a sequencer take a round of each group's records.
+/// The same, and then handles what can be.
+///
+/// # Errors
+/// `Memory`: out of memory.
+fn take_turn<A: Allocator + Copy>(
+    sequencer: &mut Sequencer<A>,
+    shadows: &mut Shadows<A>,
+    group: u16,
+    items: u16,
+    cursor: &mut Cursor<'_>,
+) -> Result<(), Memory>
+    requires there { group < length sequencer.old.taken.lists }
+    requires accepted { IsAccepted (size_of sequencer.old.taken group) (list_of sequencer.old.taken group ++ cursor.old) }
+    requires sequence { IsSequence sequencer.old }
+    requires shadows { AreShadowsOf sequencer.old shadows.old }
+    ensures taken { OnOk result (AreTakenFrom sequencer.old.taken group cursor.old sequencer.new.taken cursor.new) }
+    ensures fewer { OnOk result (0 < length cursor.old → length cursor.new < length cursor.old) }
+    ensures sequence { OnOk result (IsSequence sequencer.new) }
+    ensures shadows { OnOk result (AreShadowsOf sequencer.new shadows.new) }
+{
+    take_some(sequencer, shadows, group, items, cursor)?;
+    handle_ready(sequencer, shadows)?;
+    Ok(())
+}
+
+/// Has a sequencer take some of each group's records, as many as the group takes in a turn.
 ///
 /// # Errors
 /// `Memory`: out of memory.
 fn take_round<A: Allocator + Copy>(
     sequencer: &mut Sequencer<A>,
     shadows: &mut Shadows<A>,
-    groups: u16,
+    shape: &Shape<A>,
     cursors: &mut [Cursor<'_>],
 ) -> Result<(), Memory>
-    requires groups { groups ≡ length sequencer.old.taken.lists }
-    requires cursors { groups ≡ length cursors.old }
+    requires groups { length shape.now ≡ length sequencer.old.taken.lists }
+    requires cursors { length shape.now ≡ length cursors.old }
     requires accepted { AreAccepted (with_more sequencer.old.taken cursors.old) }
     requires sequence { IsSequence sequencer.old }
     requires shadows { AreShadowsOf sequencer.old shadows.old }
@@ -178,8 +239,15 @@ fn take_round<A: Allocator + Copy>(
     ensures sequence { OnOk result (IsSequence sequencer.new) }
     ensures shadows { OnOk result (AreShadowsOf sequencer.new shadows.new) }
 {
-    for group in 0..groups {
-        take_some(sequencer, shadows, group, &mut cursors[usize::from(group)])?;
+    for group in 0..shape.groups() {
+        let items = shape.items(group);
+        take_turn(
+            sequencer,
+            shadows,
+            group,
+            items,
+            &mut cursors[usize::from(group)],
+        )?;
     }
     Ok(())
 }
@@ -203,10 +271,9 @@ pub(crate) fn take_streams<A: Allocator + Copy>(
     ensures sequence { OnOk result (IsSequence sequencer.new) }
     ensures shadows { OnOk result (AreShadowsOf sequencer.new shadows.new) }
 {
-    let groups = launch.shape.groups();
     let mut cursors = cursors_of(alloc, launch.streams.as_slice())?;
     while !are_done(cursors.as_slice()) {
-        take_round(sequencer, shadows, groups, cursors.as_mut_slice())?;
+        take_round(sequencer, shadows, &launch.shape, cursors.as_mut_slice())?;
     }
     handle_ready(sequencer, shadows)?;
     Ok(())

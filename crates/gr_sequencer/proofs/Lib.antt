@@ -6,3 +6,4 @@ pub mod GroupSteps
 pub mod Spaces
 pub mod Teaching
 pub mod StepLemmas
+pub mod AtOnceSteps

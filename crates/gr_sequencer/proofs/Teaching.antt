@@ -1,5 +1,5 @@
 -- What an event learns from the releases that it names.
-use Rattle.std.proofs.Common.{◌≡◌, ◌≢◌, ◌⊎◌, ◌↔◌, ℕ, ◌+◌, ◌<◌, ◌≤◌, max, All, Contains, List, [], ◌∷◌, ◌++◌, length, get_or, map, take, None, Some, IsTrue, refl, sym, ap, ◌∙◌, subst, inl, inr, ⊎_elim, slice_get, suc, arith}
+use Rattle.std.proofs.Common.{◌≡◌, ◌≢◌, ◌⊎◌, ◌↔◌, ℕ, ◌+◌, ◌<◌, ◌≤◌, All, Contains, List, [], ◌∷◌, ◌++◌, length, get_or, map, take, Some, IsTrue, refl, sym, ap, ◌∙◌, subst, inl, inr, ⊎_elim, slice_get, suc, arith}
 use Rattle.std.proofs.lemmas.List.Elements.{All-push, Contains-append_left, Contains-push, Contains-push_cases}
 use Rattle.std.proofs.lemmas.List.{get_or-map, length-append, length-map}
 use Rattle.std.proofs.Math.Seq.{take-suc}
@@ -21,7 +21,6 @@ use Rattle.gr_steps.proofs.EventRecords.{one_release}
 use Rattle.gr_clocks.specs.Counts.{count_of, greatest_count, sizes_of}
 use Rattle.gr_clocks.specs.ItemClocks.{ReleaseClock, AreOfOneWord, clocks_left}
 use Rattle.gr_clocks.proofs.ReleaseLemmas.{left_elsewhere, left_here}
-use Rattle.gr_closure.specs.Knowledge.{Learns}
 use Rattle.gr_sequencer.specs.Known.{IsSnapshotOf}
 use Rattle.gr_sequencer.specs.Sources.{AreSources, IsSource, LearnsNothing, LearnsBy}
 use Rattle.gr_sequencer.proofs.SeenCounts.{below_max}

@@ -1,6 +1,6 @@
 -- What the clocks of the items and the snapshots of the releases say of the events that were handled.
 -- Source: docs/MODEL.md, "Clocks".
-use Rattle.std.specs.Prelude.{◌≡◌, ◌≢◌, ◌⊎◌, Bool, List, Option, Some, None, IsTrue, map, length}
+use Rattle.std.specs.Prelude.{◌≡◌, ◌⊎◌, ℕ, Bool, List, [], Option, Some, None, IsTrue, map, length}
 use Rattle.std.specs.Map.{lookup}
 use Rattle.gr_model.specs.declared.event.Space.{Space}
 use Rattle.gr_model.specs.declared.event.ItemId.{ItemId}
@@ -12,6 +12,8 @@ use Rattle.gr_model.specs.Counts.{Sees}
 use Rattle.gr_model.specs.LawfulOrders.{IsIn, IsLawful}
 use Rattle.gr_model.specs.Shapes.{HasItem}
 use Rattle.gr_model.specs.Streams.{Streams, ArePrefixes, event_at, word_at}
+use Rattle.gr_lanes.specs.Takes.{with_record}
+use Rattle.gr_order.specs.Sequences.{Sequence}
 use Rattle.gr_steps.specs.Steps.{IsReady}
 use Rattle.gr_clocks.specs.Counts.{sizes_of}
 use Rattle.gr_clocks.specs.ItemClocks.{ItemClocks, ReleaseClock, clock_in, clocks_in}
@@ -65,6 +67,12 @@ pub record IsNext (s : Streams) (order : List EventId) (known : Known) (e : Even
   pub lawful : IsLawful s order
   pub follows : IsKnown s order known
   pub ready : IsReady s order e
+
+-- behind the record of a group that is taken, its event may be handled next; it names nothing
+pub record IsNextAtOnce (q : Sequence) (g : ℕ) (x : Event) (known : Known) (e : EventId) : Type 0 where
+  pub next : IsNext (with_record q.taken g x) q.handled known e
+  pub there : event_at (with_record q.taken g x) e ≡ Some x
+  pub names : x.names ≡ []
 
 -- d is known to the event's item, or the event learns of it
 abbrev pub KnowsOrLearns : Streams → List EventId → Space → EventId → EventId → Type 0

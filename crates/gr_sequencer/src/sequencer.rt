@@ -3,15 +3,16 @@
 //! Invariant: each item's clock counts just what the item knows along the order of the handled events, and each handled
 //! release has a snapshot that counts just what is seen at it.
 
-ghost use Rattle.std.specs.Prelude.{◌≡◌, ◌↔◌, ◌+◌, ◌<◌, ℕ, IsTrue, IfOk, IfErr, OnOk, OnErr, MatchOption, length};
+ghost use Rattle.std.specs.Prelude.{◌≡◌, ◌↔◌, ◌+◌, ◌<◌, ℕ, IsTrue, IfOk, IfErr, IfNone, IfSome, OnOk, OnErr, MatchOption, length};
 ghost use Rattle.gr_model.specs.declared.limits.TheConstants.{MOST_RECORDS};
 ghost use Rattle.gr_model.specs.Streams.{AreComplete, list_of};
 ghost use Rattle.gr_model.specs.Reports.{Lists, DivergenceBelow, IsDivergence, IsCut, IsHeld, IsUnmatchedEntry, UnmatchedBelow};
-ghost use Rattle.gr_lanes.specs.Takes.{CanTake, IsEventButItem, IsTakeFault};
+ghost use Rattle.gr_lanes.specs.Takes.{CanTake, IsEventButItem, IsTakeFault, next_of, with_record};
 ghost use Rattle.gr_steps.specs.Steps.{IsAtRest, IsReady};
 ghost use Rattle.gr_order.specs.Sequences.{CanStep, IsDone, IsSequence, event_count, nothing, taking};
 ghost use Rattle.gr_order.specs.declared.go_error.GoError.TheVariants.{Memory as OutOfMemory};
 ghost use Rattle.gr_order.specs.Answers.{IsHandleFault, IsMeetFault};
+ghost use Rattle.gr_order.specs.AtOnce.{GoesAtOnce};
 ghost use Rattle.gr_sequencer.specs.Answers.{IsOfGroup, IsOfItem, IsStep};
 
 use crate::handled::Handled;
@@ -117,6 +118,74 @@ impl<A: Allocator> Sequencer<A> {
         // brings the order's invariant into the proof
         let _taken = self.agenda.order();
         self.agenda.take(group, event)
+    }
+
+    /// Takes the next record of a group and handles its event, which may be handled at once.
+    ///
+    /// # Errors
+    /// `Memory`: out of memory. Nothing is then taken or handled.
+    fn handle_at_once(
+        &mut self,
+        group: u16,
+        event: Event,
+        next: EventId,
+    ) -> Result<Handled<A>, Memory>
+    where
+        A: Clone,
+        requires good { IsEventButItem event }
+        requires room { length (list_of self.old.taken group) < MOST_RECORDS }
+        requires goes { GoesAtOnce self.old group event }
+        requires next { next ≡ next_of self.old.taken group event }
+        requires ready { IsReady (with_record self.old.taken group event) self.old.handled next }
+        ensures step { IfOk result (λ h. IsStep (taking self.old group event) self.new h) }
+        ensures item { IfOk result (λ h. IsOfItem next.at h) }
+        ensures unchanged { OnErr result (self.new ≡ self.old) }
+        ensures sequence { IsSequence self.new }
+    {
+        let order = self.agenda.order();
+        let access = self.known.access_at_once(order, group, next, &event)?;
+        self.known.advance_at_once(order, group, next, &event)?;
+        self.agenda.take_at_once(group, event);
+        Ok(Handled::One {
+            event: next,
+            access,
+        })
+    }
+
+    /// Takes the next record of a group as `take` does, and handles its event too where it is a mere access, one that
+    /// releases nothing and names nothing, and no event of its item waits: then it tells the step. An event that it does not
+    /// handle waits, as after `take`.
+    ///
+    /// # Errors
+    /// The first of `UnknownGroup`, `AfterEnd` with the group, `UnknownItem` and `Memory` that is there. Nothing is then
+    /// taken or handled.
+    pub fn take_and_handle(
+        &mut self,
+        group: u16,
+        event: Event,
+    ) -> Result<Option<Handled<A>>, SeqError>
+    where
+        A: Clone,
+        requires good { IsEventButItem event }
+        requires room { length (list_of self.old.taken group) < MOST_RECORDS }
+        ensures can { OnOk result (CanTake self.old.taken group event) }
+        ensures waits { IfOk result (λ o. IfNone o ((¬ GoesAtOnce self.old group event) × (self.new ≡ taking self.old group event))) }
+        ensures goes { IfOk result (λ o. IfSome o (λ h. GoesAtOnce self.old group event × IsStep (taking self.old group event) self.new h)) }
+        ensures item { IfOk result (λ o. IfSome o (λ h. IsOfItem (record { group = group; item = event.item }) h)) }
+        ensures err { IfErr result (λ e. IsTakeFault self.old.taken group event e) }
+        ensures unchanged { OnErr result (self.new ≡ self.old) }
+        ensures sequence { IsSequence self.new }
+    {
+        match self.agenda.order().at_once(group, &event) {
+            None => {
+                self.take(group, event)?;
+                Ok(None)
+            }
+            Some(next) => {
+                let step = self.handle_at_once(group, event, next)?;
+                Ok(Some(step))
+            }
+        }
     }
 
     /// How many records were taken of a group; 0 of one that is not there.

@@ -27,7 +27,7 @@ invariant_of-self-in-Instance g c =
 pub invariant_of-self-in-Group : goal.invariant_of-self-in-Group
 invariant_of-self-in-Group g c =
     let size : c.items.result ≡ size_of c.take.new.self.taken c.args.group = c.items.ensures.size ∙ ap (λ (l : List ℕ). get_or l c.args.group 0) (c.shape.ensures.sizes ∙ ap (λ (s : Streams). s.sizes) c.lanes.ensures.taken) in (
-      took_wide c.self.inside.order c.self.inside.worklist c.put_items.new.worklist c.self.inside.waiting.items c.self.invariant.0 (λ r has. c.put_items.ensures.keeps r (c.put-in-Group.ensures.keeps r has)) c.args.group c.args.event
-          c.lanes-taken.ensures.sequence c.in_ok-take.ensures.ok.0 c.take.new.self c.in_ok-take.ensures.ok.1 (c.put_items.ensures.keeps _ c.put-in-Group.ensures.there) c.take.ensures.sequence.prefixes (λ i lt. c.put_items.ensures.there i (omega (arith, lt, size))),
+      took_wide c.self.inside.order c.self.inside.worklist c.put-in-Group.new.self c.self.inside.waiting.items c.self.invariant.0 (λ r has. c.put-in-Group.ensures.keeps r (c.put_items.ensures.keeps r has)) c.args.group c.args.event
+          c.lanes-taken.ensures.sequence c.in_ok-take.ensures.ok.0 c.take.new.self c.in_ok-take.ensures.ok.1 c.put-in-Group.ensures.there c.take.ensures.sequence.prefixes (λ i lt. c.put-in-Group.ensures.keeps _ (c.put_items.ensures.there i (omega (arith, lt, size)))),
       undiverged_wide c.self.inside.order c.take.new.self c.lanes-taken.ensures.sequence c.args.group c.args.event c.in_ok-take.ensures.ok.0 c.in_ok-take.ensures.ok.1 c.self.inside.undiverged.items c.self.invariant.1 c.forget_undiverged.new.undiverged.items c.forget_undiverged.ensures,
     )

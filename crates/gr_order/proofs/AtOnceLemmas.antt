@@ -1,0 +1,151 @@
+-- A record that is taken and whose event is handled at once: the two steps, one behind the other.
+use Rattle.std.proofs.Common.{◌≡◌, ◌≢◌, ◌⊎◌, ℕ, zero, suc, ◌+◌, ◌<◌, ◌≤◌, false, List, [], ◌∷◌, ◌++◌, length, Some, None, drop, slice_get, not, refl, sym, ap, ◌∙◌, subst, inl, inr, ⊎_elim, arith, append-nil}
+use Rattle.std.proofs.Math.ListN.{drop_of_length-le}
+use Rattle.std.proofs.lemmas.Bool.{cases_lt}
+use Rattle.std.proofs.lemmas.List.{length_push}
+use Rattle.std.proofs.lemmas.Option.{slice_get-get_or, slice_get_within}
+use Rattle.gr_model.specs.declared.event.Event.{Event}
+use Rattle.gr_model.specs.declared.event.EventId.{EventId}
+use Rattle.gr_model.specs.declared.event.ItemId.{ItemId}
+use Rattle.gr_model.specs.Events.{is_end}
+use Rattle.gr_model.specs.LawfulOrders.{IsLawful}
+use Rattle.gr_model.specs.Streams.{ArePrefixes, IsEvent, Streams, event_at, trace_of}
+use Rattle.gr_model.proofs.Cuts.{same_event}
+use Rattle.gr_steps.specs.Steps.{IsReady}
+use Rattle.gr_steps.proofs.Orders.{at_behind, split_last}
+use Rattle.gr_steps.proofs.StepGrowth.{lawful_grows}
+use Rattle.gr_clocks.specs.declared.clock.TheConstants.{LARGEST_COUNT}
+use Rattle.gr_clocks.specs.Counts.{Counts, IsTick, count_of}
+use Rattle.gr_lanes.specs.Takes.{CanTake, IsMereAccess, next_of, with_record}
+use Rattle.gr_lanes.proofs.Growth.{record_grows}
+use Rattle.gr_windows.specs.Windows.{Table, window_of}
+use Rattle.gr_windows.proofs.WindowLemmas.{first_waits}
+use Rattle.gr_order.specs.AtOnce.{GoesAtOnce}
+use Rattle.gr_order.specs.Sequences.{HandlesEvent, Sequence, taking}
+use Rattle.gr_order.specs.States.{IsOrderState}
+use Rattle.gr_order.specs.Waiting.{IsKept}
+use Rattle.gr_order.proofs.HeldLemmas.{ready_can_count, taken_first}
+use Rattle.gr_order.proofs.ReadyLemmas.{ready_plain}
+use Rattle.gr_order.proofs.StateLemmas.{after_handle, item_cases, tick_here, tick_there, took}
+use Rattle.gr_order.proofs.TakenLemmas.{one_if}
+use Rattle.gr_order.proofs.WaitLemmas.{adds_here, adds_none, trace_grows}
+
+-- the record is the event's, where it is taken
+pub there_at_once : (s : Streams) (g : ℕ) (x : Event) → ArePrefixes s → CanTake s g x → is_end x ≡ false → event_at (with_record s g x) (next_of s g x) ≡ Some x
+there_at_once s g x prefixes can on =
+    let own : ItemId = record { group = g; item = x.item } in
+    let longer : trace_of (with_record s g x) own ≡ trace_of s own ++ x ∷ [] = trace_grows s g x prefixes can own ∙ ap (λ l. trace_of s own ++ l) (adds_here g x on) in
+    ap (λ l. slice_get l (length (trace_of s own))) longer ∙ (ap (slice_get (trace_of s own ++ x ∷ [])) (omega arith) ∙ at_behind (trace_of s own) (x ∷ []) 0 x refl)
+
+-- and each other event of its item was there
+pub others_at_once : (s : Streams) (g : ℕ) (x : Event) → ArePrefixes s → CanTake s g x → is_end x ≡ false → (d : EventId) → d.at ≡ (next_of s g x).at → IsEvent (with_record s g x) d → IsEvent s d ⊎ (d ≡ next_of s g x)
+others_at_once s g x prefixes can on d own there =
+    let i : ItemId = record { group = g; item = x.item } in
+    let longer : trace_of (with_record s g x) i ≡ trace_of s i ++ x ∷ [] = trace_grows s g x prefixes can i ∙ ap (λ l. trace_of s i ++ l) (adds_here g x on) in
+    let at : slice_get (trace_of s i ++ x ∷ []) d.index ≡ Some there.0 = subst (λ l. slice_get l d.index ≡ Some there.0) longer (subst (λ j. slice_get (trace_of (with_record s g x) j) d.index ≡ Some there.0) own there.1) in
+    ⊎_elim
+    (λ was. inl (there.0, subst (λ j. slice_get (trace_of s j) d.index ≡ Some there.0) (sym own) was))
+    (λ (last : (k : ℕ) × (d.index ≡ length (trace_of s i) + k) × (slice_get (x ∷ []) k ≡ Some there.0)).
+    inr (same_event d (next_of s g x) own (let first = only last.0 last.2 in omega (arith, last.1, first))))
+    (split_last (trace_of s i) (x ∷ []) d.index there.0 at)
+  where
+    only : (k : ℕ) → {y : Event} → slice_get (x ∷ []) k ≡ Some y → k ≡ 0
+    only zero at = refl
+    only (suc k) at = cc
+
+module _ (q : Sequence) (frontier : Counts) (windows : Table) (held : ℕ) (kept : IsKept q frontier windows held) (g : ℕ) (x : Event) where
+  abbrev e : EventId
+  e = next_of q.taken g x
+
+  abbrev next : EventId
+  next = record { at = e.at; index = count_of frontier e.at }
+
+  -- an event that waits is another of its item
+  pub not_at_once : (y : Event) → slice_get (window_of windows e.at) 0 ≡ Some y → ¬ GoesAtOnce q g x
+  not_at_once y waits go =
+      let handled = go.first next refl (y, sym (first_waits q.taken frontier windows kept.waits next refl) ∙ waits) in
+      let below = (kept.state.first next).0 handled in
+      omega (arith, below)
+
+  module _ (none : slice_get (window_of windows e.at) 0 ≡ None) where
+    count_is : count_of frontier e.at ≡ length (trace_of q.taken e.at)
+    count_is =
+        let most : count_of frontier e.at ≤ length (trace_of q.taken e.at) = taken_first q frontier held kept.state e.at in
+        ⊎_elim
+        (λ (lt : count_of frontier e.at < length (trace_of q.taken e.at)).
+        let at = slice_get-get_or (trace_of q.taken e.at) (count_of frontier e.at) x lt in
+        absurd (let both : None ≡ Some _ = sym none ∙ (first_waits q.taken frontier windows kept.waits next refl ∙ at) in cc))
+        (λ (ge : length (trace_of q.taken e.at) ≤ count_of frontier e.at). omega (arith, most, ge))
+        (cases_lt (count_of frontier e.at) (length (trace_of q.taken e.at)))
+
+    -- nothing of the item waits
+    pub goes_at_once : CanTake q.taken g x → IsMereAccess x → GoesAtOnce q g x
+    goes_at_once can access = record {
+      can = can;
+      access = access;
+      first = λ d own there.
+          let within : d.index < length (trace_of q.taken d.at) = slice_get_within (trace_of q.taken d.at) d.index there.0 there.1 in
+          (kept.state.first d).1 (subst (λ i. d.index < count_of frontier i) (sym own) (omega (arith, within, ap (λ i. length (trace_of q.taken i)) own, count_is)));
+    }
+
+  pub next_is : slice_get (window_of windows e.at) 0 ≡ None → (index : ℕ) → index ≡ count_of frontier e.at → record { at = e.at; index = index } ≡ e
+  next_is none index same = same_event (record { at = e.at; index = index }) e refl (same ∙ count_is none)
+
+  -- ---- the two steps
+
+  module _ (go : GoesAtOnce q g x) where
+    abbrev more : Streams
+    more = with_record q.taken g x
+
+    none_waits : window_of windows e.at ≡ []
+    none_waits = elim (window_of windows e.at) as (λ l. window_of windows e.at ≡ l → l ≡ []) [
+      | [] ↦ λ is. refl
+      | y ∷ l ↦ λ is. absurd (not_at_once y (ap (λ w. slice_get w 0) is) go)
+    ] refl
+
+    pub count_at_once : count_of frontier e.at ≡ length (trace_of q.taken e.at)
+    count_at_once = count_is (ap (λ w. slice_get w 0) none_waits)
+
+    pub event_at_once : (index : ℕ) → index ≡ count_of frontier e.at → record { at = e.at; index = index } ≡ e
+    event_at_once index same = same_event (record { at = e.at; index = index }) e refl (same ∙ count_at_once)
+
+    longer : trace_of more e.at ≡ trace_of q.taken e.at ++ x ∷ []
+    longer = trace_grows q.taken g x kept.state.sequence.prefixes go.can e.at ∙ ap (λ l. trace_of q.taken e.at ++ l) (adds_here g x go.access.ends)
+
+    lawful : IsLawful more q.handled
+    lawful = lawful_grows q.taken more (record_grows q.taken g x kept.state.sequence.prefixes go.can) q.handled kept.state.sequence.lawful
+
+    -- the event is ready where the record was taken
+    pub ready_at_once : IsReady more q.handled e
+    ready_at_once = ready_plain more q.handled lawful frontier kept.state.first e (sym count_at_once) x (there_at_once q.taken g x kept.state.sequence.prefixes go.can go.access.ends) go.access.barrier go.access.names
+
+    module _ (prefixes : ArePrefixes more) where
+      -- the record was taken
+      taken_state : IsOrderState (record { taken = more; handled = q.handled }) frontier (held + 1)
+      taken_state = took q frontier held kept.state g x more prefixes go.can refl (held + 1) (ap (λ n. held + n) (sym (ap (λ b. one_if (not b)) go.access.ends)))
+
+      pub count_can_grow : count_of frontier e.at ≢ LARGEST_COUNT
+      count_can_grow = ready_can_count (record { taken = more; handled = q.handled }) frontier (held + 1) taken_state e ready_at_once
+
+      module _ (new : Counts) (tick : IsTick frontier e.at new) (items : List EventId) (is : items ≡ q.handled ++ e ∷ []) where
+        -- and handled
+        after : IsOrderState (record { taken = more; handled = items }) new held
+        after = after_handle (record { taken = more; handled = q.handled }) frontier (held + 1) taken_state e ready_at_once new items held tick is refl
+
+        still_waits : (i : ItemId) → window_of windows i ≡ drop (count_of new i) (trace_of more i)
+        still_waits i = ⊎_elim
+            (λ (same : i ≡ e.at). subst (λ j. window_of windows j ≡ drop (count_of new j) (trace_of more j)) (sym same)
+            (let counted : count_of new e.at ≡ count_of frontier e.at + 1 = tick.counts e.at ∙ ap (λ n. count_of frontier e.at + n) (tick_here e.at e.at refl) in
+            let size : length (trace_of more e.at) ≡ length (trace_of q.taken e.at) + 1 = ap length longer ∙ length_push (trace_of q.taken e.at) x in
+            none_waits ∙ sym (drop_of_length-le (trace_of more e.at) (omega (arith, counted, size, count_at_once)))))
+            (λ (apart : i ≡ e.at → ⊥).
+            let count : count_of frontier i ≡ count_of new i = sym (tick.counts i ∙ (ap (λ n. count_of frontier i + n) (tick_there e.at i (λ here. apart (sym here))) ∙ omega arith)) in
+            let trace : trace_of q.taken i ≡ trace_of more i = sym (trace_grows q.taken g x kept.state.sequence.prefixes go.can i ∙ (ap (λ l. trace_of q.taken i ++ l) (adds_none g x i apart) ∙ append-nil (trace_of q.taken i))) in
+            kept.waits.each i ∙ (ap (λ n. drop n (trace_of q.taken i)) count ∙ ap (drop (count_of new i)) trace))
+            (item_cases i e.at)
+
+        pub kept_at_once : (s : Streams) → s ≡ more → IsKept (record { taken = s; handled = items }) new windows held
+        kept_at_once s same = subst (λ (t : Streams). IsKept (record { taken = t; handled = items }) new windows held) (sym same) (record { state = after; waits = record { shape = kept.waits.shape; each = still_waits } })
+
+    pub steps_at_once : (items : List EventId) → items ≡ q.handled ++ e ∷ [] → (s : Streams) → s ≡ more → HandlesEvent (taking q g x) e (record { taken = s; handled = items })
+    steps_at_once items is s same = record { taken = same; handles = record { ready = ready_at_once; order = is } }

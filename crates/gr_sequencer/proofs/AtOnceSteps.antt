@@ -1,0 +1,73 @@
+-- What is known where an event that names nothing is handled as soon as its record is taken.
+use Rattle.std.proofs.Common.{◌≡◌, ◌≢◌, ℕ, ◌<◌, length, List, [], ◌∷◌, ◌++◌, false, true≢false, Some, ap, ◌∙◌, sym, subst}
+use Rattle.gr_model.specs.declared.event.Event.{Event}
+use Rattle.gr_model.specs.declared.event.EventId.{EventId}
+use Rattle.gr_model.specs.declared.event.Name.{Name}
+use Rattle.gr_model.specs.declared.event.Space.{Space}
+use Rattle.gr_model.specs.declared.limits.TheConstants.{MOST_RECORDS}
+use Rattle.gr_model.specs.Access.{is_release}
+use Rattle.gr_model.specs.Counts.{Sees}
+use Rattle.gr_model.specs.Streams.{Streams, event_at, list_of}
+use Rattle.gr_steps.specs.Steps.{IsReady}
+use Rattle.gr_steps.proofs.StepGrowth.{lawful_grows}
+use Rattle.gr_clocks.specs.declared.clock.TheConstants.{LARGEST_COUNT}
+use Rattle.gr_clocks.specs.Counts.{Counts, IsTick, count_of}
+use Rattle.gr_clocks.specs.ItemClocks.{ItemClocks, Ticks, clock_in}
+use Rattle.gr_closure.specs.Accesses.{CountsJust}
+use Rattle.gr_lanes.specs.Takes.{IsEventButItem, next_of, with_record}
+use Rattle.gr_lanes.proofs.Growth.{prefixes_grow, record_grows}
+use Rattle.gr_order.specs.AtOnce.{GoesAtOnce}
+use Rattle.gr_order.specs.Sequences.{IsSequence, Sequence}
+use Rattle.gr_order.proofs.AtOnceLemmas.{there_at_once}
+use Rattle.gr_sequencer.specs.Known.{CountWhatIsKnown, IsKnown, IsNextAtOnce, Known, KnowsOrLearns, snapshot_at}
+use Rattle.gr_sequencer.specs.Sources.{AreSources}
+use Rattle.gr_sequencer.proofs.EventSteps.{known_or_learned_alone, known_or_learned_room, known_or_learned_sees, learns_nothing_steps, snapshots_longer, steps_true}
+use Rattle.gr_sequencer.proofs.KnownGrowth.{known_grows}
+use Rattle.gr_sequencer.proofs.Teaching.{AreSourcesOf, sources_all, sources_none}
+
+module _ (q : Sequence) (g : ℕ) (x : Event) (known : Known) (e : EventId) (is : IsNextAtOnce q g x known e) where
+  abbrev more : Streams
+  more = with_record q.taken g x
+
+  no_sources : AreSources more e []
+  no_sources = sources_all more e x is.there [] (subst (λ (names : List Name). AreSourcesOf more e names []) (sym is.names) (sources_none more e))
+
+  -- its item's clock counts what it knows
+  own_counts : (m : Space) (c : Counts) → c ≡ clock_in known.clocks m e.at → CountsJust c (KnowsOrLearns more q.handled m e)
+  own_counts m c same = known_or_learned_alone more q.handled known e is.next m c no_sources same
+
+  -- and can grow
+  pub room_at_once : (m : Space) (c : Counts) → c ≡ clock_in known.clocks m e.at → count_of c e.at ≢ LARGEST_COUNT
+  room_at_once m c same = known_or_learned_room more q.handled known e is.next m c (own_counts m c same)
+
+  -- with one event more it counts what is seen
+  pub sees_at_once : (m : Space) (c n : Counts) → c ≡ clock_in known.clocks m e.at → IsTick c e.at n → CountsJust n (Sees more m e)
+  sees_at_once m c n same tick = known_or_learned_sees more q.handled known e is.next m c n (own_counts m c same) tick
+
+  -- the clocks where the item's have one event more
+  pub known_at_once : (new : ItemClocks) → Ticks known.clocks e.at new → CountWhatIsKnown more (q.handled ++ e ∷ []) new
+  known_at_once new ticks = steps_true more q.handled known e is.next new (learns_nothing_steps more q.handled known e is.next new no_sources ticks)
+
+-- a record that goes at once is such an event
+pub next_at_once : (q : Sequence) → IsSequence q → (g : ℕ) (x : Event) → GoesAtOnce q g x → IsEventButItem x → length (list_of q.taken g) < MOST_RECORDS → (known : Known) → IsKnown q.taken q.handled known
+    → (e : EventId) → e ≡ next_of q.taken g x → IsReady (with_record q.taken g x) q.handled e → IsNextAtOnce q g x known e
+next_at_once q is g x go good room known follows e same ready =
+    let grows = record_grows q.taken g x is.prefixes go.can in record {
+      next = record {
+        prefixes = prefixes_grow q.taken g x is.prefixes go.can good room;
+        lawful = lawful_grows q.taken (with_record q.taken g x) grows q.handled is.lawful;
+        follows = known_grows q.taken (with_record q.taken g x) q.handled grows is.lawful known follows;
+        ready = ready;
+      };
+      there = ap (event_at (with_record q.taken g x)) same ∙ there_at_once q.taken g x is.prefixes go.can go.access.ends;
+      names = go.access.names;
+    }
+
+-- what is known behind it: no snapshot is kept of it, as it is no release
+pub known_behind : (q : Sequence) (g : ℕ) (x : Event) (known : Known) (e : EventId) → IsNextAtOnce q g x known e → is_release x ≡ false → (now : Known) → now.snapshots ≡ known.snapshots
+    → CountWhatIsKnown (with_record q.taken g x) (q.handled ++ e ∷ []) now.clocks → IsKnown (with_record q.taken g x) (q.handled ++ e ∷ []) now
+known_behind q g x known e is plain now same clocks = record {
+  clocks = clocks;
+  snapshots = snapshots_longer (with_record q.taken g x) q.handled known e is.next now.snapshots (λ r other. ap (λ s. snapshot_at s r) same)
+      (λ y at releases. let own : y ≡ x = let both : Some y ≡ Some x = sym at ∙ is.there in cc in absurd (true≢false (sym releases ∙ (ap is_release own ∙ plain))));
+}
