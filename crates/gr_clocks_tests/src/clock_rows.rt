@@ -18,10 +18,9 @@ fn new_clock<A: Allocator + Copy>(alloc: A, shape: &Shape<A>) -> Option<Clock<A>
     requires { shape.now ≡ 2 ∷ [] }
     ensures { IfSome result (λ c. sizes_of c ≡ 2 ∷ []) }
 {
-    if let Ok(clock) = Clock::new(alloc, shape) {
-        return Some(clock);
-    }
-    Clock::new(alloc, shape).ok()
+    Clock::new(alloc, shape)
+        .or_else(|_| Clock::new(alloc, shape))
+        .ok()
 }
 
 /// The counts of both items.

@@ -13,24 +13,24 @@ pub(crate) fn item(item: u16) -> ItemId
     ItemId { group: 0, item }
 }
 
+/// The shape of one group of so many items; where a growth is refused it is asked for once more.
+fn one_group<A: Allocator + Copy>(alloc: A, items: u16) -> Option<Shape<A>>
+    ensures { IfSome result (λ s. s ≡ items ∷ []) }
+{
+    let sizes = vec![in alloc; items].or_else(|_| vec![in alloc; items]);
+    Shape::new(sizes.ok()?).ok()
+}
+
 /// The shape of one group of two items.
 pub(crate) fn two_items<A: Allocator + Copy>(alloc: A) -> Option<Shape<A>>
     ensures { IfSome result (λ s. s ≡ 2 ∷ []) }
 {
-    if let Ok(sizes) = vec![in alloc; 2_u16] {
-        return Shape::new(sizes).ok();
-    }
-    let sizes = vec![in alloc; 2_u16].ok()?;
-    Shape::new(sizes).ok()
+    one_group(alloc, 2)
 }
 
 /// The shape of one group of three items.
 pub(crate) fn three_items<A: Allocator + Copy>(alloc: A) -> Option<Shape<A>>
     ensures { IfSome result (λ s. s ≡ 3 ∷ []) }
 {
-    if let Ok(sizes) = vec![in alloc; 3_u16] {
-        return Shape::new(sizes).ok();
-    }
-    let sizes = vec![in alloc; 3_u16].ok()?;
-    Shape::new(sizes).ok()
+    one_group(alloc, 3)
 }

@@ -20,10 +20,9 @@ fn new_clocks<A: Allocator + Copy>(alloc: A, shape: &Shape<A>) -> Option<Clocks<
     requires { shape.now ≡ 3 ∷ [] }
     ensures { IfSome result (λ c. c.sizes ≡ 3 ∷ []) }
 {
-    if let Ok(clocks) = Clocks::new(alloc, shape) {
-        return Some(clocks);
-    }
-    Clocks::new(alloc, shape).ok()
+    Clocks::new(alloc, shape)
+        .or_else(|_| Clocks::new(alloc, shape))
+        .ok()
 }
 
 /// The counts of an item's clocks.
@@ -107,13 +106,13 @@ fn acquires_of_two_releases<A: Allocator + Copy>(alloc: A, word: Word) -> Option
     Some([of_one, of_both, known(&clocks, 2)])
 }
 
-const GLOBAL: [Counts; 3] = [
+static GLOBAL: [Counts; 3] = [
     [[1, 0, 1], [0, 0, 1]],
     [[1, 2, 2], [0, 0, 2]],
     [[1, 2, 3], [0, 0, 3]],
 ];
 
-const LOCAL: [Counts; 3] = [
+static LOCAL: [Counts; 3] = [
     [[0, 0, 1], [1, 0, 1]],
     [[0, 0, 2], [1, 2, 2]],
     [[0, 0, 3], [1, 2, 3]],

@@ -9,7 +9,7 @@ use std::test::Fail;
 /// A name, two classes each with its group, and whether they are exempt.
 type Exemption = (&'static str, Class, u16, Class, u16, bool);
 
-const EXEMPTIONS: [Exemption; 6] = [
+static EXEMPTIONS: [Exemption; 6] = [
     (
         "group atomics of one group",
         Class::GroupModify,
@@ -55,7 +55,7 @@ const EXEMPTIONS: [Exemption; 6] = [
 
 #[test]
 fn exemptions(rt: HostRuntime) {
-    for (name, first, first_group, second, second_group, want) in EXEMPTIONS {
+    for &(name, first, first_group, second, second_group, want) in &EXEMPTIONS {
         assert_eq!(rt;
             exempt(first, first_group, second, second_group),
             want,

@@ -28,7 +28,7 @@ struct Case {
     text: &'static str,
 }
 
-const CASES: [Case; 8] = [
+static CASES: [Case; 8] = [
     Case {
         name: "one item that does nothing",
         races: &[],
@@ -236,7 +236,7 @@ fn a_report_has_its_text(rt: HostRuntime) -> Result<(), Fail> {
     Ok(())
 }
 
-const FAULTS: [(Fault, &str); 25] = [
+static FAULTS: [(Fault, &str); 25] = [
     (
         Fault::Stream(0, RecordError::BadMagic),
         "stream 0: bad magic",

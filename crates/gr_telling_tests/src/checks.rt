@@ -89,6 +89,14 @@ fn checked_second<A: Allocator + Copy>(
     Ok(checked_bytes(alloc, heap, (a, &b), names, room))
 }
 
+/// A name, the files `a` and `b`, the names that are given, and what is to be written, or a part of it.
+type Case = (
+    &'static str,
+    (File, File),
+    &'static [&'static str],
+    &'static str,
+);
+
 /// The same, where both files are given by their texts.
 fn checked<A: Allocator + Copy>(
     alloc: A,
@@ -100,6 +108,12 @@ fn checked<A: Allocator + Copy>(
     let [a, b] = files;
     let a = bytes_of(heap, a)?;
     checked_second(alloc, heap, (&a, b), names, room)
+}
+
+/// What is answered and written to the files of a case.
+fn checked_case(heap: Global, case: &Case) -> Result<(Result<bool, Fault>, Vec<u8>), Memory> {
+    let (a, b) = case.1;
+    checked(heap, heap, [a, b], case.2, usize::MAX)
 }
 
 /// A text up to what is wrong, and from there on, if it is there.
@@ -128,28 +142,28 @@ const SECOND: &str = "group 1 items 1 launch 7\n0 r g 4\n0 w l 4\n0 r l 4\nend c
 
 const NONE: File = ("", Change::Whole);
 
-const LAUNCHES: [(&str, [File; 2], &[&str], &str); 4] = [
+static LAUNCHES: [Case; 4] = [
     (
         "one stream",
-        [(SHORT, Change::Whole), NONE],
+        ((SHORT, Change::Whole), NONE),
         &["a"],
         "groups 1\nitems 2\nrecords 3\nreads 1\nwrites 1\nloads 0\nstores 0\nrmws 0\nbarriers 0\nends 1\n",
     ),
     (
         "version 2",
-        [(LONG, Change::Whole), NONE],
+        ((LONG, Change::Whole), NONE),
         &["a"],
         "groups 1\nitems 2\nrecords 3\nreads 1\nwrites 1\nloads 0\nstores 0\nrmws 0\nbarriers 0\nends 1\n",
     ),
     (
         "each kind, in two groups",
-        [(KINDS, Change::Whole), (SECOND, Change::Whole)],
+        ((KINDS, Change::Whole), (SECOND, Change::Whole)),
         &["a", "b"],
         "groups 2\nitems 3\nrecords 12\nreads 3\nwrites 2\nloads 1\nstores 1\nrmws 1\nbarriers 2\nends 2\n",
     ),
     (
         "the greater group first",
-        [(KINDS, Change::Whole), (SECOND, Change::Whole)],
+        ((KINDS, Change::Whole), (SECOND, Change::Whole)),
         &["b", "a"],
         "groups 2\nitems 3\nrecords 12\nreads 3\nwrites 2\nloads 1\nstores 1\nrmws 1\nbarriers 2\nends 2\n",
     ),
@@ -159,8 +173,8 @@ const LAUNCHES: [(&str, [File; 2], &[&str], &str); 4] = [
 fn launches_are_counted(rt: HostRuntime) -> Result<(), Fail> {
     let alloc = rt.alloc();
     for case in &LAUNCHES {
-        let (name, files, names, wanted) = case;
-        let (answer, text) = checked(alloc, alloc, *files, names, usize::MAX)?;
+        let (answer, text) = checked_case(alloc, case)?;
+        let (name, _, _, wanted) = case;
         assert_eq!(rt; answer, Ok(true), "{name}");
         assert_eq!(rt; str::from_utf8(&text), Ok(*wanted), "{name}");
     }
@@ -168,7 +182,7 @@ fn launches_are_counted(rt: HostRuntime) -> Result<(), Fail> {
 }
 
 /// One file, and the text up to what is wrong.
-const PLACES: [(&str, File, &str); 21] = [
+static PLACES: [(&str, File, &str); 21] = [
     (
         "no magic",
         (SHORT, Change::Set(0, 0x48)),
@@ -296,53 +310,53 @@ const OTHER_LAUNCH: &str = "group 1 items 1 launch 8\nend\n";
 const THIRD: &str = "group 2 items 1 launch 7\nend\n";
 
 /// Files, their names, and the text up to what is wrong.
-const SEVERAL: [(&str, [File; 2], &[&str], &str); 9] = [
-    ("no file", [NONE, NONE], &[], "gpurace: shape: no groups\n"),
+static SEVERAL: [Case; 9] = [
+    ("no file", (NONE, NONE), &[], "gpurace: shape: no groups\n"),
     (
         "a file given twice",
-        [(SHORT, Change::Whole), NONE],
+        ((SHORT, Change::Whole), NONE),
         &["a", "a"],
         "gpurace: stream 1: group given twice\nfile a\nbeside a\n",
     ),
     (
         "two files of a group",
-        [(SHORT, Change::Whole), (KINDS, Change::Whole)],
+        ((SHORT, Change::Whole), (KINDS, Change::Whole)),
         &["b", "a"],
         "gpurace: stream 1: group given twice\nfile a\nbeside b\n",
     ),
     (
         "another launch",
-        [(SHORT, Change::Whole), (OTHER_LAUNCH, Change::Whole)],
+        ((SHORT, Change::Whole), (OTHER_LAUNCH, Change::Whole)),
         &["a", "b"],
         "gpurace: stream 1: other launch\nfile b\nbeside a\n",
     ),
     (
         "a missing group",
-        [(SHORT, Change::Whole), (THIRD, Change::Whole)],
+        ((SHORT, Change::Whole), (THIRD, Change::Whole)),
         &["a", "b"],
         "gpurace: group 1 missing\nbeside b\n",
     ),
     (
         "no group 0",
-        [(SECOND, Change::Whole), NONE],
+        ((SECOND, Change::Whole), NONE),
         &["a"],
         "gpurace: group 0 missing\nbeside a\n",
     ),
     (
         "the second file",
-        [(SHORT, Change::Whole), (SECOND, Change::Set(32, 9))],
+        ((SHORT, Change::Whole), (SECOND, Change::Set(32, 9))),
         &["a", "b"],
         "gpurace: stream 1: bad kind\nfile b\nrecord 1 byte 32\n",
     ),
     (
         "records of the first file before the header of the second",
-        [(SHORT, Change::Set(32, 9)), (SECOND, Change::Set(0, 0))],
+        ((SHORT, Change::Set(32, 9)), (SECOND, Change::Set(0, 0))),
         &["a", "b"],
         "gpurace: stream 0: bad kind\nfile a\nrecord 1 byte 32\n",
     ),
     (
         "the launch before the records",
-        [(SHORT, Change::Whole), (OTHER_LAUNCH, Change::Cut(13))],
+        ((SHORT, Change::Whole), (OTHER_LAUNCH, Change::Cut(13))),
         &["a", "b"],
         "gpurace: stream 1: other launch\nfile b\nbeside a\n",
     ),
@@ -352,8 +366,8 @@ const SEVERAL: [(&str, [File; 2], &[&str], &str); 9] = [
 fn faults_of_several_files_name_them(rt: HostRuntime) -> Result<(), Fail> {
     let alloc = rt.alloc();
     for case in &SEVERAL {
-        let (name, files, names, wanted) = case;
-        let (answer, text) = checked(alloc, alloc, *files, names, usize::MAX)?;
+        let (answer, text) = checked_case(alloc, case)?;
+        let (name, _, _, wanted) = case;
         assert_eq!(rt; answer, Ok(false), "{name}");
         assert_eq!(rt; str::from_utf8(split(&text).0), Ok(*wanted), "{name}");
     }
@@ -361,17 +375,17 @@ fn faults_of_several_files_name_them(rt: HostRuntime) -> Result<(), Fail> {
 }
 
 /// Files, their names, and the text from what is wrong on.
-const SENTENCES: [(&str, [File; 2], &[&str], &str); 18] = [
+static SENTENCES: [Case; 18] = [
     (
         "bad magic",
-        [(SHORT, Change::Set(3, 0x33)), NONE],
+        ((SHORT, Change::Set(3, 0x33)), NONE),
         &["a"],
         "wrong: it begins neither with GRT1 nor with GRT2\n\
          right: each file begins with the header of a stream; a trace as text is packed first, by gpurace pack\n",
     ),
     (
         "bad header",
-        [(SHORT, Change::Set(6, 0)), NONE],
+        ((SHORT, Change::Set(6, 0)), NONE),
         &["a"],
         "wrong: the header's group is above 63, or its number of work-items is 0 or above 256\n\
          right: a launch has at most 64 groups, from 0 on, each with 1 to 256 work-items; a larger one is recorded with \
@@ -379,7 +393,7 @@ const SENTENCES: [(&str, [File; 2], &[&str], &str); 18] = [
     ),
     (
         "bad kind",
-        [(SHORT, Change::Set(32, 7)), NONE],
+        ((SHORT, Change::Set(32, 7)), NONE),
         &["a"],
         "wrong: byte 0 of the record is above 6\n\
          right: kinds are 0 to 6; often the records before it have not the length that the header's version has, 20 bytes \
@@ -387,7 +401,7 @@ const SENTENCES: [(&str, [File; 2], &[&str], &str); 18] = [
     ),
     (
         "bad field 1",
-        [(SHORT, Change::Set(33, 2)), NONE],
+        ((SHORT, Change::Set(33, 2)), NONE),
         &["a"],
         "wrong: this byte of the record has a value that a record of its kind may not have there\n\
          right: byte 1 is the memory of an access, 0 or 1; the flags of a barrier, 0 to 3; of an end 1 where records were \
@@ -395,35 +409,35 @@ const SENTENCES: [(&str, [File; 2], &[&str], &str); 18] = [
     ),
     (
         "bad field 2",
-        [(SHORT, Change::Set(34, 1)), NONE],
+        ((SHORT, Change::Set(34, 1)), NONE),
         &["a"],
         "wrong: this byte of the record has a value that a record of its kind may not have there\n\
          right: byte 2 is the scope of an atomic access, 1 or 2, whatever its memory is, and else 0\n",
     ),
     (
         "bad field 3",
-        [(SHORT, Change::Set(35, 1)), NONE],
+        ((SHORT, Change::Set(35, 1)), NONE),
         &["a"],
         "wrong: this byte of the record has a value that a record of its kind may not have there\n\
          right: byte 3 is the order of an atomic access, 1 to 4, and else 0\n",
     ),
     (
         "bad field 6",
-        [(SHORT, Change::Set(38, 1)), NONE],
+        ((SHORT, Change::Set(38, 1)), NONE),
         &["a"],
         "wrong: this byte of the record has a value that a record of its kind may not have there\n\
          right: the bytes 6 and 7 are 0\n",
     ),
     (
         "bad field 5",
-        [(SHORT, Change::Set(57, 1)), NONE],
+        ((SHORT, Change::Set(57, 1)), NONE),
         &["a"],
         "wrong: this byte of the record has a value that a record of its kind may not have there\n\
          right: the bytes 4, 5 and 8 to 11 of an end are 0, since an end is of no work-item and has no word\n",
     ),
     (
         "bad order",
-        [(KINDS, Change::Set(55, 2)), NONE],
+        ((KINDS, Change::Set(55, 2)), NONE),
         &["a"],
         "wrong: a load releases, or a store acquires\n\
          right: a load has order 1 or 2 and a store 1 or 3; an operation of memory_order_seq_cst is written as acquire, \
@@ -431,7 +445,7 @@ const SENTENCES: [(&str, [File; 2], &[&str], &str); 18] = [
     ),
     (
         "bad name",
-        [(SHORT, Change::Set(44, 0)), NONE],
+        ((SHORT, Change::Set(44, 0)), NONE),
         &["a"],
         "wrong: a name is out of range, not above the one before it, behind a place that is not used, or in a record that \
          acquires nothing\n\
@@ -440,7 +454,7 @@ const SENTENCES: [(&str, [File; 2], &[&str], &str); 18] = [
     ),
     (
         "unknown item",
-        [(SHORT, Change::Set(36, 2)), NONE],
+        ((SHORT, Change::Set(36, 2)), NONE),
         &["a"],
         "wrong: the record's work-item is not below the header's number of work-items\n\
          right: bytes 4 and 5 are the work-item by its place in the group, from 0; often it is the global number that was \
@@ -448,7 +462,7 @@ const SENTENCES: [(&str, [File; 2], &[&str], &str); 18] = [
     ),
     (
         "truncated",
-        [(SHORT, Change::Cut(71)), NONE],
+        ((SHORT, Change::Cut(71)), NONE),
         &["a"],
         "wrong: the file is over before the header, this record or the end is whole\n\
          right: the last record is an end, whose byte 1 is 1 where records were lost; often the producer was stopped, or is \
@@ -456,7 +470,7 @@ const SENTENCES: [(&str, [File; 2], &[&str], &str); 18] = [
     ),
     (
         "after end",
-        [(SHORT, Change::Longer), NONE],
+        ((SHORT, Change::Longer), NONE),
         &["a"],
         "wrong: bytes follow the end of the stream\n\
          right: each file has one stream, and its end is its last record; several streams one after another are read by \
@@ -464,14 +478,14 @@ const SENTENCES: [(&str, [File; 2], &[&str], &str); 18] = [
     ),
     (
         "group given twice",
-        [(SHORT, Change::Whole), (LONG, Change::Whole)],
+        ((SHORT, Change::Whole), (LONG, Change::Whole)),
         &["a", "b"],
         "wrong: an earlier stream is of the same group\n\
          right: each group has one stream; often a file is given twice, or files of two launches are mixed\n",
     ),
     (
         "other launch",
-        [(SHORT, Change::Whole), (OTHER_LAUNCH, Change::Whole)],
+        ((SHORT, Change::Whole), (OTHER_LAUNCH, Change::Whole)),
         &["a", "b"],
         "wrong: the launch number is not that of the first stream\n\
          right: all streams of a launch have the same launch number; often a file of an earlier launch was left among the \
@@ -479,7 +493,7 @@ const SENTENCES: [(&str, [File; 2], &[&str], &str); 18] = [
     ),
     (
         "a missing group",
-        [(SHORT, Change::Whole), (THIRD, Change::Whole)],
+        ((SHORT, Change::Whole), (THIRD, Change::Whole)),
         &["a", "b"],
         "wrong: there is a stream of a greater group, and none of this one\n\
          right: the groups are 0, 1, 2 and so on without a gap, and each has a stream, also where it did nothing; often a \
@@ -487,13 +501,13 @@ const SENTENCES: [(&str, [File; 2], &[&str], &str); 18] = [
     ),
     (
         "no groups",
-        [NONE, NONE],
+        (NONE, NONE),
         &[],
         "wrong: there is no stream\nright: there is one stream at least; often the program before failed\n",
     ),
     (
         "an end of version 2 with a scope",
-        [(LONG, Change::Set(102, 2)), NONE],
+        ((LONG, Change::Set(102, 2)), NONE),
         &["a"],
         "wrong: this byte of the record has a value that a record of its kind may not have there\n\
          right: byte 2 is the scope of an atomic access, 1 or 2, whatever its memory is, and else 0\n",
@@ -504,8 +518,8 @@ const SENTENCES: [(&str, [File; 2], &[&str], &str); 18] = [
 fn faults_are_told_in_words(rt: HostRuntime) -> Result<(), Fail> {
     let alloc = rt.alloc();
     for case in &SENTENCES {
-        let (name, files, names, wanted) = case;
-        let (answer, text) = checked(alloc, alloc, *files, names, usize::MAX)?;
+        let (answer, text) = checked_case(alloc, case)?;
+        let (name, _, _, wanted) = case;
         assert_eq!(rt; answer, Ok(false), "{name}");
         assert_eq!(rt;
             split(&text).1.map(str::from_utf8),
@@ -521,12 +535,12 @@ const REFUSED: &str = "gpurace: stream 1: unknown item\nfile b\nrecord 2 byte 52
 wrong: the record's work-item is not below the header's number of work-items\n\
 right: bytes 4 and 5 are the work-item by its place in the group, from 0; often it is the global number that was written\n";
 
-const REFUSED_FILES: [File; 2] = [(SHORT, Change::Whole), (SECOND, Change::Set(56, 1))];
+static REFUSED_FILES: [File; 2] = [(SHORT, Change::Whole), (SECOND, Change::Set(56, 1))];
 
 const COUNTED: &str =
     "groups 2\nitems 3\nrecords 12\nreads 3\nwrites 2\nloads 1\nstores 1\nrmws 1\nbarriers 2\nends 2\n";
 
-const COUNTED_FILES: [File; 2] = [(KINDS, Change::Whole), (SECOND, Change::Whole)];
+static COUNTED_FILES: [File; 2] = [(KINDS, Change::Whole), (SECOND, Change::Whole)];
 
 #[test]
 fn the_text_of_a_refusal_is_whole(rt: HostRuntime) -> Result<(), Fail> {
@@ -537,7 +551,7 @@ fn the_text_of_a_refusal_is_whole(rt: HostRuntime) -> Result<(), Fail> {
     Ok(())
 }
 
-const UNREAD: [(&str, &[&str]); 4] = [
+static UNREAD: [(&str, &[&str]); 4] = [
     ("a file that is not there", &["a", "none"]),
     (
         "a file that is not there, behind one that fails",

@@ -42,7 +42,7 @@ const TWO_NAMES: &str =
     "group 0 items 3 launch 7 v2\n0 ld g 24 dev acq < 0 2 0\n0 st g 20 dev rel\n\
 1 ld g 20 dev acq < 0 0 0 < 0 0 1\nend\n";
 
-const CASES: [Case; 11] = [
+static CASES: [Case; 11] = [
     (
         "events that are judged, and none",
         &["group 0 items 1 launch 7\n0 w g 16\nend\n"],
@@ -226,7 +226,7 @@ fn first_wrong_growth(alloc: Global, inputs: &[Vec<u8>], asked: Asked) -> Option
 
 #[test]
 fn reasons_are_shown_or_memory_runs_out(rt: HostRuntime) -> Result<(), Fail> {
-    for (name, texts, all_asked) in CASES {
+    for &(name, texts, all_asked) in &CASES {
         let inputs = inputs_of(rt.alloc(), texts)?;
         for asked in all_asked {
             let (numbers, wanted, _) = *asked;

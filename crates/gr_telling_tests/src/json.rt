@@ -24,7 +24,7 @@ type Case = (
     &'static str,
 );
 
-const CASES: [Case; 5] = [
+static CASES: [Case; 5] = [
     (
         "a launch",
         false,
@@ -115,7 +115,7 @@ fn checked(
 #[test]
 fn files_are_checked(rt: HostRuntime) -> Result<(), Fail> {
     let alloc = rt.alloc();
-    for (name, is_bad, names, accepted, wanted) in CASES {
+    for &(name, is_bad, names, accepted, wanted) in &CASES {
         let (answer, text) = checked(alloc, is_bad, names)?;
         assert_eq!(rt; answer, Ok(accepted), "{name}");
         assert_eq!(rt; str::from_utf8(&text), Ok(wanted), "{name}");

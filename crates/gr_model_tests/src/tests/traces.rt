@@ -60,7 +60,7 @@ type Case = (
     Option<TracesError>,
 );
 
-const CASES: [Case; 8] = [
+static CASES: [Case; 8] = [
     ("two whole lists", &[&[Write, Read, End], &[End]], None),
     ("one list too few", &[&[End]], Some(TracesError::WrongCount)),
     (
@@ -91,36 +91,50 @@ const CASES: [Case; 8] = [
     ),
 ];
 
+/// The lists of these records.
+fn lists_of(alloc: Global, parts: &[&[Record]]) -> Result<Vec<Vec<Event>>, AllocError> {
+    let mut lists = Vec::new(alloc);
+    for part in parts {
+        lists.push(list_of(alloc, part)?)?;
+    }
+    Ok(lists)
+}
+
+/// What is answered to lists for two groups of two and of one item.
+fn traces_of(alloc: Global, parts: &[&[Record]]) -> Result<Result<Traces, TracesError>, Fail> {
+    let shape = Shape::new(vec![in alloc; 2, 1]?).ok().ok_or("shape")?;
+    Ok(Traces::new(shape, lists_of(alloc, parts)?))
+}
+
+/// Whether a case is answered as is due.
+fn is_answered(alloc: Global, case: &Case) -> Result<bool, Fail> {
+    let answer = traces_of(alloc, case.1)?;
+    Ok(answer.err() == case.2)
+}
+
 #[test]
 fn lists_are_traces_or_the_first_fault_is_told(rt: HostRuntime) -> Result<(), Fail> {
-    for (name, parts, refusal) in CASES {
-        let shape = Shape::new(vec![in rt.alloc(); 2, 1]?).ok().ok_or("shape")?;
-        let mut lists = Vec::new(rt.alloc());
-        for part in parts {
-            lists.push(list_of(rt.alloc(), part)?)?;
-        }
-        let answer = Traces::new(shape, lists);
-        assert_eq!(rt; answer.err(), refusal, "{name}");
+    for case in &CASES {
+        assert!(rt; is_answered(rt.alloc(), case)?, "{}", case.0);
     }
     Ok(())
 }
 
+/// Whether traces of two groups of two and of one item tell these lists.
+fn tell(traces: &Traces, first: &[Event], second: &[Event]) -> bool {
+    let shape = traces.shape();
+    if shape.groups() != 2 || shape.items(0) != 2 {
+        return false;
+    }
+    traces.list(0) == first && traces.list(1) == second
+}
+
 #[test]
 fn traces_tell_their_lists(rt: HostRuntime) -> Result<(), Fail> {
-    let alloc = rt.alloc();
-    let shape = Shape::new(vec![in alloc; 2, 1]?).ok().ok_or("shape")?;
-    let first = list_of(alloc, &[Write, Read, End])?;
-    let second = list_of(alloc, &[End])?;
-    let traces = Traces::new(shape, vec![in alloc; first, second]?)
-        .ok()
-        .ok_or("traces")?;
-    assert_eq!(rt; traces.shape().groups(), 2);
-    assert_eq!(rt; traces.shape().items(0), 2);
-    assert_eq!(rt;
-        traces.list(0),
-        [Write.event(), Read.event(), End.event()].as_slice()
-    );
-    assert_eq!(rt; traces.list(1), [End.event()].as_slice());
+    let first = [Write.event(), Read.event(), End.event()];
+    let second = [End.event()];
+    let traces = traces_of(rt.alloc(), &[&[Write, Read, End], &[End]])?;
+    assert!(rt; traces.is_ok_and(|traces| tell(&traces, &first, &second)));
     Ok(())
 }
 

@@ -13,10 +13,10 @@ use gr_record::part::Part;
 use std::test::Fail;
 
 /// `group 0 items 3 launch 7 v2`
-const LONG_HEADER: [u8; 12] = [0x47, 0x52, 0x54, 0x32, 0, 0, 3, 0, 7, 0, 0, 0];
+static LONG_HEADER: [u8; 12] = [0x47, 0x52, 0x54, 0x32, 0, 0, 3, 0, 7, 0, 0, 0];
 
 /// `2 ld g 20 dev acq < 0 0 0 < 0 1 0`
-const ACQUIRE: [u8; 44] = [
+static ACQUIRE: [u8; 44] = [
     2, 0, 2, 2, 2, 0, 0, 0, 20, 0, 0, 0, //
     0, 0, 0, 0, 0, 0, 0, 0, //
     0, 0, 1, 0, 0, 0, 0, 0, //
@@ -72,7 +72,7 @@ fn a_record_of_version_2_has_its_line(rt: HostRuntime) -> Result<(), Fail> {
     Ok(())
 }
 
-const REFUSED_LINES: [&str; 5] = [
+static REFUSED_LINES: [&str; 5] = [
     "2 ld g 20 dev acq < 0 1 0 < 0 0 0",
     "2 ld g 20 dev acq < 0 0 0 < 0 0 0",
     "2 ld g 20 dev acq < 0 0 0 < 0 0 1 < 0 0 2 < 0 0 3 < 0 0 4",
@@ -82,7 +82,7 @@ const REFUSED_LINES: [&str; 5] = [
 
 #[test]
 fn names_out_of_order_have_no_line(rt: HostRuntime) {
-    for line in REFUSED_LINES {
+    for &line in &REFUSED_LINES {
         assert!(rt; parse_line(line.as_bytes()).is_none(), "{line}");
     }
 }

@@ -7,7 +7,7 @@ use gr_record::part::Part;
 use std::test::Fail;
 
 /// `group 0 items 2 launch 7`, `0 w g 16`, `1 r g 16`, `end`
-const STREAM: [u8; 72] = [
+static STREAM: [u8; 72] = [
     0x47, 0x52, 0x54, 0x31, 0, 0, 2, 0, 7, 0, 0, 0, //
     1, 0, 0, 0, 0, 0, 0, 0, 16, 0, 0, 0, 255, 255, 255, 255, 255, 255, 255, 255, //
     0, 0, 0, 0, 1, 0, 0, 0, 16, 0, 0, 0, 255, 255, 255, 255, 255, 255, 255, 255, //
@@ -16,7 +16,7 @@ const STREAM: [u8; 72] = [
 
 /// `group 0 items 1 launch 7`, `0 w g 16`, `0 st g 20 dev rel`, `end`, and then
 /// `group 1 items 1 launch 7`, `0 ld g 20 dev acq < 0 0 0`, `0 r g 16`, `end`
-const TWO_STREAMS: [u8; 144] = [
+static TWO_STREAMS: [u8; 144] = [
     0x47, 0x52, 0x54, 0x31, 0, 0, 1, 0, 7, 0, 0, 0, //
     1, 0, 0, 0, 0, 0, 0, 0, 16, 0, 0, 0, 255, 255, 255, 255, 255, 255, 255, 255, //
     3, 0, 2, 3, 0, 0, 0, 0, 20, 0, 0, 0, 255, 255, 255, 255, 255, 255, 255, 255, //
@@ -56,7 +56,7 @@ fn single_bytes_give_what_the_whole_gives(rt: HostRuntime) -> Result<(), Fail> {
     assert!(rt; at_once.finish().is_ok());
     let mut parts = Vec::new(rt.alloc());
     let mut decoder = Decoder::new();
-    for byte in STREAM {
+    for &byte in &STREAM {
         assert!(rt; decoder.finish() == Err(RecordError::Truncated));
         decoder.feed(&[byte], &mut parts)?;
     }

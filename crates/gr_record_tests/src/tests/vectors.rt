@@ -13,10 +13,10 @@ use gr_record::part::Part;
 use std::test::Fail;
 
 /// `group 0 items 2 launch 7`
-pub(super) const HEADER: [u8; 12] = [0x47, 0x52, 0x54, 0x31, 0, 0, 2, 0, 7, 0, 0, 0];
+pub(super) static HEADER: [u8; 12] = [0x47, 0x52, 0x54, 0x31, 0, 0, 2, 0, 7, 0, 0, 0];
 
 /// `group 0 items 256 launch 7`
-pub(super) const LARGE_HEADER: [u8; 12] = [0x47, 0x52, 0x54, 0x31, 0, 0, 0, 1, 7, 0, 0, 0];
+pub(super) static LARGE_HEADER: [u8; 12] = [0x47, 0x52, 0x54, 0x31, 0, 0, 0, 1, 7, 0, 0, 0];
 
 /// A record as text, as the event that it says, and as bytes.
 pub(super) type Vector = (&'static str, Event, [u8; 20]);

@@ -42,7 +42,7 @@ fn upgrades<A: Allocator + Copy>(alloc: A, ample: Global, due: &[u8]) -> Result<
 
 #[test]
 fn each_refused_growth_of_packing_is_out_of_memory(rt: HostRuntime) -> Result<(), Fail> {
-    for pair in PAIRS {
+    for &pair in &PAIRS {
         for at in 0..1_000_u64 {
             let heap = Refusing::new(rt.alloc(), at);
             let answer = packs(&heap, rt.alloc(), pair);
@@ -62,7 +62,7 @@ fn each_refused_growth_of_packing_is_out_of_memory(rt: HostRuntime) -> Result<()
 
 #[test]
 fn each_refused_growth_of_dumping_is_out_of_memory(rt: HostRuntime) -> Result<(), Fail> {
-    for pair in PAIRS {
+    for &pair in &PAIRS {
         for at in 0..1_000_u64 {
             let heap = Refusing::new(rt.alloc(), at);
             let answer = dumps(&heap, rt.alloc(), pair);

@@ -127,7 +127,7 @@ fn bytes_of(records: u64, at_once: usize) -> Repeated {
 /// A row: its name, the number of records, how many bytes come and go at once, and whether the flush fails.
 type Row = (&'static str, u64, usize, bool);
 
-const ROWS: [Row; 3] = [
+static ROWS: [Row; 3] = [
     ("102,029 bytes and more, one at a time", 6_000, 1, false),
     ("68,000,029 bytes and more", 4_000_000, 65_536, false),
     ("a flush that fails", 1, 65_536, true),
@@ -144,7 +144,7 @@ fn due(flush_fails: bool) -> Result<(), Fault> {
 
 #[test]
 fn large_streams_are_packed_and_dumped(rt: HostRuntime) -> Result<(), Fail> {
-    for (name, records, at_once, flush_fails) in ROWS {
+    for &(name, records, at_once, flush_fails) in &ROWS {
         let mut writer = Comparing::of(bytes_of(records, at_once), flush_fails);
         let answer = pack(rt.alloc(), &mut text_of(records, at_once), &mut writer);
         assert_eq!(rt; answer, due(flush_fails), "packing {name}");

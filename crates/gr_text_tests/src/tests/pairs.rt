@@ -18,7 +18,7 @@ pub(super) const RACE: Pair = (
 /// A text and its bytes, under a name.
 pub(super) type Pair = (&'static str, &'static str, &'static [u8]);
 
-pub(super) const PAIRS: [Pair; 5] = [
+pub(super) static PAIRS: [Pair; 5] = [
     ("nothing", "", &[]),
     RACE,
     (
@@ -82,7 +82,7 @@ fn is_dumped(alloc: Global, bytes: &[u8], text: &str) -> bool {
 
 #[test]
 fn text_and_bytes_give_each_other(rt: HostRuntime) {
-    for (name, text, bytes) in PAIRS {
+    for &(name, text, bytes) in &PAIRS {
         assert!(rt; is_packed(rt.alloc(), text, bytes), "bytes of {name}");
         assert!(rt; is_dumped(rt.alloc(), bytes, text), "text of {name}");
     }

@@ -19,7 +19,7 @@ fn gives(alloc: Global, bytes: &[u8], answer: Result<(), Fault>, text: &[u8]) ->
 
 #[test]
 fn streams_without_a_fault_are_dumped_whole(rt: HostRuntime) {
-    for (name, text, bytes) in PAIRS {
+    for &(name, text, bytes) in &PAIRS {
         assert!(rt; gives(rt.alloc(), bytes, Ok(()), text.as_bytes()), "{name}");
     }
 }
@@ -33,7 +33,7 @@ fn joined(alloc: Global, first: &[u8], second: &[u8]) -> Result<Vec<u8>, AllocEr
 
 /// How many bytes there are of the stream of the first race, and how many of its text stand before the fault: none of it,
 /// its header, one record, two records.
-const CUTS: [(usize, usize); 8] = [
+static CUTS: [(usize, usize); 8] = [
     (1, 0),
     (11, 0),
     (12, 25),
@@ -49,7 +49,7 @@ fn a_stream_that_breaks_off_is_told_up_to_its_last_whole_record(
     rt: HostRuntime,
 ) -> Result<(), Fail> {
     let (_, text, bytes) = RACE;
-    for (length, told) in CUTS {
+    for &(length, told) in &CUTS {
         assert!(rt;
             gives(
                 rt.alloc(),
@@ -76,7 +76,7 @@ fn a_stream_that_breaks_off_is_told_up_to_its_last_whole_record(
 
 /// A place in the stream of the first race, the byte that stands there instead, the fault, and how many bytes of its text
 /// stand before it.
-const CHANGES: [(u8, u8, RecordError, usize); 8] = [
+static CHANGES: [(u8, u8, RecordError, usize); 8] = [
     (0, 0x48, RecordError::BadMagic, 0),
     (4, 64, RecordError::BadHeader, 0),
     (12, 7, RecordError::BadKind, 25),
@@ -100,7 +100,7 @@ fn changed_among(alloc: Global, at: u8, byte: u8) -> Result<Vec<u8>, AllocError>
 #[test]
 fn a_bad_record_is_told_up_to_and_no_further(rt: HostRuntime) -> Result<(), Fail> {
     let text = RACE.1.as_bytes();
-    for (at, byte, error, told) in CHANGES {
+    for &(at, byte, error, told) in &CHANGES {
         let three = changed_among(rt.alloc(), at, byte)?;
         let due = joined(rt.alloc(), text, &text[..told])?;
         assert!(rt;

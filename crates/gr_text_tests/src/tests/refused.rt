@@ -6,7 +6,7 @@ use gr_text::{dump, pack};
 use std::alloc::{AllocError, Global};
 use std::test::Fail;
 
-const TEXTS: [(&str, Fault); 19] = [
+static TEXTS: [(&str, Fault); 19] = [
     (
         "group 0 items 2 launch 7\n2 r g 16\nend\n",
         Fault::BadLine(2),
@@ -64,13 +64,13 @@ fn is_no_text(alloc: Global, text: &str, fault: Fault) -> bool {
 
 #[test]
 fn each_bad_text_is_refused_with_its_fault(rt: HostRuntime) {
-    for (text, fault) in TEXTS {
+    for &(text, fault) in &TEXTS {
         assert!(rt; is_no_text(rt.alloc(), text, fault), "{text}");
     }
 }
 
 /// The header `group 0 items 2 launch 7`, the write `0 w g 16`, an end and one byte more.
-const STREAM: [u8; 53] = [
+static STREAM: [u8; 53] = [
     0x47, 0x52, 0x54, 0x31, 0, 0, 2, 0, 7, 0, 0, 0, //
     1, 0, 0, 0, 0, 0, 0, 0, 16, 0, 0, 0, 255, 255, 255, 255, 255, 255, 255, 255, //
     6, 0, 0, 0, 0, 0, 0, 0, 0, 0, 0, 0, 255, 255, 255, 255, 255, 255, 255, 255, //
@@ -100,7 +100,7 @@ fn streams_that_break_off_are_truncated(rt: HostRuntime) -> Result<(), Fail> {
 }
 
 /// A place in the stream, the byte that stands there instead, and the fault of the stream.
-const CHANGES: [(usize, u8, RecordError); 7] = [
+static CHANGES: [(usize, u8, RecordError); 7] = [
     (0, 0x48, RecordError::BadMagic),
     (4, 64, RecordError::BadHeader),
     (6, 0, RecordError::BadHeader),
@@ -129,7 +129,7 @@ fn are_no_streams(alloc: Global, bytes: &[u8], fault: Fault) -> bool {
 
 #[test]
 fn each_bad_stream_is_refused_at_its_place(rt: HostRuntime) -> Result<(), Fail> {
-    for (at, byte, fault) in CHANGES {
+    for &(at, byte, fault) in &CHANGES {
         let two = stream_and_changed(rt.alloc(), at, byte)?;
         let fault = Fault::Stream(1, fault);
         assert!(rt; are_no_streams(rt.alloc(), &two, fault), "byte {at}");
