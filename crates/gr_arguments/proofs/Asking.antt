@@ -74,9 +74,11 @@ one_word rows a b h k =
 
 pub one_history : (rows : List Row) (a b : AskedHistory) → IsAskedHistory rows a → IsAskedHistory rows b → a ≡ b
 one_history rows a b h k =
+    let places : a.places ≡ b.places = sym h.places ∙ k.places in
+    let buffers : a.buffers ≡ b.buffers = sym h.buffers ∙ k.buffers in
     let word : a.word ≡ b.word = same_word rows a.word b.word h.named k.named in
     let files : a.files ≡ b.files = sym h.at_files ∙ k.at_files in
-    λ i. record { word = word i; files = files i }
+    λ i. record { places = places i; buffers = buffers i; word = word i; files = files i }
 
 -- ---- the command `check`
 

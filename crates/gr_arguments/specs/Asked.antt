@@ -85,13 +85,17 @@ pub record IsAskedRaces (rows : List Row) (a : AskedRaces) : Type 0 where
 
 -- ---- all accesses to one word
 
--- which word, and in which files the streams of the launch are
+-- with which side files, which word, and in which files the streams of the launch are
 pub record AskedHistory : Type 0 where
+  pub places : Option Text
+  pub buffers : Option Text
   pub word : Word
   pub files : List Text
 
 -- the values of the command `history` ask for this
 pub record IsAskedHistory (rows : List Row) (a : AskedHistory) : Type 0 where
+  pub places : first_of (codes "places") rows ≡ a.places
+  pub buffers : first_of (codes "buffers") rows ≡ a.buffers
   pub named : NamesWord rows a.word
   pub at_files : files_of rows ≡ a.files
 
@@ -196,7 +200,7 @@ abbrev pub races_of : Listing → AskedRaces
 races_of l = record { most = l.most; places = option_map (λ s. s.now) l.places; buffers = option_map (λ s. s.now) l.buffers; causes = l.causes; json = l.json; files = map (λ s. s.now) l.files.items }
 
 abbrev pub history_of : Recall → AskedHistory
-history_of r = record { word = r.word; files = map (λ s. s.now) r.files.items }
+history_of r = record { places = option_map (λ s. s.now) r.places; buffers = option_map (λ s. s.now) r.buffers; word = r.word; files = map (λ s. s.now) r.files.items }
 
 abbrev pub check_of : Inspection → AskedCheck
 check_of i = record { json = i.json; files = map (λ s. s.now) i.files.items }

@@ -58,9 +58,11 @@ racing =
     (with_rule (with_rule (with_rule (with_rule (with_rule (new_app (codes "races")) (option_rule (codes "most"))) (option_rule (codes "places"))) (option_rule (codes "buffers"))) (flag_rule (codes "causes"))) (flag_rule (codes "json")))
     wanted_files).top
 
--- the command that tells of all accesses to one word: the word, and the files
+-- the command that tells of all accesses to one word: the side files, the word, and the files
 abbrev pub recalling : Shape
-recalling = (with_rule (with_rule (with_rule (new_app (codes "history")) (wanted (codes "SPACE"))) (wanted (codes "WORD"))) wanted_files).top
+recalling =
+    (with_rule (with_rule (with_rule (with_rule (with_rule (new_app (codes "history")) (option_rule (codes "places"))) (option_rule (codes "buffers"))) (wanted (codes "SPACE"))) (wanted (codes "WORD")))
+    wanted_files).top
 
 -- the command that runs a launch in threads: how many workers and queues, the places of a queue, whether as JSON, and the files
 abbrev pub running : Shape

@@ -202,8 +202,18 @@ atomic with inclusive scope. Accesses that are held are left out.
 The accesses are told as GROUP ITEM INDEX; an item's records are counted from 0.";
 
 const AFTER_HISTORY: &str = "\
-Example:
-  gpurace history l0 4 group*.gpurace";
+Examples:
+  gpurace history l0 4 group*.gpurace
+  access 0 0 0 write record 0 phase 0 behind none
+  access 0 1 1 read record 3 phase 1 behind all
+  end accesses 2 held 0 races no
+
+With side files, whose lines say where accesses stand and which words are which buffer:
+  gpurace history --places places --buffers buffers l0 4 group*.gpurace
+  buffer tile[4]
+  access 0 0 0 write record 0 phase 0 behind none at scan.cl:12:5
+  access 0 1 1 read record 3 phase 1 behind all at scan.cl:14:9
+  end accesses 2 held 0 races no";
 
 const GROUP: &str = "The number of the event's work-group";
 
@@ -358,6 +368,8 @@ fn history_command<'a>(alloc: Global) -> Result<Command<'a>, AllocError>
         .about(HISTORY)
         .long_about(LONG_HISTORY)
         .after_help(AFTER_HISTORY)
+        .arg(option_arg(alloc, "places", "FILE", PLACES))?
+        .arg(option_arg(alloc, "buffers", "FILE", BUFFERS))?
         .arg(wanted_arg(alloc, "SPACE", SPACE))?
         .arg(wanted_arg(alloc, "WORD", WORD))?
         .arg(files_arg(alloc))

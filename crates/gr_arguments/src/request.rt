@@ -59,12 +59,17 @@ pub struct Listing<'a> {
     pub files: Vec<&'a str>,
 }
 
-/// A word of a launch, whose streams are in these files, one each, and all of whose accesses are to be told.
+/// A word of a launch, whose streams are in these files, one each, and all of whose accesses are to be told, with what side
+/// files say of them.
 #[derive(Drop)]
 pub struct Recall<'a> {
+    /// The name of the file of places.
+    pub places: Option<&'a str>,
+    /// The name of the file of buffers.
+    pub buffers: Option<&'a str>,
     /// The word.
     pub word: Word,
-    /// The names of the files.
+    /// The names of the files of the streams.
     pub files: Vec<&'a str>,
 }
 

@@ -130,8 +130,15 @@ pub(crate) fn recall_of<'a>(
     let Some(word) = word_of(values) else {
         return Ok(None);
     };
+    let places = values.get_str("places");
+    let buffers = values.get_str("buffers");
     let files = files_of(alloc, values)?;
-    Ok(Some(Recall { word, files }))
+    Ok(Some(Recall {
+        places,
+        buffers,
+        word,
+        files,
+    }))
 }
 
 /// What the values of the command `check` ask to inspect.

@@ -12,8 +12,8 @@ use Rattle.gr_arguments.specs.declared.request.Task.TheVariants.{Replay, Pack, D
 use Rattle.gr_model.specs.Reports.{WholeReport}
 use Rattle.gr_input.specs.Faults.{Fails, IsOutside}
 use Rattle.gr_input.proofs.Outside.{at_any}
-use Rattle.gr_races.specs.declared.fault.RacesFault.{RacesFault}
-use Rattle.gr_races.specs.declared.fault.RacesFault.TheVariants.{Run}
+use Rattle.gr_sides.specs.FaultText.{sides_fault_line}
+use Rattle.gr_sides.specs.declared.fault.SidesFault.TheVariants.{Run}
 use Rattle.gr_record.specs.declared.fault.Fault.{Fault}
 use Rattle.gr_record.specs.declared.fault.Fault.TheVariants.{Write, Memory}
 use Rattle.gr_replay.specs.Replays.{IsReplayFault}
@@ -25,8 +25,8 @@ use Rattle.gr_text.specs.Dumps.{dumped, upgraded}
 use Rattle.gr_text.specs.Partial.{text_before_fault}
 use Rattle.gr_text.specs.Writes.{Writes}
 use Rattle.gr_command.specs.Answers.{IsAnswerOf, IsDone, IsFaultTold, IsPartialDump, IsUsageTold, text_of}
-use Rattle.gr_command.specs.Statuses.{fault_status}
-use Rattle.gr_command.specs.Outcomes.{IsOutcome}
+use Rattle.gr_command.specs.Statuses.{fault_status, sides_fault_status}
+use Rattle.gr_command.specs.Outcomes.{IsOutcome, IsTold}
 use Rattle.gr_command.specs.declared.status.TheConstants.{NOTHING, USAGE, WANTING, FAILED}
 
 module _ {F : Type 0} (line_of : F → List ℕ) (status_of : F → ℕ) (writing : F) (old new old_errors new_errors : Option (List ℕ)) (status : ℕ) {X : Type 0} (Has : X → Type 0) (Ends : X → ℕ → Type 0) (IsWhy : F → Type 0) (Prefix : Type 0) where
@@ -86,15 +86,17 @@ module _ {T X : Type 0} (remaining : T → Option (List ℕ)) (Gives : List ℕ 
   no_memory_to_perform (Dump false) = inr (Memory, record { why = λ _. at_any input (λ bytes. Fails Memory (dumped bytes)) (λ bytes. tt); told = told; prefix = λ h. absurd cc })
   no_memory_to_perform Upgrade = inr (Memory, record { why = λ _. at_any input (λ bytes. Fails Memory (upgraded bytes)) (λ bytes. tt); told = told; prefix = λ h. absurd cc })
 
+  no_memory_with_sides : IsTold sides_fault_line sides_fault_status (Run Write) old new old_errors new_errors status (Run Memory)
+  no_memory_with_sides = record { line = told.line; ends = told.ends; untouched = λ h. told.untouched (λ e. cc) }
+
   no_memory_to_read : IsUsageTold old new status
   no_memory_to_read = (inr told.ends, told.untouched (λ e. cc))
 
   pub no_memory_to_do : (a : Asked) → IsDone remaining Gives input old new old_errors new_errors status a
   no_memory_to_do (perform t) = no_memory_to_perform t
   no_memory_to_do (explain (Some a)) = inr (Memory, record { why = inl (inl refl); told = told; prefix = λ h. absurd cc })
-  no_memory_to_do (races (Some a)) =
-      inr (Run Memory, record { why = inl (inl refl); told = record { line = told.line; ends = told.ends; untouched = λ h. told.untouched (λ e. cc) }; prefix = λ h. absurd (memory_is_no_writing h) })
-  no_memory_to_do (history (Some a)) = inr (Memory, record { why = inl (inl refl); told = told; prefix = λ h. absurd cc })
+  no_memory_to_do (races (Some a)) = inr (Run Memory, record { why = inl (inl refl); told = no_memory_with_sides; prefix = λ h. absurd (memory_is_no_writing h) })
+  no_memory_to_do (history (Some a)) = inr (Run Memory, record { why = inl (inl refl); told = no_memory_with_sides; prefix = λ h. absurd (memory_is_no_writing h) })
   no_memory_to_do (run (Some a)) = inr (Memory, record { why = inl (inl refl); told = told; prefix = λ h. absurd cc })
   no_memory_to_do (check a) = inr (Memory, record { why = inl (inl refl); told = told; prefix = λ h. absurd cc })
   no_memory_to_do (why_held (Some a)) = inr (Memory, record { why = inl (inl refl); told = told; prefix = λ h. absurd cc })

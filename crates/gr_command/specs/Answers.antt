@@ -20,12 +20,11 @@ use Rattle.gr_text.specs.Texts.{packed}
 use Rattle.gr_text.specs.Dumps.{dumped, upgraded}
 use Rattle.gr_text.specs.Partial.{text_before_fault}
 use Rattle.gr_text.specs.Writes.{Writes, WritesPrefix as WritesPrefixOf}
-use Rattle.gr_races.specs.declared.fault.RacesFault.{RacesFault}
-use Rattle.gr_races.specs.declared.fault.RacesFault.TheVariants.{Run}
-use Rattle.gr_races.specs.FaultText.{races_fault_line}
-use Rattle.gr_races.specs.Opening.{HoldsOfAllFiles, IsRacesFault, Pair}
+use Rattle.gr_sides.specs.declared.fault.SidesFault.TheVariants.{Run}
+use Rattle.gr_sides.specs.FaultText.{sides_fault_line}
+use Rattle.gr_sides.specs.Opening.{HoldsOfAllFiles, IsSidesFault, Pair}
 use Rattle.gr_races.specs.Shown.{HasRace, IsRacesText}
-use Rattle.gr_races.specs.Sides.{SidesSaid}
+use Rattle.gr_sides.specs.Sides.{SidesSaid}
 use Rattle.gr_races_json.specs.Shown.{IsRacesJson}
 use Rattle.gr_show.specs.Opening.{HoldsOfFiles, IsFileFault, IsOpeningFault}
 use Rattle.gr_show.specs.Shown.{IsLine, IsRacyIn, IsShown, ShowsPrefix}
@@ -38,7 +37,7 @@ use Rattle.gr_report.specs.Putting.{AppendsPrefix}
 use Rattle.gr_streams.specs.Streams.{IsExactOfEach, IsRunFault}
 use Rattle.gr_command.specs.declared.status.TheConstants.{NOTHING, USAGE, WANTING}
 use Rattle.gr_command.specs.Outcomes.{IsOutcome, IsTold}
-use Rattle.gr_command.specs.Statuses.{check_status, fault_status, race_status, races_fault_status, IsReportStatus}
+use Rattle.gr_command.specs.Statuses.{check_status, fault_status, race_status, sides_fault_status, IsReportStatus}
 
 -- ---- tasks over standard input
 
@@ -114,8 +113,8 @@ text_of false = report_text
 text_of true = report_json
 
 -- the names of the side files
-abbrev pub sides_of : AskedRaces → Pair (List ℕ)
-sides_of a = record { places = a.places; buffers = a.buffers }
+abbrev pub sides_of : Option (List ℕ) → Option (List ℕ) → Pair (List ℕ)
+sides_of places buffers = record { places = places; buffers = buffers }
 
 -- the report of a run in threads over the files of these names
 module _ {T X : Type 0} (remaining : T → Option (List ℕ)) (Gives : List ℕ → Result T X → Type 0) (names : List (List ℕ)) where
@@ -143,11 +142,11 @@ module _ {T X : Type 0} (remaining : T → Option (List ℕ)) (Gives : List ℕ 
 
   -- the text of the races is written whole, and it is said whether there is one
   abbrev pub IsListedOfFiles : AskedRaces → Bool → Type 0
-  IsListedOfFiles a found = HoldsOfAllFiles remaining Gives (sides_of a) a.files (λ known said. IsShown (IsRacesTextOf a.json said a.most a.causes) HasRace known found old new)
+  IsListedOfFiles a found = HoldsOfAllFiles remaining Gives (sides_of a.places a.buffers) a.files (λ known said. IsShown (IsRacesTextOf a.json said a.most a.causes) HasRace known found old new)
 
   -- a prefix of the text was written
   abbrev pub ListsPrefixOfFiles : AskedRaces → Type 0
-  ListsPrefixOfFiles a = HoldsOfAllFiles remaining Gives (sides_of a) a.files (λ known said. ShowsPrefix (IsRacesTextOf a.json said a.most a.causes) known old new)
+  ListsPrefixOfFiles a = HoldsOfAllFiles remaining Gives (sides_of a.places a.buffers) a.files (λ known said. ShowsPrefix (IsRacesTextOf a.json said a.most a.causes) known old new)
 
   -- the text of the check is written whole, and it is said whether the files are accepted
   abbrev pub IsCheckedOfFiles : AskedCheck → Bool → Type 0
@@ -159,11 +158,11 @@ module _ {T X : Type 0} (remaining : T → Option (List ℕ)) (Gives : List ℕ 
 
   -- the accesses to the word are written whole, and it is said whether it is racy
   abbrev pub IsRecalledOfFiles : AskedHistory → Bool → Type 0
-  IsRecalledOfFiles a found = HoldsOfFiles remaining Gives a.files (λ known. IsShown (IsHistoryText a.word) (IsRacyIn a.word) known found old new)
+  IsRecalledOfFiles a found = HoldsOfAllFiles remaining Gives (sides_of a.places a.buffers) a.files (λ known said. IsShown (IsHistoryText said a.word) (IsRacyIn a.word) known found old new)
 
   -- a prefix of them was written
   abbrev pub RecallsPrefixOfFiles : AskedHistory → Type 0
-  RecallsPrefixOfFiles a = HoldsOfFiles remaining Gives a.files (λ known. ShowsPrefix (IsHistoryText a.word) known old new)
+  RecallsPrefixOfFiles a = HoldsOfAllFiles remaining Gives (sides_of a.places a.buffers) a.files (λ known said. ShowsPrefix (IsHistoryText said a.word) known old new)
 
   -- why an event is held is written whole, and it is said whether it is
   abbrev pub IsToldOfFiles : AskedEvent → Bool → Type 0
@@ -183,8 +182,8 @@ module _ {T X : Type 0} (remaining : T → Option (List ℕ)) (Gives : List ℕ 
     -- the text of the races, and whether there is one; or why there is none
     abbrev pub IsRacesDisplay : AskedRaces → Type 0
     IsRacesDisplay a =
-        IsOutcome races_fault_line races_fault_status (Run Write) old new old_errors new_errors status
-        (IsListedOfFiles a) (λ found ended. ended ≡ race_status found) (IsRacesFault remaining Gives (sides_of a) a.files) (ListsPrefixOfFiles a)
+        IsOutcome sides_fault_line sides_fault_status (Run Write) old new old_errors new_errors status
+        (IsListedOfFiles a) (λ found ended. ended ≡ race_status found) (IsSidesFault remaining Gives (sides_of a.places a.buffers) a.files) (ListsPrefixOfFiles a)
 
     -- the text of a check, and whether the files are accepted; or why there is none
     abbrev pub IsCheckOutcome : AskedCheck → Type 0
@@ -195,8 +194,8 @@ module _ {T X : Type 0} (remaining : T → Option (List ℕ)) (Gives : List ℕ 
     -- all accesses to a word, and whether it is racy; or why there are none
     abbrev pub IsHistoryOutcome : AskedHistory → Type 0
     IsHistoryOutcome a =
-        IsOutcome fault_line fault_status Write old new old_errors new_errors status
-        (IsRecalledOfFiles a) (λ found ended. ended ≡ race_status found) (IsFileFault remaining Gives a.files) (RecallsPrefixOfFiles a)
+        IsOutcome sides_fault_line sides_fault_status (Run Write) old new old_errors new_errors status
+        (IsRecalledOfFiles a) (λ found ended. ended ≡ race_status found) (IsSidesFault remaining Gives (sides_of a.places a.buffers) a.files) (RecallsPrefixOfFiles a)
 
     -- why an event is held, and whether it is; or why nothing is told
     abbrev pub IsHeldOutcome : AskedEvent → Type 0

@@ -6,8 +6,8 @@ use Rattle.gr_record.specs.declared.error.RecordError.TheVariants.{Memory as NoM
 use Rattle.gr_record.specs.declared.fault.Fault.{Fault}
 use Rattle.gr_record.specs.declared.fault.Fault.TheVariants.{Stream, SameGroup, OtherLaunch, MissingGroup, Shape, BadLine, NoEnd, LongStream, Read, Write, Memory, Threads}
 use Rattle.gr_report.specs.Whole.{HasFinding}
-use Rattle.gr_races.specs.declared.fault.RacesFault.{RacesFault}
-use Rattle.gr_races.specs.declared.fault.RacesFault.TheVariants.{Buffers, Places, Run}
+use Rattle.gr_sides.specs.declared.fault.SidesFault.{SidesFault}
+use Rattle.gr_sides.specs.declared.fault.SidesFault.TheVariants.{Buffers, Places, Run}
 use Rattle.gr_command.specs.declared.status.TheConstants.{NOTHING, FOUND, REFUSED, WANTING, FAILED}
 
 -- a fault of the input is a refusal
@@ -27,10 +27,10 @@ fault_status Read = FAILED
 fault_status Write = FAILED
 
 -- and so is a side file that is out of form
-abbrev pub races_fault_status : RacesFault → ℕ
-races_fault_status (Run f) = fault_status f
-races_fault_status (Places line) = REFUSED
-races_fault_status (Buffers line) = REFUSED
+abbrev pub sides_fault_status : SidesFault → ℕ
+sides_fault_status (Run f) = fault_status f
+sides_fault_status (Places line) = REFUSED
+sides_fault_status (Buffers line) = REFUSED
 
 -- a report has the status of a finding where it has a race, a divergent barrier or an unmatched acquire
 abbrev pub IsReportStatus : WholeReport → ℕ → Type 0

@@ -7,27 +7,27 @@ ghost use Rattle.clap.specs.Words.{kind_of};
 ghost use Rattle.gr_report.specs.FaultText.{fault_line};
 ghost use Rattle.gr_report.specs.Putting.{AppendsPrefix};
 ghost use Rattle.gr_report.specs.Whole.{whole_of};
-ghost use Rattle.gr_races.specs.FaultText.{races_fault_line};
+ghost use Rattle.gr_sides.specs.FaultText.{sides_fault_line};
 ghost use Rattle.gr_arguments.specs.Asked.{Asked, AsksTo, asked_of, check_of, event_of, history_of, races_of, run_of, word_of};
 ghost use Rattle.gr_arguments.specs.Commands.{AreHelp, AreWrong, IsHelp, IsWrongUsage, faults};
 ghost use Rattle.gr_command.specs.Answers.{IsAnswerOf, IsCheckOutcome, IsDisplay, IsDone, IsFaultTold, IsHeldOutcome, IsHistoryOutcome, IsRacesDisplay, IsRunAnswer};
-ghost use Rattle.gr_command.specs.Statuses.{check_status, fault_status, race_status, races_fault_status, IsReportStatus};
+ghost use Rattle.gr_command.specs.Statuses.{check_status, fault_status, race_status, sides_fault_status, IsReportStatus};
 
 use crate::running::run_files;
 use crate::showing::{show_check, show_listing, show_word, tell_history, tell_why_held};
 use crate::status::{
-    FAILED, NOTHING, USAGE, WANTING, status_of, status_of_check, status_of_race,
-    status_of_races_fault, status_of_report,
+    FAILED, NOTHING, USAGE, WANTING, status_of, status_of_check, status_of_race, status_of_report,
+    status_of_sides_fault,
 };
 use clap::Error;
 use clap::error::ErrorKind;
 use gr_arguments::request::{Inquiry, Inspection, Listing, Plan, Question, Recall, Request, Task};
 use gr_arguments::request_of;
-use gr_races::fault::{RacesFault, write_races_fault};
 use gr_record::fault::Fault;
 use gr_replay::replay;
 use gr_report::report::Report;
 use gr_report::write_fault;
+use gr_sides::fault::{SidesFault, write_sides_fault};
 use gr_text::{dump, dump_partial, pack, upgrade};
 use std::alloc::Global;
 use std::convert::AsStr;
@@ -50,7 +50,7 @@ For more information, try '--help'.\n";
 const UNNAMED: &[u8] = b"\
 error: SPACE and WORD name no word of memory: SPACE is g, or l with a group from 0 to 63 as in l3, and WORD is a number \
 below 4294967296 in decimal digits\n\n\
-Usage: gpurace history <SPACE> <WORD> <FILE>...\n\n\
+Usage: gpurace history [OPTIONS] <SPACE> <WORD> <FILE>...\n\n\
 For more information, try '--help'.\n";
 
 const MISCONFIGURED: &[u8] = b"\
@@ -169,25 +169,26 @@ fn show<T: Read + Drop, O: Fn(&str) -> io::Result<T>, W: Write, E: Write>(
     conclude_showing(show_word(alloc, question, opener, writer), errors)
 }
 
-/// Tells of a fault of races on standard error, and gives its status. That standard error fails is passed over.
-fn fail_listing<E: Write>(fault: &RacesFault, errors: &mut E) -> u8
-    ensures status { result ≡ races_fault_status fault.now }
-    ensures told { AppendsPrefix (E.contents errors.old) (E.contents errors.new) (races_fault_line fault.now) }
+/// Tells of a fault of a launch with side files on standard error, and gives its status. That standard error fails is passed
+/// over.
+fn fail_with_sides<E: Write>(fault: &SidesFault, errors: &mut E) -> u8
+    ensures status { result ≡ sides_fault_status fault.now }
+    ensures told { AppendsPrefix (E.contents errors.old) (E.contents errors.new) (sides_fault_line fault.now) }
 {
-    let _ = write_races_fault(fault, errors);
-    status_of_races_fault(fault)
+    let _ = write_sides_fault(fault, errors);
+    status_of_sides_fault(fault)
 }
 
-/// Tells of races that were to be shown and could not, and gives the status of what came of it.
-fn conclude_listing<E: Write>(outcome: Result<bool, RacesFault>, errors: &mut E) -> u8
+/// Tells of what was to be shown with side files and could not, and gives the status of what came of it.
+fn conclude_with_sides<E: Write>(outcome: Result<bool, SidesFault>, errors: &mut E) -> u8
     ensures race { IfOk outcome (λ found. result ≡ race_status found) }
     ensures silent { OnOk outcome (Keeps (E.contents errors.old) (E.contents errors.new)) }
-    ensures fault { IfErr outcome (λ fault. result ≡ races_fault_status fault) }
-    ensures told { IfErr outcome (λ fault. AppendsPrefix (E.contents errors.old) (E.contents errors.new) (races_fault_line fault)) }
+    ensures fault { IfErr outcome (λ fault. result ≡ sides_fault_status fault) }
+    ensures told { IfErr outcome (λ fault. AppendsPrefix (E.contents errors.old) (E.contents errors.new) (sides_fault_line fault)) }
 {
     match outcome {
         Ok(found) => status_of_race(found),
-        Err(fault) => fail_listing(&fault, errors),
+        Err(fault) => fail_with_sides(&fault, errors),
     }
 }
 
@@ -202,7 +203,7 @@ fn list<T: Read + Drop, O: Fn(&str) -> io::Result<T>, W: Write, E: Write>(
     requires { O.IsAlwaysCallable opener }
     ensures { IsRacesDisplay T.remaining (FnReturnsAt O.Fn opener) (W.contents writer.old) (W.contents writer.new) (E.contents errors.old) (E.contents errors.new) result (races_of listing.now) }
 {
-    conclude_listing(show_listing(alloc, listing, opener, writer), errors)
+    conclude_with_sides(show_listing(alloc, listing, opener, writer), errors)
 }
 
 /// Tells of a check that failed, and gives the status of what came of it.
@@ -257,7 +258,7 @@ fn recall<T: Read + Drop, O: Fn(&str) -> io::Result<T>, W: Write, E: Write>(
     requires { O.IsAlwaysCallable opener }
     ensures { IsHistoryOutcome T.remaining (FnReturnsAt O.Fn opener) (W.contents writer.old) (W.contents writer.new) (E.contents errors.old) (E.contents errors.new) result (history_of recall.now) }
 {
-    conclude_showing(tell_history(alloc, recall, opener, writer), errors)
+    conclude_with_sides(tell_history(alloc, recall, opener, writer), errors)
 }
 
 /// Runs the launch whose streams are in files, and gives the exit status.

@@ -3,8 +3,8 @@
 ghost use Rattle.std.specs.Prelude.{◌≡◌, ◌≢◌, IfErr, IfOk, map};
 ghost use Rattle.std.specs.Fn.{FnReturnsAt};
 ghost use Rattle.std.specs.Io.KnownBytes.{Keeps};
-ghost use Rattle.gr_races.specs.Opening.{IsRacesFault};
-ghost use Rattle.gr_races.specs.declared.fault.RacesFault.TheVariants.{Run as ARun};
+ghost use Rattle.gr_sides.specs.Opening.{IsSidesFault};
+ghost use Rattle.gr_sides.specs.declared.fault.SidesFault.TheVariants.{Run as ARun};
 ghost use Rattle.gr_record.specs.declared.fault.Fault.TheVariants as faults;
 ghost use Rattle.gr_show.specs.Opening.{IsFileFault};
 ghost use Rattle.gr_check.specs.Checked.{IsCheckFileFault};
@@ -17,13 +17,14 @@ use gr_check_json::check_files_json;
 use gr_held::show_why_held;
 use gr_json::{show_account_json, show_race_json};
 use gr_long::show_account;
-use gr_races::fault::RacesFault;
-use gr_races::files::{SideNames, show_races_of_files};
+use gr_races::files::show_races_of_files;
 use gr_races_json::show_races_json_of_files;
 use gr_record::fault::Fault;
 use gr_show::files::open_all;
 use gr_show::show_race;
-use gr_timeline::show_history;
+use gr_sides::fault::SidesFault;
+use gr_sides::files::SideNames;
+use gr_timeline::files::show_history_of_files;
 use std::alloc::Global;
 use std::io::{self, Read, Write};
 
@@ -63,10 +64,10 @@ pub fn show_listing<T: Read + Drop, O: Fn(&str) -> io::Result<T>, W: Write>(
     listing: &Listing<'_>,
     opener: O,
     writer: &mut W,
-) -> Result<bool, RacesFault>
+) -> Result<bool, SidesFault>
     requires { O.IsAlwaysCallable opener }
     ensures shown { IfOk result (λ found. IsListedOfFiles T.remaining (FnReturnsAt O.Fn opener) (W.contents writer.old) (W.contents writer.new) (races_of listing.now) found) }
-    ensures fault { IfErr result (λ f. IsRacesFault T.remaining (FnReturnsAt O.Fn opener) (sides_of (races_of listing.now)) (map (λ s. s.now) listing.now.files.items) f) }
+    ensures fault { IfErr result (λ f. IsSidesFault T.remaining (FnReturnsAt O.Fn opener) (sides_of (races_of listing.now).places (races_of listing.now).buffers) (map (λ s. s.now) listing.now.files.items) f) }
     ensures untouched { IfErr result (λ f. f ≢ ARun faults.Write → Keeps (W.contents writer.old) (W.contents writer.new)) }
     ensures prefix { IfErr result (λ f. f ≡ ARun faults.Write → ListsPrefixOfFiles T.remaining (FnReturnsAt O.Fn opener) (W.contents writer.old) (W.contents writer.new) (races_of listing.now)) }
 {
@@ -129,23 +130,27 @@ pub fn tell_why_held<T: Read + Drop, O: Fn(&str) -> io::Result<T>, W: Write>(
     show_why_held(alloc, files, inquiry.event, writer)
 }
 
-/// Opens the files of a word whose history is asked for, reads the streams of a launch, one from each, writes all accesses
-/// to the word, and nothing else, and tells whether the word has a race.
+/// Writes all accesses to a word of a launch whose streams are in files, and nothing else, and tells whether the word has a
+/// race.
 ///
 /// # Errors
-/// Those of `open_all`, before anything is read; then those of `show_history`.
+/// Those of `show_history_of_files`.
 pub fn tell_history<T: Read + Drop, O: Fn(&str) -> io::Result<T>, W: Write>(
     alloc: Global,
     recall: &Recall<'_>,
     opener: O,
     writer: &mut W,
-) -> Result<bool, Fault>
+) -> Result<bool, SidesFault>
     requires { O.IsAlwaysCallable opener }
     ensures recalled { IfOk result (λ found. IsRecalledOfFiles T.remaining (FnReturnsAt O.Fn opener) (W.contents writer.old) (W.contents writer.new) (history_of recall.now) found) }
-    ensures fault { IfErr result (λ f. IsFileFault T.remaining (FnReturnsAt O.Fn opener) (map (λ s. s.now) recall.now.files.items) f) }
-    ensures untouched { IfErr result (λ f. f ≢ faults.Write → Keeps (W.contents writer.old) (W.contents writer.new)) }
-    ensures prefix { IfErr result (λ f. f ≡ faults.Write → RecallsPrefixOfFiles T.remaining (FnReturnsAt O.Fn opener) (W.contents writer.old) (W.contents writer.new) (history_of recall.now)) }
+    ensures fault { IfErr result (λ f. IsSidesFault T.remaining (FnReturnsAt O.Fn opener) (sides_of (history_of recall.now).places (history_of recall.now).buffers) (map (λ s. s.now) recall.now.files.items) f) }
+    ensures untouched { IfErr result (λ f. f ≢ ARun faults.Write → Keeps (W.contents writer.old) (W.contents writer.new)) }
+    ensures prefix { IfErr result (λ f. f ≡ ARun faults.Write → RecallsPrefixOfFiles T.remaining (FnReturnsAt O.Fn opener) (W.contents writer.old) (W.contents writer.new) (history_of recall.now)) }
 {
-    let files = open_all(alloc, recall.files.as_slice(), opener)?;
-    show_history(alloc, files, recall.word, writer)
+    let sides = SideNames {
+        places: recall.places,
+        buffers: recall.buffers,
+    };
+    let files = recall.files.as_slice();
+    show_history_of_files(alloc, &sides, files, opener, recall.word, writer)
 }

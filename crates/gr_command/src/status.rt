@@ -2,13 +2,13 @@
 
 ghost use Rattle.std.specs.Prelude.{◌≡◌};
 ghost use Rattle.gr_report.specs.Whole.{whole_of};
-ghost use Rattle.gr_command.specs.Statuses.{check_status, fault_status, race_status, races_fault_status, IsReportStatus};
+ghost use Rattle.gr_command.specs.Statuses.{check_status, fault_status, race_status, sides_fault_status, IsReportStatus};
 
-use gr_races::fault::RacesFault;
 use gr_record::error::RecordError;
 use gr_record::fault::Fault;
 use gr_report::found;
 use gr_report::report::Report;
+use gr_sides::fault::SidesFault;
 use std::alloc::Allocator;
 
 /// Nothing was found, or help was asked for.
@@ -48,13 +48,13 @@ pub fn status_of(fault: &Fault) -> u8
     }
 }
 
-/// The status of a run over races that failed.
-pub fn status_of_races_fault(fault: &RacesFault) -> u8
-    ensures { result ≡ races_fault_status fault.now }
+/// The status of a run with side files that failed.
+pub fn status_of_sides_fault(fault: &SidesFault) -> u8
+    ensures { result ≡ sides_fault_status fault.now }
 {
     match fault {
-        RacesFault::Run(fault) => status_of(fault),
-        RacesFault::Places(_) | RacesFault::Buffers(_) => REFUSED,
+        SidesFault::Run(fault) => status_of(fault),
+        SidesFault::Places(_) | SidesFault::Buffers(_) => REFUSED,
     }
 }
 

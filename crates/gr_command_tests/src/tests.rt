@@ -49,6 +49,7 @@ const BACK_LINE: &str = "race global 16: 0 0 3 with 0 1 1\n";
 const BACK_ACCOUNT: &str = "race global 16: 0 0 3 with 0 1 1\n\
 first write record 8 phase 0\n\
 second read record 3 phase 0\n\
+acquire before second 0 1 0 load dev acq record 2 phase 0\n\
 cause no-barrier: nothing orders the two; a barrier with CLK_GLOBAL_MEM_FENCE between them would\n";
 
 /// Words and input, and what each output begins with (or is, where it is empty), and the status.
@@ -469,8 +470,8 @@ const CASES_OF_DUMPS: [Case; 4] = [
     ),
 ];
 
-/// The same of words that ask for a run in threads, for races with side files, or for the long form of explain.
-const CASES_OF_FILES: [Case; 22] = [
+/// The same of words that ask for a run in threads, for races or a history with side files, or for the long form of explain.
+const CASES_OF_FILES: [Case; 27] = [
     (
         "all accesses to a word that is handed over",
         &["history", "g", "24", "back"],
@@ -487,6 +488,56 @@ const CASES_OF_FILES: [Case; 22] = [
         "",
         "gpurace: read fault\n",
         5,
+    ),
+    (
+        "all accesses to a word, with side files",
+        &[
+            "history",
+            "--places",
+            "places",
+            "g",
+            "24",
+            "back",
+            "--buffers=buffers",
+        ],
+        &[],
+        "buffer out[12]\n\
+         access 0 2 2 store dev rel record 6 phase 0 behind none at shift.cl:8\n\
+         access 0 0 2 load dev acq record 7 phase 0 behind all\nend accesses 2 held 0 races no\n",
+        "",
+        0,
+    ),
+    (
+        "all accesses to a word, with places alone, before a file that is out of form",
+        &["history", "--places", "buffers", "g", "16", "cut"],
+        &[],
+        "",
+        "gpurace: places: line 1: bad line\n",
+        2,
+    ),
+    (
+        "all accesses to a word, with buffers that are out of form",
+        &["history", "--buffers", "places", "g", "16", "cut"],
+        &[],
+        "",
+        "gpurace: buffers: line 1: bad line\n",
+        2,
+    ),
+    (
+        "all accesses to a word of a group out of range, with places that are not there",
+        &["history", "--places", "missing", "l64", "4", "race"],
+        &[],
+        "",
+        "error: SPACE and WORD name no word of memory: ",
+        3,
+    ),
+    (
+        "an option of history without a file",
+        &["history", "g", "16", "race", "--places"],
+        &[],
+        "",
+        "error: a value is required for '--places <FILE>' but none was supplied",
+        3,
     ),
     (
         "a racy word in the long form",
@@ -752,7 +803,8 @@ const ODD_RACE: &str =
     "{\"first\":{\"group\":0,\"index\":0,\"item\":0},\"second\":{\"group\":0,\"index\":0,\"item\":1},\
 \"type\":\"race\",\"word\":{\"number\":16,\"space\":\"global\"}}\n";
 
-const ODD_ACCOUNT: &str = "{\"cause\":\"no-barrier\",\
+const ODD_ACCOUNT: &str =
+    "{\"between\":{\"acquire\":null,\"barriers\":[],\"release\":null},\"cause\":\"no-barrier\",\
 \"first\":{\"access\":{\"kind\":\"write\"},\"group\":0,\"index\":0,\"item\":0,\"phase\":0,\"record\":0},\
 \"second\":{\"access\":{\"kind\":\"read\"},\"group\":0,\"index\":0,\"item\":1,\"phase\":0,\"record\":1},\
 \"type\":\"race\",\"word\":{\"number\":16,\"space\":\"global\"}}\n";
@@ -919,7 +971,7 @@ first shift.cl:4\n\
 second shift.cl:6\n\
 end kinds 1 races 1\n";
 
-const PLACES: &[u8] = b"0 0 0 shift.cl:4\n0 1 0 shift.cl:6\n";
+const PLACES: &[u8] = b"0 0 0 shift.cl:4\n0 1 0 shift.cl:6\n0 2 2 shift.cl:8\n";
 
 const BUFFERS: &[u8] = b"g 12 64 out\n";
 

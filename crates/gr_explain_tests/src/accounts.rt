@@ -1,4 +1,4 @@
-//! The long form of `explain`: what the two accesses are, and the cause of their race.
+//! The long form of `explain`: what the two accesses are, what stands between them, and the cause of their race.
 
 use crate::shown::inputs_of;
 use gr_long::show_account;
@@ -25,9 +25,16 @@ const WRONG_FLAG: &str =
 
 const WRONG_FLAG_LINES: &str = "race global 16: 0 0 0 with 0 1 1\n\
      first write record 0 phase 0\nsecond read record 3 phase 1\n\
+     barrier 0 site 1 l\n\
      cause flags: with CLK_LOCAL_MEM_FENCE | CLK_GLOBAL_MEM_FENCE at every barrier the two would be ordered\n";
 
-const CASES: [Case; 7] = [
+/// What group 0 hands to group 1 at work-group scope, group 1 first.
+const NARROW_HAND_OVER: [&str; 2] = [
+    "group 1 items 1 launch 7\n0 ld g 20 grp acq < 0 0 0\n0 r g 16\nend\n",
+    "group 0 items 1 launch 7\n0 w g 16\n0 st g 20 grp rel\nend\n",
+];
+
+const CASES: [Case; 10] = [
     (
         "a global word and a barrier that flags local memory",
         &[WRONG_FLAG],
@@ -37,14 +44,51 @@ const CASES: [Case; 7] = [
     ),
     (
         "the word of a hand-over at work-group scope, the other group first",
-        &[
-            "group 1 items 1 launch 7\n0 ld g 20 grp acq < 0 0 0\n0 r g 16\nend\n",
-            "group 0 items 1 launch 7\n0 w g 16\n0 st g 20 grp rel\nend\n",
-        ],
+        &NARROW_HAND_OVER,
         Word::Global(20),
         "race global 20: 0 0 1 with 1 0 0\n\
          first store grp rel record 1 phase 0\nsecond load grp acq record 0 phase 0\n\
          cause scope: with memory_scope_device at every atomic the two would be no race\n",
+        true,
+    ),
+    (
+        "what is handed over at work-group scope, with both halves between",
+        &NARROW_HAND_OVER,
+        Word::Global(16),
+        "race global 16: 0 0 0 with 1 0 1\n\
+         first write record 0 phase 0\nsecond read record 1 phase 0\n\
+         release behind first 0 0 1 store grp rel record 1 phase 0\n\
+         acquire before second 1 0 0 load grp acq record 0 phase 0\n\
+         cause scope: with memory_scope_device at every atomic the two would be no race\n",
+        true,
+    ),
+    (
+        "one barrier before both accesses, and two more before the first one",
+        &[
+            "group 0 items 2 launch 7\n0 bar 5 gl\n1 bar 5 gl\n1 w g 16\n1 bar 6 l\n0 bar 6 l\n\
+           1 bar 7 -\n0 bar 7 -\n0 r g 16\nend\n",
+        ],
+        Word::Global(16),
+        "race global 16: 0 0 3 with 0 1 1\n\
+         first read record 7 phase 3\nsecond write record 2 phase 1\n\
+         barrier 1 site 6 l\nbarrier 2 site 7 -\n\
+         cause flags: with CLK_LOCAL_MEM_FENCE | CLK_GLOBAL_MEM_FENCE at every barrier the two would be ordered\n",
+        true,
+    ),
+    (
+        "releases before and behind the first access, acquires before and behind the second, and a barrier",
+        &[
+            "group 0 items 2 launch 7\n0 st g 20 dev rel\n0 w g 16\n0 bar 9 l\n1 bar 9 l\n\
+           1 ld g 28 dev acq\n1 rmw g 28 dev both\n1 ld g 28 dev rlx\n1 r g 16\n1 ld g 28 dev acq\n\
+           0 st g 24 dev rlx\n0 rmw g 20 dev both\n0 st g 20 dev rel\nend\n",
+        ],
+        Word::Global(16),
+        "race global 16: 0 0 1 with 0 1 4\n\
+         first write record 1 phase 0\nsecond read record 7 phase 1\n\
+         barrier 0 site 9 l\n\
+         release behind first 0 0 4 rmw dev both record 10 phase 1\n\
+         acquire before second 0 1 2 rmw dev both record 5 phase 1\n\
+         cause flags: with CLK_LOCAL_MEM_FENCE | CLK_GLOBAL_MEM_FENCE at every barrier the two would be ordered\n",
         true,
     ),
     (
@@ -53,6 +97,7 @@ const CASES: [Case; 7] = [
         Word::Global(16),
         "race global 16: 0 0 0 with 0 1 1\n\
          first write record 2 phase 0\nsecond read record 1 phase 1\n\
+         barrier 0 site 1 g\n\
          cause divergent: between the two stands a barrier that not all work-items of the group meet alike\n",
         true,
     ),

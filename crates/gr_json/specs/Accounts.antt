@@ -1,81 +1,39 @@
--- The least racing pair of a word, what its accesses are, and the cause of their race, as JSON.
+-- The least racing pair of a word, what its accesses are, what stands between them, and the cause of their race, as JSON.
 -- Source: docs/FORMATS.md, "JSON".
 use Rattle.std.specs.Prelude.{ℕ, List, Option, None, Some, codes}
-use Rattle.serde_json.specs.Data.{Data, member, no_members, number, object, string, unsigned}
-use Rattle.gr_model.specs.declared.event.EventId.{EventId}
-use Rattle.gr_model.specs.declared.event.Kind.{Kind}
-use Rattle.gr_model.specs.declared.event.Kind.TheVariants as kinds
-use Rattle.gr_model.specs.declared.event.Order.{Order}
-use Rattle.gr_model.specs.declared.event.Order.TheVariants.{Relaxed, Acquire, Release, Both}
-use Rattle.gr_model.specs.declared.event.Scope.{Scope}
-use Rattle.gr_model.specs.declared.event.Scope.TheVariants.{Group, Device}
+use Rattle.serde_json.specs.Data.{Data, member, no_members, object, string}
 use Rattle.gr_model.specs.declared.event.Word.{Word}
 use Rattle.gr_causes.specs.declared.cause.Cause.{Cause}
-use Rattle.gr_causes.specs.declared.cause.Cause.TheVariants.{Flags, Scope as ScopeCause, Divergence, NoBarrier, NoHandOver}
-use Rattle.gr_long.specs.declared.account.Account.{Account}
-use Rattle.gr_long.specs.declared.details.Details.{Details}
+use Rattle.gr_causes.specs.declared.cause.Cause.TheVariants.{Flags, Scope, Divergence, NoBarrier, NoHandOver}
+use Rattle.gr_long.specs.Accounts.{AccountSaid}
+use Rattle.gr_json.specs.Between.{between_data}
+use Rattle.gr_json.specs.Details.{details_data}
 use Rattle.gr_json.specs.Lines.{json_line}
 use Rattle.gr_json.specs.Races.{answer_data}
 use Rattle.gr_json.specs.Words.{word_data}
 
-abbrev pub scope_name : Scope → List ℕ
-scope_name Group = codes "grp"
-scope_name Device = codes "dev"
-
-abbrev pub order_name : Order → List ℕ
-order_name Relaxed = codes "rlx"
-order_name Acquire = codes "acq"
-order_name Release = codes "rel"
-order_name Both = codes "both"
-
--- what a record says: an access without a scope and an order, or one with them
-abbrev pub plain_data : List ℕ → Data
-plain_data name = object (member (codes "kind") (string name) no_members)
-
-abbrev pub atomic_data : List ℕ → Scope → Order → Data
-atomic_data name scope order =
-    object (member (codes "kind") (string name) (member (codes "order") (string (order_name order)) (member (codes "scope") (string (scope_name scope)) no_members)))
-
-abbrev pub kind_data : Kind → Data
-kind_data kinds.Read = plain_data (codes "read")
-kind_data kinds.Write = plain_data (codes "write")
-kind_data (kinds.Load scope order) = atomic_data (codes "load") scope order
-kind_data (kinds.Store scope order) = atomic_data (codes "store") scope order
-kind_data (kinds.Rmw scope order) = atomic_data (codes "rmw") scope order
-kind_data (kinds.Barrier global local) = plain_data (codes "barrier")
-kind_data (kinds.End cut) = plain_data (codes "end")
-
--- an event, with what its record says, the record's number in its stream, and how many barriers of its item stand before it
-abbrev pub details_data : EventId → Details → Data
-details_data e d =
-    object
-    (member (codes "access") (kind_data d.kind)
-    (member (codes "group") (number (unsigned e.at.group))
-    (member (codes "index") (number (unsigned e.index))
-    (member (codes "item") (number (unsigned e.at.item))
-    (member (codes "phase") (number (unsigned d.phase)) (member (codes "record") (number (unsigned d.number)) no_members))))))
-
 abbrev pub cause_name : Cause → List ℕ
 cause_name Flags = codes "flags"
-cause_name ScopeCause = codes "scope"
+cause_name Scope = codes "scope"
 cause_name Divergence = codes "divergent"
 cause_name NoBarrier = codes "no-barrier"
 cause_name NoHandOver = codes "no-hand-over"
 
--- a racing pair of a word, what its accesses are, and the cause of their race
-abbrev pub race_data : Word → Account → Data
+-- a racing pair of a word, what its accesses are, what stands between them, and the cause of their race
+abbrev pub race_data : Word → AccountSaid → Data
 race_data w a =
     object
+    (member (codes "between") (between_data a.between)
     (member (codes "cause") (string (cause_name a.cause))
     (member (codes "first") (details_data a.first a.first_details)
     (member (codes "second") (details_data a.second a.second_details)
-    (member (codes "type") (string (codes "race")) (member (codes "word") (word_data w) no_members)))))
+    (member (codes "type") (string (codes "race")) (member (codes "word") (word_data w) no_members))))))
 
 -- the same, or a word that has no racing pair
-abbrev pub account_data : Word → Option Account → Data
+abbrev pub account_data : Word → Option AccountSaid → Data
 account_data w (Some a) = race_data w a
 account_data w None = answer_data w None
 
 -- the same as a line
-abbrev pub account_json : Word → Option Account → List ℕ
+abbrev pub account_json : Word → Option AccountSaid → List ℕ
 account_json w account = json_line (account_data w account)

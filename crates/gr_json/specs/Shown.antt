@@ -5,8 +5,7 @@ use Rattle.gr_model.specs.declared.event.Word.{Word}
 use Rattle.gr_model.specs.RacePairs.{Pair}
 use Rattle.gr_model.specs.Streams.{Streams}
 use Rattle.gr_show.specs.Shown.{IsExplanation}
-use Rattle.gr_long.specs.Accounts.{IsAccountOf}
-use Rattle.gr_long.specs.declared.account.Account.{Account}
+use Rattle.gr_long.specs.Accounts.{AccountSaid, IsAccountOf}
 use Rattle.gr_json.specs.Accounts.{account_json}
 use Rattle.gr_json.specs.Races.{explanation_json}
 
@@ -16,8 +15,8 @@ pub record IsJsonLine (w : Word) (s : Streams) (line : List ℕ) : Type 0 where
   pub least : IsExplanation s w pair
   pub is : line ≡ explanation_json w pair
 
--- the line of the same with what its accesses are and the cause of their race
+-- the line of the same with what its accesses are, what stands between them and the cause of their race
 pub record IsJsonAccount (w : Word) (s : Streams) (line : List ℕ) : Type 0 where
-  pub account : Option Account
+  pub account : Option AccountSaid
   pub exact : IsAccountOf s w account
   pub is : line ≡ account_json w account

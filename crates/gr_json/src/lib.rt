@@ -2,6 +2,8 @@
 #![tactic(auto)]
 
 pub mod account;
+mod between;
+mod details;
 pub mod lines;
 pub mod race;
 pub mod report;

@@ -74,9 +74,9 @@ pub fn show_race_json<T: Read + Drop, W: Write>(
     }
 }
 
-/// Reads the streams of a launch, one from each reader, writes the word and its least racing pair, what the two accesses are
-/// and the cause of their race, or that the word has no race, as a line of JSON and nothing else, and tells whether the word has
-/// a race.
+/// Reads the streams of a launch, one from each reader, writes the word and its least racing pair, what the two accesses are,
+/// what stands between them and the cause of their race, or that the word has no race, as a line of JSON and nothing else, and
+/// tells whether the word has a race.
 ///
 /// # Errors
 /// Those of `read_each`; `Write` where the writer fails, which then has a prefix of the line. In every other case of an
@@ -97,7 +97,7 @@ pub fn show_account_json<T: Read + Drop, W: Write>(
 {
     let traces = read_each(alloc, readers)?;
     let account = account_of(alloc, &traces, word)?;
-    let text = account_json(alloc, word, account)?;
+    let text = account_json(alloc, word, account.as_ref())?;
     match write_text(writer, &text) {
         Ok(()) => Ok(account.is_some()),
         Err(_) => Err(Fault::Write),

@@ -1,2 +1,3 @@
-pub mod DetailLemmas
 pub mod AccountLemmas
+pub mod BetweenLemmas
+pub mod DetailLemmas

@@ -1,6 +1,7 @@
 -- The text of the long form of explain.
 -- Source: docs/FORMATS.md, "The long form of explain".
-use Rattle.std.specs.Prelude.{ℕ, List, [], ◌++◌, Option, None, Some, decimal, codes}
+use Rattle.std.specs.Prelude.{ℕ, Bool, true, false, List, [], ◌++◌, Option, None, Some, decimal, codes}
+use Rattle.std.specs.List.{flat_map}
 use Rattle.gr_model.specs.declared.event.Kind.{Kind}
 use Rattle.gr_model.specs.declared.event.Kind.TheVariants as kinds
 use Rattle.gr_model.specs.declared.event.Order.{Order}
@@ -8,12 +9,14 @@ use Rattle.gr_model.specs.declared.event.Order.TheVariants.{Relaxed, Acquire, Re
 use Rattle.gr_model.specs.declared.event.Scope.{Scope}
 use Rattle.gr_model.specs.declared.event.Scope.TheVariants.{Group, Device}
 use Rattle.gr_model.specs.declared.event.Word.{Word}
-use Rattle.gr_model.specs.RacePairs.{Pair}
 use Rattle.gr_report.specs.Putting.{field}
-use Rattle.gr_show.specs.Explanations.{explanation_line}
+use Rattle.gr_show.specs.Explanations.{event_text, explanation_line}
 use Rattle.gr_causes.specs.CauseText.{cause_line}
-use Rattle.gr_long.specs.declared.account.Account.{Account}
+use Rattle.gr_long.specs.declared.between.Crossing.{Crossing}
+use Rattle.gr_long.specs.declared.between.Told.{Told}
 use Rattle.gr_long.specs.declared.details.Details.{Details}
+use Rattle.gr_long.specs.Accounts.{AccountSaid}
+use Rattle.gr_long.specs.Between.{BetweenSaid}
 
 abbrev pub scope_text : Scope → List ℕ
 scope_text Group = codes " grp"
@@ -46,19 +49,34 @@ told_text d = kind_text d.kind ++ field (codes " record ") (decimal d.number) ++
 abbrev pub details_line : List ℕ → Details → List ℕ
 details_line label d = label ++ told_text d ++ codes "\n"
 
-abbrev pub pair_of : Option Account → Option Pair
-pair_of None = None
-pair_of (Some a) = Some (a.first, a.second)
+-- the memories that a barrier's flags name
+abbrev pub flags_text : Bool → Bool → List ℕ
+flags_text false false = codes " -"
+flags_text true false = codes " g"
+flags_text false true = codes " l"
+flags_text true true = codes " gl"
 
--- what the two accesses are, and the cause
-abbrev pub race_lines : Word → Account → List ℕ
-race_lines w a = details_line (codes "first") a.first_details ++ details_line (codes "second") a.second_details ++ cause_line w a.cause
+-- a barrier instance, its site and its flags
+abbrev pub crossing_line : Crossing → List ℕ
+crossing_line x = field (codes "barrier ") (decimal x.instance) ++ field (codes " site ") (decimal x.site) ++ flags_text x.global x.local ++ codes "\n"
 
--- what stands below the line of a racing pair
-abbrev pub account_lines : Word → Option Account → List ℕ
-account_lines w None = []
-account_lines w (Some a) = race_lines w a
+-- half of a hand-over
+abbrev pub half_line : List ℕ → Told → List ℕ
+half_line label t = event_text label t.event ++ told_text t.details ++ codes "\n"
 
--- the line of explain, and what stands below it
-abbrev pub account_text : Word → Option Account → List ℕ
-account_text w account = explanation_line w (pair_of account) ++ account_lines w account
+abbrev pub half_lines : List ℕ → Option Told → List ℕ
+half_lines label None = []
+half_lines label (Some t) = half_line label t
+
+-- what stands between the two accesses
+abbrev pub between_lines : BetweenSaid → List ℕ
+between_lines b = flat_map crossing_line b.crossings ++ half_lines (codes "release behind first ") b.release ++ half_lines (codes "acquire before second ") b.acquire
+
+-- what the two accesses are, what stands between them, and the cause
+abbrev pub race_lines : Word → AccountSaid → List ℕ
+race_lines w a = details_line (codes "first") a.first_details ++ details_line (codes "second") a.second_details ++ between_lines a.between ++ cause_line w a.cause
+
+-- the line of explain, and what stands below that of a racing pair
+abbrev pub account_text : Word → Option AccountSaid → List ℕ
+account_text w None = explanation_line w None
+account_text w (Some a) = explanation_line w (Some (a.first, a.second)) ++ race_lines w a

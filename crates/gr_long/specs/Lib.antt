@@ -1,4 +1,5 @@
 pub mod Details
+pub mod Between
 pub mod Accounts
 pub mod AccountText
 pub mod Shown

@@ -3,12 +3,12 @@
 use Rattle.std.specs.Prelude.{◌≡◌, ℕ, List, Option}
 use Rattle.gr_model.specs.declared.event.Word.{Word}
 use Rattle.gr_model.specs.Streams.{Streams}
-use Rattle.gr_long.specs.declared.account.Account.{Account}
-use Rattle.gr_long.specs.Accounts.{IsAccountOf}
+use Rattle.gr_long.specs.Accounts.{AccountSaid, IsAccountOf}
 use Rattle.gr_long.specs.AccountText.{account_text}
 
--- the text of the word's least racing pair, of what its accesses are and of the cause; or that it has none
+-- the text of the word's least racing pair, of what its accesses are, of what stands between them and of the cause; or that
+-- it has none
 pub record IsAccountText (w : Word) (s : Streams) (text : List ℕ) : Type 0 where
-  pub account : Option Account
+  pub account : Option AccountSaid
   pub exact : IsAccountOf s w account
   pub is : text ≡ account_text w account

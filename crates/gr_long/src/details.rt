@@ -6,6 +6,7 @@ ghost use Rattle.gr_model.specs.Streams as model;
 ghost use Rattle.gr_long.specs.Details as spec;
 
 use gr_explain::records::Records;
+use gr_lanes::kinds::is_barrier;
 use gr_model::event::{Event, EventId, Kind};
 use gr_model::traces::Traces;
 use std::alloc::Allocator;
@@ -22,23 +23,10 @@ pub struct Details {
 }
 
 /// Whether a record is one of an item's trace.
-fn is_of(event: &Event, item: u16) -> bool
+pub(crate) fn is_of(event: &Event, item: u16) -> bool
     ensures { result ≡ model.is_of item event.now }
 {
     event.item == item && !event.kind.is_end()
-}
-
-/// Whether a record is a barrier.
-fn is_barrier(event: &Event) -> bool
-    ensures { result ≡ barriers.is_barrier event.now }
-{
-    matches!(
-        event.kind,
-        Kind::Barrier {
-            global: _,
-            local: _,
-        }
-    )
 }
 
 /// The number in a list of the record of this index in an item's trace, if there is one.
@@ -58,7 +46,7 @@ fn record_number(list: &[Event], item: u16, index: u32) -> Option<usize>
 }
 
 /// How many of the first records of an item in a list are barriers.
-fn barriers_before(list: &[Event], item: u16, index: u32) -> usize
+pub(crate) fn barriers_before(list: &[Event], item: u16, index: u32) -> usize
     ensures { result ≡ length (filter barriers.is_barrier (take index (filter (model.is_of item) list.now))) }
 {
     list.iter()
@@ -66,6 +54,26 @@ fn barriers_before(list: &[Event], item: u16, index: u32) -> usize
         .take(index as usize)
         .filter(|event| is_barrier(event))
         .count()
+}
+
+/// What is told of an event of a group, or `None` where its item has no event of this index.
+pub(crate) fn details_at<A: Allocator>(
+    traces: &Traces<A>,
+    records: &Records<A>,
+    event: EventId,
+) -> Option<Details>
+    requires same { records.now ≡ traces.now }
+    requires group { event.at.group < length traces.now.sizes }
+    ensures { result ≡ spec.details_of traces.now event }
+{
+    let list = traces.list(event.at.group);
+    let taken = records.event_at(event)?;
+    let number = record_number(list, event.at.item, event.index)?;
+    Some(Details {
+        kind: taken.kind,
+        number,
+        phase: barriers_before(list, event.at.item, event.index),
+    })
 }
 
 /// What is told of an event of a launch. It takes time that grows with the records of the event's group.
@@ -76,16 +84,8 @@ pub fn details_of<A: Allocator>(traces: &Traces<A>, records: &Records<A>, event:
 {
     let within = event.at.group < traces.shape().groups();
     prove!(within);
-    let list = traces.list(event.at.group);
-    match records.event_at(event) {
+    match details_at(traces, records, event) {
         None => unreachable!(),
-        Some(taken) => match record_number(list, event.at.item, event.index) {
-            None => unreachable!(),
-            Some(number) => Details {
-                kind: taken.kind,
-                number,
-                phase: barriers_before(list, event.at.item, event.index),
-            },
-        },
+        Some(details) => details,
     }
 }

@@ -15,8 +15,8 @@ use gr_replay::read_each;
 use std::alloc::Allocator;
 use std::io::{Read, Write};
 
-/// Reads the streams of a launch, one from each reader, writes the line of the word, what the two accesses are and the
-/// cause of their race, and nothing else, and tells whether the word has a race.
+/// Reads the streams of a launch, one from each reader, writes the line of the word, what the two accesses are, what
+/// stands between them and the cause of their race, and nothing else, and tells whether the word has a race.
 ///
 /// # Errors
 /// Those of `read_each`; `Write` where the writer fails, which then has a prefix of the text. In every other case of an
@@ -37,7 +37,7 @@ pub fn show_account<A: Allocator + Copy, T: Read + Drop, W: Write>(
 {
     let traces = read_each(alloc, readers)?;
     let account = account_of(alloc, &traces, word)?;
-    match write_account(writer, word, account) {
+    match write_account(writer, word, account.as_ref()) {
         Ok(()) => Ok(account.is_some()),
         Err(_) => Err(Fault::Write),
     }

@@ -1,16 +1,23 @@
 //! The text of the long form of `explain`.
 
-ghost use Rattle.std.specs.Prelude.{◌≡◌, OnErr, OnOk};
+ghost use Rattle.std.specs.Prelude.{◌≡◌, OnErr, OnOk, option_map};
 ghost use Rattle.std.specs.Io.KnownBytes.{Appends};
+ghost use Rattle.std.specs.List.{flat_map};
+ghost use Rattle.std.specs.Option.{option_copied};
 ghost use Rattle.gr_report.specs.Putting.{AppendsPrefix, Puts};
+ghost use Rattle.gr_show.specs.Explanations.{event_text};
 ghost use Rattle.gr_long.specs.AccountText as spec;
+ghost use Rattle.gr_long.specs.Accounts.{account_said};
+ghost use Rattle.gr_long.specs.Between.{between_said};
 
 use crate::account::Account;
+use crate::between::{Between, Crossing, Told};
 use crate::details::Details;
 use gr_causes::text::cause_line;
 use gr_model::event::{EventId, Kind, Order, Scope, Word};
 use gr_report::putting::{WriteFault, finish, put, put_field};
 use gr_show::explanation::put_explanation;
+use std::alloc::Allocator;
 use std::io::Write;
 
 fn scope_text(scope: Scope) -> &'static [u8]
@@ -83,60 +90,116 @@ fn put_details<W: Write>(writer: &mut W, label: &[u8], details: &Details) -> Res
     put(writer, b"\n")
 }
 
-fn put_race<W: Write>(writer: &mut W, word: Word, account: &Account) -> Result<(), WriteFault>
-    ensures { Puts (W.contents writer.old) (W.contents writer.new) result (spec.race_lines word account.now) }
+fn flags_text(global: bool, local: bool) -> &'static [u8]
+    ensures { result.now ≡ spec.flags_text global local }
+{
+    match (global, local) {
+        (false, false) => b" -",
+        (true, false) => b" g",
+        (false, true) => b" l",
+        (true, true) => b" gl",
+    }
+}
+
+fn put_crossing<W: Write>(writer: &mut W, crossing: &Crossing) -> Result<(), WriteFault>
+    ensures { Puts (W.contents writer.old) (W.contents writer.new) result (spec.crossing_line crossing.now) }
+{
+    put_field(writer, b"barrier ", crossing.instance)?;
+    put_field(writer, b" site ", crossing.site)?;
+    put(writer, flags_text(crossing.global, crossing.local))?;
+    put(writer, b"\n")
+}
+
+fn put_crossings<W: Write>(writer: &mut W, crossings: &[Crossing]) -> Result<(), WriteFault>
+    ensures { Puts (W.contents writer.old) (W.contents writer.new) result (flat_map spec.crossing_line crossings.now) }
+{
+    for crossing in crossings {
+        put_crossing(writer, crossing)?;
+    }
+    Ok(())
+}
+
+fn put_event<W: Write>(writer: &mut W, before: &[u8], event: EventId) -> Result<(), WriteFault>
+    ensures { Puts (W.contents writer.old) (W.contents writer.new) result (event_text before.now event) }
+{
+    put_field(writer, before, event.at.group)?;
+    put_field(writer, b" ", event.at.item)?;
+    put_field(writer, b" ", event.index)
+}
+
+fn put_half<W: Write>(writer: &mut W, label: &[u8], half: &Told) -> Result<(), WriteFault>
+    ensures { Puts (W.contents writer.old) (W.contents writer.new) result (spec.half_line label.now half.now) }
+{
+    put_event(writer, label, half.event)?;
+    put_told(writer, &half.details)?;
+    put(writer, b"\n")
+}
+
+fn put_half_if_any<W: Write>(
+    writer: &mut W,
+    label: &[u8],
+    half: Option<Told>,
+) -> Result<(), WriteFault>
+    ensures { Puts (W.contents writer.old) (W.contents writer.new) result (spec.half_lines label.now half) }
+{
+    match half {
+        None => Ok(()),
+        Some(half) => put_half(writer, label, &half),
+    }
+}
+
+fn put_between<A: Allocator, W: Write>(
+    writer: &mut W,
+    between: &Between<A>,
+) -> Result<(), WriteFault>
+    ensures { Puts (W.contents writer.old) (W.contents writer.new) result (spec.between_lines (between_said between.now)) }
+{
+    put_crossings(writer, between.crossings.as_slice())?;
+    put_half_if_any(writer, b"release behind first ", between.release)?;
+    put_half_if_any(writer, b"acquire before second ", between.acquire)
+}
+
+fn put_race<A: Allocator, W: Write>(
+    writer: &mut W,
+    word: Word,
+    account: &Account<A>,
+) -> Result<(), WriteFault>
+    ensures { Puts (W.contents writer.old) (W.contents writer.new) result (spec.race_lines word (account_said account.now)) }
 {
     put_details(writer, b"first", &account.first_details)?;
     put_details(writer, b"second", &account.second_details)?;
+    put_between(writer, &account.between)?;
     put(writer, cause_line(word, account.cause))
 }
 
-fn put_lines<W: Write>(
+fn put_account<A: Allocator, W: Write>(
     writer: &mut W,
     word: Word,
-    account: Option<Account>,
+    account: Option<&Account<A>>,
 ) -> Result<(), WriteFault>
-    ensures { Puts (W.contents writer.old) (W.contents writer.new) result (spec.account_lines word account) }
+    ensures { Puts (W.contents writer.old) (W.contents writer.new) result (spec.account_text word (option_map account_said (option_copied account.entry))) }
 {
     match account {
-        None => Ok(()),
-        Some(account) => put_race(writer, word, &account),
+        None => put_explanation(writer, word, None),
+        Some(account) => {
+            put_explanation(writer, word, Some((account.first, account.second)))?;
+            put_race(writer, word, account)
+        }
     }
-}
-
-/// The racing pair of an account.
-fn pair_of(account: Option<Account>) -> Option<(EventId, EventId)>
-    ensures { result ≡ spec.pair_of account }
-{
-    match account {
-        None => None,
-        Some(account) => Some((account.first, account.second)),
-    }
-}
-
-fn put_account<W: Write>(
-    writer: &mut W,
-    word: Word,
-    account: Option<Account>,
-) -> Result<(), WriteFault>
-    ensures { Puts (W.contents writer.old) (W.contents writer.new) result (spec.account_text word account) }
-{
-    put_explanation(writer, word, pair_of(account))?;
-    put_lines(writer, word, account)
 }
 
 /// Writes the line of a word and its least racing pair, or of a word that has none, and below it what the two accesses
-/// are and the cause of their race, and flushes. It takes no memory.
+/// are, what stands between them and the cause of their race, and flushes. It takes no memory.
 ///
 /// # Errors
 /// `WriteFault` where the writer fails; what it took is then a prefix of the text.
-pub fn write_account<W: Write>(
+pub fn write_account<A: Allocator, W: Write>(
     writer: &mut W,
     word: Word,
-    account: Option<Account>,
+    account: Option<&Account<A>>,
 ) -> Result<(), WriteFault>
-    ensures whole { OnOk result (Appends (W.contents writer.old) (W.contents writer.new) (spec.account_text word account)) }
-    ensures prefix { OnErr result (AppendsPrefix (W.contents writer.old) (W.contents writer.new) (spec.account_text word account)) }
+    ensures whole { OnOk result (Appends (W.contents writer.old) (W.contents writer.new) (spec.account_text word (option_map account_said (option_copied account.entry)))) }
+    ensures prefix { OnErr result (AppendsPrefix (W.contents writer.old) (W.contents writer.new) (spec.account_text word (option_map account_said (option_copied account.entry)))) }
 {
     put_account(writer, word, account)?;
     finish(writer)

@@ -1,4 +1,3 @@
-pub mod FileLemmas
 pub mod KindLemmas
 pub mod ListingLemmas
 pub mod RunLemmas

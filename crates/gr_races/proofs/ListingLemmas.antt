@@ -1,7 +1,6 @@
 -- The text of races kind by kind.
 use Rattle.std.proofs.Common.{◌≡◌, ◌≤◌, ◌<◌, ◌+◌, ℕ, List, [], ◌∷◌, ◌++◌, Option, None, Some, Ok, ap, append_assoc, arith, codes, drop, get_or, length, map, refl, slice_get, sym, ◌∙◌}
 use Rattle.std.specs.List.{cons_option, flat_map}
-use Rattle.std.proofs.KnownBytes.{Appends-nil}
 use Rattle.std.proofs.lemmas.List.{append-nil, at_drop_all, at_drop_more, take-map}
 use Rattle.gr_model.specs.declared.race.Race.{Race}
 use Rattle.gr_model.specs.Streams.{Streams}
@@ -19,10 +18,8 @@ use Rattle.gr_races.specs.Listing.{Entry, entry_of, with_row}
 use Rattle.gr_races.specs.Telling.{with_causes}
 use Rattle.gr_races.proofs.TellingLemmas.{count_told, told_at}
 use Rattle.gr_races.specs.RacesText.{at_most, cause_lines, first_lines}
-use Rattle.gr_races.specs.Sides.{SidesSaid, notes}
-
-pub puts_nothing : (old : Option (List ℕ)) → Puts old old (Ok tt) []
-puts_nothing old = record { whole = Appends-nil old; prefix = tt }
+use Rattle.gr_races.specs.Notes.{notes}
+use Rattle.gr_sides.specs.Sides.{SidesSaid}
 
 -- the lines of a list are written where no element is left
 pub lines_over : {X : Type 0} (f : X → List ℕ) (xs : List X) (i : ℕ) (old mid : Option (List ℕ)) (text : List ℕ) → Prefix old mid text (flat_map f (drop i xs)) → length xs ≤ i → Puts old mid (Ok tt) text

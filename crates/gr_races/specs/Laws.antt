@@ -11,7 +11,8 @@ use Rattle.gr_races.specs.declared.kinds.RaceKind.{RaceKind}
 use Rattle.gr_races.specs.Kinds.{all_kinded, same_kind}
 use Rattle.gr_races.specs.Listing.{kinds_of}
 use Rattle.gr_races.specs.Telling.{with_causes}
-use Rattle.gr_races.specs.Sides.{notes, nothing_said}
+use Rattle.gr_races.specs.Notes.{notes}
+use Rattle.gr_sides.specs.Sides.{nothing_said}
 
 -- no racing pair is without a kind
 abbrev pub EveryRaceHasAKind : Type 0

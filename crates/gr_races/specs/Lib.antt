@@ -1,10 +1,9 @@
 pub mod Kinds
 pub mod Runs
 pub mod Listing
-pub mod Sides
+pub mod Notes
 pub mod Telling
 pub mod RacesText
 pub mod Shown
-pub mod FaultText
 pub mod Opening
 pub mod Laws

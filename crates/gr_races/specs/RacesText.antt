@@ -15,7 +15,8 @@ use Rattle.gr_races.specs.declared.kinds.RaceKind.{RaceKind}
 use Rattle.gr_races.specs.declared.runs.Run.{Run}
 use Rattle.gr_races.specs.Listing.{Entry}
 use Rattle.gr_races.specs.Runs.{number_of}
-use Rattle.gr_races.specs.Sides.{SidesSaid, notes}
+use Rattle.gr_races.specs.Notes.{notes}
+use Rattle.gr_sides.specs.Sides.{SidesSaid}
 
 abbrev pub space_text : Space → List ℕ
 space_text Global = codes "kind global"

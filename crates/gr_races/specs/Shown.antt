@@ -13,7 +13,7 @@ use Rattle.gr_places.specs.declared.places.Placed.{Placed}
 use Rattle.gr_races.specs.Kinds.{all_kinded}
 use Rattle.gr_races.specs.Listing.{Entry, entries}
 use Rattle.gr_races.specs.RacesText.{races_text}
-use Rattle.gr_races.specs.Sides.{SidesSaid}
+use Rattle.gr_sides.specs.Sides.{SidesSaid}
 use Rattle.gr_races.specs.Telling.{AreTold, with_causes}
 use Rattle.gr_show.specs.Shown.{IsShown, ShowsPrefix}
 

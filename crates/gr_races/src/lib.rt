@@ -5,14 +5,13 @@
 #![tactic(auto)]
 
 pub mod causes;
-pub mod fault;
 pub mod files;
 pub mod kinds;
 pub mod laws;
 pub mod listing;
+mod notes;
 pub mod runs;
 pub mod show;
-pub mod sides;
 pub mod text;
 
 pub use show::show_races;

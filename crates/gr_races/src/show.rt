@@ -9,12 +9,11 @@ ghost use Rattle.gr_places.specs.SideLines.{place_number};
 ghost use Rattle.gr_replay.specs.Each.{all_known};
 ghost use Rattle.gr_races.specs.Listing.{entry_of};
 ghost use Rattle.gr_races.specs.Shown.{AreListedRaces, AreRacesShown, ShowsRacesPrefix};
-ghost use Rattle.gr_races.specs.Sides.{sides_said};
+ghost use Rattle.gr_sides.specs.Sides.{sides_said};
 ghost use Rattle.gr_show.specs.Shown.{IsShowFault};
 
 use crate::causes::causes_told;
 use crate::listing::{KindEntry, all_kinded, list_kinds};
-use crate::sides::Sides;
 use crate::text::write_races;
 use gr_explain::records::Records;
 use gr_explain::taking::take_all;
@@ -24,6 +23,7 @@ use gr_places::index::PlaceIndex;
 use gr_record::fault::Fault;
 use gr_replay::detect::detect_races;
 use gr_replay::read_each;
+use gr_sides::sides::Sides;
 use std::alloc::Allocator;
 use std::io::{Read, Write};
 

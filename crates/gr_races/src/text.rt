@@ -6,18 +6,19 @@ ghost use Rattle.std.specs.Io.KnownBytes.{Appends};
 ghost use Rattle.gr_report.specs.Putting.{AppendsPrefix, Puts};
 ghost use Rattle.gr_races.specs.Listing.{entry_of};
 ghost use Rattle.gr_races.specs.RacesText as spec;
-ghost use Rattle.gr_races.specs.Sides.{sides_said};
+ghost use Rattle.gr_sides.specs.Sides.{sides_said};
 
 use crate::kinds::{Operation, RaceKind};
 use crate::listing::KindEntry;
+use crate::notes::put_notes;
 use crate::runs::{Run, number_of};
-use crate::sides::{Sides, put_notes};
 use gr_causes::cause::Cause;
 use gr_causes::text::cause_line;
 use gr_model::event::Space;
 use gr_model::race::Race;
 use gr_report::putting::{WriteFault, finish, put, put_field};
 use gr_show::explanation::{put_pair, put_word};
+use gr_sides::sides::Sides;
 use std::alloc::Allocator;
 use std::io::Write;
 

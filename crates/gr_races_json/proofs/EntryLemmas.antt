@@ -18,7 +18,7 @@ use Rattle.gr_races.specs.declared.listing.KindEntry.{KindEntry}
 use Rattle.gr_races.specs.declared.runs.Run.{Run}
 use Rattle.gr_races.specs.Listing.{Entry, entry_of}
 use Rattle.gr_races.specs.RacesText.{at_most}
-use Rattle.gr_races.specs.Sides.{SidesSaid}
+use Rattle.gr_sides.specs.Sides.{SidesSaid}
 use Rattle.gr_races.proofs.ListingLemmas.{first_entries, texts_of_entries}
 use Rattle.gr_races_json.specs.Causes.{CausesAreAsInTheText, cause_data}
 use Rattle.gr_races_json.specs.Kinds.{run_data}

@@ -1,2 +1,1 @@
 mod EntryLemmas
-mod FileLemmas

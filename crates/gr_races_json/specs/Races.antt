@@ -12,7 +12,7 @@ use Rattle.gr_places.specs.declared.places.Placed.TheVariants.{Event}
 use Rattle.gr_places.specs.SideLines as lines
 use Rattle.gr_races.specs.Listing.{Entry}
 use Rattle.gr_races.specs.RacesText.{at_most}
-use Rattle.gr_races.specs.Sides.{SidesSaid}
+use Rattle.gr_sides.specs.Sides.{SidesSaid}
 use Rattle.gr_races_json.specs.Causes.{cause_data}
 use Rattle.gr_races_json.specs.Kinds.{kind_data, runs_data}
 

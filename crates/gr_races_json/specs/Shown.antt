@@ -3,7 +3,7 @@
 use Rattle.std.specs.Prelude.{ℕ, Bool, List, Option}
 use Rattle.gr_model.specs.Streams.{Streams}
 use Rattle.gr_races.specs.Shown.{IsTextOfRaces}
-use Rattle.gr_races.specs.Sides.{SidesSaid}
+use Rattle.gr_sides.specs.Sides.{SidesSaid}
 use Rattle.gr_races_json.specs.Races.{races_json}
 
 -- the lines of the races of a launch, of at most so many kinds, with what side files say, and with causes where they are asked for

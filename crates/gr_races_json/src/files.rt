@@ -4,16 +4,16 @@ ghost use Rattle.std.specs.Prelude.{◌≡◌, ◌≢◌, IfErr, IfOk, map};
 ghost use Rattle.std.specs.Fn.{FnReturnsAt};
 ghost use Rattle.std.specs.Io.KnownBytes.{Keeps};
 ghost use Rattle.gr_record.specs.declared.fault.Fault.TheVariants as faults;
-ghost use Rattle.gr_races.specs.Opening.{HoldsOfAllFiles, IsRacesFault, side_names};
+ghost use Rattle.gr_sides.specs.Opening.{HoldsOfAllFiles, IsSidesFault, side_names};
 ghost use Rattle.gr_races.specs.Shown.{HasRace};
-ghost use Rattle.gr_races.specs.declared.fault.RacesFault.TheVariants.{Run as ARun};
+ghost use Rattle.gr_sides.specs.declared.fault.SidesFault.TheVariants.{Run as ARun};
 ghost use Rattle.gr_show.specs.Shown.{IsShown, ShowsPrefix};
 ghost use Rattle.gr_races_json.specs.Shown.{IsRacesJson};
 
 use crate::show::show_races_json;
-use gr_races::fault::RacesFault;
-use gr_races::files::{Opened, SideNames, buffers_of, bytes_of, open_files, places_of};
-use gr_races::sides::Sides;
+use gr_sides::fault::SidesFault;
+use gr_sides::files::{Opened, SideNames, buffers_of, bytes_of, open_files, places_of};
+use gr_sides::sides::Sides;
 use std::alloc::Global;
 use std::io::{self, Read, Write};
 
@@ -32,14 +32,14 @@ pub fn show_races_json_of_files<'a, T, O, W>(
     most: Option<u32>,
     causes: bool,
     writer: &mut W,
-) -> Result<bool, RacesFault>
+) -> Result<bool, SidesFault>
 where
     T: Read + Drop,
     O: Fn(&str) -> io::Result<T>,
     W: Write,
     requires { O.IsAlwaysCallable opener }
     ensures shown { IfOk result (λ found. HoldsOfAllFiles T.remaining (FnReturnsAt O.Fn opener) (side_names sides.now) (map (λ s. s.now) names.now) (λ known said. IsShown (IsRacesJson said most causes) HasRace known found (W.contents writer.old) (W.contents writer.new))) }
-    ensures fault { IfErr result (λ f. IsRacesFault T.remaining (FnReturnsAt O.Fn opener) (side_names sides.now) (map (λ s. s.now) names.now) f) }
+    ensures fault { IfErr result (λ f. IsSidesFault T.remaining (FnReturnsAt O.Fn opener) (side_names sides.now) (map (λ s. s.now) names.now) f) }
     ensures untouched { IfErr result (λ f. f ≢ ARun faults.Write → Keeps (W.contents writer.old) (W.contents writer.new)) }
     ensures prefix { IfErr result (λ f. f ≡ ARun faults.Write → HoldsOfAllFiles T.remaining (FnReturnsAt O.Fn opener) (side_names sides.now) (map (λ s. s.now) names.now) (λ known said. ShowsPrefix (IsRacesJson said most causes) known (W.contents writer.old) (W.contents writer.new))) }
     ensures threads { IfErr result (λ f. f ≢ ARun faults.Threads) }

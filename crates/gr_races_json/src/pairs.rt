@@ -3,7 +3,7 @@
 ghost use Rattle.std.specs.Prelude.{◌≡◌, IfOk};
 ghost use Rattle.serde_json.specs.View.{view};
 ghost use Rattle.gr_places.specs.SideLines.{element, element_of as element_said};
-ghost use Rattle.gr_races.specs.Sides.{sides_said};
+ghost use Rattle.gr_sides.specs.Sides.{sides_said};
 ghost use Rattle.gr_races_json.specs.Races as spec;
 
 use crate::causes::cause_value;
@@ -13,7 +13,7 @@ use gr_model::event::{EventId, Word};
 use gr_model::race::Race;
 use gr_places::buffers::{Element, element_of};
 use gr_places::places::{Placed, place_of};
-use gr_races::sides::Sides;
+use gr_sides::sides::Sides;
 use serde_json::{Value, json};
 use std::alloc::{AllocError, Global};
 

@@ -5,7 +5,7 @@ ghost use Rattle.std.specs.List.{flat_map};
 ghost use Rattle.serde_json.specs.View.{view};
 ghost use Rattle.gr_json.specs.Lines.{json_line};
 ghost use Rattle.gr_races.specs.Listing.{entry_of};
-ghost use Rattle.gr_races.specs.Sides.{sides_said};
+ghost use Rattle.gr_sides.specs.Sides.{sides_said};
 ghost use Rattle.gr_races_json.specs.Races as spec;
 
 use crate::kinds::{kind_value, runs_value};
@@ -13,8 +13,8 @@ use crate::pairs::first_value;
 use gr_json::lines::push_value;
 use gr_model::memory::Memory;
 use gr_races::listing::KindEntry;
-use gr_races::sides::Sides;
 use gr_races::text::at_most;
+use gr_sides::sides::Sides;
 use serde_json::{Value, json};
 use std::alloc::{AllocError, Global};
 

@@ -5,16 +5,16 @@ ghost use Rattle.std.specs.Io.KnownBytes.{Keeps};
 ghost use Rattle.gr_record.specs.declared.fault.Fault.TheVariants as faults;
 ghost use Rattle.gr_replay.specs.Each.{all_known};
 ghost use Rattle.gr_races.specs.Shown.{HasRace};
-ghost use Rattle.gr_races.specs.Sides.{sides_said};
+ghost use Rattle.gr_sides.specs.Sides.{sides_said};
 ghost use Rattle.gr_show.specs.Shown.{IsShowFault, IsShown, ShowsPrefix};
 ghost use Rattle.gr_races_json.specs.Shown.{IsRacesJson};
 
 use crate::races::races_json;
 use gr_json::lines::write_text;
 use gr_races::show::races_by_kind;
-use gr_races::sides::Sides;
 use gr_record::fault::Fault;
 use gr_replay::read_each;
+use gr_sides::sides::Sides;
 use std::alloc::Global;
 use std::io::{Read, Write};
 

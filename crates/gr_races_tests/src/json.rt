@@ -1,10 +1,10 @@
 //! The lines of races.
 
 use gr_model::memory::Memory;
-use gr_races::fault::RacesFault;
-use gr_races::files::SideNames;
 use gr_races_json::show_races_json_of_files;
 use gr_record::fault::Fault;
+use gr_sides::fault::SidesFault;
+use gr_sides::files::SideNames;
 use gr_text::packing::pack_text;
 use std::alloc::Global;
 use std::io::{self, ErrorKind};
@@ -126,7 +126,7 @@ fn shown(
     sides: &SideNames<'static>,
     most: Option<u32>,
     causes: bool,
-) -> Result<(Result<bool, RacesFault>, Vec<u8>), Memory> {
+) -> Result<(Result<bool, SidesFault>, Vec<u8>), Memory> {
     let stream = packed(alloc, stream)?;
     let mut text = Vec::new(alloc);
     let answer = show_races_json_of_files(
@@ -159,7 +159,7 @@ fn a_missing_side_file_is_a_read_fault(rt: HostRuntime) -> Result<(), Fail> {
         buffers: None,
     };
     let (answer, text) = shown(rt.alloc(), KINDS, &sides, None, false)?;
-    assert_eq!(rt; answer, Err(RacesFault::Run(Fault::Read)));
+    assert_eq!(rt; answer, Err(SidesFault::Run(Fault::Read)));
     assert!(rt; text.is_empty());
     Ok(())
 }

@@ -2,8 +2,8 @@
 
 use gr_model::memory::Memory;
 use gr_races::show_races;
-use gr_races::sides::Sides;
 use gr_record::fault::Fault;
+use gr_sides::sides::Sides;
 use gr_text::packing::pack_text;
 use refusing::Refusing;
 use std::alloc::{Allocator, Global};

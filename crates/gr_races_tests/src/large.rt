@@ -1,6 +1,7 @@
 //! The races of a launch of 64 work-groups, with side files of many lines.
 
-use gr_races::files::{SideNames, show_races_of_files};
+use gr_races::files::show_races_of_files;
+use gr_sides::files::SideNames;
 use gr_text::packing::pack_text;
 use refusing::failing::FailingReader;
 use std::alloc::Global;

@@ -1,9 +1,10 @@
 //! What is shown of launches whose streams and side files are in files.
 
 use gr_model::memory::Memory;
-use gr_races::fault::{RacesFault, write_races_fault};
-use gr_races::files::{SideNames, show_races_of_files};
+use gr_races::files::show_races_of_files;
 use gr_record::fault::Fault;
+use gr_sides::fault::{SidesFault, write_sides_fault};
+use gr_sides::files::SideNames;
 use gr_text::packing::pack_text;
 use refusing::Refusing;
 use refusing::failing::{FailingReader, FailingWriter};
@@ -136,7 +137,7 @@ fn shown<A: Allocator + Copy>(
     names: &[&'static str],
     most: Option<u32>,
     room: usize,
-) -> Result<(Result<bool, RacesFault>, Vec<u8>), Memory> {
+) -> Result<(Result<bool, SidesFault>, Vec<u8>), Memory> {
     let Ok(stream) = pack_text(heap, STREAM.as_bytes()) else {
         return Err(Memory);
     };
@@ -175,7 +176,7 @@ type Refusal = (
     Option<&'static str>,
     Option<&'static str>,
     &'static str,
-    RacesFault,
+    SidesFault,
     &'static str,
 );
 
@@ -185,7 +186,7 @@ const REFUSALS: [Refusal; 7] = [
         Some("bad"),
         Some("worse"),
         "stream",
-        RacesFault::Places(2),
+        SidesFault::Places(2),
         "gpurace: places: line 2: bad line\n",
     ),
     (
@@ -193,7 +194,7 @@ const REFUSALS: [Refusal; 7] = [
         Some("places"),
         Some("bad"),
         "empty",
-        RacesFault::Buffers(1),
+        SidesFault::Buffers(1),
         "gpurace: buffers: line 1: bad line\n",
     ),
     (
@@ -201,7 +202,7 @@ const REFUSALS: [Refusal; 7] = [
         Some("none"),
         Some("bad"),
         "stream",
-        RacesFault::Run(Fault::Read),
+        SidesFault::Run(Fault::Read),
         "gpurace: read fault\n",
     ),
     (
@@ -209,7 +210,7 @@ const REFUSALS: [Refusal; 7] = [
         Some("bad"),
         None,
         "none",
-        RacesFault::Run(Fault::Read),
+        SidesFault::Run(Fault::Read),
         "gpurace: read fault\n",
     ),
     (
@@ -217,7 +218,7 @@ const REFUSALS: [Refusal; 7] = [
         Some("failing"),
         Some("bad"),
         "stream",
-        RacesFault::Run(Fault::Read),
+        SidesFault::Run(Fault::Read),
         "gpurace: read fault\n",
     ),
     (
@@ -225,7 +226,7 @@ const REFUSALS: [Refusal; 7] = [
         Some("bad"),
         Some("failing"),
         "stream",
-        RacesFault::Places(2),
+        SidesFault::Places(2),
         "gpurace: places: line 2: bad line\n",
     ),
     (
@@ -233,19 +234,19 @@ const REFUSALS: [Refusal; 7] = [
         Some("places"),
         Some("buffers"),
         "failing",
-        RacesFault::Run(Fault::Read),
+        SidesFault::Run(Fault::Read),
         "gpurace: read fault\n",
     ),
 ];
 
 /// Whether the line of a fault is a fault of writing where the flush fails, and is written whole before it.
-fn is_refused_unflushed(heap: Global, fault: &RacesFault, line: &str) -> bool {
+fn is_refused_unflushed(heap: Global, fault: &SidesFault, line: &str) -> bool {
     let mut writer = FailingWriter {
         taken: Vec::new(heap),
         room: usize::MAX,
         flushes: false,
     };
-    write_races_fault(fault, &mut writer).is_err() && writer.taken.as_slice() == line.as_bytes()
+    write_sides_fault(fault, &mut writer).is_err() && writer.taken.as_slice() == line.as_bytes()
 }
 
 #[test]
@@ -258,7 +259,7 @@ fn faults_come_in_their_order(rt: HostRuntime) -> Result<(), Fail> {
         assert!(rt; text.is_empty(), "{name}");
         assert!(rt; is_refused_unflushed(alloc, &wanted, wanted_line), "{name}");
         let mut line = Vec::new(alloc);
-        assert!(rt; write_races_fault(&wanted, &mut line).is_ok(), "{name}");
+        assert!(rt; write_sides_fault(&wanted, &mut line).is_ok(), "{name}");
         assert_eq!(rt; str::from_utf8(&line), Ok(wanted_line), "{name}");
     }
     Ok(())
@@ -274,7 +275,7 @@ fn a_failing_writer_has_a_prefix(rt: HostRuntime) -> Result<(), Fail> {
     let alloc = rt.alloc();
     for room in 0..NOTED.len() + 1 {
         let (answer, text) = shown(alloc, alloc, &BOTH, &["stream"], None, room)?;
-        assert_eq!(rt; answer, Err(RacesFault::Run(Fault::Write)), "{room}");
+        assert_eq!(rt; answer, Err(SidesFault::Run(Fault::Write)), "{room}");
         assert!(rt;
             text.len() == room && NOTED.as_bytes().starts_with(&text),
             "{room}"
@@ -292,7 +293,7 @@ fn growths_refused(heap: Global) -> Result<Option<u64>, Memory> {
         if !alloc.refused() {
             return Ok(whole.then_some(at));
         }
-        let refused = answer == Err(RacesFault::Run(Fault::Memory)) && text.is_empty();
+        let refused = answer == Err(SidesFault::Run(Fault::Memory)) && text.is_empty();
         if !whole && !refused {
             return Ok(None);
         }

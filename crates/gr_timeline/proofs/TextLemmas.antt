@@ -6,7 +6,16 @@ use Rattle.std.proofs.lemmas.List.Concat.{flat_map-cons}
 use Rattle.gr_model.specs.declared.event.EventId.{EventId}
 use Rattle.std.proofs.KnownBytes.{Appends-nil}
 use Rattle.gr_report.specs.Putting.{Puts}
-use Rattle.gr_timeline.specs.HistoryText.{behind_text, names_text}
+use Rattle.gr_accesses.specs.Accesses.{details_at}
+use Rattle.gr_long.specs.declared.details.Details.{Details}
+use Rattle.gr_places.specs.PlaceIndexes.{Indexed, place_at}
+use Rattle.gr_places.specs.declared.places.Placed.TheVariants.{Event}
+use Rattle.gr_timeline.specs.Histories.{Line}
+use Rattle.gr_timeline.specs.HistoryText.{behind_text, line_text, names_text}
+
+-- the line of an access, by an index of places and by what is kept of the accesses
+abbrev pub indexed_line : Indexed → List (EventId × Details) → Line → List ℕ
+indexed_line index known l = line_text (λ e. place_at index (Event e)) (details_at known) l
 
 -- the lines of the values of a map
 pub mapped_lines : {X Y : Type 0} (f : Y → List ℕ) (g : X → Y) (xs : List X) → flat_map (λ x. f (g x)) xs ≡ flat_map f (map g xs)

@@ -7,6 +7,8 @@ use Rattle.gr_report.specs.Putting.{field}
 use Rattle.gr_show.specs.Explanations.{event_text}
 use Rattle.gr_long.specs.declared.details.Details.{Details}
 use Rattle.gr_long.specs.AccountText.{told_text}
+use Rattle.gr_places.specs.SideLines.{ElementSaid}
+use Rattle.gr_sides.specs.Sides.{buffer_lines, place_line}
 use Rattle.gr_timeline.specs.Histories.{Line}
 
 -- what is told of an access, if it is there
@@ -23,9 +25,14 @@ abbrev pub behind_text : ℕ → List EventId → List ℕ
 behind_text above [] = codes " behind none"
 behind_text above (e ∷ events) = if length (e ∷ events) == above then codes " behind all" else names_text e events
 
--- an access, what is told of it, and behind which others it is ordered
-abbrev pub line_text : (EventId → Option Details) → Line → List ℕ
-line_text told l = event_text (codes "access ") l.event ++ known_text (told l.event) ++ behind_text l.above l.behind ++ codes "\n"
+-- the end of a line: where the access stands, if it is said
+abbrev pub place_text : Option (List ℕ) → List ℕ
+place_text None = codes "\n"
+place_text (Some text) = place_line (codes " at ") text
+
+-- an access, what is told of it, behind which others it is ordered, and where it stands
+abbrev pub line_text : (EventId → Option (List ℕ)) → (EventId → Option Details) → Line → List ℕ
+line_text place told l = event_text (codes "access ") l.event ++ known_text (told l.event) ++ behind_text l.above l.behind ++ place_text (place l.event)
 
 abbrev pub racy_text : Bool → List ℕ
 racy_text true = codes " races yes\n"
@@ -35,6 +42,6 @@ racy_text false = codes " races no\n"
 abbrev pub end_line : ℕ → ℕ → Bool → List ℕ
 end_line count held racy = field (codes "end accesses ") (decimal count) ++ field (codes " held ") (decimal held) ++ racy_text racy
 
--- where this is told of each event
-abbrev pub history_text : (EventId → Option Details) → List Line → ℕ → Bool → List ℕ
-history_text told lines held racy = flat_map (line_text told) lines ++ end_line (length lines) held racy
+-- the word's buffer, where it is said, and its accesses, where this is the place of each event and this is told of it
+abbrev pub history_text : Option ElementSaid → (EventId → Option (List ℕ)) → (EventId → Option Details) → List Line → ℕ → Bool → List ℕ
+history_text buffer place told lines held racy = buffer_lines buffer ++ flat_map (line_text place told) lines ++ end_line (length lines) held racy

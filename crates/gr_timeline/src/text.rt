@@ -6,6 +6,10 @@ ghost use Rattle.std.specs.List.{flat_map};
 ghost use Rattle.gr_report.specs.Putting.{AppendsPrefix, Puts};
 ghost use Rattle.gr_show.specs.Explanations.{event_text};
 ghost use Rattle.gr_accesses.specs.Accesses.{details_at};
+ghost use Rattle.gr_places.specs.PlaceIndexes.{place_at};
+ghost use Rattle.gr_places.specs.SideLines.{element_of};
+ghost use Rattle.gr_places.specs.declared.places.Placed.TheVariants.{Event as AnEvent};
+ghost use Rattle.gr_sides.specs.Sides.{sides_said};
 ghost use Rattle.gr_timeline.specs.Histories.{line_of, lines_of};
 ghost use Rattle.gr_timeline.specs.HistoryText as spec;
 
@@ -13,8 +17,11 @@ use crate::entry::Entry;
 use crate::told::Told;
 use gr_accesses::accesses::Accesses;
 use gr_long::text::put_told;
-use gr_model::event::EventId;
+use gr_model::event::{EventId, Word};
+use gr_places::index::PlaceIndex;
+use gr_places::places::Placed;
 use gr_report::putting::{WriteFault, finish, put, put_field};
+use gr_sides::sides::{Sides, put_buffer, put_text};
 use std::alloc::Allocator;
 use std::io::Write;
 
@@ -70,28 +77,43 @@ fn put_known<A: Allocator, W: Write>(
     }
 }
 
+fn put_place<A: Allocator, W: Write>(
+    writer: &mut W,
+    places: &PlaceIndex<'_, A>,
+    event: EventId,
+) -> Result<(), WriteFault>
+    ensures { Puts (W.contents writer.old) (W.contents writer.new) result (spec.place_text (place_at places.now (AnEvent event))) }
+{
+    match places.place_of(Placed::Event(event)) {
+        None => put(writer, b"\n"),
+        Some(text) => put_text(writer, b" at ", text),
+    }
+}
+
 fn put_entry<A: Allocator, W: Write>(
     writer: &mut W,
+    places: &PlaceIndex<'_, A>,
     known: &Accesses<A>,
     entry: &Entry<A>,
 ) -> Result<(), WriteFault>
-    ensures { Puts (W.contents writer.old) (W.contents writer.new) result (spec.line_text (details_at known.now.entries) (line_of entry.now)) }
+    ensures { Puts (W.contents writer.old) (W.contents writer.new) result (spec.line_text (λ e. place_at places.now (AnEvent e)) (details_at known.now.entries) (line_of entry.now)) }
 {
     put_event(writer, b"access ", entry.event)?;
     put_known(writer, known, entry.event)?;
     put_behind(writer, entry.above, entry.behind.as_slice())?;
-    put(writer, b"\n")
+    put_place(writer, places, entry.event)
 }
 
 fn put_entries<A: Allocator, W: Write>(
     writer: &mut W,
+    places: &PlaceIndex<'_, A>,
     known: &Accesses<A>,
     entries: &[Entry<A>],
 ) -> Result<(), WriteFault>
-    ensures { Puts (W.contents writer.old) (W.contents writer.new) result (flat_map (λ x. spec.line_text (details_at known.now.entries) (line_of x)) entries.now) }
+    ensures { Puts (W.contents writer.old) (W.contents writer.new) result (flat_map (λ x. spec.line_text (λ e. place_at places.now (AnEvent e)) (details_at known.now.entries) (line_of x)) entries.now) }
 {
     for entry in entries {
-        put_entry(writer, known, entry)?;
+        put_entry(writer, places, known, entry)?;
     }
     Ok(())
 }
@@ -119,24 +141,35 @@ fn put_end<W: Write>(
     put_racy(writer, racy)
 }
 
-fn put_history<A: Allocator, W: Write>(writer: &mut W, told: &Told<A>) -> Result<(), WriteFault>
-    ensures { Puts (W.contents writer.old) (W.contents writer.new) result (spec.history_text (details_at told.now.known.entries) (lines_of told.now.entries.items) told.now.held told.now.racy) }
+fn put_history<A: Allocator, W: Write>(
+    writer: &mut W,
+    sides: &Sides<'_>,
+    places: &PlaceIndex<'_, A>,
+    word: Word,
+    told: &Told<A>,
+) -> Result<(), WriteFault>
+    ensures { Puts (W.contents writer.old) (W.contents writer.new) result (spec.history_text (element_of (sides_said sides.now).buffers word) (λ e. place_at places.now (AnEvent e)) (details_at told.now.known.entries) (lines_of told.now.entries.items) told.now.held told.now.racy) }
 {
-    put_entries(writer, &told.known, &told.entries)?;
+    put_buffer(writer, sides, word)?;
+    put_entries(writer, places, &told.known, &told.entries)?;
     put_end(writer, told.entries.len(), told.held, told.racy)
 }
 
-/// Writes the history of a word, and flushes. It takes no memory.
+/// Writes the history of a word with its buffer and, where this index has the places, those of its accesses, and flushes. It
+/// takes no memory.
 ///
 /// # Errors
 /// `WriteFault` where the writer fails; what it took is then a prefix of the text.
 pub(crate) fn write_history<A: Allocator, W: Write>(
     writer: &mut W,
+    sides: &Sides<'_>,
+    places: &PlaceIndex<'_, A>,
+    word: Word,
     told: &Told<A>,
 ) -> Result<(), WriteFault>
-    ensures whole { OnOk result (Appends (W.contents writer.old) (W.contents writer.new) (spec.history_text (details_at told.now.known.entries) (lines_of told.now.entries.items) told.now.held told.now.racy)) }
-    ensures prefix { OnErr result (AppendsPrefix (W.contents writer.old) (W.contents writer.new) (spec.history_text (details_at told.now.known.entries) (lines_of told.now.entries.items) told.now.held told.now.racy)) }
+    ensures whole { OnOk result (Appends (W.contents writer.old) (W.contents writer.new) (spec.history_text (element_of (sides_said sides.now).buffers word) (λ e. place_at places.now (AnEvent e)) (details_at told.now.known.entries) (lines_of told.now.entries.items) told.now.held told.now.racy)) }
+    ensures prefix { OnErr result (AppendsPrefix (W.contents writer.old) (W.contents writer.new) (spec.history_text (element_of (sides_said sides.now).buffers word) (λ e. place_at places.now (AnEvent e)) (details_at told.now.known.entries) (lines_of told.now.entries.items) told.now.held told.now.racy)) }
 {
-    put_history(writer, told)?;
+    put_history(writer, sides, places, word, told)?;
     finish(writer)
 }

@@ -3,12 +3,19 @@
 use gr_model::event::Word;
 use gr_model::memory::Memory;
 use gr_record::fault::Fault;
+use gr_sides::sides::Sides;
 use gr_text::packing::pack_text;
 use gr_timeline::show_history;
 use refusing::Refusing;
 use refusing::failing::{FailingReader, FailingWriter};
 use std::alloc::{Allocator, Global};
 use std::test::Fail;
+
+/// No side files.
+const NO_SIDES: Sides<'static> = Sides {
+    places: &[],
+    buffers: &[],
+};
 
 /// A word, the text that is due of it, and whether it is racy.
 type Asked = (Word, &'static str, bool);
@@ -127,7 +134,7 @@ fn is_shown<A: Allocator + Copy>(
         readers.push(input.as_slice())?;
     }
     let mut text = Vec::new(ample);
-    match show_history(alloc, readers, word, &mut text) {
+    match show_history(alloc, readers, &NO_SIDES, word, &mut text) {
         Ok(answer) => Ok(answer == racy && text.as_slice() == wanted.as_bytes()),
         Err(Fault::Memory) if text.is_empty() => Err(Memory),
         Err(_) => Ok(false),
@@ -179,7 +186,7 @@ fn shown_between(
     if readers.push(reader).is_err() {
         return Err(Fault::Memory);
     }
-    show_history(alloc, readers, Word::Global(16), writer)
+    show_history(alloc, readers, &NO_SIDES, Word::Global(16), writer)
 }
 
 #[test]
@@ -221,7 +228,7 @@ fn inputs_that_are_no_launch_are_refused(rt: HostRuntime) -> Result<(), Fail> {
         readers.push(input.as_slice())?;
     }
     let mut text = Vec::new(rt.alloc());
-    let answer = show_history(rt.alloc(), readers, Word::Local(0, 5), &mut text);
+    let answer = show_history(rt.alloc(), readers, &NO_SIDES, Word::Local(0, 5), &mut text);
     assert_eq!(rt; answer, Err(Fault::SameGroup(1)));
     assert!(rt; text.is_empty());
     Ok(())

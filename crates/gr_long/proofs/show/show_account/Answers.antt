@@ -1,6 +1,7 @@
-use Rattle.std.proofs.Common.{rules, ◌↔◌, Bool, IsTrue, refl, subst, sym}
+use Rattle.std.proofs.Common.{rules, ◌↔◌, Bool, IsTrue, option_map, refl, subst, sym}
 use Rattle.gr_show.specs.Shown.{IsRacyIn}
-use Rattle.gr_long.proofs.AccountLemmas.{account_said}
+use Rattle.gr_long.proofs.AccountLemmas.{account_racy}
+use Rattle.gr_long.specs.Accounts.{account_said}
 use Rattle.gr_long.proofs.show.show_account.Goals as goal
 
 pub returns-in-Ok-clause-shown : goal.returns-in-Ok-clause-shown
@@ -10,9 +11,9 @@ returns-in-Ok-clause-shown g c =
       spelled = c.in_ok-traces.ensures.launch;
       accepted = search rules;
       text = _;
-      exact = record { account = c.in_ok-account.account; exact = c.in_ok-account.ensures; is = refl };
-      written = c.in-Ok.ensures.whole;
-      said = subst (λ (b : Bool). IsTrue b ↔ IsRacyIn c.args.word s) (sym c.is_some.ensures) (account_said s c.args.word c.in_ok-account.account c.in_ok-account.ensures);
+      exact = record { account = option_map account_said c.in_ok-account.account; exact = c.in_ok-account.ensures; is = refl };
+      written = rw c.as_ref.ensures.value at c.in-Ok.ensures.whole;
+      said = subst (λ (b : Bool). IsTrue b ↔ IsRacyIn c.args.word s) (sym c.is_some.ensures) (account_racy s c.args.word c.in_ok-account.account c.in_ok-account.ensures);
     }
 
 pub returns-clause-prefix : goal.returns-clause-prefix
@@ -21,6 +22,6 @@ returns-clause-prefix g c = λ _. record {
   spelled = c.in_ok-traces.ensures.launch;
   accepted = search rules;
   text = _;
-  exact = record { account = c.in_ok-account.account; exact = c.in_ok-account.ensures; is = refl };
-  prefix = c.in-Err.ensures.prefix;
+  exact = record { account = option_map account_said c.in_ok-account.account; exact = c.in_ok-account.ensures; is = refl };
+  prefix = rw c.as_ref.ensures.value at c.in-Err.ensures.prefix;
 }

@@ -2,7 +2,7 @@ use Rattle.std.proofs.Common.{ℕ, IfOk, Option, map, subst}
 use Rattle.gr_places.specs.declared.places.Placed.{Placed}
 use Rattle.gr_races.specs.Listing.{entry_of}
 use Rattle.gr_races.specs.Shown.{AreListedRaces}
-use Rattle.gr_races.specs.Sides.{sides_said}
+use Rattle.gr_sides.specs.Sides.{sides_said}
 use Rattle.gr_races.proofs.ListingLemmas.{numbers_said}
 use Rattle.gr_races.proofs.show.races_by_kind.Goals as goal
 

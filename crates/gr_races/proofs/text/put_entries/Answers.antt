@@ -4,7 +4,7 @@ use Rattle.gr_report.proofs.PuttingLemmas.{puts_err, lines_start, lines_next, li
 use Rattle.gr_races.specs.declared.listing.KindEntry.{KindEntry}
 use Rattle.gr_races.specs.Listing.{entry_of}
 use Rattle.gr_races.specs.RacesText.{entry_text}
-use Rattle.gr_races.specs.Sides.{sides_said}
+use Rattle.gr_sides.specs.Sides.{sides_said}
 use Rattle.gr_races.proofs.ListingLemmas.{lines_over}
 use Rattle.gr_races.proofs.text.put_entries.Goals as goal
 

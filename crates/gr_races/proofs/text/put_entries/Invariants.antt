@@ -3,7 +3,7 @@ use Rattle.std.specs.List.{flat_map}
 use Rattle.gr_report.proofs.PuttingLemmas.{Prefix}
 use Rattle.gr_races.specs.Listing.{entry_of}
 use Rattle.gr_races.specs.RacesText.{entry_text}
-use Rattle.gr_races.specs.Sides.{sides_said}
+use Rattle.gr_sides.specs.Sides.{sides_said}
 use Rattle.gr_races.proofs.text.put_entries.Given as goal
 
 abbrev pub invariant-loop-entry : goal.invariant-loop-entry

@@ -1,6 +1,6 @@
 use Rattle.gr_report.proofs.PuttingLemmas.{puts_then, puts_more, puts_err}
 use Rattle.gr_races.specs.RacesText.{first_lines, words_line}
-use Rattle.gr_races.specs.Sides.{sides_said}
+use Rattle.gr_sides.specs.Sides.{sides_said}
 use Rattle.gr_races.proofs.text.put_entry.Goals as goal
 
 pub returns-in_err-put_kind : goal.returns-in_err-put_kind

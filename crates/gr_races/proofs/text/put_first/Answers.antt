@@ -2,7 +2,8 @@ use Rattle.std.proofs.Common.{ap, codes, sym, ◌∙◌}
 use Rattle.std.specs.Option.{option_copied}
 use Rattle.gr_report.proofs.PuttingLemmas.{puts_then, puts_more, puts_err}
 use Rattle.gr_races.specs.RacesText.{cause_lines}
-use Rattle.gr_races.specs.Sides.{notes, sides_said}
+use Rattle.gr_races.specs.Notes.{notes}
+use Rattle.gr_sides.specs.Sides.{sides_said}
 use Rattle.gr_races.proofs.ListingLemmas.{first_told}
 use Rattle.gr_races.proofs.text.put_first.Goals as goal
 

@@ -4,7 +4,7 @@ use Rattle.std.proofs.lemmas.List.{length-map}
 use Rattle.gr_report.proofs.PuttingLemmas.{puts_then, puts_more, puts_err}
 use Rattle.gr_races.specs.Listing.{Entry, entry_of}
 use Rattle.gr_races.specs.RacesText.{end_line, entry_text}
-use Rattle.gr_races.specs.Sides.{sides_said}
+use Rattle.gr_sides.specs.Sides.{sides_said}
 use Rattle.gr_races.proofs.ListingLemmas.{first_entries, texts_of_entries}
 use Rattle.gr_races.proofs.text.put_races.Goals as goal
 

@@ -1,8 +1,7 @@
 use Rattle.std.proofs.Common.{◌∙◌, ap, sym}
 use Rattle.std.proofs.lemmas.Result.{err_from_is_err_and}
 use Rattle.gr_places.specs.SideLines.{buffers_in, places_in}
-use Rattle.gr_races.proofs.FileLemmas.{buffers_refused, holds_of_all, streams_refused}
-use Rattle.gr_races_json.proofs.FileLemmas.{places_refused, same_fault, unread}
+use Rattle.gr_sides.proofs.FileLemmas.{buffers_refused, holds_of_all, places_refused, same_fault, streams_refused, unread}
 use Rattle.gr_races_json.proofs.files.show_races_json_of_files.Goals as goal
 
 pub returns-in_err-buffers-clause-fault : goal.returns-in_err-buffers-clause-fault

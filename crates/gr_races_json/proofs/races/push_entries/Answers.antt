@@ -2,7 +2,7 @@ use Rattle.std.proofs.Common.{◌∙◌, ◌++◌, ap}
 use Rattle.gr_json.specs.Lines.{json_line}
 use Rattle.gr_races.specs.declared.listing.KindEntry.{KindEntry}
 use Rattle.gr_races.specs.Listing.{entry_of}
-use Rattle.gr_races.specs.Sides.{sides_said}
+use Rattle.gr_sides.specs.Sides.{sides_said}
 use Rattle.gr_races_json.specs.Races.{entry_data}
 use Rattle.gr_races_json.proofs.EntryLemmas.{all_lines, line_added}
 use Rattle.gr_races_json.proofs.races.push_entries.Goals as goal

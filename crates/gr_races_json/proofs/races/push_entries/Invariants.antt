@@ -2,7 +2,7 @@ use Rattle.std.proofs.Common.{◌≡◌, ◌++◌, take}
 use Rattle.std.specs.List.{flat_map}
 use Rattle.gr_json.specs.Lines.{json_line}
 use Rattle.gr_races.specs.Listing.{entry_of}
-use Rattle.gr_races.specs.Sides.{sides_said}
+use Rattle.gr_sides.specs.Sides.{sides_said}
 use Rattle.gr_races_json.specs.Races.{entry_data}
 use Rattle.gr_races_json.proofs.races.push_entries.Given as goal
 

@@ -1,7 +1,7 @@
 use Rattle.std.proofs.Common.{◌∙◌, ap}
 use Rattle.serde_json.specs.Written.{has_float}
 use Rattle.gr_races.specs.Listing.{entry_of}
-use Rattle.gr_races.specs.Sides.{sides_said}
+use Rattle.gr_sides.specs.Sides.{sides_said}
 use Rattle.gr_races_json.proofs.EntryLemmas.{entry_plain}
 use Rattle.gr_races_json.proofs.races.push_entry.Goals as goal
 

@@ -1,4 +1,4 @@
-use Rattle.gr_races.specs.Sides.{sides_said}
+use Rattle.gr_sides.specs.Sides.{sides_said}
 use Rattle.gr_races_json.proofs.EntryLemmas.{whole_of_races}
 use Rattle.gr_races_json.proofs.races.races_json.Goals as goal
 

@@ -1,6 +1,8 @@
 use Rattle.std.proofs.Common.{rules, inr, map, refl}
 use Rattle.gr_record.specs.declared.fault.Fault.TheVariants as faults
+use Rattle.gr_places.specs.SideLines.{element_of}
 use Rattle.gr_replay.specs.Each.{all_known}
+use Rattle.gr_sides.specs.Sides.{sides_said}
 use Rattle.gr_show.specs.Shown.{IsShowFault}
 use Rattle.gr_timeline.specs.Histories.{lines_of}
 use Rattle.gr_timeline.proofs.ShownLemmas.{of_any, told_text_same}
@@ -22,7 +24,7 @@ returns-in-Ok-clause-shown g c =
         are_held = c.in_ok-told.ensures.held;
         racy = told.racy;
         said = c.in_ok-told.ensures.racy;
-        is = told_text_same s c.args.word lines c.in_ok-told.ensures.history told.known.entries c.in_ok-told.ensures.known told.held told.racy;
+        is = told_text_same s c.args.word lines c.in_ok-told.ensures.history (element_of (sides_said c.args.sides.now).buffers c.args.word) c.in_ok-places.places (sides_said c.args.sides.now).places c.in_ok-places.ensures told.known.entries c.in_ok-told.ensures.known told.held told.racy;
       };
       written = c.in-Ok.ensures.whole;
       said = c.in_ok-told.ensures.racy;
@@ -45,7 +47,7 @@ returns-clause-prefix g c =
         are_held = c.in_ok-told.ensures.held;
         racy = told.racy;
         said = c.in_ok-told.ensures.racy;
-        is = told_text_same s c.args.word lines c.in_ok-told.ensures.history told.known.entries c.in_ok-told.ensures.known told.held told.racy;
+        is = told_text_same s c.args.word lines c.in_ok-told.ensures.history (element_of (sides_said c.args.sides.now).buffers c.args.word) c.in_ok-places.places (sides_said c.args.sides.now).places c.in_ok-places.ensures told.known.entries c.in_ok-told.ensures.known told.held told.racy;
       };
       prefix = c.in-Err.ensures.prefix;
     }

@@ -1,4 +1,4 @@
-use Rattle.std.proofs.Common.{◌+◌, ◌≡◌, arith, length}
+use Rattle.std.proofs.Common.{◌≡◌, arith, length}
 use Rattle.std.proofs.lemmas.List.{length-map}
 use Rattle.gr_timeline.specs.Histories.{line_of, lines_of}
 use Rattle.gr_timeline.proofs.ShownLemmas.{others_are_held}

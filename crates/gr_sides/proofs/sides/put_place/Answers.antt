@@ -1,0 +1,15 @@
+use Rattle.std.proofs.Common.{ap, sym, ◌∙◌}
+use Rattle.std.specs.Option.{option_map}
+use Rattle.gr_sides.specs.Sides.{place_lines}
+use Rattle.gr_sides.proofs.PutLemmas.{puts_nothing}
+use Rattle.gr_sides.proofs.sides.put_place.Goals as goal
+
+pub returns-in-None : goal.returns-in-None
+returns-in-None g c =
+    let is = ap (place_lines c.args.before.now) (sym c.place_of.ensures ∙ ap (option_map (λ text. text.now)) c.in-None.is) in
+    rw is (puts_nothing _)
+
+pub returns-in-Some : goal.returns-in-Some
+returns-in-Some g c =
+    let is = ap (place_lines c.args.before.now) (sym c.place_of.ensures ∙ ap (option_map (λ text. text.now)) c.in-Some.is) in
+    rw is c.put_text.ensures
