@@ -34,7 +34,7 @@ const NARROW_HAND_OVER: [&str; 2] = [
     "group 0 items 1 launch 7\n0 w g 16\n0 st g 20 grp rel\nend\n",
 ];
 
-const CASES: [Case; 10] = [
+static CASES: [Case; 10] = [
     (
         "a global word and a barrier that flags local memory",
         &[WRONG_FLAG],
@@ -177,7 +177,7 @@ fn first_wrong_growth(alloc: Global, inputs: &[Vec<u8>], case: &Case) -> Option<
 
 #[test]
 fn causes_are_shown_or_memory_runs_out(rt: HostRuntime) -> Result<(), Fail> {
-    for case in CASES {
+    for case in &CASES {
         let name = case.0;
         let inputs = inputs_of(rt.alloc(), case.1)?;
         let answer = is_shown(rt.alloc(), rt.alloc(), &inputs, &case);

@@ -23,7 +23,7 @@ fn first_wrong_growth(alloc: Global, case: &Case) -> Option<u64> {
 
 #[test]
 fn each_refused_growth_is_want_of_memory(rt: HostRuntime) -> Result<(), Fail> {
-    for case in CASES {
+    for case in &CASES {
         let name = case.0;
         assert_eq!(rt; first_wrong_growth(rt.alloc(), &case), None, "{name}");
     }

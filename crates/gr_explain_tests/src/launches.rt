@@ -40,7 +40,7 @@ pub(crate) const HANDED_BACK_BY_ONE: &str =
 const HELD: &str = "group 0 items 1 launch 7\nend\n\
      group 1 items 3 launch 7\n0 ld g 20 dev acq < 0 0 0\n0 w g 16\n1 w g 24\n2 r g 24\n1 r g 16\nend\n";
 
-pub(crate) const CASES: [Case; 26] = [
+pub(crate) static CASES: [Case; 26] = [
     (
         "a write and a read",
         RACE,

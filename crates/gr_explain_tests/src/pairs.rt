@@ -5,7 +5,7 @@ use std::test::Fail;
 
 #[test]
 fn words_are_explained(rt: HostRuntime) -> Result<(), Fail> {
-    for case in CASES {
+    for case in &CASES {
         let name = case.0;
         let answer = is_explained(rt.alloc(), rt.alloc(), &case);
         assert!(rt; answer == Ok(true), "{name}");
@@ -15,7 +15,7 @@ fn words_are_explained(rt: HostRuntime) -> Result<(), Fail> {
 
 #[test]
 fn words_are_explained_where_they_are_reported(rt: HostRuntime) -> Result<(), Fail> {
-    for case in CASES {
+    for case in &CASES {
         let name = case.0;
         let answer = is_reported_too(rt.alloc(), &case);
         assert!(rt; answer == Ok(true), "{name}");

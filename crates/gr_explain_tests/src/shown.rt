@@ -31,7 +31,7 @@ const HANDED: &str =
 
 const BACK_LINE: &str = "race global 16: 0 0 3 with 0 1 1\n";
 
-const CASES: [Case; 8] = [
+static CASES: [Case; 8] = [
     (
         "a word handed to two items and back by one",
         &[HANDED_BACK_BY_ONE],
@@ -139,7 +139,7 @@ fn first_wrong_growth(alloc: Global, inputs: &[Vec<u8>], case: &Case) -> Option<
 
 #[test]
 fn words_are_shown_or_memory_runs_out(rt: HostRuntime) -> Result<(), Fail> {
-    for case in CASES {
+    for case in &CASES {
         let name = case.0;
         let inputs = inputs_of(rt.alloc(), case.1)?;
         let answer = is_shown(rt.alloc(), rt.alloc(), &inputs, &case);
@@ -202,7 +202,7 @@ fn readers_and_writers_that_fail_are_told(rt: HostRuntime) -> Result<(), Fail> {
 /// The text of each stream under a name, and the fault that is due.
 type Refused = (&'static str, &'static [&'static str], usize, Fault);
 
-const REFUSED: [Refused; 4] = [
+static REFUSED: [Refused; 4] = [
     ("one group twice", &[RACE, RACE], 72, Fault::SameGroup(1)),
     (
         "a group that is missing",

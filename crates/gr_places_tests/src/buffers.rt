@@ -17,7 +17,7 @@ type Case = (
 
 const FILE: &[u8] = b"g 448 300 psc\nl 1 0 16 tile\ng 700 100 marks.byte\n";
 
-const CASES: [Case; 18] = [
+static CASES: [Case; 18] = [
     (
         "a global word",
         FILE,
@@ -130,7 +130,7 @@ fn element_in<A: Allocator>(
 
 #[test]
 fn lines_give_buffers(rt: HostRuntime) -> Result<(), Fail> {
-    for (name, file, word, wanted) in CASES {
+    for &(name, file, word, wanted) in &CASES {
         assert_eq!(rt; element_in(rt.alloc(), file, word), wanted, "{name}");
     }
     Ok(())

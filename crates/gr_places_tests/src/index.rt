@@ -33,7 +33,7 @@ fn placed(asked: Asked) -> Placed {
     }
 }
 
-const CASES: [Case; 6] = [
+static CASES: [Case; 6] = [
     ("the first of two lines", Event(0, 0), Some("a:1"), Some(0)),
     ("another text", Event(0, 1), Some("a:2"), Some(1)),
     (

@@ -26,7 +26,7 @@ type Case = (
 
 const TWO_LINES: &[u8] = b"0 3 12 scan.cl:4992:7\n1 scan.cl:5000:3\n";
 
-const CASES: [Case; 20] = [
+static CASES: [Case; 20] = [
     (
         "an event",
         TWO_LINES,
@@ -136,7 +136,7 @@ fn place_in<A: Allocator>(
 
 #[test]
 fn lines_give_places(rt: HostRuntime) -> Result<(), Fail> {
-    for (name, file, asked, wanted) in CASES {
+    for &(name, file, asked, wanted) in &CASES {
         assert_eq!(rt; place_in(rt.alloc(), file, asked), wanted, "{name}");
     }
     Ok(())

@@ -13,7 +13,7 @@ const NO_RACE: &str = "group 0 items 1 launch 7\n0 w g 16\nend\n";
 
 #[test]
 fn races_have_their_causes(rt: HostRuntime) -> Result<(), Fail> {
-    for case in CASES {
+    for case in &CASES {
         let name = case.0;
         let answer = has_cause(rt.alloc(), rt.alloc(), &case);
         assert!(rt; answer == Ok(true), "{name}");
@@ -46,7 +46,7 @@ fn several_races_have_the_causes_of_each(rt: HostRuntime) -> Result<(), Fail> {
 
 #[test]
 fn races_are_gone_where_the_rule_of_their_cause_is_relaxed(rt: HostRuntime) -> Result<(), Fail> {
-    for case in CASES {
+    for case in &CASES {
         let name = case.0;
         let by_flags = is_gone(rt.alloc(), &case, Relaxation::BothFlags);
         let by_scope = is_gone(rt.alloc(), &case, Relaxation::DeviceScope);

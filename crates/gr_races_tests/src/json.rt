@@ -43,7 +43,7 @@ const NEITHER: SideNames<'static> = SideNames {
     buffers: None,
 };
 
-const CASES: [Case; 4] = [
+static CASES: [Case; 4] = [
     (
         "side files",
         KINDS,
@@ -144,7 +144,7 @@ fn shown(
 #[test]
 fn races_are_shown(rt: HostRuntime) -> Result<(), Fail> {
     let alloc = rt.alloc();
-    for (name, stream, sides, most, causes, found, wanted) in CASES {
+    for &(name, stream, sides, most, causes, found, wanted) in &CASES {
         let (answer, text) = shown(alloc, stream, &sides, most, causes)?;
         assert_eq!(rt; answer, Ok(found), "{name}");
         assert_eq!(rt; str::from_utf8(&text), Ok(wanted), "{name}");

@@ -26,7 +26,7 @@ const FLAGS: &str = "kind global write read one group words 1\nwords global 16\n
 race global 16: 0 0 0 with 0 1 2\n\
 cause flags: with CLK_LOCAL_MEM_FENCE | CLK_GLOBAL_MEM_FENCE at every barrier the two would be ordered\n";
 
-const CASES: [Case; 6] = [
+static CASES: [Case; 6] = [
     (
         "flags, and no barrier",
         TWO_CAUSES,
@@ -129,7 +129,7 @@ fn shown<A: Allocator + Copy>(
 #[test]
 fn causes_are_told(rt: HostRuntime) -> Result<(), Fail> {
     let alloc = rt.alloc();
-    for (name, streams, most, wanted) in CASES {
+    for &(name, streams, most, wanted) in &CASES {
         let streams = packed(alloc, streams)?;
         let (answer, text) = shown(alloc, alloc, &streams, most)?;
         assert_eq!(rt; answer, Ok(!wanted.starts_with("end")), "{name}");

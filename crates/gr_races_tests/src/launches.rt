@@ -29,7 +29,7 @@ const WAITING_FOR_EACH_OTHER: &str =
     "group 0 items 2 launch 7\n0 w g 16\n0 ld g 20 dev acq < 0 1 0\n0 bar 1 g\n\
      1 bar 1 l\n1 st g 20 dev rel\n1 r g 16\nend\n";
 
-pub(crate) const CASES: [Case; 17] = [
+pub(crate) static CASES: [Case; 17] = [
     (
         "a global word and a barrier that flags local memory",
         WRONG_FLAG,

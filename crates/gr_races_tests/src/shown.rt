@@ -49,7 +49,7 @@ type Case = (
     &'static str,
 );
 
-const CASES: [Case; 8] = [
+static CASES: [Case; 8] = [
     ("no side files", None, None, None, PLAIN),
     ("both", Some("places"), Some("buffers"), None, NOTED),
     (
@@ -161,7 +161,7 @@ fn shown<A: Allocator + Copy>(
 #[test]
 fn races_are_shown(rt: HostRuntime) -> Result<(), Fail> {
     let alloc = rt.alloc();
-    for (name, places, buffers, most, wanted) in CASES {
+    for &(name, places, buffers, most, wanted) in &CASES {
         let sides = SideNames { places, buffers };
         let (answer, text) = shown(alloc, alloc, &sides, &["stream"], most, usize::MAX)?;
         assert_eq!(rt; answer, Ok(true), "{name}");
@@ -180,7 +180,7 @@ type Refusal = (
     &'static str,
 );
 
-const REFUSALS: [Refusal; 7] = [
+static REFUSALS: [Refusal; 7] = [
     (
         "a bad line of places",
         Some("bad"),
@@ -252,7 +252,7 @@ fn is_refused_unflushed(heap: Global, fault: &SidesFault, line: &str) -> bool {
 #[test]
 fn faults_come_in_their_order(rt: HostRuntime) -> Result<(), Fail> {
     let alloc = rt.alloc();
-    for (name, places, buffers, stream, wanted, wanted_line) in REFUSALS {
+    for &(name, places, buffers, stream, wanted, wanted_line) in &REFUSALS {
         let sides = SideNames { places, buffers };
         let (answer, text) = shown(alloc, alloc, &sides, &[stream], None, usize::MAX)?;
         assert_eq!(rt; answer, Err(wanted), "{name}");

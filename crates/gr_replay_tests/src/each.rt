@@ -14,7 +14,7 @@ use std::test::Fail;
 /// A row: its name, the pieces of each input, and the fault that is due.
 type Case = (&'static str, &'static [&'static [&'static [u8]]], Fault);
 
-const CASES: [Case; 11] = [
+static CASES: [Case; 11] = [
     ("no reader", &[], Fault::Shape(ShapeError::NoGroups)),
     (
         "an input of nothing",
@@ -91,7 +91,7 @@ fn readers_of<'a, A: Allocator>(
 
 #[test]
 fn the_first_fault_of_the_inputs_is_told(rt: HostRuntime) -> Result<(), Fail> {
-    for (name, inputs, fault) in CASES {
+    for &(name, inputs, fault) in &CASES {
         let inputs = inputs_of(rt.alloc(), inputs)?;
         let readers = readers_of(rt.alloc(), inputs.as_slice())?;
         let answer = read_each(rt.alloc(), readers);

@@ -132,7 +132,7 @@ fn each_refused_growth_is_want_of_memory(rt: HostRuntime) -> Result<(), Fail> {
         None,
         "barriers and names"
     );
-    for (name, pieces, lines) in CASES {
+    for &(name, pieces, lines) in &CASES {
         let bytes = joined(rt.alloc(), pieces)?;
         let text = format!(in rt.alloc(); "gpurace 1\n{lines}")?;
         assert_eq!(rt;

@@ -11,7 +11,7 @@ use std::test::Fail;
 /// A row: its name, the pieces of its input, and the fault that is due.
 type Case = (&'static str, &'static [&'static [u8]], Fault);
 
-const RECORD_CASES: [Case; 9] = [
+static RECORD_CASES: [Case; 9] = [
     (
         "no magic",
         &[&[0], &HEADER_0_2, &END],
@@ -59,7 +59,7 @@ const RECORD_CASES: [Case; 9] = [
     ),
 ];
 
-const STREAM_CASES: [Case; 8] = [
+static STREAM_CASES: [Case; 8] = [
     ("nothing", &[], Fault::Shape(ShapeError::NoGroups)),
     (
         "no end",
@@ -98,7 +98,7 @@ const STREAM_CASES: [Case; 8] = [
     ),
 ];
 
-const ORDER_CASES: [Case; 4] = [
+static ORDER_CASES: [Case; 4] = [
     (
         "a group again before its bad record",
         &[&HEADER_0_1, &END, &HEADER_0_2, &BAD_KIND],
@@ -134,13 +134,13 @@ const LARGEST: &str =
 
 #[test]
 fn the_first_fault_is_told_and_nothing_is_written(rt: HostRuntime) -> Result<(), Fail> {
-    for (name, pieces, fault) in RECORD_CASES {
+    for &(name, pieces, fault) in &RECORD_CASES {
         assert!(rt; is_refused(rt.alloc(), pieces, fault)?, "{name}");
     }
-    for (name, pieces, fault) in STREAM_CASES {
+    for &(name, pieces, fault) in &STREAM_CASES {
         assert!(rt; is_refused(rt.alloc(), pieces, fault)?, "{name}");
     }
-    for (name, pieces, fault) in ORDER_CASES {
+    for &(name, pieces, fault) in &ORDER_CASES {
         assert!(rt; is_refused(rt.alloc(), pieces, fault)?, "{name}");
     }
     Ok(())

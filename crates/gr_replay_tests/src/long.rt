@@ -7,7 +7,7 @@ use crate::reports::is_reported;
 use std::test::Fail;
 
 /// Launches of version 2, with acquires of several names.
-const CASES: [Case; 5] = [
+static CASES: [Case; 5] = [
     (
         "an acquire of two releases",
         &[
@@ -129,7 +129,7 @@ const CASES: [Case; 5] = [
 
 #[test]
 fn launches_of_version_two_are_reported(rt: HostRuntime) -> Result<(), Fail> {
-    for (name, pieces, lines) in CASES {
+    for &(name, pieces, lines) in &CASES {
         assert!(rt; is_reported(rt.alloc(), pieces, lines)?, "{name}");
     }
     Ok(())
@@ -137,7 +137,7 @@ fn launches_of_version_two_are_reported(rt: HostRuntime) -> Result<(), Fail> {
 
 #[test]
 fn each_refused_growth_on_version_two_is_out_of_memory(rt: HostRuntime) -> Result<(), Fail> {
-    for (name, pieces, lines) in CASES {
+    for &(name, pieces, lines) in &CASES {
         let bytes = joined(rt.alloc(), pieces)?;
         let text = format!(in rt.alloc(); "gpurace 1\n{lines}")?;
         assert_eq!(rt;

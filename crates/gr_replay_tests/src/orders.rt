@@ -7,7 +7,7 @@ use std::test::Fail;
 /// A row: its name, the pieces of its input, and the lines behind the first, which is the same in all.
 pub(crate) type Case = (&'static str, &'static [&'static [u8]], &'static str);
 
-pub(crate) const CASES: [Case; 16] = [
+pub(crate) static CASES: [Case; 16] = [
     (
         "a release and an acquire of two groups",
         &[
@@ -211,7 +211,7 @@ pub(crate) const CASES: [Case; 16] = [
 
 #[test]
 fn ordered_launches_are_reported(rt: HostRuntime) -> Result<(), Fail> {
-    for (name, pieces, lines) in CASES {
+    for &(name, pieces, lines) in &CASES {
         assert!(rt; is_reported(rt.alloc(), pieces, lines)?, "{name}");
     }
     Ok(())

@@ -8,7 +8,7 @@ use std::test::Fail;
 /// A row: its name, the pieces of its input, and the lines behind the first, which is the same in all.
 type Case = (&'static str, &'static [&'static [u8]], &'static str);
 
-const CASES: [Case; 12] = [
+static CASES: [Case; 12] = [
     (
         "a write and a read of two items",
         &[&HEADER_0_2, &WRITE_0, &READ_1, &END],
@@ -108,7 +108,7 @@ pub(crate) fn is_reported(
 
 #[test]
 fn accepted_launches_are_reported(rt: HostRuntime) -> Result<(), Fail> {
-    for (name, pieces, lines) in CASES {
+    for &(name, pieces, lines) in &CASES {
         assert!(rt; is_reported(rt.alloc(), pieces, lines)?, "{name}");
     }
     Ok(())

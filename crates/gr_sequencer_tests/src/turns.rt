@@ -18,7 +18,7 @@ type Done = (u32, bool);
 /// A row: its name, its barriers, and what is done behind each.
 type Row = (&'static str, Barriers, [Done; 4]);
 
-const ROWS: [Row; 5] = [
+static ROWS: [Row; 5] = [
     (
         "all come with one site, side by side",
         [(0, 7), (1, 7), (2, 7), (3, 7)],

@@ -57,7 +57,7 @@ const SIX_ATOMICS: [Option<Step>; 7] = [
     Some((FOUR, 0, 1, Class::PlainRead, [2, 0, 0, 0, 0, 0])),
 ];
 
-const ROWS: [Row; 13] = [
+static ROWS: [Row; 13] = [
     (
         "a word is answered once",
         1,

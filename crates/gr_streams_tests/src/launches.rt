@@ -25,7 +25,7 @@ pub(crate) const RELEASE: Launch = (
 );
 
 /// Launches of every kind.
-pub(crate) const LAUNCHES: [Launch; 8] = [
+pub(crate) static LAUNCHES: [Launch; 8] = [
     RACE,
     RELEASE,
     (

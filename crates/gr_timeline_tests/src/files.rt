@@ -43,7 +43,7 @@ type Case = (
     bool,
 );
 
-const CASES: [Case; 8] = [
+static CASES: [Case; 8] = [
     ("no side files", None, None, Word::Global(16), PLAIN, false),
     (
         "side files that say nothing",
@@ -163,7 +163,7 @@ fn shown<A: Allocator + Copy>(
 #[test]
 fn histories_are_shown_with_side_files(rt: HostRuntime) -> Result<(), Fail> {
     let alloc = rt.alloc();
-    for (name, places, buffers, word, wanted, racy) in CASES {
+    for &(name, places, buffers, word, wanted, racy) in &CASES {
         let sides = SideNames { places, buffers };
         let (answer, text) = shown(alloc, alloc, &sides, &["stream"], word, usize::MAX)?;
         assert_eq!(rt; answer, Ok(racy), "{name}");
@@ -181,7 +181,7 @@ type Refusal = (
     SidesFault,
 );
 
-const REFUSALS: [Refusal; 7] = [
+static REFUSALS: [Refusal; 7] = [
     (
         "a stream that is not there, before a bad line",
         Some("bad"),
@@ -237,7 +237,7 @@ const REFUSALS: [Refusal; 7] = [
 fn faults_come_in_their_order(rt: HostRuntime) -> Result<(), Fail> {
     let alloc = rt.alloc();
     let word = Word::Global(16);
-    for (name, places, buffers, stream, wanted) in REFUSALS {
+    for &(name, places, buffers, stream, wanted) in &REFUSALS {
         let sides = SideNames { places, buffers };
         let (answer, text) = shown(alloc, alloc, &sides, &[stream], word, usize::MAX)?;
         assert_eq!(rt; answer, Err(wanted), "{name}");

@@ -44,7 +44,7 @@ const FIRST_GROUP: &str = "group 0 items 1 launch 7\n0 w l 5\n0 r l 5\nend\n";
 
 const SECOND_GROUP: &str = "group 1 items 1 launch 7\n0 w g 5\n0 r l 5\nend\n";
 
-const CASES: [Case; 4] = [
+static CASES: [Case; 4] = [
     (
         "what is passed on",
         &[PASSED],
@@ -158,7 +158,7 @@ fn first_wrong_growth(alloc: Global, inputs: &[Vec<u8>], asked: Asked) -> Option
 
 #[test]
 fn histories_are_shown_or_memory_runs_out(rt: HostRuntime) -> Result<(), Fail> {
-    for (name, texts, all_asked) in CASES {
+    for &(name, texts, all_asked) in &CASES {
         let inputs = inputs_of(rt.alloc(), texts)?;
         for asked in all_asked {
             let (_, wanted, _) = *asked;

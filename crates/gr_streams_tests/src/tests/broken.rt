@@ -21,7 +21,7 @@ const THREE: [&str; 3] = [
     "group 2 items 1 launch 7\n0 w g 18\nend\n",
 ];
 
-const CASES: [Case; 11] = [
+static CASES: [Case; 11] = [
     (
         "a header's fault",
         &[(1, 0, 0)],
@@ -86,7 +86,7 @@ fn changed(alloc: Global, changes: &[Change]) -> Result<Vec<Vec<u8>>, Fail> {
 
 #[test]
 fn the_first_fault_is_told(rt: HostRuntime) -> Result<(), Fail> {
-    for (name, changes, fault) in CASES {
+    for &(name, changes, fault) in &CASES {
         let streams = changed(rt.alloc(), changes)?;
         let (answer, text) = run_bytes(rt, rt.alloc(), streams, (2, 2, 1))?;
         assert!(rt; answer == Err(fault), "{name}");

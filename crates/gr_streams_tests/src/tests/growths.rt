@@ -48,7 +48,7 @@ fn copies_of(alloc: Global, streams: &[Vec<u8>]) -> Result<Vec<Vec<u8>>, Fail> {
 
 #[test]
 fn each_refused_growth_is_want_of_memory(rt: HostRuntime) -> Result<(), Fail> {
-    for (name, texts, lines) in LAUNCHES {
+    for &(name, texts, lines) in &LAUNCHES {
         let streams = packed_all(rt.alloc(), texts)?;
         let wanted = report_with(rt.alloc(), lines)?;
         let wrong = first_wrong_growth(rt, rt.alloc(), &streams, (2, 2, 1), &wanted)?;

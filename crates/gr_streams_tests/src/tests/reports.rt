@@ -11,7 +11,7 @@ use std::sync::Arc;
 use std::sync::atomic::Ordering;
 use std::test::*;
 
-const PLANS: [Plan; 8] = [
+static PLANS: [Plan; 8] = [
     (1, 1, 1),
     (1, 1, 1024),
     (1, 2, 1),
@@ -37,14 +37,14 @@ fn replayed(alloc: Global, streams: &[Vec<u8>]) -> Result<Vec<u8>, Fail> {
 
 #[test]
 fn reports_are_those_of_replay(rt: HostRuntime) -> Result<(), Fail> {
-    for (name, texts, lines) in LAUNCHES {
+    for &(name, texts, lines) in &LAUNCHES {
         let streams = packed_all(rt.alloc(), texts)?;
         let wanted = report_with(rt.alloc(), lines)?;
         assert!(rt;
             replayed(rt.alloc(), streams.as_slice())? == wanted,
             "replay: {name}"
         );
-        for plan in PLANS {
+        for &plan in &PLANS {
             let (answer, text) = run_bytes(rt, rt.alloc(), packed_all(rt.alloc(), texts)?, plan)?;
             assert_eq!(rt; answer, Ok(()));
             assert!(rt; text == wanted, "{name}");
