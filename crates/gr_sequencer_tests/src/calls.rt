@@ -86,6 +86,35 @@ pub(crate) fn take<A: Allocator>(
     Some(answer)
 }
 
+fn take_and_handle_once<A: Allocator + Copy>(
+    sequencer: &mut Sequencer<A>,
+    group: u16,
+    event: &Event,
+) -> Result<Option<Handled<A>>, SeqError> {
+    if is_lawful(event) && sequencer.taken(group) < 16_777_216 {
+        sequencer.take_and_handle(group, *event)
+    } else {
+        Err(SeqError::Memory)
+    }
+}
+
+/// The step, or `None` where the event waits.
+pub(crate) fn take_and_handle<A: Allocator + Copy>(
+    sequencer: &mut Sequencer<A>,
+    group: u16,
+    event: Event,
+) -> Option<Option<Handled<A>>> {
+    let before = state(sequencer);
+    let mut answer = take_and_handle_once(sequencer, group, &event);
+    if matches!(&answer, Err(SeqError::Memory)) {
+        if state(sequencer) != before {
+            return None;
+        }
+        answer = take_and_handle_once(sequencer, group, &event);
+    }
+    answer.ok()
+}
+
 pub(crate) fn step<A: Allocator + Copy>(
     sequencer: &mut Sequencer<A>,
 ) -> Option<Option<Handled<A>>> {

@@ -11,6 +11,8 @@ mod rows;
 #[cfg(test)]
 mod sequencers;
 #[cfg(test)]
+mod together;
+#[cfg(test)]
 mod told;
 #[cfg(test)]
 mod turns;

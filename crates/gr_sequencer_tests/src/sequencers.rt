@@ -1,8 +1,8 @@
 //! The worked rows by the sequencer, each with each growth refused in turn: the steps are made once all records were taken,
-//! or behind each record, by `step` or by the calls that it stands for.
+//! or behind each record, or in one call with it where that can be, by `step` or by the calls that it stands for.
 
-use crate::calls::{handle, meet, new, step, take};
-use crate::rows::{ROWS, Row, Told, event_of};
+use crate::calls::{handle, meet, new, step, take, take_and_handle};
+use crate::rows::{ROWS, Record, Row, Told, event_of};
 use crate::told::told;
 use gr_model::event::ItemId;
 use gr_sequencer::sequencer::Sequencer;
@@ -16,7 +16,9 @@ enum Way {
     /// By `step`, once all records were taken.
     Last,
     /// By `step`, behind each record.
-    AtOnce,
+    Behind,
+    /// By `take_and_handle` where it makes one, and else by `step`, once all records were taken.
+    Together,
     /// By `handle` and `meet`, once all records were taken.
     ByCalls,
 }
@@ -31,16 +33,31 @@ fn rest<A: Allocator + Copy>(sequencer: &mut Sequencer<A>) -> Option<()> {
     None
 }
 
+/// Takes a record of a row.
+fn take_record<A: Allocator + Copy>(
+    sequencer: &mut Sequencer<A>,
+    record: &Record,
+    way: Way,
+) -> Option<()> {
+    let event = event_of(record);
+    match way {
+        Way::Last | Way::ByCalls => take(sequencer, record.0, event)?.ok(),
+        Way::Behind => {
+            take(sequencer, record.0, event)?.ok()?;
+            rest(sequencer)
+        }
+        Way::Together => {
+            let _step = take_and_handle(sequencer, record.0, event)?;
+            Some(())
+        }
+    }
+}
+
 /// Takes all records of a row.
 fn take_all<A: Allocator + Copy>(sequencer: &mut Sequencer<A>, row: &Row, way: Way) -> Option<()> {
     let (_, _, records, _) = row;
     for record in records.iter() {
-        if take(sequencer, record.0, event_of(record))? != Ok(()) {
-            return None;
-        }
-        if way == Way::AtOnce {
-            rest(sequencer)?;
-        }
+        take_record(sequencer, record, way)?;
     }
     Some(())
 }
@@ -68,7 +85,7 @@ fn go_rounds<A: Allocator + Copy>(sequencer: &mut Sequencer<A>) -> Option<()> {
 fn follow<A: Allocator + Copy>(sequencer: &mut Sequencer<A>, row: &Row, way: Way) -> Option<()> {
     take_all(sequencer, row, way)?;
     match way {
-        Way::Last | Way::AtOnce => rest(sequencer),
+        Way::Last | Way::Behind | Way::Together => rest(sequencer),
         Way::ByCalls => go_rounds(sequencer),
     }
 }
@@ -97,7 +114,7 @@ fn first_wrong_growth(alloc: Global, row: &Row, way: Way) -> Option<u64> {
 /// The first row where the answer is wrong, the way, and the number of the growth that was refused, if there is one.
 fn first_wrong_row(alloc: Global, rows: &[Row]) -> Option<(&'static str, Way, u64)> {
     for row in rows {
-        for way in [Way::Last, Way::AtOnce, Way::ByCalls] {
+        for way in [Way::Last, Way::Behind, Way::Together, Way::ByCalls] {
             if let Some(growth) = first_wrong_growth(alloc, row, way) {
                 return Some((row.0, way, growth));
             }
