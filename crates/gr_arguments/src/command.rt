@@ -240,6 +240,17 @@ fn flag_arg<'a>(alloc: Global, name: &'a str, help: &'a str) -> Arg<'a>
         .help(help)
 }
 
+/// An option with a value.
+fn option_arg<'a>(alloc: Global, name: &'a str, value: &'a str, help: &'a str) -> Arg<'a>
+    ensures rule { rule_of result ≡ option_rule name.now }
+    ensures alone { result.global ≡ false }
+{
+    Arg::new(alloc, name)
+        .long(name)
+        .value_name(value)
+        .help(help)
+}
+
 /// A value that has to be given.
 fn wanted_arg<'a>(alloc: Global, name: &'a str, help: &'a str) -> Arg<'a>
     ensures rule { rule_of result ≡ wanted name.now }
@@ -281,21 +292,12 @@ fn explain_command<'a>(alloc: Global) -> Result<Command<'a>, AllocError>
         .long_about(LONG_EXPLAIN)
         .after_help(AFTER_EXPLAIN)
         .arg(flag_arg(alloc, "long", LONG))?
+        .arg(option_arg(alloc, "places", "FILE", PLACES))?
+        .arg(option_arg(alloc, "buffers", "FILE", BUFFERS))?
         .arg(flag_arg(alloc, "json", JSON))?
         .arg(wanted_arg(alloc, "SPACE", SPACE))?
         .arg(wanted_arg(alloc, "WORD", WORD))?
         .arg(files_arg(alloc))
-}
-
-/// An option with a value.
-fn option_arg<'a>(alloc: Global, name: &'a str, value: &'a str, help: &'a str) -> Arg<'a>
-    ensures rule { rule_of result ≡ option_rule name.now }
-    ensures alone { result.global ≡ false }
-{
-    Arg::new(alloc, name)
-        .long(name)
-        .value_name(value)
-        .help(help)
 }
 
 /// The command that shows all races.
