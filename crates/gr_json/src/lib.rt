@@ -4,6 +4,7 @@
 pub mod account;
 mod between;
 mod details;
+pub mod files;
 pub mod lines;
 pub mod race;
 pub mod report;
