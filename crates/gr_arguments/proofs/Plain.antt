@@ -337,4 +337,4 @@ long_words_ask space number file files w named plain =
 pub plain_words_misname : PlainWordsMisname
 plain_words_misname space number file files none plain =
     plain_words_ask_by false space number file files plain.0 plain.1.0 plain.1.1 (asked.explain (Err NoWord))
-    (refl, (in_short, (refl, refl, refl)), unnamed (all_rows space number plain.0 plain.1.0 false (file ∷ files)) space number refl refl none)
+    (refl, ((in_short, (refl, refl, refl)), unnamed (all_rows space number plain.0 plain.1.0 false (file ∷ files)) space number refl refl none))
