@@ -17,11 +17,13 @@ use std::test::Fail;
 
 /// Between the write and the read of word 16 stand two barriers, which flag other memories, a release and an acquire; then
 /// both items write a local word.
-const STREAM: &str = "group 0 items 2 launch 7\n0 w g 16\n0 bar 9 l\n1 bar 9 l\n1 bar 4 -\n0 bar 4 -\n\
+const STREAM: &str =
+    "group 0 items 2 launch 7\n0 w g 16\n0 bar 9 l\n1 bar 9 l\n1 bar 4 -\n0 bar 4 -\n\
 0 rmw g 20 dev both\n1 ld g 28 dev acq\n1 r g 16\n0 w l 4\n1 w l 4\nend\n";
 
 /// The first event and site 9 have two places. The read of word 16, the first write of the local word and site 4 have none.
-const PLACES: &[u8] = b"0 0 0 pass.cl:4\n0 0 0 pass.cl:5\n9 pass.cl:6 in a loop\n0 0 3 pass.cl:8\n9 fill.cl:1\n\
+const PLACES: &[u8] =
+    b"0 0 0 pass.cl:4\n0 0 0 pass.cl:5\n9 pass.cl:6 in a loop\n0 0 3 pass.cl:8\n9 fill.cl:1\n\
 3 pass.cl:7\n0 1 2 pass.cl:11\n0 1 4 fill.cl:3 of the tile\n";
 
 const BUFFERS: &[u8] = b"g 12 8 flags\ng 16 1 late\nl 0 0 16 tile\n";
@@ -114,7 +116,10 @@ fn open_stored<'a>(name: &str, stream: &'a [u8]) -> io::Result<FailingReader<'a>
         "stream" => (stream, usize::MAX),
         "places" => (PLACES, usize::MAX),
         "buffers" => (BUFFERS, usize::MAX),
-        "others" => (b"g 16 1 late\nl 1 0 16 tile\nl 0 5 3 tail\n".as_slice(), usize::MAX),
+        "others" => (
+            b"g 16 1 late\nl 1 0 16 tile\nl 0 5 3 tail\n".as_slice(),
+            usize::MAX,
+        ),
         "empty" => (b"".as_slice(), usize::MAX),
         "bad" => (b"1 a\n1\n".as_slice(), usize::MAX),
         "failing" => (PLACES, 3),
