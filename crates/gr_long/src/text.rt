@@ -254,7 +254,7 @@ fn put_account<A: Allocator, W: Write>(
 ///
 /// # Errors
 /// `WriteFault` where the writer fails; what it took is then a prefix of the text.
-pub fn write_account<A: Allocator, W: Write>(
+pub(crate) fn write_account<A: Allocator, W: Write>(
     writer: &mut W,
     sides: &Sides<'_>,
     places: &PlaceIndex<'_, A>,
