@@ -211,8 +211,20 @@ fn put_race<A: Allocator, W: Write>(
 ) -> Result<(), WriteFault>
     ensures { Puts (W.contents writer.old) (W.contents writer.new) result (spec.race_lines (place_at places.now) word (account_said account.now)) }
 {
-    put_details(writer, places, b"first", account.first, &account.first_details)?;
-    put_details(writer, places, b"second", account.second, &account.second_details)?;
+    put_details(
+        writer,
+        places,
+        b"first",
+        account.first,
+        &account.first_details,
+    )?;
+    put_details(
+        writer,
+        places,
+        b"second",
+        account.second,
+        &account.second_details,
+    )?;
     put_between(writer, places, &account.between)?;
     put(writer, cause_line(word, account.cause))
 }
@@ -242,7 +254,7 @@ fn put_account<A: Allocator, W: Write>(
 ///
 /// # Errors
 /// `WriteFault` where the writer fails; what it took is then a prefix of the text.
-pub fn write_account<A: Allocator, W: Write>(
+pub(crate) fn write_account<A: Allocator, W: Write>(
     writer: &mut W,
     sides: &Sides<'_>,
     places: &PlaceIndex<'_, A>,
