@@ -1,5 +1,5 @@
 -- What values of arguments are, and that they ask for one thing at most.
-use Rattle.std.proofs.Common.{◌≡◌, ◌∙◌, ℕ, List, Option, None, Some, true≢false, sym, ap, map, Bor, codes, inl, inr, refl, subst, Result, Ok, Err, MatchOption}
+use Rattle.std.proofs.Common.{◌≡◌, ◌∙◌, ℕ, List, Option, None, Some, false, true, true≢false, sym, ap, ap₂, map, Bor, codes, inl, inr, refl, subst, Result, Ok, Err, MatchOption}
 use Rattle.std.specs.Prelude.{◌↔◌, IfOk, IsOk, option_map, is_some}
 use Rattle.std.specs.Result.{result_ok}
 use Rattle.clap.specs.declared.parser.matches.Found.{Found}
@@ -10,12 +10,22 @@ use Rattle.gr_model.specs.declared.config.ConfigError.{ConfigError}
 use Rattle.gr_model.specs.declared.event.EventId.{EventId}
 use Rattle.gr_model.specs.declared.event.Word.{Word}
 use Rattle.gr_model.specs.Configs.{IsConfig, Settings}
-use Rattle.gr_arguments.specs.Asked.{AskedCheck, AskedEvent, AskedHistory, AskedRaces, AskedRun, AskedWord, IsAskedCheck, IsAskedEvent, IsAskedHistory, IsAskedRaces, IsAskedRun, IsAskedWord, IsMost, IsNumberOr, IsSetUp, IsTheOne, NamesWord}
+use Rattle.gr_arguments.specs.declared.request.NoQuestion.{NoQuestion}
+use Rattle.gr_arguments.specs.declared.request.NoQuestion.TheVariants.{NoWord, SidesAlone}
+use Rattle.gr_arguments.specs.Asked.{AskedCheck, AskedEvent, AskedForm, AskedHistory, AskedRaces, AskedRun, AskedWord, IsAskedCheck, IsAskedEvent, IsAskedForm, IsAskedHistory, IsAskedRaces, IsAskedRun, IsAskedWord, IsExplained, IsMost, IsNumberOr, IsSetUp, IsTheOne, NamesWord, has_flag, in_long, in_short}
 use Rattle.gr_arguments.specs.Naming.{IsNumber, Names, NamesEvent}
 use Rattle.gr_arguments.proofs.NamingLemmas.{events_one, names_one}
 
 nothing_is_some : {X : Type 0} (x : X) → None ≡ Some x → ⊥
 nothing_is_some {X = X} x e = true≢false (sym (ap (λ (o : Option X). is_some o) e))
+
+is_nothing : {X : Type 0} (o : Option X) → is_some o ≡ false → o ≡ None
+is_nothing None e = refl
+is_nothing (Some x) e = absurd (true≢false e)
+
+some_of_map : (o : Option (Bor Text)) → is_some (option_map (λ s. s.now) o) ≡ is_some o
+some_of_map None = refl
+some_of_map (Some x) = refl
 
 injected : {X : Type 0} (x y : X) → Some x ≡ Some y → x ≡ y
 injected x y e = cc
@@ -30,6 +40,12 @@ module _ (f : Found) (id : Text) (o : Option (Bor Text)) (e : option_map (λ s. 
   -- what the values have under the name
   pub text_there : option_map (λ s. s.now) o ≡ first_of id (rows_of f)
   text_there = e ∙ first_value-rows f id
+
+  pub none_there : is_some o ≡ false → first_of id (rows_of f) ≡ None
+  none_there none = text_is_none (is_nothing o none)
+
+  pub some_there : is_some o ≡ true → first_of id (rows_of f) ≡ None → ⊥
+  some_there some none = true≢false (sym some ∙ sym (some_of_map o) ∙ ap (λ (t : Option Text). is_some t) (text_there ∙ none))
 
   pub no_text : o ≡ None → (t : Text) → first_of id (rows_of f) ≡ Some t → ⊥
   no_text none t at = nothing_is_some t (sym (ap (option_map (λ (s : Bor Text). s.now)) none) ∙ e ∙ first_value-rows f id ∙ at)
@@ -62,13 +78,36 @@ same_word rows v w a b =
     let same_number : b.number ≡ a.number = injected b.number a.number (sym b.at_number ∙ a.at_number) in
     names_one a.space a.number v w a.names (rw (same_space, same_number) at b.names)
 
-pub one_word : (rows : List Row) (a b : AskedWord) → IsAskedWord rows a → IsAskedWord rows b → a ≡ b
+-- where the values have no flag of the long form, and a side file, they ask for no form
+pub no_form : (rows : List Row) → has_flag (codes "long") rows ≡ false → (first_of (codes "places") rows ≡ None → first_of (codes "buffers") rows ≡ None → ⊥) → (f : AskedForm) → IsAskedForm rows f → ⊥
+no_form rows off none in_short is = none is.1 is.2
+no_form rows off none (in_long places buffers) is = true≢false (sym is.0 ∙ off)
+
+-- they ask for one form at most
+one_form : (rows : List Row) (f g : AskedForm) → IsAskedForm rows f → IsAskedForm rows g → f ≡ g
+one_form rows in_short in_short h k = refl
+one_form rows in_short (in_long places buffers) h k = absurd (true≢false (sym k.0 ∙ h.0))
+one_form rows (in_long places buffers) in_short h k = absurd (true≢false (sym h.0 ∙ k.0))
+one_form rows (in_long places buffers) (in_long others more) h k = ap₂ in_long (sym h.1 ∙ k.1) (sym h.2 ∙ k.2)
+
+one_word : (rows : List Row) (a b : AskedWord) → IsAskedWord rows a → IsAskedWord rows b → a ≡ b
 one_word rows a b h k =
-    let long : a.long ≡ b.long = sym h.form ∙ k.form in
+    let form : a.form ≡ b.form = one_form rows a.form b.form h.form k.form in
     let json : a.json ≡ b.json = sym h.as_json ∙ k.as_json in
     let word : a.word ≡ b.word = same_word rows a.word b.word h.named k.named in
     let files : a.files ≡ b.files = sym h.at_files ∙ k.at_files in
-    λ i. record { long = long i; json = json i; word = word i; files = files i }
+    λ i. record { form = form i; json = json i; word = word i; files = files i }
+
+pub one_explained : (rows : List Row) (r s : Result AskedWord NoQuestion) → IsExplained rows r → IsExplained rows s → r ≡ s
+one_explained rows (Ok a) (Ok b) h k = ap Ok (one_word rows a b h k)
+one_explained rows (Ok a) (Err SidesAlone) h k = absurd (k a.form h.form)
+one_explained rows (Ok a) (Err NoWord) h k = absurd (k.1 a.word h.named)
+one_explained rows (Err SidesAlone) (Ok b) h k = absurd (h b.form k.form)
+one_explained rows (Err NoWord) (Ok b) h k = absurd (h.1 b.word k.named)
+one_explained rows (Err SidesAlone) (Err SidesAlone) h k = refl
+one_explained rows (Err SidesAlone) (Err NoWord) h k = absurd (h k.0.0 k.0.1)
+one_explained rows (Err NoWord) (Err SidesAlone) h k = absurd (k h.0.0 h.0.1)
+one_explained rows (Err NoWord) (Err NoWord) h k = refl
 
 -- ---- the command `history`
 

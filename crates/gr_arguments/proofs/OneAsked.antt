@@ -4,10 +4,10 @@ use Rattle.std.specs.Str.{bytes_eq}
 use Rattle.clap.specs.Walk.{Row, Text}
 use Rattle.gr_arguments.specs.declared.request.Task.{Task}
 use Rattle.gr_arguments.specs.declared.request.Task.TheVariants.{Replay, Pack, Dump, Upgrade}
-use Rattle.gr_arguments.specs.Asked.{Asked, IsAskedBy, IsAskedEvent, IsAskedHistory, IsAskedRaces, IsAskedRun, IsAskedTask, IsAskedWord, IsTheOne, check, explain, history, perform, races, run, why_held}
+use Rattle.gr_arguments.specs.Asked.{Asked, IsAskedBy, IsAskedEvent, IsAskedHistory, IsAskedRaces, IsAskedRun, IsAskedTask, IsTheOne, check, explain, history, perform, races, run, why_held}
 use Rattle.gr_arguments.specs.Commands.{command_of, name_met, name_of, values_met}
 use Rattle.gr_arguments.specs.Plain.{WordsAskOnce}
-use Rattle.gr_arguments.proofs.Asking.{one_check, one_event, one_history, one_races, one_run, one_word}
+use Rattle.gr_arguments.proofs.Asking.{one_check, one_event, one_explained, one_history, one_races, one_run}
 
 -- texts that differ are not the same
 apart : (x y : Text) → bytes_eq x y ≡ false → bytes_eq x x ≡ true → x ≡ y → ⊥
@@ -60,7 +60,7 @@ one_asked name rows (perform t) (run p) h k = absurd (task_apart t (codes "run")
 one_asked name rows (perform t) (check j) h k = absurd (task_apart t (codes "check") refl refl refl refl (sym (name_is name rows t h) ∙ k.0))
 one_asked name rows (perform t) (why_held p) h k = absurd (task_apart t (codes "why-held") refl refl refl refl (sym (name_is name rows t h) ∙ k.0))
 one_asked name rows (explain o) (perform u) h k = absurd (task_apart u (codes "explain") refl refl refl refl (sym (name_is name rows u k) ∙ h.0))
-one_asked name rows (explain o) (explain p) h k = ap explain (the_one (IsAskedWord rows) (one_word rows) o p h.1 k.1)
+one_asked name rows (explain o) (explain p) h k = ap explain (one_explained rows o p h.1 k.1)
 one_asked name rows (explain o) (races p) h k = absurd (apart (codes "explain") (codes "races") refl refl (sym h.0 ∙ k.0))
 one_asked name rows (explain o) (history p) h k = absurd (apart (codes "explain") (codes "history") refl refl (sym h.0 ∙ k.0))
 one_asked name rows (explain o) (run p) h k = absurd (apart (codes "explain") (codes "run") refl refl (sym h.0 ∙ k.0))

@@ -1,5 +1,5 @@
 -- Words that begin with no hyphen, in the walk over the words of a command line.
-use Rattle.std.proofs.Common.{◌≡◌, ◌∙◌, ℕ, Bool, true, false, List, [], ◌∷◌, ◌++◌, Option, Some, None, refl, sym, ap, ap₂, append_assoc, append-nil, codes, arith, subst}
+use Rattle.std.proofs.Common.{◌≡◌, ◌∙◌, ℕ, Bool, true, false, List, [], ◌∷◌, ◌++◌, Option, Some, None, Ok, Err, refl, sym, ap, ap₂, append_assoc, append-nil, codes, arith, subst}
 use Rattle.std.specs.Prelude.{◌==◌, fold, is_some}
 use Rattle.clap.proofs.OnLiterals.{clap_on_literals}
 use Rattle.clap.specs.Kinds.{Kinds, or_else}
@@ -14,8 +14,9 @@ use Rattle.std.proofs.lemmas.Bool.Decides.{Decides-eqb}
 use Rattle.std.proofs.lemmas.Str.Parse.{digit_from_value}
 use Rattle.gr_model.specs.declared.event.Word.{Word}
 use Rattle.gr_model.specs.declared.event.Word.TheVariants.{Global, Local}
+use Rattle.gr_arguments.specs.declared.request.NoQuestion.TheVariants.{NoWord}
 use Rattle.gr_arguments.specs.Naming.{IsNumber, Names as NamesWord}
-use Rattle.gr_arguments.specs.Asked.{Asked, AsksTo, IsAskedBy}
+use Rattle.gr_arguments.specs.Asked.{Asked, AsksTo, IsAskedBy, in_long, in_short}
 use Rattle.gr_arguments.specs.Asked as asked
 use Rattle.gr_arguments.specs.Commands.{command_of, explaining, faults, gpurace, name_met, values_met}
 use Rattle.gr_arguments.specs.Plain.{ArePlain, IsPlain, LongWordsAsk, PlainWordsAsk, PlainWordsMisname}
@@ -324,16 +325,16 @@ plain_words_ask_by long space number file files space_plain number_plain plain a
 pub plain_words_ask : PlainWordsAsk
 plain_words_ask space number file files w named plain =
     let texts = words_are_plain space number w named in
-    plain_words_ask_by false space number file files texts.0 texts.1 plain (asked.explain (Some (record { long = false; json = false; word = w; files = file ∷ files })))
-    (refl, record { form = refl; as_json = refl; named = record { space = space; number = number; at_space = refl; at_number = refl; names = named }; at_files = refl })
+    plain_words_ask_by false space number file files texts.0 texts.1 plain (asked.explain (Ok (record { form = in_short; json = false; word = w; files = file ∷ files })))
+    (refl, record { form = (refl, refl, refl); as_json = refl; named = record { space = space; number = number; at_space = refl; at_number = refl; names = named }; at_files = refl })
 
 pub long_words_ask : LongWordsAsk
 long_words_ask space number file files w named plain =
     let texts = words_are_plain space number w named in
-    plain_words_ask_by true space number file files texts.0 texts.1 plain (asked.explain (Some (record { long = true; json = false; word = w; files = file ∷ files })))
-    (refl, record { form = refl; as_json = refl; named = record { space = space; number = number; at_space = refl; at_number = refl; names = named }; at_files = refl })
+    plain_words_ask_by true space number file files texts.0 texts.1 plain (asked.explain (Ok (record { form = in_long None None; json = false; word = w; files = file ∷ files })))
+    (refl, record { form = (refl, refl, refl); as_json = refl; named = record { space = space; number = number; at_space = refl; at_number = refl; names = named }; at_files = refl })
 
 pub plain_words_misname : PlainWordsMisname
 plain_words_misname space number file files none plain =
-    plain_words_ask_by false space number file files plain.0 plain.1.0 plain.1.1 (asked.explain None)
-    (refl, λ a is. unnamed (all_rows space number plain.0 plain.1.0 false (file ∷ files)) space number refl refl none a.word is.named)
+    plain_words_ask_by false space number file files plain.0 plain.1.0 plain.1.1 (asked.explain (Err NoWord))
+    (refl, ((in_short, (refl, refl, refl)), unnamed (all_rows space number plain.0 plain.1.0 false (file ∷ files)) space number refl refl none))

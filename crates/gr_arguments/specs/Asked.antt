@@ -1,5 +1,5 @@
 -- What the words of a command line ask for.
-use Rattle.std.specs.Prelude.{◌≡◌, ◌⊎◌, ℕ, Bool, false, List, [], Option, None, Some, MatchOption, codes, map, option_map}
+use Rattle.std.specs.Prelude.{◌≡◌, ◌⊎◌, ℕ, Bool, false, true, List, [], Option, None, Some, Result, Ok, Err, MatchOption, codes, map, option_map}
 use Rattle.std.specs.Option.{option_map_or}
 use Rattle.std.specs.Str.{bytes_eq}
 use Rattle.clap.specs.Walk.{Row, Text, all_of, first_of}
@@ -7,9 +7,13 @@ use Rattle.gr_model.specs.declared.event.EventId.{EventId}
 use Rattle.gr_model.specs.declared.event.Word.{Word}
 use Rattle.gr_model.specs.Configs.{IsConfig, Settings}
 use Rattle.gr_arguments.specs.Naming.{IsNumber, Names, NamesEvent}
+use Rattle.gr_arguments.specs.declared.request.Form.{Form}
+use Rattle.gr_arguments.specs.declared.request.Form.TheVariants.{Long, Short}
 use Rattle.gr_arguments.specs.declared.request.Inquiry.{Inquiry}
 use Rattle.gr_arguments.specs.declared.request.Inspection.{Inspection}
 use Rattle.gr_arguments.specs.declared.request.Listing.{Listing}
+use Rattle.gr_arguments.specs.declared.request.NoQuestion.{NoQuestion}
+use Rattle.gr_arguments.specs.declared.request.NoQuestion.TheVariants.{NoWord, SidesAlone}
 use Rattle.gr_arguments.specs.declared.request.Plan.{Plan}
 use Rattle.gr_arguments.specs.declared.request.Question.{Question}
 use Rattle.gr_arguments.specs.declared.request.Recall.{Recall}
@@ -36,9 +40,14 @@ IsAskedTask name rows t = name ≡ name_of t
 
 -- ---- one word of a launch
 
--- whether in the long form and as JSON, which word, and in which files the streams of the launch are
+-- in the short form, or in the long one with which side files
+pub data AskedForm : Type 0 where
+  in_short : AskedForm
+  in_long : Option Text → Option Text → AskedForm
+
+-- in which form, whether as JSON, which word, and in which files the streams of the launch are
 pub record AskedWord : Type 0 where
-  pub long : Bool
+  pub form : AskedForm
   pub json : Bool
   pub word : Word
   pub files : List Text
@@ -51,12 +60,23 @@ pub record NamesWord (rows : List Row) (w : Word) : Type 0 where
   pub at_number : first_of (codes "WORD") rows ≡ Some number
   pub names : Names space number w
 
+-- the values ask for this form: the short one has no side files
+abbrev pub IsAskedForm : List Row → AskedForm → Type 0
+IsAskedForm rows in_short = (has_flag (codes "long") rows ≡ false) × (first_of (codes "places") rows ≡ None) × (first_of (codes "buffers") rows ≡ None)
+IsAskedForm rows (in_long places buffers) = (has_flag (codes "long") rows ≡ true) × (first_of (codes "places") rows ≡ places) × (first_of (codes "buffers") rows ≡ buffers)
+
 -- the values of the command `explain` ask for this
 pub record IsAskedWord (rows : List Row) (a : AskedWord) : Type 0 where
-  pub form : has_flag (codes "long") rows ≡ a.long
+  pub form : IsAskedForm rows a.form
   pub as_json : has_flag (codes "json") rows ≡ a.json
   pub named : NamesWord rows a.word
   pub at_files : files_of rows ≡ a.files
+
+-- they ask for this, or this is why they ask for nothing: they have no form, or else name no word of memory
+abbrev pub IsExplained : List Row → Result AskedWord NoQuestion → Type 0
+IsExplained rows (Ok a) = IsAskedWord rows a
+IsExplained rows (Err SidesAlone) = (f : AskedForm) → ¬ IsAskedForm rows f
+IsExplained rows (Err NoWord) = ((f : AskedForm) × IsAskedForm rows f) × ((w : Word) → ¬ NamesWord rows w)
 
 -- ---- all races of a launch
 
@@ -159,8 +179,8 @@ pub record IsAskedEvent (rows : List Row) (a : AskedEvent) : Type 0 where
 pub data Asked : Type 0 where
   -- a task over standard input
   perform : Task → Asked
-  -- one word; none where the values name no word of memory
-  explain : Option AskedWord → Asked
+  -- one word; or why the values name none
+  explain : Result AskedWord NoQuestion → Asked
   -- all races; none where the number of kinds is no number
   races : Option AskedRaces → Asked
   -- all accesses to one word; none where the values name no word of memory
@@ -179,7 +199,7 @@ IsTheOne P o = MatchOption o ((x : _) → ¬ P x) P
 -- the command of this name asks for this with these values
 abbrev pub IsAskedBy : Text → List Row → Asked → Type 0
 IsAskedBy name rows (perform t) = IsAskedTask name rows t
-IsAskedBy name rows (explain o) = (name ≡ codes "explain") × IsTheOne (IsAskedWord rows) o
+IsAskedBy name rows (explain r) = (name ≡ codes "explain") × IsExplained rows r
 IsAskedBy name rows (races o) = (name ≡ codes "races") × IsTheOne (IsAskedRaces rows) o
 IsAskedBy name rows (history o) = (name ≡ codes "history") × IsTheOne (IsAskedHistory rows) o
 IsAskedBy name rows (run o) = (name ≡ codes "run") × IsTheOne (IsAskedRun rows) o
@@ -193,8 +213,16 @@ pub record AsksTo (a : Asked) (words : List Text) : Type 0 where
 
 -- ---- requests
 
+abbrev pub form_of : Form → AskedForm
+form_of Short = in_short
+form_of (Long places buffers) = in_long (option_map (λ s. s.now) places) (option_map (λ s. s.now) buffers)
+
 abbrev pub word_of : Question → AskedWord
-word_of q = record { long = q.long; json = q.json; word = q.word; files = map (λ s. s.now) q.files.items }
+word_of q = record { form = form_of q.form; json = q.json; word = q.word; files = map (λ s. s.now) q.files.items }
+
+abbrev pub explained_of : Result Question NoQuestion → Result AskedWord NoQuestion
+explained_of (Ok q) = Ok (word_of q)
+explained_of (Err why) = Err why
 
 abbrev pub races_of : Listing → AskedRaces
 races_of l = record { most = l.most; places = option_map (λ s. s.now) l.places; buffers = option_map (λ s. s.now) l.buffers; causes = l.causes; json = l.json; files = map (λ s. s.now) l.files.items }
@@ -214,7 +242,7 @@ event_of i = record { event = i.event; files = map (λ s. s.now) i.files.items }
 -- what a request stands for
 abbrev pub asked_of : Request → Asked
 asked_of (request.Perform t) = perform t
-asked_of (request.Explain o) = explain (option_map word_of o)
+asked_of (request.Explain r) = explain (explained_of r)
 asked_of (request.Races o) = races (option_map races_of o)
 asked_of (request.History o) = history (option_map history_of o)
 asked_of (request.Run o) = run (option_map run_of o)

@@ -45,10 +45,11 @@ option_rule id = record (new_rule id) { long = Some id; value_names = 1 }
 abbrev pub dumping : Shape
 dumping = (with_rule (new_app (codes "dump")) (flag_rule (codes "partial"))).top
 
--- the command that shows one word: whether in the long form and as JSON, the word, and the files
+-- the command that shows one word: whether in the long form, the side files, whether as JSON, the word, and the files
 abbrev pub explaining : Shape
 explaining =
-    (with_rule (with_rule (with_rule (with_rule (with_rule (new_app (codes "explain")) (flag_rule (codes "long"))) (flag_rule (codes "json"))) (wanted (codes "SPACE"))) (wanted (codes "WORD")))
+    (with_rule
+    (with_rule (with_rule (with_rule (with_rule (with_rule (with_rule (new_app (codes "explain")) (flag_rule (codes "long"))) (option_rule (codes "places"))) (option_rule (codes "buffers"))) (flag_rule (codes "json"))) (wanted (codes "SPACE"))) (wanted (codes "WORD")))
     wanted_files).top
 
 -- the command that shows all races: how many kinds at most, the side files, whether with causes and as JSON, and the files

@@ -1,10 +1,11 @@
 -- Which words ask for what, where no word is an option.
-use Rattle.std.specs.Prelude.{◌≡◌, ◌==◌, false, true, List, [], ◌∷◌, None, Some, ⊤, codes}
+use Rattle.std.specs.Prelude.{◌≡◌, ◌==◌, false, true, List, [], ◌∷◌, None, Ok, Err, ⊤, codes}
 use Rattle.clap.specs.Walk.{Text}
 use Rattle.gr_model.specs.declared.event.Word.{Word}
+use Rattle.gr_arguments.specs.declared.request.NoQuestion.TheVariants.{NoWord}
 use Rattle.gr_arguments.specs.declared.request.Task.{Task}
 use Rattle.gr_arguments.specs.declared.request.Task.TheVariants.{Dump, Replay}
-use Rattle.gr_arguments.specs.Asked.{Asked, AsksTo, explain, perform}
+use Rattle.gr_arguments.specs.Asked.{Asked, AsksTo, explain, in_long, in_short, perform}
 use Rattle.gr_arguments.specs.Commands.{name_of}
 use Rattle.gr_arguments.specs.Naming.{Names}
 
@@ -36,12 +37,12 @@ ArePlain (word ∷ words) = IsPlain word × ArePlain words
 
 -- a word that is named is asked for by the words `explain SPACE WORD FILE..`
 abbrev pub PlainWordsAsk : Type 0
-PlainWordsAsk = (space number file : Text) (files : List Text) (w : Word) → Names space number w → ArePlain (file ∷ files) → AsksTo (explain (Some (record { long = false; json = false; word = w; files = file ∷ files }))) (codes "explain" ∷ space ∷ number ∷ file ∷ files)
+PlainWordsAsk = (space number file : Text) (files : List Text) (w : Word) → Names space number w → ArePlain (file ∷ files) → AsksTo (explain (Ok (record { form = in_short; json = false; word = w; files = file ∷ files }))) (codes "explain" ∷ space ∷ number ∷ file ∷ files)
 
--- and by the words `explain --long SPACE WORD FILE..`, in the long form
+-- and by the words `explain --long SPACE WORD FILE..`, in the long form, without side files
 abbrev pub LongWordsAsk : Type 0
-LongWordsAsk = (space number file : Text) (files : List Text) (w : Word) → Names space number w → ArePlain (file ∷ files) → AsksTo (explain (Some (record { long = true; json = false; word = w; files = file ∷ files }))) (codes "explain" ∷ codes "--long" ∷ space ∷ number ∷ file ∷ files)
+LongWordsAsk = (space number file : Text) (files : List Text) (w : Word) → Names space number w → ArePlain (file ∷ files) → AsksTo (explain (Ok (record { form = in_long None None; json = false; word = w; files = file ∷ files }))) (codes "explain" ∷ codes "--long" ∷ space ∷ number ∷ file ∷ files)
 
 -- and where the space and the number name none, for none
 abbrev pub PlainWordsMisname : Type 0
-PlainWordsMisname = (space number file : Text) (files : List Text) → ((w : Word) → ¬ Names space number w) → ArePlain (space ∷ number ∷ file ∷ files) → AsksTo (explain None) (codes "explain" ∷ space ∷ number ∷ file ∷ files)
+PlainWordsMisname = (space number file : Text) (files : List Text) → ((w : Word) → ¬ Names space number w) → ArePlain (space ∷ number ∷ file ∷ files) → AsksTo (explain (Err NoWord)) (codes "explain" ∷ space ∷ number ∷ file ∷ files)

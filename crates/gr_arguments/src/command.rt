@@ -24,6 +24,7 @@ const AFTER_HELP: &str = "\
 Examples:
   gpurace replay < trace.gpurace
   gpurace pack < trace.txt | gpurace replay
+  gpurace dump < trace.gpurace > trace.txt
   gpurace explain g 16 group0.gpurace group1.gpurace
   gpurace explain --long g 16 group0.gpurace group1.gpurace
   gpurace races group0.gpurace group1.gpurace
@@ -35,7 +36,7 @@ Examples:
 Exit status:
   0  nothing was found, or what was asked for is done
   1  something was found: a race; by replay and run also a divergent barrier or an unmatched acquire
-  2  the trace was refused; standard error says where and why
+  2  the trace or a side file was refused; standard error says where and why
   3  the arguments are wrong
   4  memory ran out, or a thread could not be started
   5  reading or writing failed";
@@ -43,8 +44,24 @@ Exit status:
 const REPLAY: &str =
     "Reports on the trace on standard input, as in `replay < FILE`; done without a command too";
 
+const AFTER_REPLAY: &str = "\
+Example:
+  cat group*.gpurace | gpurace replay
+  gpurace 1
+  groups 1 items 2 records 3
+  race global 16
+  end races 1 diverge 0 unmatched 0 held 0";
+
 const PACK: &str =
     "Writes the bytes of the trace whose text is on standard input, as in `pack < TEXT > FILE`";
+
+const AFTER_PACK: &str = "\
+Example, with a text of two work-items, of which item 0 writes word 16 of global memory and item 1 reads it:
+  gpurace pack < trace.txt > trace.gpurace
+  group 0 items 2 launch 7
+  0 w g 16
+  1 r g 16
+  end";
 
 const DUMP: &str = "Writes the text of the trace on standard input, as in `dump < FILE`";
 
@@ -66,6 +83,10 @@ const PARTIAL: &str = "Writes of a trace that is refused what stands before the 
 const UPGRADE: &str =
     "Writes the trace on standard input as streams of version 2, as in `upgrade < OLD > NEW`";
 
+const AFTER_UPGRADE: &str = "\
+Example:
+  gpurace upgrade < old.gpurace > new.gpurace";
+
 const EXPLAIN: &str = "Tells of one word which two accesses race on it";
 
 const LONG_EXPLAIN: &str = "\
@@ -74,8 +95,11 @@ Tells of one word which two accesses race on it, or that it has no race.
 The accesses are told as GROUP ITEM INDEX; an item's records are counted from 0. Of all racing pairs it is the least, by
 its first access and then by its second.
 
-With --long three lines stand below that of a race: what the first access is and what the second is, with the number of its
-record in its group's stream, from 0, and how many barriers of its item stand before it; and the cause of the race.
+With --long more lines stand below that of a race. They tell what the first access is and what the second is, with the
+number of its record in its group's stream, from 0, and how many barriers of its item stand before it; what stands between
+the two, where something does: each barrier of their group that one of them is behind and the other is not, a release behind
+the first and an acquire before the second; and last the cause of the race. With --buffers there is also the buffer of the
+word, and with --places the place in the source of each of these records and barriers, where the files have it.
 
 The pair is found without clocks, in time that grows with the accesses to the word times the records of the launch: a trace
 of 100,000 records takes seconds, one of a million may take minutes. Accesses that are held back by an unmatched acquire are
@@ -86,13 +110,30 @@ Examples:
   gpurace explain l0 4 group*.gpurace
   race local 0 4: 0 0 0 with 0 1 0
 
-  gpurace explain --long l0 4 group*.gpurace
-  race local 0 4: 0 0 0 with 0 1 0
+  gpurace explain --long g 16 group*.gpurace
+  race global 16: 0 0 0 with 0 1 1
   first write record 0 phase 0
-  second read record 1 phase 0
-  cause no-barrier: nothing orders the two; a barrier with CLK_LOCAL_MEM_FENCE between them would";
+  second read record 3 phase 1
+  barrier 0 site 1 l
+  cause flags: with CLK_LOCAL_MEM_FENCE | CLK_GLOBAL_MEM_FENCE at every barrier the two would be ordered
 
-const LONG: &str = "Tells also what the two accesses are, and the cause of their race";
+With side files, whose lines say where records and barriers stand and which words are which buffer:
+  gpurace explain --long --places places --buffers buffers g 16 group*.gpurace
+  race global 16: 0 0 0 with 0 1 1
+  buffer words[16]
+  first write record 0 phase 0 at flag.cl:3:19
+  second read record 3 phase 1 at flag.cl:6:19
+  barrier 0 site 1 l at flag.cl:4:5
+  cause flags: with CLK_LOCAL_MEM_FENCE | CLK_GLOBAL_MEM_FENCE at every barrier the two would be ordered";
+
+const LONG: &str =
+    "Tells also what the two accesses are, what stands between them, and the cause of their race";
+
+const LONG_PLACES: &str = "\
+With --long: a file of lines GROUP ITEM INDEX TEXT, or SITE TEXT of barriers: where in the source the record or barrier stands";
+
+const LONG_BUFFERS: &str = "\
+With --long: a file of lines g FIRST WORDS NAME or l GROUP FIRST WORDS NAME: which words are which buffer";
 
 const JSON: &str = "Writes JSON, an object a line, in place of text";
 
@@ -109,8 +150,9 @@ const LONG_RACES: &str = "\
 Tells of all words that have a race, kind by kind: which words they are, and of the first of them two accesses that race.
 
 A kind is the memory, what the two accesses do, whether they are of one work-group, where they stand in the source if --places
-has both, and with --causes the cause of the race. The accesses are told as GROUP ITEM INDEX; an item's records are counted from 0. The races are found by clocks, as replay finds them. Divergent barriers, unmatched
-acquires and what these hold back are told by replay and run alone.";
+has both, and with --causes the cause of the race. The accesses are told as GROUP ITEM INDEX; an item's records are counted
+from 0. The races are found by clocks, as replay finds them. Divergent barriers, unmatched acquires and what these hold back
+are told by replay and run alone.";
 
 const AFTER_RACES: &str = "\
 Example:
@@ -177,7 +219,12 @@ many groups, items and records of each kind it has. It looks for no race.";
 
 const AFTER_CHECK: &str = "\
 Example:
-  gpurace check group*.gpurace";
+  gpurace check group*.gpurace
+  gpurace: stream 1: unknown item
+  file group1.gpurace
+  record 17 byte 352
+  wrong: the record's work-item is not below the header's number of work-items
+  right: bytes 4 and 5 are the work-item by its place in the group, from 0; often it is the global number that was written";
 
 const WHY_HELD: &str = "Tells why an event is held";
 
@@ -190,7 +237,11 @@ The status is 1 where the event is held, and else 0.";
 
 const AFTER_WHY_HELD: &str = "\
 Example:
-  gpurace why-held 0 3 12 group*.gpurace";
+  gpurace why-held 0 1 1 group*.gpurace
+  held 0 1 1 behind 0 1 0
+  held 0 1 0 release 0 0 1
+  held 0 0 1 behind 0 0 0
+  held 0 0 0 absent 0 3 0";
 
 const HISTORY: &str = "Tells of one word all accesses, and which are ordered behind which";
 
@@ -222,11 +273,11 @@ const ITEM: &str = "The number of its work-item in the group";
 const INDEX: &str = "The number of its record in the work-item's trace";
 
 /// A command without options.
-fn plain_command<'a>(alloc: Global, name: &'a str, about: &'a str) -> Command<'a>
+fn plain_command<'a>(alloc: Global, name: &'a str, about: &'a str, example: &'a str) -> Command<'a>
     ensures shape { shape_of result ≡ command_named name.now }
     ensures alone { (fields_of result).has_globals ≡ false }
 {
-    Command::new(alloc, name).about(about)
+    Command::new(alloc, name).about(about).after_help(example)
 }
 
 /// An option that is there or not.
@@ -237,6 +288,17 @@ fn flag_arg<'a>(alloc: Global, name: &'a str, help: &'a str) -> Arg<'a>
     Arg::new(alloc, name)
         .long(name)
         .action(ArgAction::SetTrue)
+        .help(help)
+}
+
+/// An option with a value.
+fn option_arg<'a>(alloc: Global, name: &'a str, value: &'a str, help: &'a str) -> Arg<'a>
+    ensures rule { rule_of result ≡ option_rule name.now }
+    ensures alone { result.global ≡ false }
+{
+    Arg::new(alloc, name)
+        .long(name)
+        .value_name(value)
         .help(help)
 }
 
@@ -281,21 +343,12 @@ fn explain_command<'a>(alloc: Global) -> Result<Command<'a>, AllocError>
         .long_about(LONG_EXPLAIN)
         .after_help(AFTER_EXPLAIN)
         .arg(flag_arg(alloc, "long", LONG))?
+        .arg(option_arg(alloc, "places", "FILE", LONG_PLACES))?
+        .arg(option_arg(alloc, "buffers", "FILE", LONG_BUFFERS))?
         .arg(flag_arg(alloc, "json", JSON))?
         .arg(wanted_arg(alloc, "SPACE", SPACE))?
         .arg(wanted_arg(alloc, "WORD", WORD))?
         .arg(files_arg(alloc))
-}
-
-/// An option with a value.
-fn option_arg<'a>(alloc: Global, name: &'a str, value: &'a str, help: &'a str) -> Arg<'a>
-    ensures rule { rule_of result ≡ option_rule name.now }
-    ensures alone { result.global ≡ false }
-{
-    Arg::new(alloc, name)
-        .long(name)
-        .value_name(value)
-        .help(help)
 }
 
 /// The command that shows all races.
@@ -386,10 +439,10 @@ pub(crate) fn command<'a>(alloc: Global) -> Result<Command<'a>, AllocError>
         .about(ABOUT)
         .long_about(LONG_ABOUT)
         .after_help(AFTER_HELP)
-        .subcommand(plain_command(alloc, "replay", REPLAY))?
-        .subcommand(plain_command(alloc, "pack", PACK))?
+        .subcommand(plain_command(alloc, "replay", REPLAY, AFTER_REPLAY))?
+        .subcommand(plain_command(alloc, "pack", PACK, AFTER_PACK))?
         .subcommand(dump_command(alloc)?)?
-        .subcommand(plain_command(alloc, "upgrade", UPGRADE))?
+        .subcommand(plain_command(alloc, "upgrade", UPGRADE, AFTER_UPGRADE))?
         .subcommand(explain_command(alloc)?)?
         .subcommand(races_command(alloc)?)?
         .subcommand(history_command(alloc)?)?

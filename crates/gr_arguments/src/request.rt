@@ -29,11 +29,34 @@ pub enum Task {
     Upgrade,
 }
 
+/// In which form a word is to be told.
+#[derive(Clone, Copy, Debug)]
+pub enum Form<'a> {
+    /// Its least racing pair alone.
+    Short,
+    /// Also what the two accesses are, what stands between them and the cause of their race, with what side files say.
+    Long {
+        /// The name of the file of places.
+        places: Option<&'a str>,
+        /// The name of the file of buffers.
+        buffers: Option<&'a str>,
+    },
+}
+
+/// Why words that were taken name no question.
+#[derive(Clone, Copy, Debug, PartialEq, Eq)]
+pub enum NoQuestion {
+    /// They name side files, and do not ask for the long form.
+    SidesAlone,
+    /// They name no word of memory.
+    NoWord,
+}
+
 /// A word of a launch, whose streams are in these files, one each, and in which form it is to be told.
 #[derive(Drop)]
 pub struct Question<'a> {
-    /// Whether the accesses and the cause of their race are to be told too.
-    pub long: bool,
+    /// The form.
+    pub form: Form<'a>,
     /// Whether it is to be told as JSON.
     pub json: bool,
     /// The word.
@@ -107,8 +130,8 @@ pub struct Inquiry<'a> {
 pub enum Request<'a> {
     /// A task over standard input.
     Perform(Task),
-    /// The least racing pair of a word; `None` where the words name no word of memory.
-    Explain(Option<Question<'a>>),
+    /// The least racing pair of a word; or why the words name none.
+    Explain(Result<Question<'a>, NoQuestion>),
     /// The races of a launch by their kinds; `None` where how many is no number.
     Races(Option<Listing<'a>>),
     /// All accesses to a word; `None` where the words name no word of memory.

@@ -5,9 +5,11 @@ ghost use Rattle.clap.specs.Walk.{rows_of};
 ghost use Rattle.clap.specs.Words.{found_of};
 ghost use Rattle.gr_model.specs.Configs.{Settings};
 ghost use Rattle.gr_arguments.specs.declared.request.Task.TheVariants.{Dump};
-ghost use Rattle.gr_arguments.specs.Asked.{IsAskedCheck, IsAskedEvent, IsAskedHistory, IsAskedRaces, IsAskedRun, IsAskedWord, IsMost, IsNumberOr, IsSetUp, IsTheOne, NamesWord, check_of, event_of, files_of as named_files, has_flag, history_of, races_of, run_of, word_of as asked_word};
+ghost use Rattle.gr_arguments.specs.Asked.{IsAskedCheck, IsAskedEvent, IsAskedForm, IsAskedHistory, IsAskedRaces, IsAskedRun, IsExplained, IsMost, IsNumberOr, IsSetUp, IsTheOne, NamesWord, check_of, event_of, explained_of, files_of as named_files, form_of as asked_form, has_flag, history_of, races_of, run_of};
 
-use crate::request::{Inquiry, Inspection, Listing, Plan, Question, Recall, Task};
+use crate::request::{
+    Form, Inquiry, Inspection, Listing, NoQuestion, Plan, Question, Recall, Task,
+};
 use crate::words::{event_named, number_of, word_named};
 use clap::ArgMatches;
 use gr_model::config::Config;
@@ -60,21 +62,38 @@ fn word_of(values: &ArgMatches<'_>) -> Option<Word>
     word_named(space, number)
 }
 
-/// The question that the values of the command `explain` ask.
+/// The form that the values of the command `explain` ask for; none where they name side files without the long form.
+fn form_of<'a>(values: &ArgMatches<'a>) -> Option<Form<'a>>
+    ensures { IsTheOne (IsAskedForm (rows_of (found_of values.now))) (option_map asked_form result) }
+{
+    let places = values.get_str("places");
+    let buffers = values.get_str("buffers");
+    if asks_for(values, "long") {
+        Some(Form::Long { places, buffers })
+    } else if places.is_none() && buffers.is_none() {
+        Some(Form::Short)
+    } else {
+        None
+    }
+}
+
+/// The question that the values of the command `explain` ask, or why they ask none.
 pub(crate) fn question_of<'a>(
     alloc: Global,
     values: &ArgMatches<'a>,
-) -> Result<Option<Question<'a>>, AllocError>
-    ensures { IfOk result (λ o. IsTheOne (IsAskedWord (rows_of (found_of values.now))) (option_map asked_word o)) }
+) -> Result<Result<Question<'a>, NoQuestion>, AllocError>
+    ensures { IfOk result (λ r. IsExplained (rows_of (found_of values.now)) (explained_of r)) }
 {
-    let Some(word) = word_of(values) else {
-        return Ok(None);
+    let Some(form) = form_of(values) else {
+        return Ok(Err(NoQuestion::SidesAlone));
     };
-    let long = asks_for(values, "long");
+    let Some(word) = word_of(values) else {
+        return Ok(Err(NoQuestion::NoWord));
+    };
     let json = asks_for(values, "json");
     let files = files_of(alloc, values)?;
-    Ok(Some(Question {
-        long,
+    Ok(Ok(Question {
+        form,
         json,
         word,
         files,

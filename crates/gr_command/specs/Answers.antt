@@ -1,11 +1,11 @@
 -- What a run of the program leaves behind: on standard output, on standard error, and its status.
 -- Source: docs/FORMATS.md, "Report", "Fault lines" and "Exit statuses".
-use Rattle.std.specs.Prelude.{◌≡◌, ◌≢◌, ◌⊎◌, ℕ, Bool, false, true, List, Option, None, Some, Result, IfSome}
+use Rattle.std.specs.Prelude.{◌≡◌, ◌≢◌, ◌⊎◌, ℕ, Bool, false, true, List, Option, None, Some, Result, Ok, Err, IfSome}
 use Rattle.std.specs.Io.KnownBytes.{Appends, Keeps}
 use Rattle.gr_model.specs.declared.event.Word.{Word}
 use Rattle.gr_model.specs.Reports.{WholeReport}
 use Rattle.gr_model.specs.Streams.{Streams}
-use Rattle.gr_arguments.specs.Asked.{Asked, AskedCheck, AskedEvent, AskedHistory, AskedRaces, AskedRun, AskedWord, check, explain, history, perform, races, run, why_held}
+use Rattle.gr_arguments.specs.Asked.{Asked, AskedCheck, AskedEvent, AskedForm, AskedHistory, AskedRaces, AskedRun, AskedWord, check, explain, history, in_long, in_short, perform, races, run, why_held}
 use Rattle.gr_arguments.specs.declared.request.Task.{Task}
 use Rattle.gr_arguments.specs.declared.request.Task.TheVariants.{Replay, Pack, Dump, Upgrade}
 use Rattle.gr_record.specs.declared.fault.Fault.{Fault}
@@ -85,12 +85,15 @@ module _ (input old new old_errors new_errors : Option (List ℕ)) (status : ℕ
 
 -- ---- launches whose streams are in files, one each
 
--- the text that is shown of a word of a launch: its line, and in the long form what stands below it too; or the same as JSON
-abbrev pub IsTextOf : (long json : Bool) → Word → Streams → List ℕ → Type 0
-IsTextOf false false = IsLine
-IsTextOf true false = IsAccountText
-IsTextOf false true = IsJsonLine
-IsTextOf true true = IsJsonAccount
+-- the line that is shown of a word of a launch, or the same as JSON
+abbrev pub IsLineOf : Bool → Word → Streams → List ℕ → Type 0
+IsLineOf false = IsLine
+IsLineOf true = IsJsonLine
+
+-- the same in the long form, with what side files say
+abbrev pub IsAccountTextOf : Bool → SidesSaid → Word → Streams → List ℕ → Type 0
+IsAccountTextOf false = IsAccountText
+IsAccountTextOf true = IsJsonAccount
 
 -- the text of the races of a launch, or the same as JSON
 abbrev pub IsRacesTextOf : Bool → SidesSaid → Option ℕ → Bool → Streams → List ℕ → Type 0
@@ -132,13 +135,21 @@ module _ {T X : Type 0} (remaining : T → Option (List ℕ)) (Gives : List ℕ 
       HoldsOfFiles remaining Gives names (λ known. IfSome known (λ inputs. (r : WholeReport) × IsExactOfEach inputs r × AppendsPrefix old new (text_of json r)))
 
 module _ {T X : Type 0} (remaining : T → Option (List ℕ)) (Gives : List ℕ → Result T X → Type 0) (old new : Option (List ℕ)) where
-  -- the text of the word is written whole, and it is said whether the word is racy
+  -- the line of the word is written whole, and it is said whether the word is racy
   abbrev pub IsShownOfFiles : AskedWord → Bool → Type 0
-  IsShownOfFiles a found = HoldsOfFiles remaining Gives a.files (λ known. IsShown (IsTextOf a.long a.json a.word) (IsRacyIn a.word) known found old new)
+  IsShownOfFiles a found = HoldsOfFiles remaining Gives a.files (λ known. IsShown (IsLineOf a.json a.word) (IsRacyIn a.word) known found old new)
 
-  -- a prefix of the text was written
+  -- a prefix of the line was written
   abbrev pub ShowsPrefixOfFiles : AskedWord → Type 0
-  ShowsPrefixOfFiles a = HoldsOfFiles remaining Gives a.files (λ known. ShowsPrefix (IsTextOf a.long a.json a.word) known old new)
+  ShowsPrefixOfFiles a = HoldsOfFiles remaining Gives a.files (λ known. ShowsPrefix (IsLineOf a.json a.word) known old new)
+
+  -- the same of the long form, with side files of these names
+  module _ (sides : Pair (List ℕ)) where
+    abbrev pub IsAccountOfFiles : AskedWord → Bool → Type 0
+    IsAccountOfFiles a found = HoldsOfAllFiles remaining Gives sides a.files (λ known said. IsShown (IsAccountTextOf a.json said a.word) (IsRacyIn a.word) known found old new)
+
+    abbrev pub AccountsPrefixOfFiles : AskedWord → Type 0
+    AccountsPrefixOfFiles a = HoldsOfAllFiles remaining Gives sides a.files (λ known said. ShowsPrefix (IsAccountTextOf a.json said a.word) known old new)
 
   -- the text of the races is written whole, and it is said whether there is one
   abbrev pub IsListedOfFiles : AskedRaces → Bool → Type 0
@@ -173,11 +184,18 @@ module _ {T X : Type 0} (remaining : T → Option (List ℕ)) (Gives : List ℕ 
   TellsPrefixOfFiles a = HoldsOfFiles remaining Gives a.files (λ known. ShowsPrefix (IsWhyText a.event) known old new)
 
   module _ (old_errors new_errors : Option (List ℕ)) (status : ℕ) where
-    -- the text of the word, and whether it is racy; or why there is none
-    abbrev pub IsDisplay : AskedWord → Type 0
-    IsDisplay a =
+    -- the text of the word in this form, and whether it is racy; or why there is none
+    abbrev pub IsDisplayIn : AskedForm → AskedWord → Type 0
+    IsDisplayIn in_short a =
         IsOutcome fault_line fault_status Write old new old_errors new_errors status
         (IsShownOfFiles a) (λ found ended. ended ≡ race_status found) (IsFileFault remaining Gives a.files) (ShowsPrefixOfFiles a)
+    IsDisplayIn (in_long places buffers) a =
+        IsOutcome sides_fault_line sides_fault_status (Run Write) old new old_errors new_errors status
+        (IsAccountOfFiles (sides_of places buffers) a) (λ found ended. ended ≡ race_status found)
+        (IsSidesFault remaining Gives (sides_of places buffers) a.files) (AccountsPrefixOfFiles (sides_of places buffers) a)
+
+    abbrev pub IsDisplay : AskedWord → Type 0
+    IsDisplay a = IsDisplayIn a.form a
 
     -- the text of the races, and whether there is one; or why there is none
     abbrev pub IsRacesDisplay : AskedRaces → Type 0
@@ -220,13 +238,13 @@ IsUsageTold old new status = ((status ≡ USAGE) ⊎ (status ≡ WANTING)) × Ke
 module _ {T X : Type 0} (remaining : T → Option (List ℕ)) (Gives : List ℕ → Result T X → Type 0) (input old new old_errors new_errors : Option (List ℕ)) (status : ℕ) where
   abbrev pub IsDone : Asked → Type 0
   IsDone (perform t) = IsAnswerOf input old new old_errors new_errors status t
-  IsDone (explain (Some a)) = IsDisplay remaining Gives old new old_errors new_errors status a
+  IsDone (explain (Ok a)) = IsDisplay remaining Gives old new old_errors new_errors status a
   IsDone (races (Some a)) = IsRacesDisplay remaining Gives old new old_errors new_errors status a
   IsDone (history (Some a)) = IsHistoryOutcome remaining Gives old new old_errors new_errors status a
   IsDone (run (Some a)) = IsRunAnswer remaining Gives old new old_errors new_errors status a
   IsDone (check a) = IsCheckOutcome remaining Gives old new old_errors new_errors status a
   IsDone (why_held (Some a)) = IsHeldOutcome remaining Gives old new old_errors new_errors status a
-  IsDone (explain None) = IsUsageTold old new status
+  IsDone (explain (Err why)) = IsUsageTold old new status
   IsDone (races None) = IsUsageTold old new status
   IsDone (history None) = IsUsageTold old new status
   IsDone (run None) = IsUsageTold old new status

@@ -14,20 +14,25 @@ ghost use Rattle.gr_command.specs.Answers.{IsAnswerOf, IsCheckOutcome, IsDisplay
 ghost use Rattle.gr_command.specs.Statuses.{check_status, fault_status, race_status, sides_fault_status, IsReportStatus};
 
 use crate::running::run_files;
-use crate::showing::{show_check, show_listing, show_word, tell_history, tell_why_held};
+use crate::showing::{
+    show_account, show_check, show_listing, show_word, tell_history, tell_why_held,
+};
 use crate::status::{
     FAILED, NOTHING, USAGE, WANTING, status_of, status_of_check, status_of_race, status_of_report,
     status_of_sides_fault,
 };
 use clap::Error;
 use clap::error::ErrorKind;
-use gr_arguments::request::{Inquiry, Inspection, Listing, Plan, Question, Recall, Request, Task};
+use gr_arguments::request::{
+    Form, Inquiry, Inspection, Listing, NoQuestion, Plan, Question, Recall, Request, Task,
+};
 use gr_arguments::request_of;
 use gr_record::fault::Fault;
 use gr_replay::replay;
 use gr_report::report::Report;
 use gr_report::write_fault;
 use gr_sides::fault::{SidesFault, write_sides_fault};
+use gr_sides::files::SideNames;
 use gr_text::{dump, dump_partial, pack, upgrade};
 use std::alloc::Global;
 use std::convert::AsStr;
@@ -39,6 +44,11 @@ use std::time::Clock;
 const MISNAMED: &[u8] = b"\
 error: SPACE and WORD name no word of memory: SPACE is g, or l with a group from 0 to 63 as in l3, and WORD is a number \
 below 4294967296 in decimal digits\n\n\
+Usage: gpurace explain [OPTIONS] <SPACE> <WORD> <FILE>...\n\n\
+For more information, try '--help'.\n";
+
+const SIDES_ALONE: &[u8] = b"\
+error: --places and --buffers go with --long\n\n\
 Usage: gpurace explain [OPTIONS] <SPACE> <WORD> <FILE>...\n\n\
 For more information, try '--help'.\n";
 
@@ -155,20 +165,6 @@ fn conclude_showing<E: Write>(outcome: Result<bool, Fault>, errors: &mut E) -> u
     }
 }
 
-/// Shows a word of the launch whose streams are in files, and gives the exit status.
-fn show<T: Read + Drop, O: Fn(&str) -> io::Result<T>, W: Write, E: Write>(
-    alloc: Global,
-    question: &Question<'_>,
-    opener: O,
-    writer: &mut W,
-    errors: &mut E,
-) -> u8
-    requires { O.IsAlwaysCallable opener }
-    ensures { IsDisplay T.remaining (FnReturnsAt O.Fn opener) (W.contents writer.old) (W.contents writer.new) (E.contents errors.old) (E.contents errors.new) result (word_of question.now) }
-{
-    conclude_showing(show_word(alloc, question, opener, writer), errors)
-}
-
 /// Tells of a fault of a launch with side files on standard error, and gives its status. That standard error fails is passed
 /// over.
 fn fail_with_sides<E: Write>(fault: &SidesFault, errors: &mut E) -> u8
@@ -189,6 +185,27 @@ fn conclude_with_sides<E: Write>(outcome: Result<bool, SidesFault>, errors: &mut
     match outcome {
         Ok(found) => status_of_race(found),
         Err(fault) => fail_with_sides(&fault, errors),
+    }
+}
+
+/// Shows a word of the launch whose streams are in files, and gives the exit status.
+fn show<T: Read + Drop, O: Fn(&str) -> io::Result<T>, W: Write, E: Write>(
+    alloc: Global,
+    question: &Question<'_>,
+    opener: O,
+    writer: &mut W,
+    errors: &mut E,
+) -> u8
+    requires { O.IsAlwaysCallable opener }
+    ensures { IsDisplay T.remaining (FnReturnsAt O.Fn opener) (W.contents writer.old) (W.contents writer.new) (E.contents errors.old) (E.contents errors.new) result (word_of question.now) }
+{
+    match question.form {
+        Form::Short => conclude_showing(show_word(alloc, question, opener, writer), errors),
+        Form::Long { places, buffers } => {
+            let sides = SideNames { places, buffers };
+            let outcome = show_account(alloc, &sides, question, opener, writer);
+            conclude_with_sides(outcome, errors)
+        }
     }
 }
 
@@ -313,13 +330,14 @@ where
 {
     match request {
         Request::Perform(task) => perform(alloc, task, reader, writer, errors),
-        Request::Explain(Some(question)) => show(alloc, &question, opener, writer, errors),
+        Request::Explain(Ok(question)) => show(alloc, &question, opener, writer, errors),
         Request::Races(Some(listing)) => list(alloc, &listing, opener, writer, errors),
         Request::History(Some(word)) => recall(alloc, &word, opener, writer, errors),
         Request::Run(Some(plan)) => run(rt, alloc, &plan, opener, writer, errors),
         Request::Check(inspection) => check(alloc, &inspection, opener, writer, errors),
         Request::WhyHeld(Some(inquiry)) => inquire(alloc, &inquiry, opener, writer, errors),
-        Request::Explain(None) => explain_misuse(MISNAMED, errors),
+        Request::Explain(Err(NoQuestion::SidesAlone)) => explain_misuse(SIDES_ALONE, errors),
+        Request::Explain(Err(NoQuestion::NoWord)) => explain_misuse(MISNAMED, errors),
         Request::Races(None) => explain_misuse(MISCOUNTED, errors),
         Request::History(None) => explain_misuse(UNNAMED, errors),
         Request::Run(None) => explain_misuse(MISCONFIGURED, errors),

@@ -3,20 +3,21 @@
 ghost use Rattle.std.specs.Prelude.{◌≡◌, ◌≢◌, IfErr, IfOk, map};
 ghost use Rattle.std.specs.Fn.{FnReturnsAt};
 ghost use Rattle.std.specs.Io.KnownBytes.{Keeps};
-ghost use Rattle.gr_sides.specs.Opening.{IsSidesFault};
+ghost use Rattle.gr_sides.specs.Opening.{IsSidesFault, side_names};
 ghost use Rattle.gr_sides.specs.declared.fault.SidesFault.TheVariants.{Run as ARun};
 ghost use Rattle.gr_record.specs.declared.fault.Fault.TheVariants as faults;
 ghost use Rattle.gr_show.specs.Opening.{IsFileFault};
 ghost use Rattle.gr_check.specs.Checked.{IsCheckFileFault};
 ghost use Rattle.gr_arguments.specs.Asked.{check_of, event_of, history_of, races_of, word_of};
-ghost use Rattle.gr_command.specs.Answers.{ChecksPrefixOfFiles, IsCheckedOfFiles, IsListedOfFiles, IsRecalledOfFiles, IsShownOfFiles, IsToldOfFiles, ListsPrefixOfFiles, RecallsPrefixOfFiles, ShowsPrefixOfFiles, TellsPrefixOfFiles, sides_of};
+ghost use Rattle.gr_command.specs.Answers.{AccountsPrefixOfFiles, ChecksPrefixOfFiles, IsAccountOfFiles, IsCheckedOfFiles, IsListedOfFiles, IsRecalledOfFiles, IsShownOfFiles, IsToldOfFiles, ListsPrefixOfFiles, RecallsPrefixOfFiles, ShowsPrefixOfFiles, TellsPrefixOfFiles, sides_of};
 
 use gr_arguments::request::{Inquiry, Inspection, Listing, Question, Recall};
 use gr_check::check_files;
 use gr_check_json::check_files_json;
 use gr_held::show_why_held;
-use gr_json::{show_account_json, show_race_json};
-use gr_long::show_account;
+use gr_json::files::show_account_json_of_files;
+use gr_json::show_race_json;
+use gr_long::files::show_account_of_files;
 use gr_races::files::show_races_of_files;
 use gr_races_json::show_races_json_of_files;
 use gr_record::fault::Fault;
@@ -28,11 +29,11 @@ use gr_timeline::files::show_history_of_files;
 use std::alloc::Global;
 use std::io::{self, Read, Write};
 
-/// Opens the files of a question, reads the streams of a launch, one from each, writes the line of the word, and where the
-/// long form is asked for what stands below it, as text or as JSON, and nothing else, and tells whether the word has a race.
+/// Opens the files of a question, reads the streams of a launch, one from each, writes the line of the word, as text or as
+/// JSON, and nothing else, and tells whether the word has a race.
 ///
 /// # Errors
-/// Those of `open_all`, before anything is read; then those of `show_race`, which are those of `show_account`.
+/// Those of `open_all`, before anything is read; then those of `show_race`.
 pub fn show_word<T: Read + Drop, O: Fn(&str) -> io::Result<T>, W: Write>(
     alloc: Global,
     question: &Question<'_>,
@@ -46,11 +47,36 @@ pub fn show_word<T: Read + Drop, O: Fn(&str) -> io::Result<T>, W: Write>(
     ensures prefix { IfErr result (λ f. f ≡ faults.Write → ShowsPrefixOfFiles T.remaining (FnReturnsAt O.Fn opener) (W.contents writer.old) (W.contents writer.new) (word_of question.now)) }
 {
     let files = open_all(alloc, question.files.as_slice(), opener)?;
-    match (question.long, question.json) {
-        (false, false) => show_race(alloc, files, question.word, writer),
-        (true, false) => show_account(alloc, files, question.word, writer),
-        (false, true) => show_race_json(alloc, files, question.word, writer),
-        (true, true) => show_account_json(alloc, files, question.word, writer),
+    if question.json {
+        show_race_json(alloc, files, question.word, writer)
+    } else {
+        show_race(alloc, files, question.word, writer)
+    }
+}
+
+/// Writes the long form of a word of a launch whose streams are in files, with what these side files say, as text or as
+/// JSON, and nothing else, and tells whether the word has a race.
+///
+/// # Errors
+/// Those of `show_account_of_files`.
+pub fn show_account<T: Read + Drop, O: Fn(&str) -> io::Result<T>, W: Write>(
+    alloc: Global,
+    sides: &SideNames<'_>,
+    question: &Question<'_>,
+    opener: O,
+    writer: &mut W,
+) -> Result<bool, SidesFault>
+    requires { O.IsAlwaysCallable opener }
+    ensures shown { IfOk result (λ found. IsAccountOfFiles T.remaining (FnReturnsAt O.Fn opener) (W.contents writer.old) (W.contents writer.new) (side_names sides.now) (word_of question.now) found) }
+    ensures fault { IfErr result (λ f. IsSidesFault T.remaining (FnReturnsAt O.Fn opener) (side_names sides.now) (map (λ s. s.now) question.now.files.items) f) }
+    ensures untouched { IfErr result (λ f. f ≢ ARun faults.Write → Keeps (W.contents writer.old) (W.contents writer.new)) }
+    ensures prefix { IfErr result (λ f. f ≡ ARun faults.Write → AccountsPrefixOfFiles T.remaining (FnReturnsAt O.Fn opener) (W.contents writer.old) (W.contents writer.new) (side_names sides.now) (word_of question.now)) }
+{
+    let files = question.files.as_slice();
+    if question.json {
+        show_account_json_of_files(alloc, sides, files, opener, question.word, writer)
+    } else {
+        show_account_of_files(alloc, sides, files, opener, question.word, writer)
     }
 }
 

@@ -718,6 +718,210 @@ const CASES_OF_FILES: [Case; 27] = [
     ),
 ];
 
+/// The same of words that ask for the long form of explain with side files, or for side files without the long form.
+const CASES_OF_SIDES: [Case; 15] = [
+    (
+        "a racy word in the long form, with side files",
+        &[
+            "explain",
+            "--long",
+            "--places",
+            "places",
+            "g",
+            "16",
+            "back",
+            "--buffers=buffers",
+        ],
+        &[],
+        BACK_NOTED,
+        "",
+        1,
+    ),
+    (
+        "a racy word in the long form, with places alone",
+        &["explain", "g", "16", "race", "--places=places", "--long"],
+        &[],
+        RACE_PLACED,
+        "",
+        1,
+    ),
+    (
+        "a racy word in the long form, with buffers alone",
+        &[
+            "explain",
+            "--buffers",
+            "buffers",
+            "--long",
+            "g",
+            "16",
+            "race",
+        ],
+        &[],
+        RACE_NAMED,
+        "",
+        1,
+    ),
+    (
+        "a word without a race in the long form, with side files",
+        &[
+            "explain",
+            "--long",
+            "--places",
+            "places",
+            "--buffers",
+            "buffers",
+            "g",
+            "20",
+            "back",
+        ],
+        &[],
+        "no race global 20\n",
+        "",
+        0,
+    ),
+    (
+        "a racy word in the long form, with places that are out of form, before a file that is cut off",
+        &["explain", "--long", "--places", "buffers", "g", "16", "cut"],
+        &[],
+        "",
+        "gpurace: places: line 1: bad line\n",
+        2,
+    ),
+    (
+        "a racy word in the long form, with buffers that are out of form, before a file that is cut off",
+        &["explain", "--long", "--buffers", "places", "g", "16", "cut"],
+        &[],
+        "",
+        "gpurace: buffers: line 1: bad line\n",
+        2,
+    ),
+    (
+        "a racy word in the long form, with side files that are out of form",
+        &[
+            "explain",
+            "--long",
+            "--buffers",
+            "places",
+            "--places",
+            "buffers",
+            "g",
+            "16",
+            "race",
+        ],
+        &[],
+        "",
+        "gpurace: places: line 1: bad line\n",
+        2,
+    ),
+    (
+        "a racy word in the long form, with places that are not there, before a file that is cut off",
+        &["explain", "--long", "--places", "missing", "g", "16", "cut"],
+        &[],
+        "",
+        "gpurace: read fault\n",
+        5,
+    ),
+    (
+        "a racy word in the long form, with places that are out of form, before a file that is not there",
+        &[
+            "explain", "--long", "--places", "buffers", "g", "16", "missing",
+        ],
+        &[],
+        "",
+        "gpurace: read fault\n",
+        5,
+    ),
+    (
+        "a racy word in the long form, with side files, of a file that is cut off",
+        &[
+            "explain",
+            "--long",
+            "--places",
+            "places",
+            "--buffers",
+            "buffers",
+            "g",
+            "16",
+            "cut",
+        ],
+        &[],
+        "",
+        "gpurace: stream 0: truncated\n",
+        2,
+    ),
+    (
+        "a word of a group out of range in the long form, with places that are not there",
+        &[
+            "explain", "--long", "--places", "missing", "l64", "4", "race",
+        ],
+        &[],
+        "",
+        MISNAMED,
+        3,
+    ),
+    (
+        "places without the long form, which are not there",
+        &["explain", "--places", "missing", "g", "16", "race"],
+        &[],
+        "",
+        SIDES_ALONE,
+        3,
+    ),
+    (
+        "buffers without the long form, as JSON",
+        &["explain", "g", "16", "race", "--json", "--buffers=buffers"],
+        &[],
+        "",
+        SIDES_ALONE,
+        3,
+    ),
+    (
+        "side files without the long form, and a word of a group out of range",
+        &[
+            "explain",
+            "--places",
+            "places",
+            "--buffers",
+            "buffers",
+            "l64",
+            "4",
+            "race",
+        ],
+        &[],
+        "",
+        SIDES_ALONE,
+        3,
+    ),
+    (
+        "an option of explain without a file",
+        &["explain", "--long", "g", "16", "race", "--places"],
+        &[],
+        "",
+        "error: a value is required for '--places <FILE>' but none was supplied",
+        3,
+    ),
+];
+
+const BACK_NOTED: &str = "race global 16: 0 0 3 with 0 1 1\n\
+buffer out[4]\n\
+first write record 8 phase 0\n\
+second read record 3 phase 0\n\
+acquire before second 0 1 0 load dev acq record 2 phase 0 at shift.cl:6\n\
+cause no-barrier: nothing orders the two; a barrier with CLK_GLOBAL_MEM_FENCE between them would\n";
+
+const RACE_PLACED: &str = "race global 16: 0 0 0 with 0 1 0\n\
+first write record 0 phase 0 at shift.cl:4\n\
+second read record 1 phase 0 at shift.cl:6\n\
+cause no-barrier: nothing orders the two; a barrier with CLK_GLOBAL_MEM_FENCE between them would\n";
+
+const RACE_NAMED: &str = "race global 16: 0 0 0 with 0 1 0\n\
+buffer out[4]\n\
+first write record 0 phase 0\n\
+second read record 1 phase 0\n\
+cause no-barrier: nothing orders the two; a barrier with CLK_GLOBAL_MEM_FENCE between them would\n";
+
+const SIDES_ALONE: &str = "error: --places and --buffers go with --long\n";
+
 /// The same of words that ask for a check.
 const CASES_OF_CHECKS: [Case; 8] = [
     (
@@ -809,8 +1013,14 @@ const ODD_ACCOUNT: &str =
 \"second\":{\"access\":{\"kind\":\"read\"},\"group\":0,\"index\":0,\"item\":1,\"phase\":0,\"record\":1},\
 \"type\":\"race\",\"word\":{\"number\":16,\"space\":\"global\"}}\n";
 
+const ODD_NOTED: &str =
+    "{\"between\":{\"acquire\":null,\"barriers\":[],\"release\":null},\"buffer\":{\"index\":4,\"name\":\"out\"},\"cause\":\"no-barrier\",\
+\"first\":{\"access\":{\"kind\":\"write\"},\"group\":0,\"index\":0,\"item\":0,\"phase\":0,\"place\":\"shift.cl:4\",\"record\":0},\
+\"second\":{\"access\":{\"kind\":\"read\"},\"group\":0,\"index\":0,\"item\":1,\"phase\":0,\"place\":\"shift.cl:6\",\"record\":1},\
+\"type\":\"race\",\"word\":{\"number\":16,\"space\":\"global\"}}\n";
+
 /// The same of words that ask for JSON, for causes, for the accesses to a word, or why an event is held.
-const CASES_OF_ODD: [Case; 16] = [
+const CASES_OF_ODD: [Case; 18] = [
     (
         "a run as JSON",
         &["run", "--json", "back"],
@@ -842,6 +1052,41 @@ const CASES_OF_ODD: [Case; 16] = [
         ODD_ACCOUNT,
         "",
         1,
+    ),
+    (
+        "the long form as JSON, with side files",
+        &[
+            "explain",
+            "--json",
+            "--long",
+            "--places",
+            "places",
+            "--buffers",
+            "buffers",
+            "g",
+            "16",
+            "back",
+        ],
+        &[],
+        ODD_NOTED,
+        "",
+        1,
+    ),
+    (
+        "the long form as JSON, with buffers that are out of form",
+        &[
+            "explain",
+            "--json",
+            "--long",
+            "--buffers=places",
+            "g",
+            "16",
+            "cut",
+        ],
+        &[],
+        "",
+        "gpurace: buffers: line 1: bad line\n",
+        2,
     ),
     (
         "a run as JSON of a file that is cut off",
@@ -1082,6 +1327,16 @@ fn words_that_name_files_give_output_and_status(rt: HostRuntime) -> Result<(), F
 }
 
 #[test]
+fn words_that_name_side_files_give_output_and_status(rt: HostRuntime) -> Result<(), Fail> {
+    let back = pack_text(rt.alloc(), HANDED_BACK_BY_ONE.as_bytes())?;
+    for case in &CASES_OF_SIDES {
+        let name = case.0;
+        assert!(rt; is_as_said(rt, rt.alloc(), case, &back), "{name}");
+    }
+    Ok(())
+}
+
+#[test]
 fn words_that_ask_for_a_check_give_output_and_status(rt: HostRuntime) {
     for case in &CASES_OF_CHECKS {
         let name = case.0;
@@ -1206,9 +1461,16 @@ fn input_and_output_that_fail_are_told(rt: HostRuntime) -> Result<(), Fail> {
     assert_eq!(rt; status, 5, "text");
     let status = status_over_broken_output(rt, alloc, &["explain", "g", "16", "race"], &mut errors);
     assert_eq!(rt; status, 5, "line");
+    let long = ["explain", "--long", "g", "16", "race"];
+    let status = status_over_broken_output(rt, alloc, &long, &mut errors);
+    assert_eq!(rt; status, 5, "long form");
     let status = status_over_broken_output(rt, alloc, &["run", "race"], &mut errors);
     assert_eq!(rt; status, 5, "report of a run");
-    let commands: [&[&str]; 2] = [&["explain", "g", "16", "broken"], &["run", "broken"]];
+    let commands: [&[&str]; 3] = [
+        &["explain", "g", "16", "broken"],
+        &["explain", "--long", "--places=broken", "g", "16", "race"],
+        &["run", "broken"],
+    ];
     for words in commands {
         let mut reader = RACE.as_slice();
         let status = execute(
@@ -1225,7 +1487,7 @@ fn input_and_output_that_fail_are_told(rt: HostRuntime) -> Result<(), Fail> {
     }
     let told = b"gpurace: read fault\ngpurace: write fault\ngpurace: write fault\n\
         gpurace: write fault\ngpurace: write fault\ngpurace: write fault\n\
-        gpurace: read fault\ngpurace: read fault\n";
+        gpurace: write fault\ngpurace: read fault\ngpurace: read fault\ngpurace: read fault\n";
     assert_eq!(rt; errors.as_slice(), told.as_slice());
     Ok(())
 }

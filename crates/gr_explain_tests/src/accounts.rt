@@ -5,11 +5,18 @@ use gr_long::show_account;
 use gr_model::event::Word;
 use gr_model::memory::Memory;
 use gr_record::fault::Fault;
+use gr_sides::sides::Sides;
 use gr_text::packing::pack_text;
 use refusing::Refusing;
 use refusing::failing::{FailingReader, FailingWriter};
 use std::alloc::{Allocator, Global};
 use std::test::Fail;
+
+/// No side files.
+pub(crate) static NO_SIDES: Sides<'static> = Sides {
+    places: &[],
+    buffers: &[],
+};
 
 /// The text of each stream under a name, a word, its lines, and whether it has a race.
 type Case = (
@@ -153,7 +160,7 @@ fn is_shown<A: Allocator + Copy>(
         readers.push(input.as_slice())?;
     }
     let mut text = Vec::new(ample);
-    match show_account(alloc, readers, word, &mut text) {
+    match show_account(alloc, readers, &NO_SIDES, word, &mut text) {
         Ok(race) => Ok(race == found && text.as_slice() == lines.as_bytes()),
         Err(Fault::Memory) if text.is_empty() => Err(Memory),
         Err(_) => Ok(false),
@@ -203,7 +210,7 @@ fn shown_between(
     if readers.push(reader).is_err() {
         return Err(Fault::Memory);
     }
-    show_account(alloc, readers, Word::Global(16), writer)
+    show_account(alloc, readers, &NO_SIDES, Word::Global(16), writer)
 }
 
 #[test]

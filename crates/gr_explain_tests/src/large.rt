@@ -1,5 +1,6 @@
 //! One word of a launch of 64 work-groups, whose streams come a byte at a call.
 
+use crate::accounts::NO_SIDES;
 use gr_long::show_account;
 use gr_model::event::Word;
 use gr_record::fault::Fault;
@@ -113,7 +114,7 @@ fn the_account_of_a_word_of_a_large_launch_is_shown(rt: HostRuntime) -> Result<(
         return Err("not opened")?;
     };
     let mut text = Vec::new(alloc);
-    let answer = show_account(alloc, readers, Word::Global(16), &mut text);
+    let answer = show_account(alloc, readers, &NO_SIDES, Word::Global(16), &mut text);
     assert_eq!(rt; answer, Ok(true));
     assert_eq!(rt; str::from_utf8(&text), Ok(LINES));
     Ok(())

@@ -1,5 +1,5 @@
-//! Tests of `gr_explain`, `gr_show` and `gr_long`: the least racing pairs of launches by hand, their lines, their
-//! causes, and growths, reads and writes that are refused.
+//! Tests of `gr_explain`, `gr_show`, `gr_long` and of its JSON: the least racing pairs of launches by hand, their lines, their
+//! causes, what side files say of them, and growths, reads and writes that are refused.
 #![tactic(auto)]
 
 #[cfg(test)]
@@ -10,6 +10,8 @@ mod growths;
 mod large;
 #[cfg(test)]
 mod launches;
+#[cfg(test)]
+mod noted;
 #[cfg(test)]
 mod pairs;
 #[cfg(test)]

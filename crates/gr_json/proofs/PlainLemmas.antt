@@ -1,5 +1,5 @@
 -- The values of racing pairs have no float.
-use Rattle.std.proofs.Common.{◌≡◌, false, List, [], ◌∷◌, Option, None, Some, map, refl}
+use Rattle.std.proofs.Common.{◌≡◌, ℕ, false, List, [], ◌∷◌, Option, None, Some, map, refl}
 use Rattle.serde_json.specs.Written.{has_float, items_have_float}
 use Rattle.serde_json.specs.View.{items_of}
 use Rattle.gr_model.specs.declared.event.EventId.{EventId}
@@ -12,8 +12,11 @@ use Rattle.gr_long.specs.declared.between.Told.{Told}
 use Rattle.gr_long.specs.declared.details.Details.{Details}
 use Rattle.gr_long.specs.Accounts.{AccountSaid}
 use Rattle.gr_long.specs.Between.{BetweenSaid}
-use Rattle.gr_json.specs.Accounts.{account_data}
-use Rattle.gr_json.specs.Between.{between_data, crossing_data, half_data}
+use Rattle.gr_places.specs.declared.places.Placed.{Placed}
+use Rattle.gr_places.specs.declared.places.Placed.TheVariants.{Event, Site}
+use Rattle.gr_places.specs.SideLines.{ElementSaid}
+use Rattle.gr_json.specs.Accounts.{account_data, race_data}
+use Rattle.gr_json.specs.Between.{between_data, crossing_data, half_data, placed_crossing}
 use Rattle.gr_json.specs.Details.{details_data, kind_data}
 use Rattle.gr_json.specs.Words.{word_data}
 
@@ -30,20 +33,32 @@ kind_plain (Rmw scope order) = refl
 kind_plain (Barrier global local) = refl
 kind_plain (End cut) = refl
 
-details_plain : (e : EventId) (d : Details) → has_float (details_data e d) ≡ false
-details_plain e d = rw (kind_plain d.kind) refl
+details_plain : (place : Option (List ℕ)) (e : EventId) (d : Details) → has_float (details_data place e d) ≡ false
+details_plain None e d = rw (kind_plain d.kind) refl
+details_plain (Some text) e d = rw (kind_plain d.kind) refl
 
-crossings_plain : (xs : List Crossing) → items_have_float (items_of (map crossing_data xs)) ≡ false
-crossings_plain [] = refl
-crossings_plain (x ∷ xs) = crossings_plain xs
+crossing_plain : (place : Option (List ℕ)) (x : Crossing) → has_float (crossing_data place x) ≡ false
+crossing_plain None x = refl
+crossing_plain (Some text) x = refl
 
-half_plain : (half : Option Told) → has_float (half_data half) ≡ false
-half_plain None = refl
-half_plain (Some t) = details_plain t.event t.details
+module _ (place : Placed → Option (List ℕ)) where
+  crossings_plain : (xs : List Crossing) → items_have_float (items_of (map (placed_crossing place) xs)) ≡ false
+  crossings_plain [] = refl
+  crossings_plain (x ∷ xs) = rw (crossing_plain (place (Site x.site)) x, crossings_plain xs) refl
 
-between_plain : (b : BetweenSaid) → has_float (between_data b) ≡ false
-between_plain b = rw (half_plain b.acquire, crossings_plain b.crossings, half_plain b.release) refl
+  half_plain : (half : Option Told) → has_float (half_data place half) ≡ false
+  half_plain None = refl
+  half_plain (Some t) = details_plain (place (Event t.event)) t.event t.details
 
-pub account_plain : (w : Word) (account : Option AccountSaid) → has_float (account_data w account) ≡ false
-account_plain w None = rw (word_plain w) refl
-account_plain w (Some a) = rw (between_plain a.between, details_plain a.first a.first_details, details_plain a.second a.second_details, word_plain w) refl
+  between_plain : (b : BetweenSaid) → has_float (between_data place b) ≡ false
+  between_plain b = rw (half_plain b.acquire, crossings_plain b.crossings, half_plain b.release) refl
+
+  race_plain : (buffer : Option ElementSaid) (w : Word) (a : AccountSaid) → has_float (race_data buffer place w a) ≡ false
+  race_plain None w a =
+      rw (between_plain a.between, details_plain (place (Event a.first)) a.first a.first_details, details_plain (place (Event a.second)) a.second a.second_details, word_plain w) refl
+  race_plain (Some e) w a =
+      rw (between_plain a.between, details_plain (place (Event a.first)) a.first a.first_details, details_plain (place (Event a.second)) a.second a.second_details, word_plain w) refl
+
+  pub account_plain : (buffer : Option ElementSaid) (w : Word) (account : Option AccountSaid) → has_float (account_data buffer place w account) ≡ false
+  account_plain buffer w None = rw (word_plain w) refl
+  account_plain buffer w (Some a) = race_plain buffer w a

@@ -1,4 +1,5 @@
--- The least racing pair of a word, what its accesses are, what stands between them, and the cause of their race, as JSON.
+-- The least racing pair of a word, what its accesses are, what stands between them, and the cause of their race, as JSON, with
+-- what side files say of them.
 -- Source: docs/FORMATS.md, "JSON".
 use Rattle.std.specs.Prelude.{ℕ, List, Option, None, Some, codes}
 use Rattle.serde_json.specs.Data.{Data, member, no_members, object, string}
@@ -6,11 +7,15 @@ use Rattle.gr_model.specs.declared.event.Word.{Word}
 use Rattle.gr_causes.specs.declared.cause.Cause.{Cause}
 use Rattle.gr_causes.specs.declared.cause.Cause.TheVariants.{Flags, Scope, Divergence, NoBarrier, NoHandOver}
 use Rattle.gr_long.specs.Accounts.{AccountSaid}
+use Rattle.gr_places.specs.declared.places.Placed.{Placed}
+use Rattle.gr_places.specs.declared.places.Placed.TheVariants.{Event}
+use Rattle.gr_places.specs.SideLines.{ElementSaid, element_of, place_of}
+use Rattle.gr_sides.specs.Sides.{SidesSaid}
 use Rattle.gr_json.specs.Between.{between_data}
 use Rattle.gr_json.specs.Details.{details_data}
 use Rattle.gr_json.specs.Lines.{json_line}
 use Rattle.gr_json.specs.Races.{answer_data}
-use Rattle.gr_json.specs.Words.{word_data}
+use Rattle.gr_json.specs.Words.{with_buffer, word_data}
 
 abbrev pub cause_name : Cause → List ℕ
 cause_name Flags = codes "flags"
@@ -19,21 +24,23 @@ cause_name Divergence = codes "divergent"
 cause_name NoBarrier = codes "no-barrier"
 cause_name NoHandOver = codes "no-hand-over"
 
--- a racing pair of a word, what its accesses are, what stands between them, and the cause of their race
-abbrev pub race_data : Word → AccountSaid → Data
-race_data w a =
+-- a racing pair of a word, what its accesses are, what stands between them, the cause of their race, and the word's buffer, where it is
+-- said
+abbrev pub race_data : Option ElementSaid → (Placed → Option (List ℕ)) → Word → AccountSaid → Data
+race_data buffer place w a =
     object
-    (member (codes "between") (between_data a.between)
+    (member (codes "between") (between_data place a.between)
+    (with_buffer buffer
     (member (codes "cause") (string (cause_name a.cause))
-    (member (codes "first") (details_data a.first a.first_details)
-    (member (codes "second") (details_data a.second a.second_details)
-    (member (codes "type") (string (codes "race")) (member (codes "word") (word_data w) no_members))))))
+    (member (codes "first") (details_data (place (Event a.first)) a.first a.first_details)
+    (member (codes "second") (details_data (place (Event a.second)) a.second a.second_details)
+    (member (codes "type") (string (codes "race")) (member (codes "word") (word_data w) no_members)))))))
 
 -- the same, or a word that has no racing pair
-abbrev pub account_data : Word → Option AccountSaid → Data
-account_data w (Some a) = race_data w a
-account_data w None = answer_data w None
+abbrev pub account_data : Option ElementSaid → (Placed → Option (List ℕ)) → Word → Option AccountSaid → Data
+account_data buffer place w (Some a) = race_data buffer place w a
+account_data buffer place w None = answer_data w None
 
--- the same as a line
-abbrev pub account_json : Word → Option AccountSaid → List ℕ
-account_json w account = json_line (account_data w account)
+-- the same as a line, with what side files say
+abbrev pub account_json : SidesSaid → Word → Option AccountSaid → List ℕ
+account_json sides w account = json_line (account_data (element_of sides.buffers w) (place_of sides.places) w account)

@@ -1,6 +1,6 @@
--- What an access is, as JSON.
+-- What an access is, and where it stands in the source, as JSON.
 -- Source: docs/FORMATS.md, "JSON".
-use Rattle.std.specs.Prelude.{ℕ, List, codes}
+use Rattle.std.specs.Prelude.{ℕ, List, Option, codes}
 use Rattle.serde_json.specs.Data.{Data, member, no_members, number, object, string, unsigned}
 use Rattle.gr_model.specs.declared.event.EventId.{EventId}
 use Rattle.gr_model.specs.declared.event.Kind.{Kind}
@@ -10,6 +10,7 @@ use Rattle.gr_model.specs.declared.event.Order.TheVariants.{Relaxed, Acquire, Re
 use Rattle.gr_model.specs.declared.event.Scope.{Scope}
 use Rattle.gr_model.specs.declared.event.Scope.TheVariants.{Group, Device}
 use Rattle.gr_long.specs.declared.details.Details.{Details}
+use Rattle.gr_json.specs.Words.{with_place}
 
 abbrev pub scope_name : Scope → List ℕ
 scope_name Group = codes "grp"
@@ -38,12 +39,13 @@ kind_data (kinds.Rmw scope order) = atomic_data (codes "rmw") scope order
 kind_data (kinds.Barrier global local) = plain_data (codes "barrier")
 kind_data (kinds.End cut) = plain_data (codes "end")
 
--- an event, with what its record says, the record's number in its stream, and how many barriers of its item stand before it
-abbrev pub details_data : EventId → Details → Data
-details_data e d =
+-- an event, with what its record says, the record's number in its stream, how many barriers of its item stand before it, and its
+-- place in the source, where it is said
+abbrev pub details_data : Option (List ℕ) → EventId → Details → Data
+details_data place e d =
     object
     (member (codes "access") (kind_data d.kind)
     (member (codes "group") (number (unsigned e.at.group))
     (member (codes "index") (number (unsigned e.index))
     (member (codes "item") (number (unsigned e.at.item))
-    (member (codes "phase") (number (unsigned d.phase)) (member (codes "record") (number (unsigned d.number)) no_members))))))
+    (member (codes "phase") (number (unsigned d.phase)) (with_place place (member (codes "record") (number (unsigned d.number)) no_members)))))))

@@ -1,20 +1,27 @@
-//! The least racing pair of a word, what its accesses are, what stands between them, and the cause of their race, as JSON.
+//! The least racing pair of a word, what its accesses are, what stands between them, and the cause of their race, as JSON, with
+//! what side files say of them.
 
-ghost use Rattle.std.specs.Prelude.{◌≡◌, IfOk, option_map};
+ghost use Rattle.std.specs.Prelude.{◌≡◌, IfOk, None, Some, option_map};
 ghost use Rattle.std.specs.Option.{option_copied};
 ghost use Rattle.serde_json.specs.View.{view};
 ghost use Rattle.gr_long.specs.Accounts.{account_said};
+ghost use Rattle.gr_places.specs.PlaceIndexes.{place_at};
+ghost use Rattle.gr_places.specs.SideLines.{element, element_of as element_said};
+ghost use Rattle.gr_sides.specs.Sides.{sides_said};
 ghost use Rattle.gr_json.specs.Accounts as spec;
 
 use crate::between::between_value;
 use crate::details::details_value;
 use crate::lines::push_value;
 use crate::race::answer_value;
-use crate::words::word_value;
+use crate::words::{element_value, word_value};
 use gr_causes::cause::Cause;
 use gr_long::account::Account;
 use gr_model::event::Word;
 use gr_model::memory::Memory;
+use gr_places::buffers::{Element, element_of};
+use gr_places::index::PlaceIndex;
+use gr_sides::sides::Sides;
 use serde_json::{Value, json};
 use std::alloc::{AllocError, Global};
 
@@ -35,13 +42,18 @@ pub fn cause_name(cause: Cause) -> &'static str
 ///
 /// # Errors
 /// `AllocError`: out of memory.
-fn race_value(alloc: Global, word: Word, account: &Account) -> Result<Value, AllocError>
-    ensures { IfOk result (λ v. view v ≡ spec.race_data word (account_said account.now)) }
+fn unnamed_value(
+    alloc: Global,
+    places: &PlaceIndex<'_>,
+    word: Word,
+    account: &Account,
+) -> Result<Value, AllocError>
+    ensures { IfOk result (λ v. view v ≡ spec.race_data None (place_at places.now) word (account_said account.now)) }
 {
-    let between = between_value(alloc, &account.between)?;
+    let between = between_value(alloc, places, &account.between)?;
     let cause = cause_name(account.cause);
-    let first = details_value(alloc, account.first, &account.first_details)?;
-    let second = details_value(alloc, account.second, &account.second_details)?;
+    let first = details_value(alloc, places, account.first, &account.first_details)?;
+    let second = details_value(alloc, places, account.second, &account.second_details)?;
     let word = word_value(alloc, word)?;
     json!(in alloc; {
         "between": between,
@@ -53,28 +65,89 @@ fn race_value(alloc: Global, word: Word, account: &Account) -> Result<Value, All
     })
 }
 
+/// The same of a word of a buffer.
+///
+/// # Errors
+/// `AllocError`: out of memory.
+fn named_value(
+    alloc: Global,
+    named: &Element<'_>,
+    places: &PlaceIndex<'_>,
+    word: Word,
+    account: &Account,
+) -> Result<Value, AllocError>
+    ensures { IfOk result (λ v. view v ≡ spec.race_data (Some (element named.now)) (place_at places.now) word (account_said account.now)) }
+{
+    let between = between_value(alloc, places, &account.between)?;
+    let buffer = element_value(alloc, named)?;
+    let cause = cause_name(account.cause);
+    let first = details_value(alloc, places, account.first, &account.first_details)?;
+    let second = details_value(alloc, places, account.second, &account.second_details)?;
+    let word = word_value(alloc, word)?;
+    json!(in alloc; {
+        "between": between,
+        "buffer": buffer,
+        "cause": cause,
+        "first": first,
+        "second": second,
+        "type": "race",
+        "word": word
+    })
+}
+
+/// The same of a word, with its buffer where one is known.
+///
+/// # Errors
+/// `AllocError`: out of memory.
+fn race_value(
+    alloc: Global,
+    sides: &Sides<'_>,
+    places: &PlaceIndex<'_>,
+    word: Word,
+    account: &Account,
+) -> Result<Value, AllocError>
+    ensures { IfOk result (λ v. view v ≡ spec.race_data (element_said (sides_said sides.now).buffers word) (place_at places.now) word (account_said account.now)) }
+{
+    match element_of(sides.buffers, word) {
+        None => unnamed_value(alloc, places, word, account),
+        Some(named) => named_value(alloc, &named, places, word, account),
+    }
+}
+
 /// The same, or a word that has no racing pair.
 ///
 /// # Errors
 /// `AllocError`: out of memory.
-fn account_value(alloc: Global, word: Word, account: Option<&Account>) -> Result<Value, AllocError>
-    ensures { IfOk result (λ v. view v ≡ spec.account_data word (option_map account_said (option_copied account.entry))) }
+fn account_value(
+    alloc: Global,
+    sides: &Sides<'_>,
+    places: &PlaceIndex<'_>,
+    word: Word,
+    account: Option<&Account>,
+) -> Result<Value, AllocError>
+    ensures { IfOk result (λ v. view v ≡ spec.account_data (element_said (sides_said sides.now).buffers word) (place_at places.now) word (option_map account_said (option_copied account.entry))) }
 {
     match account {
-        Some(account) => race_value(alloc, word, account),
+        Some(account) => race_value(alloc, sides, places, word, account),
         None => answer_value(alloc, word, None),
     }
 }
 
-/// The line of a word's racing pair, what its accesses are, what stands between them and the cause of their race, or of a
-/// word that has none.
+/// The line of a word's racing pair, what its accesses are, what stands between them and the cause of their race, with what
+/// side files say of the word, of these events and of barriers, or of a word that has no racing pair.
 ///
 /// # Errors
 /// `Memory`: out of memory.
-pub fn account_json(alloc: Global, word: Word, account: Option<&Account>) -> Result<Vec<u8>, Memory>
-    ensures { IfOk result (λ text. text.items ≡ spec.account_json word (option_map account_said (option_copied account.entry))) }
+pub fn account_json(
+    alloc: Global,
+    sides: &Sides<'_>,
+    word: Word,
+    account: Option<&Account>,
+) -> Result<Vec<u8>, Memory>
+    ensures { IfOk result (λ text. text.items ≡ spec.account_json (sides_said sides.now) word (option_map account_said (option_copied account.entry))) }
 {
-    let value = account_value(alloc, word, account)?;
+    let places = PlaceIndex::of(alloc, sides.places)?;
+    let value = account_value(alloc, sides, &places, word, account)?;
     let mut text = Vec::new(alloc);
     push_value(alloc, &mut text, &value)?;
     Ok(text)

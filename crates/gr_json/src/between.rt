@@ -1,12 +1,15 @@
-//! What stands between two accesses, as JSON.
+//! What stands between two accesses, as JSON, with the places in the source that are said.
 
-ghost use Rattle.std.specs.Prelude.{◌≡◌, IfOk, map};
+ghost use Rattle.std.specs.Prelude.{◌≡◌, IfOk, None, Some, map};
 ghost use Rattle.serde_json.specs.View.{view};
 ghost use Rattle.gr_long.specs.Between.{between_said};
+ghost use Rattle.gr_places.specs.PlaceIndexes.{place_at};
 ghost use Rattle.gr_json.specs.Between as spec;
 
 use crate::details::details_value;
 use gr_long::between::{Between, Crossing, Told};
+use gr_places::index::PlaceIndex;
+use gr_places::places::Placed;
 use serde_json::{Value, json};
 use std::alloc::{AllocError, Global};
 
@@ -14,8 +17,8 @@ use std::alloc::{AllocError, Global};
 ///
 /// # Errors
 /// `AllocError`: out of memory.
-fn crossing_value(alloc: Global, crossing: &Crossing) -> Result<Value, AllocError>
-    ensures { IfOk result (λ v. view v ≡ spec.crossing_data crossing.now) }
+fn unplaced_value(alloc: Global, crossing: &Crossing) -> Result<Value, AllocError>
+    ensures { IfOk result (λ v. view v ≡ spec.crossing_data None crossing.now) }
 {
     json!(in alloc; {
         "global": crossing.global,
@@ -25,16 +28,59 @@ fn crossing_value(alloc: Global, crossing: &Crossing) -> Result<Value, AllocErro
     })
 }
 
+/// The same, and where the site stands.
+///
+/// # Errors
+/// `AllocError`: out of memory.
+fn placed_value(alloc: Global, place: &str, crossing: &Crossing) -> Result<Value, AllocError>
+    ensures { IfOk result (λ v. view v ≡ spec.crossing_data (Some place.now) crossing.now) }
+{
+    let Crossing {
+        instance,
+        site,
+        global,
+        local,
+    } = *crossing;
+    json!(in alloc; {
+        "global": global,
+        "instance": instance,
+        "local": local,
+        "place": place,
+        "site": site
+    })
+}
+
+/// A barrier instance, and where its site stands, if this index has the place.
+///
+/// # Errors
+/// `AllocError`: out of memory.
+fn crossing_value(
+    alloc: Global,
+    places: &PlaceIndex<'_>,
+    crossing: &Crossing,
+) -> Result<Value, AllocError>
+    ensures { IfOk result (λ v. view v ≡ spec.placed_crossing (place_at places.now) crossing.now) }
+{
+    match places.place_of(Placed::Site(crossing.site)) {
+        None => unplaced_value(alloc, crossing),
+        Some(place) => placed_value(alloc, place, crossing),
+    }
+}
+
 /// The values of barrier instances.
 ///
 /// # Errors
 /// `AllocError`: out of memory.
-fn crossing_values(alloc: Global, crossings: &[Crossing]) -> Result<Vec<Value>, AllocError>
-    ensures { IfOk result (λ values. map view values.items ≡ map spec.crossing_data crossings.now) }
+fn crossing_values(
+    alloc: Global,
+    places: &PlaceIndex<'_>,
+    crossings: &[Crossing],
+) -> Result<Vec<Value>, AllocError>
+    ensures { IfOk result (λ values. map view values.items ≡ map (spec.placed_crossing (place_at places.now)) crossings.now) }
 {
     let mut values = Vec::new(alloc);
     for crossing in crossings {
-        values.push(crossing_value(alloc, crossing)?)?;
+        values.push(crossing_value(alloc, places, crossing)?)?;
     }
     Ok(values)
 }
@@ -43,10 +89,14 @@ fn crossing_values(alloc: Global, crossings: &[Crossing]) -> Result<Vec<Value>, 
 ///
 /// # Errors
 /// `AllocError`: out of memory.
-fn crossings_value(alloc: Global, crossings: &[Crossing]) -> Result<Value, AllocError>
-    ensures { IfOk result (λ v. view v ≡ spec.crossings_data crossings.now) }
+fn crossings_value(
+    alloc: Global,
+    places: &PlaceIndex<'_>,
+    crossings: &[Crossing],
+) -> Result<Value, AllocError>
+    ensures { IfOk result (λ v. view v ≡ spec.crossings_data (place_at places.now) crossings.now) }
 {
-    let values = crossing_values(alloc, crossings)?;
+    let values = crossing_values(alloc, places, crossings)?;
     Ok(Value::Array(values))
 }
 
@@ -54,12 +104,16 @@ fn crossings_value(alloc: Global, crossings: &[Crossing]) -> Result<Value, Alloc
 ///
 /// # Errors
 /// `AllocError`: out of memory.
-fn half_value(alloc: Global, half: Option<Told>) -> Result<Value, AllocError>
-    ensures { IfOk result (λ v. view v ≡ spec.half_data half) }
+fn half_value(
+    alloc: Global,
+    places: &PlaceIndex<'_>,
+    half: Option<Told>,
+) -> Result<Value, AllocError>
+    ensures { IfOk result (λ v. view v ≡ spec.half_data (place_at places.now) half) }
 {
     match half {
         None => Ok(Value::Null),
-        Some(half) => details_value(alloc, half.event, &half.details),
+        Some(half) => details_value(alloc, places, half.event, &half.details),
     }
 }
 
@@ -67,11 +121,15 @@ fn half_value(alloc: Global, half: Option<Told>) -> Result<Value, AllocError>
 ///
 /// # Errors
 /// `AllocError`: out of memory.
-pub(crate) fn between_value(alloc: Global, between: &Between) -> Result<Value, AllocError>
-    ensures { IfOk result (λ v. view v ≡ spec.between_data (between_said between.now)) }
+pub(crate) fn between_value(
+    alloc: Global,
+    places: &PlaceIndex<'_>,
+    between: &Between,
+) -> Result<Value, AllocError>
+    ensures { IfOk result (λ v. view v ≡ spec.between_data (place_at places.now) (between_said between.now)) }
 {
-    let acquire = half_value(alloc, between.acquire)?;
-    let barriers = crossings_value(alloc, between.crossings.as_slice())?;
-    let release = half_value(alloc, between.release)?;
+    let acquire = half_value(alloc, places, between.acquire)?;
+    let barriers = crossings_value(alloc, places, between.crossings.as_slice())?;
+    let release = half_value(alloc, places, between.release)?;
     json!(in alloc; {"acquire": acquire, "barriers": barriers, "release": release})
 }

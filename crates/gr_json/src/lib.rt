@@ -4,10 +4,12 @@
 pub mod account;
 mod between;
 mod details;
+pub mod files;
 pub mod lines;
 pub mod race;
 pub mod report;
 pub mod show;
 pub mod words;
 
+pub use files::show_account_json_of_files;
 pub use show::{show_account_json, show_race_json, write_report_json};

@@ -6,6 +6,7 @@ ghost use Rattle.gr_record.specs.declared.fault.Fault.TheVariants as faults;
 ghost use Rattle.gr_replay.specs.Each.{all_known};
 ghost use Rattle.gr_report.specs.Putting.{AppendsPrefix};
 ghost use Rattle.gr_report.specs.Whole.{whole_of};
+ghost use Rattle.gr_sides.specs.Sides.{sides_said};
 ghost use Rattle.gr_show.specs.Shown.{IsRacyIn, IsShowFault, IsShown, ShowsPrefix};
 ghost use Rattle.gr_json.specs.Reports.{report_json};
 ghost use Rattle.gr_json.specs.Shown.{IsJsonAccount, IsJsonLine};
@@ -20,6 +21,7 @@ use gr_model::event::Word;
 use gr_record::fault::Fault;
 use gr_replay::read_each;
 use gr_report::report::Report;
+use gr_sides::sides::Sides;
 use std::alloc::{Allocator, Global};
 use std::io::{Read, Write};
 
@@ -75,8 +77,8 @@ pub fn show_race_json<T: Read + Drop, W: Write>(
 }
 
 /// Reads the streams of a launch, one from each reader, writes the word and its least racing pair, what the two accesses are,
-/// what stands between them and the cause of their race, or that the word has no race, as a line of JSON and nothing else, and
-/// tells whether the word has a race.
+/// what stands between them and the cause of their race, with what side files say of the word, of these events and of
+/// barriers, or that the word has no race, as a line of JSON and nothing else, and tells whether the word has a race.
 ///
 /// # Errors
 /// Those of `read_each`; `Write` where the writer fails, which then has a prefix of the line. In every other case of an
@@ -84,20 +86,21 @@ pub fn show_race_json<T: Read + Drop, W: Write>(
 pub fn show_account_json<T: Read + Drop, W: Write>(
     alloc: Global,
     readers: Vec<T>,
+    sides: &Sides<'_>,
     word: Word,
     writer: &mut W,
 ) -> Result<bool, Fault>
-    ensures shown { IfOk result (λ found. IsShown (IsJsonAccount word) (IsRacyIn word) (all_known (map T.remaining readers.items)) found (W.contents writer.old) (W.contents writer.new)) }
+    ensures shown { IfOk result (λ found. IsShown (IsJsonAccount (sides_said sides.now) word) (IsRacyIn word) (all_known (map T.remaining readers.items)) found (W.contents writer.old) (W.contents writer.new)) }
     ensures fault { IfErr result (λ f. IfSome (all_known (map T.remaining readers.items)) (λ inputs. IsShowFault inputs f)) }
 
     // What a refusal leaves with the writer.
     ensures untouched { IfErr result (λ f. f ≢ faults.Write → Keeps (W.contents writer.old) (W.contents writer.new)) }
-    ensures prefix { IfErr result (λ f. f ≡ faults.Write → ShowsPrefix (IsJsonAccount word) (all_known (map T.remaining readers.items)) (W.contents writer.old) (W.contents writer.new)) }
+    ensures prefix { IfErr result (λ f. f ≡ faults.Write → ShowsPrefix (IsJsonAccount (sides_said sides.now) word) (all_known (map T.remaining readers.items)) (W.contents writer.old) (W.contents writer.new)) }
     ensures threads { IfErr result (λ f. f ≢ faults.Threads) }
 {
     let traces = read_each(alloc, readers)?;
     let account = account_of(alloc, &traces, word)?;
-    let text = account_json(alloc, word, account.as_ref())?;
+    let text = account_json(alloc, sides, word, account.as_ref())?;
     match write_text(writer, &text) {
         Ok(()) => Ok(account.is_some()),
         Err(_) => Err(Fault::Write),

@@ -1,10 +1,12 @@
-//! Words of memory, events and texts as JSON.
+//! Words of memory and of buffers, events and texts as JSON.
 
 ghost use Rattle.std.specs.Prelude.{◌≡◌, IfOk, option_map};
 ghost use Rattle.serde_json.specs.View.{view};
-ghost use Rattle.gr_json.specs.Words.{event_data, text_data, word_data};
+ghost use Rattle.gr_places.specs.SideLines.{element};
+ghost use Rattle.gr_json.specs.Words.{element_data, event_data, text_data, word_data};
 
 use gr_model::event::{EventId, Word};
+use gr_places::buffers::Element;
 use serde_json::{Value, json};
 use std::alloc::{AllocError, Global};
 
@@ -44,4 +46,14 @@ pub fn text_value(alloc: Global, text: Option<&str>) -> Result<Value, AllocError
         None => Ok(Value::Null),
         Some(text) => Value::try_from_str(alloc, text),
     }
+}
+
+/// A word by its buffer and its place there.
+///
+/// # Errors
+/// `AllocError`: out of memory.
+pub(crate) fn element_value(alloc: Global, named: &Element<'_>) -> Result<Value, AllocError>
+    ensures { IfOk result (λ v. view v ≡ element_data (element named.now)) }
+{
+    json!(in alloc; {"index": named.index, "name": named.name})
 }

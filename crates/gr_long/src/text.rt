@@ -1,10 +1,13 @@
-//! The text of the long form of `explain`.
+//! The text of the long form of `explain`, with what side files say.
 
 ghost use Rattle.std.specs.Prelude.{◌≡◌, OnErr, OnOk, option_map};
 ghost use Rattle.std.specs.Io.KnownBytes.{Appends};
 ghost use Rattle.std.specs.List.{flat_map};
 ghost use Rattle.std.specs.Option.{option_copied};
+ghost use Rattle.gr_places.specs.PlaceIndexes.{place_at};
+ghost use Rattle.gr_places.specs.SideLines.{element_of};
 ghost use Rattle.gr_report.specs.Putting.{AppendsPrefix, Puts};
+ghost use Rattle.gr_sides.specs.Sides.{sides_said};
 ghost use Rattle.gr_show.specs.Explanations.{event_text};
 ghost use Rattle.gr_long.specs.AccountText as spec;
 ghost use Rattle.gr_long.specs.Accounts.{account_said};
@@ -15,8 +18,11 @@ use crate::between::{Between, Crossing, Told};
 use crate::details::Details;
 use gr_causes::text::cause_line;
 use gr_model::event::{EventId, Kind, Order, Scope, Word};
+use gr_places::index::PlaceIndex;
+use gr_places::places::Placed;
 use gr_report::putting::{WriteFault, finish, put, put_field};
 use gr_show::explanation::put_explanation;
+use gr_sides::sides::{Sides, put_buffer, put_text};
 use std::alloc::Allocator;
 use std::io::Write;
 
@@ -82,12 +88,35 @@ pub fn put_told<W: Write>(writer: &mut W, details: &Details) -> Result<(), Write
     put_field(writer, b" phase ", details.phase)
 }
 
-fn put_details<W: Write>(writer: &mut W, label: &[u8], details: &Details) -> Result<(), WriteFault>
-    ensures { Puts (W.contents writer.old) (W.contents writer.new) result (spec.details_line label.now details.now) }
+/// Writes where an event or a site stands, if it is said, and ends the line. It takes no memory.
+///
+/// # Errors
+/// `WriteFault` if the writer fails, which has then taken a prefix of these bytes.
+fn put_place<A: Allocator, W: Write>(
+    writer: &mut W,
+    places: &PlaceIndex<'_, A>,
+    placed: Placed,
+) -> Result<(), WriteFault>
+    ensures { Puts (W.contents writer.old) (W.contents writer.new) result (spec.place_text (place_at places.now placed)) }
+{
+    match places.place_of(placed) {
+        None => put(writer, b"\n"),
+        Some(text) => put_text(writer, b" at ", text),
+    }
+}
+
+fn put_details<A: Allocator, W: Write>(
+    writer: &mut W,
+    places: &PlaceIndex<'_, A>,
+    label: &[u8],
+    event: EventId,
+    details: &Details,
+) -> Result<(), WriteFault>
+    ensures { Puts (W.contents writer.old) (W.contents writer.new) result (spec.details_line (place_at places.now) label.now event details.now) }
 {
     put(writer, label)?;
     put_told(writer, details)?;
-    put(writer, b"\n")
+    put_place(writer, places, Placed::Event(event))
 }
 
 fn flags_text(global: bool, local: bool) -> &'static [u8]
@@ -101,20 +130,28 @@ fn flags_text(global: bool, local: bool) -> &'static [u8]
     }
 }
 
-fn put_crossing<W: Write>(writer: &mut W, crossing: &Crossing) -> Result<(), WriteFault>
-    ensures { Puts (W.contents writer.old) (W.contents writer.new) result (spec.crossing_line crossing.now) }
+fn put_crossing<A: Allocator, W: Write>(
+    writer: &mut W,
+    places: &PlaceIndex<'_, A>,
+    crossing: &Crossing,
+) -> Result<(), WriteFault>
+    ensures { Puts (W.contents writer.old) (W.contents writer.new) result (spec.crossing_line (place_at places.now) crossing.now) }
 {
     put_field(writer, b"barrier ", crossing.instance)?;
     put_field(writer, b" site ", crossing.site)?;
     put(writer, flags_text(crossing.global, crossing.local))?;
-    put(writer, b"\n")
+    put_place(writer, places, Placed::Site(crossing.site))
 }
 
-fn put_crossings<W: Write>(writer: &mut W, crossings: &[Crossing]) -> Result<(), WriteFault>
-    ensures { Puts (W.contents writer.old) (W.contents writer.new) result (flat_map spec.crossing_line crossings.now) }
+fn put_crossings<A: Allocator, W: Write>(
+    writer: &mut W,
+    places: &PlaceIndex<'_, A>,
+    crossings: &[Crossing],
+) -> Result<(), WriteFault>
+    ensures { Puts (W.contents writer.old) (W.contents writer.new) result (flat_map (spec.crossing_line (place_at places.now)) crossings.now) }
 {
     for crossing in crossings {
-        put_crossing(writer, crossing)?;
+        put_crossing(writer, places, crossing)?;
     }
     Ok(())
 }
@@ -127,80 +164,106 @@ fn put_event<W: Write>(writer: &mut W, before: &[u8], event: EventId) -> Result<
     put_field(writer, b" ", event.index)
 }
 
-fn put_half<W: Write>(writer: &mut W, label: &[u8], half: &Told) -> Result<(), WriteFault>
-    ensures { Puts (W.contents writer.old) (W.contents writer.new) result (spec.half_line label.now half.now) }
+fn put_half<A: Allocator, W: Write>(
+    writer: &mut W,
+    places: &PlaceIndex<'_, A>,
+    label: &[u8],
+    half: &Told,
+) -> Result<(), WriteFault>
+    ensures { Puts (W.contents writer.old) (W.contents writer.new) result (spec.half_line (place_at places.now) label.now half.now) }
 {
     put_event(writer, label, half.event)?;
     put_told(writer, &half.details)?;
-    put(writer, b"\n")
+    put_place(writer, places, Placed::Event(half.event))
 }
 
-fn put_half_if_any<W: Write>(
+fn put_half_if_any<A: Allocator, W: Write>(
     writer: &mut W,
+    places: &PlaceIndex<'_, A>,
     label: &[u8],
     half: Option<Told>,
 ) -> Result<(), WriteFault>
-    ensures { Puts (W.contents writer.old) (W.contents writer.new) result (spec.half_lines label.now half) }
+    ensures { Puts (W.contents writer.old) (W.contents writer.new) result (spec.half_lines (place_at places.now) label.now half) }
 {
     match half {
         None => Ok(()),
-        Some(half) => put_half(writer, label, &half),
+        Some(half) => put_half(writer, places, label, &half),
     }
 }
 
 fn put_between<A: Allocator, W: Write>(
     writer: &mut W,
+    places: &PlaceIndex<'_, A>,
     between: &Between<A>,
 ) -> Result<(), WriteFault>
-    ensures { Puts (W.contents writer.old) (W.contents writer.new) result (spec.between_lines (between_said between.now)) }
+    ensures { Puts (W.contents writer.old) (W.contents writer.new) result (spec.between_lines (place_at places.now) (between_said between.now)) }
 {
-    put_crossings(writer, between.crossings.as_slice())?;
-    put_half_if_any(writer, b"release behind first ", between.release)?;
-    put_half_if_any(writer, b"acquire before second ", between.acquire)
+    put_crossings(writer, places, between.crossings.as_slice())?;
+    put_half_if_any(writer, places, b"release behind first ", between.release)?;
+    put_half_if_any(writer, places, b"acquire before second ", between.acquire)
 }
 
 fn put_race<A: Allocator, W: Write>(
     writer: &mut W,
+    places: &PlaceIndex<'_, A>,
     word: Word,
     account: &Account<A>,
 ) -> Result<(), WriteFault>
-    ensures { Puts (W.contents writer.old) (W.contents writer.new) result (spec.race_lines word (account_said account.now)) }
+    ensures { Puts (W.contents writer.old) (W.contents writer.new) result (spec.race_lines (place_at places.now) word (account_said account.now)) }
 {
-    put_details(writer, b"first", &account.first_details)?;
-    put_details(writer, b"second", &account.second_details)?;
-    put_between(writer, &account.between)?;
+    put_details(
+        writer,
+        places,
+        b"first",
+        account.first,
+        &account.first_details,
+    )?;
+    put_details(
+        writer,
+        places,
+        b"second",
+        account.second,
+        &account.second_details,
+    )?;
+    put_between(writer, places, &account.between)?;
     put(writer, cause_line(word, account.cause))
 }
 
 fn put_account<A: Allocator, W: Write>(
     writer: &mut W,
+    sides: &Sides<'_>,
+    places: &PlaceIndex<'_, A>,
     word: Word,
     account: Option<&Account<A>>,
 ) -> Result<(), WriteFault>
-    ensures { Puts (W.contents writer.old) (W.contents writer.new) result (spec.account_text word (option_map account_said (option_copied account.entry))) }
+    ensures { Puts (W.contents writer.old) (W.contents writer.new) result (spec.account_text (element_of (sides_said sides.now).buffers word) (place_at places.now) word (option_map account_said (option_copied account.entry))) }
 {
     match account {
         None => put_explanation(writer, word, None),
         Some(account) => {
             put_explanation(writer, word, Some((account.first, account.second)))?;
-            put_race(writer, word, account)
+            put_buffer(writer, sides, word)?;
+            put_race(writer, places, word, account)
         }
     }
 }
 
 /// Writes the line of a word and its least racing pair, or of a word that has none, and below it what the two accesses
-/// are, what stands between them and the cause of their race, and flushes. It takes no memory.
+/// are, what stands between them and the cause of their race, with the word's buffer and, where this index has the places,
+/// those of these events and of barriers, and flushes. It takes no memory.
 ///
 /// # Errors
 /// `WriteFault` where the writer fails; what it took is then a prefix of the text.
-pub fn write_account<A: Allocator, W: Write>(
+pub(crate) fn write_account<A: Allocator, W: Write>(
     writer: &mut W,
+    sides: &Sides<'_>,
+    places: &PlaceIndex<'_, A>,
     word: Word,
     account: Option<&Account<A>>,
 ) -> Result<(), WriteFault>
-    ensures whole { OnOk result (Appends (W.contents writer.old) (W.contents writer.new) (spec.account_text word (option_map account_said (option_copied account.entry)))) }
-    ensures prefix { OnErr result (AppendsPrefix (W.contents writer.old) (W.contents writer.new) (spec.account_text word (option_map account_said (option_copied account.entry)))) }
+    ensures whole { OnOk result (Appends (W.contents writer.old) (W.contents writer.new) (spec.account_text (element_of (sides_said sides.now).buffers word) (place_at places.now) word (option_map account_said (option_copied account.entry)))) }
+    ensures prefix { OnErr result (AppendsPrefix (W.contents writer.old) (W.contents writer.new) (spec.account_text (element_of (sides_said sides.now).buffers word) (place_at places.now) word (option_map account_said (option_copied account.entry)))) }
 {
-    put_account(writer, word, account)?;
+    put_account(writer, sides, places, word, account)?;
     finish(writer)
 }

@@ -3,4 +3,4 @@ use Rattle.clap.specs.Words.{App}
 use Rattle.gr_arguments.proofs.command.plain_command.Goals as goal
 
 pub returns-clause-shape : goal.returns-clause-shape
-returns-clause-shape c = rw c.about.ensures (ap (λ (a : App). a.top) c.new.ensures.app)
+returns-clause-shape c = rw (c.after_help.ensures, c.about.ensures) (ap (λ (a : App). a.top) c.new.ensures.app)

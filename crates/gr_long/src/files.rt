@@ -1,0 +1,63 @@
+//! The long form of `explain` of a launch whose streams are in files, with what side files say of the word and its race.
+
+ghost use Rattle.std.specs.Prelude.{◌≡◌, ◌≢◌, IfErr, IfOk, map};
+ghost use Rattle.std.specs.Fn.{FnReturnsAt};
+ghost use Rattle.std.specs.Io.KnownBytes.{Keeps};
+ghost use Rattle.gr_record.specs.declared.fault.Fault.TheVariants as faults;
+ghost use Rattle.gr_sides.specs.Opening.{HoldsOfAllFiles, IsSidesFault, side_names};
+ghost use Rattle.gr_sides.specs.declared.fault.SidesFault.TheVariants.{Run as ARun};
+ghost use Rattle.gr_show.specs.Shown.{IsRacyIn, IsShown, ShowsPrefix};
+ghost use Rattle.gr_long.specs.Shown.{IsAccountText};
+
+use crate::show::show_account;
+use gr_model::event::Word;
+use gr_sides::fault::SidesFault;
+use gr_sides::files::{Opened, SideNames, buffers_of, bytes_of, open_files, places_of};
+use gr_sides::sides::Sides;
+use std::alloc::Allocator;
+use std::io::{self, Read, Write};
+
+/// Opens the side files that are named and the files of these names, reads the side files and then the streams of a
+/// launch, one from each file, writes the line of a word, what the two accesses are, what stands between them and the cause
+/// of their race, with what the side files say of the word, of these events and of barriers, and nothing else, and tells
+/// whether the word has a race.
+///
+/// # Errors
+/// `Run` with the fault of the first file that can't be opened: places, buffers, streams. Nothing is read before all are
+/// open. Then `Places` and `Buffers` with the first line that is out of form, the places first; `Run` with the fault of
+/// a side file that can't be read, at its turn; then `Run` with those of `show_account`.
+pub fn show_account_of_files<'a, A, T, O, W>(
+    alloc: A,
+    sides: &SideNames<'a>,
+    names: &[&'a str],
+    opener: O,
+    word: Word,
+    writer: &mut W,
+) -> Result<bool, SidesFault>
+where
+    A: Allocator + Copy,
+    T: Read + Drop,
+    O: Fn(&str) -> io::Result<T>,
+    W: Write,
+    requires { O.IsAlwaysCallable opener }
+    ensures shown { IfOk result (λ found. HoldsOfAllFiles T.remaining (FnReturnsAt O.Fn opener) (side_names sides.now) (map (λ s. s.now) names.now) (λ known said. IsShown (IsAccountText said word) (IsRacyIn word) known found (W.contents writer.old) (W.contents writer.new))) }
+    ensures fault { IfErr result (λ f. IsSidesFault T.remaining (FnReturnsAt O.Fn opener) (side_names sides.now) (map (λ s. s.now) names.now) f) }
+    ensures untouched { IfErr result (λ f. f ≢ ARun faults.Write → Keeps (W.contents writer.old) (W.contents writer.new)) }
+    ensures prefix { IfErr result (λ f. f ≡ ARun faults.Write → HoldsOfAllFiles T.remaining (FnReturnsAt O.Fn opener) (side_names sides.now) (map (λ s. s.now) names.now) (λ known said. ShowsPrefix (IsAccountText said word) known (W.contents writer.old) (W.contents writer.new))) }
+    ensures threads { IfErr result (λ f. f ≢ ARun faults.Threads) }
+{
+    let Opened {
+        places,
+        buffers,
+        streams,
+    } = open_files(alloc, sides, names, opener)?;
+    let place_bytes = bytes_of(alloc, places)?;
+    let places = places_of(alloc, &place_bytes)?;
+    let buffer_bytes = bytes_of(alloc, buffers)?;
+    let buffers = buffers_of(alloc, &buffer_bytes)?;
+    let said = Sides {
+        places: &places,
+        buffers: &buffers,
+    };
+    Ok(show_account(alloc, streams, &said, word, writer)?)
+}
