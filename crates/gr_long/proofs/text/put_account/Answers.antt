@@ -12,11 +12,11 @@ returns-in_err-put_explanation-in-Some g c =
     let race = race_lines (place_at c.args.places.now) c.args.word (account_said c.in-Some.account.now) in
     rw c.in-Some.is (puts_err _ c.from_residual.ensures.0 (puts_more race (puts_more buffer c.in_err-put_explanation-in-Some.ensures)))
 
-pub returns-in_err-put_buffer : goal.returns-in_err-put_buffer
-returns-in_err-put_buffer g c =
+pub returns-in_err-put_buffer-in-Some : goal.returns-in_err-put_buffer-in-Some
+returns-in_err-put_buffer-in-Some g c =
     let race = race_lines (place_at c.args.places.now) c.args.word (account_said c.in-Some.account.now) in
-    rw c.in-Some.is (puts_err _ c.from_residual-in_err-put_buffer.ensures.0 (puts_more race (puts_then c.in_ok-put_explanation-in-Some.ensures c.in_err-put_buffer.ensures)))
+    rw c.in-Some.is (puts_err _ c.from_residual-in_err-put_buffer-in-Some.ensures.0 (puts_more race (puts_then c.in_ok-put_explanation-in-Some.ensures c.in_err-put_buffer-in-Some.ensures)))
 
-pub returns-in_ok-put_buffer : goal.returns-in_ok-put_buffer
-returns-in_ok-put_buffer g c =
-    rw c.in-Some.is (puts_then (puts_then c.in_ok-put_explanation-in-Some.ensures c.in_ok-put_buffer.ensures) c.put_race.ensures)
+pub returns-in_ok-put_buffer-in-Some : goal.returns-in_ok-put_buffer-in-Some
+returns-in_ok-put_buffer-in-Some g c =
+    rw c.in-Some.is (puts_then (puts_then c.in_ok-put_explanation-in-Some.ensures c.in_ok-put_buffer-in-Some.ensures) c.put_race.ensures)
