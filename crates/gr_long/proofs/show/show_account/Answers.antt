@@ -1,8 +1,10 @@
-use Rattle.std.proofs.Common.{rules, ◌↔◌, Bool, IsTrue, option_map, refl, subst, sym}
+use Rattle.std.proofs.Common.{rules, ◌↔◌, Bool, IsTrue, inr, map, option_map, refl, subst, sym}
+use Rattle.gr_record.specs.declared.fault.Fault.TheVariants as faults
 use Rattle.gr_places.specs.SideLines.{element_of}
+use Rattle.gr_replay.specs.Each.{all_known}
 use Rattle.gr_sides.specs.Sides.{sides_said}
-use Rattle.gr_show.specs.Shown.{IsRacyIn}
-use Rattle.gr_long.proofs.AccountLemmas.{account_racy, account_text_same}
+use Rattle.gr_show.specs.Shown.{IsRacyIn, IsShowFault}
+use Rattle.gr_long.proofs.AccountLemmas.{account_racy, account_text_same, of_any}
 use Rattle.gr_long.specs.Accounts.{account_said}
 use Rattle.gr_long.proofs.show.show_account.Goals as goal
 
@@ -31,3 +33,6 @@ returns-clause-prefix g c = λ _.
       exact = record { account = account; exact = c.in_ok-account.ensures; is = account_text_same (element_of said.buffers c.args.word) c.in_ok-places.places said.places c.in_ok-places.ensures c.args.word account };
       prefix = rw c.as_ref.ensures.value at c.in-Err.ensures.prefix;
     }
+
+pub returns-clause-fault : goal.returns-clause-fault
+returns-clause-fault g c = of_any (all_known (map g.T.Read.remaining c.args.readers.items)) (λ inputs. IsShowFault inputs faults.Write) (λ inputs. inr refl)
