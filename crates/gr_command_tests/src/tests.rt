@@ -1008,9 +1008,9 @@ const ODD_RACE: &str =
 \"type\":\"race\",\"word\":{\"number\":16,\"space\":\"global\"}}\n";
 
 const ODD_ACCOUNT: &str =
-    "{\"between\":{\"acquire\":null,\"barriers\":[],\"release\":null},\"cause\":\"no-barrier\",\
-\"first\":{\"access\":{\"kind\":\"write\"},\"group\":0,\"index\":0,\"item\":0,\"phase\":0,\"record\":0},\
-\"second\":{\"access\":{\"kind\":\"read\"},\"group\":0,\"index\":0,\"item\":1,\"phase\":0,\"record\":1},\
+    "{\"between\":{\"acquire\":null,\"barriers\":[],\"release\":null},\"buffer\":null,\"cause\":\"no-barrier\",\
+\"first\":{\"access\":{\"kind\":\"write\"},\"group\":0,\"index\":0,\"item\":0,\"phase\":0,\"place\":null,\"record\":0},\
+\"second\":{\"access\":{\"kind\":\"read\"},\"group\":0,\"index\":0,\"item\":1,\"phase\":0,\"place\":null,\"record\":1},\
 \"type\":\"race\",\"word\":{\"number\":16,\"space\":\"global\"}}\n";
 
 const ODD_NOTED: &str =

@@ -299,13 +299,13 @@ static LINES: [Case; 4] = [
 \"group\":0,\"index\":2,\"item\":1,\"phase\":2,\"place\":\"pass.cl:11\",\"record\":6},\
 \"barriers\":[\
 {\"global\":false,\"instance\":0,\"local\":true,\"place\":\"pass.cl:6 in a loop\",\"site\":9},\
-{\"global\":false,\"instance\":1,\"local\":false,\"site\":4}],\
+{\"global\":false,\"instance\":1,\"local\":false,\"place\":null,\"site\":4}],\
 \"release\":{\"access\":{\"kind\":\"rmw\",\"order\":\"both\",\"scope\":\"dev\"},\
 \"group\":0,\"index\":3,\"item\":0,\"phase\":2,\"place\":\"pass.cl:8\",\"record\":5}},\
 \"buffer\":{\"index\":4,\"name\":\"flags\"},\"cause\":\"flags\",\
 \"first\":{\"access\":{\"kind\":\"write\"},\"group\":0,\"index\":0,\"item\":0,\"phase\":0,\
 \"place\":\"pass.cl:4\",\"record\":0},\
-\"second\":{\"access\":{\"kind\":\"read\"},\"group\":0,\"index\":3,\"item\":1,\"phase\":2,\"record\":7},\
+\"second\":{\"access\":{\"kind\":\"read\"},\"group\":0,\"index\":3,\"item\":1,\"phase\":2,\"place\":null,\"record\":7},\
 \"type\":\"race\",\"word\":{\"number\":16,\"space\":\"global\"}}\n",
         true,
     ),
@@ -317,8 +317,8 @@ static LINES: [Case; 4] = [
         "{\"between\":{\
 \"acquire\":{\"access\":{\"kind\":\"load\",\"order\":\"acq\",\"scope\":\"dev\"},\
 \"group\":0,\"index\":2,\"item\":1,\"phase\":2,\"place\":\"pass.cl:11\",\"record\":6},\
-\"barriers\":[],\"release\":null},\"cause\":\"no-barrier\",\
-\"first\":{\"access\":{\"kind\":\"write\"},\"group\":0,\"index\":4,\"item\":0,\"phase\":2,\"record\":8},\
+\"barriers\":[],\"release\":null},\"buffer\":null,\"cause\":\"no-barrier\",\
+\"first\":{\"access\":{\"kind\":\"write\"},\"group\":0,\"index\":4,\"item\":0,\"phase\":2,\"place\":null,\"record\":8},\
 \"second\":{\"access\":{\"kind\":\"write\"},\"group\":0,\"index\":4,\"item\":1,\"phase\":2,\
 \"place\":\"fill.cl:3 of the tile\",\"record\":9},\
 \"type\":\"race\",\"word\":{\"group\":0,\"number\":4,\"space\":\"local\"}}\n",
@@ -331,10 +331,10 @@ static LINES: [Case; 4] = [
         Word::Local(0, 4),
         "{\"between\":{\
 \"acquire\":{\"access\":{\"kind\":\"load\",\"order\":\"acq\",\"scope\":\"dev\"},\
-\"group\":0,\"index\":2,\"item\":1,\"phase\":2,\"record\":6},\
-\"barriers\":[],\"release\":null},\"cause\":\"no-barrier\",\
-\"first\":{\"access\":{\"kind\":\"write\"},\"group\":0,\"index\":4,\"item\":0,\"phase\":2,\"record\":8},\
-\"second\":{\"access\":{\"kind\":\"write\"},\"group\":0,\"index\":4,\"item\":1,\"phase\":2,\"record\":9},\
+\"group\":0,\"index\":2,\"item\":1,\"phase\":2,\"place\":null,\"record\":6},\
+\"barriers\":[],\"release\":null},\"buffer\":null,\"cause\":\"no-barrier\",\
+\"first\":{\"access\":{\"kind\":\"write\"},\"group\":0,\"index\":4,\"item\":0,\"phase\":2,\"place\":null,\"record\":8},\
+\"second\":{\"access\":{\"kind\":\"write\"},\"group\":0,\"index\":4,\"item\":1,\"phase\":2,\"place\":null,\"record\":9},\
 \"type\":\"race\",\"word\":{\"group\":0,\"number\":4,\"space\":\"local\"}}\n",
         true,
     ),

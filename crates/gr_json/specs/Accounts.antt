@@ -15,7 +15,7 @@ use Rattle.gr_json.specs.Between.{between_data}
 use Rattle.gr_json.specs.Details.{details_data}
 use Rattle.gr_json.specs.Lines.{json_line}
 use Rattle.gr_json.specs.Races.{answer_data}
-use Rattle.gr_json.specs.Words.{with_buffer, word_data}
+use Rattle.gr_json.specs.Words.{buffer_data, word_data}
 
 abbrev pub cause_name : Cause → List ℕ
 cause_name Flags = codes "flags"
@@ -24,13 +24,12 @@ cause_name Divergence = codes "divergent"
 cause_name NoBarrier = codes "no-barrier"
 cause_name NoHandOver = codes "no-hand-over"
 
--- a racing pair of a word, what its accesses are, what stands between them, the cause of their race, and the word's buffer, where it is
--- said
+-- a racing pair of a word, what its accesses are, what stands between them, the cause of their race, and the word's buffer
 abbrev pub race_data : Option ElementSaid → (Placed → Option (List ℕ)) → Word → AccountSaid → Data
 race_data buffer place w a =
     object
     (member (codes "between") (between_data place a.between)
-    (with_buffer buffer
+    (member (codes "buffer") (buffer_data buffer)
     (member (codes "cause") (string (cause_name a.cause))
     (member (codes "first") (details_data (place (Event a.first)) a.first a.first_details)
     (member (codes "second") (details_data (place (Event a.second)) a.second a.second_details)

@@ -9,15 +9,15 @@ use Rattle.gr_long.specs.Between.{BetweenSaid}
 use Rattle.gr_places.specs.declared.places.Placed.{Placed}
 use Rattle.gr_places.specs.declared.places.Placed.TheVariants.{Event, Site}
 use Rattle.gr_json.specs.Details.{details_data}
-use Rattle.gr_json.specs.Words.{with_place}
+use Rattle.gr_json.specs.Words.{text_data}
 
--- a barrier instance: its number, its site and its flags, and the site's place in the source, where it is said
+-- a barrier instance: its number, its site and its flags, and the site's place in the source
 abbrev pub crossing_data : Option (List ℕ) → Crossing → Data
 crossing_data place x =
     object
     (member (codes "global") (boolean x.global)
     (member (codes "instance") (number (unsigned x.instance))
-    (member (codes "local") (boolean x.local) (with_place place (member (codes "site") (number (unsigned x.site)) no_members)))))
+    (member (codes "local") (boolean x.local) (member (codes "place") (text_data place) (member (codes "site") (number (unsigned x.site)) no_members)))))
 
 abbrev pub placed_crossing : (Placed → Option (List ℕ)) → Crossing → Data
 placed_crossing place x = crossing_data (place (Site x.site)) x

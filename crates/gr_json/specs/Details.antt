@@ -10,7 +10,7 @@ use Rattle.gr_model.specs.declared.event.Order.TheVariants.{Relaxed, Acquire, Re
 use Rattle.gr_model.specs.declared.event.Scope.{Scope}
 use Rattle.gr_model.specs.declared.event.Scope.TheVariants.{Group, Device}
 use Rattle.gr_long.specs.declared.details.Details.{Details}
-use Rattle.gr_json.specs.Words.{with_place}
+use Rattle.gr_json.specs.Words.{text_data}
 
 abbrev pub scope_name : Scope → List ℕ
 scope_name Group = codes "grp"
@@ -40,7 +40,7 @@ kind_data (kinds.Barrier global local) = plain_data (codes "barrier")
 kind_data (kinds.End cut) = plain_data (codes "end")
 
 -- an event, with what its record says, the record's number in its stream, how many barriers of its item stand before it, and its
--- place in the source, where it is said
+-- place in the source
 abbrev pub details_data : Option (List ℕ) → EventId → Details → Data
 details_data place e d =
     object
@@ -48,4 +48,4 @@ details_data place e d =
     (member (codes "group") (number (unsigned e.at.group))
     (member (codes "index") (number (unsigned e.index))
     (member (codes "item") (number (unsigned e.at.item))
-    (member (codes "phase") (number (unsigned d.phase)) (with_place place (member (codes "record") (number (unsigned d.number)) no_members)))))))
+    (member (codes "phase") (number (unsigned d.phase)) (member (codes "place") (text_data place) (member (codes "record") (number (unsigned d.number)) no_members)))))))

@@ -1,7 +1,7 @@
 -- Words of memory, events, texts, and what side files say of them, as JSON.
 -- Source: docs/FORMATS.md, "JSON".
 use Rattle.std.specs.Prelude.{ℕ, List, Option, None, Some, codes}
-use Rattle.serde_json.specs.Data.{Data, Members, member, no_members, null, number, object, string, unsigned}
+use Rattle.serde_json.specs.Data.{Data, member, no_members, null, number, object, string, unsigned}
 use Rattle.gr_model.specs.declared.event.EventId.{EventId}
 use Rattle.gr_model.specs.declared.event.Word.{Word}
 use Rattle.gr_model.specs.declared.event.Word.TheVariants.{Global, Local}
@@ -23,16 +23,11 @@ abbrev pub text_data : Option (List ℕ) → Data
 text_data None = null
 text_data (Some text) = string text
 
--- the key of a place, where it is said, before other members
-abbrev pub with_place : Option (List ℕ) → Members → Members
-with_place None members = members
-with_place (Some text) members = member (codes "place") (string text) members
-
 -- a word by its buffer and its place there
 abbrev pub element_data : ElementSaid → Data
 element_data e = object (member (codes "index") (number (unsigned e.index)) (member (codes "name") (string e.name) no_members))
 
--- the key of a buffer, where it is said, before other members
-abbrev pub with_buffer : Option ElementSaid → Members → Members
-with_buffer None members = members
-with_buffer (Some e) members = member (codes "buffer") (element_data e) members
+-- the same, where a buffer has the word
+abbrev pub buffer_data : Option ElementSaid → Data
+buffer_data None = null
+buffer_data (Some e) = element_data e

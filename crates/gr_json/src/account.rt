@@ -1,12 +1,12 @@
 //! The least racing pair of a word, what its accesses are, what stands between them, and the cause of their race, as JSON, with
 //! what side files say of them.
 
-ghost use Rattle.std.specs.Prelude.{◌≡◌, IfOk, None, Some, option_map};
+ghost use Rattle.std.specs.Prelude.{◌≡◌, IfOk, option_map};
 ghost use Rattle.std.specs.Option.{option_copied};
 ghost use Rattle.serde_json.specs.View.{view};
 ghost use Rattle.gr_long.specs.Accounts.{account_said};
 ghost use Rattle.gr_places.specs.PlaceIndexes.{place_at};
-ghost use Rattle.gr_places.specs.SideLines.{element, element_of as element_said};
+ghost use Rattle.gr_places.specs.SideLines.{element_of as element_said};
 ghost use Rattle.gr_sides.specs.Sides.{sides_said};
 ghost use Rattle.gr_json.specs.Accounts as spec;
 
@@ -14,12 +14,12 @@ use crate::between::between_value;
 use crate::details::details_value;
 use crate::lines::push_value;
 use crate::race::answer_value;
-use crate::words::{element_value, word_value};
+use crate::words::{buffer_value, word_value};
 use gr_causes::cause::Cause;
 use gr_long::account::Account;
 use gr_model::event::Word;
 use gr_model::memory::Memory;
-use gr_places::buffers::{Element, element_of};
+use gr_places::buffers::element_of;
 use gr_places::index::PlaceIndex;
 use gr_sides::sides::Sides;
 use serde_json::{Value, json};
@@ -38,48 +38,21 @@ pub fn cause_name(cause: Cause) -> &'static str
     }
 }
 
-/// A racing pair of a word with what its accesses are, what stands between them and the cause of their race.
+/// A racing pair of a word with what its accesses are, what stands between them, the cause of their race, and the word's buffer.
 ///
 /// # Errors
 /// `AllocError`: out of memory.
-fn unnamed_value(
+fn race_value(
     alloc: Global,
+    sides: &Sides<'_>,
     places: &PlaceIndex<'_>,
     word: Word,
     account: &Account,
 ) -> Result<Value, AllocError>
-    ensures { IfOk result (λ v. view v ≡ spec.race_data None (place_at places.now) word (account_said account.now)) }
+    ensures { IfOk result (λ v. view v ≡ spec.race_data (element_said (sides_said sides.now).buffers word) (place_at places.now) word (account_said account.now)) }
 {
     let between = between_value(alloc, places, &account.between)?;
-    let cause = cause_name(account.cause);
-    let first = details_value(alloc, places, account.first, &account.first_details)?;
-    let second = details_value(alloc, places, account.second, &account.second_details)?;
-    let word = word_value(alloc, word)?;
-    json!(in alloc; {
-        "between": between,
-        "cause": cause,
-        "first": first,
-        "second": second,
-        "type": "race",
-        "word": word
-    })
-}
-
-/// The same of a word of a buffer.
-///
-/// # Errors
-/// `AllocError`: out of memory.
-fn named_value(
-    alloc: Global,
-    named: &Element<'_>,
-    places: &PlaceIndex<'_>,
-    word: Word,
-    account: &Account,
-) -> Result<Value, AllocError>
-    ensures { IfOk result (λ v. view v ≡ spec.race_data (Some (element named.now)) (place_at places.now) word (account_said account.now)) }
-{
-    let between = between_value(alloc, places, &account.between)?;
-    let buffer = element_value(alloc, named)?;
+    let buffer = buffer_value(alloc, element_of(sides.buffers, word))?;
     let cause = cause_name(account.cause);
     let first = details_value(alloc, places, account.first, &account.first_details)?;
     let second = details_value(alloc, places, account.second, &account.second_details)?;
@@ -93,25 +66,6 @@ fn named_value(
         "type": "race",
         "word": word
     })
-}
-
-/// The same of a word, with its buffer where one is known.
-///
-/// # Errors
-/// `AllocError`: out of memory.
-fn race_value(
-    alloc: Global,
-    sides: &Sides<'_>,
-    places: &PlaceIndex<'_>,
-    word: Word,
-    account: &Account,
-) -> Result<Value, AllocError>
-    ensures { IfOk result (λ v. view v ≡ spec.race_data (element_said (sides_said sides.now).buffers word) (place_at places.now) word (account_said account.now)) }
-{
-    match element_of(sides.buffers, word) {
-        None => unnamed_value(alloc, places, word, account),
-        Some(named) => named_value(alloc, &named, places, word, account),
-    }
 }
 
 /// The same, or a word that has no racing pair.

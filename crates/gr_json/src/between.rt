@@ -1,56 +1,21 @@
 //! What stands between two accesses, as JSON, with the places in the source that are said.
 
-ghost use Rattle.std.specs.Prelude.{◌≡◌, IfOk, None, Some, map};
+ghost use Rattle.std.specs.Prelude.{◌≡◌, IfOk, map};
 ghost use Rattle.serde_json.specs.View.{view};
 ghost use Rattle.gr_long.specs.Between.{between_said};
 ghost use Rattle.gr_places.specs.PlaceIndexes.{place_at};
 ghost use Rattle.gr_json.specs.Between as spec;
 
 use crate::details::details_value;
+use crate::words::text_value;
 use gr_long::between::{Between, Crossing, Told};
 use gr_places::index::PlaceIndex;
 use gr_places::places::Placed;
 use serde_json::{Value, json};
 use std::alloc::{AllocError, Global};
 
-/// A barrier instance: its number, its site and its flags.
-///
-/// # Errors
-/// `AllocError`: out of memory.
-fn unplaced_value(alloc: Global, crossing: &Crossing) -> Result<Value, AllocError>
-    ensures { IfOk result (λ v. view v ≡ spec.crossing_data None crossing.now) }
-{
-    json!(in alloc; {
-        "global": crossing.global,
-        "instance": crossing.instance,
-        "local": crossing.local,
-        "site": crossing.site
-    })
-}
-
-/// The same, and where the site stands.
-///
-/// # Errors
-/// `AllocError`: out of memory.
-fn placed_value(alloc: Global, place: &str, crossing: &Crossing) -> Result<Value, AllocError>
-    ensures { IfOk result (λ v. view v ≡ spec.crossing_data (Some place.now) crossing.now) }
-{
-    let Crossing {
-        instance,
-        site,
-        global,
-        local,
-    } = *crossing;
-    json!(in alloc; {
-        "global": global,
-        "instance": instance,
-        "local": local,
-        "place": place,
-        "site": site
-    })
-}
-
-/// A barrier instance, and where its site stands, if this index has the place.
+/// A barrier instance: its number, its site and its flags, and where the site stands, or null where this index has no place of
+/// it.
 ///
 /// # Errors
 /// `AllocError`: out of memory.
@@ -61,10 +26,14 @@ fn crossing_value(
 ) -> Result<Value, AllocError>
     ensures { IfOk result (λ v. view v ≡ spec.placed_crossing (place_at places.now) crossing.now) }
 {
-    match places.place_of(Placed::Site(crossing.site)) {
-        None => unplaced_value(alloc, crossing),
-        Some(place) => placed_value(alloc, place, crossing),
-    }
+    let place = text_value(alloc, places.place_of(Placed::Site(crossing.site)))?;
+    json!(in alloc; {
+        "global": crossing.global,
+        "instance": crossing.instance,
+        "local": crossing.local,
+        "place": place,
+        "site": crossing.site
+    })
 }
 
 /// The values of barrier instances.

@@ -1,11 +1,12 @@
 //! What an access is, and where it stands in the source, as JSON.
 
-ghost use Rattle.std.specs.Prelude.{◌≡◌, IfOk, None, Some};
+ghost use Rattle.std.specs.Prelude.{◌≡◌, IfOk};
 ghost use Rattle.serde_json.specs.View.{view};
 ghost use Rattle.gr_places.specs.PlaceIndexes.{place_at};
 ghost use Rattle.gr_places.specs.declared.places.Placed.TheVariants.{Event as AnEvent};
 ghost use Rattle.gr_json.specs.Details as spec;
 
+use crate::words::text_value;
 use gr_long::details::Details;
 use gr_model::event::{EventId, Kind, Order, Scope};
 use gr_places::index::PlaceIndex;
@@ -76,50 +77,8 @@ fn kind_value(alloc: Global, kind: Kind) -> Result<Value, AllocError>
     }
 }
 
-/// An event with what its record says, the record's number in its stream, and how many barriers of its item stand before it.
-///
-/// # Errors
-/// `AllocError`: out of memory.
-fn unplaced_value(alloc: Global, event: EventId, details: &Details) -> Result<Value, AllocError>
-    ensures { IfOk result (λ v. view v ≡ spec.details_data None event details.now) }
-{
-    let access = kind_value(alloc, details.kind)?;
-    json!(in alloc; {
-        "access": access,
-        "group": event.at.group,
-        "index": event.index,
-        "item": event.at.item,
-        "phase": details.phase,
-        "record": details.number
-    })
-}
-
-/// The same, and where the event stands.
-///
-/// # Errors
-/// `AllocError`: out of memory.
-fn placed_value(
-    alloc: Global,
-    place: &str,
-    event: EventId,
-    details: &Details,
-) -> Result<Value, AllocError>
-    ensures { IfOk result (λ v. view v ≡ spec.details_data (Some place.now) event details.now) }
-{
-    let access = kind_value(alloc, details.kind)?;
-    json!(in alloc; {
-        "access": access,
-        "group": event.at.group,
-        "index": event.index,
-        "item": event.at.item,
-        "phase": details.phase,
-        "place": place,
-        "record": details.number
-    })
-}
-
 /// An event with what its record says, the record's number in its stream, how many barriers of its item stand before it, and
-/// where it stands, if this index has the place.
+/// where it stands, or null where this index has no place of it.
 ///
 /// # Errors
 /// `AllocError`: out of memory.
@@ -131,8 +90,15 @@ pub(crate) fn details_value(
 ) -> Result<Value, AllocError>
     ensures { IfOk result (λ v. view v ≡ spec.details_data (place_at places.now (AnEvent event)) event details.now) }
 {
-    match places.place_of(Placed::Event(event)) {
-        None => unplaced_value(alloc, event, details),
-        Some(place) => placed_value(alloc, place, event, details),
-    }
+    let access = kind_value(alloc, details.kind)?;
+    let place = text_value(alloc, places.place_of(Placed::Event(event)))?;
+    json!(in alloc; {
+        "access": access,
+        "group": event.at.group,
+        "index": event.index,
+        "item": event.at.item,
+        "phase": details.phase,
+        "place": place,
+        "record": details.number
+    })
 }

@@ -3,7 +3,7 @@
 ghost use Rattle.std.specs.Prelude.{◌≡◌, IfOk, option_map};
 ghost use Rattle.serde_json.specs.View.{view};
 ghost use Rattle.gr_places.specs.SideLines.{element};
-ghost use Rattle.gr_json.specs.Words.{element_data, event_data, text_data, word_data};
+ghost use Rattle.gr_json.specs.Words.{buffer_data, element_data, event_data, text_data, word_data};
 
 use gr_model::event::{EventId, Word};
 use gr_places::buffers::Element;
@@ -52,8 +52,21 @@ pub fn text_value(alloc: Global, text: Option<&str>) -> Result<Value, AllocError
 ///
 /// # Errors
 /// `AllocError`: out of memory.
-pub(crate) fn element_value(alloc: Global, named: &Element<'_>) -> Result<Value, AllocError>
+fn element_value(alloc: Global, named: &Element<'_>) -> Result<Value, AllocError>
     ensures { IfOk result (λ v. view v ≡ element_data (element named.now)) }
 {
     json!(in alloc; {"index": named.index, "name": named.name})
+}
+
+/// A word by its buffer and its place there, or null where no buffer has it.
+///
+/// # Errors
+/// `AllocError`: out of memory.
+pub fn buffer_value(alloc: Global, named: Option<Element<'_>>) -> Result<Value, AllocError>
+    ensures { IfOk result (λ v. view v ≡ buffer_data (option_map element named.entry)) }
+{
+    match named {
+        None => Ok(Value::Null),
+        Some(named) => element_value(alloc, &named),
+    }
 }

@@ -11,7 +11,7 @@ use Rattle.gr_model.specs.declared.race.Race.{Race}
 use Rattle.gr_causes.specs.declared.cause.Cause.{Cause}
 use Rattle.gr_causes.specs.declared.cause.Cause.TheVariants.{Flags, Scope, Divergence, NoBarrier, NoHandOver}
 use Rattle.gr_json.specs.Lines.{json_line}
-use Rattle.gr_json.specs.Words.{text_data, word_data}
+use Rattle.gr_json.specs.Words.{buffer_data, text_data, word_data}
 use Rattle.gr_places.specs.declared.places.Placed.TheVariants.{Event}
 use Rattle.gr_places.specs.SideLines as lines
 use Rattle.gr_races.specs.declared.listing.KindEntry.{KindEntry}
@@ -22,7 +22,7 @@ use Rattle.gr_sides.specs.Sides.{SidesSaid}
 use Rattle.gr_races.proofs.ListingLemmas.{first_entries, texts_of_entries}
 use Rattle.gr_races_json.specs.Causes.{CausesAreAsInTheText, cause_data}
 use Rattle.gr_races_json.specs.Kinds.{run_data}
-use Rattle.gr_races_json.specs.Races.{access_data, buffer_data, end_data, entry_data, first_data, race_data, races_json}
+use Rattle.gr_races_json.specs.Races.{access_data, end_data, entry_data, first_data, race_data, races_json}
 
 word_plain : (w : Word) → has_float (word_data w) ≡ false
 word_plain (Global n) = refl

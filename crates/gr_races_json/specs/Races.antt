@@ -7,7 +7,7 @@ use Rattle.gr_model.specs.declared.event.EventId.{EventId}
 use Rattle.gr_model.specs.declared.race.Race.{Race}
 use Rattle.gr_causes.specs.declared.cause.Cause.{Cause}
 use Rattle.gr_json.specs.Lines.{json_line}
-use Rattle.gr_json.specs.Words.{text_data, word_data}
+use Rattle.gr_json.specs.Words.{buffer_data, text_data, word_data}
 use Rattle.gr_places.specs.declared.places.Placed.TheVariants.{Event}
 use Rattle.gr_places.specs.SideLines as lines
 use Rattle.gr_races.specs.Listing.{Entry}
@@ -23,14 +23,6 @@ access_data s e =
     (member (codes "group") (number (unsigned e.at.group))
     (member (codes "index") (number (unsigned e.index))
     (member (codes "item") (number (unsigned e.at.item)) (member (codes "place") (text_data (lines.place_of s.places (Event e))) no_members))))
-
--- a word by its buffer and its place there
-abbrev pub element_data : lines.ElementSaid → Data
-element_data e = object (member (codes "index") (number (unsigned e.index)) (member (codes "name") (string e.name) no_members))
-
-abbrev pub buffer_data : Option lines.ElementSaid → Data
-buffer_data None = null
-buffer_data (Some e) = element_data e
 
 -- two events that race on a word, the word's buffer, and the cause that is told
 abbrev pub race_data : SidesSaid → Option Cause → Race → Data

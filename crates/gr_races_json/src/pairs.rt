@@ -2,16 +2,15 @@
 
 ghost use Rattle.std.specs.Prelude.{◌≡◌, IfOk};
 ghost use Rattle.serde_json.specs.View.{view};
-ghost use Rattle.gr_places.specs.SideLines.{element, element_of as element_said};
 ghost use Rattle.gr_sides.specs.Sides.{sides_said};
 ghost use Rattle.gr_races_json.specs.Races as spec;
 
 use crate::causes::cause_value;
 use gr_causes::cause::Cause;
-use gr_json::words::{text_value, word_value};
-use gr_model::event::{EventId, Word};
+use gr_json::words::{buffer_value, text_value, word_value};
+use gr_model::event::EventId;
 use gr_model::race::Race;
-use gr_places::buffers::{Element, element_of};
+use gr_places::buffers::element_of;
 use gr_places::places::{Placed, place_of};
 use gr_sides::sides::Sides;
 use serde_json::{Value, json};
@@ -33,29 +32,6 @@ fn access_value(alloc: Global, sides: &Sides<'_>, event: EventId) -> Result<Valu
     })
 }
 
-/// A word by its buffer and its place there.
-///
-/// # Errors
-/// `AllocError`: out of memory.
-fn element_value(alloc: Global, named: &Element<'_>) -> Result<Value, AllocError>
-    ensures { IfOk result (λ v. view v ≡ spec.element_data (element named.now)) }
-{
-    json!(in alloc; {"index": named.index, "name": named.name})
-}
-
-/// The buffer of a word, or null where it is not said.
-///
-/// # Errors
-/// `AllocError`: out of memory.
-fn buffer_value(alloc: Global, sides: &Sides<'_>, word: Word) -> Result<Value, AllocError>
-    ensures { IfOk result (λ v. view v ≡ spec.buffer_data (element_said (sides_said sides.now).buffers word)) }
-{
-    match element_of(sides.buffers, word) {
-        None => Ok(Value::Null),
-        Some(named) => element_value(alloc, &named),
-    }
-}
-
 /// Two events that race on a word, the word's buffer, and the cause that is told.
 ///
 /// # Errors
@@ -68,7 +44,7 @@ fn race_value(
 ) -> Result<Value, AllocError>
     ensures { IfOk result (λ v. view v ≡ spec.race_data (sides_said sides.now) cause race.now) }
 {
-    let buffer = buffer_value(alloc, sides, race.word)?;
+    let buffer = buffer_value(alloc, element_of(sides.buffers, race.word))?;
     let cause = cause_value(alloc, race.word, cause)?;
     let first = access_value(alloc, sides, race.first)?;
     let second = access_value(alloc, sides, race.second)?;
