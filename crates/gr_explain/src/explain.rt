@@ -5,10 +5,8 @@ ghost use Rattle.gr_model.specs.Races.{IsRacy};
 ghost use Rattle.gr_model.specs.Waits.{IsGrounded};
 ghost use Rattle.gr_explain.specs.LeastRaces.{IsLeastRace};
 
-use crate::listing::list_grounded;
+use crate::grounded::grounded_events;
 use crate::races::least_race;
-use crate::records::Records;
-use crate::taking::take_all;
 use gr_model::event::{EventId, Word};
 use gr_model::memory::Memory;
 use gr_model::traces::Traces;
@@ -29,8 +27,6 @@ pub fn explain<A: Allocator + Copy>(
 ) -> Result<Option<(EventId, EventId)>, Memory>
     ensures { IfOk result (λ o. MatchOption o (¬ IsRacy traces.now (IsGrounded traces.now) word) (λ pair. IsLeastRace traces.now word pair)) }
 {
-    let mut order = take_all(alloc, traces)?;
-    let listed = list_grounded(alloc, &mut order)?;
-    let records = Records::of(take_all(alloc, traces)?);
-    least_race(alloc, &records, &listed, word)
+    let grounded = grounded_events(alloc, traces)?;
+    least_race(alloc, &grounded.records, &grounded.order, word)
 }

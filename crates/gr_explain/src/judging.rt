@@ -1,23 +1,22 @@
 //! Whether two events of a launch race.
 
-ghost use Rattle.std.specs.Prelude.{◌≡◌, ◌≢◌, ◌↔◌, IfOk, IsTrue};
+ghost use Rattle.std.specs.Prelude.{◌≢◌, ◌↔◌, IfOk, IsTrue};
 ghost use Rattle.gr_model.specs.Counts.{Sees};
 ghost use Rattle.gr_model.specs.HappensBefore.{HappensBefore};
-ghost use Rattle.gr_model.specs.LawfulOrders.{IsIn, IsLawful, IsWholeOrder};
+ghost use Rattle.gr_model.specs.LawfulOrders.{IsIn, IsLawful};
 ghost use Rattle.gr_model.specs.Races.{IsRace};
 ghost use Rattle.gr_model.specs.Streams.{ArePrefixes};
 ghost use Rattle.gr_explain.specs.Judgements.{IsJudgement};
 
 use crate::candidates::may_race;
 use crate::followers::followers;
-use crate::listing::list_grounded;
+use crate::grounded::grounded_events;
 use crate::records::Records;
-use crate::taking::take_all;
 use gr_clocks::clocks::memory_of;
 use gr_model::event::{EventId, Space, Word};
 use gr_model::memory::Memory;
 use gr_model::traces::Traces;
-use std::alloc::{Allocator, Global};
+use std::alloc::Allocator;
 
 /// What two events are to each other on a word.
 #[derive(Clone, Copy, Debug, PartialEq, Eq)]
@@ -28,31 +27,6 @@ pub enum Judgement {
     Race,
     /// Both are judged, and they are no race on the word.
     NoRace,
-}
-
-/// The records of a launch, and its grounded events in a lawful order.
-#[derive(Drop)]
-struct Grounded<A: Allocator = Global> {
-    records: Records<A>,
-    order: Vec<EventId, A>,
-}
-
-/// Takes and handles the records of a launch.
-///
-/// # Errors
-/// `Memory`: out of memory.
-fn grounded_events<A: Allocator + Copy>(alloc: A, traces: &Traces<A>) -> Result<Grounded<A>, Memory>
-    ensures records { IfOk result (λ v. v.records ≡ traces.now) }
-    ensures prefixes { IfOk result (λ v. ArePrefixes traces.now) }
-    ensures whole { IfOk result (λ v. IsWholeOrder traces.now v.order.items) }
-{
-    let mut order = take_all(alloc, traces)?;
-    let listed = list_grounded(alloc, &mut order)?;
-    let records = Records::of(take_all(alloc, traces)?);
-    Ok(Grounded {
-        records,
-        order: listed,
-    })
 }
 
 /// Whether an event stands in an order.

@@ -10,6 +10,7 @@ mod candidates;
 mod edges;
 pub mod explain;
 mod followers;
+mod grounded;
 pub mod judging;
 mod listing;
 mod pairs;

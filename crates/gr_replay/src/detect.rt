@@ -107,6 +107,28 @@ pub fn detect<A: Allocator + Copy>(alloc: A, traces: &Traces<A>) -> Result<Repor
     report_of(&sequencer, &shadows, traces.shape())
 }
 
+/// What is found of a launch of this shape, of which all was taken and all was handled that can be.
+///
+/// # Errors
+/// `Memory`: out of memory.
+fn detection_of<A: Allocator + Copy>(
+    alloc: A,
+    sequencer: &Sequencer<A>,
+    shadows: &Shadows<A>,
+    shape: &Shape<A>,
+) -> Result<Detection<A>, Memory>
+    requires shape { shape.now ≡ sequencer.now.taken.sizes }
+    requires done { IsDone sequencer.now }
+    requires sequence { IsSequence sequencer.now }
+    requires shadows { AreShadowsOf sequencer.now shadows.now }
+    ensures report { IfOk result (λ found. IsReportOf sequencer.now.taken (whole_of found.report)) }
+    ensures races { IfOk result (λ found. ArePairedRaces sequencer.now.taken found.races.items) }
+{
+    let races = races_of(alloc, shadows)?;
+    let report = report_of(sequencer, shadows, shape)?;
+    Ok(Detection { report, races })
+}
+
 /// The report of a launch, and of each racy word two events that race on it.
 ///
 /// # Errors
@@ -119,9 +141,28 @@ pub fn detect_races<A: Allocator + Copy>(
     ensures races { IfOk result (λ found. ArePairedRaces traces.now found.races.items) }
 {
     let (sequencer, shadows) = handled(alloc, traces)?;
-    let report = report_of(&sequencer, &shadows, traces.shape())?;
-    let races = races_of(alloc, &shadows)?;
-    Ok(Detection { report, races })
+    detection_of(alloc, &sequencer, &shadows, traces.shape())
+}
+
+/// A sequencer that took all records of the launch that streams are of and handled all that can be handled, and the shadows
+/// of the accesses.
+///
+/// # Errors
+/// `Memory`: out of memory.
+fn streamed<A: Allocator + Copy>(
+    alloc: A,
+    launch: &Launch<'_, A>,
+) -> Result<(Sequencer<A>, Shadows<A>), Memory>
+    requires { AreAccepted (streams_of launch.now) }
+    ensures taken { IfOk result (λ run. run.0.taken ≡ streams_of launch.now) }
+    ensures done { IfOk result (λ run. IsDone run.0) }
+    ensures sequence { IfOk result (λ run. IsSequence run.0) }
+    ensures shadows { IfOk result (λ run. AreShadowsOf run.0 run.1) }
+{
+    let mut sequencer = Sequencer::new(alloc, launch.shape.copy()?)?;
+    let mut shadows = Shadows::new(alloc);
+    take_streams(alloc, &mut sequencer, &mut shadows, launch)?;
+    Ok((sequencer, shadows))
 }
 
 /// The report of the launch that streams are of.
@@ -135,8 +176,6 @@ pub(crate) fn detect_streams<A: Allocator + Copy>(
     requires { AreAccepted (streams_of launch.now) }
     ensures { IfOk result (λ report. IsReportOf (streams_of launch.now) (whole_of report)) }
 {
-    let mut sequencer = Sequencer::new(alloc, launch.shape.copy()?)?;
-    let mut shadows = Shadows::new(alloc);
-    take_streams(alloc, &mut sequencer, &mut shadows, launch)?;
+    let (sequencer, shadows) = streamed(alloc, launch)?;
     report_of(&sequencer, &shadows, &launch.shape)
 }

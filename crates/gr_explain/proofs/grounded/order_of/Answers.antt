@@ -3,7 +3,7 @@ use Rattle.gr_model.specs.declared.event.EventId.{EventId}
 use Rattle.gr_model.specs.LawfulOrders.{IsWholeOrder}
 use Rattle.gr_model.specs.Streams.{Streams}
 use Rattle.gr_order.specs.Sequences.{Sequence}
-use Rattle.gr_explain.proofs.judging.grounded_events.Goals as goal
+use Rattle.gr_explain.proofs.grounded.order_of.Goals as goal
 
 pub returns-clause-whole : goal.returns-clause-whole
 returns-clause-whole g c =
