@@ -234,7 +234,7 @@ const TWO_WORDS: Row = Row {
 };
 
 /// All rows.
-pub(crate) static ROWS: [Row; 11] = [
+pub(crate) const ROWS: [Row; 11] = [
     HANDED_OVER,
     SCOPES_OF_A_GROUP,
     TWO_MEMORIES,

@@ -306,7 +306,7 @@ const NOT_HANDLED: Script = Script {
     told: None,
 };
 
-static SCRIPTS: [Script; 10] = [
+const SCRIPTS: [Script; 10] = [
     ONE_PLACE,
     NEW_WORLD,
     BAD_STEPS,
