@@ -13,7 +13,7 @@ const RELAXED: Kind = Kind::Load(Scope::Device, Order::Relaxed);
 
 /// The records of a group of two items and of one of one item, in the order in which they are taken. With each stands its
 /// event's index, where the event is handled in the same call.
-const ROWS: [(Record, Option<u32>); 11] = [
+static ROWS: [(Record, Option<u32>); 11] = [
     ((0, 0, READ, Space::Global, 16, &[]), Some(0)),
     ((0, 0, RELAXED, Space::Global, 20, &[]), Some(1)),
     ((0, 0, RELEASE, Space::Global, 20, &[]), None),
@@ -54,16 +54,21 @@ fn is_taken<A: Allocator + Copy>(
     }
 }
 
-/// Whether all records are taken so, and those that were not handled are held.
+/// Whether all records are taken so by a sequencer that has taken none, and those that were not handled are held.
+fn are_taken_by<A: Allocator + Copy>(sequencer: &mut Sequencer<A>) -> bool {
+    for (record, index) in &ROWS {
+        if !is_taken(sequencer, record, *index) {
+            return false;
+        }
+    }
+    sequencer.held() == 6 && sequencer.taken(0) == 8 && sequencer.taken(1) == 3
+}
+
+/// The same of a new sequencer.
 fn are_taken<A: Allocator + Copy>(alloc: A) -> bool {
     match new(alloc, &[2, 1]) {
         None => false,
-        Some(mut sequencer) => {
-            let all = ROWS
-                .iter()
-                .all(|(record, index)| is_taken(&mut sequencer, record, *index));
-            all && sequencer.held() == 6 && sequencer.taken(0) == 8 && sequencer.taken(1) == 3
-        }
+        Some(mut sequencer) => are_taken_by(&mut sequencer),
     }
 }
 
