@@ -69,16 +69,24 @@ fn steps<A: Allocator + Copy>(sequencer: &mut Sequencer<A>) -> Option<Done> {
     None
 }
 
-/// What is done behind each of the barriers.
-fn seen<A: Allocator + Copy>(alloc: A, barriers: &Barriers) -> Option<[Done; 4]> {
-    let mut sequencer = new(alloc, &[4])?;
+/// What is done behind each of the barriers by a sequencer that has taken nothing.
+fn seen_by<A: Allocator + Copy>(
+    sequencer: &mut Sequencer<A>,
+    barriers: &Barriers,
+) -> Option<[Done; 4]> {
     let mut all = [(0, false); 4];
     for (done, (item, site)) in all.iter_mut().zip(barriers.iter()) {
         let barrier = event_of(&(0, *item, BARRIER, Space::Global, *site, &[]));
-        let _taken = take(&mut sequencer, 0, barrier)?.ok()?;
-        *done = steps(&mut sequencer)?;
+        let _taken = take(sequencer, 0, barrier)?.ok()?;
+        *done = steps(sequencer)?;
     }
     Some(all)
+}
+
+/// The same of a new sequencer.
+fn seen<A: Allocator + Copy>(alloc: A, barriers: &Barriers) -> Option<[Done; 4]> {
+    let mut sequencer = new(alloc, &[4])?;
+    seen_by(&mut sequencer, barriers)
 }
 
 /// How many growths were refused until none was left, or else at which one something else was done.
