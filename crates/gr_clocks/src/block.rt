@@ -35,12 +35,12 @@ fn are_within(mine: &[u32], theirs: &[u32]) -> bool
     requires { length theirs.now ≡ length mine.now }
     ensures { IsTrue result → IsRowWithin mine.now theirs.now }
 {
+    // without an early end, so that several places are compared at once
+    let mut within = true;
     for place in 0..mine.len() {
-        if mine[place] > theirs[place] {
-            return false;
-        }
+        within &= mine[place] <= theirs[place];
     }
-    true
+    within
 }
 
 /// Takes the greater count of each item.

@@ -1,9 +1,9 @@
 -- What one record more makes of the index of each item.
-use Rattle.std.proofs.Common.{◌≡◌, ℕ, zero, suc, ◌+◌, ◌-◌, ◌<◌, ◌≤◌, Bool, true, false, not, ◌&&◌, ◌==◌, cond, List, [], ◌∷◌, ◌++◌, length, filter, Some, None, Err, nat_cmp, slice_get, get_or, set, take, refl, sym, ap, ◌∙◌, subst, ⊎_elim, arith, append-nil, IsTrue, ltb}
+use Rattle.std.proofs.Common.{◌≡◌, ℕ, zero, suc, ◌+◌, ◌-◌, ◌<◌, ◌≤◌, Bool, true, false, not, ◌&&◌, ◌==◌, cond, List, [], ◌∷◌, ◌++◌, length, filter, Some, None, Err, nat_cmp, slice_get, get_or, set, take, is_some, Option, sub-one, refl, sym, ap, ◌∙◌, subst, ⊎_elim, arith, append-nil, IsTrue, ltb}
 use Rattle.std.proofs.lemmas.Bool.{cases_lt, cases_eq, eq-eqb, ltb-false, ltb-true, ne_eqb, false_from_ne_true}
 use Rattle.std.proofs.lemmas.List.{length-set, get_or-set_same, get_or-set_other, get_or_read, get_or_push, get_or_append_left, length_push}
 use Rattle.std.proofs.lemmas.List.Elements.{filter-append}
-use Rattle.std.proofs.lemmas.Option.{get_or_from_slice_get, slice_get-get_or, slice_get_within}
+use Rattle.std.proofs.lemmas.Option.{get_or_from_slice_get, slice_get_within}
 use Rattle.std.proofs.lemmas.List.Sorted.{searched}
 use Rattle.std.specs.List.Sorted.{IsBinarySearchResult}
 use Rattle.std.proofs.Math.Seq.{take-append_seam}
@@ -12,12 +12,13 @@ use Rattle.gr_model.specs.declared.event.ItemId.{ItemId}
 use Rattle.gr_model.specs.declared.limits.TheConstants.{MOST_RECORDS}
 use Rattle.gr_model.specs.Access.{is_release}
 use Rattle.gr_model.specs.Barriers.{is_barrier}
-use Rattle.gr_model.specs.declared.event.Kind.TheVariants.{End}
+use Rattle.gr_model.specs.declared.event.Kind.{Kind}
+use Rattle.gr_model.specs.declared.event.Kind.TheVariants.{Read, Write, Load, Store, Rmw, Barrier, End}
 use Rattle.gr_model.specs.Events.{IsEventOk, is_end, is_end_kind}
 use Rattle.gr_model.specs.Streams.{IsPrefix, AreGood, Streams, event_at, is_complete, is_of, place_of, places_from, trace_of}
 use Rattle.gr_model.proofs.Places.{places_from-append}
 use Rattle.gr_model.proofs.StreamPrefixes.{prefix_push}
-use Rattle.gr_lanes.specs.Indices.{EndsCut, Index, index_of, no_index, with_if, with_event, indexed, record_of, AreIndices, AreRising}
+use Rattle.gr_lanes.specs.Indices.{EndsCut, Index, end_in, end_of, end_of_kind, index_of, no_index, with_if, with_event, indexed, record_of, AreIndices, AreRising}
 
 -- an element more at the end of a list
 pub places_more : {X : Type 0} (test : X → Bool) (xs : List X) (x : X) → places_from test 0 (xs ++ x ∷ []) ≡ with_if (test x) (places_from test 0 xs) (length xs)
@@ -249,32 +250,71 @@ record_is s test i k n place =
     let same : h.0 ≡ n = omega (arith, h.1) in
     h.2 ∙ ap (slice_get (trace_of s i)) same
 
+-- ---- ends
+
+some_is_end : (k : Kind) → is_some (end_of_kind k) ≡ is_end_kind k
+some_is_end Read = refl
+some_is_end Write = refl
+some_is_end (Load scope order) = refl
+some_is_end (Store scope order) = refl
+some_is_end (Rmw scope order) = refl
+some_is_end (Barrier global local) = refl
+some_is_end (End cut) = refl
+
+pub none_unless_end : (k : Kind) → is_end_kind k ≡ false → end_of_kind k ≡ None
+none_unless_end Read isnt = refl
+none_unless_end Write isnt = refl
+none_unless_end (Load scope order) isnt = refl
+none_unless_end (Store scope order) isnt = refl
+none_unless_end (Rmw scope order) isnt = refl
+none_unless_end (Barrier global local) isnt = refl
+none_unless_end (End cut) isnt = cc
+
+cut_kind : (k : Kind) → end_of_kind k ≡ Some true → k ≡ End true
+cut_kind Read e = cc
+cut_kind Write e = cc
+cut_kind (Load scope order) e = cc
+cut_kind (Store scope order) e = cc
+cut_kind (Rmw scope order) e = cc
+cut_kind (Barrier global local) e = cc
+cut_kind (End cut) e = cc
+
+-- a list with an end is whole
+pub end_is_complete : (list : List Event) → is_some (end_in list) ≡ is_complete list
+end_is_complete [] = refl
+end_is_complete (x ∷ []) = some_is_end x.kind
+end_is_complete (x ∷ y ∷ xs) = end_is_complete (y ∷ xs)
+
+-- the last record tells
+pub end_pushed : (list : List Event) (x : Event) → end_in (list ++ x ∷ []) ≡ end_of x
+end_pushed [] x = refl
+end_pushed (y ∷ []) x = refl
+end_pushed (y ∷ z ∷ xs) x = end_pushed (z ∷ xs) x
+
+end_in-last : (xs : List Event) (x : Event) → slice_get xs (length xs - 1) ≡ Some x → end_in xs ≡ end_of x
+end_in-last [] x e = cc
+end_in-last (y ∷ []) x e = let same : y ≡ x = cc in ap end_of same
+end_in-last (y ∷ z ∷ xs) x e = end_in-last (z ∷ xs) x (rw sub-one (rw sub-one at e))
+
+-- a list that is not whole has no end, with one more record that is none too
+pub none_more : (list : List Event) (x : Event) → ¬ IsTrue (is_complete list) → is_end x ≡ false → end_in (list ++ x ∷ []) ≡ end_in list
+none_more list x open_list isnt = end_pushed list x ∙ (none_unless_end x.kind isnt ∙ sym (none_if_open (end_in list) (λ some. open_list (sym (end_is_complete list) ∙ some))))
+  where
+    none_if_open : (o : Option Bool) → ¬ IsTrue (is_some o) → o ≡ None
+    none_if_open None open_end = refl
+    none_if_open (Some cut) open_end = absurd (open_end refl)
+
 -- ---- cut streams
 
 -- the last record tells whether a stream was cut, since an end stands at no other place
-pub cut_if_last : (list : List Event) (x : Event) → slice_get list (length list - 1) ≡ Some x → x.kind ≡ End true → EndsCut list
-cut_if_last list x last kind = (length list - 1, x, last, kind)
+pub cut_if_end : (list : List Event) → end_in list ≡ Some true → EndsCut list
+cut_if_end [] e = cc
+cut_if_end (x ∷ []) e = (0, x, refl, cut_kind x.kind e)
+cut_if_end (x ∷ y ∷ xs) e = let h = cut_if_end (y ∷ xs) e in (suc h.0, h.1, h.2, h.3)
 
-pub last_if_cut : {size : ℕ} (list : List Event) → AreGood size list → (x : Event) → slice_get list (length list - 1) ≡ Some x → EndsCut list → x.kind ≡ End true
-last_if_cut list good x last (p, y, at, kind) =
+pub end_if_cut : {size : ℕ} (list : List Event) → AreGood size list → EndsCut list → end_in list ≡ Some true
+end_if_cut list good (p, y, at, kind) =
     let ends : IsTrue (is_end y) = ap is_end_kind kind in
     let place : p + 1 ≡ length list = (good p y at).1 ends in
-    let same : Some y ≡ Some x = sym at ∙ (ap (slice_get list) (let q : p ≡ length list - 1 = omega arith in q) ∙ last) in
-    let one : y ≡ x = cc in
-    subst (λ (z : Event). z.kind ≡ End true) one kind
-
--- a list without a last record has none
-pub none_last : (list : List Event) → slice_get list (length list - 1) ≡ None → list ≡ []
-none_last [] none = refl
-none_last (x ∷ xs) none =
-    let place : length (x ∷ xs) - 1 ≡ length xs = omega arith in
-    let here : slice_get (x ∷ xs) (length xs) ≡ None = ap (slice_get (x ∷ xs)) (sym place) ∙ none in
-    let there : slice_get (x ∷ xs) (length xs) ≡ Some (get_or (x ∷ xs) (length xs) x) = slice_get-get_or (x ∷ xs) (length xs) x (omega arith) in cc
-
-pub last_pushed : (list : List Event) (x : Event) → slice_get (list ++ x ∷ []) (length (list ++ x ∷ []) - 1) ≡ Some x
-last_pushed list x =
-    let place : length (list ++ x ∷ []) - 1 ≡ length list = omega (arith, length_push list x) in
-    ap (slice_get (list ++ x ∷ [])) place ∙ (slice_get-get_or (list ++ x ∷ []) (length list) x (omega (arith, length_push list x)) ∙ ap (λ (y : Event). Some y) (get_or_push list x x (length list) refl))
-
-pub no_cut : EndsCut [] → ⊥
-no_cut (p, x, at, kind) = cc
+    let last : slice_get list (length list - 1) ≡ Some y = ap (slice_get list) (let q : length list - 1 ≡ p = omega arith in q) ∙ at in
+    end_in-last list y last ∙ ap end_of_kind kind

@@ -1,7 +1,8 @@
 -- An index of each item's events in its group's list, and of its releases and barriers among its events.
-use Rattle.std.specs.Prelude.{◌≡◌, ◌≢◌, ℕ, ◌<◌, ◌≤◌, ◌+◌, ◌-◌, Option, Bool, List, [], ◌∷◌, ◌++◌, length, map, filter, true, MatchOption, Some, slice_get, slice_index, slice_index_or, slice_set, if◌then◌else◌}
+use Rattle.std.specs.Prelude.{◌≡◌, ◌≢◌, ℕ, ◌<◌, ◌≤◌, ◌+◌, Option, Bool, List, [], ◌∷◌, ◌++◌, length, map, filter, true, MatchOption, None, Some, slice_get, slice_index, slice_index_or, slice_set, if◌then◌else◌}
 use Rattle.gr_model.specs.declared.event.Event.{Event}
 use Rattle.gr_model.specs.declared.event.ItemId.{ItemId}
+use Rattle.gr_model.specs.declared.event.Kind.{Kind}
 use Rattle.gr_model.specs.declared.event.Kind.TheVariants.{End}
 use Rattle.gr_model.specs.Access.{is_release}
 use Rattle.gr_model.specs.Barriers.{is_barrier}
@@ -70,11 +71,25 @@ pub record AreIndices (lanes : List Index) (list : List Event) : Type 0 where
   pub prefix : IsPrefix (length lanes) list
   pub each : (i : ℕ) → i < length lanes → slice_index_or lanes i no_index ≡ index_of list i
 
--- what is kept of a group: the indices of its items, how many records were taken, and the last of them
-pub record IsKept (lanes : List Index) (list : List Event) (taken : ℕ) (last : Option Event) : Type 0 where
+-- what a kind of record says of its stream where it is an end: whether it was cut
+abbrev pub end_of_kind : Kind → Option Bool
+end_of_kind (End cut) = Some cut
+end_of_kind _ = None
+
+abbrev pub end_of : Event → Option Bool
+end_of x = end_of_kind x.kind
+
+-- what the last record of a list says
+abbrev pub end_in : List Event → Option Bool
+end_in [] = None
+end_in (x ∷ []) = end_of x
+end_in (x ∷ y ∷ xs) = end_in (y ∷ xs)
+
+-- what is kept of a group: the indices of its items, how many records were taken, and what its end says once it was taken
+pub record IsKept (lanes : List Index) (list : List Event) (taken : ℕ) (end : Option Bool) : Type 0 where
   pub indices : AreIndices lanes list
   pub count : taken ≡ length list
-  pub ending : last ≡ slice_get list (length list - 1)
+  pub ending : end ≡ end_in list
 
 -- some record of a list is an end that says that its stream was cut
 abbrev pub EndsCut : List Event → Type 0

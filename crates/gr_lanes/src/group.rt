@@ -1,16 +1,15 @@
-//! What was taken of one work-group: how many records, the last of them, and a lane for each of its items.
+//! What was taken of one work-group: how many records, what its end says, and a lane for each of its items.
 //!
 //! Invariant: the records are a prefix of a list that the group may have, and each lane is the index of its item's events
 //! in it. The list itself exists in proofs alone.
 
-ghost use Rattle.std.specs.Prelude.{◌≡◌, ◌↔◌, ◌∷◌, ◌++◌, ◌<◌, [], true, IsTrue, IfOk, OnOk, OnErr, filter, length, slice_get, slice_index_or};
+ghost use Rattle.std.specs.Prelude.{◌≡◌, ◌↔◌, ◌∷◌, ◌++◌, ◌<◌, [], true, Some, IsTrue, IfOk, OnOk, OnErr, filter, length, slice_get, slice_index_or};
 ghost use Rattle.gr_model.specs.declared.limits.TheConstants.{MOST_RECORDS};
-ghost use Rattle.gr_model.specs.declared.event.Kind.TheVariants.{End};
 ghost use Rattle.gr_model.specs.Access as model;
 ghost use Rattle.gr_model.specs.Barriers as model_barriers;
 ghost use Rattle.gr_model.specs.Events.{IsEventOk};
 ghost use Rattle.gr_model.specs.Streams.{is_complete, is_of, places_from};
-ghost use Rattle.gr_lanes.specs.Indices.{EndsCut, IsNumberAmong, no_index, indexed};
+ghost use Rattle.gr_lanes.specs.Indices.{EndsCut, IsNumberAmong, end_of, no_index, indexed};
 ghost use Rattle.gr_lanes.specs.Takes.{IsMereAccess};
 
 use crate::kinds::{is_barrier, is_release};
@@ -27,7 +26,8 @@ use std::marker::Model;
 pub(crate) struct Group<A: Allocator = Global> {
     list: History<Event>,
     taken: u32,
-    last: Option<Event>,
+    /// Whether its stream was cut, once its end was taken.
+    end: Option<bool>,
     lanes: Vec<Lane<A>, A>,
 }
 
@@ -39,14 +39,32 @@ impl<A: Allocator> Model for Group<A> {
 
     ghost view = { λ g. record { size = length g.lanes.items; list = g.list } };
 
-    ghost invariant = { λ g. IsKept g.lanes.items g.list g.taken g.last };
+    ghost invariant = { λ g. IsKept g.lanes.items g.list g.taken g.end };
 }
 
-/// Whether an event is an end that says that its stream was cut.
-fn is_cut(event: &Event) -> bool
-    ensures { IsTrue result ↔ (event.now.kind ≡ End true) }
+/// Whether a stream was cut whose end this record is, if it is an end.
+fn end_of(event: &Event) -> Option<bool>
+    ensures { result ≡ end_of event.now }
 {
-    event.kind == Kind::End { cut: true }
+    match event.kind {
+        Kind::End { cut } => Some(cut),
+        Kind::Read
+        | Kind::Write
+        | Kind::Load(_, _)
+        | Kind::Store(_, _)
+        | Kind::Rmw(_, _)
+        | Kind::Barrier {
+            global: _,
+            local: _,
+        } => None,
+    }
+}
+
+/// Whether an end was taken and says that its stream was cut.
+fn says_cut(end: Option<bool>) -> bool
+    ensures { IsTrue result ↔ (end ≡ Some true) }
+{
+    end == Some(true)
 }
 
 /// Adds the group's next record to the lane of its item; an end is no item's event.
@@ -92,7 +110,7 @@ impl<A: Allocator + Copy> Group<A> {
         Ok(Group {
             list,
             taken: 0,
-            last: None,
+            end: None,
             lanes,
         })
     }
@@ -117,20 +135,14 @@ impl<A: Allocator> Group<A> {
     pub(crate) fn is_complete(&self) -> bool
         ensures { result ≡ is_complete self.now.list }
     {
-        match &self.last {
-            None => false,
-            Some(event) => event.kind.is_end(),
-        }
+        self.end.is_some()
     }
 
     /// Whether its end was taken and says that its stream was cut.
     pub(crate) fn is_cut(&self) -> bool
         ensures { IsTrue result ↔ EndsCut self.now.list }
     {
-        match &self.last {
-            None => false,
-            Some(event) => is_cut(event),
-        }
+        says_cut(self.end)
     }
 
     /// The index of an item's release with this number.
@@ -215,7 +227,6 @@ impl<A: Allocator> Group<A> {
         index_access(&mut self.lanes, &event);
         self.list.push(&event);
         self.taken += 1;
-        self.last = Some(event);
     }
 
     /// Takes the group's next record.
@@ -232,7 +243,7 @@ impl<A: Allocator> Group<A> {
         index(&mut self.lanes, &event)?;
         self.list.push(&event);
         self.taken += 1;
-        self.last = Some(event);
+        self.end = end_of(&event);
         Ok(())
     }
 }

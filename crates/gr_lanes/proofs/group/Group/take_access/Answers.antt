@@ -6,7 +6,7 @@ use Rattle.gr_model.specs.declared.limits.TheConstants.{MOST_RECORDS}
 use Rattle.gr_model.specs.Events.{IsEventOk}
 use Rattle.gr_model.specs.Streams.{is_complete}
 use Rattle.gr_lanes.specs.Indices.{Index, AreIndices, GroupList, IsKept, indexed, no_index}
-use Rattle.gr_lanes.proofs.IndexLemmas.{few_events, indices_more, last_pushed, size_more, whole_slice}
+use Rattle.gr_lanes.proofs.IndexLemmas.{few_events, indices_more, none_more, size_more, whole_slice}
 use Rattle.gr_lanes.proofs.group.Group.take_access.Goals as goal
 
 pub index_access-requires-clause-few : goal.index_access-requires-clause-few
@@ -26,5 +26,5 @@ invariant_of-self g c =
     let new : c.index_access.new.lanes ≡ indexed lanes x = c.index_access.ensures ∙ ap (λ (l : List Index). indexed l x) c.deref_mut.ensures.value in
     let size : length c.index_access.new.lanes ≡ c.self.inside.lanes.len = ap length new ∙ (size_more lanes list x c.self.invariant.indices ok ∙ sym c.self.inside.lanes.ok.0) in
     let indices = subst (λ (l : List Index). AreIndices l (list ++ x ∷ [])) (sym (whole_slice c.self.inside.lanes.len c.index_access.new.lanes (drop (length c.index_access.new.lanes) lanes) size ∙ new)) (indices_more lanes list x c.self.invariant.indices ok open_list room) in
-    subst (λ (l : List Event). IsKept (take c.self.inside.lanes.len (c.index_access.new.lanes ++ drop (length c.index_access.new.lanes) lanes)) l (c.self.inside.taken + 1) (Some x)) (sym c.push.ensures)
-    (record { indices = indices; count = ap (λ n. n + 1) c.self.invariant.count ∙ sym (length_push list x); ending = sym (last_pushed list x) })
+    subst (λ (l : List Event). IsKept (take c.self.inside.lanes.len (c.index_access.new.lanes ++ drop (length c.index_access.new.lanes) lanes)) l (c.self.inside.taken + 1) c.self.inside.end) (sym c.push.ensures)
+    (record { indices = indices; count = ap (λ n. n + 1) c.self.invariant.count ∙ sym (length_push list x); ending = c.self.invariant.ending ∙ sym (none_more list x open_list c.requires.access.ends) })
