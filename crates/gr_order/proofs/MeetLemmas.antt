@@ -116,5 +116,18 @@ module _ (s : Streams) (order : List EventId) (frontier : Counts) (first_ones : 
   meeting_of None none = λ can. none can.0 (meets_next can.0 can.1 can.2)
   meeting_of (Some k) next = next_meets k next
 
+  -- where one may, it is that of the number of the first item's next event
+  module _ (can : CanMeet s order g) where
+    next : IsNextInstance s frontier g can.0
+    next = meets_next can.0 can.1 can.2
+
+    pub is_numbered : ((k : ℕ) → place_of s is_barrier (item_at g 0) k ≡ Some (count_of frontier (item_at g 0)) → ⊥) → ⊥
+    is_numbered none = first_numbered s frontier g none can.0 next
+
+    pub numbered_meets : (number : ℕ) → place_of s is_barrier (item_at g 0) number ≡ Some (count_of frontier (item_at g 0)) → (a : Mark) × IsMeeting s order g number a
+    numbered_meets number place =
+        let same : can.0 ≡ number = places_from-once is_barrier 0 (trace_of s (item_at g 0)) (count_of frontier (item_at g 0)) can.0 number (next.each 0 next.some).place place in
+        subst (λ k. (a : Mark) × IsMeeting s order g k a) same (can.1, can.2)
+
 pub no_group_meets : (s : Streams) (order : List EventId) (g : ℕ) → length s.sizes ≤ g → ¬ CanMeet s order g
 no_group_meets s order g past can = let some = can.2.convergent.0 in let none : size_of s g ≡ 0 = get_or_past s.sizes g 0 past in omega arith

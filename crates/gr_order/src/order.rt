@@ -193,6 +193,20 @@ impl<A: Allocator> Order<A> {
         next_instance(&self.lanes, &self.frontier, &self.windows, group)
     }
 
+    /// The instance of a group that may meet, where one may: told by the next event of its first item alone.
+    pub fn next_meeting(&self, group: u16) -> u32
+        requires { CanMeet self.now.taken self.now.handled group }
+        ensures meeting { (a : Mark) × IsMeeting self.now.taken self.now.handled group result a }
+        ensures sequence { IsSequence self.now }
+    {
+        let first = ItemId { group, item: 0 };
+        let index = self.frontier.get(first);
+        match self.lanes.barrier_number(EventId { at: first, index }) {
+            None => unreachable!(),
+            Some(instance) => instance,
+        }
+    }
+
     /// The event that a record of a group is where it is taken, if it may be taken and its event can then be handled at once:
     /// it is a mere access, and no event of its item waits.
     #[inline(always)]
