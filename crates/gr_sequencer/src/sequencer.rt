@@ -8,7 +8,7 @@ ghost use Rattle.gr_model.specs.declared.limits.TheConstants.{MOST_RECORDS};
 ghost use Rattle.gr_model.specs.Streams.{AreComplete, list_of};
 ghost use Rattle.gr_model.specs.Reports.{Lists, DivergenceBelow, IsDivergence, IsCut, IsHeld, IsUnmatchedEntry, UnmatchedBelow};
 ghost use Rattle.gr_lanes.specs.Takes.{CanTake, IsEventButItem, IsTakeFault, next_of, with_record};
-ghost use Rattle.gr_steps.specs.Steps.{IsAtRest, IsReady};
+ghost use Rattle.gr_steps.specs.Steps.{CanMeet, IsAtRest, IsReady};
 ghost use Rattle.gr_order.specs.Sequences.{CanStep, IsDone, IsSequence, event_count, nothing, taking};
 ghost use Rattle.gr_order.specs.declared.go_error.GoError.TheVariants.{Memory as OutOfMemory};
 ghost use Rattle.gr_order.specs.Answers.{IsHandleFault, IsMeetFault};
@@ -241,6 +241,28 @@ impl<A: Allocator> Sequencer<A> {
         }
     }
 
+    /// Handles the barriers of a group's instance that may meet.
+    ///
+    /// # Errors
+    /// `Memory`: out of memory. Nothing is then handled.
+    fn meet_next(&mut self, group: u16) -> Result<Handled<A>, GoError>
+    where
+        A: Clone,
+        requires meets { CanMeet self.old.taken self.old.handled group }
+        ensures step { IfOk result (λ h. IsStep self.old self.new h) }
+        ensures group { IfOk result (λ h. IsOfGroup group h) }
+        ensures err { IfErr result (λ e. IsMeetFault self.old group e) }
+        ensures memory { IfErr result (λ e. e ≡ OutOfMemory) }
+        ensures unchanged { OnErr result (self.new ≡ self.old) }
+        ensures sequence { IsSequence self.new }
+    {
+        let order = self.agenda.order();
+        let instance = order.next_meeting(group);
+        self.known.meet(order, group, instance)?;
+        self.agenda.meet_instance(group);
+        Ok(Handled::Meet { group, instance })
+    }
+
     /// Handles the barriers of a group's least convergent instance that was not handled, where the event before each of
     /// them was.
     ///
@@ -255,14 +277,10 @@ impl<A: Allocator> Sequencer<A> {
         ensures unchanged { OnErr result (self.new ≡ self.old) }
         ensures sequence { IsSequence self.new }
     {
-        let order = self.agenda.order();
-        let instance = match order.meeting(group) {
-            None => return Err(GoError::NotReady),
-            Some(instance) => instance,
-        };
-        self.known.meet(order, group, instance)?;
-        self.agenda.meet_instance(group);
-        Ok(Handled::Meet { group, instance })
+        match self.agenda.order().meeting(group) {
+            None => Err(GoError::NotReady),
+            Some(_) => self.meet_next(group),
+        }
     }
 
     /// Makes any one step that is ready, or none where none is: the handled events are then the grounded ones.
@@ -284,7 +302,7 @@ impl<A: Allocator> Sequencer<A> {
                 let event = self.agenda.order().ready_event(item);
                 self.handle_event(event)
             }
-            Some(Ready::Group(group)) => self.meet(group),
+            Some(Ready::Group(group)) => self.meet_next(group),
         };
         match made {
             Ok(handled) => Ok(Some(handled)),
