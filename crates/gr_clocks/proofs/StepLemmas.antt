@@ -1,4 +1,4 @@
--- A snapshot's clock is the clock that its item then has: two clocks of one shape with the same counts are the same.
+-- A clock that is made beside an item's is the one that the item then has: two clocks of one shape with the same counts are the same.
 use Rattle.std.proofs.Common.{◌≡◌, ◌≢◌, ℕ, ◌<◌, suc, Bool, List, [], ◌∷◌, map, length, set, refl, sym, ◌∙◌, ap, subst}
 use Rattle.std.proofs.lemmas.List.{ext_get_or}
 use Rattle.std.proofs.Math.Seq.{map-set_same}
@@ -32,20 +32,18 @@ same_ticks before i first second t u = same_counts first second (t.shape ∙ sym
 same_steps : (mine : Counts) (theirs : List Counts) (i : ItemId) (first second : Counts) → IsTickOfJoin mine theirs i first → IsTickOfJoin mine theirs i second → first ≡ second
 same_steps mine theirs i first second t u = same_counts first second (t.shape ∙ sym u.shape) (λ j. t.counts j ∙ sym (u.counts j))
 
--- what a release leaves has the clock that ticked as the item's did
-module _ (old new : ItemClocks) (i : ItemId) (word : Word) (scope : Scope) (m : Space) (copied : Counts) (is_memory : m ≡ memory_of word) (is_copy : copied ≡ clock_in old m i) where
-  left : (result : ReleaseClock) (raised : Counts) → result ≡ record { word = word; scope = scope; clock = raised } → raised ≡ clock_in new m i → result ≡ release_of new i word scope
-  left result raised is same =
-      let clock : raised ≡ clock_in new (memory_of word) i = same ∙ ap (λ (n : Space). clock_in new n i) is_memory in
-      is ∙ ap (λ (c : Counts). let r : ReleaseClock = record { word = word; scope = scope; clock = c } in r) clock
+-- a clock that was copied before the item ticked, and ticked as the item's did, is the item's
+pub ticked_alike : (old new : ItemClocks) (i : ItemId) (m : Space) (copied raised : Counts) → copied ≡ clock_in old m i → Ticks old i new → IsTick copied i raised → raised ≡ clock_in new m i
+ticked_alike old new i m copied raised is_copy ticks tick =
+    same_ticks (clock_in old m i) i raised (clock_in new m i) (subst (λ (x : Counts). IsTick x i raised) is_copy tick) (ticks.ticks m).item
 
-  pub release_left : (result : ReleaseClock) (raised : Counts) → result ≡ record { word = word; scope = scope; clock = raised } → Ticks old i new → IsTick copied i raised → result ≡ release_of new i word scope
-  release_left result raised is ticks tick =
-      left result raised is (same_ticks (clock_in old m i) i raised (clock_in new m i) (subst (λ (x : Counts). IsTick x i raised) is_copy tick) (ticks.ticks m).item)
-
-  pub acquired_left : (releases : List ReleaseClock) → Acquires old i releases new → (result : ReleaseClock) (raised : Counts) → result ≡ record { word = word; scope = scope; clock = raised } → IsTickOfJoin copied (clocks_left m releases) i raised → result ≡ release_of new i word scope
-  acquired_left releases acquires result raised is step =
-      left result raised is (same_steps (clock_in old m i) (clocks_left m releases) i raised (clock_in new m i) (subst (λ (x : Counts). IsTickOfJoin x (clocks_left m releases) i raised) is_copy step) (acquires.learns m).item)
+-- what an acquire leaves that is a release too has its item's clock in its word's memory
+pub acquired_left : (old new : ItemClocks) (i : ItemId) (word : Word) (scope : Scope) (m : Space) (copied : Counts) → m ≡ memory_of word → copied ≡ clock_in old m i → (releases : List ReleaseClock) → Acquires old i releases new
+    → (result : ReleaseClock) (raised : Counts) → result ≡ record { word = word; scope = scope; clock = raised } → IsTickOfJoin copied (clocks_left m releases) i raised → result ≡ release_of new i word scope
+acquired_left old new i word scope m copied is_memory is_copy releases acquires result raised is step =
+    let same : raised ≡ clock_in new m i = same_steps (clock_in old m i) (clocks_left m releases) i raised (clock_in new m i) (subst (λ (x : Counts). IsTickOfJoin x (clocks_left m releases) i raised) is_copy step) (acquires.learns m).item in
+    let at : raised ≡ clock_in new (memory_of word) i = same ∙ ap (λ (n : Space). clock_in new n i) is_memory in
+    is ∙ ap (λ (c : Counts). let r : ReleaseClock = record { word = word; scope = scope; clock = c } in r) at
 
 pub are_new : (sizes : List ℕ) (global local : ClockTable) → AreZero sizes global → AreZero sizes local → AreNew sizes (clocks_of global local)
 are_new sizes global local g l = record {

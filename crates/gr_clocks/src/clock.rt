@@ -282,6 +282,7 @@ impl<A: Allocator> Clock<A> {
 ///
 /// # Errors
 /// `Memory`: out of memory. The clocks are then as they were.
+#[inline(always)]
 pub(crate) fn raise_both<A: Allocator + Clone>(
     one: &mut Clock<A>,
     other: &mut Clock<A>,

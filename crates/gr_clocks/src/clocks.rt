@@ -248,6 +248,30 @@ impl<A: Allocator> Clocks<A> {
         self.tick(item)
     }
 
+    /// Counts an event of the item as `access` does, and gives the item's clock in a memory, the event itself counted.
+    ///
+    /// # Errors
+    /// `Spent`: the item has too many events. `Memory`: out of memory. The clocks are then as they were.
+    #[inline(always)]
+    pub fn access_in(&mut self, item: ItemId, memory: Space) -> Result<Clock<A>, ClockError>
+    where
+        A: Clone,
+        requires { HasItem self.old.sizes item }
+        ensures ok { OnOk result (Ticks self.old item self.new) }
+        ensures clock { IfOk result (λ c. c ≡ clock_in self.new memory item) }
+        ensures shape { IfOk result (λ c. sizes_of c ≡ self.new.sizes) }
+        ensures spent { (result ≡ Err ClockError.Spent) ↔ IsSpent self.old item }
+        ensures err { OnErr result (self.new ≡ self.old) }
+    {
+        if self.is_spent(item) {
+            return Err(ClockError::Spent);
+        }
+        let mut clock = self.clock_of(item, memory).copy()?;
+        clock.raise(item)?;
+        self.tick(item)?;
+        Ok(clock)
+    }
+
     /// Counts a release of the item on this word with this scope, and takes its snapshot, the release itself counted.
     ///
     /// # Errors
@@ -267,12 +291,7 @@ impl<A: Allocator> Clocks<A> {
         ensures spent { (result ≡ Err ClockError.Spent) ↔ IsSpent self.old item }
         ensures err { OnErr result (self.new ≡ self.old) }
     {
-        if self.is_spent(item) {
-            return Err(ClockError::Spent);
-        }
-        let mut clock = self.clock_of(item, memory_of(word)).copy()?;
-        clock.raise(item)?;
-        self.tick(item)?;
+        let clock = self.access_in(item, memory_of(word))?;
         Ok(Snapshot::new(word, scope, clock))
     }
 

@@ -104,6 +104,7 @@ impl<A: Allocator> Group<A> {
     }
 
     /// The clock of an item whose own count can grow, with one more event of it.
+    #[inline(always)]
     pub(crate) fn ticked_clock(&self, item: u16) -> Result<Clock<A>, ClockError>
     where
         A: Clone,
@@ -229,6 +230,7 @@ impl<A: Allocator> Group<A> {
 ///
 /// # Errors
 /// `Memory`: out of memory. The clocks are then as they were.
+#[inline(always)]
 pub(crate) fn tick_clocks<A: Allocator + Clone>(
     one: &mut Group<A>,
     other: &mut Group<A>,

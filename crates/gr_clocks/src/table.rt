@@ -56,6 +56,7 @@ impl<A: Allocator + Copy> Table<A> {
 ///
 /// # Errors
 /// `Memory`: out of memory. The clocks are then as they were.
+#[inline(always)]
 pub(crate) fn tick_both<A: Allocator + Clone>(
     one: &mut Table<A>,
     other: &mut Table<A>,

@@ -9,8 +9,8 @@ ghost use Rattle.gr_model.specs.Streams.{event_at, word_at};
 ghost use Rattle.gr_model.specs.Counts.{Sees};
 ghost use Rattle.gr_clocks.specs.Counts.{sizes_of};
 ghost use Rattle.gr_clocks.specs.ItemClocks.{IsGroupSpent, MeetsClocks};
-ghost use Rattle.gr_closure.specs.Accesses.{CountsJust, IsAccessOf};
-ghost use Rattle.gr_lanes.specs.Takes.{nothing_taken, with_record};
+ghost use Rattle.gr_closure.specs.Accesses.{CountsJust, IsAccess, IsAccessOf};
+ghost use Rattle.gr_lanes.specs.Takes.{IsMereAccess, nothing_taken, with_record};
 ghost use Rattle.gr_sequencer.specs.Known.{CountWhatIsKnown, KnowsOrLearns, IsKnown, IsSnapshotBy, IsNext, IsNextAtOnce, snapshot_at};
 
 use crate::sources::sources_of;
@@ -231,9 +231,13 @@ impl<A: Allocator> Known<A> {
         }
     }
 
-    /// The clock in its word's memory of an event that is handled as soon as its record is taken.
-    fn clock_at_once(
-        &self,
+    /// Counts an event that is handled as soon as its record is taken, and gives its clock in its word's memory.
+    ///
+    /// # Errors
+    /// `Memory`: out of memory. What is known is then as before.
+    #[inline(always)]
+    fn count_at_once(
+        &mut self,
         order: &Order<A>,
         group: u16,
         event: EventId,
@@ -242,17 +246,16 @@ impl<A: Allocator> Known<A> {
     ) -> Result<Clock<A>, Memory>
     where
         A: Clone,
-        requires next { IsNextAtOnce order.now group taken.now self.now event }
+        requires next { IsNextAtOnce order.now group taken.now self.old event }
         requires word { word_at (with_record order.now.taken group taken.now) event ≡ Some word }
         ensures shape { IfOk result (λ c. sizes_of c ≡ order.now.taken.sizes) }
         ensures counts { IfOk result (λ c. CountsJust c (Sees (with_record order.now.taken group taken.now) (model.memory_of word) event)) }
+        ensures snapshots { self.new.snapshots ≡ self.old.snapshots }
+        ensures clocks { OnOk result (CountWhatIsKnown (with_record order.now.taken group taken.now) (order.now.handled ++ event ∷ []) self.new.clocks) }
+        ensures err { OnErr result (self.new.clocks ≡ self.old.clocks) }
     {
-        let mut clock = match self.clocks.clock_of(event.at, memory_of(word)).copy() {
-            Ok(clock) => clock,
-            Err(_) => return Err(Memory),
-        };
-        match clock.tick(event.at) {
-            Ok(()) => Ok(clock),
+        match self.clocks.access_in(event.at, memory_of(word)) {
+            Ok(clock) => Ok(clock),
             Err(error) => match error {
                 ClockError::Memory => Err(Memory),
                 ClockError::Spent => unreachable!(),
@@ -260,61 +263,39 @@ impl<A: Allocator> Known<A> {
         }
     }
 
-    /// The access of an event that is handled as soon as its record is taken, or `None` where it is no access.
-    ///
-    /// # Errors
-    /// `Memory`: out of memory.
-    pub(crate) fn access_at_once(
-        &self,
-        order: &Order<A>,
-        group: u16,
-        event: EventId,
-        taken: &Event,
-    ) -> Result<Option<Access<A>>, Memory>
-    where
-        A: Clone,
-        requires next { IsNextAtOnce order.now group taken.now self.now event }
-        ensures { IfOk result (λ access. IsAccessOf (with_record order.now.taken group taken.now) event access) }
-    {
-        match (word_of(event.at.group, taken), class_of(&taken.kind)) {
-            (Some(word), Some(class)) => {
-                let clock = self.clock_at_once(order, group, event, taken, word)?;
-                Ok(Some(Access {
-                    word,
-                    item: event.at,
-                    index: event.index,
-                    class,
-                    clock,
-                }))
-            }
-            _ => Ok(None),
-        }
-    }
-
-    /// Gives an event's item the clocks that it has behind the event, which is handled as soon as its record is taken.
+    /// Gives the item of an access that is handled as soon as its record is taken the clocks that it has behind it, and tells
+    /// the access.
     ///
     /// # Errors
     /// `Memory`: out of memory. What is known is then as before.
-    pub(crate) fn advance_at_once(
+    pub(crate) fn handle_at_once(
         &mut self,
         order: &Order<A>,
         group: u16,
         event: EventId,
         taken: &Event,
-    ) -> Result<(), Memory>
+    ) -> Result<Access<A>, Memory>
     where
         A: Clone,
         requires next { IsNextAtOnce order.now group taken.now self.old event }
+        requires access { IsMereAccess taken.now }
+        ensures access { IfOk result (IsAccess (with_record order.now.taken group taken.now) event) }
         ensures snapshots { self.new.snapshots ≡ self.old.snapshots }
         ensures clocks { OnOk result (CountWhatIsKnown (with_record order.now.taken group taken.now) (order.now.handled ++ event ∷ []) self.new.clocks) }
         ensures err { OnErr result (self.new.clocks ≡ self.old.clocks) }
     {
-        match self.clocks.access(event.at) {
-            Ok(()) => Ok(()),
-            Err(error) => match error {
-                ClockError::Memory => Err(Memory),
-                ClockError::Spent => unreachable!(),
-            },
+        match (word_of(event.at.group, taken), class_of(&taken.kind)) {
+            (Some(word), Some(class)) => {
+                let clock = self.count_at_once(order, group, event, taken, word)?;
+                Ok(Access {
+                    word,
+                    item: event.at,
+                    index: event.index,
+                    class,
+                    clock,
+                })
+            }
+            _ => unreachable!(),
         }
     }
 

@@ -143,12 +143,11 @@ impl<A: Allocator> Sequencer<A> {
         ensures sequence { IsSequence self.new }
     {
         let order = self.agenda.order();
-        let access = self.known.access_at_once(order, group, next, &event)?;
-        self.known.advance_at_once(order, group, next, &event)?;
+        let access = self.known.handle_at_once(order, group, next, &event)?;
         self.agenda.take_at_once(group, event);
         Ok(Handled::One {
             event: next,
-            access,
+            access: Some(access),
         })
     }
 
