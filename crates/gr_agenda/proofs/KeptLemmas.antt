@@ -8,27 +8,29 @@ use Rattle.gr_model.specs.declared.event.Kind.{Kind}
 use Rattle.gr_model.specs.declared.event.Kind.TheVariants.{Read, Write, Load, Store, Rmw, Barrier, End}
 use Rattle.gr_model.specs.declared.event.Name.{Name}
 use Rattle.gr_model.specs.Access.{is_release, is_release_kind}
-use Rattle.gr_model.specs.Barriers.{StandsIn, is_barrier, mark_of_kind}
+use Rattle.gr_model.specs.Barriers.{IsDivergent, StandsIn, arrivals, is_barrier, mark_of_kind}
 use Rattle.gr_model.specs.LawfulOrders.{IsIn}
 use Rattle.gr_model.specs.Names.{HasName, names_of, release_place}
-use Rattle.gr_lanes.specs.Takes.{CanTake, nothing_taken, with_record}
+use Rattle.gr_lanes.specs.Takes.{CanTake, next_of, nothing_taken, with_record}
 use Rattle.gr_model.specs.Streams.{ArePrefixes, IsEvent, Streams, event_at, is_of, list_of, place_of, size_of, trace_of}
 use Rattle.gr_model.proofs.Places.{places_from-there, slice_get-append}
 use Rattle.gr_steps.specs.Steps.{CanMeet, IsReady}
 use Rattle.gr_steps.proofs.BarrierPlaces.{barrier_of, barrier_there}
 use Rattle.gr_steps.proofs.Deciding.{by_cases, dec_both, number_dec, option_dec}
-use Rattle.gr_steps.proofs.EventRecords.{item_of_event}
+use Rattle.gr_steps.proofs.EventRecords.{barriers_name_nothing, item_of_event}
 use Rattle.gr_steps.proofs.Orders.{split_last}
+use Rattle.gr_model.proofs.Cuts.{same_event}
+use Rattle.gr_order.proofs.AtOnceLemmas.{there_at_once}
 use Rattle.gr_order.proofs.StateLemmas.{item_cases}
 use Rattle.gr_order.specs.declared.steps.Ready.{Ready}
 use Rattle.gr_order.specs.declared.steps.Ready.TheVariants.{Item, Group}
 use Rattle.gr_order.specs.Answers.{CanMake}
 use Rattle.gr_order.specs.Sequences.{HandlesEvent, IsSequence, MeetsInstance, Sequence, nothing, taking}
-use Rattle.gr_agenda.specs.Kept.{IsHeldUp, IsKept, IsNoted}
+use Rattle.gr_agenda.specs.Kept.{IsHeldUp, IsKept, IsNoted, IsPending}
 use Rattle.gr_agenda.specs.Lists.{Has, IsWaiting, KeepsSteps, Steps}
-use Rattle.gr_agenda.specs.Reaches.{IsFollowing}
+use Rattle.gr_agenda.specs.Reaches.{IsFollowing, next_instance}
 use Rattle.gr_model.specs.Events.{is_end}
-use Rattle.gr_agenda.proofs.TakeFrames.{AddsNoMark, Takes, barrier_goes_on, following_marks, ready_was, held_was as held_before, still_held as held_behind, meets_was as meets_before, own_meets, plain_marks, takes_own, takes_wide}
+use Rattle.gr_agenda.proofs.TakeFrames.{AddsNoMark, Takes, arrived_meets, barrier_goes_on, following_marks, last_stuck, other_arrivals, own_meets, plain_marks, ready_was, held_was as held_before, still_held as held_behind, takes_last, takes_own, takes_wide}
 use Rattle.gr_agenda.proofs.Frames.{Adds, held_was, meets_was, new_release, ready_or_held, still_held}
 
 -- the place of an event that passes a test is that of such an event
@@ -139,7 +141,7 @@ module _ {Z : Type 0} (q : Sequence) (is : IsSequence q) (t t2 : Steps) (lists l
 
   -- ---- an instance meets
 
-  module _ (g k : ℕ) (q2 : Sequence) (met : MeetsInstance q g k q2) (group : Has t2 (Group g)) (items : (i : ℕ) → i < size_of q.taken g → Has t2 (Item (record { group = g; item = i }))) where
+  module _ (g k : ℕ) (q2 : Sequence) (met : MeetsInstance q g k q2) (group : Has t2 (Group g)) (items : (i : ℕ) → i < size_of q.taken g → IsPending q2 (record { group = g; item = i }) → Has t2 (Item (record { group = g; item = i }))) where
     abbrev met_list : List EventId
     met_list = h ++ met.meets.barriers
 
@@ -165,15 +167,16 @@ module _ {Z : Type 0} (q : Sequence) (is : IsSequence q) (t t2 : Steps) (lists l
         let same : release.0 ≡ barrier.0 = let both : Some release.0 ≡ Some barrier.0 = sym release.1 ∙ barrier.1 in cc in
         not_both barrier.0.kind barrier.0.word barrier.2 (ap is_release (sym same) ∙ release.2)
 
-    own_item : (d : EventId) → IsEvent s d → d.at.group ≡ g → Has t2 (Item d.at)
-    own_item d there own =
+    own_item : (d : EventId) → IsEvent s d → d.at.group ≡ g → IsPending (record { taken = s; handled = met_list }) d.at → Has t2 (Item d.at)
+    own_item d there own pending =
         let within : d.at.item < size_of s g = subst (λ n. d.at.item < size_of s n) own (item_of_event s is.prefixes d there.0 there.1) in
         let here : record { group = g; item = d.at.item } ≡ d.at = λ i. record { group = sym own i; item = d.at.item } in
-        subst (λ j. Has t2 (Item j)) here (items d.at.item within)
+        let path : q2 ≡ record { taken = s; handled = met_list } = λ i. record { taken = met.taken i; handled = met.meets.order i } in
+        subst (λ j. Has t2 (Item j)) here (items d.at.item within (subst (IsPending q2) (sym here) (subst {A = Sequence} (λ p. IsPending p d.at) (sym path) pending)))
 
     met_ready : (r : Ready) → CanMake (record { taken = s; handled = met_list }) r → Has t2 r
     met_ready (Item i) (d, at, now) = ⊎_elim
-        (λ (own : d.at.group ≡ g). subst (λ j. Has t2 (Item j)) at (own_item d now.event own))
+        (λ (own : d.at.group ≡ g). subst (λ j. Has t2 (Item j)) at (own_item d now.event own (inl (d, refl, now))))
         (λ (apart : d.at.group ≡ g → ⊥). ⊎_elim
         (λ (was : IsReady s h d). keeps (Item i) (kept.ready (Item i) (d, at, was)))
         (λ (held : (n : Name) × IsHeldUp s h d n).
@@ -188,7 +191,7 @@ module _ {Z : Type 0} (q : Sequence) (is : IsSequence q) (t t2 : Steps) (lists l
 
     met_waits : (d : EventId) (n : Name) → IsHeldUp s met_list d n → Has t2 (Item d.at) ⊎ IsNoted s met_list lists d
     met_waits d n held = ⊎_elim
-        (λ (own : d.at.group ≡ g). inl (own_item d (named_there s d n held.named) own))
+        (λ (own : d.at.group ≡ g). inl (own_item d (named_there s d n held.named) own (inr (d, n, refl, held))))
         (λ (apart : d.at.group ≡ g → ⊥). ⊎_elim
         (λ (has : Has t (Item d.at)). inl (keeps (Item d.at) has))
         (λ (noted : IsNoted s h lists d). inr (noted.0, still_held s h met_list New (λ i. i.group ≡ g) adds_barriers d n noted.0 held noted.1 (none_released noted.0), noted.2))
@@ -260,46 +263,61 @@ module _ {Z : Type 0} (q : Sequence) (t t2 : Steps) (lists : List (Vec ItemId Z)
   abbrev longer : Streams
   longer = with_record q.taken g x
 
-  module _ (T : ItemId → Type 0) (takes : Takes q.taken longer q.handled T) (decided : (i : ItemId) → T i ⊎ (T i → ⊥)) (own_group : (i : ItemId) → T i → i.group ≡ g)
-      (items : (d : EventId) → IsEvent longer d → T d.at → Has t2 (Item d.at)) (group : CanMeet longer q.handled g → Has t2 (Group g)) where
+  -- an event that can be handled behind the record, or that a name holds up
+  abbrev Goes : EventId → Type 0
+  Goes d = IsReady longer q.handled d ⊎ ((n : Name) × IsHeldUp longer q.handled d n)
+
+  module _ (T : EventId → Type 0) (takes : Takes q.taken longer q.handled T) (decided : (d : EventId) → T d ⊎ (T d → ⊥)) (arrival_was : (n : ℕ) → (n ≡ g → ⊥) → (k i : ℕ) → arrivals longer n k i ≡ arrivals q.taken n k i)
+      (items : (d : EventId) → T d → Goes d → Has t2 (Item d.at)) (group : CanMeet longer q.handled g → Has t2 (Group g)) where
     taken_ready : (r : Ready) → CanMake (taking q g x) r → Has t2 r
     taken_ready (Item i) (d, at, now) = ⊎_elim
-        (λ (own : T d.at). subst (λ j. Has t2 (Item j)) at (items d now.event own))
-        (λ (apart : T d.at → ⊥). keeps (Item i) (kept.ready (Item i) (d, at, ready_was q.taken longer q.handled T takes d apart now)))
-        (decided d.at)
+        (λ (own : T d). subst (λ j. Has t2 (Item j)) at (items d own (inl now)))
+        (λ (apart : T d → ⊥). keeps (Item i) (kept.ready (Item i) (d, at, ready_was q.taken longer q.handled T takes d apart now)))
+        (decided d)
     taken_ready (Group n) can = ⊎_elim
         (λ (same : n ≡ g). subst (λ m. Has t2 (Group m)) (sym same) (group (subst (λ m. CanMeet longer q.handled m) same can)))
-        (λ (apart : n ≡ g → ⊥). keeps (Group n) (kept.ready (Group n) (meets_before q.taken longer q.handled T takes n (λ i own there. apart (sym own ∙ own_group i there)) can)))
+        (λ (apart : n ≡ g → ⊥). keeps (Group n) (kept.ready (Group n) (arrived_meets q.taken longer q.handled T takes n (arrival_was n apart) can)))
         (cases_eq n g)
 
     taken_waits : (d : EventId) (n : Name) → IsHeldUp longer q.handled d n → Has t2 (Item d.at) ⊎ IsNoted longer q.handled lists d
     taken_waits d n held = ⊎_elim
-        (λ (own : T d.at). inl (items d (named_there longer d n held.named) own))
-        (λ (apart : T d.at → ⊥). ⊎_elim
+        (λ (own : T d). inl (items d own (inr (n, held))))
+        (λ (apart : T d → ⊥). ⊎_elim
         (λ (has : Has t (Item d.at)). inl (keeps (Item d.at) has))
         (λ (noted : IsNoted q.taken q.handled lists d). inr (noted.0, held_behind q.taken longer q.handled T takes d noted.0 apart noted.1, noted.2))
         (kept.waits d n (held_before q.taken longer q.handled T takes d n apart held)))
-        (decided d.at)
+        (decided d)
 
     kept_took : (q2 : Sequence) → q2 ≡ taking q g x → IsKept q2 t2 lists
     kept_took q2 took = subst {A = Sequence} (λ p. IsKept p t2 lists) (sym took) (record { ready = taken_ready; waits = taken_waits })
 
   module _ (is : IsSequence q) (can : CanTake q.taken g x) (q2 : Sequence) (took : q2 ≡ taking q g x) where
-    pub took_wide : Has t2 (Group g) → ArePrefixes q2.taken → ((i : ℕ) → i < size_of q2.taken g → Has t2 (Item (record { group = g; item = i }))) → IsKept q2 t2 lists
-    took_wide group prefixes items = kept_took (λ i. i.group ≡ g) (takes_wide q.taken g x is.prefixes can q.handled is.lawful) (λ i. cases_eq i.group g) (λ i own. own) each (λ can. group) q2 took
+    arrivals_was : (n : ℕ) → (n ≡ g → ⊥) → (k i : ℕ) → arrivals longer n k i ≡ arrivals q.taken n k i
+    arrivals_was = other_arrivals q.taken g x is.prefixes can
+
+    pub took_wide : Has t2 (Group g) → ArePrefixes q2.taken → ((i : ℕ) → i < size_of q2.taken g → IsPending q2 (record { group = g; item = i }) → Has t2 (Item (record { group = g; item = i }))) → IsKept q2 t2 lists
+    took_wide group prefixes items = kept_took (λ d. d.at.group ≡ g) (takes_wide q.taken g x is.prefixes can q.handled is.lawful) (λ d. cases_eq d.at.group g) arrivals_was each (λ can. group) q2 took
       where
-        each : (d : EventId) → IsEvent longer d → d.at.group ≡ g → Has t2 (Item d.at)
-        each d there own =
-            let new : IsEvent q2.taken d = subst (λ (p : Sequence). IsEvent p.taken d) (sym took) there in
+        there : (d : EventId) → Goes d → IsEvent longer d
+        there d (inl ready) = ready.event
+        there d (inr (n, held)) = named_there longer d n held.named
+
+        pending : (d : EventId) → Goes d → IsPending (taking q g x) d.at
+        pending d (inl ready) = inl (d, refl, ready)
+        pending d (inr (n, held)) = inr (d, n, refl, held)
+
+        each : (d : EventId) → d.at.group ≡ g → Goes d → Has t2 (Item d.at)
+        each d own goes =
+            let new : IsEvent q2.taken d = subst (λ (p : Sequence). IsEvent p.taken d) (sym took) (there d goes) in
             let within : d.at.item < size_of q2.taken g = subst (λ n. d.at.item < size_of q2.taken n) own (item_of_event q2.taken prefixes d new.0 new.1) in
             let here : record { group = g; item = d.at.item } ≡ d.at = λ i. record { group = sym own i; item = d.at.item } in
-            subst (λ j. Has t2 (Item j)) here (items d.at.item within)
+            subst (λ j. Has t2 (Item j)) here (items d.at.item within (subst (IsPending q2) (sym here) (subst {A = Sequence} (λ p. IsPending p d.at) (sym took) (pending d goes))))
 
     abbrev own : ItemId
     own = record { group = g; item = x.item }
 
     took_own : is_end x ≡ false → AddsNoMark q.taken longer g → Has t2 (Item own) → (CanMeet longer q.handled g → Has t2 (Group g)) → IsKept q2 t2 lists
-    took_own ends marks item group = kept_took (λ i. i ≡ own) (takes_own q.taken g x is.prefixes can ends marks q.handled is.lawful) (λ i. item_cases i own) (λ i own. ap (λ (j : ItemId). j.group) own) (λ d there own. subst (λ j. Has t2 (Item j)) (sym own) item) group q2 took
+    took_own ends marks item group = kept_took (λ d. d.at ≡ own) (takes_own q.taken g x is.prefixes can ends marks q.handled is.lawful) (λ d. item_cases d.at own) arrivals_was (λ d own goes. subst (λ j. Has t2 (Item j)) (sym own) item) group q2 took
 
     pub took_plain : is_barrier x ≡ false → is_end x ≡ false → Has t2 (Item own) → IsKept q2 t2 lists
     took_plain plain ends item = took_own ends (plain_marks q.taken g x is.prefixes can ends plain) item (λ meets. keeps (Group g) (kept.ready (Group g) (own_meets q.taken g x is.prefixes can ends plain q.handled is.lawful meets)))
@@ -308,3 +326,32 @@ module _ {Z : Type 0} (q : Sequence) (t t2 : Steps) (lists : List (Vec ItemId Z)
     took_following follows group item =
         let ends = barrier_goes_on x.kind x.word follows.barrier in
         took_own ends (following_marks q.taken g x is.prefixes can ends follows) item (λ meets. group)
+
+    abbrev e : EventId
+    e = next_of q.taken g x
+
+    -- a barrier of an instance that is not divergent behind it can't go on by itself, and lets no other item go on
+    pub took_undiverged : is_barrier x ≡ true → ArePrefixes q2.taken → ¬ IsDivergent q2.taken g (next_instance q.taken g x.item) → Has t2 (Group g) → IsKept q2 t2 lists
+    took_undiverged barrier prefixes undiverged group =
+        kept_took (λ d. d ≡ e) (takes_last q.taken g x is.prefixes can ends barrier still q.handled is.lawful) event_cases arrivals_was stuck (λ meets. group) q2 took
+      where
+        ends : is_end x ≡ false
+        ends = barrier_goes_on x.kind x.word barrier
+
+        still : ¬ IsDivergent longer g (next_instance q.taken g x.item)
+        still divergent = undiverged (subst (λ (p : Sequence). IsDivergent p.taken g (next_instance q.taken g x.item)) (sym took) divergent)
+
+        event_cases : (d : EventId) → (d ≡ e) ⊎ (d ≡ e → ⊥)
+        event_cases d = ⊎_elim
+            (λ (item : d.at ≡ e.at). ⊎_elim (λ (index : d.index ≡ e.index). inl (same_event d e item index)) (λ apart. inr (λ same. apart (ap (λ (y : EventId). y.index) same))) (cases_eq d.index e.index))
+            (λ apart. inr (λ same. apart (ap (λ (y : EventId). y.at) same)))
+            (item_cases d.at e.at)
+
+        names_nothing : (n : Name) → HasName q2.taken e n → ⊥
+        names_nothing n named =
+            let at : event_at q2.taken e ≡ Some x = ap (λ (p : Sequence). event_at p.taken e) took ∙ there_at_once q.taken g x is.prefixes can ends in
+            barriers_name_nothing q2.taken prefixes e x n at barrier (subst (λ names. Contains names n) (ap names_of at) named)
+
+        stuck : (d : EventId) → d ≡ e → Goes d → Has t2 (Item d.at)
+        stuck d same (inl ready) = absurd (last_stuck q.taken g x is.prefixes can ends barrier still q.handled (subst (IsReady longer q.handled) same ready))
+        stuck d same (inr (n, held)) = absurd (names_nothing n (subst (λ (s : Streams). HasName s e n) (ap (λ (p : Sequence). p.taken) (sym took)) (subst (λ y. HasName longer y n) same held.named)))

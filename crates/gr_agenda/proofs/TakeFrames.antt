@@ -7,11 +7,15 @@ use Rattle.gr_model.proofs.Sending.{is_complete-push}
 use Rattle.gr_model.specs.declared.event.Kind.{Kind}
 use Rattle.gr_model.specs.declared.event.Kind.TheVariants.{Read, Write, Load, Store, Rmw, Barrier, End}
 use Rattle.gr_model.specs.Instances.{HasArrived, IsDivergentOf}
-use Rattle.gr_lanes.specs.Takes.{CanTake, with_record}
+use Rattle.gr_lanes.specs.Indices.{with_if}
+use Rattle.gr_lanes.specs.Takes.{CanTake, next_of, with_record}
 use Rattle.gr_lanes.proofs.Growth.{record_grows}
-use Rattle.gr_lanes.proofs.IndexLemmas.{no_trace}
+use Rattle.gr_lanes.proofs.IndexLemmas.{length-places, no_trace, places_more}
 use Rattle.gr_lanes.proofs.InstanceLemmas.{some_mark}
-use Rattle.gr_steps.proofs.Orders.{split_last}
+use Rattle.gr_steps.proofs.Orders.{at_behind, split_last}
+use Rattle.gr_order.proofs.StateLemmas.{item_cases}
+use Rattle.gr_order.proofs.WaitLemmas.{adds_here, trace_grows as own_grows}
+use Rattle.gr_model.proofs.Cuts.{same_event}
 use Rattle.std.proofs.lemmas.Bool.{cases_eq, cases_lt, eqb-true}
 use Rattle.std.proofs.lemmas.List.Elements.{filter-append, filter_map-append}
 use Rattle.gr_model.specs.declared.event.Event.{Event}
@@ -33,12 +37,12 @@ use Rattle.gr_steps.specs.Steps.{CanMeet, IsMeeting, IsReady}
 use Rattle.gr_agenda.specs.Kept.{IsHeldUp}
 use Rattle.gr_agenda.specs.Reaches.{IsFollowing, next_instance}
 
--- t has more records than s; an item of which T holds not has no more, and its instances are divergent only where they were
-pub record Takes (s t : Streams) (h : List EventId) (T : ItemId → Type 0) : Type 0 where
+-- t has more records than s; an event of which T holds not is as it was, and its instances are divergent only where they were
+pub record Takes (s t : Streams) (h : List EventId) (T : EventId → Type 0) : Type 0 where
   pub grows : Grows s t
   pub lawful : IsLawful s h
-  pub trace : (i : ItemId) → (T i → ⊥) → trace_of t i ≡ trace_of s i
-  pub divergent : (d : EventId) (g k : ℕ) → (T d.at → ⊥) → StandsIn s d g k → IsDivergent t g k → IsDivergent s g k
+  pub event : (d : EventId) → (T d → ⊥) → event_at t d ≡ event_at s d
+  pub divergent : (d : EventId) (g k : ℕ) → (T d → ⊥) → StandsIn s d g k → IsDivergent t g k → IsDivergent s g k
 
 -- places and names of events that were there stay
 module _ (s t : Streams) (grows : Grows s t) where
@@ -60,17 +64,17 @@ module _ (s t : Streams) (grows : Grows s t) where
   release_was n x there at place =
       subst (λ i. place_of s is_release i n.release ≡ Some x.index) at (place_shrinks is_release x n.release there (subst (λ i. place_of t is_release i n.release ≡ Some x.index) (sym at) place))
 
-module _ (s t : Streams) (h : List EventId) (T : ItemId → Type 0) (takes : Takes s t h T) where
+module _ (s t : Streams) (h : List EventId) (T : EventId → Type 0) (takes : Takes s t h T) where
   handled_event : (x : EventId) → IsIn h x → IsEvent s x
   handled_event x there = (takes.lawful.event there.0 x there.1).0
 
-  event_was : (d : EventId) → (T d.at → ⊥) → event_at t d ≡ event_at s d
-  event_was d apart = ap (λ (l : List Event). slice_get l d.index) (takes.trace d.at apart)
+  event_was : (d : EventId) → (T d → ⊥) → event_at t d ≡ event_at s d
+  event_was d apart = takes.event d apart
 
-  name_was : (d : EventId) → (T d.at → ⊥) → (n : Name) → HasName t d n → HasName s d n
+  name_was : (d : EventId) → (T d → ⊥) → (n : Name) → HasName t d n → HasName s d n
   name_was d apart n named = subst (λ names. Contains names n) (ap names_of (event_was d apart)) named
 
-  pub held_was : (d : EventId) (n : Name) → (T d.at → ⊥) → IsHeldUp t h d n → IsHeldUp s h d n
+  pub held_was : (d : EventId) (n : Name) → (T d → ⊥) → IsHeldUp t h d n → IsHeldUp s h d n
   held_was d n apart held = record {
     named = name_was d apart n held.named;
     fresh = held.fresh;
@@ -79,7 +83,7 @@ module _ (s t : Streams) (h : List EventId) (T : ItemId → Type 0) (takes : Tak
   }
 
   -- an event is held up by each name by which it was
-  pub still_held : (d : EventId) (n : Name) → (T d.at → ⊥) → IsHeldUp s h d n → IsHeldUp t h d n
+  pub still_held : (d : EventId) (n : Name) → (T d → ⊥) → IsHeldUp s h d n → IsHeldUp t h d n
   still_held d n apart held = record {
     named = subst (λ names. Contains names n) (ap names_of (sym (event_was d apart))) held.named;
     fresh = held.fresh;
@@ -95,7 +99,7 @@ module _ (s t : Streams) (h : List EventId) (T : ItemId → Type 0) (takes : Tak
     word = sym (word_grows s t takes.grows d here) ∙ (m.word ∙ word_grows s t takes.grows f there);
   }
 
-  pub ready_was : (d : EventId) → (T d.at → ⊥) → IsReady t h d → IsReady s h d
+  pub ready_was : (d : EventId) → (T d → ⊥) → IsReady t h d → IsReady s h d
   ready_was d apart ready =
       let here : IsEvent s d = (ready.event.0, sym (event_was d apart) ∙ ready.event.1) in record {
         event = here;
@@ -123,13 +127,6 @@ module _ (s t : Streams) (h : List EventId) (T : ItemId → Type 0) (takes : Tak
 
     pub arrived_meets : CanMeet t h g → CanMeet s h g
     arrived_meets can = (can.0, can.1, meeting_was can.0 can.1 can.2)
-
-  module _ (g : ℕ) (apart : (i : ItemId) → i.group ≡ g → T i → ⊥) where
-    same_arrivals : (k i : ℕ) → arrivals t g k i ≡ arrivals s g k i
-    same_arrivals k i = ap (λ (l : List Event). slice_get (filter_map mark_of l) k) (takes.trace (record { group = g; item = i }) (apart (record { group = g; item = i }) refl))
-
-    pub meets_was : CanMeet t h g → CanMeet s h g
-    meets_was = arrived_meets g same_arrivals
 
 -- ---- marks
 
@@ -159,6 +156,12 @@ one_mark None p a at = cc
 one_mark (Some b) zero a at = (refl, at)
 one_mark (Some b) (suc p) a at = cc
 
+get_before : {X : Type 0} (xs : List X) (x : X) (k : ℕ) → (k ≡ length xs → ⊥) → slice_get (xs ++ x ∷ []) k ≡ slice_get xs k
+get_before [] x zero apart = absurd (apart refl)
+get_before [] x (suc k) apart = refl
+get_before (y ∷ xs) x zero apart = refl
+get_before (y ∷ xs) x (suc k) apart = get_before xs x k (λ same. apart (ap suc same))
+
 -- ---- one record more of a group
 
 module _ (s : Streams) (g : ℕ) (x : Event) (prefixes : ArePrefixes s) (can : CanTake s g x) where
@@ -177,12 +180,15 @@ module _ (s : Streams) (g : ℕ) (x : Event) (prefixes : ArePrefixes s) (can : C
   pub other_divergent : (k n : ℕ) → (k ≡ g → ⊥) → IsDivergent more k n → IsDivergent s k n
   other_divergent k n apart = subst (λ (l : List Event). IsDivergentOf (is_complete l) (size_of s k) (λ i. slice_get (filter_map mark_of (filter (is_of i) l)) n)) (other k apart)
 
+  pub other_arrivals : (n : ℕ) → (n ≡ g → ⊥) → (k i : ℕ) → arrivals more n k i ≡ arrivals s n k i
+  other_arrivals n apart k i = ap (λ (l : List Event). slice_get (filter_map mark_of l) k) (other_trace (record { group = n; item = i }) apart)
+
   -- it touches at most the items of its group
-  pub takes_wide : (h : List EventId) → IsLawful s h → Takes s more h (λ i. i.group ≡ g)
+  pub takes_wide : (h : List EventId) → IsLawful s h → Takes s more h (λ d. d.at.group ≡ g)
   takes_wide h lawful = record {
     grows = record_grows s g x prefixes can;
     lawful = lawful;
-    trace = other_trace;
+    event = λ d apart. ap (λ (l : List Event). slice_get l d.index) (other_trace d.at apart);
     divergent = λ d k n apart stands. other_divergent k n (λ same. apart (stands.group ∙ same));
   }
 
@@ -234,11 +240,11 @@ module _ (s : Streams) (g : ℕ) (x : Event) (prefixes : ArePrefixes s) (can : C
           (λ apart. other_divergent k n apart divergent)
           (cases_eq k g)
 
-      pub takes_own : (h : List EventId) → IsLawful s h → Takes s more h (λ i. i ≡ own)
+      pub takes_own : (h : List EventId) → IsLawful s h → Takes s more h (λ d. d.at ≡ own)
       takes_own h lawful = record {
         grows = record_grows s g x prefixes can;
         lawful = lawful;
-        trace = own_trace;
+        event = λ d apart. ap (λ (l : List Event). slice_get l d.index) (own_trace d.at apart);
         divergent = λ d k n apart stands divergent. divergent_was k n divergent;
       }
 
@@ -262,7 +268,7 @@ module _ (s : Streams) (g : ℕ) (x : Event) (prefixes : ArePrefixes s) (can : C
 
       -- no instance of the group may meet now that might not before
       pub own_meets : (h : List EventId) → IsLawful s h → CanMeet more h g → CanMeet s h g
-      own_meets h lawful = arrived_meets s more h (λ i. i ≡ own) (takes_own plain_marks h lawful) g same_arrival
+      own_meets h lawful = arrived_meets s more h (λ d. d.at ≡ own) (takes_own plain_marks h lawful) g same_arrival
 
     -- a barrier that follows another of its instance brings the mark of that
     module _ (follows : IsFollowing s g x) where
@@ -300,3 +306,75 @@ module _ (s : Streams) (g : ℕ) (x : Event) (prefixes : ArePrefixes s) (can : C
           (λ (was : slice_get old n ≡ Some a). (i, (arrived.0, was)))
           (λ (new : (p : ℕ) × (n ≡ length old + p) × (slice_get last p ≡ Some a)). came_before n i a new.0 new.1 new.2)
           (split_last old last n a (ap (λ (l : List Mark). slice_get l n) (sym (longer_marks i)) ∙ arrived.1))
+
+    -- a barrier brings a mark to one instance alone
+    module _ (barrier : is_barrier x ≡ true) where
+      abbrev brought : ℕ
+      brought = next_instance s g x.item
+
+      abbrev e : EventId
+      e = next_of s g x
+
+      own_longer : trace_of more own ≡ trace_of s own ++ x ∷ []
+      own_longer = own_grows s g x prefixes can own ∙ ap (λ l. trace_of s own ++ l) (adds_here g x ends)
+
+      own_mark : (a : Mark) × (mark_of x ≡ Some a)
+      own_mark = some_mark (mark_of x) barrier
+
+      own_marks : filter_map mark_of (trace_of more own) ≡ filter_map mark_of (trace_of s own) ++ own_mark.0 ∷ []
+      own_marks = ap (λ (l : List Event). filter_map mark_of l) own_longer ∙ (filter_map-append mark_of (trace_of s own) (x ∷ []) ∙ ap (λ (o : Option Mark). filter_map mark_of (trace_of s own) ++ cons_option o []) own_mark.1)
+
+      pub own_arrival : arrivals more g brought x.item ≡ mark_of x
+      own_arrival =
+          let count : brought ≡ length (filter_map mark_of (trace_of s own)) + 0 = let same = count_marks (trace_of s own) in omega (arith, same) in
+          ap (λ (l : List Mark). slice_get l brought) own_marks ∙ (ap (slice_get (filter_map mark_of (trace_of s own) ++ own_mark.0 ∷ [])) count ∙ (at_behind (filter_map mark_of (trace_of s own)) (own_mark.0 ∷ []) 0 own_mark.0 refl ∙ sym own_mark.1))
+
+      else_arrival : (n i : ℕ) → (n ≡ brought → ⊥) → arrivals more g n i ≡ arrivals s g n i
+      else_arrival n i apart = ⊎_elim
+          (λ (same : i ≡ x.item). subst (λ j. arrivals more g n j ≡ arrivals s g n j) (sym same)
+          (ap (λ (l : List Mark). slice_get l n) own_marks ∙ get_before (filter_map mark_of (trace_of s own)) own_mark.0 n (λ last. apart (last ∙ count_marks (trace_of s own)))))
+          (λ (other : i ≡ x.item → ⊥). ap (λ (l : List Event). slice_get (filter_map mark_of l) n) (own_trace (record { group = g; item = i }) (λ same. other (ap (λ (j : ItemId). j.item) same))))
+          (cases_eq i x.item)
+
+      own_place : place_of more is_barrier own brought ≡ Some e.index
+      own_place =
+          let more_places : places_from is_barrier 0 (trace_of more own) ≡ places_from is_barrier 0 (trace_of s own) ++ length (trace_of s own) ∷ [] = ap (places_from is_barrier 0) own_longer ∙ (places_more is_barrier (trace_of s own) x ∙ ap (λ b. with_if b (places_from is_barrier 0 (trace_of s own)) (length (trace_of s own))) barrier) in
+          let count : brought ≡ length (places_from is_barrier 0 (trace_of s own)) + 0 = let same = length-places is_barrier 0 (trace_of s own) in omega (arith, same) in
+          ap (λ l. slice_get l brought) more_places ∙ (ap (slice_get (places_from is_barrier 0 (trace_of s own) ++ length (trace_of s own) ∷ [])) count ∙ at_behind (places_from is_barrier 0 (trace_of s own)) (length (trace_of s own) ∷ []) 0 (length (trace_of s own)) refl)
+
+      -- where that is not divergent behind it, the barrier alone is new
+      module _ (undiverged : ¬ IsDivergent more g brought) where
+        mixed_was : (n : ℕ) → (n ≡ brought → ⊥) → IsDivergent more g n → IsDivergent s g n
+        mixed_was n apart (inl (i, j, a, b, ha, hb, differ)) = inl (i, j, a, b, (ha.0, sym (else_arrival n i apart) ∙ ha.1), (hb.0, sym (else_arrival n j apart) ∙ hb.1), differ)
+        mixed_was n apart (inr missing) = absurd (true≢false (sym missing.0 ∙ not_complete))
+
+        else_divergent : (k n : ℕ) → IsDivergent more k n → IsDivergent s k n
+        else_divergent k n divergent = ⊎_elim
+            (λ (same : k ≡ g).
+            let here = subst (λ m. IsDivergent more m n) same divergent in
+            ⊎_elim
+            (λ (this : n ≡ brought). absurd (undiverged (subst (IsDivergent more g) this here)))
+            (λ apart. subst (λ m. IsDivergent s m n) (sym same) (mixed_was n apart here))
+            (cases_eq n brought))
+            (λ apart. other_divergent k n apart divergent)
+            (cases_eq k g)
+
+        last_event : (d : EventId) → (d ≡ e → ⊥) → event_at more d ≡ event_at s d
+        last_event d apart = ⊎_elim
+            (λ (same : d.at ≡ own).
+            ap (λ i. slice_get (trace_of more i) d.index) same
+            ∙ (ap (λ (l : List Event). slice_get l d.index) own_longer ∙ (get_before (trace_of s own) x d.index (λ last. apart (same_event d e same last)) ∙ ap (λ i. slice_get (trace_of s i) d.index) (sym same))))
+            (λ other. ap (λ (l : List Event). slice_get l d.index) (own_trace d.at other))
+            (item_cases d.at own)
+
+        pub takes_last : (h : List EventId) → IsLawful s h → Takes s more h (λ d. d ≡ e)
+        takes_last h lawful = record {
+          grows = record_grows s g x prefixes can;
+          lawful = lawful;
+          event = last_event;
+          divergent = λ d k n apart stands divergent. else_divergent k n divergent;
+        }
+
+        -- which can't be handled
+        pub last_stuck : (h : List EventId) → IsReady more h e → ⊥
+        last_stuck h ready = undiverged (ready.instance g brought (record { group = refl; item = can.item; place = own_place }))

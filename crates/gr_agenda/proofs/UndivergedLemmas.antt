@@ -8,19 +8,20 @@ use Rattle.std.proofs.lemmas.Option.{get_or_from_slice_get, slice_get-get_or, sl
 use Rattle.gr_model.specs.declared.event.Event.{Event}
 use Rattle.gr_model.specs.declared.event.EventId.{EventId}
 use Rattle.gr_model.specs.declared.event.ItemId.{ItemId}
-use Rattle.gr_model.specs.Barriers.{IsDivergent, is_barrier}
+use Rattle.gr_model.specs.Barriers.{IsDivergent, arrivals, is_barrier, mark_of}
 use Rattle.gr_model.specs.Events.{is_end}
 use Rattle.gr_model.specs.Streams.{Streams, event_at}
 use Rattle.gr_clocks.specs.Counts.{count_of}
+use Rattle.gr_lanes.specs.Instances.{HasCome}
 use Rattle.gr_lanes.specs.Takes.{CanTake, with_record}
 use Rattle.gr_steps.specs.Steps.{CanHandle}
 use Rattle.gr_steps.proofs.EventRecords.{barriers_name_nothing}
 use Rattle.gr_order.specs.Sequences.{IsSequence, Sequence, taking}
 use Rattle.gr_order.proofs.ReadyLemmas.{only_next, passes_if, ready_if, stands_there}
-use Rattle.gr_agenda.specs.Kept.{AreUndiverged, IsNextBarrier, IsForgotten}
-use Rattle.gr_agenda.specs.Reaches.{IsFollowing}
+use Rattle.gr_agenda.specs.Kept.{AreUndiverged, IsForgotten, IsNextBarrier, IsTold}
+use Rattle.gr_agenda.specs.Reaches.{IsFollowing, next_instance}
 use Rattle.gr_agenda.proofs.KeptLemmas.{passes_there}
-use Rattle.gr_agenda.proofs.TakeFrames.{AddsNoMark, barrier_goes_on, divergent_was, following_marks, other_divergent, plain_marks}
+use Rattle.gr_agenda.proofs.TakeFrames.{AddsNoMark, barrier_goes_on, divergent_was, following_marks, other_divergent, own_arrival, plain_marks}
 
 module _ (q : Sequence) (is : IsSequence q) (i : ItemId) (k : ℕ) (next : IsNextBarrier q i k) where
   abbrev e : EventId
@@ -50,6 +51,24 @@ module _ (q q2 : Sequence) (is : IsSequence q) (g : ℕ) (x : Event) (can : CanT
       (λ (apart : h ≡ g → ⊥). are h k (unsettled.others h k told) (other_divergent q.taken g x is.prefixes can h k apart (subst (λ (p : Sequence). IsDivergent p.taken h k) took divergent)))
       (cases_eq h g)
 
+  -- a barrier has come to the instance to which it brings its item
+  pub has_come : is_barrier x ≡ true → (k : ℕ) → k ≡ next_instance q.taken g x.item → HasCome q2.taken g k x
+  has_come barrier k next = subst (λ (p : Sequence). HasCome p.taken g k x) (sym took) (record {
+    item = x.item;
+    within = can.item;
+    barrier = barrier;
+    came = subst (λ n. arrivals (with_record q.taken g x) g n x.item ≡ mark_of x) (sym next) (own_arrival q.taken g x is.prefixes can (barrier_goes_on x.kind x.word barrier) barrier);
+  })
+
+  -- one more is told, which is not divergent behind the record
+  pub undiverged_more : (k : ℕ) → ¬ IsDivergent q2.taken g k → (new : List (Option ℕ)) → IsTold undiverged g k new → AreUndiverged q2.taken new
+  undiverged_more k not_divergent new tells h n told divergent = ⊎_elim
+      (λ (same : h ≡ g).
+      let this : n ≡ k = tells.own n (ap (slice_get new) (sym same) ∙ told) in
+      not_divergent (subst (λ m. IsDivergent q2.taken m k) same (subst (IsDivergent q2.taken h) this divergent)))
+      (λ (apart : h ≡ g → ⊥). are h n (tells.others h n apart told) (other_divergent q.taken g x is.prefixes can h n apart (subst (λ (p : Sequence). IsDivergent p.taken h n) took divergent)))
+      (cases_eq h g)
+
   undiverged_own : is_end x ≡ false → AddsNoMark q.taken (with_record q.taken g x) g → AreUndiverged q2.taken undiverged
   undiverged_own ends marks h k told divergent = are h k told (divergent_was q.taken g x is.prefixes can ends marks h k (subst (λ (p : Sequence). IsDivergent p.taken h k) took divergent))
 
@@ -74,13 +93,18 @@ module _ {X : Type 0} (xs : List X) (n : ℕ) (v : X) where
       ∙ (ap Some (sym (get_or-set_other xs n h v y apart)) ∙ (sym (slice_get-get_or (slice_set xs n v) h y within) ∙ at))
 
 -- one more is told
-pub undiverged_set : (s : Streams) (undiverged : List (Option ℕ)) (g n : ℕ) → AreUndiverged s undiverged → g < length undiverged → ¬ IsDivergent s g n → AreUndiverged s (slice_set undiverged g (Some n))
-undiverged_set s undiverged g n are lt not_divergent h k told = ⊎_elim
+pub told_here : (undiverged : List (Option ℕ)) (g k : ℕ) → g < length undiverged → IsTold undiverged g k (slice_set undiverged g (Some k))
+told_here undiverged g k lt = record {
+  own = λ n told. let both : Some (Some k) ≡ Some (Some n) = sym (set_here undiverged g (Some k) lt) ∙ told in cc;
+  others = λ h n apart told. set_else undiverged g (Some k) h (Some n) apart told;
+}
+
+pub undiverged_set : (s : Streams) (undiverged : List (Option ℕ)) (g n : ℕ) (new : List (Option ℕ)) → AreUndiverged s undiverged → IsTold undiverged g n new → ¬ IsDivergent s g n → AreUndiverged s new
+undiverged_set s undiverged g n new are tells not_divergent h k told divergent = ⊎_elim
     (λ (same : h ≡ g).
-    let both : Some (Some n) ≡ Some (Some k) = sym (set_here undiverged g (Some n) lt) ∙ (ap (slice_get (slice_set undiverged g (Some n))) (sym same) ∙ told) in
-    let is : n ≡ k = cc in
-    λ (divergent : IsDivergent s h k). not_divergent (subst (λ m. IsDivergent s g m) (sym is) (subst (λ m. IsDivergent s m k) same divergent)))
-    (λ (apart : h ≡ g → ⊥). are h k (set_else undiverged g (Some n) h (Some k) apart told))
+    let this : k ≡ n = tells.own k (ap (slice_get new) (sym same) ∙ told) in
+    not_divergent (subst (λ m. IsDivergent s m n) same (subst (IsDivergent s h) this divergent)))
+    (λ (apart : h ≡ g → ⊥). are h k (tells.others h k apart told) divergent)
     (cases_eq h g)
 
 -- none is told

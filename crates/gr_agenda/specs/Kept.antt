@@ -9,6 +9,7 @@ use Rattle.gr_model.specs.Names.{HasName, release_place}
 use Rattle.gr_model.specs.Streams.{Streams, place_of}
 use Rattle.gr_model.specs.Waits.{IsPrevious}
 use Rattle.gr_clocks.specs.Counts.{Counts, count_of}
+use Rattle.gr_steps.specs.Steps.{CanHandle}
 use Rattle.gr_order.specs.declared.steps.Ready.{Ready}
 use Rattle.gr_order.specs.declared.steps.Ready.TheVariants.{Item}
 use Rattle.gr_order.specs.Answers.{CanMake}
@@ -31,6 +32,10 @@ pub record IsHeldUp (s : Streams) (handled : List EventId) (d : EventId) (n : Na
 abbrev pub IsNoted : {Z : Type 0} → Streams → List EventId → List (Vec ItemId Z) → EventId → Type 0
 IsNoted s handled lists d = (n : Name) × IsHeldUp s handled d n × IsWaiting lists n d.at
 
+-- an item's next event can be handled, or one of its names holds it up
+abbrev pub IsPending : Sequence → ItemId → Type 0
+IsPending q i = CanHandle q.taken q.handled i ⊎ ((d : EventId) × (n : Name) × (d.at ≡ i) × IsHeldUp q.taken q.handled d n)
+
 -- each step that can be made stands in the list, and each item that is held up there or among those that wait for one of its releases
 pub record IsKept {Z : Type 0} (q : Sequence) (t : Steps) (lists : List (Vec ItemId Z)) : Type 0 where
   pub ready : (r : Ready) → CanMake q r → Has t r
@@ -50,3 +55,8 @@ AreUndiverged s undiverged = (g k : ℕ) → slice_get undiverged g ≡ Some (So
 pub record IsForgotten (old : List (Option ℕ)) (g : ℕ) (new : List (Option ℕ)) : Type 0 where
   pub none : (k : ℕ) → slice_get new g ≢ Some (Some k)
   pub others : (h k : ℕ) → slice_get new h ≡ Some (Some k) → slice_get old h ≡ Some (Some k)
+
+-- of group g this instance is known, if one is, and of the others only those that were
+pub record IsTold (old : List (Option ℕ)) (g k : ℕ) (new : List (Option ℕ)) : Type 0 where
+  pub own : (n : ℕ) → slice_get new g ≡ Some (Some n) → n ≡ k
+  pub others : (h n : ℕ) → (h ≡ g → ⊥) → slice_get new h ≡ Some (Some n) → slice_get old h ≡ Some (Some n)

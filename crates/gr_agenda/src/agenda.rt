@@ -17,12 +17,13 @@ ghost use Rattle.gr_steps.specs.Steps.{CanHandle, CanMeet, IsReady};
 ghost use Rattle.gr_order.specs.Answers.{CanMake};
 ghost use Rattle.gr_order.specs.AtOnce.{GoesAtOnce};
 ghost use Rattle.gr_order.specs.Sequences.{HandlesEvent, IsDone, IsSequence, MeetsNext, nothing, taking};
-ghost use Rattle.gr_agenda.specs.Kept.{AreUndiverged, IsHeldUp, IsNextBarrier, IsNoted, IsReleaseHandled, IsForgotten};
+ghost use Rattle.gr_agenda.specs.Kept.{AreUndiverged, IsForgotten, IsHeldUp, IsNextBarrier, IsNoted, IsPending, IsReleaseHandled, IsTold};
 ghost use Rattle.gr_agenda.specs.Lists.{Has, IsWaiting, KeepsSteps};
 
 use crate::reach::{Reach, reach_of};
 use crate::waiting::{LISTS, wait, wake};
 use crate::worklist::Worklist;
+use gr_lanes::instance::is_divergent;
 use gr_lanes::kinds::is_barrier;
 use gr_lanes::seq_error::SeqError;
 use gr_model::event::{Event, EventId, ItemId, Name};
@@ -78,16 +79,6 @@ fn no_lists<A: Allocator + Copy>(alloc: A) -> Result<Vec<Vec<ItemId, A>, A>, Mem
         lists.push(Vec::new(alloc))?;
     }
     Ok(lists)
-}
-
-/// Puts the first items of a group on the list.
-fn put_items<A: Allocator>(worklist: &mut Worklist<A>, group: u16, items: u16)
-    ensures there { (k : ℕ) → k < items → Has worklist.new (Item (record { group = group; item = k })) }
-    ensures keeps { KeepsSteps worklist.old worklist.new }
-{
-    for item in 0..items {
-        worklist.put(Ready::Item(ItemId { group, item }));
-    }
 }
 
 /// Whether an item's next event is a barrier, as it is where an instance of its group may meet.
@@ -162,6 +153,27 @@ fn is_idle<A: Allocator>(order: &Order<A>, step: Ready) -> bool
     }
 }
 
+/// Puts an item on the list, if one of its events waits.
+fn put_if_pending<A: Allocator>(order: &Order<A>, worklist: &mut Worklist<A>, item: ItemId)
+    ensures there { IsPending order.now item → Has worklist.new (Item item) }
+    ensures keeps { KeepsSteps worklist.old worklist.new }
+{
+    let step = Ready::Item(item);
+    if !is_idle(order, step) {
+        worklist.put(step);
+    }
+}
+
+/// Puts those of a group's first items on the list of whose events some waits.
+fn put_pending<A: Allocator>(order: &Order<A>, worklist: &mut Worklist<A>, group: u16, items: u16)
+    ensures there { (k : ℕ) → k < items → IsPending order.now (record { group = group; item = k }) → Has worklist.new (Item (record { group = group; item = k })) }
+    ensures keeps { KeepsSteps worklist.old worklist.new }
+{
+    for item in 0..items {
+        put_if_pending(order, worklist, ItemId { group, item });
+    }
+}
+
 /// Notes for which release an item waits, where its next event is not ready.
 ///
 /// # Errors
@@ -216,6 +228,16 @@ fn undiverged_of(undiverged: &[Option<u32>], group: u16) -> Option<u32>
     }
 }
 
+/// Notes that an instance of a group is not divergent.
+fn tell_undiverged<A: Allocator>(undiverged: &mut Vec<Option<u32>, A>, group: u16, instance: u32)
+    ensures { IsTold undiverged.old.items group instance undiverged.new.items }
+{
+    let place = usize::from(group);
+    if place < undiverged.len() {
+        undiverged[place] = Some(instance);
+    }
+}
+
 /// Notes that the instance is not divergent at whose barrier an item stands that can't go on.
 fn mark_undiverged<A: Allocator>(
     order: &Order<A>,
@@ -229,17 +251,10 @@ fn mark_undiverged<A: Allocator>(
     let _taken = order.lanes();
     match step {
         Ready::Group(_) => {}
-        Ready::Item(item) => {
-            let place = usize::from(item.group);
-            match next_barrier(order, item) {
-                None => {}
-                Some(instance) => {
-                    if place < undiverged.len() {
-                        undiverged[place] = Some(instance);
-                    }
-                }
-            }
-        }
+        Ready::Item(item) => match next_barrier(order, item) {
+            None => {}
+            Some(instance) => tell_undiverged(undiverged, item.group, instance),
+        },
     }
 }
 
@@ -251,6 +266,25 @@ fn forget_undiverged<A: Allocator>(undiverged: &mut Vec<Option<u32>, A>, group: 
     if place < undiverged.len() {
         undiverged[place] = None;
     }
+}
+
+/// Puts on the list what may have become ready where any item of a group may go on.
+fn wake_group<A: Allocator>(
+    order: &Order<A>,
+    worklist: &mut Worklist<A>,
+    undiverged: &mut Vec<Option<u32>, A>,
+    group: u16,
+)
+    requires { group < length order.now.taken.sizes }
+    ensures items { (k : ℕ) → k < size_of order.now.taken group → IsPending order.now (record { group = group; item = k }) → Has worklist.new (Item (record { group = group; item = k })) }
+    ensures group { Has worklist.new (Group group) }
+    ensures keeps { KeepsSteps worklist.old worklist.new }
+    ensures forgotten { IsForgotten undiverged.old.items group undiverged.new.items }
+{
+    forget_undiverged(undiverged, group);
+    put_pending(order, worklist, group, order.lanes().shape().items(group));
+    // last, so that it is looked at first: where the instance meets, its items need no look before
+    worklist.put(Ready::Group(group));
 }
 
 impl<A: Allocator + Copy> Agenda<A> {
@@ -309,20 +343,26 @@ impl<A: Allocator> Agenda<A> {
         self.order.take(group, event)?;
         match reach {
             Reach::Item => self.worklist.put(Ready::Item(at)),
-            Reach::Instance => {
+            Reach::Instance(instance) => {
                 self.worklist.put(Ready::Group(group));
-                self.worklist.put(Ready::Item(at));
+                if !is_number(undiverged_of(&self.undiverged, group), instance) {
+                    self.worklist.put(Ready::Item(at));
+                }
             }
-            Reach::Group => {
-                forget_undiverged(&mut self.undiverged, group);
-                put_items(
-                    &mut self.worklist,
-                    group,
-                    self.order.lanes().shape().items(group),
-                );
-                // last, so that it is looked at first: where the instance meets, its items need no look before
-                self.worklist.put(Ready::Group(group));
+            Reach::Mark(instance) => {
+                if is_divergent(self.order.lanes(), group, instance, &event) {
+                    wake_group(&self.order, &mut self.worklist, &mut self.undiverged, group);
+                } else {
+                    tell_undiverged(&mut self.undiverged, group, instance);
+                    self.worklist.put(Ready::Group(group));
+                }
             }
+            Reach::Group => wake_group(
+                &self.order,
+                &mut self.worklist,
+                &mut self.undiverged,
+                group,
+            ),
         }
         Ok(())
     }
@@ -369,7 +409,8 @@ impl<A: Allocator> Agenda<A> {
         let _taken = self.order.lanes();
         self.order.meet_instance(group);
         self.worklist.put(Ready::Group(group));
-        put_items(
+        put_pending(
+            &self.order,
             &mut self.worklist,
             group,
             self.order.lanes().shape().items(group),

@@ -2,7 +2,7 @@
 
 ghost use Rattle.std.specs.Prelude.{◌≡◌, true, IsTrue, is_some};
 ghost use Rattle.gr_model.specs.Barriers.{mark_of};
-ghost use Rattle.gr_agenda.specs.Reaches.{IsFollowing, IsReach};
+ghost use Rattle.gr_agenda.specs.Reaches.{IsFollowing, IsReach, next_instance};
 
 use gr_lanes::instance::came_with;
 use gr_lanes::kinds::is_barrier;
@@ -10,27 +10,28 @@ use gr_lanes::lanes::Lanes;
 use gr_model::event::{Event, ItemId};
 use std::alloc::Allocator;
 
-/// Whose steps a record may let go on where it is taken.
+/// Whose steps a record may let go on.
 #[derive(Clone, Copy, Debug, PartialEq, Eq)]
 pub(crate) enum Reach {
     /// Those of its item.
     Item,
-    /// Those of its item, and the meeting of its group's next instance.
-    Instance,
-    /// Those of each item of its group, and the meeting of the group's next instance.
+    /// Those of its item, a barrier that brings the item to the instance of this number, where another came with the same mark;
+    /// and the instance may meet.
+    Instance(u32),
+    /// Those of each item of its group, where the barrier, which brings its item to the instance of this number, makes that
+    /// divergent; else the instance may meet.
+    Mark(u32),
+    /// Those of each item of its group.
     Group,
 }
 
 /// Whether one of two neighbours of a barrier's item came, with the same mark, to the instance to which the barrier brings
 /// its item: then no mark is new there.
-fn is_following<A: Allocator>(lanes: &Lanes<A>, group: u16, event: &Event) -> bool
-    requires { is_some (mark_of event.now) ≡ true }
+fn is_following<A: Allocator>(lanes: &Lanes<A>, group: u16, instance: u32, event: &Event) -> bool
+    requires barrier { is_some (mark_of event.now) ≡ true }
+    requires instance { instance ≡ next_instance lanes.now group event.now.item }
     ensures { IsTrue result → IsFollowing lanes.now group event.now }
 {
-    let at = ItemId {
-        group,
-        item: event.item,
-    };
     let before = ItemId {
         group,
         item: event.item.saturating_sub(1),
@@ -39,7 +40,6 @@ fn is_following<A: Allocator>(lanes: &Lanes<A>, group: u16, event: &Event) -> bo
         group,
         item: event.item.saturating_add(1),
     };
-    let instance = lanes.barrier_count(at);
     came_with(lanes, before, instance, event) || came_with(lanes, after, instance, event)
 }
 
@@ -49,12 +49,18 @@ pub(crate) fn reach_of<A: Allocator>(lanes: &Lanes<A>, group: u16, event: &Event
     ensures { IsReach lanes.now group event.now result }
 {
     if event.kind.is_end() {
-        Reach::Group
-    } else if !is_barrier(event) {
-        Reach::Item
-    } else if is_following(lanes, group, event) {
-        Reach::Instance
+        return Reach::Group;
+    }
+    if !is_barrier(event) {
+        return Reach::Item;
+    }
+    let instance = lanes.barrier_count(ItemId {
+        group,
+        item: event.item,
+    });
+    if is_following(lanes, group, instance, event) {
+        Reach::Instance(instance)
     } else {
-        Reach::Group
+        Reach::Mark(instance)
     }
 }

@@ -1,5 +1,5 @@
 -- What several releases left, in each memory.
-use Rattle.std.proofs.Common.{◌≡◌, ◌≢◌, ℕ, zero, suc, None, Some, slice_get, ◌+◌, ◌<◌, ◌≤◌, max, if◌then◌else◌, ◌++◌, Bool, true, false, All, Any, List, [], ◌∷◌, filter, map, length, get_or, refl, sym, ◌∙◌, ap, subst, arith}
+use Rattle.std.proofs.Common.{◌≡◌, ◌≢◌, ℕ, zero, suc, None, Some, slice_get, ◌<◌, ◌≤◌, max, if◌then◌else◌, ◌++◌, true, false, All, List, [], ◌∷◌, filter, map, length, get_or, refl, sym, ◌∙◌, ap, subst, arith}
 use Rattle.std.proofs.lemmas.List.{get_or-map, length-map}
 use Rattle.gr_model.specs.declared.event.Space.{Space}
 use Rattle.gr_model.specs.declared.event.Space.TheVariants.{Global, Local}
@@ -8,7 +8,7 @@ use Rattle.gr_model.specs.declared.event.Word.{Word}
 use Rattle.gr_model.specs.declared.event.Word.TheVariants.{Global as GlobalWord, Local as LocalWord}
 use Rattle.gr_model.specs.Access.{memory_of}
 use Rattle.gr_clocks.specs.declared.clock.TheConstants.{LARGEST_COUNT}
-use Rattle.gr_clocks.specs.Counts.{Counts, count_of, greatest_count, tick_at}
+use Rattle.gr_clocks.specs.Counts.{Counts, count_of, greatest_count}
 use Rattle.gr_clocks.specs.Tables.{ClockTable, TicksItem, LearnsAndTicks}
 use Rattle.gr_clocks.specs.ItemClocks.{ItemClocks, ReleaseClock, Acquires, AreOfOneWord, AreSpent, Ticks, clocks_in, clocks_left, clocks_of, is_in}
 

@@ -1,5 +1,5 @@
 -- A clock that is made beside an item's is the one that the item then has: two clocks of one shape with the same counts are the same.
-use Rattle.std.proofs.Common.{◌≡◌, ◌≢◌, ℕ, ◌<◌, suc, Bool, List, [], ◌∷◌, map, length, set, refl, sym, ◌∙◌, ap, subst}
+use Rattle.std.proofs.Common.{◌≡◌, ℕ, ◌<◌, suc, Bool, List, [], ◌∷◌, map, length, set, refl, sym, ◌∙◌, ap, subst}
 use Rattle.std.proofs.lemmas.List.{ext_get_or}
 use Rattle.std.proofs.Math.Seq.{map-set_same}
 use Rattle.gr_model.specs.declared.event.Space.{Space}

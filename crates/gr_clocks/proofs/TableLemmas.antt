@@ -7,7 +7,7 @@ use Rattle.std.proofs.Math.Seq.{map-set_same}
 use Rattle.gr_model.specs.declared.event.ItemId.{ItemId}
 use Rattle.gr_model.specs.Shapes.{HasItem}
 use Rattle.gr_clocks.specs.declared.clock.TheConstants.{LARGEST_COUNT}
-use Rattle.gr_clocks.specs.Counts.{Counts, count_of, greatest_count, sizes_of, tick_at, IsZero, IsTick, IsJoin, IsJoinOfAll}
+use Rattle.gr_clocks.specs.Counts.{Counts, count_of, greatest_count, sizes_of, tick_at, IsZero, IsTick, IsJoinOfAll}
 use Rattle.gr_clocks.specs.Groups.{item_of, greatest, GroupClocks, no_group, with_clock, IsShared, IsGrown, IsSameGroup, IsBehind}
 use Rattle.gr_clocks.specs.Tables.{ClockTable, clock_at, group_at, table_of, AreGroups, MeetsGroup, AreZero, TicksItem, IsTickOfJoin, LearnsAndTicks}
 use Rattle.gr_clocks.proofs.RowLemmas.{row_size, row_of_item, entry_same, entry_other}

@@ -248,24 +248,23 @@ impl<A: Allocator> Clocks<A> {
         self.tick(item)
     }
 
-    /// Counts an event of the item as `access` does, and gives the item's clock in a memory, the event itself counted.
+    /// Counts an event as `access` does, of an item whose counts can grow, and gives the item's clock in a memory, the event
+    /// itself counted.
     ///
     /// # Errors
-    /// `Spent`: the item has too many events. `Memory`: out of memory. The clocks are then as they were.
+    /// `Memory`: out of memory. The clocks are then as they were.
     #[inline(always)]
     pub fn access_in(&mut self, item: ItemId, memory: Space) -> Result<Clock<A>, ClockError>
     where
         A: Clone,
-        requires { HasItem self.old.sizes item }
+        requires item { HasItem self.old.sizes item }
+        requires room { ¬ IsSpent self.old item }
         ensures ok { OnOk result (Ticks self.old item self.new) }
         ensures clock { IfOk result (λ c. c ≡ clock_in self.new memory item) }
         ensures shape { IfOk result (λ c. sizes_of c ≡ self.new.sizes) }
-        ensures spent { (result ≡ Err ClockError.Spent) ↔ IsSpent self.old item }
+        ensures memory { IsOkUnless result ClockError.Memory }
         ensures err { OnErr result (self.new ≡ self.old) }
     {
-        if self.is_spent(item) {
-            return Err(ClockError::Spent);
-        }
         let mut clock = self.clock_of(item, memory).copy()?;
         clock.raise(item)?;
         self.tick(item)?;
@@ -291,6 +290,9 @@ impl<A: Allocator> Clocks<A> {
         ensures spent { (result ≡ Err ClockError.Spent) ↔ IsSpent self.old item }
         ensures err { OnErr result (self.new ≡ self.old) }
     {
+        if self.is_spent(item) {
+            return Err(ClockError::Spent);
+        }
         let clock = self.access_in(item, memory_of(word))?;
         Ok(Snapshot::new(word, scope, clock))
     }
@@ -372,6 +374,22 @@ impl<A: Allocator> Clocks<A> {
         if self.is_group_spent(group) {
             return Err(ClockError::Spent);
         }
+        self.meet_within(group, global, local)
+    }
+
+    /// Counts a barrier as `meet` does, of a group whose items' own counts can all grow.
+    ///
+    /// # Errors
+    /// `Memory`: out of memory. The clocks are then as they were.
+    pub fn meet_within(&mut self, group: u16, global: bool, local: bool) -> Result<(), ClockError>
+    where
+        A: Clone,
+        requires there { group < length self.old.sizes }
+        requires room { ¬ IsGroupSpent self.old group }
+        ensures ok { OnOk result (MeetsClocks self.old group global local self.new) }
+        ensures memory { IsOkUnless result ClockError.Memory }
+        ensures err { OnErr result (self.new ≡ self.old) }
+    {
         let global_group = self.global.behind(group, global)?;
         let local_group = self.local.behind(group, local)?;
         self.global.put(group, global_group);

@@ -256,10 +256,7 @@ impl<A: Allocator> Known<A> {
     {
         match self.clocks.access_in(event.at, memory_of(word)) {
             Ok(clock) => Ok(clock),
-            Err(error) => match error {
-                ClockError::Memory => Err(Memory),
-                ClockError::Spent => unreachable!(),
-            },
+            Err(_) => Err(Memory),
         }
     }
 
@@ -316,12 +313,9 @@ impl<A: Allocator> Known<A> {
         ensures err { OnErr result (self.new.clocks ≡ self.old.clocks) }
     {
         let (global, local) = flags_of(order, group, instance);
-        match self.clocks.meet(group, global, local) {
+        match self.clocks.meet_within(group, global, local) {
             Ok(()) => Ok(()),
-            Err(error) => match error {
-                ClockError::Memory => Err(Memory),
-                ClockError::Spent => unreachable!(),
-            },
+            Err(_) => Err(Memory),
         }
     }
 }

@@ -1,4 +1,4 @@
-use Rattle.std.proofs.Common.{◌≡◌, ◌≢◌, true, refl, sym, ap, ◌∙◌}
+use Rattle.std.proofs.Common.{◌≡◌, true, sym, ap, ◌∙◌}
 use Rattle.gr_model.specs.Access.{memory_of}
 use Rattle.gr_clocks.proofs.ReleaseLemmas.{left_all, left_none, word_of_first}
 use Rattle.gr_clocks.proofs.clocks.are_in.Goals as goal

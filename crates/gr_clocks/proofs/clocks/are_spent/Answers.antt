@@ -1,4 +1,4 @@
-use Rattle.std.proofs.Common.{length, ap, subst, sym, arith}
+use Rattle.std.proofs.Common.{arith}
 use Rattle.std.proofs.lemmas.List.{take_all}
 use Rattle.gr_clocks.proofs.ReleaseLemmas.{none_spent}
 use Rattle.gr_clocks.proofs.clocks.are_spent.Goals as goal

@@ -1,4 +1,4 @@
-use Rattle.std.proofs.Common.{◌≡◌, ◌≢◌, ℕ, ◌<◌, slice_index_or, take, All}
+use Rattle.std.proofs.Common.{◌≢◌, take, All}
 use Rattle.gr_clocks.specs.declared.clock.TheConstants.{LARGEST_COUNT}
 use Rattle.gr_clocks.specs.Counts.{count_of}
 use Rattle.gr_clocks.proofs.clocks.are_spent.Given as goal

@@ -1,33 +1,75 @@
-use Rattle.std.proofs.Common.{◌≡◌, ◌∙◌, List, ℕ, ap, arith, get_or, subst}
-use Rattle.gr_model.specs.Streams.{Streams, size_of}
-use Rattle.gr_agenda.specs.declared.reach.Reach.TheVariants.{Item, Instance}
+use Rattle.std.proofs.Common.{◌≡◌, ◌∙◌, Some, slice_get, refl, sym, subst, true≢false}
+use Rattle.std.specs.Prelude.{IfSome}
+use Rattle.gr_lanes.specs.Instances.{HasCome}
+use Rattle.gr_model.specs.Barriers.{IsDivergent}
+use Rattle.gr_model.specs.Streams.{Streams}
+use Rattle.gr_agenda.specs.declared.reach.Reach.TheVariants.{Item, Instance, Mark}
 use Rattle.gr_agenda.specs.Reaches.{IsReach}
-use Rattle.gr_agenda.proofs.UndivergedLemmas.{undiverged_following, undiverged_plain, undiverged_wide}
-use Rattle.gr_agenda.proofs.KeptLemmas.{took_following, took_plain, took_wide}
+use Rattle.gr_agenda.proofs.UndivergedLemmas.{has_come, undiverged_following, undiverged_more, undiverged_plain, undiverged_wide}
+use Rattle.gr_agenda.proofs.KeptLemmas.{took_following, took_plain, took_undiverged, took_wide}
 use Rattle.gr_agenda.proofs.agenda.Agenda.take.Goals as goal
+
+pub is_divergent-requires-clause-come : goal.is_divergent-requires-clause-come
+is_divergent-requires-clause-come g c =
+    let q = c.self.inside.order in
+    let barrier : IsReach q.taken c.args.group c.args.event (Mark c.in-Mark.instance) = subst (IsReach q.taken c.args.group c.args.event) c.in-Mark.is (subst (λ (s : Streams). IsReach s c.args.group c.args.event c.reach_of-reach.result) c.lanes-taken.ensures.taken c.reach_of-reach.ensures) in
+    subst (λ (s : Streams). HasCome s c.args.group c.in-Mark.instance c.args.event) (sym c.lanes.ensures.taken)
+    (has_come q c.take.new.self c.lanes-taken.ensures.sequence c.args.group c.args.event c.in_ok-take.ensures.ok.0 c.in_ok-take.ensures.ok.1 c.self.inside.undiverged.items c.self.invariant.1 barrier.0 c.in-Mark.instance barrier.1)
 
 pub invariant_of-self-in-Item : goal.invariant_of-self-in-Item
 invariant_of-self-in-Item g c =
     let q = c.self.inside.order in
-    let reach : IsReach q.taken c.args.group c.args.event Item = subst (IsReach q.taken c.args.group c.args.event) c.in-Item.is (subst (λ (s : Streams). IsReach s c.args.group c.args.event c.reach_of-reach.result) c.lanes-taken.ensures.taken c.reach_of-reach.ensures) in (
+    let plain : IsReach q.taken c.args.group c.args.event Item = subst (IsReach q.taken c.args.group c.args.event) c.in-Item.is (subst (λ (s : Streams). IsReach s c.args.group c.args.event c.reach_of-reach.result) c.lanes-taken.ensures.taken c.reach_of-reach.ensures) in (
       took_plain q c.self.inside.worklist c.put.new.self c.self.inside.waiting.items c.self.invariant.0 c.put.ensures.keeps c.args.group c.args.event
-          c.lanes-taken.ensures.sequence c.in_ok-take.ensures.ok.0 c.take.new.self c.in_ok-take.ensures.ok.1 reach.0 reach.1 c.put.ensures.there,
-      undiverged_plain q c.take.new.self c.lanes-taken.ensures.sequence c.args.group c.args.event c.in_ok-take.ensures.ok.0 c.in_ok-take.ensures.ok.1 c.self.inside.undiverged.items c.self.invariant.1 reach.0 reach.1,
+          c.lanes-taken.ensures.sequence c.in_ok-take.ensures.ok.0 c.take.new.self c.in_ok-take.ensures.ok.1 plain.0 plain.1 c.put.ensures.there,
+      undiverged_plain q c.take.new.self c.lanes-taken.ensures.sequence c.args.group c.args.event c.in_ok-take.ensures.ok.0 c.in_ok-take.ensures.ok.1 c.self.inside.undiverged.items c.self.invariant.1 plain.0 plain.1,
     )
 
-pub invariant_of-self-in-Instance : goal.invariant_of-self-in-Instance
-invariant_of-self-in-Instance g c =
+pub invariant_of-self-then-not-is_number : goal.invariant_of-self-then-not-is_number
+invariant_of-self-then-not-is_number g c =
     let q = c.self.inside.order in
-    let reach : IsReach q.taken c.args.group c.args.event Instance = subst (IsReach q.taken c.args.group c.args.event) c.in-Instance.is (subst (λ (s : Streams). IsReach s c.args.group c.args.event c.reach_of-reach.result) c.lanes-taken.ensures.taken c.reach_of-reach.ensures) in (
-      took_following q c.self.inside.worklist c.put-in-Instance-2.new.self c.self.inside.waiting.items c.self.invariant.0 (λ r has. c.put-in-Instance-2.ensures.keeps r (c.put-in-Instance.ensures.keeps r has)) c.args.group c.args.event
-          c.lanes-taken.ensures.sequence c.in_ok-take.ensures.ok.0 c.take.new.self c.in_ok-take.ensures.ok.1 reach (c.put-in-Instance-2.ensures.keeps _ c.put-in-Instance.ensures.there) c.put-in-Instance-2.ensures.there,
-      undiverged_following q c.take.new.self c.lanes-taken.ensures.sequence c.args.group c.args.event c.in_ok-take.ensures.ok.0 c.in_ok-take.ensures.ok.1 c.self.inside.undiverged.items c.self.invariant.1 reach,
+    let follows : IsReach q.taken c.args.group c.args.event (Instance c.in-Instance.instance) = subst (IsReach q.taken c.args.group c.args.event) c.in-Instance.is (subst (λ (s : Streams). IsReach s c.args.group c.args.event c.reach_of-reach.result) c.lanes-taken.ensures.taken c.reach_of-reach.ensures) in (
+      took_following q c.self.inside.worklist c.put-then-not-is_number.new.self c.self.inside.waiting.items c.self.invariant.0 (λ r has. c.put-then-not-is_number.ensures.keeps r (c.put-in-Instance.ensures.keeps r has)) c.args.group c.args.event
+          c.lanes-taken.ensures.sequence c.in_ok-take.ensures.ok.0 c.take.new.self c.in_ok-take.ensures.ok.1 follows.0 (c.put-then-not-is_number.ensures.keeps _ c.put-in-Instance.ensures.there) c.put-then-not-is_number.ensures.there,
+      undiverged_following q c.take.new.self c.lanes-taken.ensures.sequence c.args.group c.args.event c.in_ok-take.ensures.ok.0 c.in_ok-take.ensures.ok.1 c.self.inside.undiverged.items c.self.invariant.1 follows.0,
+    )
+
+pub invariant_of-self-else-not-is_number : goal.invariant_of-self-else-not-is_number
+invariant_of-self-else-not-is_number g c =
+    let q = c.self.inside.order in
+    let q2 = c.take.new.self in
+    let n = c.args.group in
+    let undiverged = c.self.inside.undiverged.items in
+    let follows : IsReach q.taken n c.args.event (Instance c.in-Instance.instance) = subst (IsReach q.taken n c.args.event) c.in-Instance.is (subst (λ (s : Streams). IsReach s n c.args.event c.reach_of-reach.result) c.lanes-taken.ensures.taken c.reach_of-reach.ensures) in
+    let still = undiverged_following q q2 c.lanes-taken.ensures.sequence n c.args.event c.in_ok-take.ensures.ok.0 c.in_ok-take.ensures.ok.1 undiverged c.self.invariant.1 follows.0 in
+    let told = subst (λ o. IfSome o (λ k. slice_get undiverged n ≡ Some (Some k))) (c.if-not-is_number.ensures refl) (subst (λ us. IfSome c.undiverged_of.result (λ k. slice_get us n ≡ Some (Some k))) c.deref.ensures.value c.undiverged_of.ensures) in (
+      took_undiverged q c.self.inside.worklist c.put-in-Instance.new.self c.self.inside.waiting.items c.self.invariant.0 c.put-in-Instance.ensures.keeps n c.args.event
+          c.lanes-taken.ensures.sequence c.in_ok-take.ensures.ok.0 q2 c.in_ok-take.ensures.ok.1 follows.0.barrier c.take.ensures.sequence.prefixes (subst (λ k. ¬ IsDivergent q2.taken n k) follows.1 (still n c.in-Instance.instance told)) c.put-in-Instance.ensures.there,
+      still,
+    )
+
+pub invariant_of-self-then-is_divergent : goal.invariant_of-self-then-is_divergent
+invariant_of-self-then-is_divergent g c = (
+  took_wide c.self.inside.order c.self.inside.worklist c.wake_group.new.worklist c.self.inside.waiting.items c.self.invariant.0 c.wake_group.ensures.keeps c.args.group c.args.event
+      c.lanes-taken.ensures.sequence c.in_ok-take.ensures.ok.0 c.take.new.self c.in_ok-take.ensures.ok.1 c.wake_group.ensures.group c.take.ensures.sequence.prefixes c.wake_group.ensures.items,
+  undiverged_wide c.self.inside.order c.take.new.self c.lanes-taken.ensures.sequence c.args.group c.args.event c.in_ok-take.ensures.ok.0 c.in_ok-take.ensures.ok.1 c.self.inside.undiverged.items c.self.invariant.1 c.wake_group.new.undiverged.items c.wake_group.ensures.forgotten,
+)
+
+pub invariant_of-self-else-is_divergent : goal.invariant_of-self-else-is_divergent
+invariant_of-self-else-is_divergent g c =
+    let q = c.self.inside.order in
+    let q2 = c.take.new.self in
+    let n = c.args.group in
+    let barrier : IsReach q.taken n c.args.event (Mark c.in-Mark.instance) = subst (IsReach q.taken n c.args.event) c.in-Mark.is (subst (λ (s : Streams). IsReach s n c.args.event c.reach_of-reach.result) c.lanes-taken.ensures.taken c.reach_of-reach.ensures) in
+    let still : ¬ IsDivergent q2.taken n c.in-Mark.instance = λ divergent. true≢false (sym (c.is_divergent.ensures.1 (subst (λ (s : Streams). IsDivergent s n c.in-Mark.instance) (sym c.lanes.ensures.taken) divergent)) ∙ c.if-is_divergent.false) in (
+      took_undiverged q c.self.inside.worklist c.put-else-is_divergent.new.self c.self.inside.waiting.items c.self.invariant.0 c.put-else-is_divergent.ensures.keeps n c.args.event
+          c.lanes-taken.ensures.sequence c.in_ok-take.ensures.ok.0 q2 c.in_ok-take.ensures.ok.1 barrier.0 c.take.ensures.sequence.prefixes (subst (λ k. ¬ IsDivergent q2.taken n k) barrier.1 still) c.put-else-is_divergent.ensures.there,
+      undiverged_more q q2 c.lanes-taken.ensures.sequence n c.args.event c.in_ok-take.ensures.ok.0 c.in_ok-take.ensures.ok.1 c.self.inside.undiverged.items c.self.invariant.1 c.in-Mark.instance still c.tell_undiverged.new.undiverged.items c.tell_undiverged.ensures,
     )
 
 pub invariant_of-self-in-Group : goal.invariant_of-self-in-Group
-invariant_of-self-in-Group g c =
-    let size : c.items.result ≡ size_of c.take.new.self.taken c.args.group = c.items.ensures.size ∙ ap (λ (l : List ℕ). get_or l c.args.group 0) (c.shape.ensures.sizes ∙ ap (λ (s : Streams). s.sizes) c.lanes.ensures.taken) in (
-      took_wide c.self.inside.order c.self.inside.worklist c.put-in-Group.new.self c.self.inside.waiting.items c.self.invariant.0 (λ r has. c.put-in-Group.ensures.keeps r (c.put_items.ensures.keeps r has)) c.args.group c.args.event
-          c.lanes-taken.ensures.sequence c.in_ok-take.ensures.ok.0 c.take.new.self c.in_ok-take.ensures.ok.1 c.put-in-Group.ensures.there c.take.ensures.sequence.prefixes (λ i lt. c.put-in-Group.ensures.keeps _ (c.put_items.ensures.there i (omega (arith, lt, size)))),
-      undiverged_wide c.self.inside.order c.take.new.self c.lanes-taken.ensures.sequence c.args.group c.args.event c.in_ok-take.ensures.ok.0 c.in_ok-take.ensures.ok.1 c.self.inside.undiverged.items c.self.invariant.1 c.forget_undiverged.new.undiverged.items c.forget_undiverged.ensures,
-    )
+invariant_of-self-in-Group g c = (
+  took_wide c.self.inside.order c.self.inside.worklist c.wake_group-in-Group.new.worklist c.self.inside.waiting.items c.self.invariant.0 c.wake_group-in-Group.ensures.keeps c.args.group c.args.event
+      c.lanes-taken.ensures.sequence c.in_ok-take.ensures.ok.0 c.take.new.self c.in_ok-take.ensures.ok.1 c.wake_group-in-Group.ensures.group c.take.ensures.sequence.prefixes c.wake_group-in-Group.ensures.items,
+  undiverged_wide c.self.inside.order c.take.new.self c.lanes-taken.ensures.sequence c.args.group c.args.event c.in_ok-take.ensures.ok.0 c.in_ok-take.ensures.ok.1 c.self.inside.undiverged.items c.self.invariant.1 c.wake_group-in-Group.new.undiverged.items c.wake_group-in-Group.ensures.forgotten,
+)

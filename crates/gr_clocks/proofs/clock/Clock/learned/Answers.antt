@@ -1,5 +1,3 @@
-use Rattle.std.proofs.Common.{sym, ap, subst}
-use Rattle.gr_clocks.specs.Counts.{IsJoin}
 use Rattle.gr_clocks.proofs.JoinLemmas.{joined_more}
 use Rattle.gr_clocks.proofs.clock.Clock.learned.Goals as goal
 

@@ -1,5 +1,4 @@
-use Rattle.std.proofs.Common.{subst, sym}
-use Rattle.gr_clocks.proofs.TableLemmas.{join_has_room, tick_of_join}
+use Rattle.gr_clocks.proofs.TableLemmas.{join_has_room}
 use Rattle.gr_clocks.proofs.table.Table.learned.Goals as goal
 
 pub raise-requires-clause-room : goal.raise-requires-clause-room

@@ -1,17 +1,14 @@
-use Rattle.std.proofs.Common.{◌≡◌, ◌∙◌, ℕ, ◌<◌, true, length, map, ap, subst, sym}
+use Rattle.std.proofs.Common.{◌∙◌, ℕ, ◌<◌, length, map, ap, subst, sym}
 use Rattle.std.proofs.lemmas.List.{length-map}
 use Rattle.gr_model.specs.declared.event.Space.TheVariants.{Local}
 use Rattle.gr_clocks.specs.ItemClocks.{ItemClocks, clocks_in}
 use Rattle.gr_clocks.specs.Tables.{IsGroupFull, group_at}
 use Rattle.gr_clocks.proofs.TableLemmas.{behind_same}
 use Rattle.gr_clocks.proofs.StepLemmas.{meets, of_one_shape}
-use Rattle.gr_clocks.proofs.clocks.Clocks.meet.Goals as goal
+use Rattle.gr_clocks.proofs.clocks.Clocks.meet_within.Goals as goal
 
 pub behind-requires-2-clause-free : goal.behind-requires-2-clause-free
-behind-requires-2-clause-free g c full =
-    let spent : c.is_group_spent.result ≡ true = c.is_group_spent.ensures.1 (Local, subst (λ (v : ItemClocks). IsGroupFull (clocks_in v Local) c.args.group) c.self.view_is full) in
-    let not_spent = c.if-is_group_spent.false in
-    absurd (cc)
+behind-requires-2-clause-free g c full = c.requires.room (Local, subst (λ (v : ItemClocks). IsGroupFull (clocks_in v Local) c.args.group) c.self.view_is full)
 
 pub put-requires-clause-same : goal.put-requires-clause-same
 put-requires-clause-same g c = behind_same (group_at c.self.inside.global c.args.group) c.args.global c.in_ok-global_group.global_group c.in_ok-global_group.ensures.behind
@@ -27,7 +24,7 @@ invariant_of-self g c =
 
 pub returns-clause-ok : goal.returns-clause-ok
 returns-clause-ok g c =
-    let sizes : c.args.group < length (map length c.self.inside.global) = subst (λ (v : ItemClocks). c.args.group < length v.sizes) (sym c.self.view_is) c.requires in
+    let sizes : c.args.group < length (map length c.self.inside.global) = subst (λ (v : ItemClocks). c.args.group < length v.sizes) (sym c.self.view_is) c.requires.there in
     let there : c.args.group < length c.self.inside.global = subst (λ (n : ℕ). c.args.group < n) (length-map c.self.inside.global length) sizes in
     let local_there : c.args.group < length c.self.inside.local = subst (λ (n : ℕ). c.args.group < n) (ap length (sym c.self.invariant.same) ∙ length-map c.self.inside.local length) sizes in
     rw (← c.self.view_is) (meets c.args.group c.args.global c.args.local c.self.inside.global c.self.inside.local c.put.new.self c.put-2.new.self c.in_ok-global_group.global_group c.in_ok-local_group.local_group there local_there c.in_ok-global_group.ensures.behind c.put.ensures c.in_ok-local_group.ensures.behind c.put-2.ensures)

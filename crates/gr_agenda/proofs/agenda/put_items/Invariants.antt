@@ -1,7 +1,0 @@
-use Rattle.std.proofs.Common.{◌<◌, ℕ}
-use Rattle.gr_order.specs.declared.steps.Ready.TheVariants.{Item}
-use Rattle.gr_agenda.specs.Lists.{Has, KeepsSteps}
-use Rattle.gr_agenda.proofs.agenda.put_items.Given as goal
-
-abbrev pub invariant-loop-item : goal.invariant-loop-item
-invariant-loop-item g l = ((k : ℕ) → k < l.item → Has l.worklist (Item (record { group = l.group; item = k }))) × KeepsSteps l.fn.worklist l.worklist
