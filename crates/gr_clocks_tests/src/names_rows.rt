@@ -84,26 +84,57 @@ fn acquire<A: Allocator + Copy>(
     clocks.acquire(item(place), snapshots).is_ok() && stay
 }
 
-/// Items 0 and 1 each release the word, item 1 after a release of another one. Item 2 acquires the first release, both,
-/// and none: its counts behind each.
+/// Items 0 and 1 each release the word, item 1 after a release of another one. The snapshots of the two.
+fn releases<A: Allocator + Copy>(
+    clocks: &mut Clocks<A>,
+    word: Word,
+) -> Option<(Snapshot<A>, Snapshot<A>)>
+    requires { clocks.old.sizes ≡ 3 ∷ [] }
+    ensures sizes { clocks.new.sizes ≡ 3 ∷ [] }
+    ensures shapes { IfSome result (λ both. (sizes_of both.0.clock ≡ 3 ∷ []) × (sizes_of both.1.clock ≡ 3 ∷ [])) }
+    ensures word { IfSome result (λ both. (both.0.word ≡ word) × (both.1.word ≡ word)) }
+{
+    let first = release(clocks, 0, word)?;
+    let _other = release(clocks, 1, Word::Global(28))?;
+    let second = release(clocks, 1, word)?;
+    Some((first, second))
+}
+
+/// Item 2 acquires the first release, both, and none: its counts behind each.
+fn acquires<A: Allocator + Copy>(
+    clocks: &mut Clocks<A>,
+    first: &Snapshot<A>,
+    second: &Snapshot<A>,
+) -> Option<[Counts; 3]>
+    requires sizes { clocks.old.sizes ≡ 3 ∷ [] }
+    requires shapes { (sizes_of first.now.clock ≡ 3 ∷ []) × (sizes_of second.now.clock ≡ 3 ∷ []) }
+    requires word { first.now.word ≡ second.now.word }
+{
+    let one = acquire(clocks, 2, &[first]);
+    let of_one = known(clocks, 2);
+    let both = acquire(clocks, 2, &[first, second]);
+    let of_both = known(clocks, 2);
+    let none = acquire(clocks, 2, &[]);
+    let all = one && both && none;
+    all.then_some([of_one, of_both, known(clocks, 2)])
+}
+
+/// The counts of item 2 behind acquires of the releases of items 0 and 1.
+fn acquires_of_releases<A: Allocator + Copy>(
+    clocks: &mut Clocks<A>,
+    word: Word,
+) -> Option<[Counts; 3]>
+    requires { clocks.old.sizes ≡ 3 ∷ [] }
+{
+    let (first, second) = releases(clocks, word)?;
+    acquires(clocks, &first, &second)
+}
+
+/// The same of new clocks.
 fn acquires_of_two_releases<A: Allocator + Copy>(alloc: A, word: Word) -> Option<[Counts; 3]> {
     let shape = three_items(alloc)?;
     let mut clocks = new_clocks(alloc, &shape)?;
-    let first = release(&mut clocks, 0, word)?;
-    let _other = release(&mut clocks, 1, Word::Global(28))?;
-    let second = release(&mut clocks, 1, word)?;
-    if !acquire(&mut clocks, 2, &[&first]) {
-        return None;
-    }
-    let of_one = known(&clocks, 2);
-    if !acquire(&mut clocks, 2, &[&first, &second]) {
-        return None;
-    }
-    let of_both = known(&clocks, 2);
-    if !acquire(&mut clocks, 2, &[]) {
-        return None;
-    }
-    Some([of_one, of_both, known(&clocks, 2)])
+    acquires_of_releases(&mut clocks, word)
 }
 
 static GLOBAL: [Counts; 3] = [
