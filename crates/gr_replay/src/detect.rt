@@ -5,7 +5,7 @@ ghost use Rattle.std.specs.List.{sum_by};
 ghost use Rattle.gr_model.specs.RacePairs.{ArePairedRaces};
 ghost use Rattle.gr_model.specs.Reports.{IsReportOf};
 ghost use Rattle.gr_model.specs.Streams.{AreAccepted, ArePrefixes};
-ghost use Rattle.gr_order.specs.Sequences.{IsDone, IsSequence};
+ghost use Rattle.gr_order.specs.Sequences.{IsDone, IsSequence, nothing};
 ghost use Rattle.gr_replay.specs.Launch.{streams_of};
 ghost use Rattle.gr_replay.specs.Sequencing.{AreShadowsOf};
 ghost use Rattle.gr_report.specs.Whole.{whole_of};
@@ -77,23 +77,32 @@ pub struct Detection<A: Allocator = Global> {
     pub races: Vec<Race, A>,
 }
 
-/// A sequencer that took all records of a launch and handled all that can be handled, and the shadows of the accesses.
+/// A sequencer of a launch of this shape, of which nothing was taken.
 ///
 /// # Errors
 /// `Memory`: out of memory.
-fn handled<A: Allocator + Copy>(
-    alloc: A,
-    traces: &Traces<A>,
-) -> Result<(Sequencer<A>, Shadows<A>), Memory>
-    ensures taken { IfOk result (λ run. run.0.taken ≡ traces.now) }
-    ensures done { IfOk result (λ run. IsDone run.0) }
-    ensures sequence { IfOk result (λ run. IsSequence run.0) }
-    ensures shadows { IfOk result (λ run. AreShadowsOf run.0 run.1) }
+fn new_sequencer<A: Allocator + Copy>(alloc: A, shape: &Shape<A>) -> Result<Sequencer<A>, Memory>
+    ensures { IfOk result (λ s. s ≡ nothing shape.now) }
 {
-    let mut sequencer = Sequencer::new(alloc, traces.shape().copy()?)?;
-    let mut shadows = Shadows::new(alloc);
-    take_traces(&mut sequencer, &mut shadows, traces)?;
-    Ok((sequencer, shadows))
+    let shape = shape.copy()?;
+    Sequencer::new(alloc, shape)
+}
+
+/// The report of a launch, by a sequencer that has taken nothing of it, and shadows without accesses.
+///
+/// # Errors
+/// `Memory`: out of memory.
+fn report_by<A: Allocator + Copy>(
+    sequencer: &mut Sequencer<A>,
+    shadows: &mut Shadows<A>,
+    traces: &Traces<A>,
+) -> Result<Report<A>, Memory>
+    requires nothing { sequencer.old ≡ nothing traces.now.sizes }
+    requires shadows { AreShadowsOf sequencer.old shadows.old }
+    ensures { IfOk result (λ report. IsReportOf traces.now (whole_of report)) }
+{
+    take_traces(sequencer, shadows, traces)?;
+    report_of(sequencer, shadows, traces.shape())
 }
 
 /// The report of a launch.
@@ -103,8 +112,9 @@ fn handled<A: Allocator + Copy>(
 pub fn detect<A: Allocator + Copy>(alloc: A, traces: &Traces<A>) -> Result<Report<A>, Memory>
     ensures { IfOk result (λ report. IsReportOf traces.now (whole_of report)) }
 {
-    let (sequencer, shadows) = handled(alloc, traces)?;
-    report_of(&sequencer, &shadows, traces.shape())
+    let mut sequencer = new_sequencer(alloc, traces.shape())?;
+    let mut shadows = Shadows::new(alloc);
+    report_by(&mut sequencer, &mut shadows, traces)
 }
 
 /// What is found of a launch of this shape, of which all was taken and all was handled that can be.
@@ -129,6 +139,25 @@ fn detection_of<A: Allocator + Copy>(
     Ok(Detection { report, races })
 }
 
+/// What is found of a launch, by a sequencer that has taken nothing of it, and shadows without accesses.
+///
+/// # Errors
+/// `Memory`: out of memory.
+fn detection_by<A: Allocator + Copy>(
+    alloc: A,
+    sequencer: &mut Sequencer<A>,
+    shadows: &mut Shadows<A>,
+    traces: &Traces<A>,
+) -> Result<Detection<A>, Memory>
+    requires nothing { sequencer.old ≡ nothing traces.now.sizes }
+    requires shadows { AreShadowsOf sequencer.old shadows.old }
+    ensures report { IfOk result (λ found. IsReportOf traces.now (whole_of found.report)) }
+    ensures races { IfOk result (λ found. ArePairedRaces traces.now found.races.items) }
+{
+    take_traces(sequencer, shadows, traces)?;
+    detection_of(alloc, sequencer, shadows, traces.shape())
+}
+
 /// The report of a launch, and of each racy word two events that race on it.
 ///
 /// # Errors
@@ -140,29 +169,28 @@ pub fn detect_races<A: Allocator + Copy>(
     ensures report { IfOk result (λ found. IsReportOf traces.now (whole_of found.report)) }
     ensures races { IfOk result (λ found. ArePairedRaces traces.now found.races.items) }
 {
-    let (sequencer, shadows) = handled(alloc, traces)?;
-    detection_of(alloc, &sequencer, &shadows, traces.shape())
+    let mut sequencer = new_sequencer(alloc, traces.shape())?;
+    let mut shadows = Shadows::new(alloc);
+    detection_by(alloc, &mut sequencer, &mut shadows, traces)
 }
 
-/// A sequencer that took all records of the launch that streams are of and handled all that can be handled, and the shadows
-/// of the accesses.
+/// The report of the launch that streams are of, by a sequencer that has taken nothing of it, and shadows without accesses.
 ///
 /// # Errors
 /// `Memory`: out of memory.
-fn streamed<A: Allocator + Copy>(
+fn report_of_streams_by<A: Allocator + Copy>(
     alloc: A,
+    sequencer: &mut Sequencer<A>,
+    shadows: &mut Shadows<A>,
     launch: &Launch<'_, A>,
-) -> Result<(Sequencer<A>, Shadows<A>), Memory>
-    requires { AreAccepted (streams_of launch.now) }
-    ensures taken { IfOk result (λ run. run.0.taken ≡ streams_of launch.now) }
-    ensures done { IfOk result (λ run. IsDone run.0) }
-    ensures sequence { IfOk result (λ run. IsSequence run.0) }
-    ensures shadows { IfOk result (λ run. AreShadowsOf run.0 run.1) }
+) -> Result<Report<A>, Memory>
+    requires accepted { AreAccepted (streams_of launch.now) }
+    requires nothing { sequencer.old ≡ nothing launch.now.shape }
+    requires shadows { AreShadowsOf sequencer.old shadows.old }
+    ensures { IfOk result (λ report. IsReportOf (streams_of launch.now) (whole_of report)) }
 {
-    let mut sequencer = Sequencer::new(alloc, launch.shape.copy()?)?;
-    let mut shadows = Shadows::new(alloc);
-    take_streams(alloc, &mut sequencer, &mut shadows, launch)?;
-    Ok((sequencer, shadows))
+    take_streams(alloc, sequencer, shadows, launch)?;
+    report_of(sequencer, shadows, &launch.shape)
 }
 
 /// The report of the launch that streams are of.
@@ -176,6 +204,7 @@ pub(crate) fn detect_streams<A: Allocator + Copy>(
     requires { AreAccepted (streams_of launch.now) }
     ensures { IfOk result (λ report. IsReportOf (streams_of launch.now) (whole_of report)) }
 {
-    let (sequencer, shadows) = streamed(alloc, launch)?;
-    report_of(&sequencer, &shadows, &launch.shape)
+    let mut sequencer = new_sequencer(alloc, &launch.shape)?;
+    let mut shadows = Shadows::new(alloc);
+    report_of_streams_by(alloc, &mut sequencer, &mut shadows, launch)
 }

@@ -3,6 +3,7 @@
 use crate::bytes::*;
 use gr_model::memory::Memory;
 use gr_model::shape::ShapeError;
+use gr_model::traces::Traces;
 use gr_record::error::RecordError;
 use gr_record::fault::Fault;
 use gr_replay::{read_each, read_joined};
@@ -112,6 +113,30 @@ const LAUNCHES: [&[&[&[u8]]]; 2] = [
     ],
 ];
 
+/// Whether these are two groups of two records each, and those of the other.
+fn are_same(traces: &Traces, due: &Traces) -> bool {
+    let groups = traces.shape().groups() == 2 && due.shape().groups() == 2;
+    groups
+        && traces.list(0).len() == 2
+        && traces.list(1).len() == 2
+        && traces.list(0) == due.list(0)
+        && traces.list(1) == due.list(1)
+}
+
+/// Whether inputs give these traces.
+fn give(alloc: Global, inputs: &[Vec<u8>], due: &Traces) -> Option<bool> {
+    let readers = readers_of(alloc, inputs).ok()?;
+    let traces = read_each(alloc, readers).ok()?;
+    Some(are_same(&traces, due))
+}
+
+/// Whether inputs give what the same streams give joined.
+fn give_what_is_joined(alloc: Global, inputs: &[Vec<u8>], whole: &[u8]) -> Option<bool> {
+    let mut reader = whole;
+    let due = read_joined(alloc, &mut reader).ok()?;
+    give(alloc, inputs, &due)
+}
+
 #[test]
 fn inputs_give_what_they_give_joined(rt: HostRuntime) -> Result<(), Fail> {
     let whole = joined(
@@ -125,21 +150,12 @@ fn inputs_give_what_they_give_joined(rt: HostRuntime) -> Result<(), Fail> {
             &END_CUT,
         ],
     )?;
-    let Ok(due) = read_joined(rt.alloc(), &mut whole.as_slice()) else {
-        return Err("the joined streams are a launch")?;
-    };
     for inputs in LAUNCHES {
         let inputs = inputs_of(rt.alloc(), inputs)?;
-        let readers = readers_of(rt.alloc(), inputs.as_slice())?;
-        let Ok(traces) = read_each(rt.alloc(), readers) else {
-            return Err("the inputs are a launch")?;
-        };
-        assert_eq!(rt; traces.shape().groups(), 2);
-        assert_eq!(rt; due.shape().groups(), 2);
-        for group in 0..2 {
-            assert!(rt; traces.list(group) == due.list(group), "group {group}");
-            assert_eq!(rt; traces.list(group).len(), 2);
-        }
+        assert_eq!(rt;
+            give_what_is_joined(rt.alloc(), &inputs, &whole),
+            Some(true)
+        );
     }
     Ok(())
 }

@@ -21,28 +21,42 @@ fn race(alloc: Global) -> Result<Vec<u8>, AllocError> {
     joined(alloc, &[&HEADER_0_2, &WRITE_0, &READ_1, &END])
 }
 
+/// The fault of a reader that fails after so many calls, if it is told of one, and what is written.
+fn after_calls(alloc: Global, bytes: &[u8], calls: usize) -> (Option<Fault>, Vec<u8>) {
+    let mut reader = FailingReader { bytes, calls };
+    let mut text = Vec::new(alloc);
+    let fault = replay(alloc, &mut reader, &mut text).err();
+    (fault, text)
+}
+
 #[test]
 fn a_reader_that_fails_is_a_read_fault(rt: HostRuntime) -> Result<(), Fail> {
     let bytes = race(rt.alloc())?;
     for calls in 0..73 {
-        let mut reader = FailingReader {
-            bytes: &bytes,
-            calls,
-        };
-        let mut text = Vec::new(rt.alloc());
-        let answer = replay(rt.alloc(), &mut reader, &mut text);
-        assert_eq!(rt; answer.err(), Some(Fault::Read), "after {calls} calls");
-        assert!(rt; text.is_empty(), "after {calls} calls");
+        let (fault, text) = after_calls(rt.alloc(), &bytes, calls);
+        assert!(rt;
+            fault == Some(Fault::Read) && text.is_empty(),
+            "after {calls} calls"
+        );
     }
-    let mut reader = FailingReader {
-        bytes: &bytes,
-        calls: 73,
-    };
-    let mut text = Vec::new(rt.alloc());
-    let answer = replay(rt.alloc(), &mut reader, &mut text);
-    assert!(rt; answer.is_ok(), "a reader that gives its end");
-    assert_eq!(rt; text.as_slice(), TEXT.as_bytes());
+    let (fault, text) = after_calls(rt.alloc(), &bytes, 73);
+    assert!(rt;
+        fault.is_none() && text.as_slice() == TEXT.as_bytes(),
+        "a reader that gives its end"
+    );
     Ok(())
+}
+
+/// The fault of a writer with so much room, whose flush may fail, and what it takes.
+fn with_room(alloc: Global, bytes: &[u8], room: usize, flushes: bool) -> (Option<Fault>, Vec<u8>) {
+    let mut writer = FailingWriter {
+        taken: Vec::new(alloc),
+        room,
+        flushes,
+    };
+    let mut reader = bytes;
+    let fault = replay(alloc, &mut reader, &mut writer).err();
+    (fault, writer.taken)
 }
 
 #[test]
@@ -50,26 +64,18 @@ fn a_writer_that_fails_has_a_prefix_of_the_text(rt: HostRuntime) -> Result<(), F
     let bytes = race(rt.alloc())?;
     assert_eq!(rt; TEXT.len(), 93);
     for room in 0..93 {
-        let mut writer = FailingWriter {
-            taken: Vec::new(rt.alloc()),
-            room,
-            flushes: true,
-        };
-        let answer = replay(rt.alloc(), &mut bytes.as_slice(), &mut writer);
-        assert_eq!(rt; answer.err(), Some(Fault::Write), "after {room} bytes");
+        let (fault, taken) = with_room(rt.alloc(), &bytes, room, true);
+        assert_eq!(rt; fault, Some(Fault::Write), "after {room} bytes");
         assert!(rt;
-            writer.taken.len() == room && TEXT.as_bytes().starts_with(&writer.taken),
+            taken.len() == room && TEXT.as_bytes().starts_with(&taken),
             "after {room} bytes"
         );
     }
-    let mut writer = FailingWriter {
-        taken: Vec::new(rt.alloc()),
-        room: 93,
-        flushes: false,
-    };
-    let answer = replay(rt.alloc(), &mut bytes.as_slice(), &mut writer);
-    assert_eq!(rt; answer.err(), Some(Fault::Write), "a flush that fails");
-    assert_eq!(rt; writer.taken.as_slice(), TEXT.as_bytes());
+    let (fault, taken) = with_room(rt.alloc(), &bytes, 93, false);
+    assert!(rt;
+        fault == Some(Fault::Write) && taken.as_slice() == TEXT.as_bytes(),
+        "a flush that fails"
+    );
     Ok(())
 }
 
@@ -104,16 +110,10 @@ pub(crate) fn first_wrong_growth(alloc: Global, bytes: &[u8], lines: &str) -> Op
     Some(10_000)
 }
 
-#[test]
-fn each_refused_growth_is_want_of_memory(rt: HostRuntime) -> Result<(), Fail> {
-    let bytes = race(rt.alloc())?;
-    assert_eq!(rt;
-        first_wrong_growth(rt.alloc(), &bytes, TEXT),
-        None,
-        "a race"
-    );
-    let bytes = joined(
-        rt.alloc(),
+/// A launch with barriers and names.
+fn ordered(alloc: Global) -> Result<Vec<u8>, AllocError> {
+    joined(
+        alloc,
         &[
             &HEADER_0_2,
             &WRITE_0,
@@ -126,20 +126,26 @@ fn each_refused_growth_is_want_of_memory(rt: HostRuntime) -> Result<(), Fail> {
             &READ_1,
             &END,
         ],
-    )?;
-    assert_eq!(rt;
-        first_wrong_growth(rt.alloc(), &bytes, ORDERED_TEXT),
-        None,
-        "barriers and names"
-    );
+    )
+}
+
+/// The number of the growth of a launch of these pieces at which the answer is wrong, if there is one.
+fn first_wrong_of(alloc: Global, pieces: &[&[u8]], lines: &str) -> Result<Option<u64>, AllocError> {
+    let bytes = joined(alloc, pieces)?;
+    let text = format!(in alloc; "gpurace 1\n{lines}")?;
+    Ok(first_wrong_growth(alloc, &bytes, &text))
+}
+
+#[test]
+fn each_refused_growth_is_want_of_memory(rt: HostRuntime) -> Result<(), Fail> {
+    let bytes = race(rt.alloc())?;
+    let wrong = first_wrong_growth(rt.alloc(), &bytes, TEXT);
+    assert_eq!(rt; wrong, None, "a race");
+    let bytes = ordered(rt.alloc())?;
+    let wrong = first_wrong_growth(rt.alloc(), &bytes, ORDERED_TEXT);
+    assert_eq!(rt; wrong, None, "barriers and names");
     for &(name, pieces, lines) in &CASES {
-        let bytes = joined(rt.alloc(), pieces)?;
-        let text = format!(in rt.alloc(); "gpurace 1\n{lines}")?;
-        assert_eq!(rt;
-            first_wrong_growth(rt.alloc(), &bytes, &text),
-            None,
-            "{name}"
-        );
+        assert_eq!(rt; first_wrong_of(rt.alloc(), pieces, lines)?, None, "{name}");
     }
     Ok(())
 }

@@ -1,6 +1,7 @@
 //! Launches that are large, a reader and a writer that go byte by byte, and flushes.
 
 use crate::bytes::{END, joined};
+use gr_model::traces::Traces;
 use gr_replay::detect::{detect, detect_races};
 use gr_replay::{read_joined, replay};
 use refusing::failing::FailingReader;
@@ -124,14 +125,23 @@ fn large_launches_are_reported(rt: HostRuntime) -> Result<(), Fail> {
     Ok(())
 }
 
+/// How many groups, records and racing words are found in these traces.
+fn found_in(alloc: Global, traces: &Traces) -> Option<(u16, u64, usize)> {
+    let report = detect(alloc, traces).ok()?;
+    let races = detect_races(alloc, traces).ok()?.races.len();
+    Some((report.groups, report.records, races))
+}
+
+/// The same of the launch whose streams stand in these bytes.
+fn found(alloc: Global, bytes: &[u8]) -> Option<(u16, u64, usize)> {
+    let mut reader = bytes;
+    let traces = read_joined(alloc, &mut reader).ok()?;
+    found_in(alloc, &traces)
+}
+
 #[test]
 fn the_traces_of_the_greatest_launch_are_detected(rt: HostRuntime) -> Result<(), Fail> {
     let bytes = greatest_launch(rt.alloc())?;
-    let Ok(traces) = read_joined(rt.alloc(), &mut bytes.as_slice()) else {
-        return Err("no launch")?;
-    };
-    let report = detect(rt.alloc(), &traces)?;
-    assert_eq!(rt; (report.groups, report.records), (64, 129));
-    assert_eq!(rt; detect_races(rt.alloc(), &traces)?.races.len(), 1);
+    assert_eq!(rt; found(rt.alloc(), &bytes), Some((64, 129, 1)));
     Ok(())
 }

@@ -2,7 +2,7 @@
 //! memory ran out, nothing is to have changed, and the second try is judged.
 
 use crate::calls::{is_lawful, shape_of};
-use crate::rows::{ROWS, Record, Row, event_of};
+use crate::rows::{Record, Row, event_of, rows};
 use gr_lanes::lanes::Lanes;
 use gr_lanes::seq_error::SeqError;
 use gr_model::memory::Memory;
@@ -57,17 +57,19 @@ fn take_all_in_lanes<A: Allocator>(lanes: &mut Lanes<A>, records: &[Record]) -> 
     Some(())
 }
 
+/// Whether lanes that take the records have so many of them, and their first group is cut or not, as told.
+fn take_them<A: Allocator>(lanes: &mut Lanes<A>, records: &[Record], cut: bool) -> Option<bool> {
+    take_all_in_lanes(lanes, records)?;
+    let ([first, second, third], _) = state(lanes);
+    let all = u64::from(first) + u64::from(second) + u64::from(third);
+    Some(all == records.len() as u64 && lanes.is_cut(0) == cut)
+}
+
 /// Whether the lanes have so many records as the row, and its first group is cut or not as it says.
 fn are_rows_lanes<A: Allocator + Copy>(alloc: A, row: &Row) -> Option<bool> {
     let (_, sizes, records, told) = row;
-    let mut lanes = match new_lanes(alloc, sizes) {
-        Ok(lanes) => lanes,
-        Err(_) => new_lanes(alloc, sizes).ok()?,
-    };
-    take_all_in_lanes(&mut lanes, records)?;
-    let ([first, second, third], _) = state(&lanes);
-    let all = u64::from(first) + u64::from(second) + u64::from(third);
-    Some(all == records.len() as u64 && lanes.is_cut(0) == (told.2[0] == Some(0)))
+    let made = new_lanes(alloc, sizes).or_else(|_| new_lanes(alloc, sizes));
+    take_them(&mut made.ok()?, records, told.2[0] == Some(0))
 }
 
 fn new_order<A: Allocator + Copy>(alloc: A, sizes: &[u16]) -> Result<Order<A>, Memory> {
@@ -120,16 +122,18 @@ fn rest<A: Allocator>(order: &mut Order<A>) -> Option<()> {
     None
 }
 
+/// Whether an order that takes the records comes to its end, and holds so many events then.
+fn ends_with<A: Allocator>(order: &mut Order<A>, records: &[Record], held: u64) -> Option<bool> {
+    take_all_in_order(order, records)?;
+    rest(order)?;
+    Some(order.is_at_end() && order.held() == held)
+}
+
 /// Whether the order comes to the row's end and holds so many events as the row says.
 fn is_rows_order<A: Allocator + Copy>(alloc: A, row: &Row) -> Option<bool> {
     let (_, sizes, records, told) = row;
-    let mut order = match new_order(alloc, sizes) {
-        Ok(order) => order,
-        Err(_) => new_order(alloc, sizes).ok()?,
-    };
-    take_all_in_order(&mut order, records)?;
-    rest(&mut order)?;
-    Some(order.is_at_end() && order.held() == told.3)
+    let made = new_order(alloc, sizes).or_else(|_| new_order(alloc, sizes));
+    ends_with(&mut made.ok()?, records, told.3)
 }
 
 /// Refuses each growth in turn, until none is refused; the number of one where the answers are wrong, if there is one.
@@ -161,5 +165,5 @@ fn first_wrong_row(alloc: Global, rows: &[Row]) -> Option<(&'static str, u64)> {
 
 #[test]
 fn rows_are_taken_and_ordered_whatever_growth_is_refused(rt: HostRuntime) {
-    assert_eq!(rt; first_wrong_row(rt.alloc(), &ROWS), None);
+    assert_eq!(rt; first_wrong_row(rt.alloc(), &rows()), None);
 }

@@ -409,7 +409,11 @@ const BEHIND_A_BARRIER: Row = (
 );
 
 /// All rows.
-pub(crate) const ROWS: [Row; 19] = [
+pub(crate) fn rows() -> [Row; 19] {
+    ROWS
+}
+
+const ROWS: [Row; 19] = [
     HANDED_OVER,
     HANDED_OVER_LAST_FIRST,
     SCOPES_OF_A_GROUP,

@@ -2,7 +2,7 @@
 //! or behind each record, or in one call with it where that can be, by `step` or by the calls that it stands for.
 
 use crate::calls::{handle, meet, new, step, take, take_and_handle};
-use crate::rows::{ROWS, Record, Row, Told, event_of};
+use crate::rows::{Record, Row, Told, event_of, rows};
 use crate::told::told;
 use gr_model::event::ItemId;
 use gr_sequencer::sequencer::Sequencer;
@@ -125,5 +125,5 @@ fn first_wrong_row(alloc: Global, rows: &[Row]) -> Option<(&'static str, Way, u6
 
 #[test]
 fn rows_are_told_whatever_growth_is_refused(rt: HostRuntime) {
-    assert_eq!(rt; first_wrong_row(rt.alloc(), &ROWS), None);
+    assert_eq!(rt; first_wrong_row(rt.alloc(), &rows()), None);
 }

@@ -40,23 +40,40 @@ fn waits<A: Allocator + Copy>(sequencer: &mut Sequencer<A>) -> Option<bool> {
 /// item, and behind all; the events that the two steps behind the release handled; and what was told at the end.
 type Seen = ([bool; 4], [Option<EventId>; 2], Option<Told>);
 
-fn acquire_before_its_release<A: Allocator + Copy>(sequencer: &mut Sequencer<A>) -> Option<Seen> {
+/// Whether no step is made before anything was taken, behind the acquire, and by a call for the acquire's item.
+fn acquire_waits<A: Allocator + Copy>(sequencer: &mut Sequencer<A>) -> Option<[bool; 3]> {
     let item = ItemId { group: 1, item: 0 };
     let first = waits(sequencer)?;
     let _taken = take(sequencer, 1, acquire())?.ok()?;
     let second = waits(sequencer)?;
     let third = handle(sequencer, item)?.is_none();
+    Some([first, second, third])
+}
+
+/// The events that the two steps behind the release handle.
+fn release_lets_it_go<A: Allocator + Copy>(
+    sequencer: &mut Sequencer<A>,
+) -> Option<[Option<EventId>; 2]> {
     let _released = take(sequencer, 0, release())?.ok()?;
     let one = handled(&step(sequencer)?);
     let two = handled(&step(sequencer)?);
-    let fourth = waits(sequencer)?;
+    Some([one, two])
+}
+
+/// What is told where both groups end, before which nothing is.
+fn told_at_the_end<A: Allocator + Copy>(sequencer: &mut Sequencer<A>) -> Option<Option<Told>> {
     let before = told(sequencer);
     let _first_end = take(sequencer, 0, end())?.ok()?;
     let _second_end = take(sequencer, 1, end())?.ok()?;
-    if before.is_some() {
-        return None;
-    }
-    Some(([first, second, third, fourth], [one, two], told(sequencer)))
+    before.is_none().then_some(told(sequencer))
+}
+
+fn acquire_before_its_release<A: Allocator + Copy>(sequencer: &mut Sequencer<A>) -> Option<Seen> {
+    let [first, second, third] = acquire_waits(sequencer)?;
+    let events = release_lets_it_go(sequencer)?;
+    let fourth = waits(sequencer)?;
+    let told = told_at_the_end(sequencer)?;
+    Some(([first, second, third, fourth], events, told))
 }
 
 /// What is answered to a record of an item that is not there, to one behind an end, and to one of a group that is not there.

@@ -33,14 +33,22 @@ fn take_acquires<A: Allocator + Copy>(sequencer: &mut Sequencer<A>) -> Option<()
     Some(())
 }
 
+/// The event that the first step behind the release handles.
+fn first_behind_the_release<A: Allocator + Copy>(
+    sequencer: &mut Sequencer<A>,
+) -> Option<Option<EventId>> {
+    let release = event_of(&(0, 0, RELEASE, Space::Global, 20, &[]));
+    let _released = take(sequencer, 0, release)?.ok()?;
+    Some(handled(&step(sequencer)?))
+}
+
 fn one_release<A: Allocator + Copy>(sequencer: &mut Sequencer<A>) -> Option<Seen> {
     take_acquires(sequencer)?;
     let before = step(sequencer)?.is_none();
-    let release = event_of(&(0, 0, RELEASE, Space::Global, 20, &[]));
-    let _released = take(sequencer, 0, release)?.ok()?;
-    let first = handled(&step(sequencer)?);
+    let first = first_behind_the_release(sequencer)?;
     let groups = three_groups(sequencer)?;
-    Some((before, first, groups, step(sequencer)?.is_none()))
+    let behind = step(sequencer)?.is_none();
+    Some((before, first, groups, behind))
 }
 
 fn seen<A: Allocator + Copy>(alloc: A) -> Option<Seen> {

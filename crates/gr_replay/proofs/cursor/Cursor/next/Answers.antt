@@ -1,5 +1,4 @@
-use Rattle.std.proofs.Common.{◌≡◌, ◌∷◌, ◌≤◌, Bool, List, ℕ, Ok, Result, length, take, drop, ap, sym, subst, ◌∙◌}
-use Rattle.gr_model.specs.declared.event.Event.{Event}
+use Rattle.std.proofs.Common.{◌≡◌, ◌∷◌, ◌≤◌, Ok, length, take, drop, ap, sym, subst, ◌∙◌}
 use Rattle.gr_model.specs.Events.{is_end}
 use Rattle.gr_record.specs.Reading.{event_at}
 use Rattle.gr_record.specs.Versions.{record_length}
