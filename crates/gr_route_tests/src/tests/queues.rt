@@ -6,7 +6,7 @@ ghost use Rattle.gr_route.specs.WorkRule.{is_stop};
 use crate::three_senders::write;
 use gr_clocks::access::Access;
 use gr_clocks::clock::Clock;
-use gr_model::event::{ItemId, Sent, Word};
+use gr_model::event::{Event, ItemId, Sent, Word};
 use gr_model::limits::MOST_GROUPS;
 use gr_model::shape::Shape;
 use gr_route::intake::{Intake, IntakeSeat, TakerSeat};
@@ -16,25 +16,43 @@ use std::alloc::Global;
 use std::sync::Wait;
 use std::test::*;
 
+/// What comes back of the second of two pushes into an empty queue of one place, and what two pops then give; `None` where
+/// the first push is refused.
+fn pushed_and_popped<R: Wait>(
+    rt: &R,
+    queue: &Intake,
+    taker: &mut TakerSeat,
+    seat: &mut IntakeSeat,
+) -> Option<(Option<Event>, [Option<Sent>; 2])>
+    requires queues { (taker.old.queue ≡ queue.now.queue) × (seat.old.queue ≡ queue.now.queue) }
+    requires items { seat.old.items ≡ 2 }
+    requires fresh { seat.old.pushed ≡ [] }
+    ensures { (taker.new.queue ≡ queue.now.queue) × (seat.new.queue ≡ queue.now.queue) }
+{
+    if queue.push(rt, seat, write(7)).is_err() {
+        return None;
+    }
+    let back = match queue.push(rt, seat, write(8)) {
+        Ok(()) => None,
+        Err(full) => Some(full.0),
+    };
+    let first = queue.pop(rt, taker);
+    let second = queue.pop(rt, taker);
+    Some((back, [first, second]))
+}
+
 #[test]
 fn an_intake_queue_of_one_place(rt: HostRuntime) -> Result<(), Fail> {
     let (queue, mut taker) = Intake::new(rt.alloc(), 1)?;
     let mut seat = queue.split(&mut taker, 5, 2).ok_or("the first split")?;
     assert_eq!(rt; (seat.group(), seat.items()), (5, 2));
     assert!(rt; queue.split(&mut taker, 5, 2).is_none(), "a second split");
-    if queue.push(&rt, &mut seat, write(7)).is_err() {
-        return Err("a push into an empty queue")?;
-    }
-    match queue.push(&rt, &mut seat, write(8)) {
-        Ok(()) => assert!(rt; false, "a push into a full queue"),
-        Err(full) => assert_eq!(rt; full.0, write(8)),
-    }
     let first = Sent {
         group: 5,
         event: write(7),
     };
-    assert_eq!(rt; queue.pop(&rt, &mut taker), Some(first));
-    assert_eq!(rt; queue.pop(&rt, &mut taker), None);
+    let seen = pushed_and_popped(&rt, &queue, &mut taker, &mut seat);
+    assert_eq!(rt; seen, Some((Some(write(8)), [Some(first), None])));
     queue.join_back(&mut taker, seat);
     assert!(rt;
         queue.split(&mut taker, 5, 2).is_none(),
