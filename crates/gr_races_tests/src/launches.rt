@@ -4,7 +4,7 @@ use gr_causes::cause::{Cause, cause_of, causes_of};
 use gr_causes::relaxing::{Relaxation, relaxed};
 use gr_explain::explain::explain;
 use gr_explain::judging::{Judgement, judge};
-use gr_model::event::Word;
+use gr_model::event::{EventId, Word};
 use gr_model::memory::Memory;
 use gr_model::traces::Traces;
 use gr_record::fault::Fault;
@@ -179,6 +179,19 @@ fn traces_of<A: Allocator + Copy>(
     }
 }
 
+/// Whether the cause of the least race of a word of these traces is this one.
+fn is_caused_by<A: Allocator + Copy>(
+    alloc: A,
+    traces: &Traces<A>,
+    word: Word,
+    due: Cause,
+) -> Result<bool, Memory> {
+    let Some((first, second)) = explain(alloc, traces, word)? else {
+        return Ok(false);
+    };
+    Ok(cause_of(alloc, traces, word, first, second)? == due)
+}
+
 /// Whether the cause of the word's least race is this one.
 pub(crate) fn has_cause<A: Allocator + Copy>(
     alloc: A,
@@ -186,13 +199,21 @@ pub(crate) fn has_cause<A: Allocator + Copy>(
     case: &Case,
 ) -> Result<bool, Memory> {
     let (_, text, word, due) = *case;
-    let Some(traces) = traces_of(alloc, ample, text)? else {
-        return Ok(false);
-    };
-    let Some((first, second)) = explain(alloc, &traces, word)? else {
-        return Ok(false);
-    };
-    Ok(cause_of(alloc, &traces, word, first, second)? == due)
+    match traces_of(alloc, ample, text)? {
+        None => Ok(false),
+        Some(traces) => is_caused_by(alloc, &traces, word, due),
+    }
+}
+
+/// Whether the causes of the races of all racy words of these traces, asked for at once, are these.
+fn are_caused_by<A: Allocator + Copy>(
+    alloc: A,
+    traces: &Traces<A>,
+    due: &[Cause],
+) -> Result<bool, Memory> {
+    let found = detect_races(alloc, traces)?;
+    let causes = causes_of(alloc, traces, &found.races)?;
+    Ok(causes.as_slice() == due)
 }
 
 /// Whether the causes of the races of all racy words, asked for at once, are these.
@@ -202,12 +223,10 @@ pub(crate) fn have_causes<A: Allocator + Copy>(
     text: &str,
     due: &[Cause],
 ) -> Result<bool, Memory> {
-    let Some(traces) = traces_of(alloc, ample, text)? else {
-        return Ok(false);
-    };
-    let found = detect_races(alloc, &traces)?;
-    let causes = causes_of(alloc, &traces, &found.races)?;
-    Ok(causes.as_slice() == due)
+    match traces_of(alloc, ample, text)? {
+        None => Ok(false),
+        Some(traces) => are_caused_by(alloc, &traces, due),
+    }
 }
 
 /// Whether the word has no race where a rule is relaxed.
@@ -220,22 +239,43 @@ pub(crate) fn is_gone(alloc: Global, case: &Case, relaxation: Relaxation) -> Res
     Ok(explain(alloc, &relaxed, word)?.is_none())
 }
 
-/// What the events of the word's least race are to each other, in the launch and where a rule is relaxed.
+/// What two events on a word are to each other, in these traces and in others.
+fn judged(
+    alloc: Global,
+    traces: &Traces,
+    relaxed: &Traces,
+    word: Word,
+    pair: (EventId, EventId),
+) -> Result<(Judgement, Judgement), Memory> {
+    let (first, second) = pair;
+    let strict = judge(alloc, traces, word, first, second)?;
+    let lax = judge(alloc, relaxed, word, first, second)?;
+    Ok((strict, lax))
+}
+
+/// What the events of the least race of a word of these traces are to each other, in them and where a rule is relaxed.
+fn judgements_in(
+    alloc: Global,
+    traces: &Traces,
+    word: Word,
+    relaxation: Relaxation,
+) -> Result<Option<(Judgement, Judgement)>, Memory> {
+    let Some(pair) = explain(alloc, traces, word)? else {
+        return Ok(None);
+    };
+    let relaxed = relaxed(alloc, traces, relaxation)?;
+    Ok(Some(judged(alloc, traces, &relaxed, word, pair)?))
+}
+
+/// The same of the launch of a case.
 pub(crate) fn judgements(
     alloc: Global,
     case: &Case,
     relaxation: Relaxation,
 ) -> Result<Option<(Judgement, Judgement)>, Memory> {
     let (_, text, word, _) = *case;
-    let Some(traces) = traces_of(alloc, alloc, text)? else {
-        return Ok(None);
-    };
-    let Some((first, second)) = explain(alloc, &traces, word)? else {
-        return Ok(None);
-    };
-    let relaxed = relaxed(alloc, &traces, relaxation)?;
-    Ok(Some((
-        judge(alloc, &traces, word, first, second)?,
-        judge(alloc, &relaxed, word, first, second)?,
-    )))
+    match traces_of(alloc, alloc, text)? {
+        None => Ok(None),
+        Some(traces) => judgements_in(alloc, &traces, word, relaxation),
+    }
 }
