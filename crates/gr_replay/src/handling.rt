@@ -16,6 +16,7 @@ use std::alloc::Allocator;
 ///
 /// # Errors
 /// `Memory`: out of memory.
+#[inline(always)]
 pub(crate) fn shade<A: Allocator + Copy>(
     shadows: &mut Shadows<A>,
     step: Handled<A>,

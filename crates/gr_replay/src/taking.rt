@@ -31,6 +31,7 @@ use std::alloc::Allocator;
 ///
 /// # Errors
 /// `Memory`: out of memory.
+#[inline(always)]
 fn take_one<A: Allocator + Copy>(
     sequencer: &mut Sequencer<A>,
     shadows: &mut Shadows<A>,
@@ -63,6 +64,7 @@ fn take_one<A: Allocator + Copy>(
 ///
 /// # Errors
 /// `Memory`: out of memory.
+#[inline(always)]
 fn take_record<A: Allocator + Copy>(
     sequencer: &mut Sequencer<A>,
     shadows: &mut Shadows<A>,

@@ -124,6 +124,7 @@ impl<A: Allocator> Sequencer<A> {
     ///
     /// # Errors
     /// `Memory`: out of memory. Nothing is then taken or handled.
+    #[inline(always)]
     fn handle_at_once(
         &mut self,
         group: u16,
@@ -158,6 +159,7 @@ impl<A: Allocator> Sequencer<A> {
     /// # Errors
     /// The first of `UnknownGroup`, `AfterEnd` with the group, `UnknownItem` and `Memory` that is there. Nothing is then
     /// taken or handled.
+    #[inline(always)]
     pub fn take_and_handle(
         &mut self,
         group: u16,
