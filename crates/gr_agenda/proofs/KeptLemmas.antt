@@ -276,7 +276,7 @@ module _ {Z : Type 0} (q : Sequence) (t t2 : Steps) (lists : List (Vec ItemId Z)
         (decided d)
     taken_ready (Group n) can = ⊎_elim
         (λ (same : n ≡ g). subst (λ m. Has t2 (Group m)) (sym same) (group (subst (λ m. CanMeet longer q.handled m) same can)))
-        (λ (apart : n ≡ g → ⊥). keeps (Group n) (kept.ready (Group n) (arrived_meets q.taken longer q.handled T takes n (arrival_was n apart) can)))
+        (λ (apart : n ≡ g → ⊥). keeps (Group n) (kept.ready (Group n) (arrived_meets q.taken longer q.handled T takes n refl (arrival_was n apart) can)))
         (cases_eq n g)
 
     taken_waits : (d : EventId) (n : Name) → IsHeldUp longer q.handled d n → Has t2 (Item d.at) ⊎ IsNoted longer q.handled lists d

@@ -5,3 +5,4 @@ pub mod ListLemmas
 pub mod KeptLemmas
 pub mod UndivergedLemmas
 pub mod AtOnceLemmas
+pub mod ComingLemmas

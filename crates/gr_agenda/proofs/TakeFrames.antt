@@ -1,5 +1,5 @@
 -- What a record that is taken changes: an item or a group that it does not touch can go on only as before.
-use Rattle.std.proofs.Common.{Contains, cond, is_some, length, slice_index, ◌+◌, ◌≡◌, ◌<◌, ◌≤◌, ℕ, zero, suc, List, [], ◌∷◌, ◌++◌, Bool, true, false, Some, None, Option, refl, sym, ap, ◌∙◌, subst, inl, inr, ⊎_elim, filter, filter_map, slice_get, arith, append-nil, true≢false}
+use Rattle.std.proofs.Common.{Contains, cond, is_some, length, ◌+◌, ◌≡◌, ◌<◌, ◌≤◌, ℕ, zero, suc, List, [], ◌∷◌, ◌++◌, Bool, true, false, Some, None, Option, refl, sym, ap, ◌∙◌, subst, inl, inr, ⊎_elim, filter, filter_map, slice_get, arith, append-nil, true≢false}
 use Rattle.std.specs.Prelude.{not, ◌&&◌, ◌==◌}
 use Rattle.std.specs.List.{cons_option}
 use Rattle.std.proofs.lemmas.List.{get_or-set_same, get_or-set_other}
@@ -111,10 +111,7 @@ module _ (s t : Streams) (h : List EventId) (T : EventId → Type 0) (takes : Ta
         instance = λ g k stands. takes.divergent d g k apart stands (ready.instance g k (stands_grows s t takes.grows d g k stands));
       }
 
-  module _ (g : ℕ) (arrival_was : (k i : ℕ) → arrivals t g k i ≡ arrivals s g k i) where
-    size_was : size_of t g ≡ size_of s g
-    size_was = ap (λ (l : List ℕ). slice_index l g) (sym takes.grows.sizes)
-
+  module _ (g : ℕ) (size_was : size_of t g ≡ size_of s g) (arrival_was : (k i : ℕ) → arrivals t g k i ≡ arrivals s g k i) where
     meeting_was : (k : ℕ) (a : Mark) → IsMeeting t h g k a → IsMeeting s h g k a
     meeting_was k a meeting = record {
       convergent = (subst (λ n. 0 < n) size_was meeting.convergent.0, λ i lt. sym (arrival_was k i) ∙ meeting.convergent.1 i (subst (λ n. i < n) (sym size_was) lt));
@@ -268,7 +265,7 @@ module _ (s : Streams) (g : ℕ) (x : Event) (prefixes : ArePrefixes s) (can : C
 
       -- no instance of the group may meet now that might not before
       pub own_meets : (h : List EventId) → IsLawful s h → CanMeet more h g → CanMeet s h g
-      own_meets h lawful = arrived_meets s more h (λ d. d.at ≡ own) (takes_own plain_marks h lawful) g same_arrival
+      own_meets h lawful = arrived_meets s more h (λ d. d.at ≡ own) (takes_own plain_marks h lawful) g refl same_arrival
 
     -- a barrier that follows another of its instance brings the mark of that
     module _ (follows : IsFollowing s g x) where

@@ -9,6 +9,7 @@ ghost use Rattle.gr_model.specs.declared.event.EventId.{EventId as AnyEvent};
 ghost use Rattle.gr_model.specs.declared.event.ItemId.{ItemId as AnyItem};
 ghost use Rattle.gr_model.specs.declared.event.Name.{Name as AnyName};
 ghost use Rattle.gr_model.specs.declared.limits.TheConstants.{MOST_RECORDS};
+ghost use Rattle.gr_model.specs.Groups.{CanAdd};
 ghost use Rattle.gr_model.specs.Names.{release_place};
 ghost use Rattle.gr_model.specs.Streams.{list_of, size_of};
 ghost use Rattle.gr_order.specs.declared.steps.Ready.TheVariants.{Group, Item};
@@ -16,7 +17,7 @@ ghost use Rattle.gr_lanes.specs.Takes.{CanTake, IsEventButItem, IsTakeFault, nex
 ghost use Rattle.gr_steps.specs.Steps.{CanHandle, CanMeet, IsReady};
 ghost use Rattle.gr_order.specs.Answers.{CanMake};
 ghost use Rattle.gr_order.specs.AtOnce.{GoesAtOnce};
-ghost use Rattle.gr_order.specs.Sequences.{HandlesEvent, IsDone, IsSequence, MeetsNext, nothing, taking};
+ghost use Rattle.gr_order.specs.Sequences.{HandlesEvent, IsDone, IsSequence, MeetsNext, nothing, taking, with_group};
 ghost use Rattle.gr_agenda.specs.Kept.{AreUndiverged, IsForgotten, IsHeldUp, IsNextBarrier, IsNoted, IsPending, IsReleaseHandled, IsTold};
 ghost use Rattle.gr_agenda.specs.Lists.{Has, IsWaiting, KeepsSteps};
 
@@ -300,6 +301,33 @@ impl<A: Allocator + Copy> Agenda<A> {
         let mut undiverged = Vec::with_capacity(alloc, GROUPS)?;
         undiverged.resize(GROUPS, None)?;
         let order = Order::new(alloc, shape)?;
+        Ok(Agenda {
+            order,
+            worklist,
+            waiting,
+            undiverged,
+        })
+    }
+
+    /// The agenda, where a group comes that has so many items. The groups below it that were not there are there, without
+    /// items.
+    /// Requires: the group has not come, and is one that a launch may have beside the others.
+    ///
+    /// # Errors
+    /// `Memory`: out of memory.
+    pub fn with_group(self, alloc: A, group: u16, items: u16) -> Result<Agenda<A>, Memory>
+        requires { CanAdd self.taken group items }
+        ensures { IfOk result (λ a. a ≡ with_group self group items) }
+    {
+        let Agenda {
+            order,
+            worklist,
+            waiting,
+            undiverged,
+        } = self;
+        // brings the order's invariant into the proof
+        let _taken = order.lanes();
+        let order = order.with_group(alloc, group, items)?;
         Ok(Agenda {
             order,
             worklist,

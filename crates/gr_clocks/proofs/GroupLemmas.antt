@@ -2,13 +2,12 @@
 use Rattle.std.proofs.Common.{◌≡◌, ◌≢◌, ℕ, zero, suc, ◌+◌, ◌<◌, ◌≤◌, ◌^◌, max, All, Bool, true, false, List, [], ◌∷◌, ◌++◌, length, slice_index, get_or, set, if◌then◌else◌, refl, sym, ◌∙◌, ap, subst, arith, ⊎_elim}
 use Rattle.std.proofs.lemmas.Bool.{cases_eq, cases_lt, false≢true}
 use Rattle.std.proofs.lemmas.List.{get_or_past, get_or_push, get_or_append_left, length_push, length-set, get_or-set_same, get_or-set_other}
-use Rattle.std.proofs.Math.Seq.{map-set_same}
 use Rattle.gr_model.specs.declared.event.ItemId.{ItemId}
 use Rattle.gr_clocks.specs.declared.clock.TheConstants.{LARGEST_COUNT}
-use Rattle.gr_clocks.specs.Counts.{Counts, count_of, sizes_of, tick_at, IsTick, IsJoin}
+use Rattle.gr_clocks.specs.Counts.{Counts, count_of, tick_at, CountSame, CountsOneMore, IsJoin}
 use Rattle.gr_clocks.specs.Groups.{item_of, greatest, GroupClocks, clock_in_group, Keeps, IsGroup, IsShared, IsGrown, MergesFirst, Merges, raised_count, AreRaised, met_count, IsMetBase, TickFirst, MeetsEach}
 use Rattle.gr_clocks.proofs.RowLemmas.{same_item_self}
-use Rattle.gr_clocks.proofs.BlockLemmas.{length_sizes, size_at}
+use Rattle.gr_clocks.specs.Owned.{IsRaisedBy}
 use Rattle.gr_clocks.proofs.OwnLemmas.{not_ticked}
 
 -- ---- the greatest of some numbers
@@ -31,31 +30,26 @@ greatest_least (suc n) f x all = let last : f n ≤ x = all n (omega arith) in l
 
 -- ---- what a group keeps
 
-pub keeps_met : (met : Counts) (i : ItemId) (learned : Bool) (c : Counts) → c ≡ met → Keeps met i learned c
+pub keeps_met : (met : Counts) (i : ItemId) (learned : Bool) (c : Counts) → CountSame c met → Keeps met i learned c
 keeps_met met i learned c is = record {
-  shape = ap sizes_of is;
-  least = λ j. let same : count_of c j ≡ count_of met j = ap (λ (x : Counts). count_of x j) is in omega arith;
-  most = λ off j other. let same : count_of c j ≡ count_of met j = ap (λ (x : Counts). count_of x j) is in omega arith;
+  least = λ j. let same = is j in omega arith;
+  most = λ off j other. let same = is j in omega arith;
 }
 
-pub keeps_tick : (met : Counts) (i : ItemId) (learned : Bool) (c after : Counts) → Keeps met i learned c → IsTick c i after → Keeps met i learned after
+pub keeps_tick : (met : Counts) (i : ItemId) (learned : Bool) (c after : Counts) → Keeps met i learned c → CountsOneMore c i after → Keeps met i learned after
 keeps_tick met i learned c after keeps tick = record {
-  shape = tick.shape ∙ keeps.shape;
   least = λ j. let was = keeps.least j in let now = tick.counts j in omega arith;
   most = λ off j other. let was = keeps.most off j other in let now = tick.counts j in let none : tick_at i j ≡ 0 = not_ticked i j other in omega arith;
 }
 
 keeps_grown : (met : Counts) (i : ItemId) (learned : Bool) (c after : Counts) → Keeps met i learned c → IsGrown c after → Keeps met i true after
 keeps_grown met i learned c after keeps grown = record {
-  shape = grown.shape ∙ keeps.shape;
   least = λ j. let was = keeps.least j in let now = grown.counts j in omega arith;
   most = λ off j other. absurd (false≢true (sym off));
 }
 
-pub shared_group : (met : Counts) (number : ℕ) (clocks : List Counts) (learned : List Bool) → number < length (sizes_of met) → slice_index (sizes_of met) number ≡ length clocks → length clocks < 2 ^ 16 → length learned ≡ length clocks → ((k : ℕ) → k < length clocks → get_or clocks k [] ≡ met) → IsGroup number met clocks learned
-shared_group met number clocks learned there size few marks all = record {
-  there = there;
-  size = size;
+pub shared_group : (met : Counts) (number : ℕ) (clocks : List Counts) (learned : List Bool) → length clocks < 2 ^ 16 → length learned ≡ length clocks → ((k : ℕ) → k < length clocks → CountSame (get_or clocks k []) met) → IsGroup number met clocks learned
+shared_group met number clocks learned few marks all = record {
   few = few;
   marks = marks;
   each = λ k below. keeps_met met (item_of number k) (get_or learned k false) (get_or clocks k []) (all k below);
@@ -67,8 +61,6 @@ module _ (number : ℕ) (met : Counts) (clocks : List Counts) (learned : List Bo
   group_with k c marks count others there keeps =
       let size : length (set clocks k c) ≡ length clocks = length-set clocks k c in
       record {
-        there = are.there;
-        size = are.size ∙ sym size;
         few = let few = are.few in omega arith;
         marks = count ∙ are.marks ∙ sym size;
         each = λ m below.
@@ -82,7 +74,7 @@ module _ (number : ℕ) (met : Counts) (clocks : List Counts) (learned : List Bo
             (cases_eq m k);
       }
 
-  pub group_ticked : (k : ℕ) (c : Counts) → k < length clocks → IsTick (get_or clocks k []) (item_of number k) c → IsGroup number met (set clocks k c) learned
+  pub group_ticked : (k : ℕ) (c : Counts) → k < length clocks → CountsOneMore (get_or clocks k []) (item_of number k) c → IsGroup number met (set clocks k c) learned
   group_ticked k c there tick = group_with k c learned refl (λ m apart. refl) there (keeps_tick met (item_of number k) (get_or learned k false) (get_or clocks k []) c (are.each k there) tick)
 
   -- what is written again changes nothing
@@ -96,18 +88,13 @@ module _ (number : ℕ) (met : Counts) (clocks : List Counts) (learned : List Bo
       (subst (λ (b : Bool). Keeps met (item_of number k) b c) (sym marked) (keeps_grown met (item_of number k) (get_or learned k false) (get_or clocks k []) c (are.each k there) grown))
 
   abbrev Whole : GroupClocks
-  Whole = record { number = number; sizes = sizes_of met; clocks = clocks }
-
-  pub clock_sizes : (k : ℕ) → k < length clocks → sizes_of (get_or clocks k []) ≡ sizes_of met
-  clock_sizes k below = (are.each k below).shape
+  Whole = record { number = number; clocks = clocks }
 
   -- all clocks have ticked
   pub all_ticked : (after : List Counts) (marks : List Bool) (n : ℕ) → n ≡ length clocks → length after ≡ n → marks ≡ learned → TickFirst Whole n after → IsGroup number met after marks
   all_ticked after marks n is_n count is_marks ticks =
       let size : length after ≡ length clocks = count ∙ is_n in
       record {
-        there = are.there;
-        size = are.size ∙ sym size;
         few = let few = are.few in omega arith;
         marks = ap length is_marks ∙ are.marks ∙ sym size;
         each = λ k below.
@@ -121,7 +108,6 @@ module _ (number : ℕ) (met : Counts) (clocks : List Counts) (learned : List Bo
 
   pub merges_none : (base : Counts) → base ≡ met → MergesFirst met Whole 0 base
   merges_none base is = record {
-    shape = ap sizes_of is;
     above = λ j. let same : count_of base j ≡ count_of met j = ap (λ (c : Counts). count_of c j) is in omega arith;
     least = λ k j below other. absurd (omega arith);
     most = λ j some.
@@ -132,9 +118,8 @@ module _ (number : ℕ) (met : Counts) (clocks : List Counts) (learned : List Bo
         omega arith;
   }
 
-  merges_step : (n : ℕ) (base more : Counts) → MergesFirst met Whole n base → sizes_of more ≡ sizes_of base → ((j : ItemId) → count_of base j ≤ count_of more j) → ((j : ItemId) → item_of number n ≢ j → count_of (get_or clocks n []) j ≤ count_of more j) → ((j : ItemId) → 0 < length clocks → count_of more j ≤ greatest (length clocks) (λ k. count_of (get_or clocks k []) j)) → MergesFirst met Whole (n + 1) more
-  merges_step n base more first shape grows last most = record {
-    shape = shape ∙ first.shape;
+  merges_step : (n : ℕ) (base more : Counts) → MergesFirst met Whole n base → ((j : ItemId) → count_of base j ≤ count_of more j) → ((j : ItemId) → item_of number n ≢ j → count_of (get_or clocks n []) j ≤ count_of more j) → ((j : ItemId) → 0 < length clocks → count_of more j ≤ greatest (length clocks) (λ k. count_of (get_or clocks k []) j)) → MergesFirst met Whole (n + 1) more
+  merges_step n base more first grows last most = record {
     above = λ j. let was = first.above j in let now = grows j in omega arith;
     least = λ k j below other.
         ⊎_elim
@@ -146,14 +131,14 @@ module _ (number : ℕ) (met : Counts) (clocks : List Counts) (learned : List Bo
 
   pub merges_kept : (n : ℕ) (base : Counts) → n < length clocks → get_or learned n false ≡ false → MergesFirst met Whole n base → MergesFirst met Whole (n + 1) base
   merges_kept n base there off first =
-      merges_step n base base first refl (λ j. omega arith)
+      merges_step n base base first (λ j. omega arith)
       (λ j other. let kept = (are.each n there).most off j other in let was = first.above j in omega arith)
       first.most
 
   pub merges_more : (n : ℕ) (base x more : Counts) → n < length clocks → MergesFirst met Whole n base → IsJoin base x more → x ≡ get_or clocks n [] → MergesFirst met Whole (n + 1) more
   merges_more n base x more there first join is =
       let joined : (j : ItemId) → count_of more j ≡ max (count_of base j) (count_of (get_or clocks n []) j) = λ j. join.counts j ∙ ap (λ (c : Counts). max (count_of base j) (count_of c j)) is in
-      merges_step n base more first join.shape
+      merges_step n base more first
       (λ j. let at = joined j in omega arith)
       (λ j other. let at = joined j in omega arith)
       (λ j some.
@@ -164,7 +149,7 @@ module _ (number : ℕ) (met : Counts) (clocks : List Counts) (learned : List Bo
       omega arith)
 
   pub merges_all : (n : ℕ) (base : Counts) → n ≡ length clocks → MergesFirst met Whole n base → Merges Whole base
-  merges_all n base is first = record { shape = first.shape; least = λ k j below other. first.least k j (omega arith) other; most = first.most }
+  merges_all n base is first = record { least = λ k j below other. first.least k j (omega arith) other; most = first.most }
 
 -- ---- the counts behind the barrier
 
@@ -179,12 +164,8 @@ raised_more g base n counts more x first is more_is limit = record {
   limit = limit;
 }
 
--- there is nothing past the end of a group
-pub count_past : (c : Counts) (j : ItemId) → slice_index (sizes_of c) j.group ≤ j.item → count_of c j ≡ 0
-count_past c j past = get_or_past (get_or c j.group []) j.item 0 (let size = size_at c j.group in omega arith)
-
 -- base has learned all that the clocks count, and then gets the raised counts of the group's own items
-module _ (g : GroupClocks) (some : 0 < length g.clocks) (there : g.number < length g.sizes) (group_size : slice_index g.sizes g.number ≡ length g.clocks) (shapes : (k : ℕ) → k < length g.clocks → sizes_of (clock_in_group g k) ≡ g.sizes) (base : Counts) (merged : Merges g base) (counts : List ℕ) (raised : AreRaised g base (length g.clocks) counts) where
+module _ (g : GroupClocks) (some : 0 < length g.clocks) (base : Counts) (merged : Merges g base) (counts : List ℕ) (raised : AreRaised g base (length g.clocks) counts) where
   abbrev Known : ItemId → ℕ → ℕ
   Known j k = count_of (clock_in_group g k) j
 
@@ -236,71 +217,51 @@ module _ (g : GroupClocks) (some : 0 < length g.clocks) (there : g.number < leng
       omega arith) in
       omega arith
 
-  abbrev Met : Counts
-  Met = set base g.number counts
-
-  in_base : g.number < length base
-  in_base = let same : length (sizes_of base) ≡ length g.sizes = ap length merged.shape in omega (arith, length_sizes base)
-
-  row_count : length counts ≡ length (get_or base g.number [])
-  row_count = raised.size ∙ sym group_size ∙ ap (λ (sizes : List ℕ). slice_index sizes g.number) (sym merged.shape) ∙ size_at base g.number
-
-  met_here : (j : ItemId) → j.group ≡ g.number → count_of Met j ≡ slice_index counts j.item
-  met_here j here = ap (λ (row : List ℕ). slice_index row j.item) (ap (λ (n : ℕ). get_or Met n []) here ∙ get_or-set_same base g.number counts [] in_base)
-
-  counted_here : (j : ItemId) → j.group ≡ g.number → slice_index counts j.item ≡ met_count g j
-  counted_here j here =
+  raised_here : (j : ItemId) → j.group ≡ g.number → max (count_of base j) (slice_index counts j.item) ≡ met_count g j
+  raised_here j here =
       let is : item_of g.number j.item ≡ j = ap (λ (n : ℕ). item_of n j.item) (sym here) in
       ⊎_elim
-      (λ (within : j.item < length g.clocks). raised.each j.item within ∙ raised_all j.item within ∙ ap (met_count g) is)
+      (λ (within : j.item < length g.clocks).
+      let top : slice_index counts j.item ≡ met_count g j = raised.each j.item within ∙ raised_all j.item within ∙ ap (met_count g) is in
+      let small : count_of base j ≤ met_count g j = base_small j in
+      omega arith)
       (λ (past : length g.clocks ≤ j.item).
       let none : slice_index counts j.item ≡ 0 = get_or_past counts j.item 0 (let size = raised.size in omega arith) in
       let other : (k : ℕ) → k < length g.clocks → item_of g.number k ≢ j = λ k below same. let at : k ≡ j.item = ap (λ (i : ItemId). i.item) same in absurd (omega arith) in
       let all : count_of base j ≡ met_count g j = known_all j other in
-      let size : slice_index (sizes_of base) j.group ≡ length g.clocks = ap (λ (sizes : List ℕ). slice_index sizes j.group) merged.shape ∙ ap (slice_index g.sizes) here ∙ group_size in
-      let zero_here : count_of base j ≡ 0 = count_past base j (omega arith) in
       omega arith)
       (cases_lt j.item (length g.clocks))
 
-  count_met : (j : ItemId) → count_of Met j ≡ met_count g j
-  count_met j =
-      ⊎_elim
-      (λ (here : j.group ≡ g.number). met_here j here ∙ counted_here j here)
-      (λ (other : j.group ≡ g.number → ⊥).
-      ap (λ (row : List ℕ). slice_index row j.item) (get_or-set_other base g.number j.group counts [] other) ∙ known_all j (λ k below same. other (ap (λ (i : ItemId). i.group) (sym same))))
-      (cases_eq j.group g.number)
-
-  pub met_base : (behind : Counts) → behind ≡ Met → IsMetBase g behind
+  pub met_base : (behind : Counts) → IsRaisedBy base g.number counts behind → IsMetBase g behind
   met_base behind is = record {
-    shape = ap sizes_of is ∙ map-set_same length base g.number counts [] row_count ∙ merged.shape;
-    counts = λ j. ap (λ (c : Counts). count_of c j) is ∙ count_met j;
+    counts = λ j. ⊎_elim
+        (λ (here : j.group ≡ g.number). is.here j here ∙ raised_here j here)
+        (λ (other : j.group ≡ g.number → ⊥). is.others j other ∙ known_all j (λ k below same. other (ap (λ (i : ItemId). i.group) (sym same))))
+        (cases_eq j.group g.number);
   }
 
 -- ---- clocks, one after another
 
--- the first n share what was met, and one more
-pub same_more : (n : ℕ) (clocks more : List Counts) (x base : Counts) → length clocks ≡ n → ((k : ℕ) → k < n → get_or clocks k [] ≡ base) → x ≡ base → more ≡ clocks ++ x ∷ [] → (k : ℕ) → k < n + 1 → get_or more k [] ≡ base
+-- the first n count what was met, and one more
+pub same_more : (n : ℕ) (clocks more : List Counts) (x base : Counts) → length clocks ≡ n → ((k : ℕ) → k < n → CountSame (get_or clocks k []) base) → CountSame x base → more ≡ clocks ++ x ∷ [] → (k : ℕ) → k < n + 1 → CountSame (get_or more k []) base
 same_more n clocks more x base size each last is k below =
-    ap (λ (xs : List Counts). get_or xs k []) is ∙
-    ⊎_elim
-    (λ (same : k ≡ n). get_or_push clocks x [] k (size ∙ sym same) ∙ last)
-    (λ (apart : k ≡ n → ⊥). get_or_append_left clocks (x ∷ []) [] k (omega arith) ∙ each k (omega arith))
-    (cases_eq k n)
-
-pub ticked_more : (g : GroupClocks) (n : ℕ) (clocks more : List Counts) (c : Counts) → length clocks ≡ n → TickFirst g n clocks → IsTick (clock_in_group g n) (item_of g.number n) c → more ≡ clocks ++ c ∷ [] → TickFirst g (n + 1) more
-ticked_more g n clocks more c size first last is k below =
-    subst (λ (xs : List Counts). IsTick (clock_in_group g k) (item_of g.number k) (get_or xs k [])) (sym is)
+    subst (λ (xs : List Counts). CountSame (get_or xs k []) base) (sym is)
     (⊎_elim
-    (λ (same : k ≡ n). subst (IsTick (clock_in_group g k) (item_of g.number k)) (sym (get_or_push clocks c [] k (size ∙ sym same))) (subst (λ (m : ℕ). IsTick (clock_in_group g m) (item_of g.number m) c) (sym same) last))
-    (λ (apart : k ≡ n → ⊥). subst (IsTick (clock_in_group g k) (item_of g.number k)) (sym (get_or_append_left clocks (c ∷ []) [] k (omega arith))) (first k (omega arith)))
+    (λ (same : k ≡ n). subst (λ (c : Counts). CountSame c base) (sym (get_or_push clocks x [] k (size ∙ sym same))) last)
+    (λ (apart : k ≡ n → ⊥). subst (λ (c : Counts). CountSame c base) (sym (get_or_append_left clocks (x ∷ []) [] k (omega arith))) (each k (omega arith)))
+    (cases_eq k n))
+
+pub ticked_more : (g : GroupClocks) (n : ℕ) (clocks more : List Counts) (c : Counts) → length clocks ≡ n → TickFirst g n clocks → CountsOneMore (clock_in_group g n) (item_of g.number n) c → more ≡ clocks ++ c ∷ [] → TickFirst g (n + 1) more
+ticked_more g n clocks more c size first last is k below =
+    subst (λ (xs : List Counts). CountsOneMore (clock_in_group g k) (item_of g.number k) (get_or xs k [])) (sym is)
+    (⊎_elim
+    (λ (same : k ≡ n). subst (CountsOneMore (clock_in_group g k) (item_of g.number k)) (sym (get_or_push clocks c [] k (size ∙ sym same))) (subst (λ (m : ℕ). CountsOneMore (clock_in_group g m) (item_of g.number m) c) (sym same) last))
+    (λ (apart : k ≡ n → ⊥). subst (CountsOneMore (clock_in_group g k) (item_of g.number k)) (sym (get_or_append_left clocks (c ∷ []) [] k (omega arith))) (first k (omega arith)))
     (cases_eq k n))
 
 -- a group that shares what all of its items count
-pub meets_each : (old new : GroupClocks) (base : Counts) → slice_index old.sizes old.number ≡ length old.clocks → ((k : ℕ) → k < length old.clocks → sizes_of (clock_in_group old k) ≡ old.sizes) → IsMetBase old base → IsShared base old.number new → MeetsEach old new
-meets_each old new base size shapes met shared =
-    let same_size : length new.clocks ≡ length old.clocks = shared.size ∙ ap (λ (sizes : List ℕ). slice_index sizes old.number) met.shape ∙ size in
-    record {
-      same = record { number = shared.number; sizes = shared.sizes ∙ met.shape; size = same_size };
-      shapes = shapes;
-      each = λ k below. subst (IsMetBase old) (sym (shared.each k (subst (λ (m : ℕ). k < m) (sym same_size) below))) met;
-    }
+pub meets_each : (old new : GroupClocks) (base : Counts) → IsMetBase old base → IsShared base old.number (length old.clocks) new → MeetsEach old new
+meets_each old new base met shared = record {
+  same = record { number = shared.number; size = shared.size };
+  each = λ k below. record { counts = λ j. shared.each k (let size = shared.size in omega arith) j ∙ met.counts j };
+}

@@ -1,5 +1,5 @@
 pub mod RowLemmas
-pub mod CountLemmas
+pub mod TallyLemmas
 pub mod BlockLemmas
 pub mod OwnLemmas
 pub mod GroupLemmas

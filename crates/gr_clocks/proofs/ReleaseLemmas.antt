@@ -115,7 +115,7 @@ left_counted (x ∷ releases) j (suc k) r below at =
 tick_learns : (old new : ClockTable) (i : ItemId) → TicksItem old i new → LearnsAndTicks old i [] new
 tick_learns old new i ticks = record {
   shape = ticks.shape;
-  item = record { shape = ticks.item.shape; counts = λ j. let is = ticks.item.counts j in omega (arith, is) };
+  item = record { counts = λ j. let is = ticks.item.counts j in omega (arith, is) };
   others = ticks.others;
 }
 

@@ -1,22 +1,23 @@
 -- The clocks of items in a table: what is read, and what is written at an item or a group.
 use Rattle.std.proofs.Common.{◌≡◌, ◌≢◌, ◌⊎◌, inl, inr, ℕ, suc, ◌+◌, ◌<◌, ◌≤◌, max, Bool, true, false, List, [], ◌∷◌, ◌++◌, map, length, slice_index, get_or, set, All, refl, sym, ◌∙◌, ap, subst, arith, ⊎_elim}
 use Rattle.std.proofs.lemmas.Bool.{cases_eq, cases_lt}
-use Rattle.std.proofs.lemmas.List.{length-map, length-set, map-set, get_or-set_same, get_or-set_other, get_or_read, get_or_push, get_or_append_left, ext_get_or}
+use Rattle.std.proofs.lemmas.List.{length-map, length-set, length_push, map-append, map-set, get_or-set_same, get_or-set_other, get_or_read, get_or_push, get_or_append_left, ext_get_or}
 use Rattle.std.proofs.Math.ListN.{get_or-map}
 use Rattle.std.proofs.Math.Seq.{map-set_same}
 use Rattle.gr_model.specs.declared.event.ItemId.{ItemId}
+use Rattle.gr_model.specs.Groups.{put}
 use Rattle.gr_model.specs.Shapes.{HasItem}
+use Rattle.gr_model.proofs.PutLemmas.{map_put, put_behind, put_other, put_same, put_within}
 use Rattle.gr_clocks.specs.declared.clock.TheConstants.{LARGEST_COUNT}
-use Rattle.gr_clocks.specs.Counts.{Counts, count_of, greatest_count, sizes_of, tick_at, IsZero, IsTick, IsJoinOfAll}
+use Rattle.gr_clocks.specs.Counts.{Counts, count_of, greatest_count, tick_at, CountsOneMore, IsZero, IsJoinOfAll}
 use Rattle.gr_clocks.specs.Groups.{item_of, greatest, GroupClocks, no_group, with_clock, IsShared, IsGrown, IsSameGroup, IsBehind}
-use Rattle.gr_clocks.specs.Tables.{ClockTable, clock_at, group_at, table_of, AreGroups, MeetsGroup, AreZero, TicksItem, IsTickOfJoin, LearnsAndTicks}
+use Rattle.gr_clocks.specs.Tables.{AddsItems, ClockTable, clock_at, group_at, table_of, AreGroups, MeetsGroup, AreZero, TicksItem, IsTickOfJoin, LearnsAndTicks}
 use Rattle.gr_clocks.proofs.RowLemmas.{row_size, row_of_item, entry_same, entry_other}
 
-same_group : (x y : GroupClocks) → x.number ≡ y.number → x.sizes ≡ y.sizes → x.clocks ≡ y.clocks → x ≡ y
-same_group x y number sizes clocks =
-    ap (λ (n : ℕ). let g : GroupClocks = record { number = n; sizes = x.sizes; clocks = x.clocks } in g) number ∙
-    ap (λ (ns : List ℕ). let g : GroupClocks = record { number = y.number; sizes = ns; clocks = x.clocks } in g) sizes ∙
-    ap (λ (cs : List Counts). let g : GroupClocks = record { number = y.number; sizes = y.sizes; clocks = cs } in g) clocks
+same_group : (x y : GroupClocks) → x.number ≡ y.number → x.clocks ≡ y.clocks → x ≡ y
+same_group x y number clocks =
+    ap (λ (n : ℕ). let g : GroupClocks = record { number = n; clocks = x.clocks } in g) number ∙
+    ap (λ (cs : List Counts). let g : GroupClocks = record { number = y.number; clocks = cs } in g) clocks
 
 -- ---- the groups of a table
 
@@ -38,10 +39,10 @@ module _ (groups : List GroupClocks) (t : ClockTable) (are : AreGroups groups) (
     put_sizes = map-set_same length t p y.clocks [] same.size
 
     put_here : y ≡ group_at (set t p y.clocks) p
-    put_here = same_group y (group_at (set t p y.clocks) p) same.number (same.sizes ∙ sym put_sizes) (sym (get_or-set_same t p y.clocks [] there))
+    put_here = same_group y (group_at (set t p y.clocks) p) same.number (sym (get_or-set_same t p y.clocks [] there))
 
-    put_other : (q : ℕ) → (q ≡ p → ⊥) → group_at t q ≡ group_at (set t p y.clocks) q
-    put_other q apart = same_group (group_at t q) (group_at (set t p y.clocks) q) refl (sym put_sizes) (sym (get_or-set_other t p q y.clocks [] apart))
+    others_stay : (q : ℕ) → (q ≡ p → ⊥) → group_at t q ≡ group_at (set t p y.clocks) q
+    others_stay q apart = same_group (group_at t q) (group_at (set t p y.clocks) q) refl (sym (get_or-set_other t p q y.clocks [] apart))
 
     pub put_groups : AreGroups (set groups p y)
     put_groups q within =
@@ -51,7 +52,7 @@ module _ (groups : List GroupClocks) (t : ClockTable) (are : AreGroups groups) (
         subst (λ (n : ℕ). get_or (set groups p y) n no_group ≡ group_at (table_of (set groups p y)) n) (sym here)
         (get_or-set_same groups p y no_group in_groups ∙ put_here ∙ ap (λ (u : ClockTable). group_at u p) (sym put_table)))
         (λ (apart : q ≡ p → ⊥).
-        get_or-set_other groups p q y no_group apart ∙ are q (subst (λ (n : ℕ). q < n) (length-set groups p y) within) ∙ ap (λ (u : ClockTable). group_at u q) is ∙ put_other q apart ∙ ap (λ (u : ClockTable). group_at u q) (sym put_table))
+        get_or-set_other groups p q y no_group apart ∙ are q (subst (λ (n : ℕ). q < n) (length-set groups p y) within) ∙ ap (λ (u : ClockTable). group_at u q) is ∙ others_stay q apart ∙ ap (λ (u : ClockTable). group_at u q) (sym put_table))
         (cases_eq q p)
 
   -- a group is put there that has another clock for one item
@@ -63,7 +64,7 @@ module _ (groups : List GroupClocks) (t : ClockTable) (are : AreGroups groups) (
     written_is = written ∙ ap (λ (g : GroupClocks). with_clock g i.item clock) (group_is i.group x in_table reads)
 
     same_written : IsSameGroup (group_at t i.group) y
-    same_written = subst (IsSameGroup (group_at t i.group)) (sym written_is) (record { number = refl; sizes = refl; size = length-set (get_or t i.group []) i.item clock })
+    same_written = subst (IsSameGroup (group_at t i.group)) (sym written_is) (record { number = refl; size = length-set (get_or t i.group []) i.item clock })
 
     pub item_groups : AreGroups (set groups i.group y)
     item_groups = put_groups i.group y in_table same_written
@@ -83,19 +84,18 @@ module _ (old new : ClockTable) (i : ItemId) (clock : Counts) (has : HasItem (ma
   same_sizes : map length new ≡ map length old
   same_sizes = ap (λ (t : ClockTable). map length t) is ∙ map-set_same length old i.group (set (get_or old i.group []) i.item clock) [] (length-set (get_or old i.group []) i.item clock)
 
-  pub ticks_item : IsTick (clock_at old i) i clock → TicksItem old i new
-  ticks_item tick = record { shape = same_sizes; item = subst (IsTick (clock_at old i) i) (sym at_item) tick; others = at_other }
+  pub ticks_item : CountsOneMore (clock_at old i) i clock → TicksItem old i new
+  ticks_item tick = record { shape = same_sizes; item = subst (CountsOneMore (clock_at old i) i) (sym at_item) tick; others = at_other }
 
   pub learns_and_ticks : (theirs : List Counts) → IsTickOfJoin (clock_at old i) theirs i clock → LearnsAndTicks old i theirs new
   learns_and_ticks theirs tick = record { shape = same_sizes; item = subst (IsTickOfJoin (clock_at old i) theirs i) (sym at_item) tick; others = at_other }
 
 pub tick_grows : (mine : Counts) (theirs : List Counts) (i : ItemId) (after : Counts) → IsTickOfJoin mine theirs i after → IsGrown mine after
-tick_grows mine theirs i after tick = record { shape = tick.shape; counts = λ j. let at = tick.counts j in omega arith }
+tick_grows mine theirs i after tick = record { counts = λ j. let at = tick.counts j in omega arith }
 
 -- a tick after joins
-pub tick_of_join : (mine : Counts) (theirs : List Counts) (joined : Counts) (i : ItemId) (after : Counts) → IsJoinOfAll mine theirs joined → IsTick joined i after → IsTickOfJoin mine theirs i after
+pub tick_of_join : (mine : Counts) (theirs : List Counts) (joined : Counts) (i : ItemId) (after : Counts) → IsJoinOfAll mine theirs joined → CountsOneMore joined i after → IsTickOfJoin mine theirs i after
 tick_of_join mine theirs joined i after join tick = record {
-  shape = tick.shape ∙ join.shape;
   counts = λ j. tick.counts j ∙ ap (λ (n : ℕ). n + tick_at i j) (join.counts j);
 }
 
@@ -125,21 +125,21 @@ join_has_room clock mine theirs joined i join mine_room their_room full =
 
 -- ---- new clocks
 
-pub shared_more : (met : Counts) (n : ℕ) (groups more : List GroupClocks) (x : GroupClocks) → length groups ≡ n → ((p : ℕ) → p < n → IsShared met p (get_or groups p no_group)) → IsShared met n x → more ≡ groups ++ x ∷ [] → (p : ℕ) → p < n + 1 → IsShared met p (get_or more p no_group)
-shared_more met n groups more x size each last is p below =
-    subst (λ (gs : List GroupClocks). IsShared met p (get_or gs p no_group)) (sym is)
+pub shared_more : (met : Counts) (size : ℕ → ℕ) (n : ℕ) (groups more : List GroupClocks) (x : GroupClocks) → length groups ≡ n → ((p : ℕ) → p < n → IsShared met p (size p) (get_or groups p no_group)) → IsShared met n (size n) x → more ≡ groups ++ x ∷ [] → (p : ℕ) → p < n + 1 → IsShared met p (size p) (get_or more p no_group)
+shared_more met size n groups more x count each last is p below =
+    subst (λ (gs : List GroupClocks). IsShared met p (size p) (get_or gs p no_group)) (sym is)
     (⊎_elim
-    (λ (same : p ≡ n). subst (IsShared met p) (sym (get_or_push groups x no_group p (size ∙ sym same))) (subst (λ (m : ℕ). IsShared met m x) (sym same) last))
-    (λ (apart : p ≡ n → ⊥). subst (IsShared met p) (sym (get_or_append_left groups (x ∷ []) no_group p (omega arith))) (each p (omega arith)))
+    (λ (same : p ≡ n). subst (IsShared met p (size p)) (sym (get_or_push groups x no_group p (count ∙ sym same))) (subst (λ (m : ℕ). IsShared met m (size m) x) (sym same) last))
+    (λ (apart : p ≡ n → ⊥). subst (IsShared met p (size p)) (sym (get_or_append_left groups (x ∷ []) no_group p (omega arith))) (each p (omega arith)))
     (cases_eq p n))
 
 -- groups that share a clock which has counted nothing
-module _ (sizes : List ℕ) (zero : Counts) (groups : List GroupClocks) (is_zero : IsZero sizes zero) (count : length groups ≡ length sizes) (shared : (p : ℕ) → p < length sizes → IsShared zero p (get_or groups p no_group)) where
+module _ (sizes : List ℕ) (zero : Counts) (groups : List GroupClocks) (is_zero : IsZero sizes zero) (count : length groups ≡ length sizes) (shared : (p : ℕ) → p < length sizes → IsShared zero p (slice_index sizes p) (get_or groups p no_group)) where
   row_is : (p : ℕ) → get_or (table_of groups) p [] ≡ (get_or groups p no_group).clocks
   row_is p = get_or-map (λ (g : GroupClocks). g.clocks) groups p no_group
 
   zero_row : (p : ℕ) → p < length sizes → length (get_or (table_of groups) p []) ≡ slice_index sizes p
-  zero_row p below = ap (λ (cs : List Counts). length cs) (row_is p) ∙ (shared p below).size ∙ ap (λ (ns : List ℕ). slice_index ns p) is_zero.shape
+  zero_row p below = ap (λ (cs : List Counts). length cs) (row_is p) ∙ (shared p below).size
 
   zero_sizes : map length (table_of groups) ≡ sizes
   zero_sizes =
@@ -149,15 +149,15 @@ module _ (sizes : List ℕ) (zero : Counts) (groups : List GroupClocks) (is_zero
   pub zero_groups : AreGroups groups
   zero_groups p within =
       let is = shared p (subst (λ (n : ℕ). p < n) count within) in
-      same_group (get_or groups p no_group) (group_at (table_of groups) p) is.number (is.sizes ∙ is_zero.shape ∙ sym zero_sizes) (sym (row_is p))
+      same_group (get_or groups p no_group) (group_at (table_of groups) p) is.number (sym (row_is p))
 
   pub zero_table : AreZero sizes (table_of groups)
   zero_table = record {
     shape = zero_sizes;
-    clocks = λ i has.
+    clocks = λ i j has.
         let there = row_of_item (table_of groups) i (subst (λ (ns : List ℕ). HasItem ns i) (sym zero_sizes) has) in
         let is = (shared i.group has.0).each i.item (subst (λ (cs : List Counts). i.item < length cs) (row_is i.group) there.1) in
-        subst (IsZero sizes) (sym (ap (λ (cs : List Counts). get_or cs i.item []) (row_is i.group) ∙ is)) is_zero;
+        ap (λ (cs : List Counts). count_of (get_or cs i.item []) j) (row_is i.group) ∙ is j ∙ is_zero.zero j;
   }
 
 -- ---- a barrier
@@ -171,9 +171,6 @@ meets_group group orders old new y there behind is =
     elim orders as (λ b. IsBehind (group_at old group) b y → MeetsGroup old group b new) [
       | true ↦ λ met. record {
         shape = shape met.same.size;
-        shapes = λ k below.
-            let within : k < length (get_or old group []) = subst (λ (n : ℕ). k < n) size below in
-            ap (λ (cs : List Counts). sizes_of (get_or cs k [])) row ∙ (met.each k within).shape ∙ sym (met.shapes k within);
         counts = λ k j below.
             let within : k < length (get_or old group []) = subst (λ (n : ℕ). k < n) size below in
             let f = λ (m : ℕ). count_of (clock_at old (item_of group m)) j + tick_at (item_of group m) j in
@@ -184,10 +181,76 @@ meets_group group orders old new y there behind is =
         shape = shape ticked.same.size;
         items = λ k below.
             let within : k < length (get_or old group []) = subst (λ (n : ℕ). k < n) size below in
-            subst (λ (cs : List Counts). IsTick (get_or (get_or old group []) k []) (item_of group k) (get_or cs k [])) (sym row) (ticked.each k within);
+            subst (λ (cs : List Counts). CountsOneMore (get_or (get_or old group []) k []) (item_of group k) (get_or cs k [])) (sym row) (ticked.each k within);
         others = others;
       }
     ] behind
 
 pub behind_same : (g : GroupClocks) (orders : Bool) (y : GroupClocks) → IsBehind g orders y → IsSameGroup g y
 behind_same g orders y behind = elim orders as (λ b. IsBehind g b y → IsSameGroup g y) [ true ↦ λ met. met.same | false ↦ λ ticked. ticked.same ] behind
+
+-- ---- a group gets its items
+
+-- groups without items may stand behind the others, and a group then in its place
+pub record Reaches (t : ClockTable) (group : ℕ) (groups : List GroupClocks) : Type 0 where
+  pub are : AreGroups groups
+  pub same : (row : List Counts) → put [] (table_of groups) group row ≡ put [] t group row
+
+table_push : (groups : List GroupClocks) (x : GroupClocks) → table_of (groups ++ x ∷ []) ≡ table_of groups ++ x.clocks ∷ []
+table_push groups x = map-append (λ (g : GroupClocks). g.clocks) groups (x ∷ [])
+
+pub reaches_more : (t : ClockTable) (group n : ℕ) (groups more : List GroupClocks) (x : GroupClocks) → length groups ≡ n → n ≤ group → Reaches t group groups → x.number ≡ n → length x.clocks ≡ 0 → more ≡ groups ++ x ∷ [] → Reaches t group more
+reaches_more t group n groups more x size below reaches number none is = record {
+  are = λ p within. subst (λ (gs : List GroupClocks). get_or gs p no_group ≡ group_at (table_of gs) p) (sym is)
+      (⊎_elim
+      (λ (same : p ≡ n). get_or_push groups x no_group p (size ∙ sym same) ∙ same_group x (group_at (table_of (groups ++ x ∷ [])) p) (number ∙ sym same) (sym (row_is (groups ++ x ∷ []) p ∙ ap (λ (g : GroupClocks). g.clocks) (get_or_push groups x no_group p (size ∙ sym same)))))
+      (λ (apart : p ≡ n → ⊥).
+      let count = length_push groups x in
+      let lengths : length more ≡ length (groups ++ x ∷ []) = ap length is in
+      let there : p < length groups = omega (arith, within, apart, size, count, lengths) in
+      let here = get_or_append_left groups (x ∷ []) no_group p there in
+      here ∙ same_group (get_or groups p no_group) (group_at (table_of (groups ++ x ∷ [])) p) (ap (λ (g : GroupClocks). g.number) (reaches.are p there)) (sym (row_is (groups ++ x ∷ []) p ∙ ap (λ (g : GroupClocks). g.clocks) here)))
+      (cases_eq p n));
+  same = λ row.
+      let nothing : x.clocks ≡ [] = empty x.clocks none in
+      let pushed : table_of more ≡ table_of groups ++ [] ∷ [] = ap table_of is ∙ table_push groups x ∙ ap (λ (cs : List Counts). table_of groups ++ cs ∷ []) nothing in
+      let over : length (table_of groups) ≤ group = omega (arith, length-map groups (λ (g : GroupClocks). g.clocks), size, below) in
+      ap (λ (u : ClockTable). put [] u group row) pushed ∙ put_behind [] (table_of groups) group row over ∙ reaches.same row;
+}
+  where
+    row_is : (gs : List GroupClocks) (p : ℕ) → get_or (table_of gs) p [] ≡ (get_or gs p no_group).clocks
+    row_is gs p = get_or-map (λ (g : GroupClocks). g.clocks) gs p no_group
+
+    empty : (cs : List Counts) → length cs ≡ 0 → cs ≡ []
+    empty [] none = refl
+    empty (c ∷ cs) none = absurd (omega (arith, none))
+
+module _ (t : ClockTable) (group n : ℕ) (groups : List GroupClocks) (x : GroupClocks) (reaches : Reaches t group groups) (there : group < length groups) (zero : Counts) (nothing : (j : ItemId) → count_of zero j ≡ 0) (shared : IsShared zero group n x) where
+  added_table : table_of (set groups group x) ≡ put [] t group x.clocks
+  added_table =
+      let within : group < length (table_of groups) = omega (arith, length-map groups (λ (g : GroupClocks). g.clocks), there) in
+      map-set (λ (g : GroupClocks). g.clocks) groups group x ∙ sym (put_within [] (table_of groups) group x.clocks within) ∙ reaches.same x.clocks
+
+  row_of : (p : ℕ) → get_or (table_of (set groups group x)) p [] ≡ (get_or (set groups group x) p no_group).clocks
+  row_of p = get_or-map (λ (g : GroupClocks). g.clocks) (set groups group x) p no_group
+
+  pub added_groups : AreGroups (set groups group x)
+  added_groups p within =
+      ⊎_elim
+      (λ (here : p ≡ group).
+      let at : get_or (set groups group x) p no_group ≡ x = ap (λ (q : ℕ). get_or (set groups group x) q no_group) here ∙ get_or-set_same groups group x no_group there in
+      same_group (get_or (set groups group x) p no_group) (group_at (table_of (set groups group x)) p) (ap (λ (g : GroupClocks). g.number) at ∙ shared.number ∙ sym here) (sym (row_of p)))
+      (λ (apart : p ≡ group → ⊥).
+      let at : get_or (set groups group x) p no_group ≡ get_or groups p no_group = get_or-set_other groups group p x no_group apart in
+      let was = reaches.are p (subst (λ (m : ℕ). p < m) (length-set groups group x) within) in
+      same_group (get_or (set groups group x) p no_group) (group_at (table_of (set groups group x)) p) (ap (λ (g : GroupClocks). g.number) at ∙ ap (λ (g : GroupClocks). g.number) was) (sym (row_of p)))
+      (cases_eq p group)
+
+  pub adds_items : AddsItems t group n (table_of (set groups group x))
+  adds_items = record {
+    shape = ap (λ (u : ClockTable). map length u) added_table ∙ map_put length [] t group x.clocks ∙ ap (put 0 (map length t) group) shared.size;
+    fresh = λ k j below.
+        let at : clock_at (table_of (set groups group x)) (item_of group k) ≡ get_or x.clocks k [] = ap (λ (u : ClockTable). clock_at u (item_of group k)) added_table ∙ ap (λ (cs : List Counts). get_or cs k []) (put_same [] t group x.clocks) in
+        ap (λ (c : Counts). count_of c j) at ∙ shared.each k (let size = shared.size in omega (arith, below, size)) j ∙ nothing j;
+    others = λ i apart. ap (λ (u : ClockTable). clock_at u i) added_table ∙ ap (λ (cs : List Counts). get_or cs i.item []) (put_other [] t group x.clocks i.group apart);
+  }

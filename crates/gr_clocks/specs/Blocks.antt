@@ -1,6 +1,6 @@
 -- The counts of one work-group's items.
 -- Source: docs/MODEL.md, "Clocks".
-use Rattle.std.specs.Prelude.{◌≡◌, ℕ, ◌<◌, ◌≤◌, max, slice_index, All, List, length}
+use Rattle.std.specs.Prelude.{◌≡◌, ◌≢◌, ℕ, ◌<◌, ◌≤◌, max, slice_index, All, List, length}
 use Rattle.gr_clocks.specs.declared.clock.TheConstants.{LARGEST_COUNT}
 
 -- counts with a limit of their own
@@ -14,8 +14,12 @@ IsRowWithin mine theirs = (p : ℕ) → slice_index mine p ≤ slice_index their
 
 -- joined has the greater count at each place
 pub record IsRowJoin (mine theirs joined : List ℕ) : Type 0 where
-  pub size : length joined ≡ length mine
   pub counts : (p : ℕ) → slice_index joined p ≡ max (slice_index mine p) (slice_index theirs p)
+
+-- a row with this count at one place, and the same at the others
+pub record IsRowWith (mine : List ℕ) (place count : ℕ) (changed : List ℕ) : Type 0 where
+  pub here : slice_index changed place ≡ count
+  pub others : (p : ℕ) → p ≢ place → slice_index changed p ≡ slice_index mine p
 
 -- now has the greater count at each place below this one, and mine from it on
 pub record IsRowJoinBelow (below : ℕ) (mine theirs now : List ℕ) : Type 0 where

@@ -1,11 +1,11 @@
 -- What a vector clock counts: of each work-item, a number of its events.
 -- Source: docs/MODEL.md, "Clocks". After Mattern, Virtual Time and Global States of Distributed Systems, 1988.
-use Rattle.std.specs.Prelude.{◌≡◌, ℕ, ◌+◌, ◌<◌, ◌≤◌, max, slice_index, All, List, [], ◌∷◌, map, length, if◌then◌else◌}
+use Rattle.std.specs.Prelude.{◌≡◌, ℕ, ◌+◌, max, List, [], ◌∷◌, map, length, if◌then◌else◌}
 use Rattle.gr_model.specs.declared.event.ItemId.{ItemId}
-use Rattle.gr_clocks.specs.declared.clock.TheConstants.{LARGEST_COUNT}
-use Rattle.gr_clocks.specs.Rows.{entry_of, same_item, AreStarts}
+use Rattle.gr_model.specs.Groups.{put}
+use Rattle.gr_clocks.specs.Rows.{entry_of, same_item}
 
--- a clock: for each group, the counts of its items
+-- a clock: for each group, the counts of its items. It may lack groups and items of which it counts nothing
 abbrev pub Counts : Type 0
 Counts = List (List ℕ)
 
@@ -26,14 +26,21 @@ pub record IsZero (sizes : List ℕ) (c : Counts) : Type 0 where
   pub shape : sizes_of c ≡ sizes
   pub zero : (j : ItemId) → count_of c j ≡ 0
 
--- after counts one more event of item i than before
+-- after has the same groups and items, and counts one more event of item i than before
 pub record IsTick (before : Counts) (i : ItemId) (after : Counts) : Type 0 where
   pub shape : sizes_of after ≡ sizes_of before
   pub counts : (j : ItemId) → count_of after j ≡ count_of before j + tick_at i j
 
+-- two clocks count the same
+abbrev pub CountSame : Counts → Counts → Type 0
+CountSame c d = (j : ItemId) → count_of c j ≡ count_of d j
+
+-- after counts one more event of item i than before, and as many of the others
+pub record CountsOneMore (before : Counts) (i : ItemId) (after : Counts) : Type 0 where
+  pub counts : (j : ItemId) → count_of after j ≡ count_of before j + tick_at i j
+
 -- joined has the greater count of each item
 pub record IsJoin (mine theirs joined : Counts) : Type 0 where
-  pub shape : sizes_of joined ≡ sizes_of mine
   pub counts : (j : ItemId) → count_of joined j ≡ max (count_of mine j) (count_of theirs j)
 
 -- the greatest count of an item among some clocks
@@ -43,20 +50,9 @@ greatest_count (c ∷ clocks) j = max (count_of c j) (greatest_count clocks j)
 
 -- joined has the greatest count of each item, of mine and all of theirs
 pub record IsJoinOfAll (mine : Counts) (theirs : List Counts) (joined : Counts) : Type 0 where
-  pub shape : sizes_of joined ≡ sizes_of mine
   pub counts : (j : ItemId) → count_of joined j ≡ max (count_of mine j) (greatest_count theirs j)
 
--- ---- counts in a list
-
--- a list of counts, and the starts of its groups
-pub record AreCounts (starts counts : List ℕ) : Type 0 where
-  pub whole : AreStarts starts (length counts)
-  pub limit : All (λ n. n ≤ LARGEST_COUNT) counts
-
--- now has the greater count at each place below this one, and mine from it on
-pub record IsJoinBelow (below : ℕ) (mine theirs now : List ℕ) : Type 0 where
-  pub size : length now ≡ length mine
-  pub others : length theirs ≡ length mine
-  pub greater : (p : ℕ) → p < below → slice_index now p ≡ max (slice_index mine p) (slice_index theirs p)
-  pub same : (p : ℕ) → below ≤ p → slice_index now p ≡ slice_index mine p
-  pub limit : All (λ n. n ≤ LARGEST_COUNT) now
+-- a group has so many items, of whom nothing is counted, and of all others as much as before
+pub record AddsCounts (before : Counts) (group n : ℕ) (after : Counts) : Type 0 where
+  pub shape : sizes_of after ≡ put 0 (sizes_of before) group n
+  pub counts : CountSame after before

@@ -3,7 +3,7 @@
 use Rattle.std.specs.Prelude.{◌≡◌, ◌≢◌, ℕ, zero, suc, ◌+◌, ◌<◌, ◌≤◌, ◌^◌, max, All, Bool, true, false, List, [], length, set, slice_index, slice_index_or}
 use Rattle.gr_model.specs.declared.event.ItemId.{ItemId}
 use Rattle.gr_clocks.specs.declared.clock.TheConstants.{LARGEST_COUNT}
-use Rattle.gr_clocks.specs.Counts.{Counts, count_of, sizes_of, tick_at, IsTick}
+use Rattle.gr_clocks.specs.Counts.{Counts, count_of, tick_at, CountsOneMore, CountSame}
 
 -- the item of a group at a place
 abbrev pub item_of : ℕ → ℕ → ItemId
@@ -14,45 +14,40 @@ abbrev pub greatest : ℕ → (ℕ → ℕ) → ℕ
 greatest zero f = 0
 greatest (suc n) f = max (f n) (greatest n f)
 
--- the number of a group, how many items each group has, and the clocks of its own items
+-- the number of a group, and the clocks of its items
 pub record GroupClocks : Type 0 where
   pub number : ℕ
-  pub sizes : List ℕ
   pub clocks : List Counts
 
 -- what stands for a group where there is none
 abbrev pub no_group : GroupClocks
-no_group = record { number = 0; sizes = []; clocks = [] }
+no_group = record { number = 0; clocks = [] }
 
 abbrev pub clock_in_group : GroupClocks → ℕ → Counts
 clock_in_group g k = slice_index_or g.clocks k []
 
 -- the group with this clock for an item
 abbrev pub with_clock : GroupClocks → ℕ → Counts → GroupClocks
-with_clock g k c = record { number = g.number; sizes = g.sizes; clocks = set g.clocks k c }
+with_clock g k c = record { number = g.number; clocks = set g.clocks k c }
 
 -- ---- what a group keeps
 
 -- c counts what was met, and no more but of item i where the item learned nothing since
 pub record Keeps (met : Counts) (i : ItemId) (learned : Bool) (c : Counts) : Type 0 where
-  pub shape : sizes_of c ≡ sizes_of met
   pub least : (j : ItemId) → count_of met j ≤ count_of c j
   pub most : learned ≡ false → (j : ItemId) → i ≢ j → count_of c j ≤ count_of met j
 
 -- a clock for each item of the group, a mark for each, and what was met
 pub record IsGroup (number : ℕ) (met : Counts) (clocks : List Counts) (learned : List Bool) : Type 0 where
-  pub there : number < length (sizes_of met)
-  pub size : slice_index (sizes_of met) number ≡ length clocks
   pub few : length clocks < 2 ^ 16
   pub marks : length learned ≡ length clocks
   pub each : (k : ℕ) → k < length clocks → Keeps met (item_of number k) (slice_index_or learned k false) (slice_index_or clocks k [])
 
--- all items count the same
-pub record IsShared (met : Counts) (group : ℕ) (g : GroupClocks) : Type 0 where
+-- a group of so many items, who all count the same
+pub record IsShared (met : Counts) (group count : ℕ) (g : GroupClocks) : Type 0 where
   pub number : g.number ≡ group
-  pub sizes : g.sizes ≡ sizes_of met
-  pub size : length g.clocks ≡ slice_index (sizes_of met) group
-  pub each : (k : ℕ) → k < length g.clocks → clock_in_group g k ≡ met
+  pub size : length g.clocks ≡ count
+  pub each : (k : ℕ) → k < length g.clocks → CountSame (clock_in_group g k) met
 
 -- ---- an event of one item
 
@@ -66,11 +61,10 @@ HasFullClock g = (k : ℕ) × (k < length g.clocks) × IsFullClock g k
 -- the item ticks, and nothing else changes
 pub record TicksClock (old : GroupClocks) (k : ℕ) (new : GroupClocks) : Type 0 where
   pub group : new ≡ with_clock old k (clock_in_group new k)
-  pub tick : IsTick (clock_in_group old k) (item_of old.number k) (clock_in_group new k)
+  pub tick : CountsOneMore (clock_in_group old k) (item_of old.number k) (clock_in_group new k)
 
 -- after counts no less than before
 pub record IsGrown (before after : Counts) : Type 0 where
-  pub shape : sizes_of after ≡ sizes_of before
   pub counts : (j : ItemId) → count_of before j ≤ count_of after j
 
 -- ---- a barrier
@@ -78,19 +72,16 @@ pub record IsGrown (before after : Counts) : Type 0 where
 -- the same items
 pub record IsSameGroup (old new : GroupClocks) : Type 0 where
   pub number : new.number ≡ old.number
-  pub sizes : new.sizes ≡ old.sizes
   pub size : length new.clocks ≡ length old.clocks
 
 -- base counts what was met, and what the first n clocks do, their own items aside, and no more than some clock does
 pub record MergesFirst (met : Counts) (g : GroupClocks) (n : ℕ) (base : Counts) : Type 0 where
-  pub shape : sizes_of base ≡ g.sizes
   pub above : (j : ItemId) → count_of met j ≤ count_of base j
   pub least : (k : ℕ) (j : ItemId) → k < n → item_of g.number k ≢ j → count_of (clock_in_group g k) j ≤ count_of base j
   pub most : (j : ItemId) → 0 < length g.clocks → count_of base j ≤ greatest (length g.clocks) (λ k. count_of (clock_in_group g k) j)
 
 -- base counts what all clocks do, their own items aside, and no more than some clock does
 pub record Merges (g : GroupClocks) (base : Counts) : Type 0 where
-  pub shape : sizes_of base ≡ g.sizes
   pub least : (k : ℕ) (j : ItemId) → k < length g.clocks → item_of g.number k ≢ j → count_of (clock_in_group g k) j ≤ count_of base j
   pub most : (j : ItemId) → 0 < length g.clocks → count_of base j ≤ greatest (length g.clocks) (λ k. count_of (clock_in_group g k) j)
 
@@ -110,12 +101,11 @@ met_count g j = greatest (length g.clocks) (λ k. count_of (clock_in_group g k) 
 
 -- base counts what all of them do, each with one more event of its item
 pub record IsMetBase (g : GroupClocks) (base : Counts) : Type 0 where
-  pub shape : sizes_of base ≡ g.sizes
   pub counts : (j : ItemId) → count_of base j ≡ met_count g j
 
 -- each of the first n items ticks
 abbrev pub TickFirst : GroupClocks → ℕ → List Counts → Type 0
-TickFirst g n clocks = (k : ℕ) → k < n → IsTick (clock_in_group g k) (item_of g.number k) (slice_index_or clocks k [])
+TickFirst g n clocks = (k : ℕ) → k < n → CountsOneMore (clock_in_group g k) (item_of g.number k) (slice_index_or clocks k [])
 
 -- each item ticks
 pub record TicksEach (old new : GroupClocks) : Type 0 where
@@ -125,7 +115,6 @@ pub record TicksEach (old new : GroupClocks) : Type 0 where
 -- each item counts what all of them do
 pub record MeetsEach (old new : GroupClocks) : Type 0 where
   pub same : IsSameGroup old new
-  pub shapes : (k : ℕ) → k < length old.clocks → sizes_of (clock_in_group old k) ≡ old.sizes
   pub each : (k : ℕ) → k < length old.clocks → IsMetBase old (clock_in_group new k)
 
 -- behind a barrier that orders the memory, or does not

@@ -8,10 +8,10 @@ use Rattle.gr_model.specs.declared.event.ItemId.{ItemId}
 use Rattle.gr_model.specs.declared.event.Word.{Word}
 use Rattle.gr_model.specs.declared.event.Word.TheVariants.{Global as GlobalWord, Local as LocalWord}
 use Rattle.gr_model.specs.Access.{memory_of}
-use Rattle.gr_model.specs.Shapes.{IsShape}
+use Rattle.gr_model.specs.Groups.{put}
 use Rattle.gr_clocks.specs.declared.clock.TheConstants.{LARGEST_COUNT}
-use Rattle.gr_clocks.specs.Counts.{Counts, count_of}
-use Rattle.gr_clocks.specs.Tables.{ClockTable, clock_at, AreZero, IsItemFull, TicksItem, IsGroupFull, LearnsAndTicks, MeetsGroup}
+use Rattle.gr_clocks.specs.Counts.{Counts, count_of, CountSame}
+use Rattle.gr_clocks.specs.Tables.{ClockTable, clock_at, AddsItems, AreZero, IsItemFull, TicksItem, IsGroupFull, LearnsAndTicks, MeetsGroup}
 
 -- the sizes of the groups, and the clocks of their items in each memory
 pub record ItemClocks : Type 0 where
@@ -31,6 +31,11 @@ clock_in v m i = clock_at (clocks_in v m) i
 pub record AreNew (sizes : List ℕ) (v : ItemClocks) : Type 0 where
   pub shape : v.sizes ≡ sizes
   pub clocks : (m : Space) → AreZero sizes (clocks_in v m)
+
+-- a group has so many items, whose clocks have counted nothing, and no other clock changes
+pub record AddsGroup (old : ItemClocks) (group n : ℕ) (new : ItemClocks) : Type 0 where
+  pub shape : new.sizes ≡ put 0 old.sizes group n
+  pub tables : (m : Space) → AddsItems (clocks_in old m) group n (clocks_in new m)
 
 -- an item's count of its own events is as great as it may be, in one of the memories
 abbrev pub IsSpent : ItemClocks → ItemId → Type 0
@@ -53,9 +58,11 @@ pub record ReleaseClock : Type 0 where
   pub scope : Scope
   pub clock : Counts
 
--- what a release of the item leaves, where these are the clocks after it
-abbrev pub release_of : ItemClocks → ItemId → Word → Scope → ReleaseClock
-release_of v i word scope = record { word = word; scope = scope; clock = clock_in v (memory_of word) i }
+-- what a release of the item leaves, where these are the clocks after it: all that its clock in the word's memory counts
+pub record IsReleaseOf (v : ItemClocks) (i : ItemId) (w : Word) (s : Scope) (r : ReleaseClock) : Type 0 where
+  pub word : r.word ≡ w
+  pub scope : r.scope ≡ s
+  pub counts : CountSame r.clock (clock_in v (memory_of w) i)
 
 -- all releases are on one word
 abbrev pub AreOfOneWord : List ReleaseClock → Type 0
@@ -96,9 +103,8 @@ pub record MeetsClocks (old : ItemClocks) (group : ℕ) (global local : Bool) (n
 
 -- ---- two tables
 
--- the clocks of one shape's items in both memories
+-- the clocks of the same items in both memories
 pub record AreOfOneShape (global local : ClockTable) : Type 0 where
-  pub shape : IsShape (map length global)
   pub same : map length local ≡ map length global
 
 abbrev pub clocks_of : ClockTable → ClockTable → ItemClocks

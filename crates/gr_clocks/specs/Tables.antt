@@ -2,10 +2,11 @@
 -- Source: docs/MODEL.md, "Clocks".
 use Rattle.std.specs.Prelude.{◌≡◌, ◌≢◌, ◌⊎◌, ℕ, ◌+◌, ◌<◌, ◌≤◌, max, Bool, true, false, List, [], map, length, slice_index, slice_index_or}
 use Rattle.gr_model.specs.declared.event.ItemId.{ItemId}
+use Rattle.gr_model.specs.Groups.{put}
 use Rattle.gr_model.specs.Shapes.{HasItem}
 use Rattle.gr_clocks.specs.declared.clock.TheConstants.{LARGEST_COUNT}
 use Rattle.gr_clocks.specs.Rows.{entry_of}
-use Rattle.gr_clocks.specs.Counts.{Counts, count_of, greatest_count, sizes_of, tick_at, IsZero, IsTick}
+use Rattle.gr_clocks.specs.Counts.{Counts, count_of, greatest_count, tick_at, CountsOneMore}
 use Rattle.gr_clocks.specs.Groups.{GroupClocks, no_group}
 pub use Rattle.gr_clocks.specs.Groups.{item_of, greatest}
 
@@ -20,7 +21,7 @@ clock_at t i = entry_of [] t i
 -- new clocks of a shape, which have counted nothing
 pub record AreZero (sizes : List ℕ) (t : ClockTable) : Type 0 where
   pub shape : map length t ≡ sizes
-  pub clocks : (i : ItemId) → HasItem sizes i → IsZero sizes (clock_at t i)
+  pub clocks : (i j : ItemId) → HasItem sizes i → count_of (clock_at t i) j ≡ 0
 
 -- an item's count of its own events is as great as it may be
 abbrev pub IsItemFull : ClockTable → ItemId → Type 0
@@ -29,17 +30,22 @@ IsItemFull t i = count_of (clock_at t i) i ≡ LARGEST_COUNT
 abbrev pub IsGroupFull : ClockTable → ℕ → Type 0
 IsGroupFull t group = (k : ℕ) × (k < slice_index (map length t) group) × IsItemFull t (item_of group k)
 
+-- a group has so many items, whose clocks have counted nothing, and no other clock changes
+pub record AddsItems (old : ClockTable) (group n : ℕ) (new : ClockTable) : Type 0 where
+  pub shape : map length new ≡ put 0 (map length old) group n
+  pub fresh : (k : ℕ) (j : ItemId) → k < n → count_of (clock_at new (item_of group k)) j ≡ 0
+  pub others : (i : ItemId) → i.group ≢ group → clock_at new i ≡ clock_at old i
+
 -- ---- an event of one item: no other clock changes
 
 -- the item ticks
 pub record TicksItem (old : ClockTable) (i : ItemId) (new : ClockTable) : Type 0 where
   pub shape : map length new ≡ map length old
-  pub item : IsTick (clock_at old i) i (clock_at new i)
+  pub item : CountsOneMore (clock_at old i) i (clock_at new i)
   pub others : (j : ItemId) → j ≢ i → clock_at new j ≡ clock_at old j
 
 -- after counts all that mine and all of theirs count, and one more event of item i
 pub record IsTickOfJoin (mine : Counts) (theirs : List Counts) (i : ItemId) (after : Counts) : Type 0 where
-  pub shape : sizes_of after ≡ sizes_of mine
   pub counts : (j : ItemId) → count_of after j ≡ max (count_of mine j) (greatest_count theirs j) + tick_at i j
 
 -- the item learns what other clocks count, and then ticks once
@@ -53,7 +59,7 @@ pub record LearnsAndTicks (old : ClockTable) (i : ItemId) (theirs : List Counts)
 -- each item of the group ticks
 pub record TicksGroup (old : ClockTable) (group : ℕ) (new : ClockTable) : Type 0 where
   pub shape : map length new ≡ map length old
-  pub items : (k : ℕ) → k < slice_index (map length old) group → IsTick (clock_at old (item_of group k)) (item_of group k) (clock_at new (item_of group k))
+  pub items : (k : ℕ) → k < slice_index (map length old) group → CountsOneMore (clock_at old (item_of group k)) (item_of group k) (clock_at new (item_of group k))
   pub others : (j : ItemId) → j.group ≢ group → clock_at new j ≡ clock_at old j
 
 -- the count of item j in the join of the clocks of a group's items, each with one more event of its item
@@ -63,7 +69,6 @@ joined_count t group j = greatest (slice_index (map length t) group) (λ k. coun
 -- each item of the group ticks, and then learns what all of them count
 pub record JoinsGroup (old : ClockTable) (group : ℕ) (new : ClockTable) : Type 0 where
   pub shape : map length new ≡ map length old
-  pub shapes : (k : ℕ) → k < slice_index (map length old) group → sizes_of (clock_at new (item_of group k)) ≡ sizes_of (clock_at old (item_of group k))
   pub counts : (k : ℕ) (j : ItemId) → k < slice_index (map length old) group → count_of (clock_at new (item_of group k)) j ≡ joined_count old group j
   pub others : (j : ItemId) → j.group ≢ group → clock_at new j ≡ clock_at old j
 
@@ -82,12 +87,12 @@ IsBeyond group n j = (j.group ≢ group) ⊎ (n ≤ j.item)
 
 -- a group, as the table has it
 abbrev pub group_at : ClockTable → ℕ → GroupClocks
-group_at t group = record { number = group; sizes = map length t; clocks = slice_index_or t group [] }
+group_at t group = record { number = group; clocks = slice_index_or t group [] }
 
 -- the clocks of the groups
 abbrev pub table_of : List GroupClocks → ClockTable
 table_of groups = map (λ g. g.clocks) groups
 
--- each group has its place for its number, and the sizes of all
+-- each group has its place for its number
 abbrev pub AreGroups : List GroupClocks → Type 0
 AreGroups groups = (p : ℕ) → p < length groups → slice_index_or groups p no_group ≡ group_at (table_of groups) p

@@ -1,10 +1,11 @@
-//! The counts of all items, in blocks of one work-group each, which clocks share.
+//! The counts of all items, in blocks of one work-group each, which clocks share. There may be no block of a group of which
+//! nothing is counted.
 
-ghost use Rattle.std.specs.Prelude.{◌≡◌, ◌<◌, ◌≤◌, All, IfOk, OnOk, OnErr, IsOkUnless, length, set};
+ghost use Rattle.std.specs.Prelude.{◌≡◌, ◌<◌, ◌≤◌, All, IfOk, OnOk, IsOkUnless, length};
 ghost use Rattle.gr_clocks.specs.declared.clock.ClockError.TheVariants.{Memory as OutOfMemory};
-ghost use Rattle.gr_model.specs.Shapes.{HasItem};
-ghost use Rattle.gr_clocks.specs.Counts.{count_of, sizes_of, IsZero, IsJoin};
-ghost use Rattle.gr_clocks.specs.Owned.{with_count};
+ghost use Rattle.gr_model.specs.declared.event.ItemId.{ItemId as AnyItem};
+ghost use Rattle.gr_clocks.specs.Counts.{count_of, CountSame, IsZero, IsJoin};
+ghost use Rattle.gr_clocks.specs.Owned.{IsRaisedBy, IsRaisedTo};
 
 use crate::block::Block;
 use crate::clock::{ClockError, LARGEST_COUNT};
@@ -43,6 +44,15 @@ impl<A: Allocator + Copy> Base<A> {
 }
 
 impl<A: Allocator> Base<A> {
+    /// No counts at all.
+    pub(crate) fn none(alloc: A) -> Base<A>
+        ensures { (i : AnyItem) → count_of result i ≡ 0 }
+    {
+        Base {
+            blocks: Vec::new(alloc),
+        }
+    }
+
     /// What its memory is taken from.
     pub(crate) fn alloc(&self) -> Result<A, ClockError>
     where
@@ -79,52 +89,71 @@ impl<A: Allocator> Base<A> {
         Ok(Base { blocks })
     }
 
-    /// Makes this the count of an item.
-    ///
-    /// # Errors
-    /// `Memory`: out of memory. The counts are then as they were.
-    pub(crate) fn set(&mut self, item: ItemId, count: u32) -> Result<(), ClockError>
+    /// Has a block for the group, and counts what it did.
+    fn reach(&mut self, group: usize) -> Result<(), ClockError>
     where
         A: Clone,
-        requires item { HasItem (sizes_of self.old) item }
-        requires limit { count ≤ LARGEST_COUNT }
-        ensures ok { OnOk result (self.new ≡ with_count self.old item count) }
+        ensures same { OnOk result (CountSame self.new self.old) }
+        ensures there { OnOk result (group < length self.new) }
         ensures memory { IsOkUnless result ClockError.Memory }
-        ensures err { OnErr result (self.new ≡ self.old) }
+    {
+        while self.blocks.len() <= group {
+            let block = Block::empty(self.alloc()?)?;
+            self.blocks.push(block)?;
+        }
+        Ok(())
+    }
+
+    /// Takes this count of an item, where it is greater than the one there.
+    pub(crate) fn raise_to(&mut self, item: ItemId, count: u32) -> Result<(), ClockError>
+    where
+        A: Clone,
+        requires { count ≤ LARGEST_COUNT }
+        ensures raised { OnOk result (IsRaisedTo self.old item count self.new) }
+        ensures memory { IsOkUnless result ClockError.Memory }
     {
         let group = item.group as usize;
-        if self.blocks[group].get(item.item) != count {
+        self.reach(group)?;
+        if self.blocks[group].get(item.item) < count {
             let block = self.blocks[group].with(item.item, count)?;
             self.blocks[group] = block;
         }
         Ok(())
     }
 
-    /// Makes these the counts of a group's items.
-    pub(crate) fn set_group(&mut self, group: u16, counts: Vec<u32, A>) -> Result<(), ClockError>
+    /// Takes the greater count of each item of a group.
+    fn learn_block(&mut self, group: usize, block: &Block<A>) -> Result<(), ClockError>
     where
         A: Clone,
-        requires there { group < length self.old }
-        requires limit { All (λ n. n ≤ LARGEST_COUNT) counts.items }
-        ensures ok { OnOk result (self.new ≡ set self.old group counts.items) }
+        ensures raised { OnOk result (IsRaisedBy self.old group block.now self.new) }
         ensures memory { IsOkUnless result ClockError.Memory }
     {
-        let alloc = self.alloc()?;
-        let block = Block::of(alloc, counts)?;
-        self.blocks[group as usize] = block;
+        self.reach(group)?;
+        self.blocks[group].learn(block)?;
         Ok(())
+    }
+
+    /// Takes these counts of a group's items, each where it is greater than the one there.
+    pub(crate) fn raise_by(&mut self, group: u16, counts: Vec<u32, A>) -> Result<(), ClockError>
+    where
+        A: Clone,
+        requires { All (λ n. n ≤ LARGEST_COUNT) counts.items }
+        ensures raised { OnOk result (IsRaisedBy self.old group counts.items self.new) }
+        ensures memory { IsOkUnless result ClockError.Memory }
+    {
+        let block = Block::of(self.alloc()?, counts)?;
+        self.learn_block(group as usize, &block)
     }
 
     /// Takes the greater count of each item.
     pub(crate) fn learn(&mut self, other: &Base<A>) -> Result<(), ClockError>
     where
         A: Clone,
-        requires { sizes_of other.now ≡ sizes_of self.old }
         ensures join { OnOk result (IsJoin self.old other.now self.new) }
         ensures memory { IsOkUnless result ClockError.Memory }
     {
-        for group in 0..self.blocks.len() {
-            self.blocks[group].learn(&other.blocks[group])?;
+        for group in 0..other.blocks.len() {
+            self.learn_block(group, &other.blocks[group])?;
         }
         Ok(())
     }

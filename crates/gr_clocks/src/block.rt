@@ -1,10 +1,10 @@
-//! The counts of one work-group's items, which clocks share.
+//! The counts of one work-group's items, which clocks share. A block may lack items of which it counts nothing.
 //!
 //! Invariant: none is above `most`, and that is not above `LARGEST_COUNT`. So where `most` is 0 nothing is counted.
 
-ghost use Rattle.std.specs.Prelude.{◌≡◌, ◌<◌, ◌≤◌, ℕ, IsTrue, All, IfOk, OnOk, IsOkUnless, length, slice_index, set, replicate};
+ghost use Rattle.std.specs.Prelude.{◌≡◌, ◌<◌, ◌≤◌, ℕ, IsTrue, All, IfOk, OnOk, IsOkUnless, length, slice_index, replicate, []};
 ghost use Rattle.gr_clocks.specs.declared.clock.ClockError.TheVariants.{Memory as OutOfMemory};
-ghost use Rattle.gr_clocks.specs.Blocks.{IsRowWithin, IsRowJoin};
+ghost use Rattle.gr_clocks.specs.Blocks.{IsRowWithin, IsRowJoin, IsRowWith};
 
 use crate::clock::{ClockError, LARGEST_COUNT};
 use std::alloc::{Allocator, Global};
@@ -30,9 +30,9 @@ impl<A: Allocator> Model for Block<A> {
     ghost invariant = { λ b. IsBlock b.counts.value.items b.most };
 }
 
-/// Whether no count is above the other's.
+/// Whether no count is above the other's, of which there are at least as many.
 fn are_within(mine: &[u32], theirs: &[u32]) -> bool
-    requires { length theirs.now ≡ length mine.now }
+    requires { length mine.now ≤ length theirs.now }
     ensures { IsTrue result → IsRowWithin mine.now theirs.now }
 {
     // without an early end, so that several places are compared at once
@@ -43,12 +43,13 @@ fn are_within(mine: &[u32], theirs: &[u32]) -> bool
     within
 }
 
-/// Takes the greater count of each item.
+/// Takes the greater count of each item, of which the other has no more.
 fn learn(mine: &mut [u32], theirs: &[u32])
-    requires { length theirs.now ≡ length mine.old }
-    ensures { IsRowJoin mine.old theirs.now mine.new }
+    requires { length theirs.now ≤ length mine.old }
+    ensures join { IsRowJoin mine.old theirs.now mine.new }
+    ensures size { length mine.new ≡ length mine.old }
 {
-    for place in 0..mine.len() {
+    for place in 0..theirs.len() {
         let their_count = theirs[place];
         mine[place] = mine[place].max(their_count);
     }
@@ -67,6 +68,18 @@ impl<A: Allocator + Copy> Block<A> {
 }
 
 impl<A: Allocator> Block<A> {
+    /// A block that has no item.
+    pub(crate) fn empty(alloc: A) -> Result<Block<A>, ClockError>
+    where
+        A: Clone,
+        ensures empty { IfOk result (λ b. b ≡ []) }
+        ensures memory { IsOkUnless result ClockError.Memory }
+    {
+        let none = Vec::new(alloc.clone()?);
+        let counts = Arc::new(alloc, none)?;
+        Ok(Block { counts, most: 0 })
+    }
+
     /// These counts.
     pub(crate) fn of(alloc: A, counts: Vec<u32, A>) -> Result<Block<A>, ClockError>
         requires { All (λ n. n ≤ LARGEST_COUNT) counts.items }
@@ -106,19 +119,26 @@ impl<A: Allocator> Block<A> {
 
     /// Whether it is sure that no count is above the other's.
     fn is_within(&self, other: &Block<A>) -> bool
-        requires { length other.now ≡ length self.now }
         ensures { IsTrue result → IsRowWithin self.now other.now }
     {
         let mine: &Vec<u32, A> = &self.counts;
         let theirs: &Vec<u32, A> = &other.counts;
-        self.most == 0 || are_within(mine, theirs)
+        self.most == 0 || mine.len() <= theirs.len() && are_within(mine, theirs)
     }
 
-    /// The greater count of each item, in counts of its own. (`learn` shares counts where one of the two is within the other.)
+    /// How many items there are.
+    fn len(&self) -> usize
+        ensures { result ≡ length self.now }
+    {
+        let counts: &Vec<u32, A> = &self.counts;
+        counts.len()
+    }
+
+    /// The greater count of each item, of which the other has no more, in counts of its own.
     fn merged(&self, other: &Block<A>) -> Result<Block<A>, ClockError>
     where
         A: Clone,
-        requires { length other.now ≡ length self.now }
+        requires { length other.now ≤ length self.now }
         ensures join { IfOk result (λ b. IsRowJoin self.now other.now b) }
         ensures memory { IsOkUnless result ClockError.Memory }
     {
@@ -134,23 +154,34 @@ impl<A: Allocator> Block<A> {
         })
     }
 
+    /// The greater count of each item, in the other's counts where no own one is above them, and else in counts of its own.
+    fn joined(&self, other: &Block<A>) -> Result<Block<A>, ClockError>
+    where
+        A: Clone,
+        ensures join { IfOk result (λ b. IsRowJoin self.now other.now b) }
+        ensures memory { IsOkUnless result ClockError.Memory }
+    {
+        if self.is_within(other) {
+            return other.copy();
+        }
+        if self.len() < other.len() {
+            other.merged(self)
+        } else {
+            self.merged(other)
+        }
+    }
+
     /// Takes the greater count of each item, and shares the other's counts where no own one is above them.
     pub(crate) fn learn(&mut self, other: &Block<A>) -> Result<(), ClockError>
     where
         A: Clone,
-        requires { length other.now ≡ length self.old }
         ensures join { OnOk result (IsRowJoin self.old other.now self.new) }
         ensures memory { IsOkUnless result ClockError.Memory }
     {
         if other.is_within(self) {
             return Ok(());
         }
-        let joined = if self.is_within(other) {
-            other.copy()?
-        } else {
-            self.merged(other)?
-        };
-        *self = joined;
+        *self = self.joined(other)?;
         Ok(())
     }
 
@@ -158,15 +189,18 @@ impl<A: Allocator> Block<A> {
     pub(crate) fn with(&self, item: u16, count: u32) -> Result<Block<A>, ClockError>
     where
         A: Clone,
-        requires item { item < length self.now }
-        requires limit { count ≤ LARGEST_COUNT }
-        ensures with { IfOk result (λ b. b ≡ set self.now item count) }
+        requires { count ≤ LARGEST_COUNT }
+        ensures with { IfOk result (λ b. IsRowWith self.now item count b) }
         ensures memory { IsOkUnless result ClockError.Memory }
     {
+        let place = item as usize;
         let mine: &Vec<u32, A> = &self.counts;
         let alloc = mine.allocator().clone()?;
         let mut changed = mine.clone()?;
-        changed[item as usize] = count;
+        while changed.len() <= place {
+            changed.push(0)?;
+        }
+        changed[place] = count;
         let counts = Arc::new(alloc, changed)?;
         Ok(Block {
             counts,

@@ -1,14 +1,14 @@
 //! One vector clock: a count for each work-item, which clocks share, but one item's, which stands apart.
 //!
 //! Semantics: a tick adds one to one item's count, and a join takes the greater count of each item (docs/MODEL.md, "Clocks").
-//! No count is above `LARGEST_COUNT`. To tick the item whose count stands apart takes no memory, and a copy shares all counts.
+//! No count is above `LARGEST_COUNT`. A clock may lack groups and items of which it counts nothing. To tick the item whose count stands apart takes no memory, and a copy shares all counts.
 //!
-//! Invariant: the item is there, and its count is not above `LARGEST_COUNT` and not below the one that is shared.
+//! Invariant: the item's count is not above `LARGEST_COUNT` and not below the one that is shared.
 
-ghost use Rattle.std.specs.Prelude.{◌≡◌, ◌↔◌, ◌<◌, ◌≤◌, ◌≢◌, IsTrue, All, map, IfOk, IfErr, OnOk, OnErr, IsOkUnless};
+ghost use Rattle.std.specs.Prelude.{◌≡◌, ◌↔◌, ◌<◌, ◌≤◌, ◌≢◌, IsTrue, map, IfOk, IfErr, OnOk, OnErr, IsOkUnless};
 ghost use Rattle.gr_clocks.specs.declared.clock.ClockError.TheVariants.{Memory as OutOfMemory};
-ghost use Rattle.gr_model.specs.Shapes.{HasItem};
-ghost use Rattle.gr_clocks.specs.Counts.{count_of, sizes_of, IsZero, IsTick, IsJoin, IsJoinOfAll};
+ghost use Rattle.gr_model.specs.declared.event.ItemId.{ItemId as AnyItem};
+ghost use Rattle.gr_clocks.specs.Counts.{count_of, CountSame, CountsOneMore, IsJoin, IsJoinOfAll};
 
 use crate::base::Base;
 use crate::snapshot::Snapshot;
@@ -83,11 +83,9 @@ impl<A: Allocator + Copy> Clock<A> {
     /// # Errors
     /// `Memory`: out of memory.
     pub fn new(alloc: A, shape: &Shape<A>) -> Result<Clock<A>, ClockError>
-        ensures zero { IfOk result (λ c. IsZero shape.now c) }
+        ensures zero { IfOk result (λ c. (j : AnyItem) → count_of c j ≡ 0) }
         ensures memory { IsOkUnless result ClockError.Memory }
     {
-        // brings the shape's invariant into the proof
-        let _groups = shape.groups();
         let base = Arc::new(alloc, Base::zero(alloc, shape)?)?;
         Clock::sharing(&base, ItemId { group: 0, item: 0 })
     }
@@ -96,8 +94,7 @@ impl<A: Allocator + Copy> Clock<A> {
 impl<A: Allocator> Clock<A> {
     /// A clock that counts what is counted here and shares it, with the count of this item apart.
     pub(crate) fn sharing(base: &Arc<Base<A>, A>, item: ItemId) -> Result<Clock<A>, ClockError>
-        requires { HasItem (sizes_of base.now.value) item }
-        ensures counts { IfOk result (λ c. c ≡ base.now.value) }
+        ensures counts { IfOk result (λ c. CountSame c base.now.value) }
         ensures memory { IsOkUnless result ClockError.Memory }
     {
         let count = base.get(item);
@@ -109,7 +106,7 @@ impl<A: Allocator> Clock<A> {
     fn whole(&self) -> Result<Arc<Base<A>, A>, ClockError>
     where
         A: Clone,
-        ensures whole { IfOk result (λ b. b.value ≡ self.now) }
+        ensures whole { IfOk result (λ b. CountSame b.value self.now) }
         ensures memory { IsOkUnless result ClockError.Memory }
     {
         if self.base.get(self.item) == self.count {
@@ -117,23 +114,21 @@ impl<A: Allocator> Clock<A> {
             return Ok(whole);
         }
         let mut base = self.base.copy()?;
-        base.set(self.item, self.count)?;
+        base.raise_to(self.item, self.count)?;
         let alloc = base.alloc()?;
         let whole = Arc::new(alloc, base)?;
         Ok(whole)
     }
 
-    /// Lets counts of the same shape take the greater one of each item.
+    /// Lets counts take the greater one of each item.
     pub(crate) fn teach(&self, base: &mut Base<A>) -> Result<(), ClockError>
     where
         A: Clone,
-        requires { sizes_of self.now ≡ sizes_of base.old }
         ensures join { OnOk result (IsJoin base.old self.now base.new) }
         ensures memory { IsOkUnless result ClockError.Memory }
     {
         base.learn(&self.base)?;
-        let count = self.count.max(base.get(self.item));
-        base.set(self.item, count)?;
+        base.raise_to(self.item, self.count)?;
         Ok(())
     }
 
@@ -167,9 +162,8 @@ impl<A: Allocator> Clock<A> {
     fn raised(&self, item: ItemId) -> Result<Clock<A>, ClockError>
     where
         A: Clone,
-        requires item { HasItem (sizes_of self.now) item }
-        requires room { count_of self.now item ≢ LARGEST_COUNT }
-        ensures tick { IfOk result (λ c. IsTick self.now item c) }
+        requires { count_of self.now item ≢ LARGEST_COUNT }
+        ensures tick { IfOk result (λ c. CountsOneMore self.now item c) }
         ensures memory { IsOkUnless result ClockError.Memory }
     {
         let base = self.whole()?;
@@ -185,9 +179,8 @@ impl<A: Allocator> Clock<A> {
     pub(crate) fn raise(&mut self, item: ItemId) -> Result<(), ClockError>
     where
         A: Clone,
-        requires item { HasItem (sizes_of self.old) item }
-        requires room { count_of self.old item ≢ LARGEST_COUNT }
-        ensures ok { OnOk result (IsTick self.old item self.new) }
+        requires { count_of self.old item ≢ LARGEST_COUNT }
+        ensures ok { OnOk result (CountsOneMore self.old item self.new) }
         ensures memory { IsOkUnless result ClockError.Memory }
         ensures err { OnErr result (self.new ≡ self.old) }
     {
@@ -208,8 +201,7 @@ impl<A: Allocator> Clock<A> {
     pub fn tick(&mut self, item: ItemId) -> Result<(), ClockError>
     where
         A: Clone,
-        requires { HasItem (sizes_of self.old) item }
-        ensures ok { OnOk result (IsTick self.old item self.new) }
+        ensures ok { OnOk result (CountsOneMore self.old item self.new) }
         ensures spent { (result ≡ Err ClockError.Spent) ↔ (count_of self.old item ≡ LARGEST_COUNT) }
         ensures err { OnErr result (self.new ≡ self.old) }
     {
@@ -219,14 +211,13 @@ impl<A: Allocator> Clock<A> {
         self.raise(item)
     }
 
-    /// Learns all that another clock of the same shape counts: the greater count of each item.
+    /// Learns all that another clock counts: the greater count of each item.
     ///
     /// # Errors
     /// `Memory`: out of memory. The clock is then as it was.
     pub fn join(&mut self, other: &Clock<A>) -> Result<(), ClockError>
     where
         A: Clone,
-        requires { sizes_of other.now ≡ sizes_of self.old }
         ensures ok { OnOk result (IsJoin self.old other.now self.new) }
         ensures memory { IsOkUnless result ClockError.Memory }
         ensures err { OnErr result (self.new ≡ self.old) }
@@ -247,7 +238,6 @@ impl<A: Allocator> Clock<A> {
     pub fn learned(&self, snapshots: &[&Snapshot<A>]) -> Result<Clock<A>, ClockError>
     where
         A: Clone,
-        requires { All (λ s. sizes_of s.now.clock ≡ sizes_of self.now) snapshots.now }
         ensures join { IfOk result (λ c. IsJoinOfAll self.now (map (λ s. s.now.clock) snapshots.now) c) }
         ensures memory { IsOkUnless result ClockError.Memory }
     {
@@ -288,9 +278,8 @@ pub(crate) fn raise_both<A: Allocator + Clone>(
     other: &mut Clock<A>,
     item: ItemId,
 ) -> Result<(), ClockError>
-    requires items { HasItem (sizes_of one.old) item × HasItem (sizes_of other.old) item }
-    requires room { (count_of one.old item ≢ LARGEST_COUNT) × (count_of other.old item ≢ LARGEST_COUNT) }
-    ensures ok { OnOk result (IsTick one.old item one.new × IsTick other.old item other.new) }
+    requires { (count_of one.old item ≢ LARGEST_COUNT) × (count_of other.old item ≢ LARGEST_COUNT) }
+    ensures ok { OnOk result (CountsOneMore one.old item one.new × CountsOneMore other.old item other.new) }
     ensures memory { IsOkUnless result ClockError.Memory }
     ensures err { OnErr result ((one.new ≡ one.old) × (other.new ≡ other.old)) }
 {

@@ -7,10 +7,10 @@
 ghost use Rattle.std.specs.Prelude.{◌≡◌, ◌↔◌, ◌<◌, ◌⊎◌, ◌≢◌, IsTrue, IsFalse, All, [], IfOk, OnOk, OnErr, IsOkUnless, map, length};
 ghost use Rattle.gr_clocks.specs.declared.clock.ClockError.TheVariants.{Memory as OutOfMemory};
 ghost use Rattle.gr_model.specs.Access as model;
-ghost use Rattle.gr_model.specs.Shapes.{HasItem, IsShape};
-ghost use Rattle.gr_clocks.specs.Counts.{count_of, sizes_of};
-ghost use Rattle.gr_clocks.specs.ItemClocks.{clock_in, clocks_in, clocks_left, AreNew, IsSpent, AreSpent, AreOfOneWord, IsGroupSpent, Ticks, release_of, Acquires, MeetsClocks};
-ghost use Rattle.gr_clocks.specs.Tables.{IsTickOfJoin};
+ghost use Rattle.gr_model.specs.Shapes.{HasItem};
+ghost use Rattle.gr_clocks.specs.Counts.{count_of, CountSame};
+ghost use Rattle.gr_clocks.specs.ItemClocks.{AddsGroup, clock_in, clocks_in, clocks_left, AreNew, IsSpent, AreSpent, AreOfOneWord, IsGroupSpent, Ticks, IsReleaseOf, Acquires, MeetsClocks};
+ghost use Rattle.gr_clocks.specs.Tables.{IsTickOfJoin, item_of};
 
 use crate::clock::{Clock, ClockError, LARGEST_COUNT};
 use crate::snapshot::Snapshot;
@@ -89,8 +89,6 @@ impl<A: Allocator + Copy> Clocks<A> {
         ensures zero { IfOk result (λ c. AreNew shape.now c) }
         ensures memory { IsOkUnless result ClockError.Memory }
     {
-        // brings the shape's invariant into the proof
-        let _groups = shape.groups();
         let global = Table::new(alloc, shape)?;
         let local = Table::new(alloc, shape)?;
         Ok(Clocks { global, local })
@@ -98,6 +96,23 @@ impl<A: Allocator + Copy> Clocks<A> {
 }
 
 impl<A: Allocator> Clocks<A> {
+    /// The clocks, where a group that had no items has so many, whose clocks have counted nothing. The groups below it that
+    /// were not there are there, without items.
+    ///
+    /// # Errors
+    /// `Memory`: out of memory.
+    pub fn with_group(self, alloc: A, group: u16, items: u16) -> Result<Clocks<A>, ClockError>
+    where
+        A: Clone,
+        ensures adds { IfOk result (λ c. AddsGroup self group items c) }
+        ensures memory { IsOkUnless result ClockError.Memory }
+    {
+        let Clocks { global, local } = self;
+        let global = global.with_group(alloc.clone()?, group, items)?;
+        let local = local.with_group(alloc, group, items)?;
+        Ok(Clocks { global, local })
+    }
+
     /// The clocks in a memory.
     fn table(&self, memory: Space) -> &Table<A>
         ensures table { result.now ≡ clocks_in self.now memory }
@@ -112,8 +127,7 @@ impl<A: Allocator> Clocks<A> {
     /// The clock of an item in a memory.
     pub fn clock_of(&self, item: ItemId, space: Space) -> &Clock<A>
         requires { HasItem self.now.sizes item }
-        ensures clock { result.now ≡ clock_in self.now space item }
-        ensures shape { sizes_of result.now ≡ self.now.sizes }
+        ensures { result.now ≡ clock_in self.now space item }
     {
         self.table(space).clock_of(item)
     }
@@ -157,7 +171,6 @@ impl<A: Allocator> Clocks<A> {
     where
         A: Clone,
         requires item { HasItem self.old.sizes item }
-        requires shapes { All (λ s. sizes_of s.now.clock ≡ self.old.sizes) snapshots.now }
         requires words { All (λ s. model.memory_of s.now.word ≡ memory) snapshots.now }
         requires room { ¬ IsSpent self.old item }
         requires their_room { All (λ s. count_of s.now.clock item ≢ LARGEST_COUNT) snapshots.now }
@@ -190,7 +203,6 @@ impl<A: Allocator> Clocks<A> {
     where
         A: Clone,
         requires item { HasItem self.old.sizes item }
-        requires shapes { All (λ s. sizes_of s.now.clock ≡ self.old.sizes) snapshots.now }
         requires word { AreOfOneWord (map (λ s. s.now) snapshots.now) }
         requires room { ¬ IsSpent self.old item }
         requires their_room { All (λ s. count_of s.now.clock item ≢ LARGEST_COUNT) snapshots.now }
@@ -215,12 +227,10 @@ impl<A: Allocator> Clocks<A> {
     where
         A: Clone,
         requires item { HasItem self.now.sizes item }
-        requires shapes { All (λ s. sizes_of s.now.clock ≡ self.now.sizes) snapshots.now }
         requires word { AreOfOneWord (map (λ s. s.now) snapshots.now) }
         requires room { ¬ IsSpent self.now item }
         requires their_room { All (λ s. count_of s.now.clock item ≢ LARGEST_COUNT) snapshots.now }
         ensures counts { IfOk result (λ c. IsTickOfJoin (clock_in self.now memory item) (clocks_left memory (map (λ s. s.now) snapshots.now)) item c) }
-        ensures shape { IfOk result (λ c. sizes_of c ≡ self.now.sizes) }
         ensures memory { IsOkUnless result ClockError.Memory }
     {
         if are_in(snapshots, memory) {
@@ -260,8 +270,7 @@ impl<A: Allocator> Clocks<A> {
         requires item { HasItem self.old.sizes item }
         requires room { ¬ IsSpent self.old item }
         ensures ok { OnOk result (Ticks self.old item self.new) }
-        ensures clock { IfOk result (λ c. c ≡ clock_in self.new memory item) }
-        ensures shape { IfOk result (λ c. sizes_of c ≡ self.new.sizes) }
+        ensures clock { IfOk result (λ c. CountSame c (clock_in self.new memory item)) }
         ensures memory { IsOkUnless result ClockError.Memory }
         ensures err { OnErr result (self.new ≡ self.old) }
     {
@@ -285,8 +294,7 @@ impl<A: Allocator> Clocks<A> {
         A: Clone,
         requires { HasItem self.old.sizes item }
         ensures ok { OnOk result (Ticks self.old item self.new) }
-        ensures snapshot { IfOk result (λ s. s ≡ release_of self.new item word scope) }
-        ensures shape { IfOk result (λ s. sizes_of s.clock ≡ self.new.sizes) }
+        ensures snapshot { IfOk result (λ s. IsReleaseOf self.new item word scope s) }
         ensures spent { (result ≡ Err ClockError.Spent) ↔ IsSpent self.old item }
         ensures err { OnErr result (self.new ≡ self.old) }
     {
@@ -307,7 +315,6 @@ impl<A: Allocator> Clocks<A> {
     where
         A: Clone,
         requires item { HasItem self.old.sizes item }
-        requires shapes { All (λ s. sizes_of s.now.clock ≡ self.old.sizes) snapshots.now }
         requires word { AreOfOneWord (map (λ s. s.now) snapshots.now) }
         ensures ok { OnOk result (Acquires self.old item (map (λ s. s.now) snapshots.now) self.new) }
         ensures spent { (result ≡ Err ClockError.Spent) ↔ (IsSpent self.old item ⊎ AreSpent (map (λ s. s.now) snapshots.now) item) }
@@ -335,11 +342,9 @@ impl<A: Allocator> Clocks<A> {
     where
         A: Clone,
         requires item { HasItem self.old.sizes item }
-        requires shapes { All (λ s. sizes_of s.now.clock ≡ self.old.sizes) snapshots.now }
         requires word { AreOfOneWord (map (λ s. s.now) snapshots.now) }
         ensures ok { OnOk result (Acquires self.old item (map (λ s. s.now) snapshots.now) self.new) }
-        ensures snapshot { IfOk result (λ s. s ≡ release_of self.new item word scope) }
-        ensures shape { IfOk result (λ s. sizes_of s.clock ≡ self.new.sizes) }
+        ensures snapshot { IfOk result (λ s. IsReleaseOf self.new item word scope s) }
         ensures spent { (result ≡ Err ClockError.Spent) ↔ (IsSpent self.old item ⊎ AreSpent (map (λ s. s.now) snapshots.now) item) }
         ensures err { OnErr result (self.new ≡ self.old) }
     {
@@ -366,7 +371,7 @@ impl<A: Allocator> Clocks<A> {
     pub fn meet(&mut self, group: u16, global: bool, local: bool) -> Result<(), ClockError>
     where
         A: Clone,
-        requires { group < length self.old.sizes }
+        requires { HasItem self.old.sizes (item_of group 0) }
         ensures ok { OnOk result (MeetsClocks self.old group global local self.new) }
         ensures spent { (result ≡ Err ClockError.Spent) ↔ IsGroupSpent self.old group }
         ensures err { OnErr result (self.new ≡ self.old) }
@@ -384,7 +389,7 @@ impl<A: Allocator> Clocks<A> {
     pub fn meet_within(&mut self, group: u16, global: bool, local: bool) -> Result<(), ClockError>
     where
         A: Clone,
-        requires there { group < length self.old.sizes }
+        requires there { HasItem self.old.sizes (item_of group 0) }
         requires room { ¬ IsGroupSpent self.old group }
         ensures ok { OnOk result (MeetsClocks self.old group global local self.new) }
         ensures memory { IsOkUnless result ClockError.Memory }

@@ -4,10 +4,9 @@
 //! nothing since counts no more, but of its own events. So a barrier looks again at the clocks of those alone that have
 //! learned something.
 
-ghost use Rattle.std.specs.Prelude.{◌≡◌, ◌↔◌, ◌<◌, ◌≢◌, IsTrue, IfOk, OnOk, OnErr, IsOkUnless, length, slice_index};
+ghost use Rattle.std.specs.Prelude.{◌≡◌, ◌↔◌, ◌<◌, ◌≢◌, IsTrue, IfOk, OnOk, OnErr, IsOkUnless, length};
 ghost use Rattle.gr_clocks.specs.declared.clock.ClockError.TheVariants.{Memory as OutOfMemory};
-ghost use Rattle.gr_model.specs.Shapes.{HasItem};
-ghost use Rattle.gr_clocks.specs.Counts.{count_of, sizes_of, IsTick, IsJoin};
+ghost use Rattle.gr_clocks.specs.Counts.{count_of, CountsOneMore};
 ghost use Rattle.gr_clocks.specs.Groups.{item_of, GroupClocks, clock_in_group, with_clock, IsFullClock, HasFullClock, IsShared, TicksClock, IsGrown, Merges, AreRaised, IsMetBase, TicksEach, MeetsEach};
 
 use crate::base::Base;
@@ -17,7 +16,7 @@ use std::alloc::{Allocator, Global};
 use std::marker::Model;
 use std::sync::Arc;
 
-/// The clocks of one work-group's items. Contracts see the group's number, the sizes of all groups and the clocks.
+/// The clocks of one work-group's items. Contracts see the group's number and the clocks.
 #[derive(Drop)]
 #[derive_where(Debug)]
 pub(crate) struct Group<A: Allocator = Global> {
@@ -30,12 +29,11 @@ pub(crate) struct Group<A: Allocator = Global> {
 }
 
 impl<A: Allocator> Model for Group<A> {
-    ghost use Rattle.gr_clocks.specs.Counts.{sizes_of};
     ghost use Rattle.gr_clocks.specs.Groups.{GroupClocks, IsGroup};
 
     ghost Value = { GroupClocks };
 
-    ghost view = { λ g. record { number = g.number; sizes = sizes_of g.met.value; clocks = g.clocks.items } };
+    ghost view = { λ g. record { number = g.number; clocks = g.clocks.items } };
 
     ghost invariant = { λ g. IsGroup g.number g.met.value g.clocks.items g.learned.items };
 }
@@ -49,9 +47,7 @@ impl<A: Allocator> Group<A> {
     ) -> Result<Group<A>, ClockError>
     where
         A: Clone,
-        requires there { number < length (sizes_of met.value) }
-        requires size { slice_index (sizes_of met.value) number ≡ size }
-        ensures shared { IfOk result (λ g. IsShared met.value number g) }
+        ensures shared { IfOk result (λ g. IsShared met.value number size g) }
         ensures memory { IsOkUnless result ClockError.Memory }
     {
         let learned = vec![in met.alloc()?; false; size as usize]?;
@@ -83,9 +79,7 @@ impl<A: Allocator> Group<A> {
     /// The clock of an item.
     pub(crate) fn clock(&self, item: u16) -> &Clock<A>
         requires { item < length self.now.clocks }
-        ensures clock { result.now ≡ clock_in_group self.now item }
-        ensures shape { sizes_of result.now ≡ self.now.sizes }
-        ensures item { HasItem self.now.sizes (item_of self.now.number item) }
+        ensures { result.now ≡ clock_in_group self.now item }
     {
         &self.clocks[item as usize]
     }
@@ -110,8 +104,7 @@ impl<A: Allocator> Group<A> {
         A: Clone,
         requires item { item < length self.now.clocks }
         requires room { ¬ IsFullClock self.now item }
-        ensures tick { IfOk result (λ c. IsTick (clock_in_group self.now item) (item_of self.now.number item) c) }
-        ensures shape { IfOk result (λ c. sizes_of c ≡ self.now.sizes) }
+        ensures tick { IfOk result (λ c. CountsOneMore (clock_in_group self.now item) (item_of self.now.number item) c) }
         ensures memory { IsOkUnless result ClockError.Memory }
     {
         let group = self.number;
@@ -123,7 +116,7 @@ impl<A: Allocator> Group<A> {
     /// Gives an item its clock with one more event of it.
     pub(crate) fn put_ticked(&mut self, item: u16, clock: Clock<A>)
         requires item { item < length self.old.clocks }
-        requires tick { IsTick (clock_in_group self.old item) (item_of self.old.number item) clock }
+        requires tick { CountsOneMore (clock_in_group self.old item) (item_of self.old.number item) clock }
         ensures { self.new ≡ with_clock self.old item clock }
     {
         self.clocks[item as usize] = clock;
@@ -207,7 +200,7 @@ impl<A: Allocator> Group<A> {
     {
         let mut base = self.merged()?;
         let counts = self.raised(&base)?;
-        base.set_group(self.number, counts)?;
+        base.raise_by(self.number, counts)?;
         Ok(base)
     }
 

@@ -8,7 +8,6 @@ mod block;
 pub mod clock;
 pub mod clocks;
 mod group;
-mod rows;
 pub mod snapshot;
 mod table;
 pub mod tally;

@@ -1,13 +1,13 @@
 //! The clocks of a launch's work-items in one memory.
 //!
-//! Invariant: each group has its place for its number, and all know the sizes of all.
+//! Invariant: each group has its place for its number.
 
 ghost use Rattle.std.specs.Prelude.{◌≡◌, ◌↔◌, ◌<◌, ◌≢◌, IsTrue, All, IfOk, OnOk, OnErr, IsOkUnless, map, length, set};
 ghost use Rattle.gr_clocks.specs.declared.clock.ClockError.TheVariants.{Memory as OutOfMemory};
 ghost use Rattle.gr_model.specs.Shapes.{HasItem};
-ghost use Rattle.gr_clocks.specs.Counts.{count_of, sizes_of, IsTick};
+ghost use Rattle.gr_clocks.specs.Counts.{count_of, CountsOneMore};
 ghost use Rattle.gr_clocks.specs.Groups.{item_of, IsSameGroup, IsBehind};
-ghost use Rattle.gr_clocks.specs.Tables.{clock_at, group_at, AreZero, IsItemFull, IsGroupFull, TicksItem, IsTickOfJoin, LearnsAndTicks};
+ghost use Rattle.gr_clocks.specs.Tables.{AddsItems, clock_at, group_at, AreZero, IsItemFull, IsGroupFull, TicksItem, IsTickOfJoin, LearnsAndTicks};
 
 use crate::base::Base;
 use crate::clock::{Clock, ClockError, LARGEST_COUNT};
@@ -52,6 +52,26 @@ impl<A: Allocator + Copy> Table<A> {
     }
 }
 
+impl<A: Allocator> Table<A> {
+    /// The clocks, where a group has so many items, whose clocks have counted nothing.
+    pub(crate) fn with_group(self, alloc: A, group: u16, items: u16) -> Result<Table<A>, ClockError>
+    where
+        A: Clone,
+        ensures adds { IfOk result (λ t. AddsItems self group items t) }
+        ensures memory { IsOkUnless result ClockError.Memory }
+    {
+        let zero = Arc::new(alloc.clone()?, Base::none(alloc))?;
+        let added = Group::sharing(Arc::try_clone(&zero)?, group, items)?;
+        let Table { mut groups } = self;
+        while groups.len() <= group as usize {
+            let number = groups.len() as u16;
+            groups.push(Group::sharing(Arc::try_clone(&zero)?, number, 0)?)?;
+        }
+        groups[group as usize] = added;
+        Ok(Table { groups })
+    }
+}
+
 /// Counts one more event of an item in two tables, in both of which its own count can grow.
 ///
 /// # Errors
@@ -87,8 +107,7 @@ impl<A: Allocator> Table<A> {
     /// The clock of an item.
     pub(crate) fn clock_of(&self, item: ItemId) -> &Clock<A>
         requires { HasItem (map length self.now) item }
-        ensures clock { result.now ≡ clock_at self.now item }
-        ensures shape { sizes_of result.now ≡ map length self.now }
+        ensures { result.now ≡ clock_at self.now item }
     {
         self.group(item.group).clock(item.item)
     }
@@ -107,8 +126,7 @@ impl<A: Allocator> Table<A> {
         A: Clone,
         requires item { HasItem (map length self.now) item }
         requires room { ¬ IsItemFull self.now item }
-        ensures tick { IfOk result (λ c. IsTick (clock_at self.now item) item c) }
-        ensures shape { IfOk result (λ c. sizes_of c ≡ map length self.now) }
+        ensures tick { IfOk result (λ c. CountsOneMore (clock_at self.now item) item c) }
         ensures memory { IsOkUnless result ClockError.Memory }
     {
         self.group(item.group).ticked_clock(item.item)
@@ -117,7 +135,7 @@ impl<A: Allocator> Table<A> {
     /// Gives an item its clock with one more event of it.
     pub(crate) fn put_ticked(&mut self, item: ItemId, clock: Clock<A>)
         requires item { HasItem (map length self.old) item }
-        requires tick { IsTick (clock_at self.old item) item clock }
+        requires tick { CountsOneMore (clock_at self.old item) item clock }
         ensures { TicksItem self.old item self.new }
     {
         self.groups[item.group as usize].put_ticked(item.item, clock);
@@ -132,11 +150,9 @@ impl<A: Allocator> Table<A> {
     where
         A: Clone,
         requires item { HasItem (map length self.now) item }
-        requires shapes { All (λ s. sizes_of s.now.clock ≡ map length self.now) snapshots.now }
         requires room { ¬ IsItemFull self.now item }
         requires their_room { All (λ s. count_of s.now.clock item ≢ LARGEST_COUNT) snapshots.now }
         ensures counts { IfOk result (λ c. IsTickOfJoin (clock_at self.now item) (map (λ s. s.now.clock) snapshots.now) item c) }
-        ensures shape { IfOk result (λ c. sizes_of c ≡ map length self.now) }
         ensures memory { IsOkUnless result ClockError.Memory }
     {
         let mut clock = self.clock_of(item).learned(snapshots)?;
@@ -156,7 +172,6 @@ impl<A: Allocator> Table<A> {
     where
         A: Clone,
         requires item { HasItem (map length self.old) item }
-        requires shapes { All (λ s. sizes_of s.now.clock ≡ map length self.old) snapshots.now }
         requires room { ¬ IsItemFull self.old item }
         requires their_room { All (λ s. count_of s.now.clock item ≢ LARGEST_COUNT) snapshots.now }
         ensures ok { OnOk result (LearnsAndTicks self.old item (map (λ s. s.now.clock) snapshots.now) self.new) }

@@ -2,7 +2,6 @@
 //! row's answer.
 
 ghost use Rattle.std.specs.Prelude.{◌≡◌, ◌<◌, ◌∷◌, [], IfSome};
-ghost use Rattle.gr_clocks.specs.Counts.{sizes_of};
 
 use crate::launch::{item, two_items};
 use gr_clocks::clock::{Clock, ClockError, LARGEST_COUNT};
@@ -14,10 +13,7 @@ use refusing::Refusing;
 use std::alloc::Allocator;
 use std::test::Fail;
 
-fn new_clock<A: Allocator + Copy>(alloc: A, shape: &Shape<A>) -> Option<Clock<A>>
-    requires { shape.now ≡ 2 ∷ [] }
-    ensures { IfSome result (λ c. sizes_of c ≡ 2 ∷ []) }
-{
+fn new_clock<A: Allocator + Copy>(alloc: A, shape: &Shape<A>) -> Option<Clock<A>> {
     Clock::new(alloc, shape)
         .or_else(|_| Clock::new(alloc, shape))
         .ok()
@@ -28,11 +24,7 @@ fn counts<A: Allocator>(clock: &Clock<A>) -> [u32; 2] {
     [clock.get(item(0)), clock.get(item(1))]
 }
 
-fn tick<A: Allocator + Copy>(clock: &mut Clock<A>, place: u16) -> bool
-    requires sizes { sizes_of clock.old ≡ 2 ∷ [] }
-    requires place { place < 2 }
-    ensures { sizes_of clock.new ≡ 2 ∷ [] }
-{
+fn tick<A: Allocator + Copy>(clock: &mut Clock<A>, place: u16) -> bool {
     let before = counts(clock);
     if clock.tick(item(place)).is_ok() {
         return true;
@@ -41,11 +33,7 @@ fn tick<A: Allocator + Copy>(clock: &mut Clock<A>, place: u16) -> bool
     clock.tick(item(place)).is_ok() && stays
 }
 
-fn join<A: Allocator + Copy>(clock: &mut Clock<A>, other: &Clock<A>) -> bool
-    requires sizes { sizes_of clock.old ≡ 2 ∷ [] }
-    requires others { sizes_of other.now ≡ 2 ∷ [] }
-    ensures { sizes_of clock.new ≡ 2 ∷ [] }
-{
+fn join<A: Allocator + Copy>(clock: &mut Clock<A>, other: &Clock<A>) -> bool {
     let before = counts(clock);
     if clock.join(other).is_ok() {
         return true;
@@ -95,11 +83,7 @@ fn a_clock_ticks_joins_and_covers(rt: HostRuntime) -> Result<(), Fail> {
 }
 
 /// Ticks an item so often, and tells how often it went well from the start on.
-fn tick_times<A: Allocator + Copy>(clock: &mut Clock<A>, place: u16, times: u32) -> u32
-    requires sizes { sizes_of clock.old ≡ 2 ∷ [] }
-    requires place { place < 2 }
-    ensures { sizes_of clock.new ≡ 2 ∷ [] }
-{
+fn tick_times<A: Allocator + Copy>(clock: &mut Clock<A>, place: u16, times: u32) -> u32 {
     for done in 0..times {
         if clock.tick(item(place)).is_err() {
             return done;
@@ -169,8 +153,7 @@ fn release<A: Allocator + Copy>(
 ) -> Option<Snapshot<A>>
     requires sizes { clocks.old.sizes ≡ 2 ∷ [] }
     requires place { place < 2 }
-    ensures sizes { clocks.new.sizes ≡ 2 ∷ [] }
-    ensures snapshot { IfSome result (λ s. sizes_of s.clock ≡ 2 ∷ []) }
+    ensures { clocks.new.sizes ≡ 2 ∷ [] }
 {
     let before = all_known(clocks);
     if let Ok(snapshot) = clocks.release(item(place), word, Scope::Device) {
@@ -184,7 +167,6 @@ fn release<A: Allocator + Copy>(
 
 fn acquire<A: Allocator + Copy>(clocks: &mut Clocks<A>, place: u16, snapshot: &Snapshot<A>) -> bool
     requires sizes { clocks.old.sizes ≡ 2 ∷ [] }
-    requires snapshot { sizes_of snapshot.now.clock ≡ 2 ∷ [] }
     requires place { place < 2 }
     ensures { clocks.new.sizes ≡ 2 ∷ [] }
 {
@@ -203,7 +185,6 @@ fn acquire_release<A: Allocator + Copy>(
     word: Word,
 ) -> Option<Snapshot<A>>
     requires sizes { clocks.old.sizes ≡ 2 ∷ [] }
-    requires snapshot { sizes_of snapshot.now.clock ≡ 2 ∷ [] }
     requires place { place < 2 }
     ensures { clocks.new.sizes ≡ 2 ∷ [] }
 {
@@ -241,8 +222,7 @@ fn acquire_twice_and_meet<A: Allocator + Copy>(
     clocks: &mut Clocks<A>,
     first: &Snapshot<A>,
 ) -> Option<([[u32; 2]; 2], [u32; 2])>
-    requires sizes { clocks.old.sizes ≡ 2 ∷ [] }
-    requires snapshot { sizes_of first.now.clock ≡ 2 ∷ [] }
+    requires { clocks.old.sizes ≡ 2 ∷ [] }
     ensures { clocks.new.sizes ≡ 2 ∷ [] }
 {
     if !acquire(clocks, 1, first) {

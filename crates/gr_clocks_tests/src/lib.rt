@@ -6,6 +6,8 @@ mod barrier_rows;
 #[cfg(test)]
 mod clock_rows;
 #[cfg(test)]
+mod group_rows;
+#[cfg(test)]
 mod launch;
 #[cfg(test)]
 mod names_rows;

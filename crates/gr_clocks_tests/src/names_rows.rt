@@ -1,7 +1,6 @@
 //! Worked rows of acquires that name several releases, with each growth refused in turn: what they count behind it.
 
-ghost use Rattle.std.specs.Prelude.{◌≡◌, ◌<◌, ◌∷◌, [], All, IfSome, map};
-ghost use Rattle.gr_clocks.specs.Counts.{sizes_of};
+ghost use Rattle.std.specs.Prelude.{◌≡◌, ◌<◌, ◌∷◌, [], IfSome, map};
 ghost use Rattle.gr_clocks.specs.ItemClocks.{AreOfOneWord};
 
 use crate::launch::{item, three_items};
@@ -51,7 +50,6 @@ fn release<A: Allocator + Copy>(
     requires sizes { clocks.old.sizes ≡ 3 ∷ [] }
     requires place { place < 3 }
     ensures sizes { clocks.new.sizes ≡ 3 ∷ [] }
-    ensures shape { IfSome result (λ s. sizes_of s.clock ≡ 3 ∷ []) }
     ensures word { IfSome result (λ s. s.word ≡ word) }
 {
     let before = known(clocks, place);
@@ -72,7 +70,6 @@ fn acquire<A: Allocator + Copy>(
 ) -> bool
     requires sizes { clocks.old.sizes ≡ 3 ∷ [] }
     requires place { place < 3 }
-    requires shapes { All (λ s. sizes_of s.now.clock ≡ 3 ∷ []) snapshots.now }
     requires word { AreOfOneWord (map (λ s. s.now) snapshots.now) }
     ensures { clocks.new.sizes ≡ 3 ∷ [] }
 {
@@ -91,7 +88,6 @@ fn releases<A: Allocator + Copy>(
 ) -> Option<(Snapshot<A>, Snapshot<A>)>
     requires { clocks.old.sizes ≡ 3 ∷ [] }
     ensures sizes { clocks.new.sizes ≡ 3 ∷ [] }
-    ensures shapes { IfSome result (λ both. (sizes_of both.0.clock ≡ 3 ∷ []) × (sizes_of both.1.clock ≡ 3 ∷ [])) }
     ensures word { IfSome result (λ both. (both.0.word ≡ word) × (both.1.word ≡ word)) }
 {
     let first = release(clocks, 0, word)?;
@@ -107,7 +103,6 @@ fn acquires<A: Allocator + Copy>(
     second: &Snapshot<A>,
 ) -> Option<[Counts; 3]>
     requires sizes { clocks.old.sizes ≡ 3 ∷ [] }
-    requires shapes { (sizes_of first.now.clock ≡ 3 ∷ []) × (sizes_of second.now.clock ≡ 3 ∷ []) }
     requires word { first.now.word ≡ second.now.word }
 {
     let one = acquire(clocks, 2, &[first]);

@@ -1,9 +1,5 @@
 //! The worked row of clocks that share their counts: what one of them counts from then on, its copy does not.
 
-ghost use Rattle.std.specs.Prelude.{◌≡◌, ◌∷◌, [], IfSome};
-ghost use Rattle.gr_model.specs.Shapes.{HasItem};
-ghost use Rattle.gr_clocks.specs.Counts.{sizes_of};
-
 use gr_clocks::clock::Clock;
 use gr_model::event::ItemId;
 use gr_model::shape::Shape;
@@ -14,9 +10,7 @@ use std::test::Fail;
 /// The counts of three groups of two items.
 type Counts = [[u32; 2]; 3];
 
-fn at(group: u16, item: u16) -> ItemId
-    ensures { result ≡ record { group = group; item = item } }
-{
+fn at(group: u16, item: u16) -> ItemId {
     ItemId { group, item }
 }
 
@@ -28,20 +22,14 @@ fn counts<A: Allocator>(clock: &Clock<A>) -> Counts {
     ]
 }
 
-fn new_clock<A: Allocator + Copy>(alloc: A) -> Option<Clock<A>>
-    ensures { IfSome result (λ c. sizes_of c ≡ 2 ∷ 2 ∷ 2 ∷ []) }
-{
+fn new_clock<A: Allocator + Copy>(alloc: A) -> Option<Clock<A>> {
     let sizes = vec![in alloc; 2_u16, 2, 2].ok()?;
     let shape = Shape::new(sizes).ok()?;
     Clock::new(alloc, &shape).ok()
 }
 
 /// Ticks an item, again where a growth was refused, which changes nothing.
-fn tick<A: Allocator + Copy>(clock: &mut Clock<A>, item: ItemId) -> bool
-    requires sizes { sizes_of clock.old ≡ 2 ∷ 2 ∷ 2 ∷ [] }
-    requires item { HasItem (2 ∷ 2 ∷ 2 ∷ []) item }
-    ensures { sizes_of clock.new ≡ 2 ∷ 2 ∷ 2 ∷ [] }
-{
+fn tick<A: Allocator + Copy>(clock: &mut Clock<A>, item: ItemId) -> bool {
     let before = counts(clock);
     if clock.tick(item).is_ok() {
         return true;
@@ -51,11 +39,7 @@ fn tick<A: Allocator + Copy>(clock: &mut Clock<A>, item: ItemId) -> bool
 }
 
 /// Joins a clock, again where a growth was refused, which changes nothing.
-fn join<A: Allocator + Copy>(clock: &mut Clock<A>, other: &Clock<A>) -> bool
-    requires sizes { sizes_of clock.old ≡ 2 ∷ 2 ∷ 2 ∷ [] }
-    requires others { sizes_of other.now ≡ 2 ∷ 2 ∷ 2 ∷ [] }
-    ensures { sizes_of clock.new ≡ 2 ∷ 2 ∷ 2 ∷ [] }
-{
+fn join<A: Allocator + Copy>(clock: &mut Clock<A>, other: &Clock<A>) -> bool {
     let before = counts(clock);
     if clock.join(other).is_ok() {
         return true;

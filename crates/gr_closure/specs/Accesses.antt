@@ -7,7 +7,7 @@ use Rattle.gr_model.specs.Access.{memory_of}
 use Rattle.gr_model.specs.Counts.{Sees}
 use Rattle.gr_model.specs.Streams.{Streams, event_at, word_at}
 use Rattle.gr_scopes.specs.Classes.{class_of}
-use Rattle.gr_clocks.specs.Counts.{Counts, count_of, sizes_of}
+use Rattle.gr_clocks.specs.Counts.{Counts, count_of}
 use Rattle.gr_clocks.specs.declared.access.Access.{Access}
 
 -- a clock counts just the events of which P holds: of each item its first ones
@@ -22,7 +22,6 @@ pub record IsAccess {Z : Type 0} (s : Streams) (e : EventId) (a : Access Z) : Ty
   pub event : Event
   pub at_event : event_at s e ≡ Some event
   pub class : class_of event.kind ≡ Some a.class
-  pub shape : sizes_of a.clock ≡ s.sizes
   pub counts : CountsJust a.clock (Sees s (memory_of a.word) e)
 
 -- an event that is no access has none

@@ -23,7 +23,6 @@ bare_access s e a of_e = record {
   event = of_e.event;
   at_event = of_e.at_event;
   class = of_e.class;
-  shape = of_e.shape;
   counts = of_e.counts;
 }
 

@@ -21,7 +21,6 @@ module _ (s t : Streams) (grows : Grows s t) where
     event = of_e.event;
     at_event = event_grows s t grows e of_e.event of_e.at_event;
     class = of_e.class;
-    shape = of_e.shape ∙ grows.sizes;
     counts = λ d. (
       λ lt. ⊎_elim (λ same. inl same) (λ (b : HappensBefore s (memory_of x.word) d e). inr (before_grows s t grows (memory_of x.word) d e b grounded.0 grounded.1)) ((of_e.counts d).0 lt),
       λ seen. (of_e.counts d).1 (⊎_elim (λ same. inl same) (λ (b : HappensBefore t (memory_of x.word) d e). inr (before_shrinks s t grows (memory_of x.word) d e b grounded.0 grounded.1)) seen),

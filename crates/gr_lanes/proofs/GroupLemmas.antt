@@ -9,6 +9,9 @@ use Rattle.gr_model.specs.declared.limits.TheConstants.{MOST_RECORDS}
 use Rattle.gr_model.specs.Shapes.{IsShape}
 use Rattle.gr_model.specs.Streams.{ArePrefixes, IsPrefix, Streams, is_complete, list_of, size_of}
 use Rattle.gr_model.specs.Reports.{IsCut}
+use Rattle.gr_model.specs.Groups.{CanAdd, put, with_group}
+use Rattle.gr_model.proofs.GroupLaws.{nothing_came, part_of_shape, prefixes_with_group}
+use Rattle.gr_model.proofs.PutLemmas.{map_put}
 use Rattle.gr_model.proofs.StreamPrefixes.{prefix_push}
 use Rattle.gr_lanes.specs.Indices.{AreGroups, EndsCut, GroupList, taken_of}
 use Rattle.gr_lanes.specs.Takes.{CanTake, IsEventButItem, nothing_taken, with_record}
@@ -37,7 +40,7 @@ pub nothing_groups : (sizes : List ℕ) (groups : List GroupList) → IsShape si
 nothing_groups sizes groups shape are = subst (AreGroups sizes) (sym are) (record {
   same = sizes_empty sizes;
   prefixes = record {
-    shape = shape;
+    shape = part_of_shape sizes shape;
     count = ap length (lists_empty sizes) ∙ length-map sizes (λ n. []);
     each = λ g within. subst (IsPrefix (get_or sizes g 0)) (sym (none_at sizes g)) (record { few = omega arith; good = λ p x at. cc });
   };
@@ -172,3 +175,30 @@ module _ (sizes : List ℕ) (groups found : List GroupList) (are : AreGroups siz
 
   pub is_cut_only : IsCut s h → EndsCut now.list
   is_cut_only cut = subst EndsCut (sym list_is) (cut.1, cut.2, cut.3, cut.4)
+
+-- ---- a group comes
+
+module _ (sizes : List ℕ) (groups : List GroupList) (are : AreGroups sizes groups) (s : Streams) (taken : taken_of sizes groups ≡ s) (g n : ℕ) (can : CanAdd s g n) (after : List GroupList) (is : after ≡ put (empty 0) groups g (empty n)) where
+  here : CanAdd (taken_of sizes groups) g n
+  here = subst (λ (t : Streams). CanAdd t g n) (sym taken) can
+
+  none : list_of (taken_of sizes groups) g ≡ []
+  none = nothing_came (taken_of sizes groups) g n are.prefixes here
+
+  lists_after : map (λ (x : GroupList). x.list) after ≡ put [] (map (λ (x : GroupList). x.list) groups) g (list_of (taken_of sizes groups) g)
+  lists_after = ap (map (λ (x : GroupList). x.list)) is ∙ map_put (λ (x : GroupList). x.list) (empty 0) groups g (empty n) ∙ ap (put [] (map (λ (x : GroupList). x.list) groups) g) (sym none)
+
+  added : taken_of (put 0 sizes g n) after ≡ with_group (taken_of sizes groups) g n
+  added = λ d. record { sizes = put 0 sizes g n; lists = lists_after d }
+
+  pub added_taken : taken_of (put 0 sizes g n) after ≡ with_group s g n
+  added_taken = added ∙ ap (λ (t : Streams). with_group t g n) taken
+
+  pub added_groups : AreGroups (put 0 sizes g n) after
+  added_groups = record {
+    same = ap (map (λ (x : GroupList). x.size)) is ∙ map_put (λ (x : GroupList). x.size) (empty 0) groups g (empty n) ∙ ap (λ (l : List ℕ). put 0 l g n) are.same;
+    prefixes = subst ArePrefixes (sym added) (prefixes_with_group (taken_of sizes groups) g n are.prefixes here);
+  }
+
+  pub added_prefixes : ArePrefixes (with_group s g n)
+  added_prefixes = subst ArePrefixes added_taken added_groups.prefixes

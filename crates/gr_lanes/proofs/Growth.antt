@@ -1,5 +1,5 @@
 -- Lists grow by a record that is taken.
-use Rattle.std.proofs.Common.{◌≡◌, ℕ, [], ◌∷◌, ◌++◌, refl, sym, ap, ◌∙◌, subst, ⊎_elim, arith, append-nil, IsTrue}
+use Rattle.std.proofs.Common.{◌≡◌, ℕ, [], ◌∷◌, ◌++◌, refl, sym, ap, ◌∙◌, subst, inl, ⊎_elim, arith, append-nil, IsTrue}
 use Rattle.std.specs.Prelude.{◌<◌, length}
 use Rattle.std.proofs.lemmas.Bool.{cases_eq, false_from_ne_true}
 use Rattle.std.proofs.lemmas.List.{get_or-set_same, get_or-set_other, length-set}
@@ -18,7 +18,7 @@ module _ (s : Streams) (g : ℕ) (x : Event) (prefixes : ArePrefixes s) (can : C
 
   pub record_grows : Grows s (with_record s g x)
   record_grows = record {
-    sizes = refl;
+    sizes = λ h. inl refl;
     lists = λ h. ⊎_elim
         (λ (same : h ≡ g). (x ∷ [], ap (list_of (with_record s g x)) same ∙ (here ∙ ap (λ n. list_of s n ++ x ∷ []) (sym same))))
         (λ apart. ([], other h apart ∙ sym (append-nil (list_of s h))))

@@ -1,9 +1,10 @@
 //! What was taken of a launch's streams.
 //!
-//! Invariant: there is a group for each of the shape, of its size, and each has a prefix of a list that it may have.
+//! Invariant: there is a group for each of the shape so far, of its size, and each has a prefix of a list that it may have.
 
 ghost use Rattle.std.specs.Prelude.{◌≡◌, ◌≢◌, ◌↔◌, ◌<◌, ℕ, Some, IsTrue, IfOk, IfErr, MatchOption, OnOk, OnErr, filter, length, option_and_then};
 ghost use Rattle.gr_model.specs.declared.limits.TheConstants.{MOST_RECORDS};
+ghost use Rattle.gr_model.specs.Groups.{CanAdd, with_group};
 ghost use Rattle.gr_model.specs.Streams.{ArePrefixes, is_complete, list_of, place_of, trace_of};
 ghost use Rattle.gr_model.specs.Access.{event_word, is_release};
 ghost use Rattle.gr_model.specs.Barriers.{is_barrier};
@@ -16,6 +17,7 @@ ghost use Rattle.gr_lanes.specs.Takes.{nothing_taken, with_record, IsEventButIte
 use crate::group::Group;
 use crate::seq_error::SeqError;
 use gr_model::event::{Event, EventId, ItemId, Name, Word, word_of};
+use gr_model::growing::GrowingShape;
 use gr_model::memory::Memory;
 use gr_model::shape::Shape;
 use std::alloc::{Allocator, Global};
@@ -26,7 +28,7 @@ use std::marker::Model;
 #[derive(Drop)]
 #[derive_where(Debug)]
 pub struct Lanes<A: Allocator = Global> {
-    shape: Shape<A>,
+    shape: GrowingShape<A>,
     groups: Vec<Group<A>, A>,
 }
 
@@ -54,13 +56,34 @@ impl<A: Allocator + Copy> Lanes<A> {
         for group in 0..shape.groups() {
             groups.push(Group::new(alloc, shape.items(group))?)?;
         }
+        let shape = GrowingShape::of(shape);
+        Ok(Lanes { shape, groups })
+    }
+
+    /// The same, where a group comes that has so many items. The groups below it that were not there are there, without items.
+    /// Requires: the group has not come, and is one that a launch may have beside the others.
+    ///
+    /// # Errors
+    /// `Memory`: out of memory.
+    pub fn with_group(self, alloc: A, group: u16, items: u16) -> Result<Lanes<A>, Memory>
+        requires { CanAdd self group items }
+        ensures comes { IfOk result (λ l. l ≡ with_group self group items) }
+        ensures prefixes { IfOk result (λ l. ArePrefixes l) }
+    {
+        let added = Group::new(alloc, items)?;
+        let Lanes { shape, mut groups } = self;
+        let shape = shape.with_group(group, items)?;
+        while groups.len() <= usize::from(group) {
+            groups.push(Group::new(alloc, 0)?)?;
+        }
+        groups[usize::from(group)] = added;
         Ok(Lanes { shape, groups })
     }
 }
 
 impl<A: Allocator> Lanes<A> {
-    /// The sizes of the groups.
-    pub fn shape(&self) -> &Shape<A>
+    /// The sizes of the groups that have come.
+    pub fn shape(&self) -> &GrowingShape<A>
         ensures sizes { result.now ≡ self.now.sizes }
         ensures prefixes { ArePrefixes self.now }
     {

@@ -1,5 +1,5 @@
 -- What holds of the events that are reached holds on where incomplete lists grow.
-use Rattle.std.proofs.Common.{Contains, ◌≡◌, ◌⊎◌, ℕ, zero, suc, ◌+◌, ◌<◌, Bool, List, ◌++◌, length, Some, None, slice_get, filter, filter_map, option_and_then, slice_index, sym, ap, ◌∙◌, subst, inl, inr, ⊎_elim, arith, IsTrue}
+use Rattle.std.proofs.Common.{Contains, ◌≡◌, ◌⊎◌, ℕ, zero, suc, ◌+◌, ◌<◌, Bool, false, true, List, [], ◌++◌, length, Some, None, slice_get, filter, filter_map, option_and_then, sym, ap, ◌∙◌, subst, inl, inr, ⊎_elim, arith, IsTrue}
 use Rattle.std.proofs.lemmas.List.Elements.{filter-append, filter_map-append}
 use Rattle.std.proofs.lemmas.Option.{slice_get_within}
 use Rattle.gr_model.specs.declared.event.ItemId.{ItemId}
@@ -90,8 +90,24 @@ module _ (s t : Streams) (grows : Grows s t) where
 
   -- ---- barriers
 
-  pub size_grows : (g : ℕ) → size_of s g ≡ size_of t g
-  size_grows g = ap (λ l. slice_index l g) grows.sizes
+  -- a group of which an event has come keeps its size
+  pub size_stays : (e : EventId) → IsEvent s e → size_of s e.at.group ≡ size_of t e.at.group
+  size_stays e there = ⊎_elim (λ same. same) (λ none. absurd (nothing_there none)) (grows.sizes e.at.group)
+    where
+      nothing_there : list_of s e.at.group ≡ [] → ⊥
+      nothing_there none = let no : None ≡ Some there.0 = sym (ap (λ l. slice_get (filter (is_of e.at.item) l) e.index) none) ∙ there.1 in cc
+
+  size_with : (g k i : ℕ) (a : Mark) → arrivals s g k i ≡ Some a → size_of s g ≡ size_of t g
+  size_with g k i a at = ⊎_elim (λ same. same) (λ none. absurd (nobody_came none)) (grows.sizes g)
+    where
+      nobody_came : list_of s g ≡ [] → ⊥
+      nobody_came none = let no : None ≡ Some a = sym (ap (λ l. slice_get (filter_map mark_of (filter (is_of i) l)) k) none) ∙ at in cc
+
+  size_of_whole : (g : ℕ) → IsTrue (is_complete (list_of s g)) → size_of s g ≡ size_of t g
+  size_of_whole g whole = ⊎_elim (λ same. same) (λ none. absurd (nothing_is_whole none)) (grows.sizes g)
+    where
+      nothing_is_whole : list_of s g ≡ [] → ⊥
+      nothing_is_whole none = let no : false ≡ true = sym (ap is_complete none) ∙ whole in cc
 
   arrival_grows : (g k i : ℕ) (a : Mark) → arrivals s g k i ≡ Some a → arrivals t g k i ≡ Some a
   arrival_grows g k i a at =
@@ -99,10 +115,16 @@ module _ (s t : Streams) (grows : Grows s t) where
       ap (λ l. slice_get (filter_map mark_of l) k) more.1 ∙ (ap (λ l. slice_get l k) (filter_map-append mark_of (trace_of s (record { group = g; item = i })) more.0) ∙ slice_get-append (filter_map mark_of (trace_of s (record { group = g; item = i }))) (filter_map mark_of more.0) k a at)
 
   arrived_grows : (g k i : ℕ) (a : Mark) → HasArrived (size_of s g) (arrivals s g k) i a → HasArrived (size_of t g) (arrivals t g k) i a
-  arrived_grows g k i a h = (subst (λ n. i < n) (size_grows g) h.0, arrival_grows g k i a h.1)
+  arrived_grows g k i a h = (subst (λ n. i < n) (size_with g k i a h.1) h.0, arrival_grows g k i a h.1)
+
+  -- a group whose items have met keeps its size
+  pub size_of_met : (g k : ℕ) (a : Mark) → IsConvergent s g k a → size_of s g ≡ size_of t g
+  size_of_met g k a c = size_with g k 0 a (c.1 0 c.0)
 
   pub convergent_grows : (g k : ℕ) (a : Mark) → IsConvergent s g k a → IsConvergent t g k a
-  convergent_grows g k a c = (subst (λ n. 0 < n) (size_grows g) c.0, λ i below. arrival_grows g k i a (c.1 i (subst (λ n. i < n) (sym (size_grows g)) below)))
+  convergent_grows g k a c =
+      let size = size_of_met g k a c in
+      (subst (λ n. 0 < n) size c.0, λ i below. arrival_grows g k i a (c.1 i (subst (λ n. i < n) (sym size) below)))
 
   mixed_grows : (g k : ℕ) → AreMixed (size_of s g) (arrivals s g k) → AreMixed (size_of t g) (arrivals t g k)
   mixed_grows g k h = (h.0, h.1, h.2, h.3, arrived_grows g k h.0 h.2 h.4, arrived_grows g k h.1 h.3 h.5, h.6)
@@ -118,7 +140,7 @@ module _ (s t : Streams) (grows : Grows s t) where
       let h = part.1 in
       inr (
         ap is_complete (grows.whole g whole) ∙ whole,
-        (h.0, h.1, h.2, arrived_grows g k h.0 h.2 h.3, subst (λ n. h.1 < n) (size_grows g) h.4, ap (λ l. slice_get (filter_map mark_of l) k) (whole_trace g h.1 whole) ∙ h.5),
+        (h.0, h.1, h.2, arrived_grows g k h.0 h.2 h.3, subst (λ n. h.1 < n) (size_of_whole g whole) h.4, ap (λ l. slice_get (filter_map mark_of l) k) (whole_trace g h.1 whole) ∙ h.5),
       )
 
   -- a settled instance is convergent in the longer lists with the mark that it has
@@ -130,10 +152,14 @@ module _ (s t : Streams) (grows : Grows s t) where
 
   -- a barrier's number stays
   pub stands_grows : (e : EventId) (g k : ℕ) → StandsIn s e g k → StandsIn t e g k
-  stands_grows e g k h = record { group = h.group; item = subst (λ n. e.at.item < n) (size_grows g) h.item; place = place_grows is_barrier e.at k e.index h.place }
+  stands_grows e g k h =
+      let size : size_of s g ≡ size_of t g = subst (λ n. size_of s n ≡ size_of t n) h.group (size_stays e (place_there is_barrier e k h.place)) in
+      record { group = h.group; item = subst (λ n. e.at.item < n) size h.item; place = place_grows is_barrier e.at k e.index h.place }
 
   pub stands_shrinks : (e : EventId) (g k : ℕ) → IsEvent s e → StandsIn t e g k → StandsIn s e g k
-  stands_shrinks e g k there h = record { group = h.group; item = subst (λ n. e.at.item < n) (sym (size_grows g)) h.item; place = place_shrinks is_barrier e k there h.place }
+  stands_shrinks e g k there h =
+      let size : size_of s g ≡ size_of t g = subst (λ n. size_of s n ≡ size_of t n) h.group (size_stays e there) in
+      record { group = h.group; item = subst (λ n. e.at.item < n) (sym size) h.item; place = place_shrinks is_barrier e k there h.place }
 
   pub together_grows : (a : Mark) (e b : EventId) → Together s a e b → Together t a e b
   together_grows a e b h = record {
@@ -152,7 +178,8 @@ module _ (s t : Streams) (grows : Grows s t) where
       let convergent = convergent_shrinks h.group h.instance a settled h.convergent in
       let here : ItemId = record { group = h.group; item = b.at.item } in
       let item : b.at ≡ here = λ i. record { group = h.second.group i; item = b.at.item } in
-      let within : b.at.item < size_of s h.group = subst (λ n. b.at.item < n) (sym (size_grows h.group)) h.second.item in
+      let size : size_of s h.group ≡ size_of t h.group = subst (λ n. size_of s n ≡ size_of t n) h.first.group (size_stays e there) in
+      let within : b.at.item < size_of s h.group = subst (λ n. b.at.item < n) (sym size) h.second.item in
       let found = filter_map-place mark_of 0 (trace_of s here) h.instance a (convergent.1 b.at.item within) in
       let was : place_of s is_barrier b.at h.instance ≡ Some found.0 = ap (λ i. place_of s is_barrier i h.instance) item ∙ found.1 in
       let same : Some found.0 ≡ Some b.index = sym (place_grows is_barrier b.at h.instance found.0 was) ∙ h.second.place in

@@ -5,6 +5,8 @@ pub mod Descent
 pub mod Numbers
 pub mod Places
 pub mod GrowthLaws
+pub mod PutLemmas
+pub mod GroupLaws
 pub mod CountLaws
 pub mod RaceGrowth
 pub mod AscendingLists

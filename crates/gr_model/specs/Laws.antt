@@ -4,6 +4,7 @@ use Rattle.gr_model.specs.declared.event.Space.{Space}
 use Rattle.gr_model.specs.declared.event.ItemId.{ItemId}
 use Rattle.gr_model.specs.declared.event.EventId.{EventId}
 use Rattle.gr_model.specs.declared.event.Word.{Word}
+use Rattle.gr_model.specs.Shapes.{IsShape}
 use Rattle.gr_model.specs.Streams.{Streams, AreAccepted, ArePrefixes, AreComplete, Grows}
 use Rattle.gr_model.specs.HappensBefore.{BasePair, HappensBefore}
 use Rattle.gr_model.specs.Waits.{Waits, Stage, IsGrounded}
@@ -13,9 +14,9 @@ use Rattle.gr_model.specs.Counts.{IsCount}
 use Rattle.gr_model.specs.Hits.{SomePair}
 use Rattle.gr_model.specs.Reports.{WholeReport, IsReportOf}
 
--- lists are accepted exactly where they may have come and are complete
+-- the lists of a shape's groups are accepted exactly where they may have come and are complete
 abbrev pub AcceptedAreComplete : Type 0
-AcceptedAreComplete = (s : Streams) → AreAccepted s ↔ (ArePrefixes s × AreComplete s)
+AcceptedAreComplete = (s : Streams) → AreAccepted s ↔ (IsShape s.sizes × ArePrefixes s × AreComplete s)
 
 -- in a lawful order a base pair goes forwards
 abbrev pub PairsGoForwards : Type 0

@@ -3,6 +3,7 @@ pub mod Events
 pub mod Shapes
 pub mod Configs
 pub mod Streams
+pub mod Groups
 pub mod NameLists
 pub mod NamePlaces
 pub mod Names

@@ -18,6 +18,12 @@ pub record IsShape (sizes : List ℕ) : Type 0 where
   pub each : All IsGroupSize sizes
   pub total : sum sizes ≤ MOST_ITEMS
 
+-- the sizes of groups that may become a shape: those of no items have not come yet
+pub record IsPartOfShape (sizes : List ℕ) : Type 0 where
+  pub groups : length sizes ≤ MOST_GROUPS
+  pub each : All (λ n. n ≤ MOST_ITEMS_OF_A_GROUP) sizes
+  pub total : sum sizes ≤ MOST_ITEMS
+
 -- there is such a group, and it has such an item
 abbrev pub HasItem : List ℕ → ItemId → Type 0
 HasItem sizes i = (i.group < length sizes) × (i.item < slice_index sizes i.group)

@@ -11,7 +11,7 @@ use Rattle.gr_model.specs.declared.traces.TracesError.{TracesError}
 use Rattle.gr_model.specs.declared.traces.TracesError.TheVariants.{WrongCount, TooManyRecords, BadEvent, NoEnd}
 use Rattle.gr_model.specs.Access.{event_word}
 use Rattle.gr_model.specs.Events.{IsEventOk, is_end}
-use Rattle.gr_model.specs.Shapes.{IsShape}
+use Rattle.gr_model.specs.Shapes.{IsPartOfShape, IsShape}
 
 -- the sizes of the groups, and one list of records for each
 pub record Streams : Type 0 where
@@ -78,9 +78,9 @@ pub record IsPrefix (items : ℕ) (list : List Event) : Type 0 where
   pub few : length list ≤ MOST_RECORDS
   pub good : AreGood items list
 
--- what may have come so far of the lists of the groups of a shape
+-- what may have come so far of the lists of the groups of a shape, of which some may not have come yet
 pub record ArePrefixes (s : Streams) : Type 0 where
-  pub shape : IsShape s.sizes
+  pub shape : IsPartOfShape s.sizes
   pub count : length s.lists ≡ length s.sizes
   pub each : (g : ℕ) → g < length s.sizes → IsPrefix (size_of s g) (list_of s g)
 
@@ -131,8 +131,8 @@ place_of s test i k = slice_get (places_from test 0 (trace_of s i)) k
 
 -- ---- growth
 
--- t has of each group at least the records of s, in their order, and of a complete list no more
+-- t has of each group at least the records of s, in their order, and of a complete list no more; a group of which none has come may be of another size in t
 pub record Grows (s t : Streams) : Type 0 where
-  pub sizes : s.sizes ≡ t.sizes
+  pub sizes : (g : ℕ) → (size_of s g ≡ size_of t g) ⊎ (list_of s g ≡ [])
   pub lists : (g : ℕ) → (more : List Event) × (list_of t g ≡ list_of s g ++ more)
   pub whole : (g : ℕ) → IsTrue (is_complete (list_of s g)) → list_of t g ≡ list_of s g

@@ -6,7 +6,7 @@ ghost use Rattle.gr_model.specs.Laws.{AcceptedAreComplete, PairsGoForwards, Orde
 
 use crate::limits::{MOST_GROUPS, MOST_ITEMS, MOST_ITEMS_OF_A_GROUP, MOST_NAMES, MOST_RECORDS};
 
-/// Lists are accepted exactly where they may have come and are complete.
+/// The lists of a shape's groups are accepted exactly where they may have come and are complete.
 pub fn accepted_lists_are_complete()
     ensures { AcceptedAreComplete }
 {}

@@ -4,6 +4,7 @@
 
 pub mod config;
 pub mod event;
+pub mod growing;
 pub mod laws;
 pub mod limits;
 pub mod memory;

@@ -33,7 +33,7 @@ pub enum ShapeError {
 #[derive(Drop)]
 #[derive_where(Debug)]
 pub struct Shape<A: Allocator = Global> {
-    sizes: Vec<u16, A>,
+    pub(crate) sizes: Vec<u16, A>,
 }
 
 impl<A: Allocator> Model for Shape<A> {
@@ -57,10 +57,10 @@ fn bad_group(sizes: &[u16]) -> Option<usize>
 }
 
 /// The sum of the sizes.
-/// Requires: there are at most `MOST_GROUPS` sizes, each 1 to `MOST_ITEMS_OF_A_GROUP`.
-fn total_of(sizes: &[u16]) -> u32
+/// Requires: there are at most `MOST_GROUPS` sizes, each at most `MOST_ITEMS_OF_A_GROUP`.
+pub(crate) fn total_of(sizes: &[u16]) -> u32
     requires few { length sizes.now ≤ MOST_GROUPS }
-    requires small { All IsGroupSize sizes.now }
+    requires small { All (λ n. n ≤ MOST_ITEMS_OF_A_GROUP) sizes.now }
     ensures { result ≡ sum sizes.now }
 {
     let mut total: u32 = 0;

@@ -7,4 +7,5 @@ pub mod SumLemmas
 pub mod TakenLemmas
 pub mod HeldLemmas
 pub mod WaitLemmas
+pub mod ComingLemmas
 pub mod AtOnceLemmas

@@ -6,7 +6,10 @@ use Rattle.std.proofs.lemmas.List.Concat.{flat_map-cons}
 use Rattle.std.proofs.lemmas.List.FromFn.{fill_by_all}
 use Rattle.std.proofs.lemmas.List.Sums.{sum_by-append, sum_by-cons}
 use Rattle.gr_model.specs.declared.event.ItemId.{ItemId}
+use Rattle.gr_model.specs.Groups.{put}
 use Rattle.gr_model.specs.Shapes.{HasItem, items_of}
+use Rattle.gr_model.proofs.PutLemmas.{length_put, put_other}
+use Rattle.std.proofs.lemmas.List.{get_or_past}
 use Rattle.gr_clocks.specs.Tables.{item_of}
 
 -- the sum of n numbers, from the one at a on
@@ -117,3 +120,39 @@ pub items_at_most : (f h : ItemId → ℕ) (sizes : List ℕ) → ((i : ItemId) 
 items_at_most f h sizes most =
     sym (sum_add (λ i. h i - f i) f (items_of sizes))
     ∙ items_same h (λ i. (h i - f i) + f i) sizes (λ i there. let le = most i there in omega arith)
+
+-- ---- a group comes
+
+total_none : (f : ℕ → ℕ) (a n : ℕ) → ((k : ℕ) → a ≤ k → k < a + n → f k ≡ 0) → total f a n ≡ 0
+total_none f a zero none = refl
+total_none f a (suc n) none = let first = none a (omega arith) (omega arith) in let rest = total_none f (a + 1) n (λ k ge lt. none k (omega arith) (omega arith)) in omega arith
+
+-- more numbers, all of them 0
+total_longer : (f : ℕ → ℕ) (a n m : ℕ) → n ≤ m → ((k : ℕ) → a + n ≤ k → f k ≡ 0) → total f a m ≡ total f a n
+total_longer f a zero m longer none = total_none f a m (λ k ge lt. none k (omega arith))
+total_longer f a (suc n) zero longer none = absurd (omega arith)
+total_longer f a (suc n) (suc m) longer none = let rest = total_longer f (a + 1) n m (omega arith) (λ k ge. none k (omega arith)) in omega arith
+
+-- the sum over the items stays where a group of items comes that count for nothing
+pub items_put : (h : ItemId → ℕ) (sizes : List ℕ) (g n : ℕ) → get_or sizes g 0 ≡ 0 → ((k : ℕ) → h (item_of g k) ≡ 0) → sum_by h (items_of (put 0 sizes g n)) ≡ sum_by h (items_of sizes)
+items_put h sizes g n absent none =
+    items_sum h (put 0 sizes g n)
+    ∙ (total_same (group_sum h sizes) (group_sum h (put 0 sizes g n)) 0 (length (put 0 sizes g n)) (λ k ge lt. same k)
+    ∙ (total_longer (group_sum h sizes) 0 (length sizes) (length (put 0 sizes g n)) (let size = length_put 0 sizes g n in omega (arith, size)) (λ k past. let size : get_or sizes k 0 ≡ 0 = get_or_past sizes k 0 (omega (arith, past)) in ap (λ (m : ℕ). total (λ i. h (item_of k i)) 0 m) size)
+    ∙ sym (items_sum h sizes)))
+  where
+    same : (k : ℕ) → group_sum h (put 0 sizes g n) k ≡ group_sum h sizes k
+    same k = ⊎_elim
+        (λ (here : k ≡ g).
+        let was : group_sum h sizes g ≡ 0 = ap (λ (m : ℕ). total (λ i. h (item_of g i)) 0 m) absent in
+        let now : group_sum h (put 0 sizes g n) g ≡ 0 = total_none (λ i. h (item_of g i)) 0 (get_or (put 0 sizes g n) g 0) (λ i ge lt. none i) in
+        subst (λ (m : ℕ). group_sum h (put 0 sizes g n) m ≡ group_sum h sizes m) (sym here) (now ∙ sym was))
+        (λ (apart : k ≡ g → ⊥). ap (λ (m : ℕ). total (λ i. h (item_of k i)) 0 m) (put_other 0 sizes g n k apart))
+        (cases_eq k g)
+
+-- a list that counts for nothing may stand between others
+pub sum_put_again : {X : Type 0} (f : List X → ℕ) (xs : List (List X)) (g : ℕ) → f [] ≡ 0 → sum_by f (put [] xs g (get_or xs g [])) ≡ sum_by f xs
+sum_put_again f [] zero none = let one = sum_by-cons f [] [] in omega (arith, one, none)
+sum_put_again {X} f [] (suc g) none = let blank : List (List X) = [] in let rest = sum_put_again f blank g none in let one = sum_by-cons f [] (put [] blank g []) in omega (arith, rest, one, none)
+sum_put_again f (x ∷ xs) zero none = refl
+sum_put_again f (x ∷ xs) (suc g) none = let rest = sum_put_again f xs g none in let one = sum_by-cons f x (put [] xs g (get_or xs g [])) in let was = sum_by-cons f x xs in omega (arith, rest, one, was)

@@ -6,6 +6,7 @@ use Rattle.gr_model.specs.declared.event.Event.{Event}
 use Rattle.gr_model.specs.declared.event.EventId.{EventId}
 use Rattle.gr_model.specs.declared.event.ItemId.{ItemId}
 use Rattle.gr_model.specs.Events.{is_end}
+use Rattle.gr_model.specs.Groups as model
 use Rattle.gr_model.specs.Instances.{Mark}
 use Rattle.gr_model.specs.Streams.{Streams, ArePrefixes, size_of}
 use Rattle.gr_model.specs.LawfulOrders.{IsLawful}
@@ -28,6 +29,10 @@ nothing sizes = record { taken = nothing_taken sizes; handled = [] }
 -- one record more of a group
 abbrev pub taking : Sequence → ℕ → Event → Sequence
 taking q g x = record { taken = with_record q.taken g x; handled = q.handled }
+
+-- a group has so many items, and nothing more was taken or handled
+abbrev pub with_group : Sequence → ℕ → ℕ → Sequence
+with_group q g n = record { taken = model.with_group q.taken g n; handled = q.handled }
 
 -- ---- steps
 

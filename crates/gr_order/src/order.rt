@@ -18,7 +18,8 @@ ghost use Rattle.gr_order.specs.AtOnce.{GoesAtOnce};
 ghost use Rattle.gr_clocks.specs.Counts.{Counts, count_of, sizes_of};
 ghost use Rattle.gr_windows.specs.Windows.{AreWaiting};
 ghost use Rattle.gr_order.specs.States.{AreBelowFrontier};
-ghost use Rattle.gr_order.specs.Sequences.{HandlesEvent, IsDone, IsGroupAtRest, IsSequence, MeetsInstance, MeetsNext, event_count, nothing, taking};
+ghost use Rattle.gr_model.specs.Groups.{CanAdd};
+ghost use Rattle.gr_order.specs.Sequences.{HandlesEvent, IsDone, IsGroupAtRest, IsSequence, MeetsInstance, MeetsNext, event_count, nothing, with_group, taking};
 
 use crate::go_error::GoError;
 use crate::meeting::{add_next_events, count_next_events};
@@ -75,12 +76,12 @@ impl<A: Allocator + Copy> Order<A> {
     pub fn new(alloc: A, shape: Shape<A>) -> Result<Order<A>, Memory>
         ensures { IfOk result (λ o. o ≡ nothing shape) }
     {
-        let frontier = match Tally::new(alloc, &shape) {
+        let lanes = Lanes::new(alloc, shape)?;
+        let frontier = match Tally::new(alloc, lanes.shape()) {
             Ok(clock) => clock,
             Err(_) => return Err(Memory),
         };
-        let windows = Windows::new(alloc, &shape)?;
-        let lanes = Lanes::new(alloc, shape)?;
+        let windows = Windows::new(alloc, lanes.shape())?;
         let handled = History::new();
         Ok(Order {
             lanes,
@@ -88,6 +89,38 @@ impl<A: Allocator + Copy> Order<A> {
             frontier,
             windows,
             held: 0,
+        })
+    }
+
+    /// The order, where a group comes that has so many items. The groups below it that were not there are there, without
+    /// items.
+    /// Requires: the group has not come, and is one that a launch may have beside the others.
+    ///
+    /// # Errors
+    /// `Memory`: out of memory.
+    pub fn with_group(self, alloc: A, group: u16, items: u16) -> Result<Order<A>, Memory>
+        requires { CanAdd self.taken group items }
+        ensures { IfOk result (λ o. o ≡ with_group self group items) }
+    {
+        let Order {
+            lanes,
+            handled,
+            frontier,
+            windows,
+            held,
+        } = self;
+        let frontier = match frontier.with_group(alloc, group, items) {
+            Ok(counts) => counts,
+            Err(_) => return Err(Memory),
+        };
+        let windows = windows.with_group(alloc, group, items)?;
+        let lanes = lanes.with_group(alloc, group, items)?;
+        Ok(Order {
+            lanes,
+            handled,
+            frontier,
+            windows,
+            held,
         })
     }
 }

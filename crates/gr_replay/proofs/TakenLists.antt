@@ -6,6 +6,7 @@ use Rattle.std.proofs.lemmas.Option.{slice_get-get_or}
 use Rattle.gr_model.specs.declared.event.Event.{Event}
 use Rattle.gr_model.specs.declared.limits.TheConstants.{MOST_RECORDS}
 use Rattle.gr_model.specs.Streams.{Streams, AreAccepted, IsAccepted, list_of, size_of, IsPrefix, is_complete}
+use Rattle.gr_model.proofs.GroupLaws.{part_of_shape}
 use Rattle.gr_model.proofs.StreamPrefixes.{prefix_whole}
 use Rattle.gr_steps.proofs.Orders.{lawful_empty}
 use Rattle.gr_lanes.specs.Takes.{CanTake, IsEventButItem, IsTakeFault, nothing_taken, with_record}
@@ -102,7 +103,7 @@ empty_at (x ∷ xs) (suc i) = empty_at xs i
 pub nothing_is_sequence : (s : Streams) (q : Sequence) → AreAccepted s → q ≡ nothing s.sizes → IsSequence q
 nothing_is_sequence s q accepted is = subst IsSequence (sym is) (record {
   prefixes = record {
-    shape = accepted.shape;
+    shape = part_of_shape s.sizes accepted.shape;
     count = length-map s.sizes (λ n. []);
     each = λ g within. subst (IsPrefix (get_or s.sizes g 0)) (sym (empty_at s.sizes g)) (record { few = omega arith; good = λ p x at. cc });
   };

@@ -1,5 +1,5 @@
 -- What is known where an event that names nothing is handled as soon as its record is taken.
-use Rattle.std.proofs.Common.{◌≡◌, ◌≢◌, ℕ, ◌<◌, length, List, [], ◌∷◌, ◌++◌, false, true≢false, Some, ap, ◌∙◌, sym, subst}
+use Rattle.std.proofs.Common.{◌≡◌, ◌≢◌, ℕ, ◌<◌, length, List, [], ◌∷◌, ◌++◌, false, true≢false, Some, refl, ap, ◌∙◌, sym, subst}
 use Rattle.gr_model.specs.declared.event.Event.{Event}
 use Rattle.gr_model.specs.declared.event.EventId.{EventId}
 use Rattle.gr_model.specs.declared.event.Name.{Name}
@@ -11,7 +11,7 @@ use Rattle.gr_model.specs.Streams.{Streams, event_at, list_of}
 use Rattle.gr_steps.specs.Steps.{IsReady}
 use Rattle.gr_steps.proofs.StepGrowth.{lawful_grows}
 use Rattle.gr_clocks.specs.declared.clock.TheConstants.{LARGEST_COUNT}
-use Rattle.gr_clocks.specs.Counts.{Counts, IsTick, count_of}
+use Rattle.gr_clocks.specs.Counts.{Counts, CountsOneMore, count_of}
 use Rattle.gr_clocks.specs.ItemClocks.{ItemClocks, Ticks, clock_in}
 use Rattle.gr_closure.specs.Accesses.{CountsJust}
 use Rattle.gr_lanes.specs.Takes.{IsEventButItem, next_of, with_record}
@@ -41,7 +41,7 @@ module _ (q : Sequence) (g : ℕ) (x : Event) (known : Known) (e : EventId) (is 
   room_at_once m c same = known_or_learned_room more q.handled known e is.next m c (own_counts m c same)
 
   -- with one event more it counts what is seen
-  pub sees_at_once : (m : Space) (c n : Counts) → c ≡ clock_in known.clocks m e.at → IsTick c e.at n → CountsJust n (Sees more m e)
+  pub sees_at_once : (m : Space) (c n : Counts) → c ≡ clock_in known.clocks m e.at → CountsOneMore c e.at n → CountsJust n (Sees more m e)
   sees_at_once m c n same tick = known_or_learned_sees more q.handled known e is.next m c n (own_counts m c same) tick
 
   -- the clocks where the item's have one event more
@@ -56,7 +56,7 @@ next_at_once q is g x go good room known follows e same ready =
       next = record {
         prefixes = prefixes_grow q.taken g x is.prefixes go.can good room;
         lawful = lawful_grows q.taken (with_record q.taken g x) grows q.handled is.lawful;
-        follows = known_grows q.taken (with_record q.taken g x) q.handled grows is.lawful known follows;
+        follows = known_grows q.taken (with_record q.taken g x) q.handled grows is.lawful refl known follows;
         ready = ready;
       };
       there = ap (event_at (with_record q.taken g x)) same ∙ there_at_once q.taken g x is.prefixes go.can go.access.ends;

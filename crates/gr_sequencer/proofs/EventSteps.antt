@@ -20,7 +20,7 @@ use Rattle.gr_model.specs.Waits.{for_release}
 use Rattle.gr_steps.specs.Steps.{Handles}
 use Rattle.gr_steps.proofs.EventRecords.{group_of_event, item_of_event}
 use Rattle.gr_clocks.specs.declared.clock.TheConstants.{LARGEST_COUNT}
-use Rattle.gr_clocks.specs.Counts.{Counts, IsJoinOfAll, IsTick, count_of, greatest_count, tick_at}
+use Rattle.gr_clocks.specs.Counts.{Counts, IsJoinOfAll, CountsOneMore, count_of, greatest_count, tick_at}
 use Rattle.gr_clocks.specs.Rows.{same_item}
 use Rattle.gr_clocks.specs.ItemClocks.{Acquires, AreSpent, IsSpent, ItemClocks, ReleaseClock, Ticks, clock_in, clocks_in, clocks_left}
 use Rattle.gr_clocks.proofs.JoinLemmas.{joined_none}
@@ -117,7 +117,7 @@ module _ (s : Streams) (order : List EventId) (known : Known) (e : EventId) (nex
       (λ (le : count_of (own_clock m) j ≤ count_of c j). le)
       (cases_lt (count_of c j) (count_of (own_clock m) j))
 
-  pub known_or_learned_sees : (m : Space) (c n : Counts) → CountsJust c (KnowsOrLearns s order m e) → IsTick c e.at n → CountsJust n (Sees s m e)
+  pub known_or_learned_sees : (m : Space) (c n : Counts) → CountsJust c (KnowsOrLearns s order m e) → CountsOneMore c e.at n → CountsJust n (Sees s m e)
   known_or_learned_sees m c n known_or_learned tick =
       seen_count s m order e next.lawful is_next (count_of (own_clock m)) (counts m) (KnowsOrLearns s order m e) (known_or_learned_in m) (count_of c) known_or_learned again (count_of n) (λ j.
       let o : ℕ = count_of (own_clock m) j in

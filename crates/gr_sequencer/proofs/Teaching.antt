@@ -18,7 +18,7 @@ use Rattle.gr_model.proofs.Places.{places_from-there}
 use Rattle.gr_model.proofs.Cuts.{same_event}
 use Rattle.gr_steps.specs.Steps.{IsReady}
 use Rattle.gr_steps.proofs.EventRecords.{one_release}
-use Rattle.gr_clocks.specs.Counts.{count_of, greatest_count, sizes_of}
+use Rattle.gr_clocks.specs.Counts.{count_of, greatest_count}
 use Rattle.gr_clocks.specs.ItemClocks.{ReleaseClock, AreOfOneWord, clocks_left}
 use Rattle.gr_clocks.proofs.ReleaseLemmas.{left_elsewhere, left_here}
 use Rattle.gr_sequencer.specs.Known.{IsSnapshotOf}
@@ -59,7 +59,6 @@ module _ (s : Streams) (order : List EventId) (e r : EventId) (x given : Event) 
   pub source_of : IsTrue (inclusive given.kind r.at.group x.kind e.at.group) → (snapshots : ReleaseClock) → IsSnapshotOf s r snapshots → IsSource s e n snapshots
   source_of scopes snapshots is = record {
     word = matches_by.word ∙ is.word;
-    shape = is.shape;
     counts = λ d. (
       λ below. record { release = r; by = matches_by; inclusive = within; seen = (is.counts d).0 below },
       λ l. (is.counts d).1 (subst (λ f. Sees s (memory_of snapshots.word) f d) (from_release (memory_of snapshots.word) d l) l.seen),
@@ -82,7 +81,6 @@ LearnsFrom s m e names d = (n : Name) × Contains names n × LearnsBy s m e n d
 pub record AreSourcesOf (s : Streams) (e : EventId) (names : List Name) (sources : List ReleaseClock) : Type 0 where
   pub few : length sources ≤ length names
   pub words : All (λ l. word_at s e ≡ Some l.word) sources
-  pub shapes : All (λ l. sizes_of l.clock ≡ s.sizes) sources
   pub counts : (m : Space) (d : EventId) → (d.index < greatest_count (clocks_left m sources) d.at) ↔ LearnsFrom s m e names d
 
 module _ (s : Streams) (e : EventId) where
@@ -90,7 +88,6 @@ module _ (s : Streams) (e : EventId) where
   sources_none = record {
     few = omega arith;
     words = λ k d below. absurd (omega (arith, below));
-    shapes = λ k d below. absurd (omega (arith, below));
     counts = λ m d. (λ below. absurd (omega (arith, below)), λ l. absurd (let some = l.1.1 in omega (arith, some)));
   }
 
@@ -115,7 +112,6 @@ module _ (s : Streams) (e : EventId) where
       sources_same none = record {
         few = let size = length-append names (n ∷ []) in omega (arith, are.few, size);
         words = are.words;
-        shapes = are.shapes;
         counts = λ m d. (
           λ below. (longer m d).1 (inl ((are.counts m d).0 below)),
           λ l. ⊎_elim (λ had. (are.counts m d).1 had) (λ by. absurd (none m d by)) ((longer m d).0 l),
@@ -127,7 +123,6 @@ module _ (s : Streams) (e : EventId) where
       sources_more l is = record {
         few = let size = length-append names (n ∷ []) in let more = length-append sources (l ∷ []) in omega (arith, are.few, size, more);
         words = All-push (λ r. word_at s e ≡ Some r.word) sources l are.words is.word;
-        shapes = All-push (λ r. sizes_of r.clock ≡ s.sizes) sources l are.shapes is.shape;
         counts = λ m d. ⊎_elim (λ same. in_its_memory m d same) (λ other. in_another m d other) (space_cases m (memory_of l.word));
       }
         where
@@ -165,7 +160,6 @@ module _ (s : Streams) (e : EventId) where
   pub sources_all : (x : Event) → event_at s e ≡ Some x → (sources : List ReleaseClock) → AreSourcesOf s e x.names sources → AreSources s e sources
   sources_all x event sources are = record {
     words = are.words;
-    shapes = are.shapes;
     counts = λ m d. (
       λ below. let l = (are.counts m d).0 below in record { release = l.2.release; matches = record { name = l.0; by = l.2.by }; inclusive = l.2.inclusive; seen = l.2.seen },
       λ l. (are.counts m d).1 (l.matches.name, subst (λ names. Contains names l.matches.name) (ap names_of event) l.matches.by.named, record { release = l.release; by = l.matches.by; inclusive = l.inclusive; seen = l.seen }),

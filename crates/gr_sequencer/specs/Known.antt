@@ -15,7 +15,6 @@ use Rattle.gr_model.specs.Streams.{Streams, ArePrefixes, event_at, word_at}
 use Rattle.gr_lanes.specs.Takes.{with_record}
 use Rattle.gr_order.specs.Sequences.{Sequence}
 use Rattle.gr_steps.specs.Steps.{IsReady}
-use Rattle.gr_clocks.specs.Counts.{sizes_of}
 use Rattle.gr_clocks.specs.ItemClocks.{ItemClocks, ReleaseClock, clock_in, clocks_in}
 use Rattle.gr_closure.specs.Accesses.{CountsJust}
 use Rattle.gr_closure.specs.Knowledge.{Knows, Learns}
@@ -44,7 +43,6 @@ pub record CountWhatIsKnown (s : Streams) (order : List EventId) (clocks : ItemC
 -- the snapshot of a release has its word, and counts just what is seen at the release in the word's memory
 pub record IsSnapshotOf (s : Streams) (r : EventId) (snapshot : ReleaseClock) : Type 0 where
   pub word : word_at s r ≡ Some snapshot.word
-  pub shape : sizes_of snapshot.clock ≡ s.sizes
   pub counts : CountsJust snapshot.clock (Sees s (memory_of snapshot.word) r)
 
 abbrev pub IsSnapshotBy : Streams → EventId → Option ReleaseClock → Type 0

@@ -9,7 +9,7 @@ use Rattle.gr_model.specs.Counts.{Sees}
 use Rattle.gr_model.specs.HappensBefore.{IsInclusive}
 use Rattle.gr_model.specs.Names.{MatchesBy}
 use Rattle.gr_model.specs.Streams.{Streams, word_at}
-use Rattle.gr_clocks.specs.Counts.{greatest_count, sizes_of}
+use Rattle.gr_clocks.specs.Counts.{greatest_count}
 use Rattle.gr_clocks.specs.ItemClocks.{ReleaseClock, clocks_left}
 use Rattle.gr_closure.specs.Accesses.{CountsJust}
 use Rattle.gr_closure.specs.Knowledge.{Learns}
@@ -28,14 +28,12 @@ LearnsNothing s e n = (m : Space) (d : EventId) → ¬ LearnsBy s m e n d
 -- what an event learns from the release of this name: it has the event's word, and counts just what is learned in the word's memory, where alone something is
 pub record IsSource (s : Streams) (e : EventId) (n : Name) (source : ReleaseClock) : Type 0 where
   pub word : word_at s e ≡ Some source.word
-  pub shape : sizes_of source.clock ≡ s.sizes
   pub counts : CountsJust source.clock (LearnsBy s (memory_of source.word) e n)
   pub others : (m : Space) (d : EventId) → m ≢ memory_of source.word → ¬ LearnsBy s m e n d
 
 -- what an event learns from the releases that it matches: all are on the event's word, and in each memory they count together just what is learned
 pub record AreSources (s : Streams) (e : EventId) (sources : List ReleaseClock) : Type 0 where
   pub words : All (λ l. word_at s e ≡ Some l.word) sources
-  pub shapes : All (λ l. sizes_of l.clock ≡ s.sizes) sources
   pub counts : (m : Space) (d : EventId) → (d.index < greatest_count (clocks_left m sources) d.at) ↔ Learns s m e d
 
 -- the sources that there are

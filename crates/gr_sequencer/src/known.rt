@@ -7,8 +7,7 @@ ghost use Rattle.gr_model.specs.Barriers.{IsConvergent};
 ghost use Rattle.gr_model.specs.Instances.{Mark};
 ghost use Rattle.gr_model.specs.Streams.{event_at, word_at};
 ghost use Rattle.gr_model.specs.Counts.{Sees};
-ghost use Rattle.gr_clocks.specs.Counts.{sizes_of};
-ghost use Rattle.gr_clocks.specs.ItemClocks.{IsGroupSpent, MeetsClocks};
+ghost use Rattle.gr_clocks.specs.ItemClocks.{AddsGroup, IsGroupSpent, MeetsClocks};
 ghost use Rattle.gr_closure.specs.Accesses.{CountsJust, IsAccess, IsAccessOf};
 ghost use Rattle.gr_lanes.specs.Takes.{IsMereAccess, nothing_taken, with_record};
 ghost use Rattle.gr_sequencer.specs.Known.{CountWhatIsKnown, KnowsOrLearns, IsKnown, IsSnapshotBy, IsNext, IsNextAtOnce, snapshot_at};
@@ -65,6 +64,25 @@ impl<A: Allocator + Copy> Known<A> {
     }
 }
 
+impl<A: Allocator> Known<A> {
+    /// What is known, where a group comes that has so many items, who know nothing.
+    ///
+    /// # Errors
+    /// `Memory`: out of memory.
+    pub(crate) fn with_group(self, alloc: A, group: u16, items: u16) -> Result<Known<A>, Memory>
+    where
+        A: Clone,
+        ensures clocks { IfOk result (λ k. AddsGroup self.clocks group items k.clocks) }
+        ensures snapshots { IfOk result (λ k. k.snapshots ≡ self.snapshots) }
+    {
+        let Known { clocks, snapshots } = self;
+        match clocks.with_group(alloc, group, items) {
+            Ok(clocks) => Ok(Known { clocks, snapshots }),
+            Err(_) => Err(Memory),
+        }
+    }
+}
+
 /// The memories that the barriers of a convergent instance flag: the global one, the local one.
 fn flags_of<A: Allocator>(order: &Order<A>, group: u16, instance: u32) -> (bool, bool)
     requires { (a : Mark) × IsConvergent order.now.taken group instance a }
@@ -94,8 +112,7 @@ impl<A: Allocator> Known<A> {
         requires next { IsNext order.now.taken order.now.handled self.now event }
         requires there { event_at order.now.taken event ≡ Some taken.now }
         requires word { word_at order.now.taken event ≡ Some word }
-        ensures shape { IfOk result (λ c. sizes_of c ≡ order.now.taken.sizes) }
-        ensures counts { IfOk result (λ c. CountsJust c (KnowsOrLearns order.now.taken order.now.handled (model.memory_of word) event)) }
+        ensures { IfOk result (λ c. CountsJust c (KnowsOrLearns order.now.taken order.now.handled (model.memory_of word) event)) }
     {
         let clock = self.clocks.clock_of(event.at, memory_of(word));
         match sources_of(order, &self.snapshots, event, taken) {
@@ -123,8 +140,7 @@ impl<A: Allocator> Known<A> {
         requires next { IsNext order.now.taken order.now.handled self.now event }
         requires there { event_at order.now.taken event ≡ Some taken.now }
         requires word { word_at order.now.taken event ≡ Some word }
-        ensures shape { IfOk result (λ c. sizes_of c ≡ order.now.taken.sizes) }
-        ensures counts { IfOk result (λ c. CountsJust c (Sees order.now.taken (model.memory_of word) event)) }
+        ensures { IfOk result (λ c. CountsJust c (Sees order.now.taken (model.memory_of word) event)) }
     {
         let mut clock = self.known_or_learned(order, event, taken, word)?;
         match clock.tick(event.at) {
@@ -248,7 +264,6 @@ impl<A: Allocator> Known<A> {
         A: Clone,
         requires next { IsNextAtOnce order.now group taken.now self.old event }
         requires word { word_at (with_record order.now.taken group taken.now) event ≡ Some word }
-        ensures shape { IfOk result (λ c. sizes_of c ≡ order.now.taken.sizes) }
         ensures counts { IfOk result (λ c. CountsJust c (Sees (with_record order.now.taken group taken.now) (model.memory_of word) event)) }
         ensures snapshots { self.new.snapshots ≡ self.old.snapshots }
         ensures clocks { OnOk result (CountWhatIsKnown (with_record order.now.taken group taken.now) (order.now.handled ++ event ∷ []) self.new.clocks) }

@@ -5,11 +5,12 @@
 
 ghost use Rattle.std.specs.Prelude.{◌≡◌, ◌↔◌, ◌+◌, ◌<◌, ℕ, IsTrue, IfOk, IfErr, IfNone, IfSome, OnOk, OnErr, MatchOption, length};
 ghost use Rattle.gr_model.specs.declared.limits.TheConstants.{MOST_RECORDS};
+ghost use Rattle.gr_model.specs.Groups.{CanAdd};
 ghost use Rattle.gr_model.specs.Streams.{AreComplete, list_of};
 ghost use Rattle.gr_model.specs.Reports.{Lists, DivergenceBelow, IsDivergence, IsCut, IsHeld, IsUnmatchedEntry, UnmatchedBelow};
 ghost use Rattle.gr_lanes.specs.Takes.{CanTake, IsEventButItem, IsTakeFault, next_of, with_record};
 ghost use Rattle.gr_steps.specs.Steps.{CanMeet, IsAtRest, IsReady};
-ghost use Rattle.gr_order.specs.Sequences.{CanStep, IsDone, IsSequence, event_count, nothing, taking};
+ghost use Rattle.gr_order.specs.Sequences.{CanStep, IsDone, IsSequence, event_count, nothing, taking, with_group};
 ghost use Rattle.gr_order.specs.declared.go_error.GoError.TheVariants.{Memory as OutOfMemory};
 ghost use Rattle.gr_order.specs.Answers.{IsHandleFault, IsMeetFault};
 ghost use Rattle.gr_order.specs.AtOnce.{GoesAtOnce};
@@ -61,6 +62,32 @@ impl<A: Allocator + Copy> Sequencer<A> {
     {
         let known = Known::new(alloc, &shape)?;
         let agenda = Agenda::new(alloc, shape)?;
+        Ok(Sequencer {
+            alloc,
+            agenda,
+            known,
+        })
+    }
+
+    /// The sequencer, where a group comes that has so many items: the shape of a launch need not be known before its first
+    /// records are taken. The groups below it that were not there are there, without items.
+    /// Requires: the group has not come, and is one that a launch may have beside the others.
+    ///
+    /// # Errors
+    /// `Memory`: out of memory.
+    pub fn with_group(self, group: u16, items: u16) -> Result<Sequencer<A>, Memory>
+        requires { CanAdd self.taken group items }
+        ensures { IfOk result (λ s. s ≡ with_group self group items) }
+    {
+        let Sequencer {
+            alloc,
+            agenda,
+            known,
+        } = self;
+        // brings the order's invariant into the proof
+        let _order = agenda.order();
+        let known = known.with_group(alloc, group, items)?;
+        let agenda = agenda.with_group(alloc, group, items)?;
         Ok(Sequencer {
             alloc,
             agenda,

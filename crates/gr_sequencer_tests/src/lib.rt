@@ -5,6 +5,8 @@
 #[cfg(test)]
 mod calls;
 #[cfg(test)]
+mod coming;
+#[cfg(test)]
 mod lanes;
 #[cfg(test)]
 mod rows;

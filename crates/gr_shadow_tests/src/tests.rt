@@ -2,7 +2,6 @@
 //! row's answer.
 
 ghost use Rattle.std.specs.Prelude.{◌≡◌, ◌<◌};
-ghost use Rattle.gr_clocks.specs.Counts.{sizes_of};
 
 use crate::slow::Slow;
 use gr_clocks::access::Access;
@@ -264,10 +263,7 @@ fn tick<A: Allocator + Copy>(
     shape: &Shape<A>,
     item: ItemId,
     times: u32,
-) -> Result<(), ClockError>
-    requires { sizes_of clock.old ≡ shape.now }
-    ensures { sizes_of clock.new ≡ shape.now }
-{
+) -> Result<(), ClockError> {
     for _time in 0..times {
         if shape.has(item) {
             clock.tick(item)?;

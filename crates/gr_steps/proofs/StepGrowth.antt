@@ -1,12 +1,13 @@
 -- A lawful order, and a step behind it, stay so where lists that are not complete grow.
 use Rattle.std.proofs.Common.{◌≡◌, ℕ, suc, ◌<◌, List, [], ◌∷◌, ◌++◌, length, sym, ◌∙◌, subst, arith, refl}
 use Rattle.gr_model.specs.declared.event.EventId.{EventId}
-use Rattle.gr_model.specs.Barriers.{StandsIn}
+use Rattle.gr_model.specs.Barriers.{IsConvergent, StandsIn}
+use Rattle.gr_model.specs.Instances.{Mark}
 use Rattle.gr_model.specs.LawfulOrders.{IsAt, IsLawful}
 use Rattle.gr_model.specs.Streams.{Grows, Streams}
 use Rattle.gr_model.specs.Waits.{Stage}
 use Rattle.gr_model.proofs.Descent.{lawful_stage}
-use Rattle.gr_model.proofs.GrowthLaws.{convergent_grows, divergent_grows, size_grows, stage_grows, stands_grows, stands_shrinks, together_shrinks, waits_shrink}
+use Rattle.gr_model.proofs.GrowthLaws.{convergent_grows, divergent_grows, size_of_met, stage_grows, stands_grows, stands_shrinks, together_shrinks, waits_shrink}
 use Rattle.gr_steps.specs.Steps.{AreBarriers, Handles, IsReady, Meets}
 use Rattle.gr_steps.proofs.BarrierPlaces.{stands_same}
 use Rattle.gr_steps.proofs.Handling.{lawful_handle}
@@ -49,9 +50,9 @@ module _ (s t : Streams) (grows : Grows s t) (old : List EventId) (lawful : IsLa
   handles_grows e new h = record { ready = ready_grows e h.ready; order = h.order }
 
   -- the barriers of the instance are those that they were
-  stands_was : (g k : ℕ) (bs : List EventId) → AreBarriers s g k bs → (b : EventId) → StandsIn t b g k → StandsIn s b g k
-  stands_was g k bs are b stands =
-      let there = there_is bs b.at.item (subst (λ n. b.at.item < n) (sym (are.count ∙ size_grows s t grows g)) stands.item) in
+  stands_was : (g k : ℕ) (a : Mark) (bs : List EventId) → IsConvergent s g k a → AreBarriers s g k bs → (b : EventId) → StandsIn t b g k → StandsIn s b g k
+  stands_was g k a bs met are b stands =
+      let there = there_is bs b.at.item (subst (λ n. b.at.item < n) (sym (are.count ∙ size_of_met s t grows g k a met)) stands.item) in
       let is = are.each b.at.item there.0 there.1 in
       let same : there.0 ≡ b = stands_same t there.0 b g k (stands_grows s t grows there.0 g k is.1) stands is.0 in
       subst (λ x. StandsIn s x g k) same is.1
@@ -61,9 +62,9 @@ module _ (s t : Streams) (grows : Grows s t) (old : List EventId) (lawful : IsLa
     mark = h.mark;
     meeting = meeting_of t old lawful_grows g k h.mark
         (convergent_grows s t grows g k h.mark h.meeting.convergent)
-        (λ met. h.meeting.fresh (met.0, stands_was g k h.barriers h.are met.0 met.1, met.2))
-        (λ b d stands previous. h.meeting.before b d (stands_was g k h.barriers h.are b stands) previous);
+        (λ met. h.meeting.fresh (met.0, stands_was g k h.mark h.barriers h.meeting.convergent h.are met.0 met.1, met.2))
+        (λ b d stands previous. h.meeting.before b d (stands_was g k h.mark h.barriers h.meeting.convergent h.are b stands) previous);
     barriers = h.barriers;
-    are = record { count = h.are.count ∙ size_grows s t grows g; each = λ i b at. let is = h.are.each i b at in (is.0, stands_grows s t grows b g k is.1) };
+    are = record { count = h.are.count ∙ size_of_met s t grows g k h.mark h.meeting.convergent; each = λ i b at. let is = h.are.each i b at in (is.0, stands_grows s t grows b g k is.1) };
     order = h.order;
   }

@@ -1,16 +1,18 @@
 -- The events of items in a table: what is read, and what is written at an item.
 use Rattle.std.proofs.Common.{◌≡◌, ◌≢◌, ℕ, zero, suc, ◌+◌, ◌-◌, ◌<◌, ◌≤◌, List, [], ◌∷◌, ◌++◌, map, length, get_or, set, drop, take, replicate, refl, sym, ◌∙◌, ap, subst, inl, inr, arith, ⊎_elim, slice_get}
 use Rattle.std.proofs.lemmas.Bool.{cases_eq}
-use Rattle.std.proofs.lemmas.List.{get_or_read, get_or-map, get_or-set_same, get_or-set_other, length-map, length-replicate, length-set, length_push, map-append, take_more}
+use Rattle.std.proofs.lemmas.List.{get_or_past, get_or_read, get_or-map, get_or-set_same, get_or-set_other, length-map, length-replicate, length-set, length_push, map-append, take_more}
 use Rattle.std.proofs.Math.Seq.{map-set_same, take-append_seam}
 use Rattle.gr_model.specs.declared.event.Event.{Event}
 use Rattle.gr_model.specs.declared.event.EventId.{EventId}
 use Rattle.gr_model.specs.declared.event.ItemId.{ItemId}
+use Rattle.gr_model.specs.Groups.{put}
 use Rattle.gr_model.specs.Shapes.{HasItem}
+use Rattle.gr_model.proofs.PutLemmas.{map_put, put_other, put_same}
 use Rattle.gr_model.specs.Streams.{Streams, event_at, trace_of}
 use Rattle.gr_clocks.specs.Counts.{Counts, count_of}
 use Rattle.gr_clocks.specs.Tables.{IsBeyond, item_of}
-use Rattle.gr_windows.specs.Windows.{AreWaiting, Changes, DropsItems, IsEmpty, Table, window_of}
+use Rattle.gr_windows.specs.Windows.{AddsItems, AreWaiting, Changes, DropsItems, IsEmpty, Table, window_of}
 
 -- new lists, none of which has an event
 abbrev pub none_of : ℕ → List (List Event)
@@ -119,3 +121,23 @@ first_waits s frontier w waits e index =
 
 pub take_pushed : (l : List Event) (x : Event) → take (length (l ++ x ∷ []) - 1) (l ++ x ∷ []) ≡ l
 take_pushed l x = let n : length (l ++ x ∷ []) - 1 ≡ length l = omega (arith, length_push l x) in ap (λ m. take m (l ++ x ∷ [])) n ∙ take-append_seam l (x ∷ [])
+
+-- a group that had no items has some, of whom no event waits
+pub adds_items : (w : Table) (g n : ℕ) (row : List (List Event)) (after : Table) → get_or (map length w) g 0 ≡ 0 → row ≡ none_of n → after ≡ put [] w g row → AddsItems w g n after
+adds_items w g n row after absent is_row is = record {
+  shape = ap (λ (t : Table). map length t) is ∙ map_put length [] w g row ∙ ap (put 0 (map length w) g) (ap length is_row ∙ length-replicate n []);
+  each = λ i. ap (λ (t : Table). window_of t i) is ∙
+      ⊎_elim
+      (λ (here : i.group ≡ g).
+      let now : window_of (put [] w g row) i ≡ [] = ap (λ (r : List (List Event)). get_or r i.item []) (ap (λ h. get_or (put [] w g row) h []) here ∙ put_same [] w g row ∙ is_row) ∙ none_is n i.item in
+      let size : length (get_or w g []) ≡ 0 = sym (sizes_at w g) ∙ absent in
+      let was : window_of w i ≡ [] = ap (λ h. get_or (get_or w h []) i.item []) here ∙ get_or_past (get_or w g []) i.item [] (omega (arith, size)) in
+      now ∙ sym was)
+      (λ (apart : i.group ≡ g → ⊥). ap (λ (r : List (List Event)). get_or r i.item []) (put_other [] w g row i.group apart))
+      (cases_eq i.group g);
+}
+  where
+    sizes_at : (t : Table) (h : ℕ) → get_or (map length t) h 0 ≡ length (get_or t h [])
+    sizes_at [] h = refl
+    sizes_at (r ∷ t) zero = refl
+    sizes_at (r ∷ t) (suc h) = sizes_at t h

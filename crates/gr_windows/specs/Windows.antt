@@ -2,6 +2,7 @@
 use Rattle.std.specs.Prelude.{◌≡◌, ◌≢◌, ℕ, ◌<◌, List, [], drop, length, map}
 use Rattle.gr_model.specs.declared.event.Event.{Event}
 use Rattle.gr_model.specs.declared.event.ItemId.{ItemId}
+use Rattle.gr_model.specs.Groups.{put}
 use Rattle.gr_model.specs.Streams.{Streams, trace_of}
 use Rattle.gr_clocks.specs.Counts.{Counts, count_of}
 use Rattle.gr_clocks.specs.Rows.{entry_of}
@@ -19,6 +20,11 @@ window_of w i = entry_of [] w i
 pub record IsEmpty (sizes : List ℕ) (w : Table) : Type 0 where
   pub shape : map length w ≡ sizes
   pub none : (i : ItemId) → window_of w i ≡ []
+
+-- a group has so many items, and of all items the events as before wait
+pub record AddsItems (old : Table) (group n : ℕ) (new : Table) : Type 0 where
+  pub shape : map length new ≡ put 0 (map length old) group n
+  pub each : (i : ItemId) → window_of new i ≡ window_of old i
 
 -- of one item these events wait, and of the others those as before
 pub record Changes (old : Table) (i : ItemId) (events : List Event) (new : Table) : Type 0 where

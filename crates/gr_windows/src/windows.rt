@@ -2,12 +2,12 @@
 
 ghost use Rattle.std.specs.Prelude.{◌≡◌, ◌-◌, ◌<◌, ◌≤◌, ◌++◌, ◌∷◌, [], IfOk, OnOk, OnErr, drop, length, map, slice_get, slice_index, take};
 ghost use Rattle.gr_model.specs.Shapes.{HasItem};
-ghost use Rattle.gr_windows.specs.Windows.{Changes, DropsItems, IsEmpty, window_of};
+ghost use Rattle.gr_windows.specs.Windows.{AddsItems, Changes, DropsItems, IsEmpty, window_of};
 
 use crate::row::Row;
 use gr_model::event::{Event, ItemId};
+use gr_model::growing::GrowingShape;
 use gr_model::memory::Memory;
-use gr_model::shape::Shape;
 use std::alloc::{Allocator, Global};
 use std::marker::Model;
 
@@ -31,13 +31,31 @@ impl<A: Allocator + Copy> Windows<A> {
     ///
     /// # Errors
     /// `Memory`: out of memory.
-    pub fn new(alloc: A, shape: &Shape<A>) -> Result<Windows<A>, Memory>
+    pub fn new(alloc: A, shape: &GrowingShape<A>) -> Result<Windows<A>, Memory>
         ensures { IfOk result (λ w. IsEmpty shape.now w) }
     {
         let mut rows = Vec::new(alloc);
         for group in 0..shape.groups() {
             rows.push(Row::new(alloc, shape.items(group))?)?;
         }
+        Ok(Windows { rows })
+    }
+
+    /// The events that wait, where a group that had no items has so many. The groups below it that were not there are there,
+    /// without items.
+    ///
+    /// # Errors
+    /// `Memory`: out of memory.
+    pub fn with_group(self, alloc: A, group: u16, items: u16) -> Result<Windows<A>, Memory>
+        requires { slice_index (map length self) group ≡ 0 }
+        ensures { IfOk result (λ w. AddsItems self group items w) }
+    {
+        let added = Row::new(alloc, items)?;
+        let Windows { mut rows } = self;
+        while rows.len() <= usize::from(group) {
+            rows.push(Row::new(alloc, 0)?)?;
+        }
+        rows[usize::from(group)] = added;
         Ok(Windows { rows })
     }
 }

@@ -47,6 +47,7 @@ accesses_after old new e None accesses h is are =
 going_is_world : (w : World) → IsWorld w → (sequence : Sequence) (in_flight : Option ClockedAccess) → IsSequence sequence → sequence.taken ≡ w.sequence.taken → (accesses : List ClockedAccess) → AreAccesses sequence.taken sequence.handled accesses → ((k : ℕ) → k < w.config.workers → IsPassedOn (going_on w sequence in_flight) accesses k) → IsWorld (going_on w sequence in_flight)
 going_is_world w world sequence in_flight lawful same accesses along each = record {
   config = world.config;
+  shape = world.shape;
   sent = world.sent;
   room = world.room;
   sequence = lawful;
@@ -112,6 +113,7 @@ module _ (w : World) (world : IsWorld w) (k : ℕ) (work : Work) (there : k < w.
   pub working_is_world : (in_flight : Option ClockedAccess) → work.queue.places ≡ (work_at w k).queue.places → work.received ++ work.queue.items ++ accesses_for w k (in_flight_list in_flight) ≡ (work_at w k).received ++ (work_at w k).queue.items ++ accesses_for w k (in_flight_list w.in_flight) → ((j : ℕ) → j ≢ k → accesses_for w j (in_flight_list in_flight) ≡ accesses_for w j (in_flight_list w.in_flight)) → IsWorld (with_work in_flight)
   working_is_world in_flight same mine others = record {
     config = world.config;
+    shape = world.shape;
     sent = world.sent;
     room = world.room;
     sequence = world.sequence;

@@ -7,6 +7,7 @@ use Rattle.std.specs.Prelude.{Contains}
 use Rattle.gr_model.specs.declared.event.Event.{Event}
 use Rattle.gr_model.specs.declared.event.Sent.{Sent}
 use Rattle.gr_model.specs.Configs.{IsConfig, Settings}
+use Rattle.gr_model.specs.Shapes.{IsShape}
 use Rattle.gr_model.specs.Streams.{ArePrefixes, events_of, list_of}
 use Rattle.gr_steps.proofs.Orders.{lawful_empty}
 use Rattle.gr_hits.specs.Accesses.{of_none}
@@ -19,7 +20,7 @@ none_sent [] g = refl
 none_sent (n ∷ sizes) zero = refl
 none_sent (n ∷ sizes) (suc g) = none_sent sizes g
 
-module _ (sizes : List ℕ) (config : Settings) (prefixes : ArePrefixes (nothing_taken sizes)) (ok : IsConfig config) where
+module _ (sizes : List ℕ) (config : Settings) (shape : IsShape sizes) (prefixes : ArePrefixes (nothing_taken sizes)) (ok : IsConfig config) where
   abbrev w : World
   w = new_world sizes config
 
@@ -37,6 +38,7 @@ module _ (sizes : List ℕ) (config : Settings) (prefixes : ArePrefixes (nothing
   pub new_is_world : IsWorld (new_world sizes config)
   new_is_world = record {
     config = ok;
+    shape = shape;
     sent = prefixes;
     room = λ g unclosed. omega (arith, ap length (none_sent sizes g));
     sequence = record { prefixes = prefixes; lawful = lawful_empty (nothing_taken sizes) };
@@ -57,5 +59,5 @@ module _ (sizes : List ℕ) (config : Settings) (prefixes : ArePrefixes (nothing
   }
 
 -- the same, where its parts are told by equations
-pub newly_made : (w : World) (sizes : List ℕ) (config : Settings) → w ≡ new_world sizes config → ArePrefixes (nothing_taken sizes) → IsConfig config → IsWorld w
-newly_made w sizes config is prefixes ok = subst IsWorld (sym is) (new_is_world sizes config prefixes ok)
+pub newly_made : (w : World) (sizes : List ℕ) (config : Settings) → w ≡ new_world sizes config → IsShape sizes → ArePrefixes (nothing_taken sizes) → IsConfig config → IsWorld w
+newly_made w sizes config is shape prefixes ok = subst IsWorld (sym is) (new_is_world sizes config shape prefixes ok)

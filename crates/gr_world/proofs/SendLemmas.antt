@@ -102,6 +102,7 @@ module _ (w : World) (world : IsWorld w) (g : ℕ) (x : Event) (there : g < leng
   pub sending_is_world : ArePrefixes new.sent → IsWorld new
   sending_is_world prefixes = record {
     config = world.config;
+    shape = world.shape;
     sent = prefixes;
     room = room_left;
     sequence = world.sequence;

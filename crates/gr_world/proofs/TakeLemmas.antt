@@ -117,6 +117,7 @@ module _ (w : World) (world : IsWorld w) (q : ℕ) (s : Sent) (rest : List Sent)
   pub taking_is_world : IsSequence new.sequence → IsWorld new
   taking_is_world sequence = record {
     config = world.config;
+    shape = world.shape;
     sent = world.sent;
     room = world.room;
     sequence = sequence;

@@ -5,6 +5,7 @@ use Rattle.gr_model.specs.declared.event.Event.{Event}
 use Rattle.gr_model.specs.declared.event.Sent.{Sent}
 use Rattle.gr_model.specs.Configs.{IsConfig, Settings, worker_number}
 use Rattle.gr_model.specs.declared.limits.TheConstants.{MOST_RECORDS}
+use Rattle.gr_model.specs.Shapes.{IsShape}
 use Rattle.gr_model.specs.Streams.{AreComplete, ArePrefixes, Streams, events_of, is_complete, list_of}
 use Rattle.gr_steps.specs.Steps.{IsAtRest}
 use Rattle.gr_lanes.specs.Takes.{nothing_taken, with_record}
@@ -142,6 +143,8 @@ pub record ArePassedOn (w : World) : Type 0 where
 
 pub record IsWorld (w : World) : Type 0 where
   pub config : IsConfig w.config
+  -- all groups are there
+  pub shape : IsShape w.sent.sizes
   -- each list that was sent is a front of one that its group may have: an end stands last and nowhere else
   pub sent : ArePrefixes w.sent
   -- and one that has no end has room for it

@@ -105,6 +105,8 @@ impl<A: Allocator + Copy> World<A> {
         ensures made { IfOk result (λ w. w ≡ new_world shape config) }
         ensures world { IfOk result (λ w. IsWorld w) }
     {
+        // brings the shape's invariant into the proof
+        let _groups = shape.groups();
         let intakes = queues_of(alloc, config.queues(), config.capacity())?;
         let workers = workers_of(alloc, config.workers(), config.capacity())?;
         let sent = Lanes::new(alloc, shape.copy()?)?;

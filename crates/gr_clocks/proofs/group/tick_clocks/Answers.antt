@@ -1,6 +1,6 @@
 use Rattle.std.proofs.Common.{◌≡◌, ◌∙◌, ◌<◌, [], length, get_or, ap, sym, arith}
 use Rattle.std.proofs.lemmas.List.{get_or_read}
-use Rattle.gr_clocks.specs.Counts.{IsTick}
+use Rattle.gr_clocks.specs.Counts.{CountsOneMore}
 use Rattle.gr_clocks.specs.Groups.{item_of, GroupClocks}
 use Rattle.gr_clocks.proofs.GroupLemmas.{group_ticked}
 use Rattle.gr_clocks.proofs.group.tick_clocks.Goals as goal
@@ -9,7 +9,7 @@ pub invariant_of-one-2 : goal.invariant_of-one-2
 invariant_of-one-2 g c =
     let there : c.args.item < length c.one.inside.clocks.items = omega (arith, c.requires.items.0, ap (λ (x : GroupClocks). length x.clocks) c.one.view_is) in
     let is = get_or_read c.one.inside.clocks.items c.args.item c.index_mut.result.now there c.index_mut.ensures.value [] in
-    let tick : IsTick (get_or c.one.inside.clocks.items c.args.item []) (item_of c.one.inside.number c.args.item) c.raise_both.new.one = rw (← is) c.in_ok-raise_both.ensures.ok.0 in
+    let tick : CountsOneMore (get_or c.one.inside.clocks.items c.args.item []) (item_of c.one.inside.number c.args.item) c.raise_both.new.one = rw (← is) c.in_ok-raise_both.ensures.ok.0 in
     group_ticked c.one.inside.number c.one.inside.met.value c.one.inside.clocks.items c.one.inside.learned.items c.one.invariant c.args.item c.raise_both.new.one there tick
 
 pub invariant_of-other-2 : goal.invariant_of-other-2
@@ -17,5 +17,5 @@ invariant_of-other-2 g c =
     let there : c.args.item < length c.other.inside.clocks.items = omega (arith, c.requires.items.1, ap (λ (x : GroupClocks). length x.clocks) c.other.view_is) in
     let is = get_or_read c.other.inside.clocks.items c.args.item c.index_mut-2.result.now there c.index_mut-2.ensures.value [] in
     let number : c.one.inside.number ≡ c.other.inside.number = ap (λ (x : GroupClocks). x.number) c.one.view_is ∙ sym c.requires.same ∙ ap (λ (x : GroupClocks). x.number) (sym c.other.view_is) in
-    let tick : IsTick (get_or c.other.inside.clocks.items c.args.item []) (item_of c.other.inside.number c.args.item) c.raise_both.new.other = rw (← is, ← number) c.in_ok-raise_both.ensures.ok.1 in
+    let tick : CountsOneMore (get_or c.other.inside.clocks.items c.args.item []) (item_of c.other.inside.number c.args.item) c.raise_both.new.other = rw (← is, ← number) c.in_ok-raise_both.ensures.ok.1 in
     group_ticked c.other.inside.number c.other.inside.met.value c.other.inside.clocks.items c.other.inside.learned.items c.other.invariant c.args.item c.raise_both.new.other there tick

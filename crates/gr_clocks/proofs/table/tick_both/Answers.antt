@@ -1,6 +1,6 @@
 use Rattle.std.proofs.Common.{ℕ, List, sym, subst}
 use Rattle.gr_model.specs.Shapes.{HasItem}
-use Rattle.gr_clocks.specs.Counts.{IsTick}
+use Rattle.gr_clocks.specs.Counts.{CountsOneMore}
 use Rattle.gr_clocks.specs.Groups.{item_of, GroupClocks, clock_in_group}
 use Rattle.gr_clocks.specs.Tables.{clock_at}
 use Rattle.gr_clocks.proofs.RowLemmas.{row_of_item}
@@ -17,10 +17,10 @@ pub returns-clause-ok : goal.returns-clause-ok
 returns-clause-ok g c =
     let one_there = row_of_item c.args.one.now c.args.item c.requires.item in
     let one_is = group_is c.one.inside.groups.items c.args.one.now c.one.invariant c.one.view_is c.args.item.group c.index_mut.result.now one_there.0 c.index_mut.ensures.value in
-    let one_tick : IsTick (clock_at c.args.one.now c.args.item) c.args.item (clock_in_group c.tick_clocks.new.one c.args.item.item) = subst (λ (x : GroupClocks). IsTick (clock_in_group x c.args.item.item) (item_of x.number c.args.item.item) (clock_in_group c.tick_clocks.new.one c.args.item.item)) one_is c.in_ok-tick_clocks.ensures.ok.0.tick in
+    let one_tick : CountsOneMore (clock_at c.args.one.now c.args.item) c.args.item (clock_in_group c.tick_clocks.new.one c.args.item.item) = subst (λ (x : GroupClocks). CountsOneMore (clock_in_group x c.args.item.item) (item_of x.number c.args.item.item) (clock_in_group c.tick_clocks.new.one c.args.item.item)) one_is c.in_ok-tick_clocks.ensures.ok.0.tick in
     let other_there = row_of_item c.args.other.now c.args.item (subst (λ (sizes : List ℕ). HasItem sizes c.args.item) (sym c.requires.same) c.requires.item) in
     let other_is = group_is c.other.inside.groups.items c.args.other.now c.other.invariant c.other.view_is c.args.item.group c.index_mut-2.result.now other_there.0 c.index_mut-2.ensures.value in
-    let other_tick : IsTick (clock_at c.args.other.now c.args.item) c.args.item (clock_in_group c.tick_clocks.new.other c.args.item.item) = subst (λ (x : GroupClocks). IsTick (clock_in_group x c.args.item.item) (item_of x.number c.args.item.item) (clock_in_group c.tick_clocks.new.other c.args.item.item)) other_is c.in_ok-tick_clocks.ensures.ok.1.tick in (
+    let other_tick : CountsOneMore (clock_at c.args.other.now c.args.item) c.args.item (clock_in_group c.tick_clocks.new.other c.args.item.item) = subst (λ (x : GroupClocks). CountsOneMore (clock_in_group x c.args.item.item) (item_of x.number c.args.item.item) (clock_in_group c.tick_clocks.new.other c.args.item.item)) other_is c.in_ok-tick_clocks.ensures.ok.1.tick in (
       ticks_item c.args.one.now _ c.args.item (clock_in_group c.tick_clocks.new.one c.args.item.item) c.requires.item (item_table c.one.inside.groups.items c.args.one.now c.one.invariant c.one.view_is c.args.item c.index_mut.result.now c.tick_clocks.new.one (clock_in_group c.tick_clocks.new.one c.args.item.item) c.requires.item c.index_mut.ensures.value c.in_ok-tick_clocks.ensures.ok.0.group) one_tick,
       ticks_item c.args.other.now _ c.args.item (clock_in_group c.tick_clocks.new.other c.args.item.item) (subst (λ (sizes : List ℕ). HasItem sizes c.args.item) (sym c.requires.same) c.requires.item) (item_table c.other.inside.groups.items c.args.other.now c.other.invariant c.other.view_is c.args.item c.index_mut-2.result.now c.tick_clocks.new.other (clock_in_group c.tick_clocks.new.other c.args.item.item) (subst (λ (sizes : List ℕ). HasItem sizes c.args.item) (sym c.requires.same) c.requires.item) c.index_mut-2.ensures.value c.in_ok-tick_clocks.ensures.ok.1.group) other_tick,
     )

@@ -1,4 +1,3 @@
-use Rattle.std.proofs.Common.{◌≤◌, length}
 use Rattle.std.specs.List.{AllAdjacentBelow}
 use Rattle.gr_model.specs.NameLists.{NameBelow}
 use Rattle.gr_model.proofs.names.are_ascending.Given as goal

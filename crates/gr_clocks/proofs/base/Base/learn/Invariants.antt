@@ -1,10 +1,10 @@
-use Rattle.std.proofs.Common.{◌≡◌, ℕ, ◌<◌, ◌≤◌, length, get_or, []}
-use Rattle.gr_clocks.specs.Blocks.{IsRowJoin}
+use Rattle.std.proofs.Common.{◌≡◌, ◌<◌, ◌≤◌, max}
+use Rattle.gr_model.specs.declared.event.ItemId.{ItemId}
+use Rattle.gr_clocks.specs.Counts.{count_of}
 use Rattle.gr_clocks.proofs.base.Base.learn.Given as goal
 
 abbrev pub invariant-loop-group : goal.invariant-loop-group
 invariant-loop-group g l = record {
-  count : length l.self-inside.blocks.items ≡ length l.initial.self-inside.blocks.items;
-  join : (p : ℕ) → p < l.group → IsRowJoin (get_or l.initial.self-inside.blocks.items p []) (get_or l.other-inside.blocks.items p []) (get_or l.self-inside.blocks.items p []);
-  same : (p : ℕ) → l.group ≤ p → get_or l.self-inside.blocks.items p [] ≡ get_or l.initial.self-inside.blocks.items p [];
+  joined : (j : ItemId) → j.group < l.group → count_of l.self j ≡ max (count_of l.initial.self j) (count_of l.other j);
+  same : (j : ItemId) → l.group ≤ j.group → count_of l.self j ≡ count_of l.initial.self j;
 }

@@ -24,7 +24,7 @@ invariant_of-self g c =
 
 pub returns-clause-ok : goal.returns-clause-ok
 returns-clause-ok g c =
-    let sizes : c.args.group < length (map length c.self.inside.global) = subst (λ (v : ItemClocks). c.args.group < length v.sizes) (sym c.self.view_is) c.requires.there in
+    let sizes : c.args.group < length (map length c.self.inside.global) = subst (λ (v : ItemClocks). c.args.group < length v.sizes) (sym c.self.view_is) c.requires.there.0 in
     let there : c.args.group < length c.self.inside.global = subst (λ (n : ℕ). c.args.group < n) (length-map c.self.inside.global length) sizes in
     let local_there : c.args.group < length c.self.inside.local = subst (λ (n : ℕ). c.args.group < n) (ap length (sym c.self.invariant.same) ∙ length-map c.self.inside.local length) sizes in
     rw (← c.self.view_is) (meets c.args.group c.args.global c.args.local c.self.inside.global c.self.inside.local c.put.new.self c.put-2.new.self c.in_ok-global_group.global_group c.in_ok-local_group.local_group there local_there c.in_ok-global_group.ensures.behind c.put.ensures c.in_ok-local_group.ensures.behind c.put-2.ensures)

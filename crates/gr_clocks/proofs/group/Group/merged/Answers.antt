@@ -1,6 +1,5 @@
 use Rattle.std.proofs.Common.{◌≡◌, ◌<◌, ◌+◌, ◌∙◌, false, [], length, get_or, sym, subst, arith}
 use Rattle.std.proofs.lemmas.List.{get_or_read}
-use Rattle.gr_clocks.specs.Counts.{sizes_of}
 use Rattle.gr_clocks.specs.Groups.{GroupClocks, MergesFirst}
 use Rattle.gr_clocks.proofs.GroupLemmas.{merges_kept, merges_more}
 use Rattle.gr_clocks.proofs.group.Group.merged.Goals as goal
@@ -12,7 +11,7 @@ loop-item-preserved g c =
     let learned = c.self.inside.learned.items in
     let there : c.loop-item.item < length clocks = omega (arith, c.self.inside.clocks.ok.0) in
     let marked : c.loop-item.item < length learned = omega (arith, there, c.self.invariant.marks) in
-    let whole : GroupClocks = record { number = c.self.inside.number; sizes = sizes_of c.self.inside.met.value; clocks = clocks } in
+    let whole : GroupClocks = record { number = c.self.inside.number; clocks = clocks } in
     elim c.if-index.branch [
       | then-index+in_ok-teach w ↦
           let is = get_or_read clocks c.loop-item.item w.index-then-index.result.now there w.index-then-index.ensures [] in

@@ -1,4 +1,4 @@
-use Rattle.std.proofs.Common.{◌≡◌, ◌∙◌, ◌+◌, ◌<◌, ◌^◌, ℕ, length, ap, sym, arith}
+use Rattle.std.proofs.Common.{◌≡◌, ◌∙◌, ◌+◌, ◌<◌, ◌^◌, ℕ, length, ap, arith}
 use Rattle.std.proofs.lemmas.List.{length_push}
 use Rattle.gr_clocks.proofs.GroupLemmas.{shared_group, same_more}
 use Rattle.gr_clocks.proofs.group.Group.sharing.Goals as goal
@@ -14,4 +14,4 @@ invariant_of-result g c =
     let count : length c.loop-item.clocks.items ≡ c.args.size = omega arith in
     let few : length c.loop-item.clocks.items < 2 ^ 16 = omega arith in
     let marks : length c.in_ok-learned.learned.items ≡ length c.loop-item.clocks.items = omega (arith, c.in_ok-learned.ensures.len, c.in_ok-learned.learned.ok.0) in
-    shared_group c.args.met.value c.args.number c.loop-item.clocks.items c.in_ok-learned.learned.items c.requires.there (c.requires.size ∙ sym count) few marks (λ k below. c.loop-item.invariant.shared k (omega arith))
+    shared_group c.args.met.value c.args.number c.loop-item.clocks.items c.in_ok-learned.learned.items few marks (λ k below. c.loop-item.invariant.shared k (omega arith))

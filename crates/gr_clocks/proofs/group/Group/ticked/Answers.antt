@@ -1,7 +1,7 @@
 use Rattle.std.proofs.Common.{◌≡◌, ◌∙◌, ◌+◌, ℕ, length, ap, sym, subst, rules, arith}
 use Rattle.std.proofs.lemmas.List.{length_push}
 use Rattle.std.proofs.lemmas.List.Elements.{same_from_all_zip}
-use Rattle.gr_clocks.specs.Counts.{Counts, sizes_of}
+use Rattle.gr_clocks.specs.Counts.{Counts}
 use Rattle.gr_clocks.specs.Groups.{GroupClocks, IsGroup, TickFirst}
 use Rattle.gr_clocks.proofs.GroupLemmas.{all_ticked, ticked_more}
 use Rattle.gr_clocks.proofs.group.Group.ticked.Goals as goal
@@ -24,6 +24,6 @@ pub returns-clause-ticked : goal.returns-clause-ticked
 returns-clause-ticked g c =
     let size : c.loop-item.item ≡ length c.args.self.now.clocks = omega arith in
     record {
-      same = record { number = ap (λ (x : GroupClocks). x.number) c.self.view_is; sizes = ap sizes_of c.in_ok-met.ensures ∙ ap (λ (x : GroupClocks). x.sizes) c.self.view_is; size = c.loop-item.invariant.count ∙ size };
+      same = record { number = ap (λ (x : GroupClocks). x.number) c.self.view_is; size = c.loop-item.invariant.count ∙ size };
       each = subst (λ (n : ℕ). TickFirst c.args.self.now n c.loop-item.clocks.items) size c.loop-item.invariant.ticks;
     }

@@ -1,10 +1,9 @@
-use Rattle.std.proofs.Common.{◌≡◌, Err, List, map, [], ◌∷◌, ◌++◌, sym, ap, ◌∙◌, subst, ⊎_elim, arith}
+use Rattle.std.proofs.Common.{Err, List, map, [], ◌∷◌, ◌++◌, sym, ap, ◌∙◌, subst, ⊎_elim, arith}
 use Rattle.std.specs.Prelude.{OnOk}
-use Rattle.gr_clocks.specs.Counts.{sizes_of}
 use Rattle.gr_clocks.specs.ItemClocks.{Acquires, AreOfOneWord, AreSpent, ReleaseClock, Ticks}
 use Rattle.gr_sequencer.specs.Known.{CountWhatIsKnown, IsNext, Known}
 use Rattle.gr_sequencer.proofs.EventSteps.{has_clock, sources_steps, sources_unspent, steps_true, learns_nothing_steps, unspent}
-use Rattle.gr_sequencer.proofs.Teaching.{each_referred, of_one_word}
+use Rattle.gr_sequencer.proofs.Teaching.{of_one_word}
 use Rattle.gr_sequencer.proofs.known.Known.advance.Goals as goal
 use Rattle.gr_sequencer.proofs.known.Known.advance.Goals.{in-None, in-Some, in-Ok, in-Err+in-Memory}
 
@@ -25,12 +24,6 @@ acquire-answer-requires-clause-item g c =
     let known : Known = record { clocks = c.self.inside.clocks; snapshots = c.self.inside.snapshots.entries } in
     let next = subst (λ k. IsNext c.args.order.now.taken c.args.order.now.handled k c.args.event) (sym c.self.view_is) c.requires.next in
     has_clock c.args.order.now.taken c.args.order.now.handled known c.args.event next
-
-pub acquire-answer-requires-clause-shapes : goal.acquire-answer-requires-clause-shapes
-acquire-answer-requires-clause-shapes g c =
-    let known : Known = record { clocks = c.self.inside.clocks; snapshots = c.self.inside.snapshots.entries } in
-    let next = subst (λ k. IsNext c.args.order.now.taken c.args.order.now.handled k c.args.event) (sym c.self.view_is) c.requires.next in
-    each_referred (λ r. r.now) (λ l. sizes_of l.clock ≡ known.clocks.sizes) c.as_slice.result.now c.in-Some.sources c.as_slice.ensures (λ k d below. c.in-Some.ensures.shapes k d below ∙ sym next.follows.clocks.shape)
 
 pub acquire-answer-requires-clause-word : goal.acquire-answer-requires-clause-word
 acquire-answer-requires-clause-word g c =

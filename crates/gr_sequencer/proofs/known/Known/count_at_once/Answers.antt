@@ -2,7 +2,7 @@ use Rattle.std.proofs.Common.{[], ◌∷◌, ◌++◌, refl, sym, ap, ◌∙◌,
 use Rattle.std.specs.Prelude.{IfOk, OnOk}
 use Rattle.gr_model.specs.Access.{memory_of}
 use Rattle.gr_model.specs.Counts.{Sees}
-use Rattle.gr_clocks.specs.Counts.{Counts, IsTick}
+use Rattle.gr_clocks.specs.Counts.{Counts, CountsOneMore, count_of}
 use Rattle.gr_clocks.specs.ItemClocks.{clock_in}
 use Rattle.gr_closure.specs.Accesses.{CountsJust}
 use Rattle.gr_lanes.specs.Takes.{with_record}
@@ -30,8 +30,9 @@ returns-clause-counts g c =
     let Holds : Counts → Type 0 = λ n. CountsJust n (Sees (with_record q.taken c.args.group c.args.taken.now) (memory_of c.args.word) c.args.event) in
     elim c.match-access_in.branch [
       | in-Ok v ↦
-          let same = v.in-Ok.ensures.clock ∙ ap (λ m. clock_in c.access_in.new.self m c.args.event.at) c.memory_of.ensures in
-          let tick = subst (λ n. IsTick (clock_in known.clocks (memory_of c.args.word) c.args.event.at) c.args.event.at n) (sym same) (v.in-Ok.ensures.ok.ticks (memory_of c.args.word)).item in
+          let tick : CountsOneMore (clock_in known.clocks (memory_of c.args.word) c.args.event.at) c.args.event.at v.in-Ok.clock = record {
+            counts = λ j. v.in-Ok.ensures.clock j ∙ ap (λ m. count_of (clock_in c.access_in.new.self m c.args.event.at) j) c.memory_of.ensures ∙ (v.in-Ok.ensures.ok.ticks (memory_of c.args.word)).item.counts j;
+          } in
           subst (λ r. IfOk r Holds) (sym v.result-is) (sees_at_once q c.args.group c.args.taken.now known c.args.event is (memory_of c.args.word) (clock_in known.clocks (memory_of c.args.word) c.args.event.at) v.in-Ok.clock refl tick)
       | in-Err v ↦ subst (λ r. IfOk r Holds) (sym v.result-is) tt
     ]

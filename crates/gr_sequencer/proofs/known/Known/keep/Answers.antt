@@ -1,7 +1,6 @@
 use Rattle.std.proofs.Common.{sym, ap, ◌∙◌, subst}
 use Rattle.gr_model.specs.Access.{memory_of}
 use Rattle.gr_model.specs.Counts.{Sees}
-use Rattle.gr_clocks.specs.Counts.{sizes_of}
 use Rattle.gr_clocks.specs.ItemClocks.{ReleaseClock}
 use Rattle.gr_closure.specs.Accesses.{CountsJust, IsAccessOf}
 use Rattle.gr_sequencer.specs.Known.{IsSnapshotOf, IsSnapshotBy, snapshot_at}
@@ -19,7 +18,6 @@ returns-in_ok-insert-in-Some-Some-clause-kept g c releases =
     let plain : ReleaseClock = record { word = a.word; scope = c.in-Some-Some.scope; clock = c.in-Ok.clock } in
     let snapshots : IsSnapshotOf s e plain = record {
       word = is.word;
-      shape = ap sizes_of same ∙ is.shape;
       counts = subst (λ k. CountsJust k (Sees s (memory_of a.word) e)) (sym same) is.counts;
     } in
     let here = kept_here c.self.inside.snapshots.entries c.insert.new.self.entries e entry c.in_ok-insert-in-Some-Some.ensures.updates.0 in

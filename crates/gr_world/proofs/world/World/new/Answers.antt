@@ -17,6 +17,7 @@ invariant_of-result g c =
     c.in_ok-workers.ensures ∙ (ap (λ n. replicate n (no_work c.capacity-2.result)) c.workers.ensures.number ∙ ap (λ n. replicate c.args.config.workers (no_work n)) c.capacity-2.ensures.number) in
     newly_made w c.args.shape c.args.config
     (λ k. record { config = c.args.config; sent = sent k; intakes = intakes k; sequence = c.in_ok-sequencer.ensures k; in_flight = None; workers = workers k })
+    c.groups-groups.ensures.shape
     (subst ArePrefixes sent c.in_ok-sent.ensures.prefixes)
     c.queues.ensures.config
 

@@ -1,0 +1,98 @@
+-- What may have come stays so where a group gets its items, and its lists have grown.
+use Rattle.std.proofs.Common.{◌≡◌, ℕ, ◌+◌, ◌<◌, ◌≤◌, List, [], ◌∷◌, length, slice_index, slice_index_or, slice_get, sum, Some, None, refl, sym, ap, ◌∙◌, subst, inl, inr, ⊎_elim, append-nil, arith}
+use Rattle.std.specs.Prelude.{◌≢◌}
+use Rattle.std.proofs.lemmas.Bool.{cases_eq, cases_lt}
+use Rattle.std.proofs.lemmas.List.{get_or_past}
+use Rattle.gr_model.specs.declared.event.Event.{Event}
+use Rattle.gr_model.specs.declared.event.ItemId.{ItemId}
+use Rattle.gr_model.specs.declared.limits.TheConstants.{MOST_GROUPS, MOST_ITEMS, MOST_ITEMS_OF_A_GROUP, MOST_RECORDS}
+use Rattle.gr_model.specs.Groups.{CanAdd, put, with_group}
+use Rattle.gr_model.specs.Shapes.{HasItem, IsPartOfShape, IsShape}
+use Rattle.gr_model.specs.Streams.{ArePrefixes, Grows, IsPrefix, Streams, list_of, size_of}
+use Rattle.gr_model.proofs.PutLemmas.{all_put, length_put, put_other, put_same, sum_put}
+
+-- a shape is one of which all has come
+pub part_of_shape : (sizes : List ℕ) → IsShape sizes → IsPartOfShape sizes
+part_of_shape sizes shape = record { groups = shape.groups; each = λ k d there. (shape.each k d there).1; total = shape.total }
+
+-- a group comes that had not, where there is room for it
+pub part_with_group : (sizes : List ℕ) (g n : ℕ) → IsPartOfShape sizes → g < MOST_GROUPS → slice_index sizes g ≡ 0 → n ≤ MOST_ITEMS_OF_A_GROUP → sum sizes + n ≤ MOST_ITEMS → IsPartOfShape (put 0 sizes g n)
+part_with_group sizes g n part group none size room = record {
+  groups = let count = length_put 0 sizes g n in let few = part.groups in omega (arith, count, few, group);
+  each = all_put (λ m. m ≤ MOST_ITEMS_OF_A_GROUP) sizes g n (omega arith) size part.each;
+  total = let total = sum_put sizes g n none in omega (arith, total, room);
+}
+
+module _ (s : Streams) (g n : ℕ) where
+  -- of each group as much has come as before
+  pub list_stays : (h : ℕ) → list_of (with_group s g n) h ≡ list_of s h
+  list_stays h =
+      ⊎_elim
+      (λ (same : h ≡ g). ap (λ k. slice_index_or (put [] s.lists g (list_of s g)) k []) same ∙ put_same [] s.lists g (list_of s g) ∙ ap (list_of s) (sym same))
+      (λ apart. put_other [] s.lists g (list_of s g) h apart)
+      (cases_eq h g)
+
+  pub size_now : size_of (with_group s g n) g ≡ n
+  size_now = put_same 0 s.sizes g n
+
+  pub size_stays : (h : ℕ) → h ≢ g → size_of (with_group s g n) h ≡ size_of s h
+  size_stays h apart = put_other 0 s.sizes g n h apart
+
+  module _ (prefixes : ArePrefixes s) (can : CanAdd s g n) where
+    -- nothing came of a group that has no items
+    pub nothing_came : list_of s g ≡ []
+    nothing_came =
+        ⊎_elim
+        (λ (there : g < length s.sizes). nothing (list_of s g) (λ x at. let good = (prefixes.each g there).good 0 x at in let small = good.0.0 in let none = can.none in omega (arith, small, none)))
+        (λ (past : length s.sizes ≤ g). get_or_past s.lists g [] (let count = prefixes.count in omega (arith, past, count)))
+        (cases_lt g (length s.sizes))
+      where
+        nothing : (list : List Event) → ((x : Event) → slice_get list 0 ≡ Some x → ⊥) → list ≡ []
+        nothing [] none = refl
+        nothing (x ∷ xs) none = absurd (none x refl)
+
+    pub group_grows : Grows s (with_group s g n)
+    group_grows = record {
+      sizes = λ h. ⊎_elim
+          (λ (same : h ≡ g). inr (ap (list_of s) same ∙ nothing_came))
+          (λ apart. inl (sym (size_stays h apart)))
+          (cases_eq h g);
+      lists = λ h. ([], list_stays h ∙ sym (append-nil (list_of s h)));
+      whole = λ h whole. list_stays h;
+    }
+
+    nothing_is_prefix : (items : ℕ) (list : List Event) → list ≡ [] → IsPrefix items list
+    nothing_is_prefix items list none = record {
+      few = subst (λ l. length l ≤ MOST_RECORDS) (sym none) (omega arith);
+      good = λ p x at. let no : None ≡ Some x = sym (ap (λ l. slice_get l p) none) ∙ at in cc;
+    }
+
+    pub prefixes_with_group : ArePrefixes (with_group s g n)
+    prefixes_with_group = record {
+      shape = part_with_group s.sizes g n prefixes.shape can.group can.none can.size.1 can.total;
+      count = let lists = length_put [] s.lists g (list_of s g) in let sizes = length_put 0 s.sizes g n in let count = prefixes.count in omega (arith, lists, sizes, count);
+      each = λ h there. ⊎_elim
+          (λ (same : h ≡ g). nothing_is_prefix (size_of (with_group s g n) h) (list_of (with_group s g n) h) (list_stays h ∙ ap (list_of s) same ∙ nothing_came))
+          (λ apart. ⊎_elim
+          (λ (was : h < length s.sizes). subst (λ m. IsPrefix m (list_of (with_group s g n) h)) (sym (size_stays h apart)) (subst (IsPrefix (size_of s h)) (sym (list_stays h)) (prefixes.each h was)))
+          (λ (past : length s.sizes ≤ h). nothing_is_prefix (size_of (with_group s g n) h) (list_of (with_group s g n) h) (list_stays h ∙ get_or_past s.lists h [] (let count = prefixes.count in omega (arith, past, count))))
+          (cases_lt h (length s.sizes)))
+          (cases_eq h g);
+    }
+
+    -- the items of the other groups
+    pub item_stays : (i : ItemId) → HasItem s.sizes i → HasItem (with_group s g n).sizes i
+    item_stays i has =
+        let apart : i.group ≢ g = λ same. let none : slice_index s.sizes i.group ≡ 0 = ap (slice_index s.sizes) same ∙ can.none in let some = has.1 in absurd (omega (arith, none, some)) in
+        (let count = length_put 0 s.sizes g n in let some = has.0 in omega (arith, count, some), subst (λ m. i.item < m) (sym (size_stays i.group apart)) has.1)
+
+    -- and its own
+    pub item_was : (i : ItemId) → i.group ≢ g → HasItem (with_group s g n).sizes i → HasItem s.sizes i
+    item_was i apart has =
+        let item : i.item < slice_index s.sizes i.group = subst (λ m. i.item < m) (size_stays i.group apart) has.1 in (
+          ⊎_elim
+              (λ (there : i.group < length s.sizes). there)
+              (λ (past : length s.sizes ≤ i.group). let none : slice_index s.sizes i.group ≡ 0 = get_or_past s.sizes i.group 0 past in absurd (omega (arith, none, item)))
+              (cases_lt i.group (length s.sizes)),
+          item,
+        )

@@ -1,0 +1,77 @@
+-- Lists with an element at a place behind their end.
+use Rattle.std.proofs.Common.{◌≡◌, ℕ, zero, suc, ◌+◌, ◌<◌, ◌≤◌, max, All, List, [], ◌∷◌, ◌++◌, length, get_or, map, set, sum, refl, sym, ap, ◌∙◌, arith}
+use Rattle.std.proofs.lemmas.List.Sums.{sum_by-cons}
+use Rattle.std.specs.Prelude.{◌≢◌}
+use Rattle.gr_model.specs.Groups.{put}
+
+pub put_same : {X : Type 0} (none : X) (xs : List X) (p : ℕ) (x : X) → get_or (put none xs p x) p none ≡ x
+put_same none [] zero x = refl
+put_same none [] (suc p) x = put_same none [] p x
+put_same none (y ∷ ys) zero x = refl
+put_same none (y ∷ ys) (suc p) x = put_same none ys p x
+
+pub put_other : {X : Type 0} (none : X) (xs : List X) (p : ℕ) (x : X) (q : ℕ) → q ≢ p → get_or (put none xs p x) q none ≡ get_or xs q none
+put_other none [] zero x zero apart = absurd (apart refl)
+put_other none [] zero x (suc q) apart = refl
+put_other none [] (suc p) x zero apart = refl
+put_other none [] (suc p) x (suc q) apart = put_other none [] p x q (λ (same : q ≡ p). apart (ap suc same))
+put_other none (y ∷ ys) zero x zero apart = absurd (apart refl)
+put_other none (y ∷ ys) zero x (suc q) apart = refl
+put_other none (y ∷ ys) (suc p) x zero apart = refl
+put_other none (y ∷ ys) (suc p) x (suc q) apart = put_other none ys p x q (λ (same : q ≡ p). apart (ap suc same))
+
+pub length_put : {X : Type 0} (none : X) (xs : List X) (p : ℕ) (x : X) → length (put none xs p x) ≡ max (length xs) (p + 1)
+length_put none [] zero x = refl
+length_put none [] (suc p) x = let rest = length_put none [] p x in omega (arith, rest)
+length_put none (y ∷ ys) zero x = omega arith
+length_put none (y ∷ ys) (suc p) x = let rest = length_put none ys p x in omega (arith, rest)
+
+-- within the list it is written
+pub put_within : {X : Type 0} (none : X) (xs : List X) (p : ℕ) (x : X) → p < length xs → put none xs p x ≡ set xs p x
+put_within none [] p x there = absurd (omega (arith, there))
+put_within none (y ∷ ys) zero x there = refl
+put_within none (y ∷ ys) (suc p) x there = ap (λ rest. y ∷ rest) (put_within none ys p x (omega (arith, there)))
+
+-- what stands between may stand there before
+pub put_behind : {X : Type 0} (none : X) (xs : List X) (p : ℕ) (x : X) → length xs ≤ p → put none (xs ++ none ∷ []) p x ≡ put none xs p x
+put_behind none [] zero x over = refl
+put_behind none [] (suc p) x over = refl
+put_behind none (y ∷ ys) zero x over = absurd (omega (arith, over))
+put_behind none (y ∷ ys) (suc p) x over = ap (λ rest. y ∷ rest) (put_behind none ys p x (omega (arith, over)))
+
+pub map_put : {X Y : Type 0} (f : X → Y) (none : X) (xs : List X) (p : ℕ) (x : X) → map f (put none xs p x) ≡ put (f none) (map f xs) p (f x)
+map_put f none [] zero x = refl
+map_put f none [] (suc p) x = ap (λ rest. f none ∷ rest) (map_put f none [] p x)
+map_put f none (y ∷ ys) zero x = refl
+map_put f none (y ∷ ys) (suc p) x = ap (λ rest. f y ∷ rest) (map_put f none ys p x)
+
+-- ---- numbers
+
+sum_cons : (n : ℕ) (ns : List ℕ) → sum (n ∷ ns) ≡ n + sum ns
+sum_cons n ns = sum_by-cons (λ (m : ℕ). m) n ns
+
+-- where nothing stood there
+pub sum_put : (ns : List ℕ) (p n : ℕ) → get_or ns p 0 ≡ 0 → sum (put 0 ns p n) ≡ sum ns + n
+sum_put [] zero n none = omega (arith, sum_cons n [])
+sum_put [] (suc p) n none = let rest = sum_put [] p n refl in omega (arith, rest, sum_cons 0 (put 0 [] p n))
+sum_put (m ∷ ns) zero n none = omega (arith, sum_cons n ns, sum_cons m ns, none)
+sum_put (m ∷ ns) (suc p) n none = let rest = sum_put ns p n none in omega (arith, rest, sum_cons m (put 0 ns p n), sum_cons m ns)
+
+-- each is small where the others are
+pub all_put : (P : ℕ → Type 0) (ns : List ℕ) (p n : ℕ) → P 0 → P n → All P ns → All P (put 0 ns p n)
+all_put P [] zero n nothing new all zero d there = new
+all_put P [] zero n nothing new all (suc k) d there = absurd (omega (arith, there))
+all_put P [] (suc p) n nothing new all zero d there = nothing
+all_put P [] (suc p) n nothing new all (suc k) d there = all_put P [] p n nothing new all k d (omega (arith, there))
+all_put P (m ∷ ns) zero n nothing new all zero d there = new
+all_put P (m ∷ ns) zero n nothing new all (suc k) d there = all (suc k) d there
+all_put P (m ∷ ns) (suc p) n nothing new all zero d there = all 0 d (omega arith)
+all_put P (m ∷ ns) (suc p) n nothing new all (suc k) d there = all_put P ns p n nothing new (λ i e lt. all (suc i) e (omega (arith, lt))) k d (omega (arith, there))
+
+-- ---- lists that grow up to a place
+
+pub puts_more : {X : Type 0} (none : X) (xs more : List X) (p : ℕ) (y : X) (old : List X) → ((x : X) → put none xs p x ≡ put none old p x) → length xs ≤ p → y ≡ none → more ≡ xs ++ y ∷ [] → (x : X) → put none more p x ≡ put none old p x
+puts_more none xs more p y old so_far over is_none is x = ap (λ l. put none l p x) (is ∙ ap (λ z. xs ++ z ∷ []) is_none) ∙ put_behind none xs p x over ∙ so_far x
+
+pub puts_last : {X : Type 0} (none : X) (xs : List X) (p : ℕ) (x : X) (old : List X) → ((y : X) → put none xs p y ≡ put none old p y) → p < length xs → set xs p x ≡ put none old p x
+puts_last none xs p x old so_far there = sym (put_within none xs p x there) ∙ so_far x
