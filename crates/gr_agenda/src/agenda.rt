@@ -4,7 +4,7 @@
 //! names releases that were not handled stands in the list or among those that wait for one of these; and the instances that
 //! are noted as undiverged are not divergent.
 
-ghost use Rattle.std.specs.Prelude.{◌≡◌, ◌↔◌, ◌<◌, IfOk, IfErr, IfSome, IsSomeAnd, OnOk, OnErr, IsTrue, MatchOption, All, Contains, Some, length, slice_get, ℕ};
+ghost use Rattle.std.specs.Prelude.{[], ◌≡◌, ◌↔◌, ◌<◌, IfOk, IfErr, IfSome, IsSomeAnd, OnOk, OnErr, IsTrue, MatchOption, All, Contains, Some, length, slice_get, ℕ};
 ghost use Rattle.gr_model.specs.declared.event.EventId.{EventId as AnyEvent};
 ghost use Rattle.gr_model.specs.declared.event.ItemId.{ItemId as AnyItem};
 ghost use Rattle.gr_model.specs.declared.event.Name.{Name as AnyName};
@@ -296,11 +296,33 @@ impl<A: Allocator + Copy> Agenda<A> {
     pub fn new(alloc: A, shape: Shape<A>) -> Result<Agenda<A>, Memory>
         ensures { IfOk result (λ a. a ≡ nothing shape) }
     {
+        let order = Order::new(alloc, shape)?;
+        Agenda::of_order(alloc, order)
+    }
+
+    /// The agenda of a launch of which no group has come.
+    ///
+    /// # Errors
+    /// `Memory`: out of memory.
+    pub fn without_groups(alloc: A) -> Result<Agenda<A>, Memory>
+        ensures { IfOk result (λ a. a ≡ nothing []) }
+    {
+        let order = Order::without_groups(alloc)?;
+        Agenda::of_order(alloc, order)
+    }
+
+    /// The agenda of an order of which nothing was taken.
+    ///
+    /// # Errors
+    /// `Memory`: out of memory.
+    fn of_order(alloc: A, order: Order<A>) -> Result<Agenda<A>, Memory>
+        requires { order ≡ nothing order.taken.sizes }
+        ensures { IfOk result (λ a. a ≡ order) }
+    {
         let worklist = Worklist::new(alloc)?;
         let waiting = no_lists(alloc)?;
         let mut undiverged = Vec::with_capacity(alloc, GROUPS)?;
         undiverged.resize(GROUPS, None)?;
-        let order = Order::new(alloc, shape)?;
         Ok(Agenda {
             order,
             worklist,

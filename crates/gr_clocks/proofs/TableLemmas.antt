@@ -19,6 +19,14 @@ same_group x y number clocks =
     ap (λ (n : ℕ). let g : GroupClocks = record { number = n; clocks = x.clocks } in g) number ∙
     ap (λ (cs : List Counts). let g : GroupClocks = record { number = y.number; clocks = cs } in g) clocks
 
+-- ---- a table without groups
+
+pub no_groups : AreGroups []
+no_groups p within = absurd (omega (arith, within))
+
+pub no_table : AreZero [] (table_of [])
+no_table = record { shape = refl; clocks = λ i j has. let within = has.0 in absurd (omega (arith, within)) }
+
 -- ---- the groups of a table
 
 module _ (groups : List GroupClocks) (t : ClockTable) (are : AreGroups groups) (is : table_of groups ≡ t) where

@@ -6,11 +6,11 @@ use Rattle.std.proofs.lemmas.List.{length-set, length-map, map-set, get_or-map, 
 use Rattle.std.proofs.Math.Seq.{map-set_same}
 use Rattle.gr_model.specs.declared.event.Event.{Event}
 use Rattle.gr_model.specs.declared.limits.TheConstants.{MOST_RECORDS}
-use Rattle.gr_model.specs.Shapes.{IsShape}
+use Rattle.gr_model.specs.Shapes.{IsPartOfShape}
 use Rattle.gr_model.specs.Streams.{ArePrefixes, IsPrefix, Streams, is_complete, list_of, size_of}
 use Rattle.gr_model.specs.Reports.{IsCut}
 use Rattle.gr_model.specs.Groups.{CanAdd, put, with_group}
-use Rattle.gr_model.proofs.GroupLaws.{nothing_came, part_of_shape, prefixes_with_group}
+use Rattle.gr_model.proofs.GroupLaws.{nothing_came, prefixes_with_group}
 use Rattle.gr_model.proofs.PutLemmas.{map_put}
 use Rattle.gr_model.proofs.StreamPrefixes.{prefix_push}
 use Rattle.gr_lanes.specs.Indices.{AreGroups, EndsCut, GroupList, taken_of}
@@ -36,11 +36,11 @@ none_at (n ∷ sizes) (suc g) = none_at sizes g
 pub nothing_is : (sizes : List ℕ) (groups : List GroupList) → groups ≡ map empty sizes → taken_of sizes groups ≡ nothing_taken sizes
 nothing_is sizes groups are = let lists = ap (map (λ (g : GroupList). g.list)) are ∙ lists_empty sizes in λ d. record { sizes = sizes; lists = lists d }
 
-pub nothing_groups : (sizes : List ℕ) (groups : List GroupList) → IsShape sizes → groups ≡ map empty sizes → AreGroups sizes groups
+pub nothing_groups : (sizes : List ℕ) (groups : List GroupList) → IsPartOfShape sizes → groups ≡ map empty sizes → AreGroups sizes groups
 nothing_groups sizes groups shape are = subst (AreGroups sizes) (sym are) (record {
   same = sizes_empty sizes;
   prefixes = record {
-    shape = part_of_shape sizes shape;
+    shape = shape;
     count = ap length (lists_empty sizes) ∙ length-map sizes (λ n. []);
     each = λ g within. subst (IsPrefix (get_or sizes g 0)) (sym (none_at sizes g)) (record { few = omega arith; good = λ p x at. cc });
   };

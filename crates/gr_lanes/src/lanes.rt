@@ -2,7 +2,7 @@
 //!
 //! Invariant: there is a group for each of the shape so far, of its size, and each has a prefix of a list that it may have.
 
-ghost use Rattle.std.specs.Prelude.{◌≡◌, ◌≢◌, ◌↔◌, ◌<◌, ℕ, Some, IsTrue, IfOk, IfErr, MatchOption, OnOk, OnErr, filter, length, option_and_then};
+ghost use Rattle.std.specs.Prelude.{[], ◌≡◌, ◌≢◌, ◌↔◌, ◌<◌, ℕ, Some, IsTrue, IfOk, IfErr, MatchOption, OnOk, OnErr, filter, length, option_and_then};
 ghost use Rattle.gr_model.specs.declared.limits.TheConstants.{MOST_RECORDS};
 ghost use Rattle.gr_model.specs.Groups.{CanAdd, with_group};
 ghost use Rattle.gr_model.specs.Streams.{ArePrefixes, is_complete, list_of, place_of, trace_of};
@@ -44,6 +44,16 @@ impl<A: Allocator> Model for Lanes<A> {
 }
 
 impl<A: Allocator + Copy> Lanes<A> {
+    /// The groups of a launch of which none has come. They take no memory.
+    pub fn without_groups(alloc: A) -> Lanes<A>
+        ensures { result ≡ nothing_taken [] }
+    {
+        Lanes {
+            shape: GrowingShape::new(alloc),
+            groups: Vec::new(alloc),
+        }
+    }
+
     /// The groups of a shape, of which nothing was taken.
     ///
     /// # Errors

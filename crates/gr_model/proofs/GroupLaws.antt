@@ -15,6 +15,10 @@ use Rattle.gr_model.proofs.PutLemmas.{all_put, length_put, put_other, put_same, 
 pub part_of_shape : (sizes : List ℕ) → IsShape sizes → IsPartOfShape sizes
 part_of_shape sizes shape = record { groups = shape.groups; each = λ k d there. (shape.each k d there).1; total = shape.total }
 
+-- before the first group
+pub part_of_none : IsPartOfShape []
+part_of_none = record { groups = omega arith; each = λ k d there. absurd (omega arith); total = omega arith }
+
 -- a group comes that had not, where there is room for it
 pub part_with_group : (sizes : List ℕ) (g n : ℕ) → IsPartOfShape sizes → g < MOST_GROUPS → slice_index sizes g ≡ 0 → n ≤ MOST_ITEMS_OF_A_GROUP → sum sizes + n ≤ MOST_ITEMS → IsPartOfShape (put 0 sizes g n)
 part_with_group sizes g n part group none size room = record {

@@ -3,7 +3,7 @@
 //! Invariant: there are at most 64 groups, each has at most 256 items, and there are at most 16,384 items (`limits`). A
 //! group that has no items has not come yet.
 
-ghost use Rattle.std.specs.Prelude.{◌≡◌, ◌↔◌, ◌+◌, ◌<◌, ◌≤◌, IfOk, IsTrue, length, slice_index, sum};
+ghost use Rattle.std.specs.Prelude.{[], ◌≡◌, ◌↔◌, ◌+◌, ◌<◌, ◌≤◌, IfOk, IsTrue, length, slice_index, sum};
 ghost use Rattle.gr_model.specs.Groups.{put};
 ghost use Rattle.gr_model.specs.Shapes.{HasItem, IsPartOfShape};
 ghost use Rattle.gr_model.specs.declared.limits.TheConstants.{MOST_GROUPS as most_groups, MOST_ITEMS as most_items, MOST_ITEMS_OF_A_GROUP as most_items_of_a_group};
@@ -33,6 +33,15 @@ impl<A: Allocator> Model for GrowingShape<A> {
 }
 
 impl<A: Allocator> GrowingShape<A> {
+    /// The shape of a launch of which no group has come. It takes no memory.
+    pub fn new(alloc: A) -> GrowingShape<A>
+        ensures { result ≡ [] }
+    {
+        GrowingShape {
+            sizes: Vec::new(alloc),
+        }
+    }
+
     /// A shape all of whose groups have come.
     pub fn of(shape: Shape<A>) -> GrowingShape<A>
         ensures { result ≡ shape }

@@ -4,13 +4,13 @@
 //! a tally, the frontier. Of each item the other events are kept, from the first that was not handled on, and no longer. The
 //! order itself exists in proofs alone: no memory holds it, and no step needs any.
 
-ghost use Rattle.std.specs.Prelude.{◌≡◌, ◌+◌, ◌<◌, IsOkUnless, IfOk, IfErr, IfSome, OnOk, MatchOption, OnErr, length, IsTrue, not, ◌↔◌};
+ghost use Rattle.std.specs.Prelude.{[], ◌≡◌, ◌+◌, ◌<◌, IsOkUnless, IfOk, IfErr, IfSome, OnOk, MatchOption, OnErr, length, IsTrue, not, ◌↔◌};
 ghost use Rattle.gr_model.specs.declared.limits.TheConstants.{MOST_RECORDS};
 ghost use Rattle.gr_model.specs.Events.{is_end};
 ghost use Rattle.gr_model.specs.Reports.{IsHeld};
 ghost use Rattle.gr_model.specs.Streams.{AreComplete, event_at, list_of};
 ghost use Rattle.gr_order.specs.declared.go_error.GoError.TheVariants.{NotReady};
-ghost use Rattle.gr_lanes.specs.Takes.{CanTake, IsEventButItem, IsTakeFault, next_of, with_record};
+ghost use Rattle.gr_lanes.specs.Takes.{CanTake, IsEventButItem, IsTakeFault, next_of, nothing_taken, with_record};
 ghost use Rattle.gr_steps.specs.Steps.{CanHandle, CanMeet, IsAtRest, IsMeeting, IsReady};
 ghost use Rattle.gr_model.specs.Instances.{Mark};
 ghost use Rattle.gr_order.specs.Answers.{CanMake, IsHandleFault, IsMeetFault};
@@ -77,6 +77,27 @@ impl<A: Allocator + Copy> Order<A> {
         ensures { IfOk result (λ o. o ≡ nothing shape) }
     {
         let lanes = Lanes::new(alloc, shape)?;
+        Order::of_lanes(alloc, lanes)
+    }
+
+    /// The order of a launch of which no group has come.
+    ///
+    /// # Errors
+    /// `Memory`: out of memory.
+    pub fn without_groups(alloc: A) -> Result<Order<A>, Memory>
+        ensures { IfOk result (λ o. o ≡ nothing []) }
+    {
+        Order::of_lanes(alloc, Lanes::without_groups(alloc))
+    }
+
+    /// The order of groups of which nothing was taken.
+    ///
+    /// # Errors
+    /// `Memory`: out of memory.
+    fn of_lanes(alloc: A, lanes: Lanes<A>) -> Result<Order<A>, Memory>
+        requires { lanes ≡ nothing_taken lanes.sizes }
+        ensures { IfOk result (λ o. o ≡ nothing lanes.sizes) }
+    {
         let frontier = match Tally::new(alloc, lanes.shape()) {
             Ok(clock) => clock,
             Err(_) => return Err(Memory),

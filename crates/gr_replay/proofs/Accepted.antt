@@ -39,16 +39,16 @@ all x = Ok x
 same_all : (x y : List Flat) → all x ≡ all y → x ≡ y
 same_all x y e = cc
 
-abbrev found : Flat × List ℕ → Result (Flat × List ℕ) Fault
+abbrev pub found : Flat × List ℕ → Result (Flat × List ℕ) Fault
 found x = Ok x
 
-same_found : (x y : Flat × List ℕ) → found x ≡ found y → x ≡ y
+pub same_found : (x y : Flat × List ℕ) → found x ≡ found y → x ≡ y
 same_found x y e = cc
 
-abbrev done : {X : Type 0} → X → Result X RecordError
+abbrev pub done : {X : Type 0} → X → Result X RecordError
 done x = Ok x
 
-same_done : {X : Type 0} (x y : X) → done x ≡ done y → x ≡ y
+pub same_done : {X : Type 0} (x y : X) → done x ≡ done y → x ≡ y
 same_done x y e = cc
 
 -- what a list is whose records were read up to its end
@@ -59,14 +59,14 @@ pub record AreRead (items most : ℕ) (events : List Event) (rest : List ℕ) : 
   pub bytes : AreBytes rest
 
 module _ (items : ℕ) where
-  one_end : (most : ℕ) (e : Event) (rest : List ℕ) → AreBytes rest → IsEventOk e items → is_end e ≡ true → AreRead items (suc most) (e ∷ []) rest
+  pub one_end : (most : ℕ) (e : Event) (rest : List ℕ) → AreBytes rest → IsEventOk e items → is_end e ≡ true → AreRead items (suc most) (e ∷ []) rest
   one_end most e rest fits ok end = record { few = omega arith; good = good; ended = end; bytes = fits }
     where
       good : AreGood items (e ∷ [])
       good zero x at = let same : e ≡ x = let h : Some e ≡ Some x = at in cc in (subst (λ y. IsEventOk y items) same ok, λ _. refl)
       good (suc p) x at = cc
 
-  one_more : (most : ℕ) (e : Event) (es : List Event) (after : List ℕ) → IsEventOk e items → is_end e ≡ false → AreRead items most es after → AreRead items (suc most) (e ∷ es) after
+  pub one_more : (most : ℕ) (e : Event) (es : List Event) (after : List ℕ) → IsEventOk e items → is_end e ≡ false → AreRead items most es after → AreRead items (suc most) (e ∷ es) after
   one_more most e [] after ok on rest = absurd (true≢false (sym rest.ended))
   one_more most e (x ∷ xs) after ok on rest = record { few = omega (arith, rest.few); good = good; ended = rest.ended; bytes = rest.bytes }
     where
@@ -145,7 +145,7 @@ none_at p xs i d lt none =
     ] refl
 
 -- one more stream, of another group and of the same launch
-with_one : (seen : List Flat) (f : Flat) → AreStreams seen → IsAccepted f.header.items f.events → list_any (λ s. s.header.group == f.header.group) seen ≡ false → list_any (λ s. not (s.header.launch == f.header.launch)) seen ≡ false → AreStreams (seen ++ f ∷ [])
+pub with_one : (seen : List Flat) (f : Flat) → AreStreams seen → IsAccepted f.header.items f.events → list_any (λ s. s.header.group == f.header.group) seen ≡ false → list_any (λ s. not (s.header.launch == f.header.launch)) seen ≡ false → AreStreams (seen ++ f ∷ [])
 with_one seen f are accepted other same = record {
   accepted = All-push (λ s. IsAccepted s.header.items s.events) seen f are.accepted accepted;
   groups = all_pairs_push (λ a b. a.header.group ≢ b.header.group) seen f are.groups (λ k d lt. eqb-false _ _ (none_at (λ s. s.header.group == f.header.group) seen k d lt other));

@@ -22,7 +22,7 @@ list_any-flats test [] = refl
 list_any-flats test (s ∷ seen) = ap (λ b. test s.header || b) (list_any-flats test seen)
 
 -- where memory suffices, the error in its place is that of the whole
-fault_at-fails : {X Y : Type 0} (place : ℕ) (e : RecordError) (read : Result X RecordError) (whole : Result Y Fault) → record_spec.Fails e read → (read ≡ Err e → whole ≡ Err (faults.Stream place e)) → Fails (stream_fault place e) whole
+pub fault_at-fails : {X Y : Type 0} (place : ℕ) (e : RecordError) (read : Result X RecordError) (whole : Result Y Fault) → record_spec.Fails e read → (read ≡ Err e → whole ≡ Err (faults.Stream place e)) → Fails (stream_fault place e) whole
 fault_at-fails place errors.Memory read whole h go = tt
 fault_at-fails place e read whole h go = go h
 

@@ -6,3 +6,5 @@ pub mod Replays
 pub mod Laws
 pub mod Each
 pub mod Races
+pub mod Waiting
+pub mod Intakes

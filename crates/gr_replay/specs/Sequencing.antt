@@ -15,16 +15,6 @@ use Rattle.gr_hits.specs.Accesses.{AreAccesses}
 abbrev pub with_list : Streams → ℕ → List Event → Streams
 with_list s g list = record { sizes = s.sizes; lists = slice_set s.lists g list }
 
--- lists, each with what follows it
-abbrev pub with_rests : List (List Event) → List (List Event) → List (List Event)
-with_rests [] rests = []
-with_rests (list ∷ lists) [] = list ∷ lists
-with_rests (list ∷ lists) (rest ∷ rests) = (list ++ rest) ∷ with_rests lists rests
-
--- streams, each with the records that are still to come
-abbrev pub with_more : Streams → List (List Event) → Streams
-with_more s rests = record { sizes = s.sizes; lists = with_rests s.lists rests }
-
 -- the first of a group's records to come were taken: those after them are still to come
 abbrev pub AreTakenFrom : Streams → ℕ → List Event → Streams → List Event → Type 0
 AreTakenFrom s g old t new = (list : List Event) × (old ≡ list ++ new) × (t ≡ with_list s g (list_of s g ++ list))

@@ -1,5 +1,5 @@
 -- Records that stand among bytes.
-use Rattle.std.specs.Prelude.{◌≡◌, ℕ, Bool, true, false, List, [], Result, Ok, Err}
+use Rattle.std.specs.Prelude.{◌≡◌, ℕ, List, [], Result, Ok, Err}
 use Rattle.gr_model.specs.declared.event.Event.{Event}
 use Rattle.gr_record.specs.declared.error.RecordError.{RecordError}
 use Rattle.gr_record.specs.declared.header.Header.{Header}
@@ -16,12 +16,3 @@ listed h bytes = events_in (front_records_at h bytes)
 -- an end is there
 abbrev pub IsWholeStream : Header → List ℕ → Type 0
 IsWholeStream h bytes = (rest : List ℕ) × (front_records_at h bytes ≡ Ok (listed h bytes, rest))
-
--- the records that are still to be read: none once the end was
-abbrev pub to_come : Bool → Header → List ℕ → List Event
-to_come true h bytes = []
-to_come false h bytes = listed h bytes
-
-abbrev pub HasEndToCome : Bool → Header → List ℕ → Type 0
-HasEndToCome true h bytes = Unit {0}
-HasEndToCome false h bytes = IsWholeStream h bytes

@@ -4,15 +4,13 @@ ghost use Rattle.std.specs.Prelude.{◌≡◌, IfOk, length};
 ghost use Rattle.std.specs.List.{sum_by};
 ghost use Rattle.gr_model.specs.RacePairs.{ArePairedRaces};
 ghost use Rattle.gr_model.specs.Reports.{IsReportOf};
-ghost use Rattle.gr_model.specs.Streams.{AreAccepted, ArePrefixes};
+ghost use Rattle.gr_model.specs.Streams.{ArePrefixes};
 ghost use Rattle.gr_order.specs.Sequences.{IsDone, IsSequence, nothing};
-ghost use Rattle.gr_replay.specs.Launch.{streams_of};
 ghost use Rattle.gr_replay.specs.Sequencing.{AreShadowsOf};
 ghost use Rattle.gr_report.specs.Whole.{whole_of};
 
-use crate::launch::Launch;
 use crate::races::races_of;
-use crate::taking::{take_streams, take_traces};
+use crate::taking::take_traces;
 use gr_model::memory::Memory;
 use gr_model::race::Race;
 use gr_model::shape::Shape;
@@ -36,16 +34,14 @@ fn records_of<A: Allocator>(sequencer: &Sequencer<A>, groups: u16) -> u64
     records
 }
 
-/// The report of a launch of this shape, of which all was taken and all was handled that can be.
+/// The report of a launch of which all was taken, and all was handled that can be.
 ///
 /// # Errors
 /// `Memory`: out of memory.
-fn report_of<A: Allocator + Copy>(
+pub(crate) fn report_of<A: Allocator + Copy>(
     sequencer: &Sequencer<A>,
     shadows: &Shadows<A>,
-    shape: &Shape<A>,
 ) -> Result<Report<A>, Memory>
-    requires shape { shape.now ≡ sequencer.now.taken.sizes }
     requires done { IsDone sequencer.now }
     requires sequence { IsSequence sequencer.now }
     requires shadows { AreShadowsOf sequencer.now shadows.now }
@@ -55,6 +51,7 @@ fn report_of<A: Allocator + Copy>(
     let divergences = sequencer.divergences()?;
     let unmatched = sequencer.unmatched()?;
     let cut = sequencer.cut()?;
+    let shape = sequencer.shape();
     Ok(Report {
         races: Rows::of(races),
         divergences: Rows::of(divergences),
@@ -102,7 +99,7 @@ fn report_by<A: Allocator + Copy>(
     ensures { IfOk result (λ report. IsReportOf traces.now (whole_of report)) }
 {
     take_traces(sequencer, shadows, traces)?;
-    report_of(sequencer, shadows, traces.shape())
+    report_of(sequencer, shadows)
 }
 
 /// The report of a launch.
@@ -117,7 +114,7 @@ pub fn detect<A: Allocator + Copy>(alloc: A, traces: &Traces<A>) -> Result<Repor
     report_by(&mut sequencer, &mut shadows, traces)
 }
 
-/// What is found of a launch of this shape, of which all was taken and all was handled that can be.
+/// What is found of a launch of which all was taken, and all was handled that can be.
 ///
 /// # Errors
 /// `Memory`: out of memory.
@@ -125,9 +122,7 @@ fn detection_of<A: Allocator + Copy>(
     alloc: A,
     sequencer: &Sequencer<A>,
     shadows: &Shadows<A>,
-    shape: &Shape<A>,
 ) -> Result<Detection<A>, Memory>
-    requires shape { shape.now ≡ sequencer.now.taken.sizes }
     requires done { IsDone sequencer.now }
     requires sequence { IsSequence sequencer.now }
     requires shadows { AreShadowsOf sequencer.now shadows.now }
@@ -135,7 +130,7 @@ fn detection_of<A: Allocator + Copy>(
     ensures races { IfOk result (λ found. ArePairedRaces sequencer.now.taken found.races.items) }
 {
     let races = races_of(alloc, shadows)?;
-    let report = report_of(sequencer, shadows, shape)?;
+    let report = report_of(sequencer, shadows)?;
     Ok(Detection { report, races })
 }
 
@@ -155,7 +150,7 @@ fn detection_by<A: Allocator + Copy>(
     ensures races { IfOk result (λ found. ArePairedRaces traces.now found.races.items) }
 {
     take_traces(sequencer, shadows, traces)?;
-    detection_of(alloc, sequencer, shadows, traces.shape())
+    detection_of(alloc, sequencer, shadows)
 }
 
 /// The report of a launch, and of each racy word two events that race on it.
@@ -172,39 +167,4 @@ pub fn detect_races<A: Allocator + Copy>(
     let mut sequencer = new_sequencer(alloc, traces.shape())?;
     let mut shadows = Shadows::new(alloc);
     detection_by(alloc, &mut sequencer, &mut shadows, traces)
-}
-
-/// The report of the launch that streams are of, by a sequencer that has taken nothing of it, and shadows without accesses.
-///
-/// # Errors
-/// `Memory`: out of memory.
-fn report_of_streams_by<A: Allocator + Copy>(
-    alloc: A,
-    sequencer: &mut Sequencer<A>,
-    shadows: &mut Shadows<A>,
-    launch: &Launch<'_, A>,
-) -> Result<Report<A>, Memory>
-    requires accepted { AreAccepted (streams_of launch.now) }
-    requires nothing { sequencer.old ≡ nothing launch.now.shape }
-    requires shadows { AreShadowsOf sequencer.old shadows.old }
-    ensures { IfOk result (λ report. IsReportOf (streams_of launch.now) (whole_of report)) }
-{
-    take_streams(alloc, sequencer, shadows, launch)?;
-    report_of(sequencer, shadows, &launch.shape)
-}
-
-/// The report of the launch that streams are of.
-///
-/// # Errors
-/// `Memory` where a list can't be made.
-pub(crate) fn detect_streams<A: Allocator + Copy>(
-    alloc: A,
-    launch: &Launch<'_, A>,
-) -> Result<Report<A>, Memory>
-    requires { AreAccepted (streams_of launch.now) }
-    ensures { IfOk result (λ report. IsReportOf (streams_of launch.now) (whole_of report)) }
-{
-    let mut sequencer = new_sequencer(alloc, &launch.shape)?;
-    let mut shadows = Shadows::new(alloc);
-    report_of_streams_by(alloc, &mut sequencer, &mut shadows, launch)
 }

@@ -99,23 +99,6 @@ pub(crate) fn launch_of<'a, A: Allocator + Copy>(
     Ok(Launch { shape, streams })
 }
 
-/// The launch whose streams stand one after another in the bytes.
-///
-/// # Errors
-/// The first fault of the streams from the left, then `MissingGroup`, then `Shape`; `Memory` where a list can't be made.
-pub(crate) fn read_launch<'a, A: Allocator + Copy>(
-    alloc: A,
-    bytes: &'a [u8],
-) -> Result<Launch<'a, A>, Fault>
-    ensures launch { IfOk result (λ l. Reads bytes.now (streams_of l)) }
-    ensures accepted { IfOk result (λ l. AreAccepted (streams_of l)) }
-    ensures fault { IfErr result (λ f. IsReadFault bytes.now f) }
-    ensures values { IfErr result IsOfValues }
-{
-    let streams = read_streams(alloc, bytes)?;
-    launch_of(alloc, streams)
-}
-
 /// The traces of the launch that streams are of, in whatever order they came.
 ///
 /// # Errors

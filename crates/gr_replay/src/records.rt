@@ -6,7 +6,6 @@
 ghost use Rattle.std.specs.Prelude.{◌≡◌, IfOk};
 ghost use Rattle.gr_record.specs.WholeStreams.{Gives, front_records_at};
 
-use crate::cursor::Cursor;
 use gr_model::event::Event;
 use gr_model::memory::Memory;
 use gr_record::error::RecordError;
@@ -44,13 +43,6 @@ impl<'a> Records<'a> {
     {
         let rest = skip_front_records(header, bytes)?;
         Ok((Records { header, bytes }, rest))
-    }
-
-    /// The place before the first record.
-    pub(crate) fn cursor(&self) -> Cursor<'a>
-        ensures { result ≡ self.now }
-    {
-        Cursor::new(self.header, self.bytes)
     }
 
     /// The list of the records.

@@ -7,19 +7,18 @@ ghost use Rattle.gr_replay.specs.Replays.{IsExact, IsReplayFault, WritesPrefix};
 ghost use Rattle.gr_report.specs.ReportText.{report_text};
 ghost use Rattle.gr_report.specs.Whole.{whole_of};
 
-use crate::detect::detect_streams;
-use crate::launch::read_launch;
-use gr_input::read_all;
+use crate::input::take_input;
 use gr_record::fault::Fault;
 use gr_report::report::Report;
 use gr_report::write;
 use std::alloc::Allocator;
 use std::io::{Read, Write};
 
-/// Reads streams to their end, and writes the text of the report on them and nothing else.
+/// Reads streams to their end, and writes the text of the report on them and nothing else. Records are taken as they come; of
+/// the input no more is kept than what waits.
 ///
 /// # Errors
-/// Those of `read_joined`; `Write` where the writer fails, which then has a prefix of the text. In every other case of an
+/// Those of `read_joined`, the first fault of the streams as soon as it is met; `Write` where the writer fails, which then has a prefix of the text. In every other case of an
 /// error nothing is written.
 ///
 /// # Example
@@ -42,9 +41,8 @@ pub fn replay<A: Allocator + Copy, T: Read, W: Write>(
     ensures untouched { IfErr result (λ f. f ≢ faults.Write → Keeps (W.contents writer.old) (W.contents writer.new)) }
     ensures prefix { IfErr result (λ f. f ≡ faults.Write → IfSome (T.remaining reader.old) (λ bytes. WritesPrefix bytes (W.contents writer.old) (W.contents writer.new))) }
 {
-    let bytes = read_all(alloc, reader)?;
-    let launch = read_launch(alloc, bytes.as_slice())?;
-    let report = detect_streams(alloc, &launch)?;
+    let intake = take_input(alloc, reader)?;
+    let report = intake.report()?;
     match write(&report, writer) {
         Ok(()) => Ok(report),
         Err(_) => Err(Fault::Write),

@@ -13,9 +13,11 @@ pub(crate) const MOST_IN_TURN: u32 = 4096;
 #[derive(Clone, Copy, Debug, PartialEq, Eq)]
 pub(crate) struct Turn {
     items: u16,
+    /// How many events were held when it began, of all groups.
+    first: u64,
     /// How many events came to wait since what waits was last looked at.
     waiting: u16,
-    /// How many events were held then, of all groups.
+    /// How many events were held then.
     held: u64,
     /// How many more than before each look were held behind it, in all.
     behind: u64,
@@ -26,6 +28,7 @@ impl Turn {
     pub(crate) fn new(items: u16, held: u64) -> Turn {
         Turn {
             items,
+            first: held,
             waiting: 0,
             held,
             behind: 0,
@@ -55,6 +58,12 @@ impl Turn {
         self.behind = self.behind.saturating_add(held.saturating_sub(self.held));
         self.held = held;
         self.waiting = 0;
+    }
+
+    /// Whether so many events came to wait, and wait still, that those behind them are better kept as bytes: twice as many as
+    /// the group has items, since each item may have come to a barrier with one event behind it.
+    pub(crate) fn is_stuck(&self) -> bool {
+        self.held.saturating_sub(self.first) >= 2 * u64::from(self.items)
     }
 
     /// Whether the group waits for others: as many events of it as it has items.

@@ -22,7 +22,7 @@ fn race(alloc: Global) -> Result<Vec<u8>, AllocError> {
 }
 
 /// The fault of a reader that fails after so many calls, if it is told of one, and what is written.
-fn after_calls(alloc: Global, bytes: &[u8], calls: usize) -> (Option<Fault>, Vec<u8>) {
+pub(crate) fn after_calls(alloc: Global, bytes: &[u8], calls: usize) -> (Option<Fault>, Vec<u8>) {
     let mut reader = FailingReader { bytes, calls };
     let mut text = Vec::new(alloc);
     let fault = replay(alloc, &mut reader, &mut text).err();

@@ -17,3 +17,5 @@ mod long;
 mod orders;
 #[cfg(test)]
 mod reports;
+#[cfg(test)]
+mod waiting;

@@ -49,6 +49,16 @@ impl<A: Allocator> Model for Known<A> {
 }
 
 impl<A: Allocator + Copy> Known<A> {
+    /// What is known where no group has come.
+    pub(crate) fn without_groups(alloc: A) -> Known<A>
+        ensures { IsKnown (nothing_taken []) [] result }
+    {
+        Known {
+            clocks: Clocks::without_groups(alloc),
+            snapshots: IndexMap::new(alloc),
+        }
+    }
+
     /// What is known where nothing was handled.
     pub(crate) fn new(alloc: A, shape: &Shape<A>) -> Result<Known<A>, Memory>
         ensures { IfOk result (IsKnown (nothing_taken shape.now) []) }

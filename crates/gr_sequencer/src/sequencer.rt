@@ -3,7 +3,7 @@
 //! Invariant: each item's clock counts just what the item knows along the order of the handled events, and each handled
 //! release has a snapshot that counts just what is seen at it.
 
-ghost use Rattle.std.specs.Prelude.{◌≡◌, ◌↔◌, ◌+◌, ◌<◌, ℕ, IsTrue, IfOk, IfErr, IfNone, IfSome, OnOk, OnErr, MatchOption, length};
+ghost use Rattle.std.specs.Prelude.{[], ◌≡◌, ◌↔◌, ◌+◌, ◌<◌, ℕ, IsTrue, IfOk, IfErr, IfNone, IfSome, OnOk, OnErr, MatchOption, length};
 ghost use Rattle.gr_model.specs.declared.limits.TheConstants.{MOST_RECORDS};
 ghost use Rattle.gr_model.specs.Groups.{CanAdd};
 ghost use Rattle.gr_model.specs.Streams.{AreComplete, list_of};
@@ -22,6 +22,7 @@ use gr_agenda::agenda::Agenda;
 use gr_findings::{acquires, groups, instances};
 use gr_lanes::seq_error::SeqError;
 use gr_model::event::{Event, EventId, ItemId};
+use gr_model::growing::GrowingShape;
 use gr_model::memory::Memory;
 use gr_model::report::{Divergence, Unmatched};
 use gr_model::shape::Shape;
@@ -62,6 +63,22 @@ impl<A: Allocator + Copy> Sequencer<A> {
     {
         let known = Known::new(alloc, &shape)?;
         let agenda = Agenda::new(alloc, shape)?;
+        Ok(Sequencer {
+            alloc,
+            agenda,
+            known,
+        })
+    }
+
+    /// A sequencer of a launch of which no group has come: they come one after another, by `with_group`.
+    ///
+    /// # Errors
+    /// `Memory`: out of memory.
+    pub fn without_groups(alloc: A) -> Result<Sequencer<A>, Memory>
+        ensures { IfOk result (λ s. s ≡ nothing []) }
+    {
+        let known = Known::without_groups(alloc);
+        let agenda = Agenda::without_groups(alloc)?;
         Ok(Sequencer {
             alloc,
             agenda,
@@ -214,6 +231,14 @@ impl<A: Allocator> Sequencer<A> {
                 Ok(Some(step))
             }
         }
+    }
+
+    /// The sizes of the groups that have come.
+    pub fn shape(&self) -> &GrowingShape<A>
+        ensures sizes { result.now ≡ self.now.taken.sizes }
+        ensures sequence { IsSequence self.now }
+    {
+        self.agenda.order().lanes().shape()
     }
 
     /// How many records were taken of a group; 0 of one that is not there.

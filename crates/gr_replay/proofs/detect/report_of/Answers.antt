@@ -3,7 +3,7 @@ use Rattle.gr_replay.proofs.Reporting.{races_are_listed}
 use Rattle.gr_replay.proofs.detect.report_of.Goals as goal
 
 pub records_of-requires-clause-groups : goal.records_of-requires-clause-groups
-records_of-requires-clause-groups g c = c.groups-2.ensures.count ∙ (ap length c.requires.shape ∙ sym c.requires.sequence.prefixes.count)
+records_of-requires-clause-groups g c = c.groups-2.ensures.count ∙ (ap length c.shape-shape.ensures.sizes ∙ sym c.requires.sequence.prefixes.count)
 
 pub returns : goal.returns
 returns g c =
@@ -14,8 +14,8 @@ returns g c =
         unmatched = rw c.of-3.ensures c.in_ok-unmatched.ensures;
         cut = rw c.of-4.ensures c.in_ok-cut.ensures;
         held = c.held.ensures.held c.requires.done.rest;
-        groups = c.groups.ensures.count ∙ ap length c.requires.shape;
-        items = c.total.ensures.total ∙ ap sum c.requires.shape;
+        groups = c.groups.ensures.count ∙ ap length c.shape-shape.ensures.sizes;
+        items = c.total.ensures.total ∙ ap sum c.shape-shape.ensures.sizes;
         records = c.records_of.ensures;
       };
       races = rw c.of.ensures (races_are_listed q.taken q c.args.shadows.now c.in_ok-races.races.items refl c.requires.done c.requires.sequence c.requires.shadows c.in_ok-races.ensures);

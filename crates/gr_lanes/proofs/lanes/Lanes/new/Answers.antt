@@ -1,5 +1,6 @@
 use Rattle.std.proofs.Common.{◌≡◌, ◌∙◌, ◌<◌, ℕ, List, map, take, sym, ap, subst, arith, length}
 use Rattle.std.proofs.lemmas.List.{take_all}
+use Rattle.gr_model.proofs.GroupLaws.{part_of_shape}
 use Rattle.gr_lanes.specs.Indices.{AreGroups, taken_of}
 use Rattle.gr_lanes.specs.Takes.{nothing_taken}
 use Rattle.gr_lanes.proofs.GroupLemmas.{empty, nothing_groups, nothing_is, one_group_more}
@@ -13,7 +14,7 @@ loop-group-preserved g c =
 pub invariant_of-result : goal.invariant_of-result
 invariant_of-result g c =
     let whole : take c.loop-group.group c.args.shape ≡ c.args.shape = take_all c.loop-group.group c.args.shape (omega (arith, c.groups-group-end.ensures.count)) in
-    subst (λ (l : List ℕ). AreGroups l c.loop-group.groups.items) (sym c.of-shape.ensures) (nothing_groups c.args.shape c.loop-group.groups.items c.groups-group-end.ensures.shape (c.loop-group.invariant ∙ ap (map empty) whole))
+    subst (λ (l : List ℕ). AreGroups l c.loop-group.groups.items) (sym c.of-shape.ensures) (nothing_groups c.args.shape c.loop-group.groups.items (part_of_shape c.args.shape c.groups-group-end.ensures.shape) (c.loop-group.invariant ∙ ap (map empty) whole))
 
 pub returns-clause-nothing : goal.returns-clause-nothing
 returns-clause-nothing g c =

@@ -1,0 +1,75 @@
+-- An input that is read piece by piece.
+use Rattle.std.proofs.Common.{◌≡◌, ℕ, ◌<◌, List, [], ◌++◌, length, Option, None, Some, Result, Ok, Err, refl, sym, ap, ◌∙◌, subst, append_assoc, append-nil, arith}
+use Rattle.std.specs.Prelude.{IfErr, IfOk, IfSome, IsErrAnd}
+use Rattle.std.specs.Io.KnownBytes.{Consumes}
+use Rattle.gr_record.specs.declared.fault.Fault.{Fault}
+use Rattle.gr_record.specs.declared.fault.Fault.TheVariants as faults
+use Rattle.gr_record.specs.Faults.{IsOfReading, IsOfValues}
+use Rattle.gr_input.specs.Faults.{Fails}
+use Rattle.gr_input.proofs.Outside.{at_any}
+use Rattle.gr_replay.specs.declared.intake.Intake.{Intake}
+use Rattle.gr_replay.specs.declared.open.Open.{Open}
+use Rattle.gr_replay.specs.Intakes.{Moves, behind, come, coming_in, read_behind, unit_at, unit_of}
+use Rattle.gr_replay.specs.Joined.{Flat, joined_of}
+use Rattle.gr_replay.specs.Waiting.{Coming}
+use Rattle.gr_replay.proofs.Comings.{between}
+
+-- ---- nothing was read
+
+pub nothing_came : {Z : Type 0} (i : Intake Z) → i.streams.items ≡ [] → i.current ≡ None → (bytes : List ℕ) → joined_of bytes ≡ behind i bytes
+nothing_came i empty none bytes =
+    sym (between i none bytes ∙ ap (λ (cs : List Coming). read_behind (come i.sequencer.taken cs) None bytes) empty)
+
+pub header_is_next : {Z : Type 0} (i : Intake Z) → i.current ≡ None → 0 < unit_of i
+header_is_next i none = subst (λ (o : Option (Open _)). 0 < unit_at (coming_in o)) (sym none) (omega arith)
+
+-- ---- what was read so far
+
+-- the bytes that were read stand for what was taken of them and what is held
+abbrev pub StandsSoFar : {Z : Type 0} → Intake Z → List ℕ → List ℕ → Type 0
+StandsSoFar i held bytes = (more : List ℕ) → joined_of (bytes ++ more) ≡ behind i (held ++ more)
+
+-- a piece more was read
+pub piece_more : {Z : Type 0} (i : Intake Z) (held bytes piece : List ℕ) → StandsSoFar i held bytes → StandsSoFar i (held ++ piece) (bytes ++ piece)
+piece_more i held bytes piece so_far = λ more. ap joined_of (append_assoc bytes piece more) ∙ (so_far (piece ++ more) ∙ ap (behind i) (sym (append_assoc held piece more)))
+
+-- and taken
+pub piece_taken : {Z : Type 0} (i j : Intake Z) (held left bytes : List ℕ) → StandsSoFar i held bytes → Moves i held j left → StandsSoFar j left bytes
+piece_taken i j held left bytes so_far moves = λ more. so_far more ∙ moves.goes more
+
+-- nothing more comes
+pub all_read : {Z : Type 0} (i : Intake Z) (held bytes : List ℕ) → StandsSoFar i held bytes → joined_of bytes ≡ behind i held
+all_read i held bytes so_far = ap joined_of (sym (append-nil bytes)) ∙ (so_far [] ∙ ap (behind i) (append-nil held))
+
+-- what holds of all bytes behind those that were read holds of what the reader had
+pub at_consumed : (old new : Option (List ℕ)) (bytes : List ℕ) (P : List ℕ → Type 0) → Consumes old new bytes → ((more : List ℕ) → P (bytes ++ more)) → IfSome old P
+at_consumed None new bytes P consumes all = tt
+at_consumed (Some xs) None bytes P consumes all = absurd consumes
+at_consumed (Some xs) (Some ys) bytes P consumes all = subst P (sym consumes) (all ys)
+
+-- ---- answers
+
+pub if_ok : {X Y : Type 0} (P Q : X → Type 0) (r : Result X Y) → IfOk r P → ((x : X) → P x → Q x) → IfOk r Q
+if_ok P Q (Ok x) p go = go x p
+if_ok P Q (Err e) p go = tt
+
+pub if_err : {X Y : Type 0} (P Q : Y → Type 0) (r : Result X Y) → IfErr r P → ((y : Y) → P y → Q y) → IfErr r Q
+if_err P Q (Ok x) p go = tt
+if_err P Q (Err e) p go = go e p
+
+-- ---- refusals that no input determines
+
+pub memory_fails : {R : Type 0} (result : Result R Fault) (known : Option (List ℕ)) → IsErrAnd result (λ f. f ≡ faults.Memory) → IfErr result (λ f. IfSome known (λ bytes. Fails f (joined_of bytes)))
+memory_fails (Ok x) known is = tt
+memory_fails (Err f) known is = subst (λ (x : Fault). IfSome known (λ bytes. Fails x (joined_of bytes))) (sym is) (at_any known (λ bytes. Fails faults.Memory (joined_of bytes)) (λ xs. tt))
+
+pub memory_is_of_reading : {R : Type 0} (result : Result R Fault) → IsErrAnd result (λ f. f ≡ faults.Memory) → IfErr result IsOfReading
+memory_is_of_reading (Ok x) is = tt
+memory_is_of_reading (Err f) is = subst IsOfReading (sym is) (λ same. cc, λ same. cc)
+
+pub values_are_of_reading : (f : Fault) → IsOfValues f → IsOfReading f
+values_are_of_reading f is = (is.1, is.2)
+
+pub if_some : {X : Type 0} (P Q : X → Type 0) (o : Option X) → IfSome o P → ((x : X) → P x → Q x) → IfSome o Q
+if_some P Q None p go = tt
+if_some P Q (Some x) p go = go x p

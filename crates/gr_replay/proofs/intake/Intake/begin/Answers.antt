@@ -1,0 +1,76 @@
+use Rattle.std.proofs.Common.{◌≡◌, ◌∷◌, ◌++◌, [], ℕ, false, true, List, Err, None, Some, ap, sym, subst, ◌∙◌, length, refl, arith}
+use Rattle.std.specs.Prelude.{not, ◌==◌}
+use Rattle.std.specs.List.{list_any}
+use Rattle.std.proofs.lemmas.List.{length-map}
+use Rattle.gr_record.specs.declared.fault.Fault.TheVariants.{OtherLaunch, SameGroup}
+use Rattle.gr_record.specs.declared.header.Header.{Header}
+use Rattle.gr_order.specs.Sequences.{Sequence, with_group}
+use Rattle.gr_replay.specs.Intakes.{IsRead, behind, come, come_of, read_behind}
+use Rattle.gr_replay.specs.Joined.{Flat}
+use Rattle.gr_replay.specs.Waiting.{Coming}
+use Rattle.gr_replay.proofs.Behind.{other_launch_refused, same_group_refused, stream_begins}
+use Rattle.gr_replay.proofs.Comings.{any_come, apart_of, begins, between, may_come, none_come, none_goes_on, whole_stay}
+use Rattle.gr_replay.proofs.intake.Intake.begin.Goals as goal
+
+pub returns-then-has_group-clause-fault : goal.returns-then-has_group-clause-fault
+returns-then-has_group-clause-fault g c = λ unit more all is.
+    let s = c.args.self.sequencer.taken in
+    let cs = c.args.self.streams.items in
+    let h = c.args.header in
+    let same : list_any (λ f. f.header.group == h.group) (come s cs) ≡ true = any_come (λ x. x.group == h.group) s cs ∙ (ap (λ (xs : List Coming). list_any (λ x. x.header.group == h.group) xs) (sym c.deref.ensures.value) ∙ (sym c.has_group.ensures ∙ c.if-has_group.true)) in
+    let place : length (come s cs) ≡ c.len-place.result = omega (arith, length-map cs (come_of s), c.len-place.ensures, c.args.self.streams.ok.0) in
+    between c.args.self c.requires.none (unit ++ more) ∙ (same_group_refused (come s cs) unit more all h is same ∙ ap (λ n. Err (SameGroup n)) place)
+
+pub returns-then-has_other_launch-clause-fault : goal.returns-then-has_other_launch-clause-fault
+returns-then-has_other_launch-clause-fault g c = λ unit more all is.
+    let s = c.args.self.sequencer.taken in
+    let cs = c.args.self.streams.items in
+    let h = c.args.header in
+    let other : list_any (λ f. f.header.group == h.group) (come s cs) ≡ false = any_come (λ x. x.group == h.group) s cs ∙ (ap (λ (xs : List Coming). list_any (λ x. x.header.group == h.group) xs) (sym c.deref.ensures.value) ∙ (sym c.has_group.ensures ∙ c.if-has_group.false)) in
+    let launch : list_any (λ f. not (f.header.launch == h.launch)) (come s cs) ≡ true = any_come (λ x. not (x.launch == h.launch)) s cs ∙ (ap (λ (xs : List Coming). list_any (λ x. not (x.header.launch == h.launch)) xs) (sym c.deref-2.ensures.value) ∙ (sym c.has_other_launch.ensures ∙ c.if-has_other_launch.true)) in
+    let place : length (come s cs) ≡ c.len-place.result = omega (arith, length-map cs (come_of s), c.len-place.ensures, c.args.self.streams.ok.0) in
+    between c.args.self c.requires.none (unit ++ more) ∙ (other_launch_refused (come s cs) unit more all h is other launch ∙ ap (λ n. Err (OtherLaunch n)) place)
+
+pub with_group-requires : goal.with_group-requires
+with_group-requires g c =
+    let h = c.args.header in
+    let fresh = ap (λ (xs : List Coming). list_any (λ x. x.header.group == h.group) xs) (sym c.deref.ensures.value) ∙ (sym c.has_group.ensures ∙ c.if-has_group.false) in
+    may_come c.args.self.sequencer c.args.self.shadows c.args.self.streams.items h (none_goes_on c.args.self c.requires.none c.requires.intake) c.requires.header (apart_of h.group c.args.self.streams.items fresh)
+
+pub returns-clause-intake : goal.returns-clause-intake
+returns-clause-intake g c =
+    let s = c.args.self.sequencer.taken in
+    let cs = c.args.self.streams.items in
+    let h = c.args.header in
+    let read = none_goes_on c.args.self c.requires.none c.requires.intake in
+    let fresh = ap (λ (xs : List Coming). list_any (λ x. x.header.group == h.group) xs) (sym c.deref.ensures.value) ∙ (sym c.has_group.ensures ∙ c.if-has_group.false) in
+    let other : list_any (λ f. f.header.group == h.group) (come s cs) ≡ false = any_come (λ x. x.group == h.group) s cs ∙ fresh in
+    let launch : list_any (λ f. not (f.header.launch == h.launch)) (come s cs) ≡ false = any_come (λ x. not (x.launch == h.launch)) s cs ∙ (ap (λ (xs : List Coming). list_any (λ x. not (x.header.launch == h.launch)) xs) (sym c.deref-2.ensures.value) ∙ (sym c.has_other_launch.ensures ∙ c.if-has_other_launch.false)) in
+    let apart = apart_of h.group cs fresh in
+    let is = begins c.args.self.sequencer c.args.self.shadows cs h read c.requires.header apart other launch in
+    let none = none_come c.args.self.sequencer c.args.self.shadows cs h read c.requires.header apart in
+    let new = c.in-Ok.sequencer in (
+      subst (λ (q : Sequence). IsRead q c.args.self.shadows cs (Some c.new-current.result.backlog)) (sym c.in-Ok.ensures)
+          (subst (λ (b : Coming). IsRead (with_group c.args.self.sequencer h.group h.items) c.args.self.shadows cs (Some b)) (sym c.new-current.ensures.backlog) is),
+      record {
+        count = c.new-current.ensures.count ∙ sym (ap (λ (f : Flat). length f.events) (ap (come_of new.taken) c.new-current.ensures.backlog ∙ (ap (λ (q : Sequence). come_of q.taken (record { header = h; waiting = [] })) c.in-Ok.ensures ∙ none)));
+        waits = λ off. ap (λ (b : Coming). b.waiting) c.new-current.ensures.backlog;
+      },
+    )
+
+pub returns-clause-goes : goal.returns-clause-goes
+returns-clause-goes g c = λ unit more all is.
+    let s = c.args.self.sequencer.taken in
+    let cs = c.args.self.streams.items in
+    let h = c.args.header in
+    let read = none_goes_on c.args.self c.requires.none c.requires.intake in
+    let fresh = ap (λ (xs : List Coming). list_any (λ x. x.header.group == h.group) xs) (sym c.deref.ensures.value) ∙ (sym c.has_group.ensures ∙ c.if-has_group.false) in
+    let other : list_any (λ f. f.header.group == h.group) (come s cs) ≡ false = any_come (λ x. x.group == h.group) s cs ∙ fresh in
+    let launch : list_any (λ f. not (f.header.launch == h.launch)) (come s cs) ≡ false = any_come (λ x. not (x.launch == h.launch)) s cs ∙ (ap (λ (xs : List Coming). list_any (λ x. not (x.header.launch == h.launch)) xs) (sym c.deref-2.ensures.value) ∙ (sym c.has_other_launch.ensures ∙ c.if-has_other_launch.false)) in
+    let apart = apart_of h.group cs fresh in
+    let new = c.in-Ok.sequencer in
+    let none = ap (come_of new.taken) c.new-current.ensures.backlog ∙ (ap (λ (q : Sequence). come_of q.taken (record { header = h; waiting = [] })) c.in-Ok.ensures ∙ none_come c.args.self.sequencer c.args.self.shadows cs h read c.requires.header apart) in
+    let stay = ap (λ (q : Sequence). come q.taken cs) c.in-Ok.ensures ∙ whole_stay c.args.self.sequencer c.args.self.shadows cs h read c.requires.header apart in
+    between c.args.self c.requires.none (unit ++ more)
+    ∙ (stream_begins (come s cs) unit more all h is other launch
+    ∙ (ap (λ (f : Flat). read_behind (come s cs) (Some f) more) (sym none) ∙ ap (λ (seen : List Flat). read_behind seen (Some (come_of new.taken c.new-current.result.backlog)) more) (sym stay)))

@@ -1,0 +1,120 @@
+//! What waits of a stream, in pieces, so that memory is given back piece by piece.
+//!
+//! Invariant: the pieces are of the stream's header, and nothing waits in those before the one that is read.
+
+ghost use Rattle.std.specs.Prelude.{◌≡◌, ◌⊎◌, ◌+◌, ◌<◌, ◌++◌, ◌∷◌, [], IfOk, IsTrue, MatchOption, Ok, OnErr, OnOk, length};
+ghost use Rattle.gr_model.specs.declared.event.Event.{Event as AnyEvent};
+ghost use Rattle.gr_record.specs.Reading.{event_at};
+ghost use Rattle.gr_record.specs.Versions.{record_length};
+ghost use Rattle.gr_replay.specs.Waiting.{with_waiting};
+
+use crate::piece::Piece;
+use gr_model::event::Event;
+use gr_model::memory::Memory;
+use gr_record::header::Header;
+use std::alloc::{Allocator, Global};
+use std::marker::Model;
+
+/// The records of a stream that have come and were not taken, as bytes. Contracts see the stream's header and the records.
+#[derive(Drop)]
+#[derive_where(Debug)]
+pub(crate) struct Backlog<A: Allocator = Global> {
+    #[derive_where(skip)]
+    alloc: A,
+    header: Header,
+    pieces: Vec<Piece<A>, A>,
+    /// The piece that is read.
+    first: usize,
+}
+
+impl<A: Allocator> Model for Backlog<A> {
+    ghost use Rattle.std.specs.List.{flat_map};
+    ghost use Rattle.gr_replay.specs.Waiting.{ArePieces, Coming};
+
+    ghost Value = { Coming };
+
+    ghost view = { λ b. record { header = b.header; waiting = flat_map (λ p. p.waiting) b.pieces.items } };
+
+    ghost invariant = { λ b. ArePieces b.header b.pieces.items b.first };
+}
+
+/// Whether the last of the pieces has room for one more record.
+fn has_room<A: Allocator>(pieces: &[Piece<A>]) -> bool
+    ensures { IsTrue result → 0 < length pieces.now }
+{
+    match pieces.last() {
+        None => false,
+        Some(piece) => piece.has_room(),
+    }
+}
+
+/// The place of the last of the pieces, which has room for one more record.
+///
+/// # Errors
+/// `Memory`: out of memory.
+fn last_with_room<A: Allocator>(
+    alloc: A,
+    header: Header,
+    pieces: &mut Vec<Piece<A>, A>,
+) -> Result<usize, Memory>
+    ensures place { IfOk result (λ p. p + 1 ≡ length pieces.new.items) }
+    ensures grown { OnOk result ((pieces.new.items ≡ pieces.old.items) ⊎ (pieces.new.items ≡ pieces.old.items ++ record { header = header; waiting = [] } ∷ [])) }
+    ensures unchanged { OnErr result (pieces.new.items ≡ pieces.old.items) }
+{
+    if !has_room(pieces) {
+        let piece = Piece::new(alloc, header)?;
+        pieces.push(piece)?;
+    }
+    Ok(pieces.len() - 1)
+}
+
+impl<A: Allocator + Copy> Backlog<A> {
+    /// What waits of a stream of which nothing has come.
+    pub(crate) fn new(alloc: A, header: Header) -> Backlog<A>
+        ensures { result ≡ record { header = header; waiting = [] } }
+    {
+        Backlog {
+            alloc,
+            header,
+            pieces: Vec::new(alloc),
+            first: 0,
+        }
+    }
+
+    /// Adds the bytes of the next record, which has no fault.
+    ///
+    /// # Errors
+    /// `Memory`: out of memory.
+    pub(crate) fn push(&mut self, bytes: &[u8]) -> Result<(), Memory>
+        requires length { length bytes.now ≡ record_length self.old.header.version }
+        requires good { (e : AnyEvent) × (event_at self.old.header bytes.now ≡ Ok e) }
+        ensures { OnOk result ((e : AnyEvent) → event_at self.old.header bytes.now ≡ Ok e → self.new ≡ with_waiting self.old e) }
+    {
+        let last = last_with_room(self.alloc, self.header, &mut self.pieces)?;
+        self.first = self.first.min(last);
+        self.pieces[last].push(bytes)?;
+        Ok(())
+    }
+}
+
+impl<A: Allocator> Backlog<A> {
+    /// The header of the stream.
+    pub(crate) fn header(&self) -> Header
+        ensures { result ≡ self.now.header }
+    {
+        self.header
+    }
+
+    /// The next record, or `None` where none waits.
+    pub(crate) fn next(&mut self) -> Option<Event>
+        ensures { MatchOption result ((self.old.waiting ≡ []) × (self.new ≡ self.old)) (λ e. self.old ≡ record { header = self.new.header; waiting = e ∷ self.new.waiting }) }
+    {
+        while self.first < self.pieces.len() {
+            if let Some(event) = self.pieces[self.first].next() {
+                return Some(event);
+            }
+            self.first += 1;
+        }
+        None
+    }
+}
