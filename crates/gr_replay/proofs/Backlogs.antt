@@ -1,8 +1,7 @@
 -- Records that wait as bytes: one more, and the first of them.
-use Rattle.std.proofs.Common.{◌≡◌, ◌⊎◌, ℕ, zero, suc, ◌+◌, ◌-◌, ◌<◌, ◌≤◌, List, [], ◌∷◌, ◌++◌, length, map, take, drop, get_or, set, All, Result, Ok, Err, refl, sym, ap, ◌∙◌, subst, arith, inl, inr, append-nil, append_assoc}
+use Rattle.std.proofs.Common.{◌≡◌, ◌⊎◌, ℕ, zero, suc, ◌+◌, ◌-◌, ◌<◌, ◌≤◌, List, [], ◌∷◌, ◌++◌, length, take, drop, get_or, set, Result, Ok, refl, sym, ap, ◌∙◌, subst, arith, inl, inr, append-nil, append_assoc}
 use Rattle.std.specs.List.{flat_map}
-use Rattle.std.proofs.lemmas.Bool.{cases_lt, cases_eq}
-use Rattle.std.proofs.lemmas.List.{take_all, take_at, drop_at, drop-drop, length-append, length-drop, take-append-le, drop-append-le, get_or-set_other, get_or_append_left, length-set}
+use Rattle.std.proofs.lemmas.List.{take_all, take_at, drop_at, length-append, length-drop, take-append-le, drop-append-le, get_or-set_other, get_or_append_left, length-set}
 use Rattle.std.proofs.lemmas.List.Elements.{All-push, All-set}
 use Rattle.gr_model.specs.declared.event.Event.{Event}
 use Rattle.gr_record.specs.declared.error.RecordError.{RecordError}
@@ -11,7 +10,7 @@ use Rattle.gr_record.specs.declared.header.Version.{Version}
 use Rattle.gr_record.specs.declared.header.Version.TheVariants.{One, Two}
 use Rattle.gr_record.specs.Reading.{event_at}
 use Rattle.gr_record.specs.Versions.{record_length}
-use Rattle.gr_replay.specs.Waiting.{AreStanding, ArePieces, Coming, event_in, standing, with_waiting}
+use Rattle.gr_replay.specs.Waiting.{AreStanding, ArePieces, Coming, event_in, standing}
 
 -- a stream with what waits of it
 abbrev pub coming : Header → List Event → Coming

@@ -1,16 +1,16 @@
 -- Streams as far as they have come, where a stream begins, a record comes, and a stream ends.
-use Rattle.std.proofs.Common.{◌≡◌, ◌≢◌, ◌⊎◌, ℕ, zero, suc, ◌+◌, ◌*◌, ◌<◌, ◌≤◌, Bool, true, false, true≢false, List, [], ◌∷◌, ◌++◌, length, map, get_or, set, slice_index, sum, All, Contains, IsTrue, Option, Some, None, Ok, Err, refl, sym, ap, ◌∙◌, subst, arith, inl, inr, ⊎_elim, append-nil, append_assoc, eqb-true}
+use Rattle.std.proofs.Common.{◌≡◌, ◌≢◌, ◌⊎◌, ℕ, zero, suc, ◌+◌, ◌*◌, ◌<◌, ◌≤◌, Bool, true, false, true≢false, List, [], ◌∷◌, ◌++◌, length, slice_index, sum, All, Contains, Option, Some, None, Ok, Err, refl, sym, ap, ◌∙◌, subst, arith, inl, inr, ⊎_elim, append-nil, append_assoc}
 use Rattle.std.specs.Prelude.{not, ◌==◌, ◌||◌, option_map}
 use Rattle.std.specs.List.{list_any}
-use Rattle.std.proofs.lemmas.Bool.{cases_eq, cases_lt, eqb-false, or_parts}
+use Rattle.std.proofs.lemmas.Bool.{cases_lt, eqb-false, or_parts}
 use Rattle.std.proofs.lemmas.List.{get_or-set_other, get_or-set_same, get_or_append_left, length-append, map-append}
 use Rattle.std.proofs.lemmas.List.Sums.{sum_by-cons}
 use Rattle.gr_model.specs.declared.event.Event.{Event}
-use Rattle.gr_model.specs.declared.limits.TheConstants.{MOST_GROUPS, MOST_ITEMS, MOST_ITEMS_OF_A_GROUP, MOST_RECORDS}
+use Rattle.gr_model.specs.declared.limits.TheConstants.{MOST_ITEMS_OF_A_GROUP, MOST_RECORDS}
 use Rattle.gr_model.specs.Events.{IsEventOk, is_end}
 use Rattle.gr_model.specs.Groups.{CanAdd, put, with_group}
 use Rattle.gr_model.specs.Shapes.{IsPartOfShape}
-use Rattle.gr_model.specs.Streams.{ArePrefixes, IsAccepted, Streams, is_complete, list_of, size_of}
+use Rattle.gr_model.specs.Streams.{Streams, is_complete, list_of, size_of}
 use Rattle.gr_model.proofs.GroupLaws.{group_grows, list_stays, nothing_came, part_of_none, prefixes_with_group}
 use Rattle.gr_steps.proofs.Orders.{lawful_empty}
 use Rattle.gr_hits.proofs.Growing.{accesses_stay}

@@ -1,5 +1,5 @@
 -- An input that is read piece by piece.
-use Rattle.std.proofs.Common.{◌≡◌, ℕ, ◌<◌, List, [], ◌++◌, length, Option, None, Some, Result, Ok, Err, refl, sym, ap, ◌∙◌, subst, append_assoc, append-nil, arith}
+use Rattle.std.proofs.Common.{◌≡◌, ℕ, ◌<◌, List, [], ◌++◌, Option, None, Some, Result, Ok, Err, sym, ap, ◌∙◌, subst, append_assoc, append-nil, arith}
 use Rattle.std.specs.Prelude.{IfErr, IfOk, IfSome, IsErrAnd}
 use Rattle.std.specs.Io.KnownBytes.{Consumes}
 use Rattle.gr_record.specs.declared.fault.Fault.{Fault}
@@ -10,7 +10,7 @@ use Rattle.gr_input.proofs.Outside.{at_any}
 use Rattle.gr_replay.specs.declared.intake.Intake.{Intake}
 use Rattle.gr_replay.specs.declared.open.Open.{Open}
 use Rattle.gr_replay.specs.Intakes.{Moves, behind, come, coming_in, read_behind, unit_at, unit_of}
-use Rattle.gr_replay.specs.Joined.{Flat, joined_of}
+use Rattle.gr_replay.specs.Joined.{joined_of}
 use Rattle.gr_replay.specs.Waiting.{Coming}
 use Rattle.gr_replay.proofs.Comings.{between}
 

@@ -1,7 +1,7 @@
 -- What a sequencer has taken of a launch, list after list.
 use Rattle.std.proofs.Common.{◌≡◌, ℕ, zero, suc, ◌+◌, ◌<◌, ◌≤◌, List, [], ◌∷◌, ◌++◌, length, map, get_or, set, take, drop, IsTrue, refl, sym, ap, ◌∙◌, subst, ⊎_elim, arith, eq-or-lt_of_le}
 use Rattle.std.proofs.lemmas.Bool.{cases_lt}
-use Rattle.std.proofs.lemmas.List.{ext_get_or, get_or-set_other, get_or-map, get_or-set_same, length-map, length-set, length-take-le, set-get_or, take_more, get_or_past, length-drop, take-append-drop}
+use Rattle.std.proofs.lemmas.List.{ext_get_or, get_or-set_other, get_or-set_same, length-map, length-set, length-take-le, set-get_or, take_more, get_or_past, length-drop, take-append-drop}
 use Rattle.std.proofs.lemmas.Option.{slice_get-get_or}
 use Rattle.gr_model.specs.declared.event.Event.{Event}
 use Rattle.gr_model.specs.declared.limits.TheConstants.{MOST_RECORDS}
@@ -16,7 +16,6 @@ use Rattle.gr_lanes.proofs.Growth.{record_grows}
 use Rattle.gr_order.specs.Sequences.{IsSequence, Sequence, nothing, taking}
 use Rattle.gr_hits.proofs.Growing.{accesses_stay}
 use Rattle.gr_shadow.specs.Kept.{Kept}
-use Rattle.gr_replay.specs.declared.joined.Stream.{Stream}
 use Rattle.gr_replay.specs.Sequencing.{AreShadowsOf, with_list}
 
 pub set_twice : {X : Type 0} (xs : List X) (i : ℕ) (a b : X) → set (set xs i a) i b ≡ set xs i b
@@ -141,10 +140,6 @@ pub all_are_taken : (s : Streams) (bound : ℕ) (t : Streams) → length s.lists
 all_are_taken s bound t all h =
     let lists : t.lists ≡ s.lists = ext_get_or [] t.lists s.lists h.count (λ g lt. h.before g (omega (arith, h.count, all))) in
     λ k. record { sizes = h.sizes k; lists = lists k }
-
--- the list of a group, of streams that stand by their groups
-pub stream_list : (xs : List Stream) (g i : ℕ) (x : Stream) → i ≡ g → g < length xs → x ≡ get_or xs i x → x.events ≡ get_or (map (λ s. s.events) xs) g []
-stream_list xs g i x same lt is = ap (λ (s : Stream). s.events) (is ∙ ap (λ n. get_or xs n x) same) ∙ sym (get_or-map (λ (s : Stream). s.events) xs g x [] lt)
 
 -- the list of the next group is one that may be taken
 pub accepted_at : (s : Streams) (g : ℕ) (t : Streams) → AreAccepted s → g < length s.sizes → TakenBelow s g t → IsAccepted (size_of t g) (list_of s g)

@@ -290,6 +290,7 @@ impl<A: Allocator> Known<A> {
     ///
     /// # Errors
     /// `Memory`: out of memory. What is known is then as before.
+    #[inline(always)]
     pub(crate) fn handle_at_once(
         &mut self,
         order: &Order<A>,

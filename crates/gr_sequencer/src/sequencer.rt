@@ -151,6 +151,7 @@ impl<A: Allocator> Sequencer<A> {
     /// # Errors
     /// The first of `UnknownGroup`, `AfterEnd` with the group, `UnknownItem` and `Memory` that is there. Nothing is then
     /// taken.
+    #[inline(always)]
     pub fn take(&mut self, group: u16, event: Event) -> Result<(), SeqError>
         requires good { IsEventButItem event }
         requires room { length (list_of self.old.taken group) < MOST_RECORDS }

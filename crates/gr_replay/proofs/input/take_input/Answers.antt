@@ -1,12 +1,9 @@
-use Rattle.std.proofs.Common.{◌≡◌, ◌<◌, ◌++◌, [], ℕ, List, Ok, Err, ap, sym, subst, ◌∙◌, length, take, arith}
-use Rattle.std.specs.Prelude.{IfSome}
+use Rattle.std.proofs.Common.{◌≡◌, ◌<◌, ◌++◌, [], ℕ, List, Ok, ap, sym, subst, ◌∙◌, length, take, arith}
 use Rattle.std.proofs.lemmas.Result.{err_from_is_err_and}
 use Rattle.gr_input.specs.Faults.{Fails}
 use Rattle.gr_input.proofs.Consuming.{Consumes-end, Consumes-none, Consumes-then}
 use Rattle.gr_input.proofs.Outside.{at_any, at_known, fails}
-use Rattle.gr_record.specs.declared.fault.Fault.{Fault}
-use Rattle.gr_replay.specs.declared.intake.Intake.{Intake}
-use Rattle.gr_replay.specs.Intakes.{Moves, behind, come, unit_of}
+use Rattle.gr_replay.specs.Intakes.{behind, come, unit_of}
 use Rattle.gr_replay.specs.Joined.{joined_of}
 use Rattle.gr_replay.proofs.Inputs.{StandsSoFar, all_read, at_consumed, header_is_next, if_err, if_ok, memory_fails, memory_is_of_reading, nothing_came, piece_more, piece_taken, values_are_of_reading}
 use Rattle.gr_replay.proofs.input.take_input.Goals as goal

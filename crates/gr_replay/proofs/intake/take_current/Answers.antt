@@ -1,9 +1,8 @@
-use Rattle.std.proofs.Common.{◌≡◌, ◌<◌, ◌∷◌, ◌++◌, [], ℕ, List, Bool, Some, None, ap, sym, subst, ◌∙◌, length, arith, false, true}
+use Rattle.std.proofs.Common.{◌≡◌, ◌∷◌, ◌++◌, [], ℕ, List, Bool, Some, None, ap, sym, subst, ◌∙◌, length, arith, false}
 use Rattle.std.proofs.lemmas.List.{length-append}
 use Rattle.std.proofs.lemmas.Result.{err_from_is_err_and}
 use Rattle.gr_input.specs.Faults.{Fails}
-use Rattle.gr_record.specs.Faults.{IsOfValues}
-use Rattle.gr_replay.specs.Intakes.{IsRead, Stays, come, come_of, read_behind, read_on}
+use Rattle.gr_replay.specs.Intakes.{IsRead, come, come_of, read_behind, read_on}
 use Rattle.gr_replay.specs.Waiting.{Coming}
 use Rattle.gr_replay.proofs.intake.take_current.Goals as goal
 

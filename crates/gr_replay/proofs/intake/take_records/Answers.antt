@@ -1,8 +1,7 @@
-use Rattle.std.proofs.Common.{◌≡◌, ◌≢◌, ◌≤◌, ◌<◌, ◌∷◌, ◌++◌, [], ℕ, Contains, List, Some, None, Err, Ok, ap, sym, subst, ◌∙◌, length, refl, arith, take, drop, append_assoc, false, true}
+use Rattle.std.proofs.Common.{◌≡◌, ◌<◌, ◌++◌, ℕ, Contains, List, Some, None, ap, sym, subst, ◌∙◌, length, refl, arith, drop, append_assoc}
 use Rattle.std.proofs.lemmas.List.{drop_at, length-append, length-map, length-take-le}
 use Rattle.gr_input.specs.Faults.{Fails}
 use Rattle.gr_model.specs.declared.limits.TheConstants.{MOST_RECORDS}
-use Rattle.gr_model.specs.Events.{is_end}
 use Rattle.gr_record.specs.Faults.{stream_fault}
 use Rattle.gr_record.specs.declared.header.Header.{Header}
 use Rattle.gr_record.specs.Laws.{AreBytes}
@@ -11,7 +10,7 @@ use Rattle.gr_record.proofs.Found.{read_is_spelled}
 use Rattle.gr_record.proofs.FoundPrefixes.{bytes_take}
 use Rattle.gr_record.proofs.Loop as loop
 use Rattle.gr_record.proofs.Places.{bytes_drop}
-use Rattle.gr_replay.specs.Intakes.{come, come_of, headers_of, next_event_at, read_behind, with_event}
+use Rattle.gr_replay.specs.Intakes.{come, come_of, headers_of, next_event_at, read_behind}
 use Rattle.gr_replay.specs.Joined.{Flat}
 use Rattle.gr_replay.proofs.Behind.{next_failed, next_found, split_more, split_whole, stream_ends, stream_goes_on}
 use Rattle.gr_replay.proofs.Comings.{closes, contains_last, goes_further, headers_push, whole_closes, whole_stay_so}

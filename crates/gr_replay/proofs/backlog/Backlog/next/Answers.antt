@@ -1,7 +1,6 @@
-use Rattle.std.proofs.Common.{◌≡◌, ◌∷◌, ◌<◌, ◌≤◌, [], List, ap, sym, set, ◌∙◌, arith, length}
-use Rattle.gr_model.specs.declared.event.Event.{Event}
+use Rattle.std.proofs.Common.{◌<◌, ap, sym, ◌∙◌, arith, length}
 use Rattle.gr_replay.specs.Waiting.{Coming}
-use Rattle.gr_replay.proofs.Backlogs.{coming, first_piece, nothing_in, waiting_in}
+use Rattle.gr_replay.proofs.Backlogs.{coming, first_piece, nothing_in}
 use Rattle.gr_replay.proofs.backlog.Backlog.next.Goals as goal
 
 pub returns-in-Some : goal.returns-in-Some

@@ -3,7 +3,7 @@ use Rattle.gr_model.specs.declared.event.Event.{Event}
 use Rattle.gr_record.specs.declared.header.Header.{Header}
 use Rattle.gr_record.specs.Reading.{event_at}
 use Rattle.gr_replay.specs.Waiting.{Coming}
-use Rattle.gr_replay.proofs.Backlogs.{coming, last_piece, pieces_grow, waiting_grows, waiting_in}
+use Rattle.gr_replay.proofs.Backlogs.{coming, last_piece, pieces_grow, waiting_grows}
 use Rattle.gr_replay.proofs.backlog.Backlog.push.Goals as goal
 
 pub returns : goal.returns

@@ -1,11 +1,10 @@
-use Rattle.std.proofs.Common.{◌≡◌, ◌∷◌, ◌++◌, [], ℕ, false, true, List, Err, None, Some, ap, sym, subst, ◌∙◌, length, refl, arith}
+use Rattle.std.proofs.Common.{◌≡◌, ◌++◌, [], false, true, List, Err, Some, ap, sym, subst, ◌∙◌, length, arith}
 use Rattle.std.specs.Prelude.{not, ◌==◌}
 use Rattle.std.specs.List.{list_any}
 use Rattle.std.proofs.lemmas.List.{length-map}
 use Rattle.gr_record.specs.declared.fault.Fault.TheVariants.{OtherLaunch, SameGroup}
-use Rattle.gr_record.specs.declared.header.Header.{Header}
 use Rattle.gr_order.specs.Sequences.{Sequence, with_group}
-use Rattle.gr_replay.specs.Intakes.{IsRead, behind, come, come_of, read_behind}
+use Rattle.gr_replay.specs.Intakes.{IsRead, come, come_of, read_behind}
 use Rattle.gr_replay.specs.Joined.{Flat}
 use Rattle.gr_replay.specs.Waiting.{Coming}
 use Rattle.gr_replay.proofs.Behind.{other_launch_refused, same_group_refused, stream_begins}

@@ -1,4 +1,4 @@
-use Rattle.std.proofs.Common.{◌≡◌, ◌<◌, ◌∷◌, [], ℕ, false, true, not, true≢false, List, Option, Err, None, Some, ap, sym, subst, ◌∙◌, length, refl, arith, eqb-true}
+use Rattle.std.proofs.Common.{◌≡◌, ◌<◌, false, not, true≢false, Option, Err, None, Some, ap, sym, ◌∙◌, length, refl, arith, eqb-true}
 use Rattle.std.specs.Option.{is_some}
 use Rattle.std.proofs.lemmas.Bool.{eqb-false}
 use Rattle.std.proofs.lemmas.List.{length-map, nil_from_length}

@@ -1,7 +1,3 @@
-use Rattle.std.proofs.Common.{[], List, ap, sym, subst}
-use Rattle.gr_replay.specs.Waiting.{Coming}
-use Rattle.gr_order.specs.Sequences.{Sequence}
-use Rattle.gr_replay.specs.Intakes.{IsRead}
 use Rattle.gr_replay.proofs.Comings.{nothing_is_read}
 use Rattle.gr_replay.proofs.intake.Intake.new.Goals as goal
 

@@ -1,5 +1,5 @@
-use Rattle.std.proofs.Common.{◌≡◌, ◌++◌, ℕ, List, length}
-use Rattle.gr_replay.specs.Intakes.{IsIntake, Moves}
+use Rattle.std.proofs.Common.{length}
+use Rattle.gr_replay.specs.Intakes.{Moves}
 use Rattle.gr_replay.proofs.intake.Intake.take.Given as goal
 
 abbrev pub invariant-loop-next : goal.invariant-loop-next

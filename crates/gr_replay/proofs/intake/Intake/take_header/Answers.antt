@@ -1,11 +1,9 @@
-use Rattle.std.proofs.Common.{◌≡◌, ◌≤◌, ◌∷◌, ◌++◌, [], ℕ, List, Err, Ok, ap, sym, subst, ◌∙◌, length, refl, arith, take}
+use Rattle.std.proofs.Common.{◌≡◌, ◌++◌, [], ℕ, List, ap, sym, subst, ◌∙◌, length, refl, arith}
 use Rattle.std.proofs.lemmas.List.{length-map, length-take-le}
 use Rattle.std.proofs.lemmas.Result.{err_from_is_err_and}
 use Rattle.gr_input.specs.Faults.{Fails}
-use Rattle.gr_input.proofs.Outside.{fails_through}
 use Rattle.gr_record.specs.Faults.{stream_fault}
 use Rattle.gr_record.specs.Laws.{AreBytes}
-use Rattle.gr_record.specs.Reading.{header_at}
 use Rattle.gr_record.specs.WholeStreams.{front_header_at}
 use Rattle.gr_record.specs.declared.layout.TheConstants.{HEADER_LENGTH}
 use Rattle.gr_record.proofs.Found.{read_header_is_spelled}

@@ -1,8 +1,8 @@
-use Rattle.std.proofs.Common.{◌≡◌, ◌≢◌, ◌<◌, ◌++◌, ◌∷◌, ℕ, List, ap, sym, subst, ◌∙◌, arith, length, refl, true≢false}
+use Rattle.std.proofs.Common.{◌<◌, ap, sym, subst, ◌∙◌, arith, length, refl, true≢false}
 use Rattle.gr_record.specs.declared.header.Header.{Header}
 use Rattle.gr_lanes.specs.Takes.{CanTake, with_record}
 use Rattle.gr_replay.specs.Intakes.{come_of}
-use Rattle.gr_replay.proofs.Comings.{can_take_open, one_more_counts, others_stay, taken_comes, waiting_comes}
+use Rattle.gr_replay.proofs.Comings.{can_take_open, one_more_counts, taken_comes, waiting_comes}
 use Rattle.gr_replay.proofs.open.Open.take.Goals as goal
 
 pub take_record-requires-clause-can : goal.take_record-requires-clause-can
