@@ -26,7 +26,7 @@ use Rattle.gr_record.proofs.Loop as loop
 use Rattle.gr_replay.proofs.Accepted.{same_done, same_found}
 use Rattle.gr_replay.specs.Intakes.{behind_events, next_event_at, read_behind, with_event}
 use Rattle.gr_replay.specs.Joined as joined_spec
-use Rattle.gr_replay.specs.Joined.{Flat, at_place, joined_at, joined_of, stream_at}
+use Rattle.gr_replay.specs.Joined.{Flat, at_place, joined_at, stream_at}
 
 -- ---- a header is told by its own bytes
 
@@ -163,11 +163,6 @@ same_bound (suc n) (suc m) seen (b ∷ bytes) le lt =
 whole_is : (h : Header) (rest : List ℕ) → front_records_at h rest ≡ whole (behind_events [] (records_of h (MOST_RECORDS - 0) rest))
 unfolding front_records_at
 whole_is h rest = refl
-
--- ---- nothing was read
-
-pub nothing_read : (bytes : List ℕ) → joined_of bytes ≡ read_behind [] None bytes
-nothing_read bytes = refl
 
 -- ---- no stream goes on
 
