@@ -1,12 +1,11 @@
 -- What one record more makes of the index of each item.
-use Rattle.std.proofs.Common.{◌≡◌, ℕ, zero, suc, ◌+◌, ◌-◌, ◌<◌, ◌≤◌, Bool, true, false, not, ◌&&◌, ◌==◌, cond, List, [], ◌∷◌, ◌++◌, length, filter, Some, None, Err, nat_cmp, slice_get, get_or, set, take, is_some, Option, sub-one, refl, sym, ap, ◌∙◌, subst, ⊎_elim, arith, append-nil, IsTrue, ltb}
-use Rattle.std.proofs.lemmas.Bool.{cases_lt, cases_eq, eq-eqb, ltb-false, ltb-true, ne_eqb, false_from_ne_true}
-use Rattle.std.proofs.lemmas.List.{length-set, get_or-set_same, get_or-set_other, get_or_read, get_or_push, get_or_append_left, length_push}
+use Rattle.std.proofs.Common.{◌≡◌, ℕ, zero, suc, ◌+◌, ◌-◌, ◌<◌, ◌≤◌, Bool, true, false, not, ◌&&◌, ◌==◌, cond, List, [], ◌∷◌, ◌++◌, length, filter, Some, None, Err, nat_cmp, slice_get, get_or, set, is_some, Option, sub-one, refl, sym, ap, ◌∙◌, subst, ⊎_elim, arith, append-nil, IsTrue}
+use Rattle.std.proofs.lemmas.Bool.{cases_lt, cases_eq, eq-eqb, ne_eqb, false_from_ne_true}
+use Rattle.std.proofs.lemmas.List.{length-set, get_or-set_same, get_or-set_other, get_or_past, length_push}
 use Rattle.std.proofs.lemmas.List.Elements.{filter-append}
 use Rattle.std.proofs.lemmas.Option.{get_or_from_slice_get, slice_get_within}
 use Rattle.std.proofs.lemmas.List.Sorted.{searched}
 use Rattle.std.specs.List.Sorted.{IsBinarySearchResult}
-use Rattle.std.proofs.Math.Seq.{take-append_seam}
 use Rattle.gr_model.specs.declared.event.Event.{Event}
 use Rattle.gr_model.specs.declared.event.ItemId.{ItemId}
 use Rattle.gr_model.specs.declared.limits.TheConstants.{MOST_RECORDS}
@@ -127,20 +126,9 @@ module _ (lanes : List Index) (list : List Event) (x : Event) (are : AreIndices 
     | false ↦ length-set lanes x.item (with_event (get_or lanes x.item no_index) x (is_release x) (is_barrier x))
   ]
 
--- lanes of items without events
-pub no_events : (lanes : List Index) → ((i : ℕ) → i < length lanes → get_or lanes i no_index ≡ no_index) → AreIndices lanes []
-no_events lanes none = record { prefix = record { few = omega arith; good = λ p x at. cc }; each = none }
-
-pub one_lane_more : (old new : List Index) (n : ℕ) → length old ≡ n → ((i : ℕ) → i < n → get_or old i no_index ≡ no_index) → new ≡ old ++ no_index ∷ [] → (i : ℕ) → i < n + 1 → get_or new i no_index ≡ no_index
-one_lane_more old new n count none is i within =
-    ap (λ l. get_or l i no_index) is ∙ ⊎_elim
-    (λ (lt : i < n). get_or_append_left old (no_index ∷ []) no_index i (omega arith) ∙ none i lt)
-    (λ (ge : n ≤ i). get_or_push old no_index no_index i (omega arith))
-    (cases_lt i n)
-
--- a slice of a whole vector was written
-pub whole_slice : {X : Type 0} (n : ℕ) (new rest : List X) → length new ≡ n → take n (new ++ rest) ≡ new
-whole_slice n new rest size = ap (λ k. take k (new ++ rest)) (sym size) ∙ take-append_seam new rest
+-- items without events
+pub no_events : (lanes : List Index) → ((i : ℕ) → get_or lanes i no_index ≡ no_index) → AreIndices lanes []
+no_events lanes none = record { prefix = record { few = omega arith; good = λ p x at. cc }; each = λ i within. none i }
 
 -- ---- what is read by an index
 
@@ -190,44 +178,30 @@ not_found xs ys same x i search rises k at =
     let value : get_or ys k 0 ≡ x = get_or_from_slice_get ys k x 0 there in
     ⊎_elim (λ (lt : k < i). let below = missed.1 k lt in omega arith) (λ (ge : i ≤ k). let above = missed.2 k ge within in omega arith) (cases_lt k i)
 
--- what was read of the lanes, at the place that is the item's
-module _ (lanes : List Index) (list : List Event) (are : AreIndices lanes list) (read : List Index) (same : read ≡ lanes) (i j : ℕ) (here : j ≡ i) where
-  behind : false ≡ ltb j (length read) → length lanes ≤ i
-  behind beyond = let past = ltb-false j (length read) (sym beyond) in omega (arith, ap length same)
+-- each item has its index, also one that the group lacks: it has no events
+module _ (lanes : List Index) (list : List Event) (are : AreIndices lanes list) (i : ℕ) where
+  pub index_at : get_or lanes i no_index ≡ index_of list i
+  index_at = ⊎_elim (are.each i) (λ past. get_or_past lanes i no_index past ∙ lacking past) (cases_lt i (length lanes))
+    where
+      lacking : length lanes ≤ i → no_index ≡ index_of list i
+      lacking past =
+          let none : [] ≡ filter (is_of i) list = sym (no_trace (length lanes) list are.prefix i past) in
+          λ d. record { count = length (none d); releases = places_from is_release 0 (none d); barriers = places_from is_barrier 0 (none d); released = filter is_release (none d); arrived = filter is_barrier (none d) }
 
-  pub lacks_places : false ≡ ltb j (length read) → (test : Event → Bool) (k : ℕ) → None ≡ slice_get (places_from test 0 (filter (is_of i) list)) k
-  lacks_places beyond test k = sym (ap (λ l. slice_get (places_from test 0 l) k) (no_trace (length lanes) list are.prefix i (behind beyond)))
+  few_that : (test : Event → Bool) → length (places_from test 0 (filter (is_of i) list)) < 4_294_967_296
+  few_that test = omega (arith, few-places test 0 (filter (is_of i) list), length-places (is_of i) 0 list, few-places (is_of i) 0 list, are.prefix.few)
 
-  pub lacks_records : false ≡ ltb j (length read) → (test : Event → Bool) (k : ℕ) → None ≡ slice_get (filter test (filter (is_of i) list)) k
-  lacks_records beyond test k = sym (ap (λ l. slice_get (filter test l) k) (no_trace (length lanes) list are.prefix i (behind beyond)))
+  pub few_releases : length (get_or lanes i no_index).releases < 4_294_967_296
+  few_releases = subst (λ (l : Index). length l.releases < 4_294_967_296) (sym index_at) (few_that is_release)
 
-  pub lacks_any : false ≡ ltb j (length read) → (test : Event → Bool) → 0 ≡ length (filter test (filter (is_of i) list))
-  lacks_any beyond test = sym (ap (λ l. length (filter test l)) (no_trace (length lanes) list are.prefix i (behind beyond)))
+  pub releases_rise : AreRising (get_or lanes i no_index).releases
+  releases_rise = subst (λ (l : Index). AreRising l.releases) (sym index_at) (places_rise is_release 0 (filter (is_of i) list))
 
-  module _ (lane : Index) (there : true ≡ ltb j (length read)) (reads : lane ≡ get_or read j lane) where
-    pub lane_is : lane ≡ index_of list i
-    lane_is =
-        let lt = ltb-true j (length read) (sym there) in
-        let within : i < length lanes = omega (arith, ap length same) in
-        get_or_read lanes i lane within (reads ∙ (ap (λ l. get_or l j lane) same ∙ ap (λ n. get_or lanes n lane) here)) no_index ∙ are.each i within
+  pub few_barriers : length (get_or lanes i no_index).barriers < 4_294_967_296
+  few_barriers = subst (λ (l : Index). length l.barriers < 4_294_967_296) (sym index_at) (few_that is_barrier)
 
-    few_that : (test : Event → Bool) → length (places_from test 0 (filter (is_of i) list)) < 4_294_967_296
-    few_that test = omega (arith, few-places test 0 (filter (is_of i) list), length-places (is_of i) 0 list, few-places (is_of i) 0 list, are.prefix.few)
-
-    pub few_releases : length lane.releases < 4_294_967_296
-    few_releases = subst (λ (l : Index). length l.releases < 4_294_967_296) (sym lane_is) (few_that is_release)
-
-    pub releases_rise : AreRising lane.releases
-    releases_rise = subst (λ (l : Index). AreRising l.releases) (sym lane_is) (places_rise is_release 0 (filter (is_of i) list))
-
-    pub few_barriers : length lane.barriers < 4_294_967_296
-    few_barriers = subst (λ (l : Index). length l.barriers < 4_294_967_296) (sym lane_is) (few_that is_barrier)
-
-    pub barriers_rise : AreRising lane.barriers
-    barriers_rise = subst (λ (l : Index). AreRising l.barriers) (sym lane_is) (places_rise is_barrier 0 (filter (is_of i) list))
-
-    pub few_arrived : length lane.arrived < 4_294_967_296
-    few_arrived = subst (λ (l : Index). length l.arrived < 4_294_967_296) (sym lane_is) (omega (arith, few_that is_barrier, length-places is_barrier 0 (filter (is_of i) list)))
+  pub barriers_rise : AreRising (get_or lanes i no_index).barriers
+  barriers_rise = subst (λ (l : Index). AreRising l.barriers) (sym index_at) (places_rise is_barrier 0 (filter (is_of i) list))
 
 -- ---- the records of releases and barriers
 

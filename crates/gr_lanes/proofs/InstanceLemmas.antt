@@ -5,8 +5,10 @@ use Rattle.std.specs.List.{cons_option}
 use Rattle.gr_model.specs.declared.event.Event.{Event}
 use Rattle.gr_model.specs.Barriers.{IsDivergent, arrivals, is_barrier, mark_of}
 use Rattle.gr_model.specs.Instances.{Mark}
-use Rattle.gr_model.specs.Streams.{Streams, is_complete, list_of, places_from, size_of}
+use Rattle.gr_model.specs.Streams.{Streams, is_complete, list_of, places_from, size_of, trace_of}
+use Rattle.gr_lanes.specs.Indices.{record_of}
 use Rattle.gr_lanes.specs.Instances.{HasCome, MakesDivergent, Parts}
+use Rattle.gr_lanes.specs.Kept.{SayTheSame, of_item}
 
 -- the k-th barrier of a list gives the k-th mark
 abbrev pub GivesMark : ℕ → List Event → ℕ → ℕ → Type 0
@@ -78,3 +80,18 @@ module _ (s : Streams) (g k : ℕ) (x : Event) (come : HasCome s g k x) where
       none mixed.1 mixed.5.0 (subst (Parts (is_complete (list_of s g)) (mark_of x)) (sym mixed.5.1) (λ (second_is : Some mixed.3 ≡ mark_of x).
       mixed.6 (let same : Some mixed.2 ≡ Some mixed.3 = first_is ∙ sym second_is in cc)))))
   none_parted none (inr part) = none part.1.1 part.1.4 (subst (Parts (is_complete (list_of s g)) (mark_of x)) (sym part.1.5) part.0)
+
+-- two that said the same came with the same mark
+module _ (s : Streams) (g n i j : ℕ) (same : SayTheSame s g i j n) where
+  came_as : (k : ℕ) (x : Event) → record_of s is_barrier (record { group = g; item = k }) n ≡ Some x → arrivals s g n k ≡ mark_of x
+  came_as k x is =
+      let xs = trace_of s (record { group = g; item = k }) in
+      (subst (λ (o : Option Event). MatchOption o (slice_get (filter_map mark_of xs) n ≡ None) (λ y. (slice_get (filter_map mark_of xs) n ≡ mark_of y) × (is_some (mark_of y) ≡ true))) is (record_mark xs n)).0
+
+  pub same_arrival : arrivals s g n i ≡ arrivals s g n j
+  same_arrival = came_as i (of_item i same.0) same.1 ∙ sym (came_as j (of_item j same.0) same.2)
+
+  pub not_parted : (m : Option Mark) → is_some m ≡ true → arrivals s g n j ≡ m → MakesDivergent s g n m i → ⊥
+  not_parted m some came parted =
+      let a = some_mark m some in
+      subst (Parts (is_complete (list_of s g)) m) (same_arrival ∙ (came ∙ a.1)) parted (sym a.1)

@@ -2,3 +2,4 @@ pub mod IndexLemmas
 pub mod GroupLemmas
 pub mod Growth
 pub mod InstanceLemmas
+pub mod KeptLemmas

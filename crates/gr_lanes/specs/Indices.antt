@@ -1,5 +1,5 @@
 -- An index of each item's events in its group's list, and of its releases and barriers among its events.
-use Rattle.std.specs.Prelude.{◌≡◌, ◌≢◌, ℕ, ◌<◌, ◌≤◌, ◌+◌, Option, Bool, List, [], ◌∷◌, ◌++◌, length, map, filter, true, MatchOption, None, Some, slice_get, slice_index, slice_index_or, slice_set, if◌then◌else◌}
+use Rattle.std.specs.Prelude.{◌≡◌, ◌≢◌, ℕ, ◌<◌, ◌≤◌, ◌+◌, Option, Bool, List, [], ◌∷◌, ◌++◌, length, map, filter, false, true, MatchOption, None, Some, slice_get, slice_index, slice_index_or, slice_set, if◌then◌else◌}
 use Rattle.gr_model.specs.declared.event.Event.{Event}
 use Rattle.gr_model.specs.declared.event.ItemId.{ItemId}
 use Rattle.gr_model.specs.declared.event.Kind.{Kind}
@@ -52,6 +52,10 @@ with_event i x release barrier = record {
 -- the indices of a group's items with a record more: an end is no item's event
 abbrev pub indexed : List Index → Event → List Index
 indexed lanes x = if is_end x then lanes else slice_set lanes x.item (with_event (slice_index_or lanes x.item no_index) x (is_release x) (is_barrier x))
+
+-- the indices of a group's items with a barrier more
+abbrev pub with_barrier : List Index → Event → List Index
+with_barrier lanes x = slice_set lanes x.item (with_event (slice_index_or lanes x.item no_index) x false true)
 
 -- the record of an item's k-th event that passes a test
 abbrev pub record_of : Streams → (Event → Bool) → ItemId → ℕ → Option Event

@@ -1,3 +1,4 @@
 pub mod Takes
 pub mod Indices
 pub mod Instances
+pub mod Kept

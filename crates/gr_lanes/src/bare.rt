@@ -1,53 +1,48 @@
-//! A record that names no releases, without the places for names.
+//! What a barrier's record says beside its item. A barrier names no releases.
 
-ghost use Rattle.std.specs.Prelude.{◌≡◌, []};
+ghost use Rattle.std.specs.Prelude.{◌≡◌, ◌↔◌, IsTrue};
+ghost use Rattle.gr_lanes.specs.Kept as kept;
 
 use gr_model::event::{Event, Kind, Space};
 use gr_model::names::Names;
-use std::marker::Model;
 
-/// A record that names no releases, in few bytes. Contracts see the record.
-#[derive(Debug, Drop)]
+/// The record of a barrier without its item, and without the places for names.
+#[derive(Debug, Drop, Clone, Copy)]
 pub(crate) struct Bare {
-    item: u16,
     kind: Kind,
     space: Space,
     word: u32,
 }
 
-impl Model for Bare {
-    ghost use Rattle.std.specs.Prelude.{[]};
-    ghost use Rattle.gr_model.specs.declared.event.Event.{Event};
-
-    ghost Value = { Event };
-
-    ghost view = { λ b. record { item = b.item; kind = b.kind; space = b.space; word = b.word; names = [] } };
-}
-
 impl Bare {
-    /// Keeps a record.
-    pub(crate) fn new(event: &Event) -> Bare
-        requires { event.now.names ≡ [] }
-        ensures { result ≡ event.now }
+    /// What a record says beside its item and the releases that it names.
+    pub(crate) fn of(event: &Event) -> Bare
+        ensures { result ≡ kept.bare_of event.now }
     {
         Bare {
-            item: event.item,
             kind: event.kind,
             space: event.space,
             word: event.word,
         }
     }
 
-    /// The record.
-    pub(crate) fn event(&self) -> Event
-        ensures { result ≡ self.now }
+    /// The record, of this item.
+    pub(crate) fn of_item(&self, item: u16) -> Event
+        ensures { result ≡ kept.of_item item self.now }
     {
         Event {
-            item: self.item,
+            item,
             kind: self.kind,
             space: self.space,
             word: self.word,
             names: Names::none(),
         }
+    }
+
+    /// Whether it says the same as another.
+    pub(crate) fn is(&self, other: &Bare) -> bool
+        ensures { IsTrue result ↔ (self.now ≡ other.now) }
+    {
+        self.kind == other.kind && self.space == other.space && self.word == other.word
     }
 }

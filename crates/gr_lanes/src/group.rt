@@ -1,7 +1,7 @@
-//! What was taken of one work-group: how many records, what its end says, and a lane for each of its items.
+//! What was taken of one work-group: how many records, what its end says, and what is kept of its items.
 //!
-//! Invariant: the records are a prefix of a list that the group may have, and each lane is the index of its item's events
-//! in it. The list itself exists in proofs alone.
+//! Invariant: the records are a prefix of a list that the group may have, and of each item the index of its events in it is
+//! kept. The list itself exists in proofs alone.
 
 ghost use Rattle.std.specs.Prelude.{◌≡◌, ◌↔◌, ◌∷◌, ◌++◌, ◌<◌, [], true, Some, IsTrue, IfOk, OnOk, OnErr, filter, length, slice_get, slice_index_or};
 ghost use Rattle.gr_model.specs.declared.limits.TheConstants.{MOST_RECORDS};
@@ -10,10 +10,11 @@ ghost use Rattle.gr_model.specs.Barriers as model_barriers;
 ghost use Rattle.gr_model.specs.Events.{IsEventOk};
 ghost use Rattle.gr_model.specs.Streams.{is_complete, is_of, places_from};
 ghost use Rattle.gr_lanes.specs.Indices.{EndsCut, IsNumberAmong, end_of, no_index, indexed};
+ghost use Rattle.gr_lanes.specs.declared.bare.Bare.{Bare as BareOf};
+ghost use Rattle.gr_lanes.specs.Kept.{of_item};
 ghost use Rattle.gr_lanes.specs.Takes.{IsMereAccess};
 
-use crate::kinds::{is_barrier, is_release};
-use crate::lane::Lane;
+use crate::items::Items;
 use gr_history::history::History;
 use gr_model::event::{Event, Kind};
 use gr_model::memory::Memory;
@@ -28,7 +29,7 @@ pub(crate) struct Group<A: Allocator = Global> {
     taken: u32,
     /// Whether its stream was cut, once its end was taken.
     end: Option<bool>,
-    lanes: Vec<Lane<A>, A>,
+    items: Items<A>,
 }
 
 impl<A: Allocator> Model for Group<A> {
@@ -37,9 +38,9 @@ impl<A: Allocator> Model for Group<A> {
 
     ghost Value = { GroupList };
 
-    ghost view = { λ g. record { size = length g.lanes.items; list = g.list } };
+    ghost view = { λ g. record { size = length g.items; list = g.list } };
 
-    ghost invariant = { λ g. IsKept g.lanes.items g.list g.taken g.end };
+    ghost invariant = { λ g. IsKept g.items g.list g.taken g.end };
 }
 
 /// Whether a stream was cut whose end this record is, if it is an end.
@@ -67,33 +68,6 @@ fn says_cut(end: Option<bool>) -> bool
     end == Some(true)
 }
 
-/// Adds the group's next record to the lane of its item; an end is no item's event.
-///
-/// # Errors
-/// `Memory`: out of memory. The lanes are then as they were.
-fn index<A: Allocator>(lanes: &mut [Lane<A>], event: &Event) -> Result<(), Memory>
-    requires item { event.now.item < length lanes.old }
-    requires few { (slice_index_or lanes.old event.now.item no_index).count < 4_294_967_295 }
-    requires bare { model_barriers.is_barrier event.now ≡ true → event.now.names ≡ [] }
-    ensures ok { OnOk result (lanes.new ≡ indexed lanes.old event.now) }
-    ensures err { OnErr result (lanes.new ≡ lanes.old) }
-{
-    if event.kind.is_end() {
-        return Ok(());
-    }
-    lanes[usize::from(event.item)].add(event, is_release(event), is_barrier(event))
-}
-
-/// Adds the group's next record, a mere access, to the lane of its item.
-fn index_access<A: Allocator>(lanes: &mut [Lane<A>], event: &Event)
-    requires item { event.now.item < length lanes.old }
-    requires few { (slice_index_or lanes.old event.now.item no_index).count < 4_294_967_295 }
-    requires access { IsMereAccess event.now }
-    ensures { lanes.new ≡ indexed lanes.old event.now }
-{
-    lanes[usize::from(event.item)].add_access(event);
-}
-
 impl<A: Allocator + Copy> Group<A> {
     /// A group of so many items of which nothing was taken.
     ///
@@ -102,16 +76,13 @@ impl<A: Allocator + Copy> Group<A> {
     pub(crate) fn new(alloc: A, items: u16) -> Result<Group<A>, Memory>
         ensures { IfOk result (λ g. g ≡ record { size = items; list = [] }) }
     {
-        let mut lanes = Vec::new(alloc);
-        for _item in 0..items {
-            lanes.push(Lane::new(alloc))?;
-        }
+        let items = Items::new(alloc, items)?;
         let list = History::new();
         Ok(Group {
             list,
             taken: 0,
             end: None,
-            lanes,
+            items,
         })
     }
 }
@@ -121,7 +92,7 @@ impl<A: Allocator> Group<A> {
     pub(crate) fn size(&self) -> usize
         ensures { result ≡ self.now.size }
     {
-        self.lanes.len()
+        self.items.len()
     }
 
     /// How many records were taken of it.
@@ -149,60 +120,50 @@ impl<A: Allocator> Group<A> {
     pub(crate) fn release_at(&self, item: u16, number: u32) -> Option<u32>
         ensures { result ≡ slice_get (places_from model.is_release 0 (filter (is_of item) self.now.list)) number }
     {
-        match self.lanes.get(usize::from(item)) {
-            None => None,
-            Some(lane) => lane.release(number),
-        }
+        self.items.release_at(item, number)
     }
 
     /// The index of an item's barrier with this number.
     pub(crate) fn barrier_at(&self, item: u16, number: u32) -> Option<u32>
         ensures { result ≡ slice_get (places_from model_barriers.is_barrier 0 (filter (is_of item) self.now.list)) number }
     {
-        match self.lanes.get(usize::from(item)) {
-            None => None,
-            Some(lane) => lane.barrier(number),
-        }
+        self.items.barrier_at(item, number)
     }
 
     /// The record of an item's release with this number.
     pub(crate) fn release_event(&self, item: u16, number: u32) -> Option<Event>
         ensures { result ≡ slice_get (filter model.is_release (filter (is_of item) self.now.list)) number }
     {
-        match self.lanes.get(usize::from(item)) {
-            None => None,
-            Some(lane) => lane.release_event(number),
-        }
+        self.items.release_event(item, number)
     }
 
     /// The record of an item's barrier with this number.
     pub(crate) fn barrier_event(&self, item: u16, number: u32) -> Option<Event>
         ensures { result ≡ slice_get (filter model_barriers.is_barrier (filter (is_of item) self.now.list)) number }
     {
-        match self.lanes.get(usize::from(item)) {
-            None => None,
-            Some(lane) => lane.barrier_event(number),
-        }
+        self.items.barrier_event(item, number)
+    }
+
+    /// Whether the barriers of two items with this number are known to say the same.
+    #[inline(always)]
+    pub(crate) fn are_alike(&self, item: u16, other: u16, number: u32) -> bool
+        ensures { IsTrue result → (b : BareOf) × (slice_get (filter model_barriers.is_barrier (filter (is_of item) self.now.list)) number ≡ Some (of_item item b)) × (slice_get (filter model_barriers.is_barrier (filter (is_of other) self.now.list)) number ≡ Some (of_item other b)) }
+    {
+        self.items.are_alike(item, other, number)
     }
 
     /// The number among an item's releases of the event with this index, or `None` where that is no release.
     pub(crate) fn release_number(&self, item: u16, index: u32) -> Option<u32>
         ensures { IsNumberAmong model.is_release self.now.list item index result }
     {
-        match self.lanes.get(usize::from(item)) {
-            None => None,
-            Some(lane) => lane.release_number(index),
-        }
+        self.items.release_number(item, index)
     }
 
     /// The number among an item's barriers of the event with this index, or `None` where that is no barrier.
     pub(crate) fn barrier_number(&self, item: u16, index: u32) -> Option<u32>
         ensures { IsNumberAmong model_barriers.is_barrier self.now.list item index result }
     {
-        match self.lanes.get(usize::from(item)) {
-            None => None,
-            Some(lane) => lane.barrier_number(index),
-        }
+        self.items.barrier_number(item, index)
     }
 
     /// How many barriers of an item were taken.
@@ -210,10 +171,7 @@ impl<A: Allocator> Group<A> {
     pub(crate) fn barrier_count(&self, item: u16) -> u32
         ensures { result ≡ length (filter model_barriers.is_barrier (filter (is_of item) self.now.list)) }
     {
-        match self.lanes.get(usize::from(item)) {
-            None => 0,
-            Some(lane) => lane.barrier_count(),
-        }
+        self.items.barrier_count(item)
     }
 
     /// Takes the group's next record, a mere access. It takes no memory.
@@ -224,7 +182,7 @@ impl<A: Allocator> Group<A> {
         requires access { IsMereAccess event }
         ensures { self.new ≡ record { size = self.old.size; list = self.old.list ++ event ∷ [] } }
     {
-        index_access(&mut self.lanes, &event);
+        self.items.add_access(&event);
         self.list.push(&event);
         self.taken += 1;
     }
@@ -240,7 +198,7 @@ impl<A: Allocator> Group<A> {
         ensures ok { OnOk result (self.new ≡ record { size = self.old.size; list = self.old.list ++ event ∷ [] }) }
         ensures err { OnErr result (self.new ≡ self.old) }
     {
-        index(&mut self.lanes, &event)?;
+        self.items.add(&event)?;
         self.list.push(&event);
         self.taken += 1;
         self.end = end_of(&event);

@@ -12,6 +12,7 @@ ghost use Rattle.gr_lanes.specs.Indices.{record_of};
 ghost use Rattle.gr_model.specs.Reports.{IsCut};
 ghost use Rattle.gr_model.specs.Names.{release_place};
 ghost use Rattle.gr_lanes.specs.declared.seq_error.SeqError.TheVariants.{Memory as OutOfMemory};
+ghost use Rattle.gr_lanes.specs.Kept.{SayTheSame};
 ghost use Rattle.gr_lanes.specs.Takes.{nothing_taken, with_record, IsEventButItem, IsMereAccess, CanTake, IsTakeFault};
 
 use crate::group::Group;
@@ -170,6 +171,18 @@ impl<A: Allocator> Lanes<A> {
         }
     }
 
+    /// Whether the barriers of two items of a group with this number, counted from 0, were taken and are known to have one site and
+    /// the same flags. It is quick, and may answer false where they have.
+    #[inline(always)]
+    pub fn are_alike(&self, group: u16, item: u16, other: u16, number: u32) -> bool
+        ensures { IsTrue result → SayTheSame self.now group item other number }
+    {
+        match self.groups.get(usize::from(group)) {
+            None => false,
+            Some(group) => group.are_alike(item, other, number),
+        }
+    }
+
     /// The index in its item's trace of an item's barrier of this number, counted from 0, or `None` where no such barrier
     /// was taken.
     pub fn barrier_at(&self, item: ItemId, number: u32) -> Option<u32>
@@ -216,6 +229,7 @@ impl<A: Allocator> Lanes<A> {
     pub fn refusal(&self, group: u16, event: &Event) -> Option<SeqError>
         ensures fault { MatchOption result (CanTake self.now group event.now) (λ e. IsTakeFault self.now group event.now e) }
         ensures memory { result ≢ Some OutOfMemory }
+        ensures prefixes { ArePrefixes self.now }
     {
         if group >= self.shape.groups() {
             return Some(SeqError::UnknownGroup);
@@ -241,6 +255,22 @@ impl<A: Allocator> Lanes<A> {
         self.groups[usize::from(group)].take_access(event);
     }
 
+    /// Takes the next record of a group, which may be taken.
+    ///
+    /// # Errors
+    /// `Memory`: out of memory. Nothing is then taken.
+    pub fn take_accepted(&mut self, group: u16, event: Event) -> Result<(), Memory>
+        requires can { CanTake self.old group event }
+        requires good { IsEventButItem event }
+        requires room { length (list_of self.old group) < MOST_RECORDS }
+        ensures ok { OnOk result (self.new ≡ with_record self.old group event) }
+        ensures unchanged { OnErr result (self.new ≡ self.old) }
+        ensures prefixes { ArePrefixes self.new }
+    {
+        self.groups[usize::from(group)].take(event)?;
+        Ok(())
+    }
+
     /// Takes the next record of a group.
     ///
     /// # Errors
@@ -258,7 +288,7 @@ impl<A: Allocator> Lanes<A> {
             None => {}
             Some(refusal) => return Err(refusal),
         }
-        self.groups[usize::from(group)].take(event)?;
+        self.take_accepted(group, event)?;
         Ok(())
     }
 }

@@ -5,6 +5,7 @@
 mod bare;
 mod group;
 pub mod instance;
+mod items;
 pub mod kinds;
 mod lane;
 pub mod lanes;

@@ -325,14 +325,14 @@ impl<A: Allocator> Order<A> {
         }
         let more = is_event(&event);
         keep(&mut self.windows, group, &event)?;
-        match self.lanes.take(group, event) {
+        match self.lanes.take_accepted(group, event) {
             Ok(()) => {
                 self.held += u32::from(more);
                 Ok(())
             }
-            Err(error) => {
+            Err(Memory) => {
                 forget(&mut self.windows, group, &event);
-                Err(error)
+                Err(SeqError::Memory)
             }
         }
     }

@@ -2,16 +2,15 @@ use Rattle.std.proofs.Common.{◌∙◌, ap}
 use Rattle.std.specs.Prelude.{filter, length}
 use Rattle.gr_model.specs.Barriers.{is_barrier}
 use Rattle.gr_model.specs.Streams.{is_of}
-use Rattle.gr_lanes.specs.Indices.{GroupList}
-use Rattle.gr_lanes.proofs.IndexLemmas.{few_arrived, lacks_any}
+use Rattle.gr_lanes.specs.Indices.{GroupList, Index}
+use Rattle.gr_lanes.proofs.IndexLemmas.{few_barriers, index_at, length-places}
 use Rattle.gr_lanes.proofs.group.Group.barrier_count.Goals as goal
 
 pub barrier_count-requires : goal.barrier_count-requires
-barrier_count-requires g c = record {
-  few = few_arrived c.self.inside.lanes.items c.self.inside.list c.self.invariant.indices c.deref.result.now c.deref.ensures.value c.args.item c.from.result c.from.ensures c.in-Some.lane.now c.in-Some.ensures.lookup.0 c.in-Some.ensures.lookup.1;
-}
+barrier_count-requires g c = record { few = few_barriers c.self.inside.items c.self.inside.list c.self.invariant.indices c.args.item }
 
-pub returns-in-None : goal.returns-in-None
-returns-in-None g c =
-    lacks_any c.self.inside.lanes.items c.self.inside.list c.self.invariant.indices c.deref.result.now c.deref.ensures.value c.args.item c.from.result c.from.ensures c.in-None.ensures.lookup.0 is_barrier
-    ∙ ap (λ (v : GroupList). length (filter is_barrier (filter (is_of c.args.item) v.list))) c.self.view_is
+pub returns : goal.returns
+returns g c =
+    c.barrier_count.ensures ∙ (ap (λ (l : Index). length l.barriers) (index_at c.self.inside.items c.self.inside.list c.self.invariant.indices c.args.item)
+    ∙ (length-places is_barrier 0 (filter (is_of c.args.item) c.self.inside.list)
+    ∙ ap (λ (v : GroupList). length (filter is_barrier (filter (is_of c.args.item) v.list))) c.self.view_is))

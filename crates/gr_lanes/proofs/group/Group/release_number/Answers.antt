@@ -1,20 +1,18 @@
-use Rattle.std.proofs.Common.{◌∙◌, ap}
-use Rattle.std.specs.Prelude.{filter, slice_get}
+use Rattle.std.proofs.Common.{subst, Some, ℕ}
+use Rattle.std.specs.Prelude.{◌≡◌, ◌≢◌, MatchOption, slice_get}
 use Rattle.gr_model.specs.Access.{is_release}
-use Rattle.gr_model.specs.Streams.{is_of, places_from}
-use Rattle.gr_lanes.specs.Indices.{GroupList}
-use Rattle.gr_lanes.proofs.IndexLemmas.{few_releases, lacks_places, releases_rise}
+use Rattle.gr_lanes.specs.Indices.{GroupList, Index, IsNumberAmong}
+use Rattle.gr_lanes.proofs.IndexLemmas.{few_releases, index_at, releases_rise}
 use Rattle.gr_lanes.proofs.group.Group.release_number.Goals as goal
 
-pub release_number-requires-clause-few : goal.release_number-requires-clause-few
-release_number-requires-clause-few g c =
-    few_releases c.self.inside.lanes.items c.self.inside.list c.self.invariant.indices c.deref.result.now c.deref.ensures.value c.args.item c.from.result c.from.ensures c.in-Some.lane.now c.in-Some.ensures.lookup.0 c.in-Some.ensures.lookup.1
+pub release_number-requires : goal.release_number-requires
+release_number-requires g c = record {
+  few = few_releases c.self.inside.items c.self.inside.list c.self.invariant.indices c.args.item;
+  rise = releases_rise c.self.inside.items c.self.inside.list c.self.invariant.indices c.args.item;
+}
 
-pub release_number-requires-clause-rise : goal.release_number-requires-clause-rise
-release_number-requires-clause-rise g c =
-    releases_rise c.self.inside.lanes.items c.self.inside.list c.self.invariant.indices c.deref.result.now c.deref.ensures.value c.args.item c.from.result c.from.ensures c.in-Some.lane.now c.in-Some.ensures.lookup.0 c.in-Some.ensures.lookup.1
-
-pub returns-in-None : goal.returns-in-None
-returns-in-None g c k at =
-    let none = lacks_places c.self.inside.lanes.items c.self.inside.list c.self.invariant.indices c.deref.result.now c.deref.ensures.value c.args.item c.from.result c.from.ensures c.in-None.ensures.lookup.0 is_release k ∙ ap (λ (v : GroupList). slice_get (places_from is_release 0 (filter (is_of c.args.item) v.list)) k) c.self.view_is in
-    cc
+pub returns : goal.returns
+returns g c =
+    subst (λ (v : GroupList). IsNumberAmong is_release v.list c.args.item c.args.index c.release_number.result) c.self.view_is
+    (subst (λ (l : Index). MatchOption c.release_number.result ((k : ℕ) → slice_get l.releases k ≢ Some c.args.index) (λ k. slice_get l.releases k ≡ Some c.args.index))
+    (index_at c.self.inside.items c.self.inside.list c.self.invariant.indices c.args.item) c.release_number.ensures)

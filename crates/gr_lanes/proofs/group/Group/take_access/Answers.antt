@@ -1,30 +1,28 @@
-use Rattle.std.proofs.Common.{◌≡◌, ◌∙◌, ◌<◌, ◌++◌, ◌∷◌, [], length, ap, sym, subst, drop, take, arith, List, IsTrue, ◌+◌}
+use Rattle.std.proofs.Common.{◌∙◌, ◌<◌, ◌++◌, ◌∷◌, [], length, ap, sym, subst, arith, List, IsTrue, ◌+◌}
 use Rattle.std.proofs.lemmas.List.{length_push}
-use Rattle.std.specs.Prelude.{slice_index_or}
 use Rattle.gr_model.specs.declared.event.Event.{Event}
 use Rattle.gr_model.specs.declared.limits.TheConstants.{MOST_RECORDS}
 use Rattle.gr_model.specs.Events.{IsEventOk}
 use Rattle.gr_model.specs.Streams.{is_complete}
-use Rattle.gr_lanes.specs.Indices.{Index, AreIndices, GroupList, IsKept, indexed, no_index}
-use Rattle.gr_lanes.proofs.IndexLemmas.{few_events, indices_more, none_more, size_more, whole_slice}
+use Rattle.gr_lanes.specs.Indices.{AreIndices, GroupList, IsKept}
+use Rattle.gr_lanes.proofs.IndexLemmas.{few_events, indices_more, none_more}
 use Rattle.gr_lanes.proofs.group.Group.take_access.Goals as goal
 
-pub index_access-requires-clause-few : goal.index_access-requires-clause-few
-index_access-requires-clause-few g c =
-    let lanes = c.self.inside.lanes.items in
+pub add_access-requires-clause-item : goal.add_access-requires-clause-item
+add_access-requires-clause-item g c = (subst (λ (v : GroupList). IsEventOk c.args.event v.size) (sym c.self.view_is) c.requires.good).0
+
+pub add_access-requires-clause-few : goal.add_access-requires-clause-few
+add_access-requires-clause-few g c =
     let ok = subst (λ (v : GroupList). IsEventOk c.args.event v.size) (sym c.self.view_is) c.requires.good in
-    subst (λ (l : List Index). (slice_index_or l c.args.event.item no_index).count < 4_294_967_295) (sym c.deref_mut.ensures.value) (few_events lanes c.self.inside.list c.args.event c.self.invariant.indices ok)
+    few_events c.self.inside.items c.self.inside.list c.args.event c.self.invariant.indices ok
 
 pub invariant_of-self : goal.invariant_of-self
 invariant_of-self g c =
-    let lanes = c.self.inside.lanes.items in
     let list = c.self.inside.list in
     let x = c.args.event in
     let ok = subst (λ (v : GroupList). IsEventOk x v.size) (sym c.self.view_is) c.requires.good in
     let open_list = λ (h : IsTrue (is_complete list)). c.requires.before_end (subst (λ (v : GroupList). IsTrue (is_complete v.list)) c.self.view_is h) in
     let room : length list < MOST_RECORDS = omega (arith, c.requires.room, ap (λ (v : GroupList). length v.list) c.self.view_is) in
-    let new : c.index_access.new.lanes ≡ indexed lanes x = c.index_access.ensures ∙ ap (λ (l : List Index). indexed l x) c.deref_mut.ensures.value in
-    let size : length c.index_access.new.lanes ≡ c.self.inside.lanes.len = ap length new ∙ (size_more lanes list x c.self.invariant.indices ok ∙ sym c.self.inside.lanes.ok.0) in
-    let indices = subst (λ (l : List Index). AreIndices l (list ++ x ∷ [])) (sym (whole_slice c.self.inside.lanes.len c.index_access.new.lanes (drop (length c.index_access.new.lanes) lanes) size ∙ new)) (indices_more lanes list x c.self.invariant.indices ok open_list room) in
-    subst (λ (l : List Event). IsKept (take c.self.inside.lanes.len (c.index_access.new.lanes ++ drop (length c.index_access.new.lanes) lanes)) l (c.self.inside.taken + 1) c.self.inside.end) (sym c.push.ensures)
+    let indices = subst (λ l. AreIndices l (list ++ x ∷ [])) (sym c.add_access.ensures) (indices_more c.self.inside.items list x c.self.invariant.indices ok open_list room) in
+    subst (λ (l : List Event). IsKept c.add_access.new.self l (c.self.inside.taken + 1) c.self.inside.end) (sym c.push.ensures)
     (record { indices = indices; count = ap (λ n. n + 1) c.self.invariant.count ∙ sym (length_push list x); ending = c.self.invariant.ending ∙ sym (none_more list x open_list c.requires.access.ends) })

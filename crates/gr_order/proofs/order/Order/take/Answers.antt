@@ -25,8 +25,8 @@ pub invariant_of-self-in-Ok : goal.invariant_of-self-in-Ok
 invariant_of-self-in-Ok g c =
     let q : Sequence = record { taken = c.self.inside.lanes; handled = c.self.inside.handled } in
     let more : c.from.result ≡ one_if (not (is_end c.args.event)) = c.from.ensures ∙ ap one_if c.is_event-more.ensures in record {
-      state = took q c.self.inside.frontier c.self.inside.held c.self.invariant.state c.args.group c.args.event c.take.new.self c.take.ensures.prefixes c.in-Ok.ensures.ok.0 c.in-Ok.ensures.ok.1 (c.self.inside.held + c.from.result) (ap (λ (n : ℕ). c.self.inside.held + n) more);
-      waits = waits_more q c.self.inside.frontier c.self.inside.windows c.self.inside.held c.self.invariant c.args.group c.args.event c.take.new.self c.in-Ok.ensures.ok.0 c.in-Ok.ensures.ok.1 c.keep.new.windows c.in_ok-keep.ensures.ok;
+      state = took q c.self.inside.frontier c.self.inside.held c.self.invariant.state c.args.group c.args.event c.take_accepted.new.self c.take_accepted.ensures.prefixes c.in-None.ensures.fault c.in-Ok.ensures.ok (c.self.inside.held + c.from.result) (ap (λ (n : ℕ). c.self.inside.held + n) more);
+      waits = waits_more q c.self.inside.frontier c.self.inside.windows c.self.inside.held c.self.invariant c.args.group c.args.event c.take_accepted.new.self c.in-None.ensures.fault c.in-Ok.ensures.ok c.keep.new.windows c.in_ok-keep.ensures.ok;
     }
 
 pub returns-in-Ok-clause-sequence : goal.returns-in-Ok-clause-sequence

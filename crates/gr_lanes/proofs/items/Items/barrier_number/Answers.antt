@@ -1,0 +1,17 @@
+use Rattle.std.proofs.Common.{ap, subst, sym, Some, ℕ}
+use Rattle.std.specs.Prelude.{◌<◌, ◌≡◌, ◌≢◌, MatchOption, length, slice_get, slice_index_or}
+use Rattle.gr_lanes.specs.Indices.{Index, AreRising, no_index}
+use Rattle.gr_lanes.proofs.KeptLemmas.{lacks_item, lane_index, not_among}
+use Rattle.gr_lanes.proofs.items.Items.barrier_number.Goals as goal
+
+pub barrier_number-requires-clause-few : goal.barrier_number-requires-clause-few
+barrier_number-requires-clause-few g c = subst (λ (l : Index). length l.barriers < 4_294_967_296) (lane_index c.self.inside.firsts.items c.self.inside.lanes.items c.deref.result.now c.deref.ensures.value c.args.item c.from.result c.from.ensures c.self.view_is c.in-Some.lane.now c.in-Some.ensures.lookup.0 c.in-Some.ensures.lookup.1) c.requires.few
+
+pub barrier_number-requires-clause-rise : goal.barrier_number-requires-clause-rise
+barrier_number-requires-clause-rise g c = subst (λ (l : Index). AreRising l.barriers) (lane_index c.self.inside.firsts.items c.self.inside.lanes.items c.deref.result.now c.deref.ensures.value c.args.item c.from.result c.from.ensures c.self.view_is c.in-Some.lane.now c.in-Some.ensures.lookup.0 c.in-Some.ensures.lookup.1) c.requires.rise
+
+pub returns-in-None : goal.returns-in-None
+returns-in-None g c k at = not_among (slice_index_or c.args.self.now c.args.item no_index).barriers (ap (λ (l : Index). l.barriers) (lacks_item c.self.inside.firsts.items c.self.inside.lanes.items c.deref.result.now c.deref.ensures.value c.args.item c.from.result c.from.ensures c.self.view_is c.in-None.ensures.lookup.0)) k c.args.index at
+
+pub returns-in-Some : goal.returns-in-Some
+returns-in-Some g c = subst (λ (l : Index). MatchOption c.barrier_number.result ((k : ℕ) → slice_get l.barriers k ≢ Some c.args.index) (λ k. slice_get l.barriers k ≡ Some c.args.index)) (sym (lane_index c.self.inside.firsts.items c.self.inside.lanes.items c.deref.result.now c.deref.ensures.value c.args.item c.from.result c.from.ensures c.self.view_is c.in-Some.lane.now c.in-Some.ensures.lookup.0 c.in-Some.ensures.lookup.1)) c.barrier_number.ensures
