@@ -1,11 +1,10 @@
--- Records that have come and wait to be taken: their bytes, one record after the other.
+-- Records that have come and wait to be taken.
 -- Source: docs/FORMATS.md, "Stream".
-use Rattle.std.specs.Prelude.{◌≡◌, ℕ, zero, suc, ◌<◌, ◌≤◌, List, [], ◌∷◌, ◌++◌, length, slice_index_or, take, drop, All, Result, Ok, Err}
+use Rattle.std.specs.Prelude.{◌≡◌, ℕ, ◌<◌, ◌≤◌, Bool, List, [], ◌∷◌, ◌++◌, drop, filter, length, slice_index_or, if◌then◌else◌}
 use Rattle.gr_model.specs.declared.event.Event.{Event}
-use Rattle.gr_record.specs.declared.error.RecordError.{RecordError}
+use Rattle.gr_model.specs.declared.event.Name.{Name}
 use Rattle.gr_record.specs.declared.header.Header.{Header}
-use Rattle.gr_record.specs.Reading.{event_at}
-use Rattle.gr_record.specs.Versions.{record_length}
+use Rattle.gr_replay.specs.declared.short.Short.{Short}
 
 -- a stream of which some records wait
 pub record Coming : Type 0 where
@@ -16,23 +15,34 @@ pub record Coming : Type 0 where
 abbrev pub with_waiting : Coming → Event → Coming
 with_waiting c e = record { header = c.header; waiting = c.waiting ++ e ∷ [] }
 
--- the event of a record, if it has no fault
-abbrev pub event_in : Result Event RecordError → List Event
-event_in (Ok e) = e ∷ []
-event_in (Err e) = []
+-- ---- how they are kept
 
--- so many records at the front of the bytes
-abbrev pub standing : Header → ℕ → List ℕ → List Event
-standing h zero bytes = []
-standing h (suc n) bytes = event_in (event_at h (take (record_length h.version) bytes)) ++ standing h n (drop (record_length h.version) bytes)
+-- a record without the releases that it names, and whether it names some
+abbrev pub short_of : Event → Bool → Short
+short_of e has_names = record { item = e.item; kind = e.kind; space = e.space; word = e.word; has_names = has_names }
 
--- the bytes are so many records without faults, and no more
-abbrev pub AreStanding : Header → ℕ → List ℕ → Type 0
-AreStanding h zero bytes = bytes ≡ []
-AreStanding h (suc n) bytes = (record_length h.version ≤ length bytes) × ((e : Event) × (event_at h (take (record_length h.version) bytes) ≡ Ok e)) × AreStanding h n (drop (record_length h.version) bytes)
+-- the record that names these
+abbrev pub with_names : Short → List Name → Event
+with_names s names = record { item = s.item; kind = s.kind; space = s.space; word = s.word; names = names }
 
--- the pieces of a stream, of which nothing waits in those below a place
-pub record ArePieces (h : Header) (pieces : List Coming) (first : ℕ) : Type 0 where
-  pub headers : All (λ p. p.header ≡ h) pieces
+-- what the next record names, of these lists
+abbrev pub first_names : Bool → List (List Name) → List Name
+first_names has_names lists = if has_names then slice_index_or lists 0 [] else []
+
+-- and those that are left behind it
+abbrev pub behind_names : Bool → List (List Name) → List (List Name)
+behind_names has_names lists = if has_names then drop 1 lists else lists
+
+-- the records, which name these
+unfoldable pub listed : List Short → List (List Name) → List Event
+listed [] lists = []
+listed (s ∷ shorts) lists = with_names s (first_names s.has_names lists) ∷ listed shorts (behind_names s.has_names lists)
+
+-- there is a list of names for each record that has some
+abbrev pub AreNamed : List Short → List (List Name) → Type 0
+AreNamed shorts lists = length lists ≡ length (filter (λ s. s.has_names) shorts)
+
+-- the pieces of what waits, of which nothing waits in those below a place
+pub record ArePieces (pieces : List (List Event)) (first : ℕ) : Type 0 where
   pub below : first ≤ length pieces
-  pub read : (k : ℕ) (d : Coming) → k < first → (slice_index_or pieces k d).waiting ≡ []
+  pub read : (k : ℕ) → k < first → slice_index_or pieces k [] ≡ []

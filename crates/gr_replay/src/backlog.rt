@@ -1,11 +1,8 @@
 //! What waits of a stream, in pieces, so that memory is given back piece by piece.
 //!
-//! Invariant: the pieces are of the stream's header, and nothing waits in those before the one that is read.
+//! Invariant: nothing waits in the pieces before the one that is read.
 
-ghost use Rattle.std.specs.Prelude.{◌≡◌, ◌⊎◌, ◌+◌, ◌<◌, ◌++◌, ◌∷◌, [], IfOk, IsTrue, MatchOption, Ok, OnErr, OnOk, length};
-ghost use Rattle.gr_model.specs.declared.event.Event.{Event as AnyEvent};
-ghost use Rattle.gr_record.specs.Reading.{event_at};
-ghost use Rattle.gr_record.specs.Versions.{record_length};
+ghost use Rattle.std.specs.Prelude.{◌≡◌, ◌⊎◌, ◌+◌, ◌<◌, ◌++◌, ◌∷◌, [], IfOk, IsTrue, MatchOption, OnErr, OnOk, length};
 ghost use Rattle.gr_replay.specs.Waiting.{with_waiting};
 
 use crate::piece::Piece;
@@ -15,7 +12,7 @@ use gr_record::header::Header;
 use std::alloc::{Allocator, Global};
 use std::marker::Model;
 
-/// The records of a stream that have come and were not taken, as bytes. Contracts see the stream's header and the records.
+/// The records of a stream that have come and were not taken. Contracts see the stream's header and the records.
 #[derive(Drop)]
 #[derive_where(Debug)]
 pub(crate) struct Backlog<A: Allocator = Global> {
@@ -33,9 +30,9 @@ impl<A: Allocator> Model for Backlog<A> {
 
     ghost Value = { Coming };
 
-    ghost view = { λ b. record { header = b.header; waiting = flat_map (λ p. p.waiting) b.pieces.items } };
+    ghost view = { λ b. record { header = b.header; waiting = flat_map (λ p. p) b.pieces.items } };
 
-    ghost invariant = { λ b. ArePieces b.header b.pieces.items b.first };
+    ghost invariant = { λ b. ArePieces b.pieces.items b.first };
 }
 
 /// Whether the last of the pieces has room for one more record.
@@ -52,17 +49,16 @@ fn has_room<A: Allocator>(pieces: &[Piece<A>]) -> bool
 ///
 /// # Errors
 /// `Memory`: out of memory.
-fn last_with_room<A: Allocator>(
+fn last_with_room<A: Allocator + Copy>(
     alloc: A,
-    header: Header,
     pieces: &mut Vec<Piece<A>, A>,
 ) -> Result<usize, Memory>
     ensures place { IfOk result (λ p. p + 1 ≡ length pieces.new.items) }
-    ensures grown { OnOk result ((pieces.new.items ≡ pieces.old.items) ⊎ (pieces.new.items ≡ pieces.old.items ++ record { header = header; waiting = [] } ∷ [])) }
+    ensures grown { OnOk result ((pieces.new.items ≡ pieces.old.items) ⊎ (pieces.new.items ≡ pieces.old.items ++ [] ∷ [])) }
     ensures unchanged { OnErr result (pieces.new.items ≡ pieces.old.items) }
 {
     if !has_room(pieces) {
-        let piece = Piece::new(alloc, header)?;
+        let piece = Piece::new(alloc)?;
         pieces.push(piece)?;
     }
     Ok(pieces.len() - 1)
@@ -81,18 +77,16 @@ impl<A: Allocator + Copy> Backlog<A> {
         }
     }
 
-    /// Adds the bytes of the next record, which has no fault.
+    /// Adds the next record.
     ///
     /// # Errors
     /// `Memory`: out of memory.
-    pub(crate) fn push(&mut self, bytes: &[u8]) -> Result<(), Memory>
-        requires length { length bytes.now ≡ record_length self.old.header.version }
-        requires good { (e : AnyEvent) × (event_at self.old.header bytes.now ≡ Ok e) }
-        ensures { OnOk result ((e : AnyEvent) → event_at self.old.header bytes.now ≡ Ok e → self.new ≡ with_waiting self.old e) }
+    pub(crate) fn push(&mut self, event: &Event) -> Result<(), Memory>
+        ensures { OnOk result (self.new ≡ with_waiting self.old event.now) }
     {
-        let last = last_with_room(self.alloc, self.header, &mut self.pieces)?;
+        let last = last_with_room(self.alloc, &mut self.pieces)?;
         self.first = self.first.min(last);
-        self.pieces[last].push(bytes)?;
+        self.pieces[last].push(event)?;
         Ok(())
     }
 }

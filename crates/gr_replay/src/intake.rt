@@ -158,7 +158,7 @@ fn take_records<'p, A: Allocator + Copy>(
             Err(error) => return Err(Fault::of_stream(place, error)),
         };
         let is_end = event.kind.is_end();
-        let Ok(()) = current.take(sequencer, shadows, unit, event) else {
+        let Ok(()) = current.take(sequencer, shadows, event) else {
             return Err(Fault::Memory);
         };
         rest = after;

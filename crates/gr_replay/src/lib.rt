@@ -16,6 +16,7 @@ mod piece;
 mod races;
 pub mod records;
 mod run;
+mod short;
 mod taking;
 mod turn;
 mod waiting;

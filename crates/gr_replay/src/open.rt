@@ -1,11 +1,10 @@
 //! The stream whose records come.
 
-ghost use Rattle.std.specs.Prelude.{◌≡◌, ◌≢◌, ◌<◌, ◌++◌, ◌∷◌, [], ℕ, false, Ok, OnOk, length};
+ghost use Rattle.std.specs.Prelude.{◌≡◌, ◌≢◌, ◌<◌, ◌++◌, ◌∷◌, [], ℕ, false, OnOk, length};
 ghost use Rattle.gr_model.specs.declared.limits.TheConstants.{MOST_RECORDS};
 ghost use Rattle.gr_model.specs.Events.{IsEventOk};
 ghost use Rattle.gr_model.specs.Streams.{list_of, size_of};
 ghost use Rattle.gr_order.specs.Sequences.{IsSequence};
-ghost use Rattle.gr_record.specs.Reading.{event_at};
 ghost use Rattle.gr_record.specs.Versions.{record_length};
 ghost use Rattle.gr_replay.specs.Intakes.{AreOpen, IsKeptOpen, come_of, next_event_at, with_event};
 ghost use Rattle.gr_replay.specs.Sequencing.{AreShadowsOf};
@@ -72,7 +71,7 @@ impl<A: Allocator + Copy> Open<A> {
         read_event(self.backlog.header(), bytes)
     }
 
-    /// Has a sequencer take the stream's next record, or keeps its bytes where records of it wait.
+    /// Has a sequencer take the stream's next record, or keeps it where records of the stream wait.
     ///
     /// # Errors
     /// `Memory`: out of memory.
@@ -81,11 +80,8 @@ impl<A: Allocator + Copy> Open<A> {
         &mut self,
         sequencer: &mut Sequencer<A>,
         shadows: &mut Shadows<A>,
-        bytes: &[u8],
         event: Event,
     ) -> Result<(), Memory>
-        requires length { length bytes.now ≡ record_length self.old.backlog.header.version }
-        requires event { event_at self.old.backlog.header bytes.now ≡ Ok event }
         requires good { IsEventOk event self.old.backlog.header.items }
         requires kept { IsKeptOpen sequencer.old.taken self.old }
         requires few { self.old.count < MOST_RECORDS }
@@ -102,7 +98,7 @@ impl<A: Allocator + Copy> Open<A> {
         ensures shadows { OnOk result (AreShadowsOf sequencer.new shadows.new) }
     {
         if self.waits {
-            self.backlog.push(bytes)?;
+            self.backlog.push(&event)?;
             self.count += 1;
             return Ok(());
         }

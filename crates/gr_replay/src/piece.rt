@@ -1,106 +1,141 @@
-//! A piece of what waits of a stream: the bytes of some of its records, one after the other.
+//! A piece of what waits of a stream: some of its records, one after the other.
 //!
-//! Invariant: behind those that were read, the bytes are records without faults.
+//! Invariant: behind the records that were read, there is a list of names for each that has some.
 
-ghost use Rattle.std.specs.Prelude.{◌≡◌, ◌∷◌, [], IfOk, MatchOption, Ok, OnOk, length};
-ghost use Rattle.gr_model.specs.declared.event.Event.{Event as AnyEvent};
-ghost use Rattle.gr_record.specs.Reading.{event_at};
-ghost use Rattle.gr_record.specs.Versions.{record_length};
-ghost use Rattle.gr_replay.specs.Waiting.{with_waiting};
+ghost use Rattle.std.specs.Prelude.{◌≡◌, ◌∷◌, ◌++◌, [], IfOk, MatchOption, OnOk};
 
+use crate::short::{Short, next_names};
 use gr_model::event::Event;
 use gr_model::memory::Memory;
-use gr_record::header::Header;
-use gr_record::reading::read_good_event;
+use gr_model::names::Names;
 use std::alloc::{Allocator, Global};
 use std::marker::Model;
 
-/// How many bytes a piece has room for: as many records of either version as they are.
-const PIECE_LENGTH: usize = 65_520;
+/// How many records a piece has room for.
+const PIECE_LENGTH: usize = 4096;
 
-/// Some records that wait. Contracts see the stream's header and the records that were not read yet.
+/// Some records that wait. Contracts see those that were not read yet.
 #[derive(Drop)]
 #[derive_where(Debug)]
 pub(crate) struct Piece<A: Allocator = Global> {
-    header: Header,
-    bytes: Vec<u8, A>,
-    /// How many bytes were read.
+    shorts: Vec<Short, A>,
+    /// How many of them were read.
     read: usize,
-    /// How many records were not.
-    count: usize,
+    /// The releases that those which name some do.
+    names: Vec<Names, A>,
+    /// How many lists of these were read.
+    names_read: usize,
 }
 
 impl<A: Allocator> Model for Piece<A> {
-    ghost use Rattle.std.specs.Prelude.{◌≤◌, drop, length};
-    ghost use Rattle.gr_replay.specs.Waiting.{AreStanding, Coming, standing};
+    ghost use Rattle.std.specs.Prelude.{◌≤◌, List, drop, length};
+    ghost use Rattle.gr_model.specs.declared.event.Event.{Event};
+    ghost use Rattle.gr_replay.specs.Waiting.{AreNamed, listed};
 
-    ghost Value = { Coming };
+    ghost Value = { List Event };
 
-    ghost view = { λ p. record { header = p.header; waiting = standing p.header p.count (drop p.read p.bytes.items) } };
+    ghost view = { λ p. listed (drop p.read p.shorts.items) (drop p.names_read p.names.items) };
 
-    ghost invariant = { λ p. AreStanding p.header p.count (drop p.read p.bytes.items) × (p.read ≤ length p.bytes.items) };
+    ghost invariant = { λ p. AreNamed (drop p.read p.shorts.items) (drop p.names_read p.names.items) × (p.read ≤ length p.shorts.items) × (p.names_read ≤ length p.names.items) };
 }
 
-impl<A: Allocator> Piece<A> {
+impl<A: Allocator + Copy> Piece<A> {
     /// A piece without records.
     ///
     /// # Errors
     /// `Memory`: out of memory.
-    pub(crate) fn new(alloc: A, header: Header) -> Result<Piece<A>, Memory>
-        ensures { IfOk result (λ p. p ≡ record { header = header; waiting = [] }) }
+    pub(crate) fn new(alloc: A) -> Result<Piece<A>, Memory>
+        ensures { IfOk result (λ p. p ≡ []) }
     {
+        let shorts = Vec::with_capacity(alloc, PIECE_LENGTH)?;
         Ok(Piece {
-            header,
-            bytes: Vec::with_capacity(alloc, PIECE_LENGTH)?,
+            shorts,
             read: 0,
-            count: 0,
+            names: Vec::new(alloc),
+            names_read: 0,
         })
     }
+}
 
+impl<A: Allocator> Piece<A> {
     /// Whether there is room for one more record.
     pub(crate) fn has_room(&self) -> bool {
-        self.bytes.len() < PIECE_LENGTH
+        self.shorts.len() < PIECE_LENGTH
     }
 
-    /// Adds the bytes of a record, which has no fault.
+    /// Adds a record.
     ///
     /// # Errors
     /// `Memory`: out of memory.
-    pub(crate) fn push(&mut self, bytes: &[u8]) -> Result<(), Memory>
-        requires length { length bytes.now ≡ record_length self.old.header.version }
-        requires good { (e : AnyEvent) × (event_at self.old.header bytes.now ≡ Ok e) }
-        ensures header { self.new.header ≡ self.old.header }
-        ensures waits { OnOk result ((e : AnyEvent) → event_at self.old.header bytes.now ≡ Ok e → self.new ≡ with_waiting self.old e) }
+    #[inline(always)]
+    pub(crate) fn push(&mut self, event: &Event) -> Result<(), Memory>
+        ensures { OnOk result (self.new ≡ self.old ++ event.now ∷ []) }
     {
-        self.bytes.extend_from_slice(bytes)?;
-        self.count += 1;
+        if !event.names.as_slice().is_empty() {
+            return self.push_naming(event);
+        }
+        self.shorts.push(Short::of(event, false))?;
         Ok(())
     }
 
-    /// The first record that was not read yet. Behind the last one the piece takes no bytes.
-    pub(crate) fn next(&mut self) -> Option<Event>
-        ensures { MatchOption result ((self.old.waiting ≡ []) × (self.new ≡ self.old)) (λ e. self.old ≡ record { header = self.new.header; waiting = e ∷ self.new.waiting }) }
+    /// Adds a record that names releases.
+    ///
+    /// # Errors
+    /// `Memory`: out of memory.
+    fn push_naming(&mut self, event: &Event) -> Result<(), Memory>
+        ensures { OnOk result (self.new ≡ self.old ++ event.now ∷ []) }
     {
-        if self.count == 0 {
-            return None;
+        self.names.reserve(1)?;
+        self.shorts.push(Short::of(event, true))?;
+        self.names.push_reserved(event.names);
+        Ok(())
+    }
+
+    /// The first record that was not read yet. Behind the last one the piece takes no memory.
+    #[inline(always)]
+    pub(crate) fn next(&mut self) -> Option<Event>
+        ensures { MatchOption result ((self.old ≡ []) × (self.new ≡ self.old)) (λ e. self.old ≡ e ∷ self.new) }
+    {
+        let short = match self.shorts.get(self.read) {
+            None => return None,
+            Some(short) => *short,
+        };
+        if short.has_names {
+            return self.next_naming();
         }
-        let length = self.header.version.record_length();
-        let (front, _) = self.bytes[self.read..].split_at(length);
-        let event = read_good_event(self.header, front);
-        self.read += length;
-        self.count -= 1;
+        self.read += 1;
         self.give_back();
-        Some(event)
+        Some(short.with_names(Names::none()))
+    }
+
+    /// The same, of a record that may name releases.
+    #[inline(never)]
+    fn next_naming(&mut self) -> Option<Event>
+        ensures { MatchOption result ((self.old ≡ []) × (self.new ≡ self.old)) (λ e. self.old ≡ e ∷ self.new) }
+    {
+        let short = match self.shorts.get(self.read) {
+            None => return None,
+            Some(short) => *short,
+        };
+        let (names, names_read) = next_names(&self.names, self.names_read, short.has_names);
+        self.read += 1;
+        self.names_read = names_read;
+        self.give_back();
+        Some(short.with_names(names))
     }
 
     /// Gives the memory back where all records were read.
+    #[inline(always)]
     fn give_back(&mut self)
         ensures { self.new ≡ self.old }
     {
-        if self.count == 0 {
-            self.bytes.clear();
-            self.bytes.shrink_to_fit();
+        if self.read == self.shorts.len() {
+            self.shorts.clear();
+            self.shorts.shrink_to_fit();
+            self.names.clear();
+            self.names.shrink_to_fit();
             self.read = 0;
+            self.names_read = 0;
         }
     }
 }

@@ -60,7 +60,7 @@ impl Turn {
         self.waiting = 0;
     }
 
-    /// Whether so many events came to wait, and wait still, that those behind them are better kept as bytes: twice as many as
+    /// Whether so many events came to wait, and wait still, that those behind them are better kept aside: twice as many as
     /// the group has items, since each item may have come to a barrier with one event behind it.
     pub(crate) fn is_stuck(&self) -> bool {
         self.held.saturating_sub(self.first) >= 2 * u64::from(self.items)

@@ -1,4 +1,4 @@
-//! Streams whose records wait for those of a later stream, so many that they are kept as bytes; and a reader that fails behind a
+//! Streams whose records wait for those of a later stream, so many that they are kept aside; and a reader that fails behind a
 //! fault.
 
 use crate::bytes::{
@@ -15,6 +15,11 @@ const LOAD_0_20_DEVICE_FROM_1_0_0: [u8; 20] = [
     2, 0, 2, 2, 0, 0, 0, 0, 20, 0, 0, 0, 1, 0, 0, 0, 0, 0, 0, 0,
 ];
 
+/// Item 0 acquires from the second release of item 0 of group 1.
+const LOAD_0_20_DEVICE_FROM_1_0_1: [u8; 20] = [
+    2, 0, 2, 2, 0, 0, 0, 0, 20, 0, 0, 0, 1, 0, 0, 0, 1, 0, 0, 0,
+];
+
 /// Item 0 reads global word 24.
 const READ_0_24: [u8; 20] = [
     0, 0, 0, 0, 0, 0, 0, 0, 24, 0, 0, 0, 255, 255, 255, 255, 255, 255, 255, 255,
@@ -25,30 +30,50 @@ const WRITE_0_24: [u8; 20] = [
     1, 0, 0, 0, 0, 0, 0, 0, 24, 0, 0, 0, 255, 255, 255, 255, 255, 255, 255, 255,
 ];
 
-/// How often group 0 reads global word 16: more often than its events may wait, and in several pieces of bytes.
+/// Item 0 reads global word 28.
+const READ_0_28: [u8; 20] = [
+    0, 0, 0, 0, 0, 0, 0, 0, 28, 0, 0, 0, 255, 255, 255, 255, 255, 255, 255, 255,
+];
+
+/// Item 0 writes global word 28.
+const WRITE_0_28: [u8; 20] = [
+    1, 0, 0, 0, 0, 0, 0, 0, 28, 0, 0, 0, 255, 255, 255, 255, 255, 255, 255, 255,
+];
+
+/// How often group 0 reads global word 16: more often than its events may wait, and in several pieces.
 const READS: u32 = 12_000;
 
-/// Group 0 acquires what group 1 has released, reads global word 16 many times and then word 24.
+/// Group 0 acquires what group 1 has released first, reads global word 16 many times, acquires what was released then, and reads
+/// words 24 and 28.
 fn waits(alloc: Global) -> Result<Vec<u8>, AllocError> {
     let mut bytes = joined(alloc, &[&HEADER_0_1, &LOAD_0_20_DEVICE_FROM_1_0_0])?;
     for _ in 0..READS {
         bytes.extend_from_slice(&READ_0)?;
     }
-    bytes.extend_from_slice(&READ_0_24)?;
-    bytes.extend_from_slice(&END)?;
+    for record in [&LOAD_0_20_DEVICE_FROM_1_0_1, &READ_0_24, &READ_0_28, &END] {
+        bytes.extend_from_slice(record)?;
+    }
     Ok(bytes)
 }
 
-/// Group 1 writes global word 16 before its release, and word 24 behind it.
+/// Group 1 writes global word 16 before its first release, word 24 before its second, and word 28 behind it.
 fn releases(alloc: Global) -> Result<Vec<u8>, AllocError> {
     joined(
         alloc,
-        &[&HEADER_1_1, &WRITE_0, &STORE_0_20_DEVICE, &WRITE_0_24, &END],
+        &[
+            &HEADER_1_1,
+            &WRITE_0,
+            &STORE_0_20_DEVICE,
+            &WRITE_0_24,
+            &STORE_0_20_DEVICE,
+            &WRITE_0_28,
+            &END,
+        ],
     )
 }
 
 const LINES: &str =
-    "gpurace 1\ngroups 2 items 2 records 12007\nrace global 24\nend races 1 diverge 0 unmatched 0 held 0\n";
+    "gpurace 1\ngroups 2 items 2 records 12011\nrace global 28\nend races 1 diverge 0 unmatched 0 held 0\n";
 
 #[test]
 fn streams_that_wait_are_reported(rt: HostRuntime) -> Result<(), Fail> {

@@ -10,7 +10,7 @@ returns-in-Some g c =
     let piece = c.index_mut.result.now in
     let new = c.next.new.self in
     let there : first < length pieces = omega (arith, c.loop-self-test.true, c.len.ensures) in
-    let waits = sym (ap (λ (p : Coming). p.waiting) c.index_mut.ensures.value) ∙ ap (λ (p : Coming). p.waiting) c.in-Some.ensures in
+    let waits = sym c.index_mut.ensures.value ∙ c.in-Some.ensures in
     sym c.loop-self.invariant.same ∙ ap (coming c.loop-self.self-inside.header) (first_piece pieces first piece new c.in-Some.event there c.loop-self.invariant.pieces.read waits)
 
 pub returns : goal.returns

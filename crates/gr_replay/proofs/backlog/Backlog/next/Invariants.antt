@@ -6,7 +6,7 @@ use Rattle.gr_replay.proofs.backlog.Backlog.next.Given as goal
 abbrev pub invariant-loop-self : goal.invariant-loop-self
 invariant-loop-self g l = record {
   same : coming l.self-inside.header (waiting_in l.self-inside.pieces.items) ≡ l.fn.self;
-  pieces : ArePieces l.self-inside.header l.self-inside.pieces.items l.self-inside.first;
+  pieces : ArePieces l.self-inside.pieces.items l.self-inside.first;
 }
 
 abbrev pub decreases-loop-self : goal.decreases-loop-self
