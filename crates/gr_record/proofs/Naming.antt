@@ -10,7 +10,7 @@ use Rattle.gr_model.specs.NameLists.{AreNames}
 use Rattle.gr_record.specs.declared.error.RecordError.{RecordError}
 use Rattle.gr_record.specs.declared.error.RecordError.TheVariants as errors
 use Rattle.gr_record.specs.declared.header.Header.{Header}
-use Rattle.gr_record.specs.Reading.{field, bad_field, kind_of, space_at, names_at, is_order_ok, is_naming_ok, naming, unless_bad, unless_bad_names, event_at}
+use Rattle.gr_record.specs.Reading.{field, bad_field, kind_of, space_at, names_at, is_order_ok, is_naming_ok, naming, event_at}
 use Rattle.gr_record.proofs.Places.{naming_found, naming_back}
 
 some_names : (o : Option (List Name)) (names : List Name) → IsSome o → IfSome o (λ n. n ≡ names) → o ≡ Some names
@@ -55,38 +55,3 @@ judged h bytes kind said names first fields is order are named =
     let order_is : is_order_ok (kind_of bytes) ≡ true = rw is at order in
     let named_is : naming (kind_of bytes) (names_at h.version bytes) ≡ Some names = rw (is, are) at named in
     rw (first, fields, order_is, named_is) refl
-
--- ---- a record that has no fault
-
--- its names are those that it may have, and it says what its fields say
-pub record Good (h : Header) (bytes : List ℕ) : Type 0 where
-  pub names : List Name
-  pub named : naming (kind_of bytes) (names_at h.version bytes) ≡ Some names
-  pub is : event_at h bytes ≡ Ok (record { item = field 4 2 bytes; kind = kind_of bytes; space = space_at bytes; word = field 8 4 bytes; names = names })
-
-past : (b : Bool) (f : RecordError) (x : Result Event RecordError) (e : Event) → cond b (Err f) x ≡ Ok e → x ≡ Ok e
-past true f x e is = absurd cc
-past false f x e is = is
-
-past_fields : (o : Option ℕ) (x : Result Event RecordError) (e : Event) → unless_bad o x ≡ Ok e → x ≡ Ok e
-past_fields (Some place) x e is = absurd cc
-past_fields None x e is = is
-
-record Named (o : Option (List Name)) (next : List Name → Result Event RecordError) (e : Event) : Type 0 where
-  names : List Name
-  is : o ≡ Some names
-  next_is : next names ≡ Ok e
-
-past_names : (o : Option (List Name)) (next : List Name → Result Event RecordError) (e : Event) → unless_bad_names o next ≡ Ok e → Named o next e
-past_names None next e is = absurd cc
-past_names (Some names) next e is = record { names = names; is = refl; next_is = is }
-
-pub good : (h : Header) (bytes : List ℕ) (e : Event) → event_at h bytes ≡ Ok e → Good h bytes
-unfolding event_at
-good h bytes e is =
-    let fields = past _ _ _ e is in
-    let order = past_fields (bad_field bytes) _ e fields in
-    let names = past _ _ _ e order in
-    let named = past_names (naming (kind_of bytes) (names_at h.version bytes)) _ e names in
-    let item = past _ _ _ e named.next_is in
-    record { names = named.names; named = named.is; is = is ∙ sym item }

@@ -3,8 +3,7 @@
 //! A record's fields are judged from the left, so that the first fault is the one that is answered (docs/FORMATS.md,
 //! "Faults of a whole record").
 
-ghost use Rattle.std.specs.Prelude.{◌≡◌, ◌≤◌, ◌*◌, IsTrue, None, Ok, length, take};
-ghost use Rattle.gr_model.specs.declared.event.Event.{Event as AnyEvent};
+ghost use Rattle.std.specs.Prelude.{◌≡◌, ◌≤◌, ◌*◌, IsTrue, None, length, take};
 ghost use Rattle.gr_record.specs.Versions.{record_length};
 ghost use Rattle.gr_record.specs.Reading.{version_of, header_at, is_field_ok, bad_field, space_of, scope_of, order_of, kind_of, space_at, are_unused, name_in, names_in, is_order_ok, naming, event_at};
 
@@ -346,25 +345,4 @@ pub fn read_event(header: Header, bytes: &[u8]) -> Result<Event, RecordError>
         word: LittleEndian::read_u32(&bytes[8..]),
         names,
     })
-}
-
-/// What a whole record says in the stream of this header, which is known to have no fault: nothing is judged that need not be.
-/// Requires: there are the bytes of a record, and it has no fault.
-#[inline(always)]
-pub fn read_good_event(header: Header, bytes: &[u8]) -> Event
-    requires length { length bytes.now ≡ record_length header.version }
-    requires good { (e : AnyEvent) × (event_at header bytes.now ≡ Ok e) }
-    ensures { event_at header bytes.now ≡ Ok result }
-{
-    let kind = read_kind(bytes);
-    let Some(names) = read_naming(kind, &bytes[FIELDS_LENGTH..], header.version.places()) else {
-        unreachable!()
-    };
-    Event {
-        item: LittleEndian::read_u16(&bytes[4..]),
-        kind,
-        space: space_in(bytes),
-        word: LittleEndian::read_u32(&bytes[8..]),
-        names,
-    }
 }
