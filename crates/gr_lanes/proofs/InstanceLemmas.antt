@@ -1,14 +1,13 @@
 -- Instances, by the barriers that are found.
-use Rattle.std.proofs.Common.{◌≡◌, ℕ, zero, suc, ◌+◌, ◌<◌, true, cond, List, [], ◌∷◌, Option, Some, None, slice_get, filter, filter_map, is_some, refl, sym, ap, ◌∙◌, subst, inl, inr, arith, true≢false}
+use Rattle.std.proofs.Common.{◌≡◌, ℕ, zero, suc, ◌+◌, ◌<◌, true, cond, List, [], ◌∷◌, Option, Some, None, slice_get, filter, filter_map, is_some, false, ◌⊎◌, refl, sym, ap, ◌∙◌, subst, inl, inr, arith, true≢false}
 use Rattle.std.specs.Prelude.{MatchOption}
 use Rattle.std.specs.List.{cons_option}
 use Rattle.gr_model.specs.declared.event.Event.{Event}
 use Rattle.gr_model.specs.Barriers.{IsDivergent, arrivals, is_barrier, mark_of}
 use Rattle.gr_model.specs.Instances.{Mark}
 use Rattle.gr_model.specs.Streams.{Streams, is_complete, list_of, places_from, size_of, trace_of}
-use Rattle.gr_lanes.specs.Indices.{record_of}
 use Rattle.gr_lanes.specs.Instances.{HasCome, MakesDivergent, Parts}
-use Rattle.gr_lanes.specs.Kept.{SayTheSame, of_item}
+use Rattle.gr_lanes.specs.Kept.{CameWith, NoneDiffers, of_item}
 
 -- the k-th barrier of a list gives the k-th mark
 abbrev pub GivesMark : ℕ → List Event → ℕ → ℕ → Type 0
@@ -81,17 +80,33 @@ module _ (s : Streams) (g k : ℕ) (x : Event) (come : HasCome s g k x) where
       mixed.6 (let same : Some mixed.2 ≡ Some mixed.3 = first_is ∙ sym second_is in cc)))))
   none_parted none (inr part) = none part.1.1 part.1.4 (subst (Parts (is_complete (list_of s g)) (mark_of x)) (sym part.1.5) part.0)
 
--- two that said the same came with the same mark
-module _ (s : Streams) (g n i j : ℕ) (same : SayTheSame s g i j n) where
-  came_as : (k : ℕ) (x : Event) → record_of s is_barrier (record { group = g; item = k }) n ≡ Some x → arrivals s g n k ≡ mark_of x
-  came_as k x is =
-      let xs = trace_of s (record { group = g; item = k }) in
-      (subst (λ (o : Option Event). MatchOption o (slice_get (filter_map mark_of xs) n ≡ None) (λ y. (slice_get (filter_map mark_of xs) n ≡ mark_of y) × (is_some (mark_of y) ≡ true))) is (record_mark xs n)).0
+-- where none differs the instance is not divergent
+module _ (s : Streams) (g n : ℕ) (x : Event) (come : HasCome s g n x) (none : NoneDiffers s g n) where
+  -- what an item came with, or that it did not come
+  came_with : (i : ℕ) → i < size_of s g → (arrivals s g n i ≡ mark_of (of_item i none.0)) ⊎ ((is_complete (list_of s g) ≡ false) × (arrivals s g n i ≡ None))
+  came_with i within = by_case (none.1 i within)
+    where
+      xs : List Event
+      xs = trace_of s (record { group = g; item = i })
 
-  pub same_arrival : arrivals s g n i ≡ arrivals s g n j
-  same_arrival = came_as i (of_item i same.0) same.1 ∙ sym (came_as j (of_item j same.0) same.2)
+      by_case : CameWith (slice_get (filter is_barrier xs) n) (slice_get (places_from is_barrier 0 xs) n) (is_complete (list_of s g)) i none.0 → (arrivals s g n i ≡ mark_of (of_item i none.0)) ⊎ ((is_complete (list_of s g) ≡ false) × (arrivals s g n i ≡ None))
+      by_case (inl is) = inl (subst (λ (o : Option Event). MatchOption o (slice_get (filter_map mark_of xs) n ≡ None) (λ y. (slice_get (filter_map mark_of xs) n ≡ mark_of y) × (is_some (mark_of y) ≡ true))) is (record_mark xs n)).0
+      by_case (inr lacks) = inr (lacks.0, no_mark 0 xs n lacks.1)
 
-  pub not_parted : (m : Option Mark) → is_some m ≡ true → arrivals s g n j ≡ m → MakesDivergent s g n m i → ⊥
-  not_parted m some came parted =
-      let a = some_mark m some in
-      subst (Parts (is_complete (list_of s g)) m) (same_arrival ∙ (came ∙ a.1)) parted (sym a.1)
+  mark_is : mark_of (of_item come.item none.0) ≡ mark_of x
+  mark_is = by_case (came_with come.item come.within)
+    where
+      by_case : (arrivals s g n come.item ≡ mark_of (of_item come.item none.0)) ⊎ ((is_complete (list_of s g) ≡ false) × (arrivals s g n come.item ≡ None)) → mark_of (of_item come.item none.0) ≡ mark_of x
+      by_case (inl is) = sym is ∙ come.came
+      by_case (inr lacks) = let some = some_mark (mark_of x) come.barrier in absurd (let no : None ≡ Some some.0 = sym lacks.1 ∙ (come.came ∙ some.1) in cc)
+
+  pub not_divergent : IsDivergent s g n → ⊥
+  not_divergent = none_parted s g n x come (λ j within parted. by_case j parted (came_with j within))
+    where
+      by_case : (j : ℕ) → MakesDivergent s g n (mark_of x) j → (arrivals s g n j ≡ mark_of (of_item j none.0)) ⊎ ((is_complete (list_of s g) ≡ false) × (arrivals s g n j ≡ None)) → ⊥
+      by_case j parted (inl is) =
+          let a = some_mark (mark_of x) come.barrier in
+          subst (Parts (is_complete (list_of s g)) (mark_of x)) (is ∙ (mark_is ∙ a.1)) parted (sym a.1)
+      by_case j parted (inr lacks) =
+          let whole = subst (Parts (is_complete (list_of s g)) (mark_of x)) lacks.1 parted in
+          true≢false (sym whole ∙ lacks.0)

@@ -1,7 +1,11 @@
 -- The indices of a group's items, by what is kept of them.
-use Rattle.std.proofs.Common.{◌≡◌, ℕ, zero, suc, ◌+◌, ◌-◌, ◌<◌, ◌≤◌, Bool, true, false, List, [], ◌∷◌, ◌++◌, length, map, get_or, set, take, refl, sym, ap, ◌∙◌, subst, ⊎_elim, arith, ltb, Some, None, slice_get, is_some, cond}
+use Rattle.std.proofs.Common.{◌≡◌, ℕ, zero, suc, ◌+◌, ◌-◌, ◌<◌, ◌≤◌, Bool, true, false, List, [], ◌∷◌, ◌++◌, length, map, get_or, set, take, refl, sym, ap, ◌∙◌, subst, ⊎_elim, arith, ltb, Some, None, slice_get, is_some, cond, not, Option, inl, inr, true≢false}
+use Rattle.std.specs.Prelude.{◌||◌, ◌&&◌}
+use Rattle.gr_model.specs.declared.event.Space.TheVariants.{Global}
 use Rattle.std.proofs.lemmas.Bool.{cases_eq, cases_lt, ltb-false, ltb-true}
-use Rattle.std.proofs.lemmas.Option.{slice_get-map}
+use Rattle.std.proofs.lemmas.Option.{slice_get-get_or, slice_get-map}
+use Rattle.std.specs.List.{list_all}
+use Rattle.std.proofs.lemmas.List.Folds.{list_all_at}
 use Rattle.std.specs.Prelude.{option_map}
 use Rattle.std.proofs.lemmas.List.{get_or_append_left, get_or_past, get_or_push, length-append, length_push, length-set, map-append, get_or-set_same, get_or-set_other, get_or_read, take-append-le}
 use Rattle.gr_model.specs.declared.event.Event.{Event}
@@ -13,7 +17,7 @@ use Rattle.gr_model.specs.Barriers.{is_barrier, mark_of_kind}
 use Rattle.gr_model.specs.Events.{is_end, is_end_kind}
 use Rattle.gr_lanes.specs.Takes.{IsMereAccess}
 use Rattle.gr_lanes.specs.Indices.{Index, indexed, no_index, with_barrier, with_event}
-use Rattle.gr_lanes.specs.Kept.{AreAlike, Arrives, IsAlike, Kept, bare_of, indices_from, kept_index, kept_with, nothing_kept, of_item, said}
+use Rattle.gr_lanes.specs.Kept.{AreAlike, Arrives, CameWith, NoneDiffersIn, is_as_first, IsAlike, Kept, bare_of, indices_from, kept_index, kept_with, nothing_kept, of_item, said}
 
 index_from : (firsts : List Bare) (i : ℕ) (ks : List Kept) (j : ℕ) → get_or (indices_from firsts i ks) j no_index ≡ kept_index firsts (i + j) (get_or ks j nothing_kept)
 unfolding indices_from
@@ -52,6 +56,10 @@ indices-more firsts more i (k ∷ ks) alike =
 
 -- ---- what an item's barriers said
 
+no_value : (o : Option ℕ) → is_some o ≡ false → o ≡ None
+no_value None is = refl
+no_value (Some x) is = absurd cc
+
 alike_at : (firsts apart : List Bare) (a n : ℕ) → a ≤ length firsts → n < a → slice_get firsts n ≡ slice_get (take a firsts ++ apart) n
 alike_at firsts apart zero n within below = absurd (omega arith)
 alike_at [] apart (suc a) n within below = absurd (omega arith)
@@ -62,11 +70,6 @@ apart_at : (firsts apart : List Bare) (a m : ℕ) → a ≤ length firsts → sl
 apart_at firsts apart zero m within = ap (slice_get apart) (omega arith)
 apart_at [] apart (suc a) m within = absurd (omega arith)
 apart_at (x ∷ firsts) apart (suc a) m within = apart_at firsts apart a m (omega arith) ∙ ap (slice_get (x ∷ take a firsts ++ apart)) (let n : suc (a + m) ≡ suc a + m = omega arith in n)
-
-first_at : (firsts : List Bare) (n : ℕ) → n < length firsts → (b : Bare) × (slice_get firsts n ≡ Some b)
-first_at [] n within = absurd (omega arith)
-first_at (b ∷ firsts) zero within = (b, refl)
-first_at (b ∷ firsts) (suc n) within = first_at firsts n (omega arith)
 
 module _ (firsts : List Bare) (k : Kept) (i n : ℕ) (alike : IsAlike firsts k) where
   same_record : (xs : List Bare) (m : ℕ) → slice_get xs m ≡ slice_get (said firsts k) n → slice_get (map (of_item i) xs) m ≡ slice_get (map (of_item i) (said firsts k)) n
@@ -101,19 +104,48 @@ module _ (firsts : List Bare) (ks read : List Kept) (same : read ≡ ks) (i j : 
     pub lane_alike : AreAlike firsts ks → IsAlike firsts lane
     lane_alike alike = let lt = ltb-true j (length read) (sym there) in subst (IsAlike firsts) (sym lane_is) (alike i (omega (arith, ap length same)))
 
-    -- it said what the first of the instance did
-    pub says_first : (n : ℕ) → AreAlike firsts ks → n < lane.alike → (b : Bare) → slice_get firsts n ≡ Some b → slice_get (get_or s i no_index).arrived n ≡ Some (of_item i b)
-    says_first n alike below b first =
-        ap (λ (l : Index). slice_get l.arrived n) lane_index ∙ (sym (said_alike firsts lane i n (lane_alike alike) below)
-        ∙ (slice_get-map (of_item i) firsts n ∙ ap (option_map (of_item i)) first))
-
-    -- and there is one
-    pub has_first : (n : ℕ) → AreAlike firsts ks → n < lane.alike → (b : Bare) × (slice_get firsts n ≡ Some b)
-    has_first n alike below = first_at firsts n (omega (arith, below, (lane_alike alike).within))
-
 -- the index of an event is not found where there are no places
 pub not_among : (places : List ℕ) → places ≡ [] → (k n : ℕ) → slice_get places k ≡ Some n → ⊥
 not_among places none k n at = let lacks : slice_get places k ≡ None = ap (λ l. slice_get l k) none in cc
+
+-- ---- an instance
+
+abbrev no_bare : Bare
+no_bare = record { kind = Read; space = Global; word = 0 }
+
+-- what the first of an instance said
+abbrev first_of : List Bare → ℕ → Bare
+first_of firsts n = get_or firsts n no_bare
+
+module _ (firsts : List Bare) (ks : List Kept) (alike : AreAlike firsts ks) {s : List Index} (view : indices_from firsts 0 ks ≡ s) (n : ℕ) (ended : Bool) (all : list_all (λ k. is_as_first n ended k) ks ≡ true) where
+  came_with : (i : ℕ) (k : Kept) → IsAlike firsts k → is_as_first n ended k ≡ true → CameWith (slice_get (kept_index firsts i k).arrived n) (slice_get k.barriers n) ended i (first_of firsts n)
+  came_with i k is_alike is = by_alike (ltb n k.alike) refl is
+    where
+      by_rest : (b c : Bool) → ended ≡ b → is_some (slice_get k.barriers n) ≡ c → (not b && not c) ≡ true → (ended ≡ false) × (slice_get k.barriers n ≡ None)
+      by_rest false false open_end none holds = (open_end, no_value (slice_get k.barriers n) none)
+      by_rest false true open_end some holds = absurd cc
+      by_rest true c end some holds = absurd cc
+
+      by_alike : (a : Bool) → ltb n k.alike ≡ a → (a || (not ended && not (is_some (slice_get k.barriers n)))) ≡ true → CameWith (slice_get (kept_index firsts i k).arrived n) (slice_get k.barriers n) ended i (first_of firsts n)
+      by_alike true below holds =
+          let lt = ltb-true n k.alike below in
+          inl (sym (said_alike firsts k i n is_alike lt) ∙ (slice_get-map (of_item i) firsts n ∙ ap (option_map (of_item i)) (slice_get-get_or firsts n no_bare (omega (arith, lt, is_alike.within)))))
+      by_alike false behind holds = inr (by_rest ended (is_some (slice_get k.barriers n)) refl refl holds)
+
+  passes : (i : ℕ) → i < length ks → (b : Bool) → is_as_first n ended (get_or ks i nothing_kept) ≡ b → is_as_first n ended (get_or ks i nothing_kept) ≡ true
+  passes i there true is = is
+  passes i there false is = absurd (true≢false (sym all ∙ list_all_at (λ k. is_as_first n ended k) ks i nothing_kept there is))
+
+  pub none_differs_in : NoneDiffersIn s n ended
+  none_differs_in = (
+    first_of firsts n,
+    λ i within.
+        let there : i < length ks = omega (arith, within, ap length view, length-indices firsts 0 ks) in
+        let k = get_or ks i nothing_kept in
+        let is : get_or s i no_index ≡ kept_index firsts i k = ap (λ l. get_or l i no_index) (sym view) ∙ index_is firsts ks i in
+        subst (λ (l : Index). CameWith (slice_get l.arrived n) (slice_get l.barriers n) ended i (first_of firsts n)) (sym is)
+        (came_with i k (alike i there) (passes i there (is_as_first n ended k) refl)),
+  )
 
 -- ---- an event more
 

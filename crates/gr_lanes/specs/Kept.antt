@@ -1,9 +1,9 @@
 -- What is kept of a group's items: a lane of each, and of each instance of the group's barriers what the first said that came to it.
-use Rattle.std.specs.Prelude.{◌≡◌, ℕ, ◌<◌, ◌≤◌, List, [], ◌∷◌, ◌++◌, Bool, Some, length, map, take, slice_get, slice_index_or, suc, ◌+◌}
+use Rattle.std.specs.Prelude.{◌≡◌, ℕ, ◌<◌, ◌≤◌, List, [], ◌∷◌, ◌++◌, Bool, false, not, ◌||◌, ◌&&◌, ◌⊎◌, nat_lt, is_some, Option, Some, None, length, map, take, slice_get, slice_index_or, suc, ◌+◌}
 use Rattle.gr_model.specs.declared.event.Event.{Event}
 use Rattle.gr_lanes.specs.declared.bare.Bare.{Bare}
 use Rattle.gr_model.specs.Barriers.{is_barrier}
-use Rattle.gr_model.specs.Streams.{Streams}
+use Rattle.gr_model.specs.Streams.{Streams, is_complete, list_of, place_of, size_of}
 use Rattle.gr_lanes.specs.Indices.{Index, no_index, record_of, with_if}
 
 -- what a record says beside its item and the releases that it names
@@ -68,13 +68,20 @@ pub record IsAlike (firsts : List Bare) (k : Kept) : Type 0 where
 abbrev pub AreAlike : List Bare → List Kept → Type 0
 AreAlike firsts lanes = (i : ℕ) → i < length lanes → IsAlike firsts (slice_index_or lanes i nothing_kept)
 
--- what two items said at their barriers of a number is the same
-abbrev pub AreAlikeAt : List Index → ℕ → ℕ → ℕ → Type 0
-AreAlikeAt lanes i j n = (b : Bare) × (slice_get (slice_index_or lanes i no_index).arrived n ≡ Some (of_item i b)) × (slice_get (slice_index_or lanes j no_index).arrived n ≡ Some (of_item j b))
+-- whether a lane's barrier of a number said what the first of its instance did, or is not there, where more may come
+abbrev pub is_as_first : ℕ → Bool → Kept → Bool
+is_as_first n ended k = nat_lt n k.alike || (not ended && not (is_some (slice_get k.barriers n)))
 
--- the same, of the streams
-abbrev pub SayTheSame : Streams → ℕ → ℕ → ℕ → ℕ → Type 0
-SayTheSame s g i j n = (b : Bare) × (record_of s is_barrier (record { group = g; item = i }) n ≡ Some (of_item i b)) × (record_of s is_barrier (record { group = g; item = j }) n ≡ Some (of_item j b))
+-- an item came to an instance with this, or where more may come, it has not come
+abbrev pub CameWith : Option Event → Option ℕ → Bool → ℕ → Bare → Type 0
+CameWith came place ended i b = (came ≡ Some (of_item i b)) ⊎ ((ended ≡ false) × (place ≡ None))
+
+abbrev pub NoneDiffersIn : List Index → ℕ → Bool → Type 0
+NoneDiffersIn lanes n ended = (b : Bare) × ((i : ℕ) → i < length lanes → CameWith (slice_get (slice_index_or lanes i no_index).arrived n) (slice_get (slice_index_or lanes i no_index).barriers n) ended i b)
+
+-- the same, of the streams: no item of the group came to an instance with something else than another one, nor never comes
+abbrev pub NoneDiffers : Streams → ℕ → ℕ → Type 0
+NoneDiffers s g n = (b : Bare) × ((i : ℕ) → i < size_of s g → CameWith (record_of s is_barrier (record { group = g; item = i }) n) (place_of s is_barrier (record { group = g; item = i }) n) (is_complete (list_of s g)) i b)
 
 -- an item's lane has a barrier more, which said this, and its instance has a first
 pub record Arrives (firsts firsts' : List Bare) (old new : Kept) (b : Bare) : Type 0 where

@@ -3,7 +3,7 @@
 //! Invariant: the records are a prefix of a list that the group may have, and of each item the index of its events in it is
 //! kept. The list itself exists in proofs alone.
 
-ghost use Rattle.std.specs.Prelude.{◌≡◌, ◌↔◌, ◌∷◌, ◌++◌, ◌<◌, [], true, Some, IsTrue, IfOk, OnOk, OnErr, filter, length, slice_get, slice_index_or};
+ghost use Rattle.std.specs.Prelude.{◌≡◌, ◌↔◌, ◌∷◌, ◌++◌, ◌<◌, ℕ, [], true, Some, IsTrue, IfOk, OnOk, OnErr, filter, length, slice_get, slice_index_or};
 ghost use Rattle.gr_model.specs.declared.limits.TheConstants.{MOST_RECORDS};
 ghost use Rattle.gr_model.specs.Access as model;
 ghost use Rattle.gr_model.specs.Barriers as model_barriers;
@@ -11,7 +11,7 @@ ghost use Rattle.gr_model.specs.Events.{IsEventOk};
 ghost use Rattle.gr_model.specs.Streams.{is_complete, is_of, places_from};
 ghost use Rattle.gr_lanes.specs.Indices.{EndsCut, IsNumberAmong, end_of, no_index, indexed};
 ghost use Rattle.gr_lanes.specs.declared.bare.Bare.{Bare as BareOf};
-ghost use Rattle.gr_lanes.specs.Kept.{of_item};
+ghost use Rattle.gr_lanes.specs.Kept.{CameWith};
 ghost use Rattle.gr_lanes.specs.Takes.{IsMereAccess};
 
 use crate::items::Items;
@@ -144,12 +144,13 @@ impl<A: Allocator> Group<A> {
         self.items.barrier_event(item, number)
     }
 
-    /// Whether the barriers of two items with this number are known to say the same.
+    /// Whether no item is known to have come to an instance with something else than the first of it, and each has come where the
+    /// group has ended.
     #[inline(always)]
-    pub(crate) fn are_alike(&self, item: u16, other: u16, number: u32) -> bool
-        ensures { IsTrue result → (b : BareOf) × (slice_get (filter model_barriers.is_barrier (filter (is_of item) self.now.list)) number ≡ Some (of_item item b)) × (slice_get (filter model_barriers.is_barrier (filter (is_of other) self.now.list)) number ≡ Some (of_item other b)) }
+    pub(crate) fn none_differs(&self, number: u32) -> bool
+        ensures { IsTrue result → (b : BareOf) × ((i : ℕ) → i < self.now.size → CameWith (slice_get (filter model_barriers.is_barrier (filter (is_of i) self.now.list)) number) (slice_get (places_from model_barriers.is_barrier 0 (filter (is_of i) self.now.list)) number) (is_complete self.now.list) i b) }
     {
-        self.items.are_alike(item, other, number)
+        self.items.none_differs(number, self.is_complete())
     }
 
     /// The number among an item's releases of the event with this index, or `None` where that is no release.

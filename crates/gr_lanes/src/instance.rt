@@ -46,39 +46,17 @@ fn makes_divergent<A: Allocator>(lanes: &Lanes<A>, item: ItemId, number: u32, mi
     }
 }
 
-/// The same, where it may be known that the barrier's own item came with its mark: then an item that is known to have come as that
-/// one did is not looked at.
-#[inline(always)]
-fn makes_divergent_if<A: Allocator>(
-    lanes: &Lanes<A>,
-    item: ItemId,
-    number: u32,
-    mine: &Event,
-    known: bool,
-) -> bool
-    requires barrier { is_some (mark_of mine.now) ≡ true }
-    requires known { known ≡ true → arrivals lanes.now item.group number mine.now.item ≡ mark_of mine.now }
-    ensures { IsTrue result ↔ MakesDivergent lanes.now item.group number (mark_of mine.now) item.item }
-{
-    if known && lanes.are_alike(item.group, item.item, mine.item, number) {
-        return false;
-    }
-    makes_divergent(lanes, item, number, mine)
-}
-
 /// Whether the instance of a barrier that was taken is divergent.
 pub fn is_divergent<A: Allocator>(lanes: &Lanes<A>, group: u16, number: u32, mine: &Event) -> bool
     requires group { group < length lanes.now.sizes }
     requires come { HasCome lanes.now group number mine.now }
     ensures { IsTrue result ↔ IsDivergent lanes.now group number }
 {
-    let own = ItemId {
-        group,
-        item: mine.item,
-    };
-    let known = came_with(lanes, own, number, mine);
+    if lanes.none_differs(group, number) {
+        return false;
+    }
     for item in 0..lanes.shape().items(group) {
-        if makes_divergent_if(lanes, ItemId { group, item }, number, mine, known) {
+        if makes_divergent(lanes, ItemId { group, item }, number, mine) {
             return true;
         }
     }

@@ -3,9 +3,10 @@
 //! Invariant: each barrier that said what the first of its instance did has such a first.
 
 ghost use Rattle.std.specs.Prelude.{◌≡◌, ◌≢◌, ◌<◌, ℕ, [], true, IsTrue, IfOk, MatchOption, OnOk, OnErr, length, slice_get, slice_index_or};
+ghost use Rattle.std.specs.List.{list_all};
 ghost use Rattle.gr_model.specs.Barriers as model;
 ghost use Rattle.gr_lanes.specs.Indices.{AreRising, indexed, no_index, with_barrier};
-ghost use Rattle.gr_lanes.specs.Kept.{AreAlikeAt};
+ghost use Rattle.gr_lanes.specs.Kept.{NoneDiffersIn, is_as_first};
 ghost use Rattle.gr_lanes.specs.Takes.{IsMereAccess};
 
 use crate::bare::Bare;
@@ -35,6 +36,14 @@ impl<A: Allocator> Model for Items<A> {
     ghost view = { λ t. indices_from t.firsts.items 0 t.lanes.items };
 
     ghost invariant = { λ t. AreAlike t.firsts.items t.lanes.items };
+}
+
+/// Whether each lane is as the first of an instance is.
+#[inline(always)]
+fn are_as_first<A: Allocator>(lanes: &[Lane<A>], number: u32, ended: bool) -> bool
+    ensures { result ≡ list_all (λ k. is_as_first number ended k) lanes.now }
+{
+    lanes.iter().all(|lane| lane.is_as_first(number, ended))
 }
 
 impl<A: Allocator + Copy> Items<A> {
@@ -103,19 +112,13 @@ impl<A: Allocator> Items<A> {
         }
     }
 
-    /// Whether the barriers of two items with this number are known to say the same. It is quick, and answers false where they
-    /// may.
+    /// Whether no item is known to have come to an instance with something else than the first of it. Where the group has ended,
+    /// each must have come. It is quick, and may answer false where none has.
     #[inline(always)]
-    pub(crate) fn are_alike(&self, item: u16, other: u16, number: u32) -> bool
-        ensures { IsTrue result → AreAlikeAt self.now item other number }
+    pub(crate) fn none_differs(&self, number: u32, ended: bool) -> bool
+        ensures { IsTrue result → NoneDiffersIn self.now number ended }
     {
-        match self.lanes.get(usize::from(item)) {
-            None => false,
-            Some(lane) => match self.lanes.get(usize::from(other)) {
-                None => false,
-                Some(second) => lane.is_alike(number) && second.is_alike(number),
-            },
-        }
+        are_as_first(&self.lanes, number, ended)
     }
 
     /// The number among an item's releases of the event with this index, or `None` where that is no release.

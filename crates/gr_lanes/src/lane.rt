@@ -4,7 +4,7 @@
 //! Most barriers say what the first of their instance said, which the group keeps once: a lane counts how many of its first
 //! barriers do, and has what those behind them said.
 
-ghost use Rattle.std.specs.Prelude.{◌≡◌, ◌≢◌, ◌<◌, ◌≤◌, ℕ, Some, None, [], false, true, IsTrue, MatchOption, OnOk, OnErr, length, map, slice_get};
+ghost use Rattle.std.specs.Prelude.{◌≡◌, ◌≢◌, ◌<◌, ◌≤◌, ℕ, Some, None, [], false, true, MatchOption, OnOk, OnErr, length, map, slice_get};
 ghost use Rattle.gr_lanes.specs.Indices.{AreRising};
 ghost use Rattle.gr_lanes.specs.Kept as kept;
 ghost use Rattle.gr_lanes.specs.Kept.{alike_more, apart_more, Arrives, IsAlike, kept_index, kept_with, nothing_kept, said};
@@ -117,12 +117,12 @@ impl<A: Allocator> Lane<A> {
         of_item(&self.apart, item, number - self.alike)
     }
 
-    /// Whether the barrier with this number said what the first of its instance did.
+    /// Whether the barrier with this number said what the first of its instance did; or where more may come, is not there yet.
     #[inline(always)]
-    pub(crate) fn is_alike(&self, number: u32) -> bool
-        ensures { IsTrue result → number < self.now.alike }
+    pub(crate) fn is_as_first(&self, number: u32, ended: bool) -> bool
+        ensures { result ≡ kept.is_as_first number ended self.now }
     {
-        number < self.alike
+        number < self.alike || (!ended && self.barriers.get(number as usize).is_none())
     }
 
     /// The number among the item's barriers of the one with this index.

@@ -12,7 +12,7 @@ ghost use Rattle.gr_lanes.specs.Indices.{record_of};
 ghost use Rattle.gr_model.specs.Reports.{IsCut};
 ghost use Rattle.gr_model.specs.Names.{release_place};
 ghost use Rattle.gr_lanes.specs.declared.seq_error.SeqError.TheVariants.{Memory as OutOfMemory};
-ghost use Rattle.gr_lanes.specs.Kept.{SayTheSame};
+ghost use Rattle.gr_lanes.specs.Kept.{NoneDiffers};
 ghost use Rattle.gr_lanes.specs.Takes.{nothing_taken, with_record, IsEventButItem, IsMereAccess, CanTake, IsTakeFault};
 
 use crate::group::Group;
@@ -171,15 +171,16 @@ impl<A: Allocator> Lanes<A> {
         }
     }
 
-    /// Whether the barriers of two items of a group with this number, counted from 0, were taken and are known to have one site and
-    /// the same flags. It is quick, and may answer false where they have.
+    /// Whether no item of a group is known to have come to an instance of its barriers with another site or other flags than another
+    /// one, nor to be missing. It is quick, and may answer false where there is none.
     #[inline(always)]
-    pub fn are_alike(&self, group: u16, item: u16, other: u16, number: u32) -> bool
-        ensures { IsTrue result → SayTheSame self.now group item other number }
+    pub fn none_differs(&self, group: u16, number: u32) -> bool
+        requires { group < length self.now.sizes }
+        ensures { IsTrue result → NoneDiffers self.now group number }
     {
         match self.groups.get(usize::from(group)) {
             None => false,
-            Some(group) => group.are_alike(item, other, number),
+            Some(group) => group.none_differs(number),
         }
     }
 
