@@ -3,7 +3,6 @@ use Rattle.std.proofs.Common.{◌≡◌, ℕ, zero, suc, ◌+◌, ◌*◌, ◌<�
 use Rattle.std.specs.Prelude.{nat_lt, nat_le, ◌==◌, ◌||◌, ◌&&◌, not, slice_index}
 use Rattle.std.proofs.lemmas.Bool.{eqb-true, ltb-true, leb-true, ltb-false, leb-false, and_parts, cases_Bool, not-true, not-false}
 use Rattle.gr_model.specs.declared.event.Event.{Event}
-use Rattle.gr_model.specs.declared.event.Kind.{Kind}
 use Rattle.gr_model.specs.declared.event.Name.{Name}
 use Rattle.gr_model.specs.Events.{IsKindOk, IsEventOk}
 use Rattle.gr_record.specs.declared.header.Header.{Header}
@@ -12,7 +11,7 @@ use Rattle.gr_record.specs.declared.header.Version.TheVariants.{One, Two}
 use Rattle.gr_record.specs.declared.error.RecordError.{RecordError}
 use Rattle.gr_record.specs.Versions.{places, record_length}
 use Rattle.gr_record.specs.Spelling.{kind_bytes, names_bytes, version_byte, header_spelling, IsHeader}
-use Rattle.gr_record.specs.Reading.{field, is_field_ok, unless_bad, unless_bad_names, bad_field, bad_field_from, kind_of, space_at, names_in, names_at, naming, is_order_ok, is_naming_ok, event_at, version_of, header_behind, header_at}
+use Rattle.gr_record.specs.Reading.{field, is_field_ok, unless_bad, unless_bad_names, bad_field, bad_field_from, kind_of, space_at, names_in, names_at, is_order_ok, is_naming_ok, event_at, version_of, header_behind, header_at}
 use Rattle.gr_record.specs.Laws.{AreBytes, ReadIsSpelled, ReadHeaderIsSpelled}
 use Rattle.gr_record.proofs.Places.{bytes_drop, names_prefix, names_few, naming_found}
 use Rattle.gr_record.proofs.Numbers.{two_low, two_high, four, space_again, scope_again, order_again, bit_again, flags_again}

@@ -1,13 +1,11 @@
 -- The names of a record, as a call gives them that makes names.
-use Rattle.std.proofs.Common.{◌≡◌, ℕ, Bool, true, false, cond, List, [], ◌∷◌, length, Option, Some, None, Result, Ok, Err, refl, sym, ap, ◌∙◌, arith, inl, inr}
+use Rattle.std.proofs.Common.{◌≡◌, ℕ, Bool, true, false, cond, List, [], ◌∷◌, length, Option, Some, None, Ok, Err, refl, sym, ap, ◌∙◌, inl, inr}
 use Rattle.std.specs.Prelude.{◌==◌, ◌↔◌, IsSome, IfSome, nat_lt, nat_le, slice_index, if◌then◌else◌}
-use Rattle.std.proofs.lemmas.Bool.{and_from, cases_Bool}
-use Rattle.gr_model.specs.declared.event.Event.{Event}
+use Rattle.std.proofs.lemmas.Bool.{cases_Bool}
 use Rattle.gr_model.specs.declared.event.Name.{Name}
 use Rattle.gr_model.specs.declared.event.Kind.{Kind}
 use Rattle.gr_model.specs.Access.{is_acquire_kind}
 use Rattle.gr_model.specs.NameLists.{AreNames}
-use Rattle.gr_record.specs.declared.error.RecordError.{RecordError}
 use Rattle.gr_record.specs.declared.error.RecordError.TheVariants as errors
 use Rattle.gr_record.specs.declared.header.Header.{Header}
 use Rattle.gr_record.specs.Reading.{field, bad_field, kind_of, space_at, names_at, is_order_ok, is_naming_ok, naming, event_at}
@@ -48,10 +46,9 @@ named_some kind [] o some acquire are is = absurd cc
 named_some kind (n ∷ names) o some acquire are is = named kind n names o acquire are is
 
 -- a record whose fields and names are good: its item decides
-pub judged : (h : Header) (bytes : List ℕ) (kind : Kind) (said names : List Name) → nat_lt 6 (slice_index bytes 0) ≡ false → bad_field bytes ≡ None → kind ≡ kind_of bytes → is_order_ok kind ≡ true → said ≡ names_at h.version bytes → naming kind said ≡ Some names
+pub judged : (h : Header) (bytes : List ℕ) (kind : Kind) (names : List Name) → nat_lt 6 (slice_index bytes 0) ≡ false → bad_field bytes ≡ None → kind ≡ kind_of bytes → is_order_ok kind ≡ true → naming (kind_of bytes) (names_at h.version bytes) ≡ Some names
     → event_at h bytes ≡ (if nat_le h.items (field 4 2 bytes) then Err errors.UnknownItem else Ok (record { item = field 4 2 bytes; kind = kind_of bytes; space = space_at bytes; word = field 8 4 bytes; names = names }))
 unfolding event_at
-judged h bytes kind said names first fields is order are named =
+judged h bytes kind names first fields is order named =
     let order_is : is_order_ok (kind_of bytes) ≡ true = rw is at order in
-    let named_is : naming (kind_of bytes) (names_at h.version bytes) ≡ Some names = rw (is, are) at named in
-    rw (first, fields, order_is, named_is) refl
+    rw (first, fields, order_is, named) refl

@@ -4,7 +4,7 @@ use Rattle.std.proofs.lemmas.List.{append-nil, length-append}
 use Rattle.std.specs.List.{slice_get}
 use Rattle.gr_model.specs.declared.event.Name.{Name}
 use Rattle.gr_model.specs.declared.event.Event.{Event}
-use Rattle.gr_record.specs.Spelling.{place_bytes, names_bytes, fields_bytes, kind_bytes}
+use Rattle.gr_record.specs.Spelling.{place_bytes, names_bytes, fields_bytes}
 use Rattle.gr_record.proofs.Spelled.{kind_length}
 use Rattle.byteorder.specs.Endian.{little_bytes}
 use borrow.Rule.Slice.PartMut.{put_mid, mid_of, post_of}

@@ -3,9 +3,9 @@
 //! A record's fields are judged from the left, so that the first fault is the one that is answered (docs/FORMATS.md,
 //! "Faults of a whole record").
 
-ghost use Rattle.std.specs.Prelude.{◌≡◌, ◌≤◌, ◌*◌, IsTrue, None, length, take};
+ghost use Rattle.std.specs.Prelude.{◌≡◌, ◌≤◌, ◌*◌, IsTrue, None, Some, if◌then◌else◌, [], length, take};
 ghost use Rattle.gr_record.specs.Versions.{record_length};
-ghost use Rattle.gr_record.specs.Reading.{version_of, header_at, is_field_ok, bad_field, space_of, scope_of, order_of, kind_of, space_at, are_unused, name_in, names_in, is_order_ok, naming, event_at};
+ghost use Rattle.gr_record.specs.Reading.{version_of, header_at, is_field_ok, bad_field, space_of, scope_of, order_of, kind_of, space_at, are_unused, name_in, names_in, names_at, is_order_ok, naming, event_at};
 
 use crate::error::RecordError;
 use crate::header::{Header, Version};
@@ -172,14 +172,12 @@ fn read_kind(bytes: &[u8]) -> Kind
     ensures { result ≡ kind_of bytes.now }
 {
     let flag = bytes[1];
-    let scope = read_scope(bytes[2]);
-    let order = read_order(bytes[3]);
     match bytes[0] {
         READ => Kind::Read,
         WRITE => Kind::Write,
-        LOAD => Kind::Load(scope, order),
-        STORE => Kind::Store(scope, order),
-        RMW => Kind::Rmw(scope, order),
+        LOAD => Kind::Load(read_scope(bytes[2]), read_order(bytes[3])),
+        STORE => Kind::Store(read_scope(bytes[2]), read_order(bytes[3])),
+        RMW => Kind::Rmw(read_scope(bytes[2]), read_order(bytes[3])),
         BARRIER => Kind::Barrier {
             global: flag == 1 || flag == 3,
             local: flag == 2 || flag == 3,
@@ -286,31 +284,41 @@ pub fn naming(kind: Kind, names: &[Name]) -> Option<Names>
     }
 }
 
-/// The names in so many places of a record of this kind, or `None` if it may not have them, read place by place.
-/// Requires: there are that many places, at most `MOST_NAMES`.
+/// The names of a whole record, read place by place, or `None` if its kind may not have them.
+/// Requires: there are the bytes of a record.
 #[inline(never)]
-fn read_used(kind: Kind, bytes: &[u8], places: usize) -> Option<Names>
-    requires places { NAME_LENGTH * places ≤ length bytes.now }
-    requires few { places ≤ MOST_NAMES }
-    ensures { result ≡ naming kind (names_in places bytes.now) }
+fn read_used(version: Version, bytes: &[u8]) -> Option<Names>
+    requires { length bytes.now ≡ record_length version }
+    ensures { result ≡ naming (kind_of bytes.now) (names_at version bytes.now) }
 {
-    let (names, used) = read_names(bytes, places);
-    naming(kind, &names[..used])
+    let (names, used) = read_names(&bytes[FIELDS_LENGTH..], version.places());
+    naming(read_kind(bytes), &names[..used])
 }
 
-/// The names in so many places of a record of this kind, or `None` if it may not have them.
-/// Requires: there are that many places, at most `MOST_NAMES`.
+/// Whether the kind of a whole record may have its names, which then stand in `names`. It stands apart from `put_names`,
+/// which would else clear room for what `read_used` answers at every record.
+/// Requires: there are the bytes of a record.
 #[inline(always)]
-fn read_naming(kind: Kind, bytes: &[u8], places: usize) -> Option<Names>
-    requires places { NAME_LENGTH * places ≤ length bytes.now }
-    requires few { places ≤ MOST_NAMES }
-    ensures { result ≡ naming kind (names_in places bytes.now) }
+fn put_used(version: Version, bytes: &[u8], names: &mut Names) -> bool
+    requires { length bytes.now ≡ record_length version }
+    ensures { naming (kind_of bytes.now) (names_at version bytes.now) ≡ (if result then Some names.new else None) }
 {
-    if are_unused(bytes, places) {
-        Some(Names::none())
-    } else {
-        read_used(kind, bytes, places)
-    }
+    let Some(used) = read_used(version, bytes) else {
+        return false;
+    };
+    *names = used;
+    true
+}
+
+/// Whether a whole record may have its names, which then stand in `names`: nearly all have none, and nothing is moved.
+/// Requires: there are the bytes of a record, and `names` has none.
+#[inline(always)]
+fn put_names(version: Version, bytes: &[u8], names: &mut Names) -> bool
+    requires length { length bytes.now ≡ record_length version }
+    requires none { names.old ≡ [] }
+    ensures { naming (kind_of bytes.now) (names_at version bytes.now) ≡ (if result then Some names.new else None) }
+{
+    are_unused(&bytes[FIELDS_LENGTH..], version.places()) || put_used(version, bytes, names)
 }
 
 /// What a whole record says in the stream of this header, or its first fault.
@@ -331,9 +339,10 @@ pub fn read_event(header: Header, bytes: &[u8]) -> Result<Event, RecordError>
     if !order_fits(kind) {
         return Err(RecordError::BadOrder);
     }
-    let Some(names) = read_naming(kind, &bytes[FIELDS_LENGTH..], header.version.places()) else {
+    let mut names = Names::none();
+    if !put_names(header.version, bytes, &mut names) {
         return Err(RecordError::BadName);
-    };
+    }
     let item = LittleEndian::read_u16(&bytes[4..]);
     if item >= header.items {
         return Err(RecordError::UnknownItem);

@@ -1,5 +1,4 @@
-use Rattle.std.proofs.Common.{ℕ, List, ◌≡◌, ◌++◌, refl, ap, ◌∙◌}
-use Rattle.std.specs.List.{slice_get}
+use Rattle.std.proofs.Common.{ℕ, List, ◌++◌, ap, ◌∙◌}
 use Rattle.gr_record.specs.Spelling.{fields_bytes, place_bytes}
 use Rattle.gr_record.proofs.Written.{one_written, fields_length, one_place}
 use Rattle.gr_record.proofs.encoding.encode_event.Goals as goal

@@ -1,6 +1,5 @@
-use Rattle.std.proofs.Common.{ℕ, List, ◌≡◌, ◌++◌, refl, ap, ◌∙◌}
-use Rattle.std.specs.List.{slice_get}
-use Rattle.gr_record.specs.Spelling.{fields_bytes, place_bytes}
+use Rattle.std.proofs.Common.{ℕ, List, ◌++◌, ap, ◌∙◌}
+use Rattle.gr_record.specs.Spelling.{fields_bytes}
 use Rattle.gr_record.proofs.Places.{few_names}
 use Rattle.gr_record.proofs.Written.{four_written, fields_length, four_places, place_length}
 use Rattle.gr_record.proofs.encoding.encode_event2.Goals as goal

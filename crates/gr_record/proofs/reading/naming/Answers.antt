@@ -1,4 +1,4 @@
-use Rattle.std.proofs.Common.{◌≡◌, true, false, length, sym, ◌∙◌}
+use Rattle.std.proofs.Common.{sym, ◌∙◌}
 use Rattle.gr_record.proofs.Naming.{named_some}
 use Rattle.gr_record.proofs.reading.naming.Goals as goal
 
