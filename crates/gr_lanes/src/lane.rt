@@ -5,6 +5,7 @@
 //! barriers do, and has what those behind them said.
 
 ghost use Rattle.std.specs.Prelude.{◌≡◌, ◌≢◌, ◌<◌, ◌≤◌, ℕ, Some, None, [], false, true, MatchOption, OnOk, OnErr, length, map, slice_get};
+ghost use Rattle.std.specs.Vec.{vec_capacity, vec_len};
 ghost use Rattle.gr_lanes.specs.Indices.{AreRising};
 ghost use Rattle.gr_lanes.specs.Kept as kept;
 ghost use Rattle.gr_lanes.specs.Kept.{alike_more, apart_more, Arrives, IsAlike, kept_index, kept_with, nothing_kept, said};
@@ -57,6 +58,29 @@ fn of_item(said: &[Bare], item: u16, number: u32) -> Option<Event>
         None => None,
         Some(barrier) => Some(barrier.of_item(item)),
     }
+}
+
+/// From so many indices on a list grows by a quarter, and not twofold, since each item of a launch has such a list.
+const LONG: usize = 1024;
+
+/// Makes room for one more index.
+///
+/// # Errors
+/// `Memory`: out of memory.
+fn make_room<A: Allocator>(places: &mut Vec<u32, A>) -> Result<(), Memory>
+    ensures items { places.new.items ≡ places.old.items }
+    ensures room { OnOk result (vec_len places.new < vec_capacity places.new) }
+{
+    let length = places.len();
+    if length < LONG {
+        places.reserve(1)?;
+        return Ok(());
+    }
+    if length < places.capacity() {
+        return Ok(());
+    }
+    places.reserve_exact(length / 4 + 1)?;
+    Ok(())
 }
 
 impl<A: Allocator + Copy> Lane<A> {
@@ -178,7 +202,8 @@ impl<A: Allocator> Lane<A> {
         ensures ok { OnOk result (self.new ≡ alike_more self.old) }
         ensures err { OnErr result (self.new ≡ self.old) }
     {
-        self.barriers.push(self.count)?;
+        make_room(&mut self.barriers)?;
+        self.barriers.push_reserved(self.count);
         self.count += 1;
         self.alike += 1;
         Ok(())
@@ -191,7 +216,8 @@ impl<A: Allocator> Lane<A> {
         ensures err { OnErr result (self.new ≡ self.old) }
     {
         self.apart.reserve(1)?;
-        self.barriers.push(self.count)?;
+        make_room(&mut self.barriers)?;
+        self.barriers.push_reserved(self.count);
         self.apart.push_reserved(barrier);
         self.count += 1;
         Ok(())
