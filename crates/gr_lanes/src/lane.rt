@@ -63,11 +63,12 @@ fn of_item(said: &[Bare], item: u16, number: u32) -> Option<Event>
 /// From so many indices on a list grows by a quarter, and not twofold, since each item of a launch has such a list.
 const LONG: usize = 1024;
 
-/// Makes room for one more index.
+/// Makes room for one more index in a list that has none.
 ///
 /// # Errors
 /// `Memory`: out of memory.
-fn make_room<A: Allocator>(places: &mut Vec<u32, A>) -> Result<(), Memory>
+#[inline(never)]
+fn grow<A: Allocator>(places: &mut Vec<u32, A>) -> Result<(), Memory>
     ensures items { places.new.items ≡ places.old.items }
     ensures room { OnOk result (vec_len places.new < vec_capacity places.new) }
 {
@@ -76,11 +77,23 @@ fn make_room<A: Allocator>(places: &mut Vec<u32, A>) -> Result<(), Memory>
         places.reserve(1)?;
         return Ok(());
     }
-    if length < places.capacity() {
-        return Ok(());
-    }
     places.reserve_exact(length / 4 + 1)?;
     Ok(())
+}
+
+/// Makes room for one more index.
+///
+/// # Errors
+/// `Memory`: out of memory.
+#[inline(always)]
+fn make_room<A: Allocator>(places: &mut Vec<u32, A>) -> Result<(), Memory>
+    ensures items { places.new.items ≡ places.old.items }
+    ensures room { OnOk result (vec_len places.new < vec_capacity places.new) }
+{
+    if places.len() < places.capacity() {
+        return Ok(());
+    }
+    grow(places)
 }
 
 impl<A: Allocator + Copy> Lane<A> {
