@@ -1,4 +1,4 @@
-use Rattle.std.proofs.Common.{◌≡◌, List, ℕ, subst}
+use Rattle.std.proofs.Common.{List, ℕ, subst}
 use Rattle.gr_clocks.specs.Counts.{IsZero}
 use Rattle.gr_windows.specs.Windows.{IsEmpty}
 use Rattle.gr_order.proofs.StateLemmas.{new_state}
