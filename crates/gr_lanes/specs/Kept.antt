@@ -79,7 +79,7 @@ CameWith came place ended i b = (came ≡ Some (of_item i b)) ⊎ ((ended ≡ fa
 abbrev pub NoneDiffersIn : List Index → ℕ → Bool → Type 0
 NoneDiffersIn lanes n ended = (b : Bare) × ((i : ℕ) → i < length lanes → CameWith (slice_get (slice_index_or lanes i no_index).arrived n) (slice_get (slice_index_or lanes i no_index).barriers n) ended i b)
 
--- the same, of the streams: no item of the group came to an instance with something else than another one, nor never comes
+-- the same, of the streams: all items that came to an instance said the same, and all came where the group has ended
 abbrev pub NoneDiffers : Streams → ℕ → ℕ → Type 0
 NoneDiffers s g n = (b : Bare) × ((i : ℕ) → i < size_of s g → CameWith (record_of s is_barrier (record { group = g; item = i }) n) (place_of s is_barrier (record { group = g; item = i }) n) (is_complete (list_of s g)) i b)
 

@@ -39,7 +39,7 @@ impl Bare {
         }
     }
 
-    /// Whether it says the same as another.
+    /// Whether two say the same.
     pub(crate) fn is(&self, other: &Bare) -> bool
         ensures { IsTrue result ↔ (self.now ≡ other.now) }
     {

@@ -144,8 +144,7 @@ impl<A: Allocator> Group<A> {
         self.items.barrier_event(item, number)
     }
 
-    /// Whether no item is known to have come to an instance with something else than the first of it, and each has come where the
-    /// group has ended.
+    /// Whether it is known that all items which came to an instance said the same, and that all came where the group has ended.
     #[inline(always)]
     pub(crate) fn none_differs(&self, number: u32) -> bool
         ensures { IsTrue result → (b : BareOf) × ((i : ℕ) → i < self.now.size → CameWith (slice_get (filter model_barriers.is_barrier (filter (is_of i) self.now.list)) number) (slice_get (places_from model_barriers.is_barrier 0 (filter (is_of i) self.now.list)) number) (is_complete self.now.list) i b) }

@@ -112,8 +112,8 @@ impl<A: Allocator> Items<A> {
         }
     }
 
-    /// Whether no item is known to have come to an instance with something else than the first of it. Where the group has ended,
-    /// each must have come. It is quick, and may answer false where none has.
+    /// Whether it is known that all items which came to an instance said the same, and that all came where the group has ended. It
+    /// may answer false where they did.
     #[inline(always)]
     pub(crate) fn none_differs(&self, number: u32, ended: bool) -> bool
         ensures { IsTrue result → NoneDiffersIn self.now number ended }

@@ -171,8 +171,8 @@ impl<A: Allocator> Lanes<A> {
         }
     }
 
-    /// Whether no item of a group is known to have come to an instance of its barriers with another site or other flags than another
-    /// one, nor to be missing. It is quick, and may answer false where there is none.
+    /// Whether it is known that all items which came to an instance of a group's barriers did with one site and the same flags, and
+    /// that all came where the group has ended. It is quick, and may answer false where they did.
     #[inline(always)]
     pub fn none_differs(&self, group: u16, number: u32) -> bool
         requires { group < length self.now.sizes }
