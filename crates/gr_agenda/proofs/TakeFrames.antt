@@ -333,7 +333,7 @@ module _ (s : Streams) (g : ℕ) (x : Event) (prefixes : ArePrefixes s) (can : C
           (λ (other : i ≡ x.item → ⊥). ap (λ (l : List Event). slice_get (filter_map mark_of l) n) (own_trace (record { group = g; item = i }) (λ same. other (ap (λ (j : ItemId). j.item) same))))
           (cases_eq i x.item)
 
-      own_place : place_of more is_barrier own brought ≡ Some e.index
+      pub own_place : place_of more is_barrier own brought ≡ Some e.index
       own_place =
           let more_places : places_from is_barrier 0 (trace_of more own) ≡ places_from is_barrier 0 (trace_of s own) ++ length (trace_of s own) ∷ [] = ap (places_from is_barrier 0) own_longer ∙ (places_more is_barrier (trace_of s own) x ∙ ap (λ b. with_if b (places_from is_barrier 0 (trace_of s own)) (length (trace_of s own))) barrier) in
           let count : brought ≡ length (places_from is_barrier 0 (trace_of s own)) + 0 = let same = length-places is_barrier 0 (trace_of s own) in omega (arith, same) in

@@ -1,5 +1,5 @@
 -- An item that stands at a barrier can go on exactly where the barrier's instance is divergent; and which instances stay as they are.
-use Rattle.std.proofs.Common.{◌≡◌, ◌<◌, ℕ, List, true, false, None, Some, Option, length, slice_get, refl, sym, ap, ◌∙◌, subst, ⊎_elim}
+use Rattle.std.proofs.Common.{◌≡◌, ◌<◌, ◌≤◌, arith, ℕ, List, true, false, None, Some, Option, length, slice_get, refl, sym, ap, ◌∙◌, subst, ⊎_elim}
 use Rattle.std.specs.Prelude.{slice_index_or, slice_set}
 use Rattle.std.proofs.lemmas.Bool.{cases_eq}
 use Rattle.std.proofs.lemmas.List.{get_or-set_same, get_or-set_other, length-set}
@@ -10,10 +10,10 @@ use Rattle.gr_model.specs.declared.event.EventId.{EventId}
 use Rattle.gr_model.specs.declared.event.ItemId.{ItemId}
 use Rattle.gr_model.specs.Barriers.{IsDivergent, arrivals, is_barrier, mark_of}
 use Rattle.gr_model.specs.Events.{is_end}
-use Rattle.gr_model.specs.Streams.{Streams, event_at}
+use Rattle.gr_model.specs.Streams.{Streams, event_at, place_of, trace_of}
 use Rattle.gr_clocks.specs.Counts.{count_of}
 use Rattle.gr_lanes.specs.Instances.{HasCome}
-use Rattle.gr_lanes.specs.Takes.{CanTake, with_record}
+use Rattle.gr_lanes.specs.Takes.{CanTake, next_of, with_record}
 use Rattle.gr_steps.specs.Steps.{CanHandle}
 use Rattle.gr_steps.proofs.EventRecords.{barriers_name_nothing}
 use Rattle.gr_order.specs.Sequences.{IsSequence, Sequence, taking}
@@ -21,7 +21,11 @@ use Rattle.gr_order.proofs.ReadyLemmas.{only_next, passes_if, ready_if, stands_t
 use Rattle.gr_agenda.specs.Kept.{AreUndiverged, IsForgotten, IsNextBarrier, IsTold}
 use Rattle.gr_agenda.specs.Reaches.{IsFollowing, next_instance}
 use Rattle.gr_agenda.proofs.KeptLemmas.{passes_there}
-use Rattle.gr_agenda.proofs.TakeFrames.{AddsNoMark, barrier_goes_on, divergent_was, following_marks, other_divergent, own_arrival, plain_marks}
+use Rattle.gr_order.proofs.ForgetLemmas.{unhandled_remembered}
+use Rattle.gr_order.specs.Forgetting.{ForgetsHandled}
+use Rattle.gr_lanes.specs.Remembered.{Remembered, forgotten_of}
+use Rattle.gr_model.specs.LawfulOrders.{IsIn}
+use Rattle.gr_agenda.proofs.TakeFrames.{own_place, AddsNoMark, barrier_goes_on, divergent_was, following_marks, other_divergent, own_arrival, plain_marks}
 
 module _ (q : Sequence) (is : IsSequence q) (i : ItemId) (k : ℕ) (next : IsNextBarrier q i k) where
   abbrev e : EventId
@@ -59,6 +63,25 @@ module _ (q q2 : Sequence) (is : IsSequence q) (g : ℕ) (x : Event) (can : CanT
     barrier = barrier;
     came = subst (λ n. arrivals (with_record q.taken g x) g n x.item ≡ mark_of x) (sym next) (own_arrival q.taken g x is.prefixes can (barrier_goes_on x.kind x.word barrier) barrier);
   })
+
+  -- that instance is not forgotten, since the barrier was not handled
+  pub own_remembered : is_barrier x ≡ true → (k : ℕ) → k ≡ next_instance q.taken g x.item → (r : Remembered) → r.streams ≡ q2.taken → ForgetsHandled r q2.handled → forgotten_of r g ≤ k
+  own_remembered barrier k next r streams forgets = unhandled_remembered r q2.handled forgets own out k place
+    where
+      own : EventId
+      own = next_of q.taken g x
+
+      place : place_of r.streams is_barrier own.at k ≡ Some own.index
+      place =
+          ap (λ (s : Streams). place_of s is_barrier own.at k) (streams ∙ ap (λ (p : Sequence). p.taken) took)
+          ∙ (ap (place_of (with_record q.taken g x) is_barrier own.at) next ∙ own_place q.taken g x is.prefixes can (barrier_goes_on x.kind x.word barrier) barrier)
+
+      out : ¬ IsIn q2.handled own
+      out there =
+          let was : IsIn q.handled own = subst (λ (p : Sequence). IsIn p.handled own) took there in
+          let event = (is.lawful.event was.0 own was.1).0 in
+          let below = slice_get_within (trace_of q.taken own.at) own.index event.0 event.1 in
+          omega (arith, below)
 
   -- one more is told, which is not divergent behind the record
   pub undiverged_more : (k : ℕ) → ¬ IsDivergent q2.taken g k → (new : List (Option ℕ)) → IsTold undiverged g k new → AreUndiverged q2.taken new

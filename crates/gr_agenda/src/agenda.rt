@@ -200,7 +200,8 @@ fn note<A: Allocator>(
 fn next_barrier<A: Allocator>(order: &Order<A>, item: ItemId) -> Option<u32>
     ensures { IfSome result (λ k. IsNextBarrier order.now item k) }
 {
-    let index = order.frontier().get(item);
+    let frontier = order.frontier();
+    let index = frontier.get(item);
     order.lanes().barrier_number(EventId { at: item, index })
 }
 
@@ -216,7 +217,11 @@ fn is_next_barrier<A: Allocator>(order: &Order<A>, item: ItemId, number: u32) ->
     ensures { IsTrue result → IsNextBarrier order.now item number }
 {
     let frontier = order.frontier();
-    is_number(order.lanes().barrier_at(item, number), frontier.get(item))
+    let lanes = order.lanes();
+    if number < lanes.forgotten(item.group) {
+        return false;
+    }
+    is_number(lanes.barrier_at(item, number), frontier.get(item))
 }
 
 /// The instance of a group that is known not to be divergent, if there is one.

@@ -1,7 +1,8 @@
 //! Whose steps a record may let go on where it is taken.
 
-ghost use Rattle.std.specs.Prelude.{◌≡◌, true, IsTrue, is_some};
+ghost use Rattle.std.specs.Prelude.{◌≡◌, ◌≤◌, true, IsTrue, is_some};
 ghost use Rattle.gr_model.specs.Barriers.{mark_of};
+ghost use Rattle.gr_lanes.specs.Remembered.{forgotten_of};
 ghost use Rattle.gr_agenda.specs.Reaches.{IsFollowing, IsReach, next_instance};
 
 use gr_lanes::instance::came_with;
@@ -29,8 +30,9 @@ pub(crate) enum Reach {
 /// its item: then no mark is new there.
 fn is_following<A: Allocator>(lanes: &Lanes<A>, group: u16, instance: u32, event: &Event) -> bool
     requires barrier { is_some (mark_of event.now) ≡ true }
-    requires instance { instance ≡ next_instance lanes.now group event.now.item }
-    ensures { IsTrue result → IsFollowing lanes.now group event.now }
+    requires instance { instance ≡ next_instance lanes.now.streams group event.now.item }
+    requires remembered { forgotten_of lanes.now group ≤ instance }
+    ensures { IsTrue result → IsFollowing lanes.now.streams group event.now }
 {
     let before = ItemId {
         group,
@@ -46,7 +48,7 @@ fn is_following<A: Allocator>(lanes: &Lanes<A>, group: u16, instance: u32, event
 /// Whose steps a record of a group may let go on.
 #[inline(always)]
 pub(crate) fn reach_of<A: Allocator>(lanes: &Lanes<A>, group: u16, event: &Event) -> Reach
-    ensures { IsReach lanes.now group event.now result }
+    ensures { IsReach lanes.now.streams group event.now result }
 {
     if event.kind.is_end() {
         return Reach::Group;
@@ -54,10 +56,15 @@ pub(crate) fn reach_of<A: Allocator>(lanes: &Lanes<A>, group: u16, event: &Event
     if !is_barrier(event) {
         return Reach::Item;
     }
-    let instance = lanes.barrier_count(ItemId {
+    let at = ItemId {
         group,
         item: event.item,
-    });
+    };
+    let instance = lanes.barrier_count(at);
+    // never of an item that is there
+    if instance < lanes.forgotten(group) {
+        return Reach::Group;
+    }
     if is_following(lanes, group, instance, event) {
         Reach::Instance(instance)
     } else {

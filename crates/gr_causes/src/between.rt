@@ -2,6 +2,7 @@
 
 ghost use Rattle.std.specs.Prelude.{◌≡◌, ◌↔◌, IsTrue};
 ghost use Rattle.gr_model.specs.Shapes.{HasItem};
+ghost use Rattle.gr_lanes.specs.Remembered.{IsAllRemembered, IsRemembered};
 ghost use Rattle.gr_causes.specs.Parting.{AreParted, IsBehind, IsParting};
 
 use gr_lanes::instance::{barrier, is_divergent};
@@ -11,7 +12,8 @@ use std::alloc::Allocator;
 
 /// Whether an event stands behind its item's barrier of this number.
 fn is_behind<A: Allocator>(lanes: &Lanes<A>, event: EventId, number: u32) -> bool
-    ensures { IsTrue result ↔ IsBehind lanes.now event number }
+    requires { IsRemembered lanes.now event.at number }
+    ensures { IsTrue result ↔ IsBehind lanes.now.streams event number }
 {
     match lanes.barrier_at(event.at, number) {
         None => false,
@@ -22,8 +24,9 @@ fn is_behind<A: Allocator>(lanes: &Lanes<A>, event: EventId, number: u32) -> boo
 /// Whether the first of two events stands behind the instance of this number, the second does not, and the instance is
 /// divergent.
 fn is_parting<A: Allocator>(lanes: &Lanes<A>, number: u32, first: EventId, second: EventId) -> bool
-    requires { HasItem lanes.now.sizes first.at }
-    ensures { IsTrue result ↔ IsParting lanes.now number first second }
+    requires item { HasItem lanes.now.streams.sizes first.at }
+    requires whole { IsAllRemembered lanes.now }
+    ensures { IsTrue result ↔ IsParting lanes.now.streams number first second }
 {
     if !is_behind(lanes, first, number) || is_behind(lanes, second, number) {
         return false;
@@ -36,9 +39,10 @@ fn is_parting<A: Allocator>(lanes: &Lanes<A>, number: u32, first: EventId, secon
 
 /// Whether a divergent instance stands between two events.
 pub(crate) fn are_parted<A: Allocator>(lanes: &Lanes<A>, first: EventId, second: EventId) -> bool
-    requires first { HasItem lanes.now.sizes first.at }
-    requires second { HasItem lanes.now.sizes second.at }
-    ensures { IsTrue result ↔ AreParted lanes.now first second }
+    requires first { HasItem lanes.now.streams.sizes first.at }
+    requires second { HasItem lanes.now.streams.sizes second.at }
+    requires whole { IsAllRemembered lanes.now }
+    ensures { IsTrue result ↔ AreParted lanes.now.streams first second }
 {
     for number in 0..first.index.max(second.index) {
         if is_parting(lanes, number, first, second) || is_parting(lanes, number, second, first) {

@@ -7,6 +7,7 @@ ghost use Rattle.gr_model.specs.RacePairs.{IsRacePair};
 ghost use Rattle.gr_model.specs.Streams.{ArePrefixes, Streams};
 ghost use Rattle.gr_explain.specs.Judgements.{IsJudgement};
 ghost use Rattle.gr_judge.specs.Judged.{AreJudgements};
+ghost use Rattle.gr_lanes.specs.Remembered.{IsAllRemembered};
 ghost use Rattle.gr_causes.specs.declared.relaxing.Relaxation.{Relaxation as AnyRelaxation};
 ghost use Rattle.gr_causes.specs.declared.relaxing.Relaxation.TheVariants as relaxations;
 ghost use Rattle.gr_causes.specs.Causes.{AreCauses, IsCause, IsCauseOf, IsMended, IsPairOf};
@@ -68,11 +69,12 @@ fn is_mended(judgement: Judgement) -> bool
 
 /// The cause of a race in a launch whose records these are, where it is known which relaxed rules make it none.
 fn cause_from<A: Allocator>(lanes: &Lanes<A>, race: &Race, by_flags: bool, by_scope: bool) -> Cause
-    requires pair { IsPairOf lanes.now race.now }
-    requires prefixes { ArePrefixes lanes.now }
-    requires flags { IsTrue by_flags ↔ IsMended lanes.now relaxations.BothFlags race.now.word race.now.first race.now.second }
-    requires scope { IsTrue by_scope ↔ IsMended lanes.now relaxations.DeviceScope race.now.word race.now.first race.now.second }
-    ensures { IsCauseOf lanes.now race.now result }
+    requires pair { IsPairOf lanes.now.streams race.now }
+    requires prefixes { ArePrefixes lanes.now.streams }
+    requires whole { IsAllRemembered lanes.now }
+    requires flags { IsTrue by_flags ↔ IsMended lanes.now.streams relaxations.BothFlags race.now.word race.now.first race.now.second }
+    requires scope { IsTrue by_scope ↔ IsMended lanes.now.streams relaxations.DeviceScope race.now.word race.now.first race.now.second }
+    ensures { IsCauseOf lanes.now.streams race.now result }
 {
     if by_flags {
         return Cause::Flags;
@@ -102,11 +104,12 @@ fn causes_from<A: Allocator + Copy>(
     with_flags: &[Judgement],
     with_scope: &[Judgement],
 ) -> Result<Vec<Cause, A>, Memory>
-    requires pairs { All (IsPairOf lanes.now) races.now }
-    requires prefixes { ArePrefixes lanes.now }
-    requires flags { AreJudgements (spec.relaxed relaxations.BothFlags lanes.now) races.now with_flags.now }
-    requires scope { AreJudgements (spec.relaxed relaxations.DeviceScope lanes.now) races.now with_scope.now }
-    ensures { IfOk result (λ causes. AreCauses lanes.now races.now causes.items) }
+    requires pairs { All (IsPairOf lanes.now.streams) races.now }
+    requires prefixes { ArePrefixes lanes.now.streams }
+    requires whole { IsAllRemembered lanes.now }
+    requires flags { AreJudgements (spec.relaxed relaxations.BothFlags lanes.now.streams) races.now with_flags.now }
+    requires scope { AreJudgements (spec.relaxed relaxations.DeviceScope lanes.now.streams) races.now with_scope.now }
+    ensures { IfOk result (λ causes. AreCauses lanes.now.streams races.now causes.items) }
 {
     let mut causes = Vec::new(alloc);
     for (place, race) in races.iter().enumerate() {

@@ -1,9 +1,10 @@
 //! The grounded events in a lawful order, as a list.
 
-ghost use Rattle.std.specs.Prelude.{◌≡◌, ◌++◌, ◌<◌, [], List, IfOk, OnOk, length};
+ghost use Rattle.std.specs.Prelude.{◌≡◌, ◌++◌, ◌<◌, ◌≤◌, [], List, IfOk, OnOk, length};
 ghost use Rattle.gr_model.specs.declared.event.EventId.{EventId as AnyEvent};
 ghost use Rattle.gr_model.specs.Barriers.{IsConvergent};
 ghost use Rattle.gr_model.specs.Instances.{Mark};
+ghost use Rattle.gr_lanes.specs.Remembered.{forgotten_of};
 ghost use Rattle.gr_order.specs.Answers.{CanMake};
 ghost use Rattle.gr_order.specs.Sequences.{IsDone, IsSequence};
 ghost use Rattle.gr_steps.specs.Steps.{AreBarriers};
@@ -25,9 +26,10 @@ fn list_instance<A: Allocator>(
     group: u16,
     instance: u32,
 ) -> Result<(), Memory>
-    requires group { group < length lanes.now.sizes }
-    requires convergent { (a : Mark) × IsConvergent lanes.now group instance a }
-    ensures { OnOk result ((barriers : List AnyEvent) × AreBarriers lanes.now group instance barriers × (listed.new.items ≡ listed.old.items ++ barriers)) }
+    requires group { group < length lanes.now.streams.sizes }
+    requires convergent { (a : Mark) × IsConvergent lanes.now.streams group instance a }
+    requires remembered { forgotten_of lanes.now group ≤ instance }
+    ensures { OnOk result ((barriers : List AnyEvent) × AreBarriers lanes.now.streams group instance barriers × (listed.new.items ≡ listed.old.items ++ barriers)) }
 {
     for item in 0..lanes.shape().items(group) {
         let at = ItemId { group, item };

@@ -15,9 +15,10 @@ use Rattle.gr_model.specs.Streams.{Streams, is_complete, is_of, list_of, size_of
 use Rattle.gr_model.proofs.Causes.{cause_diverges, one_cause}
 use Rattle.gr_model.proofs.ListsOfRecords.{length-filter_le}
 use Rattle.gr_lanes.specs.Instances.{HasCome}
+use Rattle.gr_lanes.specs.Remembered.{AreDecided, IsDecided, Remembered, decided_of, forgotten_of}
 use Rattle.gr_lanes.proofs.InstanceLemmas.{mark_come}
 use Rattle.gr_findings.specs.Instances.{AreDivergencesBefore, IsInstanceBefore, NobodyCame, SomeCameFromElsewhere, SomeMissing}
-use Rattle.gr_findings.proofs.Lists.{listed_push, listed_same, none_listed}
+use Rattle.gr_findings.proofs.Lists.{listed_append, listed_push, listed_same, none_listed}
 
 -- ---- marks
 
@@ -163,3 +164,19 @@ module _ (s : Streams) where
     -- and behind the last group all are found
     pub all_found : length s.sizes ≤ g → Lists DivergenceBelow (IsDivergence s) ds
     all_found all = listed_same DivergenceBelow (Found g k) (IsDivergence s) ds found (λ d p. p.0) (λ d is. (is, inl (let lt : d.group < g = omega (arith, is.group) in lt)))
+
+-- those of the group that are forgotten are kept
+pub decided_found : (r : Remembered) → AreDecided r → (g : ℕ) (ds : List Divergence) → AreDivergencesBefore r.streams g 0 ds → AreDivergencesBefore r.streams g (forgotten_of r g) (ds ++ decided_of r g)
+decided_found r decided g ds found = listed_append DivergenceBelow (λ d. IsDivergence r.streams d × IsInstanceBefore g 0 d) (IsDecided r g) (λ d. IsDivergence r.streams d × IsInstanceBefore g (forgotten_of r g) d) ds (decided_of r g) found (decided.lists g)
+    (λ d e p q. inl (let lt : d.group < e.group = omega (arith, earlier d p.1, q.group) in lt))
+    (λ d p. (p.0, inl (earlier d p.1)))
+    (λ d q. (q.divergence, inr (q.group, q.below)))
+    (λ d p. by_case d p.0 p.1)
+  where
+    earlier : (d : Divergence) → IsInstanceBefore g 0 d → d.group < g
+    earlier d (inl lower) = lower
+    earlier d (inr here) = let over : d.instance < 0 = here.1 in absurd (omega arith)
+
+    by_case : (d : Divergence) → IsDivergence r.streams d → IsInstanceBefore g (forgotten_of r g) d → (IsDivergence r.streams d × IsInstanceBefore g 0 d) ⊎ IsDecided r g d
+    by_case d is (inl lower) = inl (is, inl lower)
+    by_case d is (inr here) = inr (record { divergence = is; group = here.0; below = here.1 })

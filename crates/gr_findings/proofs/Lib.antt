@@ -1,4 +1,4 @@
-mod Lists
+pub mod Lists
 mod Cutting
 mod Acquiring
 mod Diverging

@@ -21,22 +21,22 @@ use std::alloc::Allocator;
 
 /// The word of the release of this name, which has this index.
 fn release_word<B: Allocator>(lanes: &Lanes<B>, name: Name, index: u32) -> Option<Word>
-    requires { release_place lanes.now name ≡ Some index }
-    ensures { result ≡ word_at lanes.now (record { at = name.at; index = index }) }
+    requires { release_place lanes.now.streams name ≡ Some index }
+    ensures { result ≡ word_at lanes.now.streams (record { at = name.at; index = index }) }
 {
     lanes.release_word(name)
 }
 
 /// Whether there is no release of this name.
 fn is_absent<B: Allocator>(lanes: &Lanes<B>, name: Name) -> bool
-    ensures { IsTrue result ↔ IsAbsent lanes.now name }
+    ensures { IsTrue result ↔ IsAbsent lanes.now.streams name }
 {
     lanes.release_at(name).is_none()
 }
 
 /// Whether the release of this name is there, with another word than this.
 fn is_elsewhere<B: Allocator>(lanes: &Lanes<B>, name: Name, word: Option<Word>) -> bool
-    ensures { IsTrue result ↔ IsElsewhere lanes.now word name }
+    ensures { IsTrue result ↔ IsElsewhere lanes.now.streams word name }
 {
     match lanes.release_at(name) {
         None => false,
@@ -46,14 +46,14 @@ fn is_elsewhere<B: Allocator>(lanes: &Lanes<B>, name: Name, word: Option<Word>) 
 
 /// Whether there is no release of one of these names.
 fn has_absent<B: Allocator>(lanes: &Lanes<B>, names: &[Name]) -> bool
-    ensures { IsTrue result ↔ Any (IsAbsent lanes.now) names.now }
+    ensures { IsTrue result ↔ Any (IsAbsent lanes.now.streams) names.now }
 {
     names.iter().any(|name| is_absent(lanes, *name))
 }
 
 /// Whether the release of one of these names is there, with another word than this.
 fn has_elsewhere<B: Allocator>(lanes: &Lanes<B>, names: &[Name], word: Option<Word>) -> bool
-    ensures { IsTrue result ↔ Any (IsElsewhere lanes.now word) names.now }
+    ensures { IsTrue result ↔ Any (IsElsewhere lanes.now.streams word) names.now }
 {
     names.iter().any(|name| is_elsewhere(lanes, *name, word))
 }
@@ -65,9 +65,9 @@ fn cause<B: Allocator>(
     names: &[Name],
     word: Option<Word>,
 ) -> AcquireCause
-    requires names { names.now ≡ names_at lanes.now acquire }
-    requires word { word ≡ word_at lanes.now acquire }
-    ensures { HasAcquireCause lanes.now acquire result }
+    requires names { names.now ≡ names_at lanes.now.streams acquire }
+    requires word { word ≡ word_at lanes.now.streams acquire }
+    ensures { HasAcquireCause lanes.now.streams acquire result }
 {
     if has_absent(lanes, names) {
         AcquireCause::Absent
@@ -85,9 +85,9 @@ fn unmatched_of<B: Allocator>(
     windows: &Windows<B>,
     item: ItemId,
 ) -> Option<Unmatched>
-    requires waiting { AreWaiting lanes.now frontier.now windows.now }
-    requires grounded { IsGroundedFrontier lanes.now frontier.now }
-    ensures { MatchOption result ((u : Finding) → IsUnmatchedEntry lanes.now u → u.event.at ≢ item) (λ u. (u.event.at ≡ item) × IsUnmatchedEntry lanes.now u) }
+    requires waiting { AreWaiting lanes.now.streams frontier.now windows.now }
+    requires grounded { IsGroundedFrontier lanes.now.streams frontier.now }
+    ensures { MatchOption result ((u : Finding) → IsUnmatchedEntry lanes.now.streams u → u.event.at ≢ item) (λ u. (u.event.at ≡ item) × IsUnmatchedEntry lanes.now.streams u) }
 {
     let event = EventId {
         at: item,
@@ -112,11 +112,11 @@ fn add_group<A: Allocator, B: Allocator>(
     group: u16,
     list: &mut Vec<Unmatched, A>,
 ) -> Result<(), Memory>
-    requires group { group < length lanes.now.sizes }
-    requires grounded { IsGroundedFrontier lanes.now frontier.now }
-    requires waiting { AreWaiting lanes.now frontier.now windows.now }
-    requires before { AreUnmatchedBefore lanes.now group 0 list.old.items }
-    ensures { OnOk result (AreUnmatchedBefore lanes.now (group + 1) 0 list.new.items) }
+    requires group { group < length lanes.now.streams.sizes }
+    requires grounded { IsGroundedFrontier lanes.now.streams frontier.now }
+    requires waiting { AreWaiting lanes.now.streams frontier.now windows.now }
+    requires before { AreUnmatchedBefore lanes.now.streams group 0 list.old.items }
+    ensures { OnOk result (AreUnmatchedBefore lanes.now.streams (group + 1) 0 list.new.items) }
 {
     for item in 0..lanes.shape().items(group) {
         if let Some(unmatched) = unmatched_of(lanes, frontier, windows, ItemId { group, item }) {
@@ -137,9 +137,9 @@ pub fn unmatched<A: Allocator, B: Allocator>(
     frontier: &Tally<B>,
     windows: &Windows<B>,
 ) -> Result<Vec<Unmatched, A>, Memory>
-    requires grounded { IsGroundedFrontier lanes.now frontier.now }
-    requires waiting { AreWaiting lanes.now frontier.now windows.now }
-    ensures { IfOk result (λ v. Lists UnmatchedBelow (IsUnmatchedEntry lanes.now) v.items) }
+    requires grounded { IsGroundedFrontier lanes.now.streams frontier.now }
+    requires waiting { AreWaiting lanes.now.streams frontier.now windows.now }
+    ensures { IfOk result (λ v. Lists UnmatchedBelow (IsUnmatchedEntry lanes.now.streams) v.items) }
 {
     let mut list = Vec::new(alloc);
     for group in 0..lanes.shape().groups() {

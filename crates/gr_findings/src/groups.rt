@@ -12,7 +12,7 @@ use std::alloc::Allocator;
 /// # Errors
 /// `Memory`: out of memory.
 pub fn cut<A: Allocator, B: Allocator>(alloc: A, lanes: &Lanes<B>) -> Result<Vec<u16, A>, Memory>
-    ensures { IfOk result (λ v. Lists (λ (g h : ℕ). g < h) (IsCut lanes.now) v.items) }
+    ensures { IfOk result (λ v. Lists (λ (g h : ℕ). g < h) (IsCut lanes.now.streams) v.items) }
 {
     let mut groups = Vec::new(alloc);
     for group in 0..lanes.shape().groups() {

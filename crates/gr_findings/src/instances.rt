@@ -2,12 +2,13 @@
 //!
 //! The barriers with number k of a group's items are its instance k (docs/MODEL.md, "Barriers").
 
-ghost use Rattle.std.specs.Prelude.{◌≡◌, ◌↔◌, ◌<◌, ◌+◌, IfOk, IsTrue, MatchOption, OnOk, length};
+ghost use Rattle.std.specs.Prelude.{◌≡◌, ◌↔◌, ◌<◌, ◌≤◌, ◌+◌, IfOk, IsTrue, MatchOption, OnOk, length};
 ghost use Rattle.gr_model.specs.Barriers.{IsDivergent, arrivals};
 ghost use Rattle.gr_model.specs.Instances.{HasDivergenceCause};
 ghost use Rattle.gr_model.specs.Reports.{DivergenceBelow, IsDivergence, Lists};
 ghost use Rattle.gr_model.specs.Streams.{is_complete, list_of, size_of};
 ghost use Rattle.gr_lanes.specs.Instances.{HasCome};
+ghost use Rattle.gr_lanes.specs.Remembered.{AreDecided, IsRemembered, forgotten_of};
 ghost use Rattle.gr_findings.specs.Instances.{AreDivergencesBefore, CameFromElsewhere, NobodyCame, SomeCameFromElsewhere, SomeMissing};
 
 use gr_lanes::instance::{barrier, is_divergent};
@@ -17,10 +18,11 @@ use gr_model::memory::Memory;
 use gr_model::report::{Divergence, DivergenceCause};
 use std::alloc::Allocator;
 
-/// Some item's barrier of an instance, if one has come.
+/// Some item's barrier of an instance, which is not forgotten, if one has come.
 fn some_barrier<B: Allocator>(lanes: &Lanes<B>, group: u16, number: u32) -> Option<Event>
-    requires { group < length lanes.now.sizes }
-    ensures { MatchOption result (NobodyCame lanes.now group number) (λ x. HasCome lanes.now group number x) }
+    requires group { group < length lanes.now.streams.sizes }
+    requires remembered { forgotten_of lanes.now group ≤ number }
+    ensures { MatchOption result (NobodyCame lanes.now.streams group number) (λ x. HasCome lanes.now.streams group number x) }
 {
     for item in 0..lanes.shape().items(group) {
         if let Some(taken) = barrier(lanes, ItemId { group, item }, number) {
@@ -30,10 +32,11 @@ fn some_barrier<B: Allocator>(lanes: &Lanes<B>, group: u16, number: u32) -> Opti
     None
 }
 
-/// Whether some item has not come to an instance.
+/// Whether some item has not come to an instance, which is not forgotten.
 fn lacks_one<B: Allocator>(lanes: &Lanes<B>, group: u16, number: u32) -> bool
-    requires { group < length lanes.now.sizes }
-    ensures { IsTrue result ↔ SomeMissing lanes.now group number }
+    requires group { group < length lanes.now.streams.sizes }
+    requires remembered { forgotten_of lanes.now group ≤ number }
+    ensures { IsTrue result ↔ SomeMissing lanes.now.streams group number }
 {
     for item in 0..lanes.shape().items(group) {
         if barrier(lanes, ItemId { group, item }, number).is_none() {
@@ -43,17 +46,19 @@ fn lacks_one<B: Allocator>(lanes: &Lanes<B>, group: u16, number: u32) -> bool
     false
 }
 
-/// Whether some item has not come to an instance and never will.
+/// Whether some item has not come to an instance, which is not forgotten, and never will.
 fn is_missing_one<B: Allocator>(lanes: &Lanes<B>, group: u16, number: u32) -> bool
-    requires { group < length lanes.now.sizes }
-    ensures { IsTrue result ↔ (IsTrue (is_complete (list_of lanes.now group)) × SomeMissing lanes.now group number) }
+    requires group { group < length lanes.now.streams.sizes }
+    requires remembered { forgotten_of lanes.now group ≤ number }
+    ensures { IsTrue result ↔ (IsTrue (is_complete (list_of lanes.now.streams group)) × SomeMissing lanes.now.streams group number) }
 {
     lanes.is_complete(group) && lacks_one(lanes, group, number)
 }
 
-/// Whether an item came to an instance from another site than this.
+/// Whether an item came to an instance, which is not forgotten, from another site than this.
 fn is_elsewhere<B: Allocator>(lanes: &Lanes<B>, item: ItemId, number: u32, site: u32) -> bool
-    ensures { IsTrue result ↔ CameFromElsewhere lanes.now item.group number site item.item }
+    requires { IsRemembered lanes.now item number }
+    ensures { IsTrue result ↔ CameFromElsewhere lanes.now.streams item.group number site item.item }
 {
     match barrier(lanes, item, number) {
         None => false,
@@ -61,10 +66,11 @@ fn is_elsewhere<B: Allocator>(lanes: &Lanes<B>, item: ItemId, number: u32, site:
     }
 }
 
-/// Whether some item came to an instance from another site than this.
+/// Whether some item came to an instance, which is not forgotten, from another site than this.
 fn has_other_site<B: Allocator>(lanes: &Lanes<B>, group: u16, number: u32, site: u32) -> bool
-    requires { group < length lanes.now.sizes }
-    ensures { IsTrue result ↔ SomeCameFromElsewhere lanes.now group number site }
+    requires group { group < length lanes.now.streams.sizes }
+    requires remembered { forgotten_of lanes.now group ≤ number }
+    ensures { IsTrue result ↔ SomeCameFromElsewhere lanes.now.streams group number site }
 {
     for item in 0..lanes.shape().items(group) {
         if is_elsewhere(lanes, ItemId { group, item }, number, site) {
@@ -75,15 +81,17 @@ fn has_other_site<B: Allocator>(lanes: &Lanes<B>, group: u16, number: u32, site:
 }
 
 /// Why the instance of a barrier that was taken is divergent, or `None` where it is not.
-fn cause<B: Allocator>(
+/// Requires: it is not forgotten.
+pub fn cause<B: Allocator>(
     lanes: &Lanes<B>,
     group: u16,
     number: u32,
     mine: &Event,
 ) -> Option<DivergenceCause>
-    requires group { group < length lanes.now.sizes }
-    requires come { HasCome lanes.now group number mine.now }
-    ensures { MatchOption result (¬ IsDivergent lanes.now group number) (λ c. HasDivergenceCause (is_complete (list_of lanes.now group)) (size_of lanes.now group) (arrivals lanes.now group number) c) }
+    requires group { group < length lanes.now.streams.sizes }
+    requires remembered { forgotten_of lanes.now group ≤ number }
+    requires come { HasCome lanes.now.streams group number mine.now }
+    ensures { MatchOption result (¬ IsDivergent lanes.now.streams group number) (λ c. HasDivergenceCause (is_complete (list_of lanes.now.streams group)) (size_of lanes.now.streams group) (arrivals lanes.now.streams group number) c) }
 {
     if !is_divergent(lanes, group, number, mine) {
         None
@@ -96,18 +104,21 @@ fn cause<B: Allocator>(
     }
 }
 
-/// Adds the divergent instances of a group to those of the groups before it. No item has more barriers than its group has
-/// records, and behind an instance to which nobody came there is none.
+/// Adds the divergent instances of a group to those of the groups before it. Those that are
+/// forgotten are kept, no item has more barriers than its group has records, and behind an instance to which nobody came there
+/// is none.
 fn add_group<A: Allocator, B: Allocator>(
     lanes: &Lanes<B>,
     group: u16,
     list: &mut Vec<Divergence, A>,
 ) -> Result<(), Memory>
-    requires group { group < length lanes.now.sizes }
-    requires before { AreDivergencesBefore lanes.now group 0 list.old.items }
-    ensures { OnOk result (AreDivergencesBefore lanes.now (group + 1) 0 list.new.items) }
+    requires group { group < length lanes.now.streams.sizes }
+    requires decided { AreDecided lanes.now }
+    requires before { AreDivergencesBefore lanes.now.streams group 0 list.old.items }
+    ensures { OnOk result (AreDivergencesBefore lanes.now.streams (group + 1) 0 list.new.items) }
 {
-    for instance in 0..lanes.taken(group) {
+    list.extend_from_slice(lanes.decided(group))?;
+    for instance in lanes.forgotten(group)..lanes.taken(group) {
         let Some(mine) = some_barrier(lanes, group, instance) else {
             return Ok(());
         };
@@ -123,6 +134,7 @@ fn add_group<A: Allocator, B: Allocator>(
 }
 
 /// The divergent instances with their causes, by group and then by instance.
+/// Requires: of the instances that are forgotten the divergent ones are kept.
 ///
 /// # Errors
 /// `Memory`: out of memory.
@@ -130,7 +142,8 @@ pub fn divergences<A: Allocator, B: Allocator>(
     alloc: A,
     lanes: &Lanes<B>,
 ) -> Result<Vec<Divergence, A>, Memory>
-    ensures { IfOk result (λ v. Lists DivergenceBelow (IsDivergence lanes.now) v.items) }
+    requires decided { AreDecided lanes.now }
+    ensures { IfOk result (λ v. Lists DivergenceBelow (IsDivergence lanes.now.streams) v.items) }
 {
     let mut list = Vec::new(alloc);
     for group in 0..lanes.shape().groups() {

@@ -1,13 +1,14 @@
 -- Events that are held, and for which events they wait.
 -- Source: docs/MODEL.md, "What waits for what".
-use Rattle.std.specs.Prelude.{◌≡◌, ◌<◌, ℕ}
+use Rattle.std.specs.Prelude.{◌≡◌, ◌<◌, ℕ, Some}
 use Rattle.gr_model.specs.declared.event.EventId.{EventId}
 use Rattle.gr_model.specs.declared.event.Name.{Name}
-use Rattle.gr_model.specs.Barriers.{StandsIn, Together}
+use Rattle.gr_model.specs.Barriers.{StandsIn, Together, is_barrier}
 use Rattle.gr_model.specs.Instances.{Mark}
 use Rattle.gr_model.specs.Names.{MatchesBy}
-use Rattle.gr_model.specs.Streams.{IsEvent, Streams}
+use Rattle.gr_model.specs.Streams.{IsEvent, Streams, place_of}
 use Rattle.gr_model.specs.Waits.{IsGrounded, IsPrevious}
+use Rattle.gr_lanes.specs.Remembered.{Remembered, forgotten_of}
 
 -- an event that is there and is not grounded
 pub record IsHeldEvent (s : Streams) (e : EventId) : Type 0 where
@@ -44,3 +45,11 @@ pub record IsLate (s : Streams) (g k : ℕ) (d : EventId) : Type 0 where
 -- the event before each barrier of an instance is grounded
 abbrev pub HaveArrived : Streams → ℕ → ℕ → Type 0
 HaveArrived s g k = (b d : EventId) → StandsIn s b g k → IsPrevious d b → IsGrounded s d
+
+-- each barrier of an instance that is forgotten is grounded
+abbrev pub ForgetsGrounded : Remembered → Type 0
+ForgetsGrounded r = (e : EventId) (k : ℕ) → place_of r.streams is_barrier e.at k ≡ Some e.index → k < forgotten_of r e.at.group → IsGrounded r.streams e
+
+-- some event that stands in an instance is held
+abbrev pub IsStuck : Streams → ℕ → ℕ → Type 0
+IsStuck s g k = (e : EventId) × StandsIn s e g k × ¬ IsGrounded s e

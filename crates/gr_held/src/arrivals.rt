@@ -3,9 +3,9 @@
 ghost use Rattle.std.specs.Prelude.{◌≡◌, ◌<◌, ℕ, MatchOption, Some, length};
 ghost use Rattle.gr_model.specs.declared.event.EventId.{EventId as AnyEvent};
 ghost use Rattle.gr_model.specs.Barriers.{StandsIn};
-ghost use Rattle.gr_model.specs.Streams.{IsEvent, size_of};
+ghost use Rattle.gr_model.specs.Streams.{size_of};
 ghost use Rattle.gr_model.specs.Waits.{IsGrounded, IsPrevious};
-ghost use Rattle.gr_held.specs.Waiting.{HaveArrived, IsLate};
+ghost use Rattle.gr_held.specs.Waiting.{HaveArrived, IsHeldEvent, IsLate, IsStuck};
 
 use crate::judged::Judged;
 use gr_model::event::{EventId, ItemId};
@@ -13,7 +13,8 @@ use std::alloc::Allocator;
 
 /// The event before an item's barrier of this number, if it is held.
 fn held_before<A: Allocator>(judged: &Judged<A>, item: ItemId, number: u32) -> Option<EventId>
-    requires { item.item < size_of judged.now item.group }
+    requires item { item.item < size_of judged.now item.group }
+    requires stuck { IsStuck judged.now item.group number }
     ensures { MatchOption result ((b d : AnyEvent) → b.at ≡ item → StandsIn judged.now b item.group number → IsPrevious d b → IsGrounded judged.now d) (λ d. IsLate judged.now item.group number d) }
 {
     let index = judged.lanes().barrier_at(item, number)?;
@@ -33,7 +34,8 @@ fn held_before<A: Allocator>(judged: &Judged<A>, item: ItemId, number: u32) -> O
 
 /// The event before a barrier of an instance of a group that is held: that of the first such item, if there is one.
 fn late_in<A: Allocator>(judged: &Judged<A>, group: u16, number: u32) -> Option<EventId>
-    requires { group < length judged.now.sizes }
+    requires group { group < length judged.now.sizes }
+    requires stuck { IsStuck judged.now group number }
     ensures { MatchOption result (HaveArrived judged.now group number) (λ d. IsLate judged.now group number d) }
 {
     for item in 0..judged.lanes().shape().items(group) {
@@ -45,9 +47,9 @@ fn late_in<A: Allocator>(judged: &Judged<A>, group: u16, number: u32) -> Option<
     None
 }
 
-/// The event before a barrier of the instance in which an event stands, if it stands in one and such an event is held.
+/// The event before a barrier of the instance in which a held event stands, if it stands in one and such an event is held.
 pub(crate) fn late_arrival<A: Allocator>(judged: &Judged<A>, event: EventId) -> Option<EventId>
-    requires { IsEvent judged.now event }
+    requires { IsHeldEvent judged.now event }
     ensures { MatchOption result ((g k : ℕ) → StandsIn judged.now event g k → HaveArrived judged.now g k) (λ d. (g k : ℕ) × StandsIn judged.now event g k × IsLate judged.now g k d) }
 {
     let number = judged.lanes().barrier_number(event)?;

@@ -7,6 +7,7 @@ ghost use Rattle.std.specs.Prelude.{◌≡◌, ◌↔◌, ◌<◌, IfOk, IsTrue,
 ghost use Rattle.gr_model.specs.declared.event.EventId.{EventId as AnyEvent};
 ghost use Rattle.gr_model.specs.LawfulOrders.{IsWholeOrder};
 ghost use Rattle.gr_model.specs.Streams as model;
+ghost use Rattle.gr_held.specs.Waiting.{ForgetsGrounded};
 ghost use Rattle.gr_model.specs.Waits.{IsGrounded};
 
 use crate::taking::{handle_all, take_all};
@@ -51,9 +52,10 @@ impl<A: Allocator + Copy> Judged<A> {
 }
 
 impl<A: Allocator> Judged<A> {
-    /// The records of the launch.
+    /// The records of the launch. What is forgotten of them is grounded.
     pub(crate) fn lanes(&self) -> &Lanes<A>
-        ensures taken { result.now ≡ self.now }
+        ensures taken { result.now.streams ≡ self.now }
+        ensures grounded { ForgetsGrounded result.now }
         ensures complete { model.AreComplete self.now }
         ensures prefixes { model.ArePrefixes self.now }
         ensures whole { (order : List AnyEvent) × IsWholeOrder self.now order }

@@ -170,12 +170,11 @@ places_rise test i (x ∷ xs) a b le within =
     ] a b le within
 
 -- a binary search that finds no place finds none because there is none
-pub not_found : (xs ys : List ℕ) → ys ≡ xs → (x i : ℕ) → IsBinarySearchResult (λ y. nat_cmp y x) ys (Err i) → AreRising xs → (k : ℕ) → slice_get xs k ≡ Some x → ⊥
-not_found xs ys same x i search rises k at =
-    let missed = searched ys x (Err i) search (subst AreRising (sym same) rises) in
-    let there : slice_get ys k ≡ Some x = ap (λ l. slice_get l k) same ∙ at in
-    let within : k < length ys = slice_get_within ys k x there in
-    let value : get_or ys k 0 ≡ x = get_or_from_slice_get ys k x 0 there in
+pub not_found : (xs : List ℕ) (x i : ℕ) → IsBinarySearchResult (λ y. nat_cmp y x) xs (Err i) → AreRising xs → (k : ℕ) → slice_get xs k ≡ Some x → ⊥
+not_found xs x i search rises k at =
+    let missed = searched xs x (Err i) search rises in
+    let within : k < length xs = slice_get_within xs k x at in
+    let value : get_or xs k 0 ≡ x = get_or_from_slice_get xs k x 0 at in
     ⊎_elim (λ (lt : k < i). let below = missed.1 k lt in omega arith) (λ (ge : i ≤ k). let above = missed.2 k ge within in omega arith) (cases_lt k i)
 
 -- each item has its index, also one that the group lacks: it has no events

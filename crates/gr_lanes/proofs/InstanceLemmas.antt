@@ -110,3 +110,11 @@ module _ (s : Streams) (g n : ℕ) (x : Event) (come : HasCome s g n x) (none : 
       by_case j parted (inr lacks) =
           let whole = subst (Parts (is_complete (list_of s g)) (mark_of x)) lacks.1 parted in
           true≢false (sym whole ∙ lacks.0)
+
+  -- who came, came with the mark of that barrier
+  pub came_alike : (i : ℕ) → i < size_of s g → (arrivals s g n i ≡ mark_of x) ⊎ (arrivals s g n i ≡ None)
+  came_alike i within = by_case (came_with i within)
+    where
+      by_case : (arrivals s g n i ≡ mark_of (of_item i none.0)) ⊎ ((is_complete (list_of s g) ≡ false) × (arrivals s g n i ≡ None)) → (arrivals s g n i ≡ mark_of x) ⊎ (arrivals s g n i ≡ None)
+      by_case (inl is) = inl (is ∙ mark_is)
+      by_case (inr lacks) = inr lacks.1

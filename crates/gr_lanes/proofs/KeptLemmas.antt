@@ -1,13 +1,13 @@
 -- The indices of a group's items, by what is kept of them.
-use Rattle.std.proofs.Common.{◌≡◌, ℕ, zero, suc, ◌+◌, ◌-◌, ◌<◌, ◌≤◌, Bool, true, false, List, [], ◌∷◌, ◌++◌, length, map, get_or, set, take, refl, sym, ap, ◌∙◌, subst, ⊎_elim, arith, ltb, Some, None, slice_get, is_some, cond, not, Option, inl, inr, true≢false}
+use Rattle.std.proofs.Common.{◌≡◌, ℕ, zero, suc, ◌+◌, ◌-◌, ◌<◌, ◌≤◌, Bool, true, false, List, [], ◌∷◌, ◌++◌, length, map, get_or, set, drop, take, refl, sym, ap, ◌∙◌, subst, ⊎_elim, arith, ltb, Some, None, slice_get, cond, not, append_assoc, inl, inr, is_some, true≢false}
 use Rattle.std.specs.Prelude.{◌||◌, ◌&&◌}
 use Rattle.gr_model.specs.declared.event.Space.TheVariants.{Global}
 use Rattle.std.proofs.lemmas.Bool.{cases_eq, cases_lt, ltb-false, ltb-true}
-use Rattle.std.proofs.lemmas.Option.{slice_get-get_or, slice_get-map}
+use Rattle.std.proofs.lemmas.Option.{slice_get-get_or, slice_get-map, slice_get_past, slice_get_within}
 use Rattle.std.specs.List.{list_all}
 use Rattle.std.proofs.lemmas.List.Folds.{list_all_at}
 use Rattle.std.specs.Prelude.{option_map}
-use Rattle.std.proofs.lemmas.List.{get_or_append_left, get_or_past, get_or_push, length-append, length_push, length-set, map-append, get_or-set_same, get_or-set_other, get_or_read, take-append-le}
+use Rattle.std.proofs.lemmas.List.{drop_more, get_or-map, get_or_append_left, get_or_at, get_or_past, get_or_push, get_or_read, get_or-set_other, get_or-set_same, length-map, length-take-le, length_push, length-set, map-set, map_more, set_at}
 use Rattle.gr_model.specs.declared.event.Event.{Event}
 use Rattle.gr_lanes.specs.declared.bare.Bare.{Bare}
 use Rattle.gr_model.specs.declared.event.Kind.{Kind}
@@ -16,93 +16,65 @@ use Rattle.gr_model.specs.Access.{is_release, is_release_kind}
 use Rattle.gr_model.specs.Barriers.{is_barrier, mark_of_kind}
 use Rattle.gr_model.specs.Events.{is_end, is_end_kind}
 use Rattle.gr_lanes.specs.Takes.{IsMereAccess}
-use Rattle.gr_lanes.specs.Indices.{Index, indexed, no_index, with_barrier, with_event}
-use Rattle.gr_lanes.specs.Kept.{AreAlike, Arrives, CameWith, NoneDiffersIn, is_as_first, IsAlike, Kept, bare_of, indices_from, kept_index, kept_with, nothing_kept, of_item, said}
+use Rattle.gr_lanes.specs.Indices.{AreRising, Index, IsNumberKept, indexed, no_index, with_barrier, with_event}
+use Rattle.gr_lanes.specs.Kept.{AreLanes, Arrives, CameWith, GroupIndex, IsLane, Kept, NoneDiffersIn, forgetting_one, is_as_first, kept_with, nothing_kept, of_item, with_indices}
+use Rattle.gr_lanes.proofs.LaneLemmas.{barrier_at, barriers_count, lane_forgets, lane_more, lane_with, rising_rest, said_alike, said_count}
 
-index_from : (firsts : List Bare) (i : ℕ) (ks : List Kept) (j : ℕ) → get_or (indices_from firsts i ks) j no_index ≡ kept_index firsts (i + j) (get_or ks j nothing_kept)
-unfolding indices_from
-index_from firsts i [] j = refl
-index_from firsts i (k ∷ ks) zero = ap (λ n. kept_index firsts n k) (omega arith)
-index_from firsts i (k ∷ ks) (suc j) = index_from firsts (suc i) ks j ∙ ap (λ n. kept_index firsts n (get_or ks j nothing_kept)) (omega arith)
+-- what contracts see of lanes
+abbrev pub indices_of : List Kept → List Index
+indices_of ks = map (λ (k : Kept). k.index) ks
+
+abbrev pub seen_of : ℕ → List Kept → GroupIndex
+seen_of forgotten ks = record { indices = indices_of ks; forgotten = forgotten }
 
 -- the index of an item
-pub index_is : (firsts : List Bare) (ks : List Kept) (j : ℕ) → get_or (indices_from firsts 0 ks) j no_index ≡ kept_index firsts j (get_or ks j nothing_kept)
-index_is firsts ks j = index_from firsts 0 ks j ∙ ap (λ n. kept_index firsts n (get_or ks j nothing_kept)) (omega arith)
-
-pub length-indices : (firsts : List Bare) (i : ℕ) (ks : List Kept) → length (indices_from firsts i ks) ≡ length ks
-unfolding indices_from
-length-indices firsts i [] = refl
-length-indices firsts i (k ∷ ks) = ap suc (length-indices firsts (suc i) ks)
-
--- one lane is another one
-indices-set : (firsts : List Bare) (i : ℕ) (ks : List Kept) (j : ℕ) (k : Kept) → indices_from firsts i (set ks j k) ≡ set (indices_from firsts i ks) j (kept_index firsts (i + j) k)
-unfolding indices_from
-indices-set firsts i [] j k = refl
-indices-set firsts i (x ∷ ks) zero k = ap (λ n. kept_index firsts n k ∷ indices_from firsts (suc i) ks) (omega arith)
-indices-set firsts i (x ∷ ks) (suc j) k =
-    ap (λ l. kept_index firsts i x ∷ l) (indices-set firsts (suc i) ks j k ∙ ap (λ n. set (indices_from firsts (suc i) ks) j (kept_index firsts n k)) (omega arith))
-
-pub set_is : (firsts : List Bare) (ks : List Kept) (j : ℕ) (k : Kept) → indices_from firsts 0 (set ks j k) ≡ set (indices_from firsts 0 ks) j (kept_index firsts j k)
-set_is firsts ks j k = indices-set firsts 0 ks j k ∙ ap (λ n. set (indices_from firsts 0 ks) j (kept_index firsts n k)) (omega arith)
-
--- a first more changes none of those that are there
-pub indices-more : (firsts more : List Bare) (i : ℕ) (ks : List Kept) → AreAlike firsts ks → indices_from (firsts ++ more) i ks ≡ indices_from firsts i ks
-unfolding indices_from
-indices-more firsts more i [] alike = refl
-indices-more firsts more i (k ∷ ks) alike =
-    let here : take k.alike (firsts ++ more) ≡ take k.alike firsts = take-append-le k.alike firsts more (alike 0 (omega arith)).within in
-    let rest = indices-more firsts more (suc i) ks (λ j within. alike (suc j) (omega arith)) in
-    λ d. record { count = k.count; releases = k.releases; barriers = k.barriers; released = k.released; arrived = map (of_item i) (here d ++ k.apart) } ∷ rest d
-
--- ---- what an item's barriers said
-
-no_value : (o : Option ℕ) → is_some o ≡ false → o ≡ None
-no_value None is = refl
-no_value (Some x) is = absurd cc
-
-alike_at : (firsts apart : List Bare) (a n : ℕ) → a ≤ length firsts → n < a → slice_get firsts n ≡ slice_get (take a firsts ++ apart) n
-alike_at firsts apart zero n within below = absurd (omega arith)
-alike_at [] apart (suc a) n within below = absurd (omega arith)
-alike_at (x ∷ firsts) apart (suc a) zero within below = refl
-alike_at (x ∷ firsts) apart (suc a) (suc n) within below = alike_at firsts apart a n (omega arith) (omega arith)
-
-apart_at : (firsts apart : List Bare) (a m : ℕ) → a ≤ length firsts → slice_get apart m ≡ slice_get (take a firsts ++ apart) (a + m)
-apart_at firsts apart zero m within = ap (slice_get apart) (omega arith)
-apart_at [] apart (suc a) m within = absurd (omega arith)
-apart_at (x ∷ firsts) apart (suc a) m within = apart_at firsts apart a m (omega arith) ∙ ap (slice_get (x ∷ take a firsts ++ apart)) (let n : suc (a + m) ≡ suc a + m = omega arith in n)
-
-module _ (firsts : List Bare) (k : Kept) (i n : ℕ) (alike : IsAlike firsts k) where
-  same_record : (xs : List Bare) (m : ℕ) → slice_get xs m ≡ slice_get (said firsts k) n → slice_get (map (of_item i) xs) m ≡ slice_get (map (of_item i) (said firsts k)) n
-  same_record xs m same = slice_get-map (of_item i) xs m ∙ (ap (option_map (of_item i)) same ∙ sym (slice_get-map (of_item i) (said firsts k) n))
-
-  pub said_alike : n < k.alike → slice_get (map (of_item i) firsts) n ≡ slice_get (map (of_item i) (said firsts k)) n
-  said_alike below = same_record firsts n (alike_at firsts k.apart k.alike n alike.within below)
-
-  pub said_apart : k.alike ≤ n → slice_get (map (of_item i) k.apart) (n - k.alike) ≡ slice_get (map (of_item i) (said firsts k)) n
-  said_apart behind = same_record k.apart (n - k.alike) (apart_at firsts k.apart k.alike (n - k.alike) alike.within ∙ ap (slice_get (said firsts k)) (omega arith))
+pub index_is : (ks : List Kept) (j : ℕ) → get_or (indices_of ks) j no_index ≡ (get_or ks j nothing_kept).index
+index_is [] j = refl
+index_is (k ∷ ks) zero = refl
+index_is (k ∷ ks) (suc j) = index_is ks j
 
 -- what was read of the lanes, at the place that is the item's
-module _ (firsts : List Bare) (ks read : List Kept) (same : read ≡ ks) (i j : ℕ) (here : j ≡ i) {s : List Index} (view : indices_from firsts 0 ks ≡ s) where
-  item_index : get_or s i no_index ≡ kept_index firsts i (get_or ks i nothing_kept)
-  item_index = ap (λ l. get_or l i no_index) (sym view) ∙ index_is firsts ks i
+module _ {forgotten : ℕ} {ks read : List Kept} (same : read ≡ ks) {i j : ℕ} (here : j ≡ i) {s : GroupIndex} (view : seen_of forgotten ks ≡ s) where
+  item_index : get_or s.indices i no_index ≡ (get_or ks i nothing_kept).index
+  item_index = ap (λ (l : GroupIndex). get_or l.indices i no_index) (sym view) ∙ index_is ks i
 
   -- no such item: it has no events
-  pub lacks_item : false ≡ ltb j (length read) → get_or s i no_index ≡ no_index
+  pub lacks_item : false ≡ ltb j (length read) → get_or s.indices i no_index ≡ no_index
   lacks_item beyond =
       let past = ltb-false j (length read) (sym beyond) in
-      item_index ∙ ap (kept_index firsts i) (get_or_past ks i nothing_kept (omega (arith, ap length same)))
+      item_index ∙ ap (λ (k : Kept). k.index) (get_or_past ks i nothing_kept (omega (arith, ap length same, here, past)))
 
-  module _ (lane : Kept) (there : true ≡ ltb j (length read)) (reads : lane ≡ get_or read j lane) where
+  module _ {lane : Kept} (there : true ≡ ltb j (length read)) (reads : lane ≡ get_or read j lane) where
     lane_is : lane ≡ get_or ks i nothing_kept
     lane_is =
         let lt = ltb-true j (length read) (sym there) in
-        get_or_read ks i lane (omega (arith, ap length same)) (reads ∙ (ap (λ l. get_or l j lane) same ∙ ap (λ n. get_or ks n lane) here)) nothing_kept
+        get_or_read ks i lane (omega (arith, ap length same, here, lt)) (reads ∙ (ap (λ l. get_or l j lane) same ∙ ap (λ n. get_or ks n lane) here)) nothing_kept
 
-    pub lane_index : get_or s i no_index ≡ kept_index firsts i lane
-    lane_index = item_index ∙ ap (kept_index firsts i) (sym lane_is)
+    pub lane_index : get_or s.indices i no_index ≡ lane.index
+    lane_index = item_index ∙ ap (λ (k : Kept). k.index) (sym lane_is)
 
-    pub lane_alike : AreAlike firsts ks → IsAlike firsts lane
-    lane_alike alike = let lt = ltb-true j (length read) (sym there) in subst (IsAlike firsts) (sym lane_is) (alike i (omega (arith, ap length same)))
+    pub lane_kept : {firsts : List Bare} → AreLanes forgotten firsts ks → IsLane forgotten firsts i lane
+    lane_kept {firsts} are = let lt = ltb-true j (length read) (sym there) in subst (IsLane forgotten firsts i) (sym lane_is) (are i (omega (arith, ap length same, here, lt)))
+
+    module _ {firsts : List Bare} (are : AreLanes forgotten firsts ks) where
+      -- a barrier's number may be asked for: it is not forgotten where it is one of the item's
+      pub number_kept : (n : ℕ) → IsNumberKept s.forgotten (get_or s.indices i no_index).barriers n → forgotten ≤ n
+      number_kept n kept = ⊎_elim
+          (λ (lt : n < forgotten).
+          let there = slice_get-get_or lane.index.barriers n 0 (omega (arith, lt, (lane_kept are).passed)) in
+          let least = kept (get_or lane.index.barriers n 0) (ap (λ (l : Index). slice_get l.barriers n) lane_index ∙ there) in
+          omega (arith, least, ap (λ (l : GroupIndex). l.forgotten) view))
+          (λ (ge : forgotten ≤ n). ge)
+          (cases_lt n forgotten)
+
+      pub barrier_read : (n : ℕ) → forgotten ≤ n → slice_get lane.barriers (n - forgotten) ≡ slice_get (get_or s.indices i no_index).barriers n
+      barrier_read n le = barrier_at (lane_kept are) n le ∙ ap (λ (l : Index). slice_get l.barriers n) (sym lane_index)
+
+      pub count_read : length (get_or s.indices i no_index).barriers ≡ forgotten + length lane.barriers
+      count_read = ap (λ (l : Index). length l.barriers) lane_index ∙ barriers_count (lane_kept are)
+
+      pub rising_read : AreRising (get_or s.indices i no_index).barriers → AreRising lane.barriers
+      rising_read rises = subst AreRising (sym (lane_kept are).places) (rising_rest forgotten lane.index.barriers (subst (λ (l : Index). AreRising l.barriers) lane_index rises))
 
 -- the index of an event is not found where there are no places
 pub not_among : (places : List ℕ) → places ≡ [] → (k n : ℕ) → slice_get places k ≡ Some n → ⊥
@@ -113,102 +85,119 @@ not_among places none k n at = let lacks : slice_get places k ≡ None = ap (λ 
 abbrev no_bare : Bare
 no_bare = record { kind = Read; space = Global; word = 0 }
 
--- what the first of an instance said
-abbrev first_of : List Bare → ℕ → Bare
-first_of firsts n = get_or firsts n no_bare
+module _ (forgotten : ℕ) (firsts : List Bare) (ks : List Kept) (are : AreLanes forgotten firsts ks) {s : GroupIndex} (view : seen_of forgotten ks ≡ s) (n : ℕ) (kept : forgotten ≤ n) (ended : Bool) (all : list_all (λ k. is_as_first n ended k) ks ≡ true) where
+  -- what the first of the instance said
+  abbrev first : Bare
+  first = get_or firsts (n - forgotten) no_bare
 
-module _ (firsts : List Bare) (ks : List Kept) (alike : AreAlike firsts ks) {s : List Index} (view : indices_from firsts 0 ks ≡ s) (n : ℕ) (ended : Bool) (all : list_all (λ k. is_as_first n ended k) ks ≡ true) where
-  came_with : (i : ℕ) (k : Kept) → IsAlike firsts k → is_as_first n ended k ≡ true → CameWith (slice_get (kept_index firsts i k).arrived n) (slice_get k.barriers n) ended i (first_of firsts n)
-  came_with i k is_alike is = by_alike (ltb n k.alike) refl is
+  came_with : (i : ℕ) (k : Kept) → IsLane forgotten firsts i k → is_as_first n ended k ≡ true → CameWith (slice_get k.index.arrived n) (slice_get k.index.barriers n) ended i first
+  came_with i k lane is = by_alike (ltb n k.alike) refl is
     where
-      by_rest : (b c : Bool) → ended ≡ b → is_some (slice_get k.barriers n) ≡ c → (not b && not c) ≡ true → (ended ≡ false) × (slice_get k.barriers n ≡ None)
-      by_rest false false open_end none holds = (open_end, no_value (slice_get k.barriers n) none)
-      by_rest false true open_end some holds = absurd cc
-      by_rest true c end some holds = absurd cc
+      by_rest : (b c : Bool) → ended ≡ b → ltb (n - k.alike) (length k.apart) ≡ c → k.alike ≤ n → (not b && not c) ≡ true → (ended ≡ false) × (slice_get k.index.barriers n ≡ None)
+      by_rest false false open_end none behind holds =
+          let past = ltb-false (n - k.alike) (length k.apart) none in
+          (open_end, slice_get_past k.index.barriers n (omega (arith, past, behind, said_count lane)))
+      by_rest false true open_end some behind holds = absurd cc
+      by_rest true c end some behind holds = absurd cc
 
-      by_alike : (a : Bool) → ltb n k.alike ≡ a → (a || (not ended && not (is_some (slice_get k.barriers n)))) ≡ true → CameWith (slice_get (kept_index firsts i k).arrived n) (slice_get k.barriers n) ended i (first_of firsts n)
+      by_alike : (a : Bool) → ltb n k.alike ≡ a → (a || (not ended && not (ltb (n - k.alike) (length k.apart)))) ≡ true → CameWith (slice_get k.index.arrived n) (slice_get k.index.barriers n) ended i first
       by_alike true below holds =
           let lt = ltb-true n k.alike below in
-          inl (sym (said_alike firsts k i n is_alike lt) ∙ (slice_get-map (of_item i) firsts n ∙ ap (option_map (of_item i)) (slice_get-get_or firsts n no_bare (omega (arith, lt, is_alike.within)))))
-      by_alike false behind holds = inr (by_rest ended (is_some (slice_get k.barriers n)) refl refl holds)
+          inl (sym (said_alike lane n kept lt) ∙ (slice_get-map (of_item i) firsts (n - forgotten) ∙ ap (option_map (of_item i)) (slice_get-get_or firsts (n - forgotten) no_bare (omega (arith, lt, kept, lane.within)))))
+      by_alike false behind holds = inr (by_rest ended (ltb (n - k.alike) (length k.apart)) refl refl (ltb-false n k.alike behind) holds)
 
   passes : (i : ℕ) → i < length ks → (b : Bool) → is_as_first n ended (get_or ks i nothing_kept) ≡ b → is_as_first n ended (get_or ks i nothing_kept) ≡ true
   passes i there true is = is
   passes i there false is = absurd (true≢false (sym all ∙ list_all_at (λ k. is_as_first n ended k) ks i nothing_kept there is))
 
-  pub none_differs_in : NoneDiffersIn s n ended
-  none_differs_in = (
-    first_of firsts n,
+  pub none_differs_in : NoneDiffersIn s.indices n ended
+  none_differs_in = subst (λ (l : GroupIndex). NoneDiffersIn l.indices n ended) view (
+    first,
     λ i within.
-        let there : i < length ks = omega (arith, within, ap length view, length-indices firsts 0 ks) in
-        let k = get_or ks i nothing_kept in
-        let is : get_or s i no_index ≡ kept_index firsts i k = ap (λ l. get_or l i no_index) (sym view) ∙ index_is firsts ks i in
-        subst (λ (l : Index). CameWith (slice_get l.arrived n) (slice_get l.barriers n) ended i (first_of firsts n)) (sym is)
-        (came_with i k (alike i there) (passes i there (is_as_first n ended k) refl)),
+        let there : i < length ks = omega (arith, within, length-map ks (λ (k : Kept). k.index)) in
+        subst (λ (l : Index). CameWith (slice_get l.arrived n) (slice_get l.barriers n) ended i first) (sym (index_is ks i))
+        (came_with i (get_or ks i nothing_kept) (are i there) (passes i there (is_as_first n ended (get_or ks i nothing_kept)) refl)),
   )
 
 -- ---- an event more
 
-module _ (firsts : List Bare) (ks : List Kept) (alike : AreAlike firsts ks) (x : Event) (j : ℕ) (here : j ≡ x.item) {s : List Index} (view : indices_from firsts 0 ks ≡ s) (item : x.item < length s) (old : Kept) (reads : old ≡ get_or ks j old) where
-  within : j < length ks
-  within = omega (arith, here, item, ap length view, length-indices firsts 0 ks)
+module _ {forgotten : ℕ} (firsts : List Bare) (ks : List Kept) (are : AreLanes forgotten firsts ks) (x : Event) {j : ℕ} (here : j ≡ x.item) {s : GroupIndex} (view : seen_of forgotten ks ≡ s) (item : x.item < length s.indices) {old : Kept} (reads : old ≡ get_or ks j old) where
+  pub item_there : j < length ks
+  item_there = omega (arith, here, item, ap (λ (l : GroupIndex). length l.indices) view, length-map ks (λ (k : Kept). k.index))
 
   old_is : old ≡ get_or ks j nothing_kept
-  old_is = get_or_read ks j old within reads nothing_kept
+  old_is = get_or_read ks j old item_there reads nothing_kept
 
-  index_was : get_or s x.item no_index ≡ kept_index firsts x.item old
-  index_was = ap (λ l. get_or l x.item no_index) (sym view) ∙ (index_is firsts ks x.item ∙ ap (kept_index firsts x.item) (ap (λ n. get_or ks n nothing_kept) (sym here) ∙ sym old_is))
+  index_was : get_or s.indices x.item no_index ≡ old.index
+  index_was = ap (λ (l : GroupIndex). get_or l.indices x.item no_index) (sym view) ∙ (index_is ks x.item ∙ ap (λ (k : Kept). k.index) (ap (λ n. get_or ks n nothing_kept) (sym here) ∙ sym old_is))
 
-  pub few_events : (get_or s x.item no_index).count < 4_294_967_295 → old.count < 4_294_967_295
+  pub few_events : (get_or s.indices x.item no_index).count < 4_294_967_295 → old.index.count < 4_294_967_295
   few_events few = subst (λ (l : Index). l.count < 4_294_967_295) index_was few
 
-  pub alike_here : IsAlike firsts old
-  alike_here = subst (IsAlike firsts) (sym old_is) (alike j within)
+  pub lane_here : IsLane forgotten firsts x.item old
+  lane_here = subst (λ n. IsLane forgotten firsts n old) here (subst (IsLane forgotten firsts j) (sym old_is) (are j item_there))
 
   module _ (new : Kept) where
-    all_alike : (firsts' : List Bare) → ((k : Kept) → IsAlike firsts k → IsAlike firsts' k) → IsAlike firsts' new → AreAlike firsts' (set ks j new)
-    all_alike firsts' others own i there = ⊎_elim
-        (λ (same : i ≡ j). subst (λ n. IsAlike firsts' (get_or (set ks j new) n nothing_kept)) (sym same) (subst (IsAlike firsts') (sym (get_or-set_same ks j new nothing_kept within)) own))
-        (λ (apart : i ≡ j → ⊥). subst (IsAlike firsts') (sym (get_or-set_other ks j i new nothing_kept apart)) (others (get_or ks i nothing_kept) (alike i (omega (arith, there, length-set ks j new)))))
+    lanes_set : (firsts' : List Bare) → ((i : ℕ) (k : Kept) → IsLane forgotten firsts i k → IsLane forgotten firsts' i k) → IsLane forgotten firsts' x.item new → AreLanes forgotten firsts' (set ks j new)
+    lanes_set firsts' others own i there = ⊎_elim
+        (λ (same : i ≡ j). subst (λ n. IsLane forgotten firsts' n (get_or (set ks j new) n nothing_kept)) (sym same) (subst (IsLane forgotten firsts' j) (sym (get_or-set_same ks j new nothing_kept item_there)) (subst (λ n. IsLane forgotten firsts' n new) (sym here) own)))
+        (λ (apart : i ≡ j → ⊥). subst (IsLane forgotten firsts' i) (sym (get_or-set_other ks j i new nothing_kept apart)) (others i (get_or ks i nothing_kept) (are i (omega (arith, there, length-set ks j new)))))
         (cases_eq i j)
 
+    seen_set : (index : Index) → new.index ≡ index → seen_of forgotten (set ks j new) ≡ with_indices s (set s.indices x.item index)
+    seen_set index is =
+        let all = map-set (λ (k : Kept). k.index) ks j new ∙ (ap (set (indices_of ks) j) is ∙ ap (λ n. set (indices_of ks) n index) here) in
+        ap (λ l. with_indices (seen_of forgotten ks) l) all ∙ ap (λ (l : GroupIndex). with_indices l (set l.indices x.item index)) view
+
     -- a barrier
-    module _ (bare : x.names ≡ []) (firsts' : List Bare) (arrives : Arrives firsts firsts' old new (bare_of x)) where
-      record_is : of_item x.item (bare_of x) ≡ x
-      record_is = λ d. record { item = x.item; kind = x.kind; space = x.space; word = x.word; names = sym bare d }
+    module _ (firsts' : List Bare) (arrives : Arrives forgotten firsts firsts' old new x) where
+      pub arrives_with : seen_of forgotten (set ks j new) ≡ with_indices s (with_barrier s.indices x)
+      arrives_with = seen_set (with_event (get_or s.indices x.item no_index) x false true) (arrives.index ∙ ap (λ l. with_event l x false true) (sym index_was))
 
-      arrived : map (of_item x.item) (said firsts' new) ≡ map (of_item x.item) (said firsts old) ++ x ∷ []
-      arrived =
-          ap (map (of_item x.item)) arrives.saying ∙ (map-append (of_item x.item) (said firsts old) (bare_of x ∷ [])
-          ∙ ap (λ y. map (of_item x.item) (said firsts old) ++ y ∷ []) record_is)
-
-      lane_new : kept_index firsts' x.item new ≡ with_event (kept_index firsts x.item old) x false true
-      lane_new =
-          let count = arrives.count in
-          let releases = arrives.releases in
-          let barriers = arrives.barriers in
-          let released = arrives.released in
-          λ d. record { count = count d; releases = releases d; barriers = barriers d; released = released d; arrived = arrived d }
-
-      pub arrives_with : indices_from firsts' 0 (set ks j new) ≡ with_barrier s x
-      arrives_with =
-          set_is firsts' ks j new ∙ (ap (λ n. set (indices_from firsts' 0 ks) n (kept_index firsts' n new)) here
-          ∙ (ap (λ l. set l x.item (kept_index firsts' x.item new)) (ap (λ f. indices_from f 0 ks) arrives.grown ∙ (indices-more firsts arrives.more 0 ks alike ∙ view))
-          ∙ ap (set s x.item) (lane_new ∙ ap (λ l. with_event l x false true) (sym index_was))))
-
-      pub arrives_alike : AreAlike firsts' (set ks j new)
-      arrives_alike = all_alike firsts' (λ k was. record { within = omega (arith, was.within, ap length arrives.grown, length-append firsts arrives.more); few = was.few }) arrives.alikes
+      pub arrives_lanes : AreLanes forgotten firsts' (set ks j new)
+      arrives_lanes = lanes_set firsts' (λ i k lane. subst (λ f. IsLane forgotten f i k) (sym arrives.grown) (lane_more lane arrives.more)) arrives.lane
 
     -- an event that is none
     module _ (release : Bool) (is : new ≡ kept_with old x release) where
-      pub event_with : indices_from firsts 0 (set ks j new) ≡ set s x.item (with_event (get_or s x.item no_index) x release false)
-      event_with =
-          set_is firsts ks j new ∙ (ap (λ n. set (indices_from firsts 0 ks) n (kept_index firsts n new)) here
-          ∙ (ap (λ l. set l x.item (kept_index firsts x.item new)) view
-          ∙ ap (set s x.item) (ap (kept_index firsts x.item) is ∙ ap (λ l. with_event l x release false) (sym index_was))))
+      pub event_with : seen_of forgotten (set ks j new) ≡ with_indices s (set s.indices x.item (with_event (get_or s.indices x.item no_index) x release false))
+      event_with = seen_set (with_event (get_or s.indices x.item no_index) x release false) (ap (λ (k : Kept). k.index) is ∙ ap (λ l. with_event l x release false) (sym index_was))
 
-      pub event_alike : AreAlike firsts (set ks j new)
-      event_alike = all_alike firsts (λ k was. was) (subst (IsAlike firsts) (sym is) (record { within = alike_here.within; few = omega (arith, alike_here.few) }))
+      pub event_lanes : AreLanes forgotten firsts (set ks j new)
+      event_lanes = lanes_set firsts (λ i k lane. lane) (subst (IsLane forgotten firsts x.item) (sym is) (lane_with lane_here x release))
+
+-- ---- an instance is forgotten
+
+-- one lane more was written
+pub one_written : (f : Kept → Kept) (was now : List Kept) (n : ℕ) → n < length was → now ≡ map f (take n was) ++ drop n was → (any new : Kept) → new ≡ f (get_or now n any) → set now n new ≡ map f (take (n + 1) was) ++ drop (n + 1) was
+one_written f was now n lt so_far any new is =
+    let done = map f (take n was) in
+    let here = get_or was n nothing_kept in
+    let rest = drop (n + 1) was in
+    let count : length done ≡ n = length-map (take n was) f ∙ length-take-le n was (omega (arith, lt)) in
+    let split : now ≡ done ++ here ∷ rest = so_far ∙ ap (λ l. done ++ l) (drop_more was n nothing_kept lt) in
+    let value : new ≡ f here = is ∙ ap f (ap (λ l. get_or l n any) split ∙ get_or_at done here rest any n count) in
+    ap (λ l. set l n new) split ∙ (set_at done here rest new n count ∙ (ap (λ x. done ++ x ∷ rest) value
+    ∙ (sym (append_assoc done (f here ∷ []) rest) ∙ ap (λ l. l ++ rest) (sym (map_more f was n nothing_kept lt)))))
+
+module _ {forgotten : ℕ} (firsts : List Bare) (ks : List Kept) (are : AreLanes forgotten firsts ks) {s : GroupIndex} (view : seen_of forgotten ks ≡ s) {new : List Kept} (is : new ≡ map (forgetting_one forgotten) ks) where
+  pub forgets_seen : seen_of (forgotten + 1) new ≡ record { indices = s.indices; forgotten = s.forgotten + 1 }
+  forgets_seen = ap (seen_of (forgotten + 1)) is ∙ (ap (λ l. record { indices = l; forgotten = forgotten + 1 }) (indices_stay ks) ∙ ap (λ (l : GroupIndex). record { indices = l.indices; forgotten = l.forgotten + 1 }) view)
+    where
+      indices_stay : (ls : List Kept) → indices_of (map (forgetting_one forgotten) ls) ≡ indices_of ls
+      indices_stay [] = refl
+      indices_stay (l ∷ ls) = ap (λ t. l.index ∷ t) (indices_stay ls)
+
+  pub forgets_lanes : ((i : ℕ) → i < length s.indices → (p : ℕ) × (slice_get (get_or s.indices i no_index).barriers s.forgotten ≡ Some p)) → AreLanes (forgotten + 1) (drop 1 firsts) new
+  forgets_lanes came = subst (AreLanes (forgotten + 1) (drop 1 firsts)) (sym is) each
+    where
+      each : AreLanes (forgotten + 1) (drop 1 firsts) (map (forgetting_one forgotten) ks)
+      each i there =
+          let within : i < length ks = omega (arith, there, length-map ks (forgetting_one forgotten)) in
+          let k : Kept = get_or ks i nothing_kept in
+          let at = subst (λ (l : GroupIndex). (i : ℕ) → i < length l.indices → (p : ℕ) × (slice_get (get_or l.indices i no_index).barriers l.forgotten ≡ Some p)) (sym view) came i (omega (arith, within, length-map ks (λ (k : Kept). k.index))) in
+          let here : slice_get k.index.barriers forgotten ≡ Some at.0 = ap (λ (l : Index). slice_get l.barriers forgotten) (sym (index_is ks i)) ∙ at.1 in
+          subst (IsLane (forgotten + 1) (drop 1 firsts) i) (sym (get_or-map (forgetting_one forgotten) ks i nothing_kept nothing_kept within))
+          (lane_forgets (are i within) (slice_get_within k.index.barriers forgotten at.0 here))
 
 -- ---- what a record is
 
@@ -247,3 +236,6 @@ one_lane_more old new none is i =
     (λ apart. get_or_past (old ++ nothing_kept ∷ []) i nothing_kept (omega (arith, length_push old nothing_kept, apart)))
     (cases_eq (length old) i))
     (cases_lt i (length old))
+
+pub new_lanes : (firsts : List Bare) (ks : List Kept) → ((i : ℕ) → get_or ks i nothing_kept ≡ nothing_kept) → AreLanes 0 firsts ks
+new_lanes firsts ks none i there = subst (IsLane 0 firsts i) (sym (none i)) (record { places = refl; saying = refl; records = refl; passed = omega arith; least = omega arith; within = omega arith; few = omega arith })

@@ -3,3 +3,4 @@ pub mod GroupLemmas
 pub mod Growth
 pub mod InstanceLemmas
 pub mod KeptLemmas
+pub mod LaneLemmas

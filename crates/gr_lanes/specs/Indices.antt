@@ -1,6 +1,7 @@
 -- An index of each item's events in its group's list, and of its releases and barriers among its events.
 use Rattle.std.specs.Prelude.{◌≡◌, ◌≢◌, ℕ, ◌<◌, ◌≤◌, ◌+◌, Option, Bool, List, [], ◌∷◌, ◌++◌, length, map, filter, false, true, MatchOption, None, Some, slice_get, slice_index, slice_index_or, slice_set, if◌then◌else◌}
 use Rattle.gr_model.specs.declared.event.Event.{Event}
+use Rattle.gr_model.specs.declared.report.Divergence.{Divergence}
 use Rattle.gr_model.specs.declared.event.ItemId.{ItemId}
 use Rattle.gr_model.specs.declared.event.Kind.{Kind}
 use Rattle.gr_model.specs.declared.event.Kind.TheVariants.{End}
@@ -8,6 +9,7 @@ use Rattle.gr_model.specs.Access.{is_release}
 use Rattle.gr_model.specs.Barriers.{is_barrier}
 use Rattle.gr_model.specs.Events.{is_end}
 use Rattle.gr_model.specs.Streams.{Streams, ArePrefixes, IsPrefix, is_of, places_from, trace_of}
+use Rattle.gr_lanes.specs.Remembered.{Remembered}
 
 -- how many events an item has, the places of its releases and its barriers among them, and the records of these
 pub record Index : Type 0 where
@@ -65,10 +67,28 @@ record_of s test i k = slice_get (filter test (trace_of s i)) k
 abbrev pub IsNumberAmong : (Event → Bool) → List Event → ℕ → ℕ → Option ℕ → Type 0
 IsNumberAmong test list item index number = MatchOption number ((k : ℕ) → slice_get (places_from test 0 (filter (is_of item) list)) k ≢ Some index) (λ k. slice_get (places_from test 0 (filter (is_of item) list)) k ≡ Some index)
 
--- what was taken of a group of so many items
+-- what was taken of a group of so many items, how many of its first instances are forgotten, and which of these are divergent
 pub record GroupList : Type 0 where
   pub size : ℕ
   pub list : List Event
+  pub forgotten : ℕ
+  pub decided : List Divergence
+
+-- where these places have one of this number, it is none of the first so many
+abbrev pub IsNumberKept : ℕ → List ℕ → ℕ → Type 0
+IsNumberKept forgotten places number = (p : ℕ) → slice_get places number ≡ Some p → forgotten ≤ number
+
+-- where this is one of these places, it is none of the first so many
+abbrev pub IsPlaceKept : ℕ → List ℕ → ℕ → Type 0
+IsPlaceKept forgotten places place = (k : ℕ) → slice_get places k ≡ Some place → forgotten ≤ k
+
+-- where an item has a barrier of this number, its instance is not forgotten
+abbrev pub IsKeptOf : ℕ → List Event → ℕ → ℕ → Type 0
+IsKeptOf forgotten list item number = IsNumberKept forgotten (places_from is_barrier 0 (filter (is_of item) list)) number
+
+-- where an item's event with this index is a barrier, its instance is not forgotten
+abbrev pub IsIndexKeptOf : ℕ → List Event → ℕ → ℕ → Type 0
+IsIndexKeptOf forgotten list item index = IsPlaceKept forgotten (places_from is_barrier 0 (filter (is_of item) list)) index
 
 -- each item has its index in the list, and its group may have such a list
 pub record AreIndices (lanes : List Index) (list : List Event) : Type 0 where
@@ -102,6 +122,10 @@ EndsCut list = (p : ℕ) × (x : Event) × (slice_get list p ≡ Some x) × (x.k
 -- what was taken of the groups of a shape
 abbrev pub taken_of : List ℕ → List GroupList → Streams
 taken_of sizes groups = record { sizes = sizes; lists = map (λ g. g.list) groups }
+
+-- the same, how many instances of each group are forgotten, and which of these are divergent
+abbrev pub remembered_of : List ℕ → List GroupList → Remembered
+remembered_of sizes groups = record { streams = taken_of sizes groups; forgotten = map (λ g. g.forgotten) groups; decided = map (λ g. g.decided) groups }
 
 -- the groups are those of the shape, and each has a list that it may have
 pub record AreGroups (sizes : List ℕ) (groups : List GroupList) : Type 0 where

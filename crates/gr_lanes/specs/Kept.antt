@@ -1,10 +1,10 @@
--- What is kept of a group's items: a lane of each, and of each instance of the group's barriers what the first said that came to it.
-use Rattle.std.specs.Prelude.{◌≡◌, ℕ, ◌<◌, ◌≤◌, List, [], ◌∷◌, ◌++◌, Bool, false, not, ◌||◌, ◌&&◌, ◌⊎◌, nat_lt, is_some, Option, Some, None, length, map, take, slice_get, slice_index_or, suc, ◌+◌}
+-- What is kept of a group's items: a lane of each, and of each instance of the group's barriers that is not forgotten what the first said that came to it.
+use Rattle.std.specs.Prelude.{◌≡◌, ℕ, ◌<◌, ◌≤◌, List, [], ◌∷◌, ◌++◌, Bool, true, false, not, ◌||◌, ◌&&◌, ◌==◌, ◌⊎◌, nat_lt, Option, Some, None, drop, length, map, take, slice_get, slice_index_or, ◌+◌, ◌-◌, if◌then◌else◌}
 use Rattle.gr_model.specs.declared.event.Event.{Event}
 use Rattle.gr_lanes.specs.declared.bare.Bare.{Bare}
 use Rattle.gr_model.specs.Barriers.{is_barrier}
 use Rattle.gr_model.specs.Streams.{Streams, is_complete, list_of, place_of, size_of}
-use Rattle.gr_lanes.specs.Indices.{Index, no_index, record_of, with_if}
+use Rattle.gr_lanes.specs.Indices.{Index, no_index, record_of, with_event}
 
 -- what a record says beside its item and the releases that it names
 abbrev pub bare_of : Event → Bare
@@ -14,63 +14,65 @@ bare_of x = record { kind = x.kind; space = x.space; word = x.word }
 abbrev pub of_item : ℕ → Bare → Event
 of_item i b = record { item = i; kind = b.kind; space = b.space; word = b.word; names = [] }
 
--- what is kept of an item: how many events it has, the places of its releases and its barriers, and the records of its releases;
--- so many of its first barriers said what the firsts of their instances did, and of those behind them what they said is kept
+-- the indices of a group's items, and how many of its first instances are forgotten
+pub record GroupIndex : Type 0 where
+  pub indices : List Index
+  pub forgotten : ℕ
+
+-- other indices, and as many instances forgotten
+abbrev pub with_indices : GroupIndex → List Index → GroupIndex
+with_indices g l = record { indices = l; forgotten = g.forgotten }
+
+-- what is kept of an item: its index, but for the places and the records of its barriers, which exist in proofs alone; the places of those
+-- of its barriers whose instances are not forgotten; so many of its first barriers are forgotten or said what the firsts of their
+-- instances did, and of those behind them what they said is kept
 pub record Kept : Type 0 where
-  pub count : ℕ
-  pub releases : List ℕ
+  pub index : Index
   pub barriers : List ℕ
-  pub released : List Event
   pub alike : ℕ
   pub apart : List Bare
 
 -- an item without events
 abbrev pub nothing_kept : Kept
-nothing_kept = record { count = 0; releases = []; barriers = []; released = []; alike = 0; apart = [] }
-
--- what an item's barriers said, where these are the firsts of their instances
-abbrev pub said : List Bare → Kept → List Bare
-said firsts k = take k.alike firsts ++ k.apart
-
--- the index of an item's events
-abbrev pub kept_index : List Bare → ℕ → Kept → Index
-kept_index firsts i k = record { count = k.count; releases = k.releases; barriers = k.barriers; released = k.released; arrived = map (of_item i) (said firsts k) }
-
--- the indices of a group's items from this one on
-unfoldable pub indices_from : List Bare → ℕ → List Kept → List Index
-indices_from firsts i [] = []
-indices_from firsts i (k ∷ ks) = kept_index firsts i k ∷ indices_from firsts (suc i) ks
+nothing_kept = record { index = no_index; barriers = []; alike = 0; apart = [] }
 
 -- an item's lane with an event more, which is a release if so told, and no barrier
 abbrev pub kept_with : Kept → Event → Bool → Kept
-kept_with k x release = record {
-  count = k.count + 1;
-  releases = with_if release k.releases k.count;
-  barriers = k.barriers;
-  released = with_if release k.released x;
-  alike = k.alike;
-  apart = k.apart;
-}
+kept_with k x release = record { index = with_event k.index x release false; barriers = k.barriers; alike = k.alike; apart = k.apart }
 
 -- an item's lane with a barrier more, which said what the first of its instance did
-abbrev pub alike_more : Kept → Kept
-alike_more k = record { count = k.count + 1; releases = k.releases; barriers = k.barriers ++ k.count ∷ []; released = k.released; alike = k.alike + 1; apart = k.apart }
+abbrev pub alike_more : Kept → Event → Kept
+alike_more k x = record { index = with_event k.index x false true; barriers = k.barriers ++ k.index.count ∷ []; alike = k.alike + 1; apart = k.apart }
 
--- the same, with one that said this
-abbrev pub apart_more : Kept → Bare → Kept
-apart_more k b = record { count = k.count + 1; releases = k.releases; barriers = k.barriers ++ k.count ∷ []; released = k.released; alike = k.alike; apart = k.apart ++ b ∷ [] }
+-- the same, with one that said something else
+abbrev pub apart_more : Kept → Event → Kept
+apart_more k x = record { index = with_event k.index x false true; barriers = k.barriers ++ k.index.count ∷ []; alike = k.alike; apart = k.apart ++ bare_of x ∷ [] }
 
--- each barrier that said what the first of its instance did has such a first
-pub record IsAlike (firsts : List Bare) (k : Kept) : Type 0 where
-  pub within : k.alike ≤ length firsts
-  pub few : k.alike ≤ k.count
+-- an item's lane where so many instances were forgotten, and now one more is
+abbrev pub forgetting_one : ℕ → Kept → Kept
+forgetting_one forgotten k = record {
+  index = k.index;
+  barriers = drop 1 k.barriers;
+  alike = if k.alike == forgotten then k.alike + 1 else k.alike;
+  apart = if k.alike == forgotten then drop 1 k.apart else k.apart;
+}
 
-abbrev pub AreAlike : List Bare → List Kept → Type 0
-AreAlike firsts lanes = (i : ℕ) → i < length lanes → IsAlike firsts (slice_index_or lanes i nothing_kept)
+-- a lane keeps what an item's barriers were, but for the first so many; of the instances behind these the firsts said this
+pub record IsLane (forgotten : ℕ) (firsts : List Bare) (i : ℕ) (k : Kept) : Type 0 where
+  pub places : k.barriers ≡ drop forgotten k.index.barriers
+  pub saying : drop forgotten k.index.arrived ≡ map (of_item i) (take (k.alike - forgotten) firsts ++ k.apart)
+  pub records : length k.index.arrived ≡ length k.index.barriers
+  pub passed : forgotten ≤ length k.index.barriers
+  pub least : forgotten ≤ k.alike
+  pub within : k.alike - forgotten ≤ length firsts
+  pub few : length k.index.barriers ≤ k.index.count
 
--- whether a lane's barrier of a number said what the first of its instance did, or is not there, where more may come
+abbrev pub AreLanes : ℕ → List Bare → List Kept → Type 0
+AreLanes forgotten firsts lanes = (i : ℕ) → i < length lanes → IsLane forgotten firsts i (slice_index_or lanes i nothing_kept)
+
+-- whether a lane's barrier of a number that is not forgotten said what the first of its instance did, or is not there, where more may come
 abbrev pub is_as_first : ℕ → Bool → Kept → Bool
-is_as_first n ended k = nat_lt n k.alike || (not ended && not (is_some (slice_get k.barriers n)))
+is_as_first n ended k = nat_lt n k.alike || (not ended && not (nat_lt (n - k.alike) (length k.apart)))
 
 -- an item came to an instance with this, or where more may come, it has not come
 abbrev pub CameWith : Option Event → Option ℕ → Bool → ℕ → Bare → Type 0
@@ -83,13 +85,9 @@ NoneDiffersIn lanes n ended = (b : Bare) × ((i : ℕ) → i < length lanes → 
 abbrev pub NoneDiffers : Streams → ℕ → ℕ → Type 0
 NoneDiffers s g n = (b : Bare) × ((i : ℕ) → i < size_of s g → CameWith (record_of s is_barrier (record { group = g; item = i }) n) (place_of s is_barrier (record { group = g; item = i }) n) (is_complete (list_of s g)) i b)
 
--- an item's lane has a barrier more, which said this, and its instance has a first
-pub record Arrives (firsts firsts' : List Bare) (old new : Kept) (b : Bare) : Type 0 where
+-- an item's lane has a barrier more, this one, and its instance has a first
+pub record Arrives (forgotten : ℕ) (firsts firsts' : List Bare) (old new : Kept) (x : Event) : Type 0 where
   pub more : List Bare
   pub grown : firsts' ≡ firsts ++ more
-  pub alikes : IsAlike firsts' new
-  pub count : new.count ≡ old.count + 1
-  pub releases : new.releases ≡ old.releases
-  pub barriers : new.barriers ≡ old.barriers ++ old.count ∷ []
-  pub released : new.released ≡ old.released
-  pub saying : said firsts' new ≡ said firsts old ++ b ∷ []
+  pub lane : IsLane forgotten firsts' x.item new
+  pub index : new.index ≡ with_event old.index x false true

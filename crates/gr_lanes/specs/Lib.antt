@@ -1,3 +1,4 @@
+pub mod Remembered
 pub mod Takes
 pub mod Indices
 pub mod Instances

@@ -3,13 +3,13 @@
 //! Invariant: the records are a prefix of a list that the group may have, and of each item the index of its events in it is
 //! kept. The list itself exists in proofs alone.
 
-ghost use Rattle.std.specs.Prelude.{◌≡◌, ◌↔◌, ◌∷◌, ◌++◌, ◌<◌, ℕ, [], true, Some, IsTrue, IfOk, OnOk, OnErr, filter, length, slice_get, slice_index_or};
+ghost use Rattle.std.specs.Prelude.{◌≡◌, ◌↔◌, ◌∷◌, ◌++◌, ◌<◌, ◌≤◌, ◌+◌, ℕ, [], true, Some, IsTrue, IfOk, OnOk, OnErr, filter, length, slice_get, slice_index_or};
 ghost use Rattle.gr_model.specs.declared.limits.TheConstants.{MOST_RECORDS};
 ghost use Rattle.gr_model.specs.Access as model;
 ghost use Rattle.gr_model.specs.Barriers as model_barriers;
 ghost use Rattle.gr_model.specs.Events.{IsEventOk};
 ghost use Rattle.gr_model.specs.Streams.{is_complete, is_of, places_from};
-ghost use Rattle.gr_lanes.specs.Indices.{EndsCut, IsNumberAmong, end_of, no_index, indexed};
+ghost use Rattle.gr_lanes.specs.Indices.{EndsCut, IsIndexKeptOf, IsKeptOf, IsNumberAmong, end_of, no_index, indexed};
 ghost use Rattle.gr_lanes.specs.declared.bare.Bare.{Bare as BareOf};
 ghost use Rattle.gr_lanes.specs.Kept.{CameWith};
 ghost use Rattle.gr_lanes.specs.Takes.{IsMereAccess};
@@ -18,10 +18,12 @@ use crate::items::Items;
 use gr_history::history::History;
 use gr_model::event::{Event, Kind};
 use gr_model::memory::Memory;
+use gr_model::report::Divergence;
 use std::alloc::{Allocator, Global};
 use std::marker::Model;
 
-/// What was taken of a work-group. Contracts see how many items it has, and its records.
+/// What was taken of a work-group. Contracts see how many items it has, its records, how many of its first instances are
+/// forgotten, and which of these are divergent.
 #[derive(Drop)]
 #[derive_where(Debug)]
 pub(crate) struct Group<A: Allocator = Global> {
@@ -30,6 +32,8 @@ pub(crate) struct Group<A: Allocator = Global> {
     /// Whether its stream was cut, once its end was taken.
     end: Option<bool>,
     items: Items<A>,
+    /// The divergent ones of the instances that are forgotten.
+    decided: Vec<Divergence, A>,
 }
 
 impl<A: Allocator> Model for Group<A> {
@@ -38,9 +42,9 @@ impl<A: Allocator> Model for Group<A> {
 
     ghost Value = { GroupList };
 
-    ghost view = { λ g. record { size = length g.items; list = g.list } };
+    ghost view = { λ g. record { size = length g.items.indices; list = g.list; forgotten = g.items.forgotten; decided = g.decided.items } };
 
-    ghost invariant = { λ g. IsKept g.items g.list g.taken g.end };
+    ghost invariant = { λ g. IsKept g.items.indices g.list g.taken g.end };
 }
 
 /// Whether a stream was cut whose end this record is, if it is an end.
@@ -74,7 +78,7 @@ impl<A: Allocator + Copy> Group<A> {
     /// # Errors
     /// `Memory`: out of memory.
     pub(crate) fn new(alloc: A, items: u16) -> Result<Group<A>, Memory>
-        ensures { IfOk result (λ g. g ≡ record { size = items; list = [] }) }
+        ensures { IfOk result (λ g. g ≡ record { size = items; list = []; forgotten = 0; decided = [] }) }
     {
         let items = Items::new(alloc, items)?;
         let list = History::new();
@@ -83,6 +87,7 @@ impl<A: Allocator + Copy> Group<A> {
             taken: 0,
             end: None,
             items,
+            decided: Vec::new(alloc),
         })
     }
 }
@@ -116,6 +121,20 @@ impl<A: Allocator> Group<A> {
         says_cut(self.end)
     }
 
+    /// How many of its first instances are forgotten.
+    pub(crate) fn forgotten(&self) -> u32
+        ensures { result ≡ self.now.forgotten }
+    {
+        self.items.forgotten()
+    }
+
+    /// The divergent ones of the instances that are forgotten.
+    pub(crate) fn decided(&self) -> &[Divergence]
+        ensures { result.now ≡ self.now.decided }
+    {
+        &self.decided
+    }
+
     /// The index of an item's release with this number.
     pub(crate) fn release_at(&self, item: u16, number: u32) -> Option<u32>
         ensures { result ≡ slice_get (places_from model.is_release 0 (filter (is_of item) self.now.list)) number }
@@ -125,6 +144,7 @@ impl<A: Allocator> Group<A> {
 
     /// The index of an item's barrier with this number.
     pub(crate) fn barrier_at(&self, item: u16, number: u32) -> Option<u32>
+        requires { IsKeptOf self.now.forgotten self.now.list item number }
         ensures { result ≡ slice_get (places_from model_barriers.is_barrier 0 (filter (is_of item) self.now.list)) number }
     {
         self.items.barrier_at(item, number)
@@ -139,6 +159,7 @@ impl<A: Allocator> Group<A> {
 
     /// The record of an item's barrier with this number.
     pub(crate) fn barrier_event(&self, item: u16, number: u32) -> Option<Event>
+        requires { IsKeptOf self.now.forgotten self.now.list item number }
         ensures { result ≡ slice_get (filter model_barriers.is_barrier (filter (is_of item) self.now.list)) number }
     {
         self.items.barrier_event(item, number)
@@ -147,6 +168,7 @@ impl<A: Allocator> Group<A> {
     /// Whether it is known that all items which came to an instance said the same, and that all came where the group has ended.
     #[inline(always)]
     pub(crate) fn none_differs(&self, number: u32) -> bool
+        requires { self.now.forgotten ≤ number }
         ensures { IsTrue result → (b : BareOf) × ((i : ℕ) → i < self.now.size → CameWith (slice_get (filter model_barriers.is_barrier (filter (is_of i) self.now.list)) number) (slice_get (places_from model_barriers.is_barrier 0 (filter (is_of i) self.now.list)) number) (is_complete self.now.list) i b) }
     {
         self.items.none_differs(number, self.is_complete())
@@ -161,6 +183,7 @@ impl<A: Allocator> Group<A> {
 
     /// The number among an item's barriers of the event with this index, or `None` where that is no barrier.
     pub(crate) fn barrier_number(&self, item: u16, index: u32) -> Option<u32>
+        requires { IsIndexKeptOf self.now.forgotten self.now.list item index }
         ensures { IsNumberAmong model_barriers.is_barrier self.now.list item index result }
     {
         self.items.barrier_number(item, index)
@@ -175,15 +198,15 @@ impl<A: Allocator> Group<A> {
     }
 
     /// Takes the group's next record, a mere access. It takes no memory.
-    pub(crate) fn take_access(&mut self, event: Event)
-        requires good { IsEventOk event self.old.size }
+    pub(crate) fn take_access(&mut self, event: &Event)
+        requires good { IsEventOk event.now self.old.size }
         requires before_end { ¬ IsTrue (is_complete self.old.list) }
         requires room { length self.old.list < MOST_RECORDS }
-        requires access { IsMereAccess event }
-        ensures { self.new ≡ record { size = self.old.size; list = self.old.list ++ event ∷ [] } }
+        requires access { IsMereAccess event.now }
+        ensures { self.new ≡ record { size = self.old.size; list = self.old.list ++ event.now ∷ []; forgotten = self.old.forgotten; decided = self.old.decided } }
     {
-        self.items.add_access(&event);
-        self.list.push(&event);
+        self.items.add_access(event);
+        self.list.push(event);
         self.taken += 1;
     }
 
@@ -191,17 +214,41 @@ impl<A: Allocator> Group<A> {
     ///
     /// # Errors
     /// `Memory`: out of memory. The group is then as it was.
-    pub(crate) fn take(&mut self, event: Event) -> Result<(), Memory>
-        requires good { IsEventOk event self.old.size }
+    pub(crate) fn take(&mut self, event: &Event) -> Result<(), Memory>
+        requires good { IsEventOk event.now self.old.size }
         requires before_end { ¬ IsTrue (is_complete self.old.list) }
         requires room { length self.old.list < MOST_RECORDS }
-        ensures ok { OnOk result (self.new ≡ record { size = self.old.size; list = self.old.list ++ event ∷ [] }) }
+        ensures ok { OnOk result (self.new ≡ record { size = self.old.size; list = self.old.list ++ event.now ∷ []; forgotten = self.old.forgotten; decided = self.old.decided }) }
         ensures err { OnErr result (self.new ≡ self.old) }
     {
-        self.items.add(&event)?;
-        self.list.push(&event);
+        self.items.add(event)?;
+        self.list.push(event);
         self.taken += 1;
-        self.end = end_of(&event);
+        self.end = end_of(event);
+        Ok(())
+    }
+
+    /// Forgets the least instance that is not forgotten, to which all items came, and which is not divergent.
+    pub(crate) fn forget(&mut self)
+        requires came { (i : ℕ) → i < self.old.size → (p : ℕ) × (slice_get (places_from model_barriers.is_barrier 0 (filter (is_of i) self.old.list)) self.old.forgotten ≡ Some p) }
+        requires few { self.old.forgotten < MOST_RECORDS }
+        ensures { self.new ≡ record { size = self.old.size; list = self.old.list; forgotten = self.old.forgotten + 1; decided = self.old.decided } }
+    {
+        self.items.forget();
+    }
+
+    /// Forgets the least instance that is not forgotten, to which all items came, and which is divergent.
+    ///
+    /// # Errors
+    /// `Memory`: out of memory. The group is then as it was.
+    pub(crate) fn decide(&mut self, divergence: Divergence) -> Result<(), Memory>
+        requires came { (i : ℕ) → i < self.old.size → (p : ℕ) × (slice_get (places_from model_barriers.is_barrier 0 (filter (is_of i) self.old.list)) self.old.forgotten ≡ Some p) }
+        requires few { self.old.forgotten < MOST_RECORDS }
+        ensures ok { OnOk result (self.new ≡ record { size = self.old.size; list = self.old.list; forgotten = self.old.forgotten + 1; decided = self.old.decided ++ divergence ∷ [] }) }
+        ensures err { OnErr result (self.new ≡ self.old) }
+    {
+        self.decided.push(divergence)?;
+        self.items.forget();
         Ok(())
     }
 }

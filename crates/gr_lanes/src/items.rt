@@ -1,12 +1,13 @@
 //! What is kept of the items of a work-group.
 //!
-//! Invariant: each barrier that said what the first of its instance did has such a first.
+//! Invariant: each item's lane keeps its barriers but for those that are forgotten, and each barrier that said what the first of
+//! its instance did has such a first.
 
-ghost use Rattle.std.specs.Prelude.{◌≡◌, ◌≢◌, ◌<◌, ℕ, [], true, IsTrue, IfOk, MatchOption, OnOk, OnErr, length, slice_get, slice_index_or};
+ghost use Rattle.std.specs.Prelude.{◌≡◌, ◌≢◌, ◌<◌, ◌≤◌, ◌+◌, ℕ, [], true, Some, IsTrue, IfOk, MatchOption, OnOk, OnErr, length, map, slice_get, slice_index_or};
 ghost use Rattle.std.specs.List.{list_all};
 ghost use Rattle.gr_model.specs.Barriers as model;
-ghost use Rattle.gr_lanes.specs.Indices.{AreRising, indexed, no_index, with_barrier};
-ghost use Rattle.gr_lanes.specs.Kept.{NoneDiffersIn, is_as_first};
+ghost use Rattle.gr_lanes.specs.Indices.{AreRising, IsNumberKept, IsPlaceKept, indexed, no_index, with_barrier};
+ghost use Rattle.gr_lanes.specs.Kept.{NoneDiffersIn, forgetting_one, is_as_first, with_indices};
 ghost use Rattle.gr_lanes.specs.Takes.{IsMereAccess};
 
 use crate::bare::Bare;
@@ -15,27 +16,29 @@ use crate::lane::Lane;
 use gr_model::event::Event;
 use gr_model::memory::Memory;
 use std::alloc::{Allocator, Global};
+use std::collections::VecDeque;
 use std::marker::Model;
 
-/// What is kept of a group's items. Contracts see the index of each item's events.
+/// What is kept of a group's items. Contracts see the index of each item's events, and how many of the group's first instances are
+/// forgotten.
 #[derive(Drop)]
 #[derive_where(Debug)]
 pub(crate) struct Items<A: Allocator = Global> {
     lanes: Vec<Lane<A>, A>,
-    /// Of each instance of the group's barriers, what the first said that came to it.
-    firsts: Vec<Bare, A>,
+    /// Of each instance of the group's barriers that is not forgotten, what the first said that came to it.
+    firsts: VecDeque<Bare, A>,
+    forgotten: u32,
 }
 
 impl<A: Allocator> Model for Items<A> {
-    ghost use Rattle.std.specs.Prelude.{List};
-    ghost use Rattle.gr_lanes.specs.Indices.{Index};
-    ghost use Rattle.gr_lanes.specs.Kept.{AreAlike, indices_from};
+    ghost use Rattle.std.specs.Prelude.{map};
+    ghost use Rattle.gr_lanes.specs.Kept.{AreLanes, GroupIndex};
 
-    ghost Value = { List Index };
+    ghost Value = { GroupIndex };
 
-    ghost view = { λ t. indices_from t.firsts.items 0 t.lanes.items };
+    ghost view = { λ t. record { indices = map (λ k. k.index) t.lanes.items; forgotten = t.forgotten } };
 
-    ghost invariant = { λ t. AreAlike t.firsts.items t.lanes.items };
+    ghost invariant = { λ t. AreLanes t.forgotten t.firsts.items t.lanes.items };
 }
 
 /// Whether each lane is as the first of an instance is.
@@ -46,35 +49,58 @@ fn are_as_first<A: Allocator>(lanes: &[Lane<A>], number: u32, ended: bool) -> bo
     lanes.iter().all(|lane| lane.is_as_first(number, ended))
 }
 
+/// Of each lane the first barrier is forgotten that is not, where so many are.
+fn forget_one<A: Allocator>(lanes: &mut [Lane<A>], forgotten: u32)
+    requires few { forgotten < 4_294_967_295 }
+    ensures { lanes.new ≡ map (forgetting_one forgotten) lanes.old }
+{
+    for lane in lanes.iter_mut() {
+        lane.forget(forgotten);
+    }
+}
+
 impl<A: Allocator + Copy> Items<A> {
     /// So many items without events.
     ///
     /// # Errors
     /// `Memory`: out of memory.
     pub(crate) fn new(alloc: A, items: u16) -> Result<Items<A>, Memory>
-        ensures size { IfOk result (λ t. length t ≡ items) }
-        ensures none { IfOk result (λ t. (i : ℕ) → slice_index_or t i no_index ≡ no_index) }
+        ensures size { IfOk result (λ t. length t.indices ≡ items) }
+        ensures none { IfOk result (λ t. (i : ℕ) → slice_index_or t.indices i no_index ≡ no_index) }
+        ensures whole { IfOk result (λ t. t.forgotten ≡ 0) }
     {
         let mut lanes = Vec::new(alloc);
         for _item in 0..items {
             lanes.push(Lane::new(alloc))?;
         }
-        let firsts = Vec::new(alloc);
-        Ok(Items { lanes, firsts })
+        let firsts = VecDeque::new(alloc);
+        Ok(Items {
+            lanes,
+            firsts,
+            forgotten: 0,
+        })
     }
 }
 
 impl<A: Allocator> Items<A> {
     /// How many there are.
     pub(crate) fn len(&self) -> usize
-        ensures { result ≡ length self.now }
+        ensures { result ≡ length self.now.indices }
     {
         self.lanes.len()
     }
 
+    /// How many of the group's first instances are forgotten.
+    #[inline(always)]
+    pub(crate) fn forgotten(&self) -> u32
+        ensures { result ≡ self.now.forgotten }
+    {
+        self.forgotten
+    }
+
     /// The index of an item's release with this number.
     pub(crate) fn release_at(&self, item: u16, number: u32) -> Option<u32>
-        ensures { result ≡ slice_get (slice_index_or self.now item no_index).releases number }
+        ensures { result ≡ slice_get (slice_index_or self.now.indices item no_index).releases number }
     {
         match self.lanes.get(usize::from(item)) {
             None => None,
@@ -84,17 +110,18 @@ impl<A: Allocator> Items<A> {
 
     /// The index of an item's barrier with this number.
     pub(crate) fn barrier_at(&self, item: u16, number: u32) -> Option<u32>
-        ensures { result ≡ slice_get (slice_index_or self.now item no_index).barriers number }
+        requires { IsNumberKept self.now.forgotten (slice_index_or self.now.indices item no_index).barriers number }
+        ensures { result ≡ slice_get (slice_index_or self.now.indices item no_index).barriers number }
     {
         match self.lanes.get(usize::from(item)) {
             None => None,
-            Some(lane) => lane.barrier(number),
+            Some(lane) => lane.barrier(number - self.forgotten),
         }
     }
 
     /// The record of an item's release with this number.
     pub(crate) fn release_event(&self, item: u16, number: u32) -> Option<Event>
-        ensures { result ≡ slice_get (slice_index_or self.now item no_index).released number }
+        ensures { result ≡ slice_get (slice_index_or self.now.indices item no_index).released number }
     {
         match self.lanes.get(usize::from(item)) {
             None => None,
@@ -104,11 +131,12 @@ impl<A: Allocator> Items<A> {
 
     /// The record of an item's barrier with this number.
     pub(crate) fn barrier_event(&self, item: u16, number: u32) -> Option<Event>
-        ensures { result ≡ slice_get (slice_index_or self.now item no_index).arrived number }
+        requires { IsNumberKept self.now.forgotten (slice_index_or self.now.indices item no_index).barriers number }
+        ensures { result ≡ slice_get (slice_index_or self.now.indices item no_index).arrived number }
     {
         match self.lanes.get(usize::from(item)) {
             None => None,
-            Some(lane) => lane.barrier_event(&self.firsts, item, number),
+            Some(lane) => lane.barrier_event(&self.firsts, self.forgotten, item, number),
         }
     }
 
@@ -116,16 +144,17 @@ impl<A: Allocator> Items<A> {
     /// may answer false where they did.
     #[inline(always)]
     pub(crate) fn none_differs(&self, number: u32, ended: bool) -> bool
-        ensures { IsTrue result → NoneDiffersIn self.now number ended }
+        requires { self.now.forgotten ≤ number }
+        ensures { IsTrue result → NoneDiffersIn self.now.indices number ended }
     {
         are_as_first(&self.lanes, number, ended)
     }
 
     /// The number among an item's releases of the event with this index, or `None` where that is no release.
     pub(crate) fn release_number(&self, item: u16, index: u32) -> Option<u32>
-        requires few { length (slice_index_or self.now item no_index).releases < 4_294_967_296 }
-        requires rise { AreRising (slice_index_or self.now item no_index).releases }
-        ensures { MatchOption result ((k : ℕ) → slice_get (slice_index_or self.now item no_index).releases k ≢ Some index) (λ k. slice_get (slice_index_or self.now item no_index).releases k ≡ Some index) }
+        requires few { length (slice_index_or self.now.indices item no_index).releases < 4_294_967_296 }
+        requires rise { AreRising (slice_index_or self.now.indices item no_index).releases }
+        ensures { MatchOption result ((k : ℕ) → slice_get (slice_index_or self.now.indices item no_index).releases k ≢ Some index) (λ k. slice_get (slice_index_or self.now.indices item no_index).releases k ≡ Some index) }
     {
         match self.lanes.get(usize::from(item)) {
             None => None,
@@ -135,34 +164,38 @@ impl<A: Allocator> Items<A> {
 
     /// The number among an item's barriers of the event with this index, or `None` where that is no barrier.
     pub(crate) fn barrier_number(&self, item: u16, index: u32) -> Option<u32>
-        requires few { length (slice_index_or self.now item no_index).barriers < 4_294_967_296 }
-        requires rise { AreRising (slice_index_or self.now item no_index).barriers }
-        ensures { MatchOption result ((k : ℕ) → slice_get (slice_index_or self.now item no_index).barriers k ≢ Some index) (λ k. slice_get (slice_index_or self.now item no_index).barriers k ≡ Some index) }
+        requires few { length (slice_index_or self.now.indices item no_index).barriers < 4_294_967_296 }
+        requires rise { AreRising (slice_index_or self.now.indices item no_index).barriers }
+        requires remembered { IsPlaceKept self.now.forgotten (slice_index_or self.now.indices item no_index).barriers index }
+        ensures { MatchOption result ((k : ℕ) → slice_get (slice_index_or self.now.indices item no_index).barriers k ≢ Some index) (λ k. slice_get (slice_index_or self.now.indices item no_index).barriers k ≡ Some index) }
     {
         match self.lanes.get(usize::from(item)) {
             None => None,
-            Some(lane) => lane.barrier_number(index),
+            Some(lane) => match lane.barrier_place(index) {
+                None => None,
+                Some(place) => Some(self.forgotten + place),
+            },
         }
     }
 
     /// How many barriers an item has.
     #[inline(always)]
     pub(crate) fn barrier_count(&self, item: u16) -> u32
-        requires few { length (slice_index_or self.now item no_index).barriers < 4_294_967_296 }
-        ensures { result ≡ length (slice_index_or self.now item no_index).barriers }
+        requires few { length (slice_index_or self.now.indices item no_index).barriers < 4_294_967_296 }
+        ensures { result ≡ length (slice_index_or self.now.indices item no_index).barriers }
     {
         match self.lanes.get(usize::from(item)) {
             None => 0,
-            Some(lane) => lane.barrier_count(),
+            Some(lane) => self.forgotten + lane.barrier_count(),
         }
     }
 
     /// Adds the next event of its item, a mere access. It takes no memory.
     pub(crate) fn add_access(&mut self, event: &Event)
-        requires item { event.now.item < length self.old }
-        requires few { (slice_index_or self.old event.now.item no_index).count < 4_294_967_295 }
+        requires item { event.now.item < length self.old.indices }
+        requires few { (slice_index_or self.old.indices event.now.item no_index).count < 4_294_967_295 }
         requires access { IsMereAccess event.now }
-        ensures { self.new ≡ indexed self.old event.now }
+        ensures { self.new ≡ with_indices self.old (indexed self.old.indices event.now) }
     {
         self.lanes[usize::from(event.item)].add_access(event);
     }
@@ -172,13 +205,13 @@ impl<A: Allocator> Items<A> {
     /// # Errors
     /// `Memory`: out of memory. The items are then as they were.
     fn add_barrier(&mut self, event: &Event) -> Result<(), Memory>
-        requires item { event.now.item < length self.old }
-        requires few { (slice_index_or self.old event.now.item no_index).count < 4_294_967_295 }
+        requires item { event.now.item < length self.old.indices }
+        requires few { (slice_index_or self.old.indices event.now.item no_index).count < 4_294_967_295 }
         requires bare { event.now.names ≡ [] }
-        ensures ok { OnOk result (self.new ≡ with_barrier self.old event.now) }
+        ensures ok { OnOk result (self.new ≡ with_indices self.old (with_barrier self.old.indices event.now)) }
         ensures err { OnErr result (self.new ≡ self.old) }
     {
-        self.lanes[usize::from(event.item)].arrive(&mut self.firsts, Bare::of(event))?;
+        self.lanes[usize::from(event.item)].arrive(&mut self.firsts, self.forgotten, event)?;
         Ok(())
     }
 
@@ -187,10 +220,10 @@ impl<A: Allocator> Items<A> {
     /// # Errors
     /// `Memory`: out of memory. The items are then as they were.
     pub(crate) fn add(&mut self, event: &Event) -> Result<(), Memory>
-        requires item { event.now.item < length self.old }
-        requires few { (slice_index_or self.old event.now.item no_index).count < 4_294_967_295 }
+        requires item { event.now.item < length self.old.indices }
+        requires few { (slice_index_or self.old.indices event.now.item no_index).count < 4_294_967_295 }
         requires bare { model.is_barrier event.now ≡ true → event.now.names ≡ [] }
-        ensures ok { OnOk result (self.new ≡ indexed self.old event.now) }
+        ensures ok { OnOk result (self.new ≡ with_indices self.old (indexed self.old.indices event.now)) }
         ensures err { OnErr result (self.new ≡ self.old) }
     {
         if event.kind.is_end() {
@@ -201,5 +234,16 @@ impl<A: Allocator> Items<A> {
         }
         self.lanes[usize::from(event.item)].add(event, is_release(event))?;
         Ok(())
+    }
+
+    /// Forgets the least instance that is not forgotten, to which all items came.
+    pub(crate) fn forget(&mut self)
+        requires came { (i : ℕ) → i < length self.old.indices → (p : ℕ) × (slice_get (slice_index_or self.old.indices i no_index).barriers self.old.forgotten ≡ Some p) }
+        requires few { self.old.forgotten < 4_294_967_295 }
+        ensures { self.new ≡ record { indices = self.old.indices; forgotten = self.old.forgotten + 1 } }
+    {
+        forget_one(&mut self.lanes, self.forgotten);
+        let _ = self.firsts.pop_front();
+        self.forgotten += 1;
     }
 }

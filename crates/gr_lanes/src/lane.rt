@@ -1,19 +1,21 @@
 //! What is kept of one work-item's events.
 //!
 //! A lane knows how many events an item has, and which of them are releases and barriers. Of its releases it has the records.
-//! Most barriers say what the first of their instance said, which the group keeps once: a lane counts how many of its first
-//! barriers do, and has what those behind them said.
+//! Of its barriers it has the indices of those whose instances are not forgotten. Most barriers say what the first of their
+//! instance said, which the group keeps once: a lane counts how many of its first barriers do or are forgotten, and has what
+//! those behind them said.
 
-ghost use Rattle.std.specs.Prelude.{◌≡◌, ◌≢◌, ◌<◌, ◌≤◌, ℕ, Some, None, [], false, true, MatchOption, OnOk, OnErr, length, map, slice_get};
-ghost use Rattle.std.specs.Vec.{vec_capacity, vec_len};
+ghost use Rattle.std.specs.Prelude.{◌≡◌, ◌≢◌, ◌<◌, ◌≤◌, ◌-◌, ℕ, Some, None, [], false, true, MatchOption, OnOk, OnErr, length, map, slice_get};
 ghost use Rattle.gr_lanes.specs.Indices.{AreRising};
 ghost use Rattle.gr_lanes.specs.Kept as kept;
-ghost use Rattle.gr_lanes.specs.Kept.{alike_more, apart_more, Arrives, IsAlike, kept_index, kept_with, nothing_kept, said};
+ghost use Rattle.gr_lanes.specs.Kept.{alike_more, apart_more, Arrives, forgetting_one, IsLane, kept_with, nothing_kept};
 
 use crate::bare::Bare;
+use gr_history::history::History;
 use gr_model::event::Event;
 use gr_model::memory::Memory;
 use std::alloc::{Allocator, Global};
+use std::collections::VecDeque;
 use std::marker::Model;
 
 /// How many events an item has, and its releases and its barriers among them.
@@ -21,13 +23,17 @@ use std::marker::Model;
 #[derive_where(Debug)]
 pub(crate) struct Lane<A: Allocator = Global> {
     count: u32,
-    /// How many of its first barriers said what the firsts of their instances did.
+    /// How many of its first barriers are forgotten, or said what the firsts of their instances did.
     alike: u32,
     releases: Vec<u32, A>,
-    barriers: Vec<u32, A>,
     released: Vec<Event, A>,
+    /// The indices of its barriers that are not forgotten.
+    barriers: VecDeque<u32, A>,
     /// What the barriers behind those that are alike said.
-    apart: Vec<Bare, A>,
+    apart: VecDeque<Bare, A>,
+    /// The indices of all its barriers, and their records.
+    seen: History<u32>,
+    said: History<Event>,
 }
 
 impl<A: Allocator> Model for Lane<A> {
@@ -35,7 +41,7 @@ impl<A: Allocator> Model for Lane<A> {
 
     ghost Value = { Kept };
 
-    ghost view = { λ l. record { count = l.count; releases = l.releases.items; barriers = l.barriers.items; released = l.released.items; alike = l.alike; apart = l.apart.items } };
+    ghost view = { λ l. record { index = record { count = l.count; releases = l.releases.items; barriers = l.seen; released = l.released.items; arrived = l.said }; barriers = l.barriers.items; alike = l.alike; apart = l.apart.items } };
 }
 
 /// The place of an index in a rising list of indices.
@@ -51,49 +57,13 @@ fn number_of(places: &[u32], index: u32) -> Option<u32>
 }
 
 /// The record that one of these barriers is of this item.
-fn of_item(said: &[Bare], item: u16, number: u32) -> Option<Event>
-    ensures { result ≡ slice_get (map (kept.of_item item) said.now) number }
+fn of_item<A: Allocator>(said: &VecDeque<Bare, A>, item: u16, place: u32) -> Option<Event>
+    ensures { result ≡ slice_get (map (kept.of_item item) said.now.items) place }
 {
-    match said.get(number as usize) {
+    match said.get(place as usize) {
         None => None,
         Some(barrier) => Some(barrier.of_item(item)),
     }
-}
-
-/// From so many indices on a list grows by a quarter, and not twofold, since each item of a launch has such a list.
-const LONG: usize = 1024;
-
-/// Makes room for one more index in a list that has none.
-///
-/// # Errors
-/// `Memory`: out of memory.
-#[inline(never)]
-fn grow<A: Allocator>(places: &mut Vec<u32, A>) -> Result<(), Memory>
-    ensures items { places.new.items ≡ places.old.items }
-    ensures room { OnOk result (vec_len places.new < vec_capacity places.new) }
-{
-    let length = places.len();
-    if length < LONG {
-        places.reserve(1)?;
-        return Ok(());
-    }
-    places.reserve_exact(length / 4 + 1)?;
-    Ok(())
-}
-
-/// Makes room for one more index.
-///
-/// # Errors
-/// `Memory`: out of memory.
-#[inline(always)]
-fn make_room<A: Allocator>(places: &mut Vec<u32, A>) -> Result<(), Memory>
-    ensures items { places.new.items ≡ places.old.items }
-    ensures room { OnOk result (vec_len places.new < vec_capacity places.new) }
-{
-    if places.len() < places.capacity() {
-        return Ok(());
-    }
-    grow(places)
 }
 
 impl<A: Allocator + Copy> Lane<A> {
@@ -101,13 +71,17 @@ impl<A: Allocator + Copy> Lane<A> {
     pub(crate) fn new(alloc: A) -> Lane<A>
         ensures { result ≡ nothing_kept }
     {
+        let seen = History::new();
+        let said = History::new();
         Lane {
             count: 0,
             alike: 0,
             releases: Vec::new(alloc),
-            barriers: Vec::new(alloc),
             released: Vec::new(alloc),
-            apart: Vec::new(alloc),
+            barriers: VecDeque::new(alloc),
+            apart: VecDeque::new(alloc),
+            seen,
+            said,
         }
     }
 }
@@ -115,41 +89,70 @@ impl<A: Allocator + Copy> Lane<A> {
 impl<A: Allocator> Lane<A> {
     /// The index of the item's release with this number.
     pub(crate) fn release(&self, number: u32) -> Option<u32>
-        ensures { result ≡ slice_get self.now.releases number }
+        ensures { result ≡ slice_get self.now.index.releases number }
     {
         self.releases.get(number as usize).copied()
     }
 
-    /// The index of the item's barrier with this number.
-    pub(crate) fn barrier(&self, number: u32) -> Option<u32>
-        ensures { result ≡ slice_get self.now.barriers number }
-    {
-        self.barriers.get(number as usize).copied()
-    }
-
     /// The number among the item's releases of the one with this index.
     pub(crate) fn release_number(&self, index: u32) -> Option<u32>
-        requires few { length self.now.releases < 4_294_967_296 }
-        requires rise { AreRising self.now.releases }
-        ensures { MatchOption result ((k : ℕ) → slice_get self.now.releases k ≢ Some index) (λ k. slice_get self.now.releases k ≡ Some index) }
+        requires few { length self.now.index.releases < 4_294_967_296 }
+        requires rise { AreRising self.now.index.releases }
+        ensures { MatchOption result ((k : ℕ) → slice_get self.now.index.releases k ≢ Some index) (λ k. slice_get self.now.index.releases k ≡ Some index) }
     {
         number_of(&self.releases, index)
     }
 
     /// The record of the item's release with this number.
     pub(crate) fn release_event(&self, number: u32) -> Option<Event>
-        ensures { result ≡ slice_get self.now.released number }
+        ensures { result ≡ slice_get self.now.index.released number }
     {
         self.released.get(number as usize).copied()
     }
 
-    /// The record of the barrier with this number, of this item, where these are the firsts of its group's instances.
-    pub(crate) fn barrier_event(&self, firsts: &[Bare], item: u16, number: u32) -> Option<Event>
-        requires alike { IsAlike firsts.now self.now }
-        ensures { result ≡ slice_get (kept_index firsts.now item self.now).arrived number }
+    /// The index of one of the item's barriers that are not forgotten.
+    pub(crate) fn barrier(&self, place: u32) -> Option<u32>
+        ensures { result ≡ slice_get self.now.barriers place }
+    {
+        self.barriers.get(place as usize).copied()
+    }
+
+    /// The place among the item's barriers that are not forgotten of the one with this index.
+    pub(crate) fn barrier_place(&self, index: u32) -> Option<u32>
+        requires few { length self.now.barriers < 4_294_967_296 }
+        requires rise { AreRising self.now.barriers }
+        ensures { MatchOption result ((k : ℕ) → slice_get self.now.barriers k ≢ Some index) (λ k. slice_get self.now.barriers k ≡ Some index) }
+    {
+        match self.barriers.binary_search(&index) {
+            Ok(place) => Some(place as u32),
+            Err(_) => None,
+        }
+    }
+
+    /// How many barriers the item has that are not forgotten.
+    #[inline(always)]
+    pub(crate) fn barrier_count(&self) -> u32
+        requires few { length self.now.barriers < 4_294_967_296 }
+        ensures { result ≡ length self.now.barriers }
+    {
+        self.barriers.len() as u32
+    }
+
+    /// The record of the barrier with this number, of this item, where so many are forgotten and these are the firsts of the
+    /// instances behind them.
+    pub(crate) fn barrier_event(
+        &self,
+        firsts: &VecDeque<Bare, A>,
+        forgotten: u32,
+        item: u16,
+        number: u32,
+    ) -> Option<Event>
+        requires lane { IsLane forgotten firsts.now.items item self.now }
+        requires remembered { forgotten ≤ number }
+        ensures { result ≡ slice_get self.now.index.arrived number }
     {
         if number < self.alike {
-            return of_item(firsts, item, number);
+            return of_item(firsts, item, number - forgotten);
         }
         of_item(&self.apart, item, number - self.alike)
     }
@@ -159,30 +162,12 @@ impl<A: Allocator> Lane<A> {
     pub(crate) fn is_as_first(&self, number: u32, ended: bool) -> bool
         ensures { result ≡ kept.is_as_first number ended self.now }
     {
-        number < self.alike || (!ended && self.barriers.get(number as usize).is_none())
-    }
-
-    /// The number among the item's barriers of the one with this index.
-    pub(crate) fn barrier_number(&self, index: u32) -> Option<u32>
-        requires few { length self.now.barriers < 4_294_967_296 }
-        requires rise { AreRising self.now.barriers }
-        ensures { MatchOption result ((k : ℕ) → slice_get self.now.barriers k ≢ Some index) (λ k. slice_get self.now.barriers k ≡ Some index) }
-    {
-        number_of(&self.barriers, index)
-    }
-
-    /// How many barriers the item has.
-    #[inline(always)]
-    pub(crate) fn barrier_count(&self) -> u32
-        requires few { length self.now.barriers < 4_294_967_296 }
-        ensures { result ≡ length self.now.barriers }
-    {
-        self.barriers.len() as u32
+        number < self.alike || (!ended && self.apart.len() <= (number - self.alike) as usize)
     }
 
     /// Adds the item's next event, which is neither a release nor a barrier. It takes no memory.
     pub(crate) fn add_access(&mut self, event: &Event)
-        requires few { self.old.count < 4_294_967_295 }
+        requires few { self.old.index.count < 4_294_967_295 }
         ensures { self.new ≡ kept_with self.old event.now false }
     {
         self.count += 1;
@@ -193,7 +178,7 @@ impl<A: Allocator> Lane<A> {
     /// # Errors
     /// `Memory`: out of memory. The lane is then as it was.
     pub(crate) fn add(&mut self, event: &Event, release: bool) -> Result<(), Memory>
-        requires few { self.old.count < 4_294_967_295 }
+        requires few { self.old.index.count < 4_294_967_295 }
         ensures ok { OnOk result (self.new ≡ kept_with self.old event.now release) }
         ensures err { OnErr result (self.new ≡ self.old) }
     {
@@ -208,71 +193,100 @@ impl<A: Allocator> Lane<A> {
     }
 
     /// Adds the item's next barrier, which says what the first of its instance does.
-    fn add_alike(&mut self) -> Result<(), Memory>
-        requires few { self.old.count < 4_294_967_295 }
-        requires alike { self.old.alike ≤ self.old.count }
-        requires none { self.old.apart ≡ [] }
-        ensures ok { OnOk result (self.new ≡ alike_more self.old) }
+    fn add_alike(&mut self, event: &Event) -> Result<(), Memory>
+        requires few { self.old.index.count < 4_294_967_295 }
+        requires alike { self.old.alike ≤ self.old.index.count }
+        ensures ok { OnOk result (self.new ≡ alike_more self.old event.now) }
         ensures err { OnErr result (self.new ≡ self.old) }
     {
-        make_room(&mut self.barriers)?;
-        self.barriers.push_reserved(self.count);
+        self.barriers.reserve(1)?;
+        self.barriers.push_back_reserved(self.count);
+        self.seen.push(&self.count);
+        self.said.push(event);
         self.count += 1;
         self.alike += 1;
         Ok(())
     }
 
     /// Adds the item's next barrier, and what it says.
-    fn add_apart(&mut self, barrier: Bare) -> Result<(), Memory>
-        requires few { self.old.count < 4_294_967_295 }
-        ensures ok { OnOk result (self.new ≡ apart_more self.old barrier) }
+    fn add_apart(&mut self, event: &Event) -> Result<(), Memory>
+        requires few { self.old.index.count < 4_294_967_295 }
+        ensures ok { OnOk result (self.new ≡ apart_more self.old event.now) }
         ensures err { OnErr result (self.new ≡ self.old) }
     {
         self.apart.reserve(1)?;
-        make_room(&mut self.barriers)?;
-        self.barriers.push_reserved(self.count);
-        self.apart.push_reserved(barrier);
+        self.barriers.reserve(1)?;
+        self.apart.push_back_reserved(Bare::of(event));
+        self.barriers.push_back_reserved(self.count);
+        self.seen.push(&self.count);
+        self.said.push(event);
         self.count += 1;
         Ok(())
     }
 
     /// Adds the item's next barrier, which is the first of its instance.
-    fn add_first(&mut self, firsts: &mut Vec<Bare, A>, barrier: Bare) -> Result<(), Memory>
-        requires few { self.old.count < 4_294_967_295 }
-        requires alike { IsAlike firsts.old.items self.old }
+    fn add_first(
+        &mut self,
+        firsts: &mut VecDeque<Bare, A>,
+        forgotten: u32,
+        event: &Event,
+    ) -> Result<(), Memory>
+        requires few { self.old.index.count < 4_294_967_295 }
+        requires lane { IsLane forgotten firsts.old.items event.now.item self.old }
+        requires bare { event.now.names ≡ [] }
         requires none { self.old.apart ≡ [] }
-        requires first { self.old.alike ≡ length firsts.old.items }
-        ensures ok { OnOk result (Arrives firsts.old.items firsts.new.items self.old self.new barrier) }
+        requires first { self.old.alike - forgotten ≡ length firsts.old.items }
+        ensures ok { OnOk result (Arrives forgotten firsts.old.items firsts.new.items self.old self.new event.now) }
         ensures err { OnErr result ((self.new ≡ self.old) × (firsts.new.items ≡ firsts.old.items)) }
     {
         firsts.reserve(1)?;
-        self.add_alike()?;
-        firsts.push_reserved(barrier);
+        self.add_alike(event)?;
+        firsts.push_back_reserved(Bare::of(event));
         Ok(())
     }
 
-    /// Adds the item's next barrier, which says this. The firsts are those of its group's instances.
+    /// Adds the item's next barrier. So many instances are forgotten, and the firsts are those of the instances behind them.
     ///
     /// # Errors
     /// `Memory`: out of memory. All is then as it was.
-    pub(crate) fn arrive(&mut self, firsts: &mut Vec<Bare, A>, barrier: Bare) -> Result<(), Memory>
-        requires few { self.old.count < 4_294_967_295 }
-        requires alike { IsAlike firsts.old.items self.old }
-        ensures ok { OnOk result (Arrives firsts.old.items firsts.new.items self.old self.new barrier) }
+    pub(crate) fn arrive(
+        &mut self,
+        firsts: &mut VecDeque<Bare, A>,
+        forgotten: u32,
+        event: &Event,
+    ) -> Result<(), Memory>
+        requires few { self.old.index.count < 4_294_967_295 }
+        requires lane { IsLane forgotten firsts.old.items event.now.item self.old }
+        requires bare { event.now.names ≡ [] }
+        ensures ok { OnOk result (Arrives forgotten firsts.old.items firsts.new.items self.old self.new event.now) }
         ensures err { OnErr result ((self.new ≡ self.old) × (firsts.new.items ≡ firsts.old.items)) }
     {
         if !self.apart.is_empty() {
-            return self.add_apart(barrier);
+            self.add_apart(event)?;
+            return Ok(());
         }
-        match firsts.get(self.alike as usize).copied() {
-            None => self.add_first(firsts, barrier),
+        match firsts.get((self.alike - forgotten) as usize).copied() {
+            None => self.add_first(firsts, forgotten, event),
             Some(first) => {
-                if first.is(&barrier) {
-                    self.add_alike()
+                if first.is(&Bare::of(event)) {
+                    self.add_alike(event)?;
                 } else {
-                    self.add_apart(barrier)
+                    self.add_apart(event)?;
                 }
+                Ok(())
             }
+        }
+    }
+
+    /// Forgets the first of the item's barriers that are not forgotten, where so many are.
+    pub(crate) fn forget(&mut self, forgotten: u32)
+        requires few { forgotten < 4_294_967_295 }
+        ensures { self.new ≡ forgetting_one forgotten self.old }
+    {
+        let _ = self.barriers.pop_front();
+        if self.alike == forgotten {
+            let _ = self.apart.pop_front();
+            self.alike += 1;
         }
     }
 }

@@ -2,9 +2,9 @@
 //!
 //! Invariant: there is a group for each of the shape so far, of its size, and each has a prefix of a list that it may have.
 
-ghost use Rattle.std.specs.Prelude.{[], ◌≡◌, ◌≢◌, ◌↔◌, ◌<◌, ℕ, Some, IsTrue, IfOk, IfErr, MatchOption, OnOk, OnErr, filter, length, option_and_then};
+ghost use Rattle.std.specs.Prelude.{[], ◌≡◌, ◌≢◌, ◌↔◌, ◌<◌, ◌≤◌, ℕ, Some, IsTrue, IfOk, IfErr, MatchOption, OnOk, OnErr, filter, length, option_and_then};
 ghost use Rattle.gr_model.specs.declared.limits.TheConstants.{MOST_RECORDS};
-ghost use Rattle.gr_model.specs.Groups.{CanAdd, with_group};
+ghost use Rattle.gr_model.specs.Groups.{CanAdd};
 ghost use Rattle.gr_model.specs.Streams.{ArePrefixes, is_complete, list_of, place_of, trace_of};
 ghost use Rattle.gr_model.specs.Access.{event_word, is_release};
 ghost use Rattle.gr_model.specs.Barriers.{is_barrier};
@@ -13,6 +13,7 @@ ghost use Rattle.gr_model.specs.Reports.{IsCut};
 ghost use Rattle.gr_model.specs.Names.{release_place};
 ghost use Rattle.gr_lanes.specs.declared.seq_error.SeqError.TheVariants.{Memory as OutOfMemory};
 ghost use Rattle.gr_lanes.specs.Kept.{NoneDiffers};
+ghost use Rattle.gr_lanes.specs.Remembered.{HaveAllCome, IsEventRemembered, IsRemembered, IsWhole, decided_of, deciding, forgetting, forgotten_of, remembering, with_group};
 ghost use Rattle.gr_lanes.specs.Takes.{nothing_taken, with_record, IsEventButItem, IsMereAccess, CanTake, IsTakeFault};
 
 use crate::group::Group;
@@ -20,12 +21,14 @@ use crate::seq_error::SeqError;
 use gr_model::event::{Event, EventId, ItemId, Name, Word, word_of};
 use gr_model::growing::GrowingShape;
 use gr_model::memory::Memory;
+use gr_model::report::Divergence;
 use gr_model::shape::Shape;
 use std::alloc::{Allocator, Global};
 use std::marker::Model;
 
 /// What was taken of a launch's streams. Contracts see the groups' sizes and one list of records for each group, in the
-/// order in which they were taken.
+/// order in which they were taken, how many of the first instances of each group's barriers are forgotten, and which of these
+/// are divergent.
 #[derive(Drop)]
 #[derive_where(Debug)]
 pub struct Lanes<A: Allocator = Global> {
@@ -34,12 +37,12 @@ pub struct Lanes<A: Allocator = Global> {
 }
 
 impl<A: Allocator> Model for Lanes<A> {
-    ghost use Rattle.gr_model.specs.Streams.{Streams};
-    ghost use Rattle.gr_lanes.specs.Indices.{taken_of, AreGroups};
+    ghost use Rattle.gr_lanes.specs.Indices.{remembered_of, AreGroups};
+    ghost use Rattle.gr_lanes.specs.Remembered.{Remembered};
 
-    ghost Value = { Streams };
+    ghost Value = { Remembered };
 
-    ghost view = { λ l. taken_of l.shape l.groups.items };
+    ghost view = { λ l. remembered_of l.shape l.groups.items };
 
     ghost invariant = { λ l. AreGroups l.shape l.groups.items };
 }
@@ -47,7 +50,8 @@ impl<A: Allocator> Model for Lanes<A> {
 impl<A: Allocator + Copy> Lanes<A> {
     /// The groups of a launch of which none has come. They take no memory.
     pub fn without_groups(alloc: A) -> Lanes<A>
-        ensures { result ≡ nothing_taken [] }
+        ensures streams { result.streams ≡ nothing_taken [] }
+        ensures whole { IsWhole result }
     {
         Lanes {
             shape: GrowingShape::new(alloc),
@@ -60,8 +64,9 @@ impl<A: Allocator + Copy> Lanes<A> {
     /// # Errors
     /// `Memory`: out of memory.
     pub fn new(alloc: A, shape: Shape<A>) -> Result<Lanes<A>, Memory>
-        ensures nothing { IfOk result (λ l. l ≡ nothing_taken shape) }
-        ensures prefixes { IfOk result (λ l. ArePrefixes l) }
+        ensures nothing { IfOk result (λ l. l.streams ≡ nothing_taken shape) }
+        ensures whole { IfOk result (λ l. IsWhole l) }
+        ensures prefixes { IfOk result (λ l. ArePrefixes l.streams) }
     {
         let mut groups = Vec::new(alloc);
         for group in 0..shape.groups() {
@@ -77,9 +82,9 @@ impl<A: Allocator + Copy> Lanes<A> {
     /// # Errors
     /// `Memory`: out of memory.
     pub fn with_group(self, alloc: A, group: u16, items: u16) -> Result<Lanes<A>, Memory>
-        requires { CanAdd self group items }
+        requires { CanAdd self.streams group items }
         ensures comes { IfOk result (λ l. l ≡ with_group self group items) }
-        ensures prefixes { IfOk result (λ l. ArePrefixes l) }
+        ensures prefixes { IfOk result (λ l. ArePrefixes l.streams) }
     {
         let added = Group::new(alloc, items)?;
         let Lanes { shape, mut groups } = self;
@@ -95,15 +100,15 @@ impl<A: Allocator + Copy> Lanes<A> {
 impl<A: Allocator> Lanes<A> {
     /// The sizes of the groups that have come.
     pub fn shape(&self) -> &GrowingShape<A>
-        ensures sizes { result.now ≡ self.now.sizes }
-        ensures prefixes { ArePrefixes self.now }
+        ensures sizes { result.now ≡ self.now.streams.sizes }
+        ensures prefixes { ArePrefixes self.now.streams }
     {
         &self.shape
     }
 
     /// How many records were taken of a group; 0 of one that is not there.
     pub fn taken(&self, group: u16) -> u32
-        ensures { result ≡ length (list_of self.now group) }
+        ensures { result ≡ length (list_of self.now.streams group) }
     {
         match self.groups.get(usize::from(group)) {
             None => 0,
@@ -113,7 +118,7 @@ impl<A: Allocator> Lanes<A> {
 
     /// Whether a group's end was taken.
     pub fn is_complete(&self, group: u16) -> bool
-        ensures { result ≡ is_complete (list_of self.now group) }
+        ensures { result ≡ is_complete (list_of self.now.streams group) }
     {
         match self.groups.get(usize::from(group)) {
             None => false,
@@ -123,7 +128,7 @@ impl<A: Allocator> Lanes<A> {
 
     /// Whether a group's end was taken and says that its stream was cut.
     pub fn is_cut(&self, group: u16) -> bool
-        ensures { IsTrue result ↔ IsCut self.now group }
+        ensures { IsTrue result ↔ IsCut self.now.streams group }
     {
         match self.groups.get(usize::from(group)) {
             None => false,
@@ -131,9 +136,28 @@ impl<A: Allocator> Lanes<A> {
         }
     }
 
+    /// How many of the first instances of a group's barriers are forgotten; none of one that is not there.
+    #[inline(always)]
+    pub fn forgotten(&self, group: u16) -> u32
+        ensures { result ≡ forgotten_of self.now group }
+    {
+        match self.groups.get(usize::from(group)) {
+            None => 0,
+            Some(group) => group.forgotten(),
+        }
+    }
+
+    /// The divergent ones of a group's instances that are forgotten.
+    pub fn decided(&self, group: u16) -> &[Divergence]
+        requires { group < length self.now.streams.sizes }
+        ensures { result.now ≡ decided_of self.now group }
+    {
+        self.groups[usize::from(group)].decided()
+    }
+
     /// The index in its item's trace of the release of this name, or `None` where no such release was taken.
     pub fn release_at(&self, name: Name) -> Option<u32>
-        ensures { result ≡ release_place self.now name }
+        ensures { result ≡ release_place self.now.streams name }
     {
         match self.groups.get(usize::from(name.at.group)) {
             None => None,
@@ -143,7 +167,7 @@ impl<A: Allocator> Lanes<A> {
 
     /// The record of the release of this name, or `None` where no such release was taken.
     pub fn release_event(&self, name: Name) -> Option<Event>
-        ensures { result ≡ record_of self.now is_release name.at name.release }
+        ensures { result ≡ record_of self.now.streams is_release name.at name.release }
     {
         match self.groups.get(usize::from(name.at.group)) {
             None => None,
@@ -153,7 +177,7 @@ impl<A: Allocator> Lanes<A> {
 
     /// The word of the release of this name, or `None` where no such release was taken.
     pub fn release_word(&self, name: Name) -> Option<Word>
-        ensures { result ≡ option_and_then (event_word name.at.group) (record_of self.now is_release name.at name.release) }
+        ensures { result ≡ option_and_then (event_word name.at.group) (record_of self.now.streams is_release name.at name.release) }
     {
         match self.release_event(name) {
             None => None,
@@ -162,8 +186,10 @@ impl<A: Allocator> Lanes<A> {
     }
 
     /// The record of an item's barrier of this number, counted from 0, or `None` where no such barrier was taken.
+    /// Requires: its instance is not forgotten.
     pub fn barrier_event(&self, item: ItemId, number: u32) -> Option<Event>
-        ensures { result ≡ record_of self.now is_barrier item number }
+        requires { IsRemembered self.now item number }
+        ensures { result ≡ record_of self.now.streams is_barrier item number }
     {
         match self.groups.get(usize::from(item.group)) {
             None => None,
@@ -175,8 +201,9 @@ impl<A: Allocator> Lanes<A> {
     /// that all came where the group has ended. It is quick, and may answer false where they did.
     #[inline(always)]
     pub fn none_differs(&self, group: u16, number: u32) -> bool
-        requires { group < length self.now.sizes }
-        ensures { IsTrue result → NoneDiffers self.now group number }
+        requires group { group < length self.now.streams.sizes }
+        requires remembered { forgotten_of self.now group ≤ number }
+        ensures { IsTrue result → NoneDiffers self.now.streams group number }
     {
         match self.groups.get(usize::from(group)) {
             None => false,
@@ -186,8 +213,10 @@ impl<A: Allocator> Lanes<A> {
 
     /// The index in its item's trace of an item's barrier of this number, counted from 0, or `None` where no such barrier
     /// was taken.
+    /// Requires: its instance is not forgotten.
     pub fn barrier_at(&self, item: ItemId, number: u32) -> Option<u32>
-        ensures { result ≡ place_of self.now is_barrier item number }
+        requires { IsRemembered self.now item number }
+        ensures { result ≡ place_of self.now.streams is_barrier item number }
     {
         match self.groups.get(usize::from(item.group)) {
             None => None,
@@ -197,7 +226,7 @@ impl<A: Allocator> Lanes<A> {
 
     /// The number among its item's releases of an event, or `None` where it is no release.
     pub fn release_number(&self, event: EventId) -> Option<u32>
-        ensures { MatchOption result ((k : ℕ) → place_of self.now is_release event.at k ≢ Some event.index) (λ k. place_of self.now is_release event.at k ≡ Some event.index) }
+        ensures { MatchOption result ((k : ℕ) → place_of self.now.streams is_release event.at k ≢ Some event.index) (λ k. place_of self.now.streams is_release event.at k ≡ Some event.index) }
     {
         match self.groups.get(usize::from(event.at.group)) {
             None => None,
@@ -206,8 +235,10 @@ impl<A: Allocator> Lanes<A> {
     }
 
     /// The number among its item's barriers of an event, or `None` where it is no barrier.
+    /// Requires: its instance is not forgotten.
     pub fn barrier_number(&self, event: EventId) -> Option<u32>
-        ensures { MatchOption result ((k : ℕ) → place_of self.now is_barrier event.at k ≢ Some event.index) (λ k. place_of self.now is_barrier event.at k ≡ Some event.index) }
+        requires { IsEventRemembered self.now event }
+        ensures { MatchOption result ((k : ℕ) → place_of self.now.streams is_barrier event.at k ≢ Some event.index) (λ k. place_of self.now.streams is_barrier event.at k ≡ Some event.index) }
     {
         match self.groups.get(usize::from(event.at.group)) {
             None => None,
@@ -218,7 +249,7 @@ impl<A: Allocator> Lanes<A> {
     /// How many barriers of an item were taken.
     #[inline(always)]
     pub fn barrier_count(&self, item: ItemId) -> u32
-        ensures { result ≡ length (filter is_barrier (trace_of self.now item)) }
+        ensures { result ≡ length (filter is_barrier (trace_of self.now.streams item)) }
     {
         match self.groups.get(usize::from(item.group)) {
             None => 0,
@@ -228,9 +259,9 @@ impl<A: Allocator> Lanes<A> {
 
     /// Why a record can't be the next of a group, or `None` where it can.
     pub fn refusal(&self, group: u16, event: &Event) -> Option<SeqError>
-        ensures fault { MatchOption result (CanTake self.now group event.now) (λ e. IsTakeFault self.now group event.now e) }
+        ensures fault { MatchOption result (CanTake self.now.streams group event.now) (λ e. IsTakeFault self.now.streams group event.now e) }
         ensures memory { result ≢ Some OutOfMemory }
-        ensures prefixes { ArePrefixes self.now }
+        ensures prefixes { ArePrefixes self.now.streams }
     {
         if group >= self.shape.groups() {
             return Some(SeqError::UnknownGroup);
@@ -245,13 +276,13 @@ impl<A: Allocator> Lanes<A> {
     }
 
     /// Takes the next record of a group, which may be taken and is a mere access. It takes no memory.
-    pub fn take_access(&mut self, group: u16, event: Event)
-        requires can { CanTake self.old group event }
-        requires access { IsMereAccess event }
-        requires good { IsEventButItem event }
-        requires room { length (list_of self.old group) < MOST_RECORDS }
-        ensures taken { self.new ≡ with_record self.old group event }
-        ensures prefixes { ArePrefixes self.new }
+    pub fn take_access(&mut self, group: u16, event: &Event)
+        requires can { CanTake self.old.streams group event.now }
+        requires access { IsMereAccess event.now }
+        requires good { IsEventButItem event.now }
+        requires room { length (list_of self.old.streams group) < MOST_RECORDS }
+        ensures taken { self.new ≡ remembering self.old (with_record self.old.streams group event.now) }
+        ensures prefixes { ArePrefixes self.new.streams }
     {
         self.groups[usize::from(group)].take_access(event);
     }
@@ -260,13 +291,13 @@ impl<A: Allocator> Lanes<A> {
     ///
     /// # Errors
     /// `Memory`: out of memory. Nothing is then taken.
-    pub fn take_accepted(&mut self, group: u16, event: Event) -> Result<(), Memory>
-        requires can { CanTake self.old group event }
-        requires good { IsEventButItem event }
-        requires room { length (list_of self.old group) < MOST_RECORDS }
-        ensures ok { OnOk result (self.new ≡ with_record self.old group event) }
+    pub fn take_accepted(&mut self, group: u16, event: &Event) -> Result<(), Memory>
+        requires can { CanTake self.old.streams group event.now }
+        requires good { IsEventButItem event.now }
+        requires room { length (list_of self.old.streams group) < MOST_RECORDS }
+        ensures ok { OnOk result (self.new ≡ remembering self.old (with_record self.old.streams group event.now)) }
         ensures unchanged { OnErr result (self.new ≡ self.old) }
-        ensures prefixes { ArePrefixes self.new }
+        ensures prefixes { ArePrefixes self.new.streams }
     {
         self.groups[usize::from(group)].take(event)?;
         Ok(())
@@ -279,17 +310,40 @@ impl<A: Allocator> Lanes<A> {
     /// taken.
     pub fn take(&mut self, group: u16, event: Event) -> Result<(), SeqError>
         requires good { IsEventButItem event }
-        requires room { length (list_of self.old group) < MOST_RECORDS }
-        ensures ok { OnOk result (CanTake self.old group event × (self.new ≡ with_record self.old group event)) }
-        ensures err { IfErr result (λ e. IsTakeFault self.old group event e) }
+        requires room { length (list_of self.old.streams group) < MOST_RECORDS }
+        ensures ok { OnOk result (CanTake self.old.streams group event × (self.new ≡ remembering self.old (with_record self.old.streams group event))) }
+        ensures err { IfErr result (λ e. IsTakeFault self.old.streams group event e) }
         ensures unchanged { OnErr result (self.new ≡ self.old) }
-        ensures prefixes { ArePrefixes self.new }
+        ensures prefixes { ArePrefixes self.new.streams }
     {
         match self.refusal(group, &event) {
             None => {}
             Some(refusal) => return Err(refusal),
         }
-        self.take_accepted(group, event)?;
+        self.take_accepted(group, &event)?;
+        Ok(())
+    }
+
+    /// Forgets the least instance of a group's barriers that is not forgotten, to which all its items came. It is told as one that
+    /// is not divergent.
+    pub fn forget(&mut self, group: u16)
+        requires { HaveAllCome self.old.streams group (forgotten_of self.old group) }
+        ensures forgotten { self.new ≡ forgetting self.old group }
+    {
+        self.groups[usize::from(group)].forget();
+    }
+
+    /// Forgets the least instance of a group's barriers that is not forgotten, to which all its items came. It is kept as this
+    /// divergence.
+    ///
+    /// # Errors
+    /// `Memory`: out of memory. Nothing is then forgotten.
+    pub fn decide(&mut self, divergence: Divergence) -> Result<(), Memory>
+        requires { HaveAllCome self.old.streams divergence.group (forgotten_of self.old divergence.group) }
+        ensures ok { OnOk result (self.new ≡ deciding self.old divergence) }
+        ensures err { OnErr result (self.new ≡ self.old) }
+    {
+        self.groups[usize::from(divergence.group)].decide(divergence)?;
         Ok(())
     }
 }

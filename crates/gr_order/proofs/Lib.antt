@@ -1,3 +1,5 @@
+pub mod ForgetLemmas
+pub mod DecidedLemmas
 pub mod ReadyLemmas
 pub mod StateLemmas
 pub mod MeetLemmas

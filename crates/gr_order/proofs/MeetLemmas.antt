@@ -39,7 +39,7 @@ module _ (s : Streams) (frontier : Counts) (g : ℕ) where
   first_numbered none k h = none k (h.each 0 h.some).place
 
   module _ (prefixes : ArePrefixes s) (x : Event) (at : event_at s (next_of frontier (item_at g 0)) ≡ Some x) (number : ℕ) (place : place_of s is_barrier (item_at g 0) number ≡ Some (count_of frontier (item_at g 0))) where
-    come : HasCome s g number x
+    pub come : HasCome s g number x
     come = come_of s prefixes (next_of frontier (item_at g 0)) x at number place
 
     pub is_mark : is_some (mark_of x) ≡ true

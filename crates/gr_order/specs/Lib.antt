@@ -4,3 +4,4 @@ pub mod States
 pub mod Readiness
 pub mod Waiting
 pub mod AtOnce
+pub mod Forgetting

@@ -1,5 +1,5 @@
 -- What is looked at to tell whether an item's next event may be handled.
-use Rattle.std.specs.Prelude.{◌≡◌, ℕ, ◌<◌, All, Option, Some}
+use Rattle.std.specs.Prelude.{◌≡◌, ℕ, ◌<◌, ◌⊎◌, All, Option, None, Some}
 use Rattle.gr_model.specs.declared.event.Event.{Event}
 use Rattle.gr_model.specs.declared.event.EventId.{EventId}
 use Rattle.gr_model.specs.declared.event.Name.{Name}
@@ -11,6 +11,10 @@ use Rattle.gr_model.specs.Streams.{Streams, place_of, size_of, word_at}
 use Rattle.gr_clocks.specs.Counts.{Counts, count_of}
 
 -- ---- instances
+
+-- an item that came to an instance did with this mark
+abbrev pub CameAlike : Streams → ℕ → ℕ → Option Mark → ℕ → Type 0
+CameAlike s g k mine i = (arrivals s g k i ≡ mine) ⊎ (arrivals s g k i ≡ None)
 
 -- an item's next event is its barrier of this number, and it came with this mark
 pub record StandsNext (s : Streams) (frontier : Counts) (g k : ℕ) (mine : Option Mark) (i : ℕ) : Type 0 where

@@ -2,9 +2,12 @@
 use Rattle.std.specs.Prelude.{◌≡◌, ℕ, Bool, List, [], ◌∷◌, ◌++◌, length, map, if◌then◌else◌, ◌==◌, ◌&&◌}
 use Rattle.gr_model.specs.declared.event.Event.{Event}
 use Rattle.gr_model.specs.declared.event.ItemId.{ItemId}
+use Rattle.gr_model.specs.declared.event.EventId.{EventId}
 use Rattle.gr_model.specs.Streams.{is_of}
+use Rattle.gr_lanes.specs.Remembered.{Remembered}
 use Rattle.gr_clocks.specs.Counts.{Counts}
 use Rattle.gr_windows.specs.Windows.{AreWaiting, Table, window_of}
+use Rattle.gr_order.specs.Forgetting.{IsForgetting}
 use Rattle.gr_order.specs.Sequences.{Sequence}
 use Rattle.gr_order.specs.States.{IsOrderState}
 
@@ -30,3 +33,8 @@ pub record AreSame (old new : Table) : Type 0 where
 pub record IsKept (q : Sequence) (frontier : Counts) (windows : Table) (held : ℕ) : Type 0 where
   pub state : IsOrderState q frontier held
   pub waits : AreWaiting q.taken frontier windows
+
+-- the clock counts the handled events, those that it does not count wait, and what is forgotten was handled
+pub record IsOrder (r : Remembered) (handled : List EventId) (frontier : Counts) (windows : Table) (held : ℕ) : Type 0 where
+  pub kept : IsKept (record { taken = r.streams; handled = handled }) frontier windows held
+  pub forgets : IsForgetting r frontier

@@ -2,6 +2,7 @@
 //! instance together. Nothing here knows of what happens before what.
 #![tactic(auto)]
 
+mod forgetting;
 pub mod go_error;
 mod meeting;
 pub mod order;

@@ -2,7 +2,8 @@
 //!
 //! Invariant: the order is lawful, and the handled events of each item are its first ones. How many they are is counted by
 //! a tally, the frontier. Of each item the other events are kept, from the first that was not handled on, and no longer. The
-//! order itself exists in proofs alone: no memory holds it, and no step needs any.
+//! barriers of the instances that are forgotten were handled, and those of these that are divergent are kept. The order
+//! itself exists in proofs alone: no memory holds it, and no step needs any.
 
 ghost use Rattle.std.specs.Prelude.{[], ◌≡◌, ◌+◌, ◌<◌, IsOkUnless, IfOk, IfErr, IfSome, OnOk, MatchOption, OnErr, length, IsTrue, not, ◌↔◌};
 ghost use Rattle.gr_model.specs.declared.limits.TheConstants.{MOST_RECORDS};
@@ -17,10 +18,13 @@ ghost use Rattle.gr_order.specs.Answers.{CanMake, IsHandleFault, IsMeetFault};
 ghost use Rattle.gr_order.specs.AtOnce.{GoesAtOnce};
 ghost use Rattle.gr_clocks.specs.Counts.{Counts, count_of, sizes_of};
 ghost use Rattle.gr_windows.specs.Windows.{AreWaiting};
+ghost use Rattle.gr_lanes.specs.Remembered.{IsWhole};
 ghost use Rattle.gr_order.specs.States.{AreBelowFrontier};
+ghost use Rattle.gr_order.specs.Forgetting.{ForgetsHandled};
 ghost use Rattle.gr_model.specs.Groups.{CanAdd};
 ghost use Rattle.gr_order.specs.Sequences.{HandlesEvent, IsDone, IsGroupAtRest, IsSequence, MeetsInstance, MeetsNext, event_count, nothing, with_group, taking};
 
+use crate::forgetting::{forget_if_passed, forget_next};
 use crate::go_error::GoError;
 use crate::meeting::{add_next_events, count_next_events};
 use crate::ready::{is_plain, is_ready, next_instance};
@@ -28,10 +32,11 @@ use crate::steps::Ready;
 use crate::waiting::{forget, keep};
 use gr_clocks::tally::Tally;
 use gr_history::history::History;
-use gr_lanes::kinds::is_mere_access;
+use gr_lanes::kinds::{is_barrier, is_mere_access};
 use gr_lanes::lanes::Lanes;
 use gr_lanes::seq_error::SeqError;
 use gr_model::event::{Event, EventId, ItemId};
+use gr_model::limits::MOST_GROUPS;
 use gr_model::memory::Memory;
 use gr_model::shape::Shape;
 use gr_windows::windows::Windows;
@@ -48,17 +53,19 @@ pub struct Order<A: Allocator = Global> {
     frontier: Tally<A>,
     windows: Windows<A>,
     held: u32,
+    /// Of each group the item that had not passed the least instance remembered when that was last looked at.
+    lagging: Vec<u16, A>,
 }
 
 impl<A: Allocator> Model for Order<A> {
     ghost use Rattle.gr_order.specs.Sequences.{Sequence};
-    ghost use Rattle.gr_order.specs.Waiting.{IsKept};
+    ghost use Rattle.gr_order.specs.Waiting.{IsOrder};
 
     ghost Value = { Sequence };
 
-    ghost view = { λ o. record { taken = o.lanes; handled = o.handled } };
+    ghost view = { λ o. record { taken = o.lanes.streams; handled = o.handled } };
 
-    ghost invariant = { λ o. IsKept (record { taken = o.lanes; handled = o.handled }) o.frontier o.windows o.held };
+    ghost invariant = { λ o. IsOrder o.lanes o.handled o.frontier o.windows o.held };
 }
 
 /// Whether a record is an event of its item, and not the end of its stream.
@@ -95,8 +102,9 @@ impl<A: Allocator + Copy> Order<A> {
     /// # Errors
     /// `Memory`: out of memory.
     fn of_lanes(alloc: A, lanes: Lanes<A>) -> Result<Order<A>, Memory>
-        requires { lanes ≡ nothing_taken lanes.sizes }
-        ensures { IfOk result (λ o. o ≡ nothing lanes.sizes) }
+        requires nothing { lanes.streams ≡ nothing_taken lanes.streams.sizes }
+        requires whole { IsWhole lanes }
+        ensures { IfOk result (λ o. o ≡ nothing lanes.streams.sizes) }
     {
         let frontier = match Tally::new(alloc, lanes.shape()) {
             Ok(clock) => clock,
@@ -104,12 +112,15 @@ impl<A: Allocator + Copy> Order<A> {
         };
         let windows = Windows::new(alloc, lanes.shape())?;
         let handled = History::new();
+        let mut lagging = Vec::with_capacity(alloc, MOST_GROUPS)?;
+        lagging.resize(MOST_GROUPS, 0)?;
         Ok(Order {
             lanes,
             handled,
             frontier,
             windows,
             held: 0,
+            lagging,
         })
     }
 
@@ -129,6 +140,7 @@ impl<A: Allocator + Copy> Order<A> {
             frontier,
             windows,
             held,
+            lagging,
         } = self;
         let frontier = match frontier.with_group(alloc, group, items) {
             Ok(counts) => counts,
@@ -142,14 +154,16 @@ impl<A: Allocator + Copy> Order<A> {
             frontier,
             windows,
             held,
+            lagging,
         })
     }
 }
 
 impl<A: Allocator> Order<A> {
-    /// What was taken of the launch's streams.
+    /// What was taken of the launch's streams. What is forgotten of it was handled.
     pub fn lanes(&self) -> &Lanes<A>
-        ensures taken { result.now ≡ self.now.taken }
+        ensures taken { result.now.streams ≡ self.now.taken }
+        ensures forgets { ForgetsHandled result.now self.now.handled }
         ensures sequence { IsSequence self.now }
     {
         &self.lanes
@@ -301,7 +315,7 @@ impl<A: Allocator> Order<A> {
             item: event.item,
         };
         let index = self.frontier.get(at);
-        self.lanes.take_access(group, event);
+        self.lanes.take_access(group, &event);
         self.handled.push(&EventId { at, index });
         self.frontier.raise(at);
     }
@@ -325,7 +339,7 @@ impl<A: Allocator> Order<A> {
         }
         let more = is_event(&event);
         keep(&mut self.windows, group, &event)?;
-        match self.lanes.take_accepted(group, event) {
+        match self.lanes.take_accepted(group, &event) {
             Ok(()) => {
                 self.held += u32::from(more);
                 Ok(())
@@ -358,8 +372,18 @@ impl<A: Allocator> Order<A> {
         }
     }
 
-    /// Handles an event that may be handled.
-    pub fn handle_event(&mut self, event: EventId)
+    /// Whether an item's next event was taken and is a barrier.
+    #[inline(always)]
+    fn is_at_barrier(&self, item: ItemId) -> bool {
+        match self.windows.waiting(item, 0) {
+            None => false,
+            Some(event) => is_barrier(&event),
+        }
+    }
+
+    /// Handles an event that may be handled. No more is forgotten.
+    #[inline(always)]
+    fn handle_next(&mut self, event: EventId)
         requires { IsReady self.old.taken self.old.handled event }
         ensures step { HandlesEvent self.old event self.new }
         ensures sequence { IsSequence self.new }
@@ -368,6 +392,28 @@ impl<A: Allocator> Order<A> {
         self.frontier.raise(event.at);
         self.windows.pop_first(event.at);
         self.held -= 1;
+    }
+
+    /// Forgets the least instance of a group's barriers that is remembered, once all its items have passed it.
+    fn forget_behind(&mut self, group: u16)
+        requires { group < length self.old.taken.sizes }
+        ensures unchanged { self.new ≡ self.old }
+        ensures sequence { IsSequence self.new }
+    {
+        forget_if_passed(&mut self.lanes, &self.frontier, &mut self.lagging, group);
+    }
+
+    /// Handles an event that may be handled.
+    pub fn handle_event(&mut self, event: EventId)
+        requires { IsReady self.old.taken self.old.handled event }
+        ensures step { HandlesEvent self.old event self.new }
+        ensures sequence { IsSequence self.new }
+    {
+        let is_passed = self.is_at_barrier(event.at);
+        self.handle_next(event);
+        if is_passed {
+            self.forget_behind(event.at.group);
+        }
     }
 
     /// Handles the barriers of a group's least convergent instance that was not handled, where the event before each of
@@ -398,6 +444,7 @@ impl<A: Allocator> Order<A> {
         ensures sequence { IsSequence self.new }
     {
         let size = self.lanes.shape().items(group);
+        forget_next(&mut self.lanes, &self.frontier, group);
         add_next_events(&mut self.handled, &self.frontier, group, size);
         count_next_events(&mut self.frontier, group, size);
         self.windows.pop_group(group, size);

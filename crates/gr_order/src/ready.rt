@@ -1,12 +1,15 @@
 //! What is looked at to tell whether an item's next event may be handled: the instance of a barrier, and the releases that
 //! an acquire names.
 
-ghost use Rattle.std.specs.Prelude.{◌≡◌, ◌↔◌, ◌<◌, [], true, false, IsTrue, MatchOption, Some, is_some, length, ℕ};
+ghost use Rattle.std.specs.Prelude.{◌≡◌, ◌↔◌, ◌<◌, ◌≤◌, [], true, false, IsTrue, MatchOption, Some, is_some, length, ℕ};
 ghost use Rattle.gr_model.specs.Barriers as model_barriers;
 ghost use Rattle.gr_model.specs.Barriers.{mark_of};
 ghost use Rattle.gr_model.specs.Streams as model;
 ghost use Rattle.gr_windows.specs.Windows.{AreWaiting};
-ghost use Rattle.gr_order.specs.Readiness.{AreReleased, IsNextInstance, IsReleased, MayPass, StandsNext};
+ghost use Rattle.gr_lanes.specs.Instances.{HasCome};
+ghost use Rattle.gr_lanes.specs.Remembered.{IsEventRemembered, forgotten_of};
+ghost use Rattle.gr_order.specs.Forgetting.{IsForgetting};
+ghost use Rattle.gr_order.specs.Readiness.{AreReleased, CameAlike, IsNextInstance, IsReleased, MayPass, StandsNext};
 
 use gr_clocks::tally::Tally;
 use gr_lanes::instance::{came_with, is_divergent};
@@ -31,7 +34,7 @@ fn is_released<A: Allocator>(
     acquire: &Event,
     name: Name,
 ) -> bool
-    ensures { IsTrue result ↔ IsReleased lanes.now frontier.now group acquire.now name }
+    ensures { IsTrue result ↔ IsReleased lanes.now.streams frontier.now group acquire.now name }
 {
     match lanes.release_at(name) {
         None => false,
@@ -49,7 +52,7 @@ fn has_its_releases<A: Allocator>(
     group: u16,
     acquire: &Event,
 ) -> bool
-    ensures { IsTrue result ↔ AreReleased lanes.now frontier.now group acquire.now }
+    ensures { IsTrue result ↔ AreReleased lanes.now.streams frontier.now group acquire.now }
 {
     let names = acquire.names.as_slice();
     names
@@ -59,9 +62,10 @@ fn has_its_releases<A: Allocator>(
 
 /// Whether an event that was taken is no barrier, or one of a divergent instance.
 fn may_pass<A: Allocator>(lanes: &Lanes<A>, event: EventId, taken: &Event) -> bool
-    requires there { model.event_at lanes.now event ≡ Some taken.now }
-    requires prefixes { model.ArePrefixes lanes.now }
-    ensures { IsTrue result ↔ MayPass lanes.now event }
+    requires there { model.event_at lanes.now.streams event ≡ Some taken.now }
+    requires prefixes { model.ArePrefixes lanes.now.streams }
+    requires remembered { IsEventRemembered lanes.now event }
+    ensures { IsTrue result ↔ MayPass lanes.now.streams event }
 {
     if !is_barrier(taken) {
         return true;
@@ -86,27 +90,53 @@ pub(crate) fn is_ready<A: Allocator>(
     event: EventId,
     taken: &Event,
 ) -> bool
-    requires there { model.event_at lanes.now event ≡ Some taken.now }
-    requires prefixes { model.ArePrefixes lanes.now }
-    ensures { IsTrue result ↔ (AreReleased lanes.now frontier.now event.at.group taken.now × MayPass lanes.now event) }
+    requires there { model.event_at lanes.now.streams event ≡ Some taken.now }
+    requires prefixes { model.ArePrefixes lanes.now.streams }
+    requires remembered { IsEventRemembered lanes.now event }
+    ensures { IsTrue result ↔ (AreReleased lanes.now.streams frontier.now event.at.group taken.now × MayPass lanes.now.streams event) }
 {
     has_its_releases(lanes, frontier, event.at.group, taken) && may_pass(lanes, event, taken)
 }
 
-/// Whether an item's next event is its barrier of this number, and has the mark of another.
+/// Whether an item, which came to an instance, did with the mark of another. It may be known that all who came did.
+#[inline(always)]
+fn has_mark<A: Allocator>(
+    lanes: &Lanes<A>,
+    item: ItemId,
+    number: u32,
+    mine: &Event,
+    are_alike: bool,
+) -> bool
+    requires mark { is_some (mark_of mine.now) ≡ true }
+    requires remembered { forgotten_of lanes.now item.group ≤ number }
+    requires there { (p : ℕ) × (model.place_of lanes.now.streams model_barriers.is_barrier item number ≡ Some p) }
+    requires alike { IsTrue are_alike → CameAlike lanes.now.streams item.group number (mark_of mine.now) item.item }
+    ensures { IsTrue result ↔ (model_barriers.arrivals lanes.now.streams item.group number item.item ≡ mark_of mine.now) }
+{
+    are_alike || came_with(lanes, item, number, mine)
+}
+
+/// Whether an item's next event is its barrier of this number, and has the mark of another. It may be known that all who came to that
+/// instance have it.
+#[inline(always)]
 fn stands_next<A: Allocator>(
     lanes: &Lanes<A>,
     frontier: &Tally<A>,
     item: ItemId,
     number: u32,
     mine: &Event,
+    are_alike: bool,
 ) -> bool
-    requires { is_some (mark_of mine.now) ≡ true }
-    ensures { IsTrue result ↔ StandsNext lanes.now frontier.now item.group number (mark_of mine.now) item.item }
+    requires mark { is_some (mark_of mine.now) ≡ true }
+    requires remembered { forgotten_of lanes.now item.group ≤ number }
+    requires alike { IsTrue are_alike → CameAlike lanes.now.streams item.group number (mark_of mine.now) item.item }
+    ensures { IsTrue result ↔ StandsNext lanes.now.streams frontier.now item.group number (mark_of mine.now) item.item }
 {
     match lanes.barrier_at(item, number) {
         None => false,
-        Some(index) => index == frontier.get(item) && came_with(lanes, item, number, mine),
+        Some(index) => {
+            index == frontier.get(item) && has_mark(lanes, item, number, mine, are_alike)
+        }
     }
 }
 
@@ -118,12 +148,15 @@ fn all_stand_next<A: Allocator>(
     number: u32,
     mine: &Event,
 ) -> bool
-    requires group { group < length lanes.now.sizes }
-    requires barrier { is_some (mark_of mine.now) ≡ true }
-    ensures { IsTrue result ↔ ((i : ℕ) → i < model.size_of lanes.now group → StandsNext lanes.now frontier.now group number (mark_of mine.now) i) }
+    requires group { group < length lanes.now.streams.sizes }
+    requires come { HasCome lanes.now.streams group number mine.now }
+    requires remembered { forgotten_of lanes.now group ≤ number }
+    ensures { IsTrue result ↔ ((i : ℕ) → i < model.size_of lanes.now.streams group → StandsNext lanes.now.streams frontier.now group number (mark_of mine.now) i) }
 {
+    let are_alike = lanes.none_differs(group, number);
     for item in 0..lanes.shape().items(group) {
-        if !stands_next(lanes, frontier, ItemId { group, item }, number, mine) {
+        let at = ItemId { group, item };
+        if !stands_next(lanes, frontier, at, number, mine, are_alike) {
             return false;
         }
     }
@@ -137,10 +170,11 @@ pub(crate) fn next_instance<A: Allocator>(
     windows: &Windows<A>,
     group: u16,
 ) -> Option<u32>
-    requires group { group < length lanes.now.sizes }
-    requires waiting { AreWaiting lanes.now frontier.now windows.now }
-    requires prefixes { model.ArePrefixes lanes.now }
-    ensures { MatchOption result ((k : ℕ) → ¬ IsNextInstance lanes.now frontier.now group k) (λ k. IsNextInstance lanes.now frontier.now group k) }
+    requires group { group < length lanes.now.streams.sizes }
+    requires waiting { AreWaiting lanes.now.streams frontier.now windows.now }
+    requires forgets { IsForgetting lanes.now frontier.now }
+    requires prefixes { model.ArePrefixes lanes.now.streams }
+    ensures { MatchOption result ((k : ℕ) → ¬ IsNextInstance lanes.now.streams frontier.now group k) (λ k. IsNextInstance lanes.now.streams frontier.now group k) }
 {
     let first = ItemId { group, item: 0 };
     let index = frontier.get(first);

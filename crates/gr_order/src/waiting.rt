@@ -28,7 +28,7 @@ pub(crate) fn keep<A: Allocator>(
         return Ok(());
     }
     let item = event.item;
-    windows.push(ItemId { group, item }, *event)?;
+    windows.push(ItemId { group, item }, event)?;
     Ok(())
 }
 

@@ -7,6 +7,7 @@ ghost use Rattle.gr_model.specs.Barriers.{IsConvergent};
 ghost use Rattle.gr_model.specs.Instances.{Mark};
 ghost use Rattle.gr_model.specs.Streams.{event_at, word_at};
 ghost use Rattle.gr_model.specs.Counts.{Sees};
+ghost use Rattle.gr_steps.specs.Steps.{HasMet};
 ghost use Rattle.gr_clocks.specs.ItemClocks.{AddsGroup, IsGroupSpent, MeetsClocks};
 ghost use Rattle.gr_closure.specs.Accesses.{CountsJust, IsAccess, IsAccessOf};
 ghost use Rattle.gr_lanes.specs.Takes.{IsMereAccess, nothing_taken, with_record};
@@ -93,9 +94,10 @@ impl<A: Allocator> Known<A> {
     }
 }
 
-/// The memories that the barriers of a convergent instance flag: the global one, the local one.
+/// The memories that the barriers of a convergent instance flag, of which none was handled: the global one, the local one.
 fn flags_of<A: Allocator>(order: &Order<A>, group: u16, instance: u32) -> (bool, bool)
-    requires { (a : Mark) × IsConvergent order.now.taken group instance a }
+    requires convergent { (a : Mark) × IsConvergent order.now.taken group instance a }
+    requires fresh { ¬ HasMet order.now.taken order.now.handled group instance }
     ensures { (a : Mark) → IsConvergent order.now.taken group instance a → (result.0 ≡ a.global) × (result.1 ≡ a.local) }
 {
     match barrier(order.lanes(), ItemId { group, item: 0 }, instance) {
@@ -322,8 +324,8 @@ impl<A: Allocator> Known<A> {
         }
     }
 
-    /// Gives the items of a group the clocks that they have after the barriers of a convergent instance. No clock of the
-    /// group is at its limit.
+    /// Gives the items of a group the clocks that they have after the barriers of a convergent instance, of which none was
+    /// handled. No clock of the group is at its limit.
     ///
     /// # Errors
     /// `Memory`: out of memory. What is known is then as before.
@@ -334,6 +336,7 @@ impl<A: Allocator> Known<A> {
         requires group { group < length order.now.taken.sizes }
         requires free { ¬ IsGroupSpent self.old.clocks group }
         requires convergent { (a : Mark) × IsConvergent order.now.taken group instance a }
+        requires fresh { ¬ HasMet order.now.taken order.now.handled group instance }
         ensures meets { OnOk result ((a : Mark) → IsConvergent order.now.taken group instance a → MeetsClocks self.old.clocks group a.global a.local self.new.clocks) }
         ensures snapshots { self.new.snapshots ≡ self.old.snapshots }
         ensures err { OnErr result (self.new.clocks ≡ self.old.clocks) }

@@ -55,9 +55,9 @@ impl<A: Allocator> Row<A> {
     ///
     /// # Errors
     /// `Memory`: out of memory. Nothing is then added.
-    pub(crate) fn push(&mut self, item: u16, event: Event) -> Result<(), Memory>
+    pub(crate) fn push(&mut self, item: u16, event: &Event) -> Result<(), Memory>
         requires { item < length self.old }
-        ensures ok { OnOk result (self.new ≡ slice_set self.old item (slice_index_or self.old item [] ++ event ∷ [])) }
+        ensures ok { OnOk result (self.new ≡ slice_set self.old item (slice_index_or self.old item [] ++ event.now ∷ [])) }
         ensures err { OnErr result (self.new ≡ self.old) }
     {
         self.windows[usize::from(item)].push(event)

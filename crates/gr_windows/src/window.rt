@@ -47,11 +47,11 @@ impl<A: Allocator> Window<A> {
     ///
     /// # Errors
     /// `Memory`: out of memory. Nothing is then added.
-    pub(crate) fn push(&mut self, event: Event) -> Result<(), Memory>
-        ensures ok { OnOk result (self.new ≡ self.old ++ event ∷ []) }
+    pub(crate) fn push(&mut self, event: &Event) -> Result<(), Memory>
+        ensures ok { OnOk result (self.new ≡ self.old ++ event.now ∷ []) }
         ensures err { OnErr result (self.new ≡ self.old) }
     {
-        match self.events.push_back(event) {
+        match self.events.push_back(*event) {
             Ok(()) => Ok(()),
             Err(_) => Err(Memory),
         }

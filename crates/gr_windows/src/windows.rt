@@ -75,9 +75,9 @@ impl<A: Allocator> Windows<A> {
     ///
     /// # Errors
     /// `Memory`: out of memory. Nothing is then added.
-    pub fn push(&mut self, item: ItemId, event: Event) -> Result<(), Memory>
+    pub fn push(&mut self, item: ItemId, event: &Event) -> Result<(), Memory>
         requires { HasItem (map length self.old) item }
-        ensures ok { OnOk result (Changes self.old item (window_of self.old item ++ event ∷ []) self.new) }
+        ensures ok { OnOk result (Changes self.old item (window_of self.old item ++ event.now ∷ []) self.new) }
         ensures err { OnErr result (self.new ≡ self.old) }
     {
         self.rows[usize::from(item.group)].push(item.item, event)?;

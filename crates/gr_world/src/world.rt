@@ -59,9 +59,9 @@ impl<A: Allocator> Model for World<A> {
 
     ghost Value = { WorldLists };
 
-    ghost view = { λ w. world_of w.config w.sent w.intakes.items w.sequencer w.in_flight w.workers.items };
+    ghost view = { λ w. world_of w.config w.sent.streams w.intakes.items w.sequencer w.in_flight w.workers.items };
 
-    ghost invariant = { λ w. IsWorld (world_of w.config w.sent w.intakes.items w.sequencer w.in_flight w.workers.items) };
+    ghost invariant = { λ w. IsWorld (world_of w.config w.sent.streams w.intakes.items w.sequencer w.in_flight w.workers.items) };
 }
 
 /// `count` empty queues, each with room for `places` records.

@@ -7,5 +7,5 @@ pub returns : goal.returns
 returns g c same = (
   c.frontier-frontier.result.now,
   c.frontier-frontier.ensures.first,
-  ap (λ (s : Streams). place_of s is_barrier c.args.item c.args.number) (sym c.lanes.ensures.taken) ∙ (sym c.barrier_at.ensures ∙ (c.is_number.ensures same ∙ ap Some c.get.ensures.count)),
+  ap (λ (s : Streams). place_of s is_barrier c.args.item c.args.number) (sym c.lanes-lanes.ensures.taken) ∙ (sym c.barrier_at.ensures ∙ (c.is_number.ensures same ∙ ap Some c.get.ensures.count)),
 )

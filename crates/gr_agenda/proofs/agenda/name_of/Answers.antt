@@ -10,7 +10,7 @@ returns-in-None g c n at place =
 
 pub returns-in-Some : goal.returns-in-Some
 returns-in-Some g c n at place =
-    let s = c.lanes.result.now in
+    let s = c.lanes.result.now.streams in
     let e = c.args.event in
     let there : place_of s is_release e.at n.release ≡ Some e.index = ap (λ (t : Streams). place_of t is_release e.at n.release) c.lanes.ensures.taken ∙ (ap (λ i. place_of c.args.order.now.taken is_release i n.release) (sym at) ∙ place) in
     let same : c.in-Some.release ≡ n.release = places_from-once is_release 0 (trace_of s e.at) e.index c.in-Some.release n.release c.in-Some.ensures there in

@@ -18,7 +18,7 @@ returns g c =
     let second = le-max_right e.index f.index in (
       λ no. absurd (true≢false (sym no)),
       λ h. ⊎_elim
-          (λ parting. let below = number_below c.args.lanes.now e h.0 parting.behind in absurd (c.loop-number.invariant h.0 (omega (arith, below, first, c.max-number-end.ensures, c.loop-number-test.false)) h.1))
-          (λ parting. let below = number_below c.args.lanes.now f h.0 parting.behind in absurd (c.loop-number.invariant h.0 (omega (arith, below, second, c.max-number-end.ensures, c.loop-number-test.false)) h.1))
+          (λ parting. let below = number_below c.args.lanes.now.streams e h.0 parting.behind in absurd (c.loop-number.invariant h.0 (omega (arith, below, first, c.max-number-end.ensures, c.loop-number-test.false)) h.1))
+          (λ parting. let below = number_below c.args.lanes.now.streams f h.0 parting.behind in absurd (c.loop-number.invariant h.0 (omega (arith, below, second, c.max-number-end.ensures, c.loop-number-test.false)) h.1))
           h.1,
     )

@@ -1,7 +1,17 @@
-use Rattle.std.proofs.Common.{sym, true≢false}
+use Rattle.gr_model.specs.Barriers.{mark_of}
+use Rattle.gr_model.specs.Streams.{trace_of}
+use Rattle.gr_model.proofs.Places.{filter_map-place}
+use Rattle.gr_lanes.proofs.InstanceLemmas.{some_mark}
+use Rattle.std.proofs.Common.{◌∙◌, sym, true≢false}
 use Rattle.gr_causes.proofs.PartingLemmas.{behind_has_come}
 use Rattle.gr_causes.proofs.between.is_parting.Goals as goal
 
 pub returns-in-None : goal.returns-in-None
 returns-in-None g c =
-    (λ no. absurd (true≢false (sym no)), λ parting. absurd (behind_has_come c.args.lanes.now c.args.first c.args.number parting.behind c.in-None.ensures))
+    (λ no. absurd (true≢false (sym no)), λ parting. absurd (behind_has_come c.args.lanes.now.streams c.args.first c.args.number parting.behind c.in-None.ensures))
+
+pub is_divergent-requires-clause-remembered : goal.is_divergent-requires-clause-remembered
+is_divergent-requires-clause-remembered g c =
+    let mark = some_mark (mark_of c.in-Some.mine) c.in-Some.ensures.1 in
+    let at = filter_map-place mark_of 0 (trace_of c.args.lanes.now.streams c.args.first.at) c.args.number mark.0 (c.in-Some.ensures.0 ∙ mark.1) in
+    c.requires.whole c.args.first.at c.args.number at.0 at.1

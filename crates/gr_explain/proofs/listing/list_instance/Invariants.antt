@@ -4,4 +4,4 @@ use Rattle.gr_explain.proofs.Instances.{AreBarriersBelow}
 use Rattle.gr_explain.proofs.listing.list_instance.Given as goal
 
 abbrev pub invariant-loop-item : goal.invariant-loop-item
-invariant-loop-item g l = (barriers : List EventId) × AreBarriersBelow l.lanes l.group l.instance l.item barriers × (l.listed.items ≡ l.fn.listed.items ++ barriers)
+invariant-loop-item g l = (barriers : List EventId) × AreBarriersBelow l.lanes.streams l.group l.instance l.item barriers × (l.listed.items ≡ l.fn.listed.items ++ barriers)

@@ -1,7 +1,10 @@
 use Rattle.std.proofs.Common.{◌∙◌, ◌++◌, ◌<◌, List, ap, arith, length, subst, sym}
 use Rattle.std.proofs.lemmas.List.{length-append}
 use Rattle.gr_model.specs.declared.event.EventId.{EventId}
-use Rattle.gr_model.specs.Streams.{Streams}
+use Rattle.gr_model.specs.Barriers.{is_barrier}
+use Rattle.gr_model.specs.Streams.{Streams, place_of}
+use Rattle.gr_steps.proofs.BarrierPlaces.{barrier_of}
+use Rattle.gr_order.proofs.ForgetLemmas.{unhandled_remembered}
 use Rattle.gr_steps.specs.Steps.{AreBarriers}
 use Rattle.gr_explain.proofs.Instances.{same_barriers}
 use Rattle.gr_explain.proofs.listing.make.Goals as goal
@@ -27,3 +30,12 @@ returns-in_ok-list_instance-in-Some-meeting-clause-more g c =
     let met = c.meet_instance.ensures.step c.in-Some-meeting.instance meeting.0 meeting.1 in
     let some : 0 < length met.meets.barriers = omega (arith, met.meets.are.count, met.meets.meeting.convergent.0) in
     omega (arith, ap length met.meets.order, length-append c.args.order.now.handled met.meets.barriers, some)
+
+pub list_instance-requires-clause-remembered : goal.list_instance-requires-clause-remembered
+list_instance-requires-clause-remembered g c =
+    let s = c.args.order.now.taken in
+    let meeting = c.in-Some-meeting.ensures.meeting in
+    let first = barrier_of s c.in-Group.group c.in-Some-meeting.instance meeting.0 meeting.1.convergent 0 meeting.1.convergent.0 in
+    let e : EventId = record { at = record { group = c.in-Group.group; item = 0 }; index = first.0 } in
+    unhandled_remembered c.lanes.result.now c.args.order.now.handled c.lanes.ensures.forgets e (λ there. meeting.1.fresh (e, first.1, there)) c.in-Some-meeting.instance
+    (ap (λ (t : Streams). place_of t is_barrier e.at c.in-Some-meeting.instance) c.lanes.ensures.taken ∙ first.1.place)

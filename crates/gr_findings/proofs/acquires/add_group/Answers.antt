@@ -6,7 +6,7 @@ use Rattle.gr_findings.proofs.acquires.add_group.Goals.{in-Some+in_ok-push, in_d
 
 pub loop-item-preserved : goal.loop-item-preserved
 loop-item-preserved g c =
-    let s = c.args.lanes.now in
+    let s = c.args.lanes.now.streams in
     elim c.match-unmatched_of.branch [
       | in-Some+in_ok-push w ↦
           rw (w.list-is, w.in_ok-push.ensures.items)
@@ -16,6 +16,6 @@ loop-item-preserved g c =
 
 pub returns : goal.returns
 returns g c =
-    let s = c.args.lanes.now in
+    let s = c.args.lanes.now.streams in
     let size : c.items-item-end.result ≡ size_of s c.args.group = c.items-item-end.ensures.size ∙ ap (λ (sizes : List ℕ). slice_index sizes c.args.group) c.shape.ensures.sizes in
     group_done s c.args.group c.loop-item.item c.loop-item.list.items c.loop-item.invariant c.shape.ensures.prefixes (omega arith)

@@ -4,4 +4,4 @@ use Rattle.gr_lanes.proofs.IndexLemmas.{record_is}
 use Rattle.gr_findings.proofs.acquires.release_word.Goals as goal
 
 pub returns : goal.returns
-returns g c = c.release_word.ensures ∙ ap (option_and_then (event_word c.args.name.at.group)) (record_is c.args.lanes.now is_release c.args.name.at c.args.name.release c.args.index c.requires)
+returns g c = c.release_word.ensures ∙ ap (option_and_then (event_word c.args.name.at.group)) (record_is c.args.lanes.now.streams is_release c.args.name.at c.args.name.release c.args.index c.requires)

@@ -4,7 +4,7 @@ use Rattle.gr_findings.proofs.instances.cause.Goals as goal
 
 pub returns-then-has_other_site : goal.returns-then-has_other_site
 returns-then-has_other_site g c =
-    let s = c.args.lanes.now in
+    let s = c.args.lanes.now.streams in
     let group = c.args.group in
     let k = c.args.number in (
       missing_only s group k c.args.mine.now c.requires.come (λ missing. true≢false (sym (c.is_missing_one.ensures.1 missing) ∙ c.if-is_missing_one.false)),
@@ -13,7 +13,7 @@ returns-then-has_other_site g c =
 
 pub returns-else-has_other_site : goal.returns-else-has_other_site
 returns-else-has_other_site g c =
-    let s = c.args.lanes.now in
+    let s = c.args.lanes.now.streams in
     let group = c.args.group in
     let k = c.args.number in
     let whole = missing_only s group k c.args.mine.now c.requires.come (λ missing. true≢false (sym (c.is_missing_one.ensures.1 missing) ∙ c.if-is_missing_one.false)) in (

@@ -8,5 +8,5 @@ use Rattle.gr_lanes.proofs.instance.barrier.Goals as goal
 
 pub returns : goal.returns
 returns g c =
-    subst (λ (o : Option Event). MatchOption o (arrivals c.args.lanes.now c.args.item.group c.args.number c.args.item.item ≡ None) (λ x. (arrivals c.args.lanes.now c.args.item.group c.args.number c.args.item.item ≡ mark_of x) × (is_some (mark_of x) ≡ true)))
-    (sym c.barrier_event.ensures) (record_mark (trace_of c.args.lanes.now c.args.item) c.args.number)
+    subst (λ (o : Option Event). MatchOption o (arrivals c.args.lanes.now.streams c.args.item.group c.args.number c.args.item.item ≡ None) (λ x. (arrivals c.args.lanes.now.streams c.args.item.group c.args.number c.args.item.item ≡ mark_of x) × (is_some (mark_of x) ≡ true)))
+    (sym c.barrier_event.ensures) (record_mark (trace_of c.args.lanes.now.streams c.args.item) c.args.number)

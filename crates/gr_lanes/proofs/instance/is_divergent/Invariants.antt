@@ -4,4 +4,4 @@ use Rattle.gr_lanes.specs.Instances.{MakesDivergent}
 use Rattle.gr_lanes.proofs.instance.is_divergent.Given as goal
 
 abbrev pub invariant-loop-item : goal.invariant-loop-item
-invariant-loop-item g l = (i : ℕ) → i < l.item → MakesDivergent l.lanes l.group l.number (mark_of l.mine) i → ⊥
+invariant-loop-item g l = (i : ℕ) → i < l.item → MakesDivergent l.lanes.streams l.group l.number (mark_of l.mine) i → ⊥

@@ -7,7 +7,7 @@ use Rattle.gr_order.proofs.ready.is_released.Goals as goal
 
 pub returns-then-covers : goal.returns-then-covers
 returns-then-covers g c =
-    let s = c.args.lanes.now in
+    let s = c.args.lanes.now.streams in
     let counts = c.args.frontier.now in
     let n = c.args.name in
     let word : c.release_word.result ≡ word_at s (record { at = n.at; index = c.in-Some.index }) =

@@ -6,14 +6,17 @@ use Rattle.gr_order.proofs.ready.may_pass.Goals as goal
 use Rattle.gr_steps.proofs.EventRecords.{group_of_event}
 
 pub is_divergent-requires-clause-group : goal.is_divergent-requires-clause-group
-is_divergent-requires-clause-group g c = group_of_event c.args.lanes.now c.requires.prefixes c.args.event c.args.taken.now c.requires.there
+is_divergent-requires-clause-group g c = group_of_event c.args.lanes.now.streams c.requires.prefixes c.args.event c.args.taken.now c.requires.there
+
+pub is_divergent-requires-clause-remembered : goal.is_divergent-requires-clause-remembered
+is_divergent-requires-clause-remembered g c = c.requires.remembered c.in-Some.number c.in-Some.ensures
 
 pub is_divergent-requires-clause-come : goal.is_divergent-requires-clause-come
-is_divergent-requires-clause-come g c = come_of c.args.lanes.now c.requires.prefixes c.args.event c.args.taken.now c.requires.there c.in-Some.number c.in-Some.ensures
+is_divergent-requires-clause-come g c = come_of c.args.lanes.now.streams c.requires.prefixes c.args.event c.args.taken.now c.requires.there c.in-Some.number c.in-Some.ensures
 
 pub returns-in-Some : goal.returns-in-Some
 returns-in-Some g c =
-    let s = c.args.lanes.now in (
+    let s = c.args.lanes.now.streams in (
       λ divergent. passes_if s c.requires.prefixes c.args.event c.args.taken.now c.requires.there c.in-Some.number c.in-Some.ensures (c.is_divergent.ensures.0 divergent),
       λ may. c.is_divergent.ensures.1 (passes_only s c.requires.prefixes c.args.event c.args.taken.now c.requires.there c.in-Some.number c.in-Some.ensures may),
     )
@@ -21,7 +24,7 @@ returns-in-Some g c =
 pub returns-then-not-is_barrier : goal.returns-then-not-is_barrier
 returns-then-not-is_barrier g c = (
   λ _ group k stands.
-      let there = barrier_there c.args.lanes.now c.args.event group k stands in
+      let there = barrier_there c.args.lanes.now.streams c.args.event group k stands in
       let same : there.0 ≡ c.args.taken.now = let both : Some there.0 ≡ Some c.args.taken.now = sym there.1 ∙ c.requires.there in cc in
       absurd (true≢false (sym there.2 ∙ (ap is_barrier same ∙ (sym c.is_barrier.ensures ∙ c.if-not-is_barrier.true)))),
   λ _. refl,

@@ -1,30 +1,42 @@
-use Rattle.std.proofs.Common.{◌≡◌, ◌∙◌, ℕ, Some, ap, refl, sym, true≢false}
+use Rattle.gr_model.specs.declared.event.EventId.{EventId}
+use Rattle.gr_order.proofs.ForgetLemmas.{next_remembered}
+use Rattle.std.proofs.Common.{arith, ◌≡◌, ◌∙◌, ℕ, Some, ap, refl, sym, true≢false}
 use Rattle.gr_windows.proofs.WindowLemmas.{first_waits}
 use Rattle.gr_model.specs.Barriers.{is_barrier, mark_of}
 use Rattle.gr_model.specs.Streams.{event_at, place_of}
 use Rattle.gr_clocks.specs.Counts.{count_of}
-use Rattle.gr_order.proofs.MeetLemmas.{first_there, is_mark, item_at, next_if, next_of, next_only}
+use Rattle.gr_order.proofs.MeetLemmas.{come, first_there, is_mark, item_at, next_if, next_of, next_only}
 use Rattle.gr_order.proofs.ready.next_instance.Goals as goal
 use Rattle.gr_lanes.proofs.InstanceLemmas.{some_mark}
 use Rattle.gr_steps.proofs.EventRecords.{item_of_event}
 
 pub returns-in-None : goal.returns-in-None
 returns-in-None g c k h =
-    let s = c.args.lanes.now in
+    let s = c.args.lanes.now.streams in
     let group = c.args.group in
     first_there s c.args.frontier.now group k h (sym (first_waits s c.args.frontier.now c.args.windows.now c.requires.waiting (next_of c.args.frontier.now (item_at group 0)) refl) ∙ sym c.in-None.ensures)
 
-pub all_stand_next-requires-clause-barrier : goal.all_stand_next-requires-clause-barrier
-all_stand_next-requires-clause-barrier g c =
-    let s = c.args.lanes.now in
+pub barrier_number-requires : goal.barrier_number-requires
+barrier_number-requires g c =
+    let e : EventId = next_of c.args.frontier.now (item_at c.args.group 0) in
+    λ k at. next_remembered c.args.lanes.now c.args.frontier.now c.requires.forgets e (omega arith) k (at ∙ ap (λ (n : ℕ). Some n) c.get-index.ensures.count)
+
+pub all_stand_next-requires-clause-remembered : goal.all_stand_next-requires-clause-remembered
+all_stand_next-requires-clause-remembered g c =
+    let e : EventId = next_of c.args.frontier.now (item_at c.args.group 0) in
+    next_remembered c.args.lanes.now c.args.frontier.now c.requires.forgets e (omega arith) c.in-Some-barrier_number.number (c.in-Some-barrier_number.ensures ∙ ap (λ (n : ℕ). Some n) c.get-index.ensures.count)
+
+pub all_stand_next-requires-clause-come : goal.all_stand_next-requires-clause-come
+all_stand_next-requires-clause-come g c =
+    let s = c.args.lanes.now.streams in
     let group = c.args.group in
     let at : event_at s (next_of c.args.frontier.now (item_at group 0)) ≡ Some c.in-Some.mine = sym (first_waits s c.args.frontier.now c.args.windows.now c.requires.waiting (next_of c.args.frontier.now (item_at group 0)) refl) ∙ sym c.in-Some.ensures in
     let place : place_of s is_barrier (item_at group 0) c.in-Some-barrier_number.number ≡ Some (count_of c.args.frontier.now (item_at group 0)) = c.in-Some-barrier_number.ensures ∙ ap (λ (n : ℕ). Some n) c.get-index.ensures.count in
-    is_mark s c.args.frontier.now group c.requires.prefixes c.in-Some.mine at c.in-Some-barrier_number.number place
+    come s c.args.frontier.now group c.requires.prefixes c.in-Some.mine at c.in-Some-barrier_number.number place
 
 pub returns-then-all_stand_next : goal.returns-then-all_stand_next
 returns-then-all_stand_next g c =
-    let s = c.args.lanes.now in
+    let s = c.args.lanes.now.streams in
     let group = c.args.group in
     let at : event_at s (next_of c.args.frontier.now (item_at group 0)) ≡ Some c.in-Some.mine = sym (first_waits s c.args.frontier.now c.args.windows.now c.requires.waiting (next_of c.args.frontier.now (item_at group 0)) refl) ∙ sym c.in-Some.ensures in
     let place : place_of s is_barrier (item_at group 0) c.in-Some-barrier_number.number ≡ Some (count_of c.args.frontier.now (item_at group 0)) = c.in-Some-barrier_number.ensures ∙ ap (λ (n : ℕ). Some n) c.get-index.ensures.count in
@@ -34,7 +46,7 @@ returns-then-all_stand_next g c =
 
 pub returns-else-all_stand_next : goal.returns-else-all_stand_next
 returns-else-all_stand_next g c k h =
-    let s = c.args.lanes.now in
+    let s = c.args.lanes.now.streams in
     let group = c.args.group in
     let at : event_at s (next_of c.args.frontier.now (item_at group 0)) ≡ Some c.in-Some.mine = sym (first_waits s c.args.frontier.now c.args.windows.now c.requires.waiting (next_of c.args.frontier.now (item_at group 0)) refl) ∙ sym c.in-Some.ensures in
     let place : place_of s is_barrier (item_at group 0) c.in-Some-barrier_number.number ≡ Some (count_of c.args.frontier.now (item_at group 0)) = c.in-Some-barrier_number.ensures ∙ ap (λ (n : ℕ). Some n) c.get-index.ensures.count in

@@ -8,5 +8,5 @@ use Rattle.gr_lanes.proofs.group.Group.release_event.Goals as goal
 
 pub returns : goal.returns
 returns g c =
-    c.release_event.ensures ∙ (ap (λ (l : Index). slice_get l.released c.args.number) (index_at c.self.inside.items c.self.inside.list c.self.invariant.indices c.args.item)
+    c.release_event.ensures ∙ (ap (λ (l : Index). slice_get l.released c.args.number) (index_at c.self.inside.items.indices c.self.inside.list c.self.invariant.indices c.args.item)
     ∙ ap (λ (v : GroupList). slice_get (filter is_release (filter (is_of c.args.item) v.list)) c.args.number) c.self.view_is)

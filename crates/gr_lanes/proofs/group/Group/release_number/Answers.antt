@@ -7,12 +7,12 @@ use Rattle.gr_lanes.proofs.group.Group.release_number.Goals as goal
 
 pub release_number-requires : goal.release_number-requires
 release_number-requires g c = record {
-  few = few_releases c.self.inside.items c.self.inside.list c.self.invariant.indices c.args.item;
-  rise = releases_rise c.self.inside.items c.self.inside.list c.self.invariant.indices c.args.item;
+  few = few_releases c.self.inside.items.indices c.self.inside.list c.self.invariant.indices c.args.item;
+  rise = releases_rise c.self.inside.items.indices c.self.inside.list c.self.invariant.indices c.args.item;
 }
 
 pub returns : goal.returns
 returns g c =
     subst (λ (v : GroupList). IsNumberAmong is_release v.list c.args.item c.args.index c.release_number.result) c.self.view_is
     (subst (λ (l : Index). MatchOption c.release_number.result ((k : ℕ) → slice_get l.releases k ≢ Some c.args.index) (λ k. slice_get l.releases k ≡ Some c.args.index))
-    (index_at c.self.inside.items c.self.inside.list c.self.invariant.indices c.args.item) c.release_number.ensures)
+    (index_at c.self.inside.items.indices c.self.inside.list c.self.invariant.indices c.args.item) c.release_number.ensures)

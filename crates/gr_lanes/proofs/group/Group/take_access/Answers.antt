@@ -5,24 +5,25 @@ use Rattle.gr_model.specs.declared.limits.TheConstants.{MOST_RECORDS}
 use Rattle.gr_model.specs.Events.{IsEventOk}
 use Rattle.gr_model.specs.Streams.{is_complete}
 use Rattle.gr_lanes.specs.Indices.{AreIndices, GroupList, IsKept}
+use Rattle.gr_lanes.specs.Kept.{GroupIndex}
 use Rattle.gr_lanes.proofs.IndexLemmas.{few_events, indices_more, none_more}
 use Rattle.gr_lanes.proofs.group.Group.take_access.Goals as goal
 
 pub add_access-requires-clause-item : goal.add_access-requires-clause-item
-add_access-requires-clause-item g c = (subst (λ (v : GroupList). IsEventOk c.args.event v.size) (sym c.self.view_is) c.requires.good).0
+add_access-requires-clause-item g c = (subst (λ (v : GroupList). IsEventOk c.args.event.now v.size) (sym c.self.view_is) c.requires.good).0
 
 pub add_access-requires-clause-few : goal.add_access-requires-clause-few
 add_access-requires-clause-few g c =
-    let ok = subst (λ (v : GroupList). IsEventOk c.args.event v.size) (sym c.self.view_is) c.requires.good in
-    few_events c.self.inside.items c.self.inside.list c.args.event c.self.invariant.indices ok
+    let ok = subst (λ (v : GroupList). IsEventOk c.args.event.now v.size) (sym c.self.view_is) c.requires.good in
+    few_events c.self.inside.items.indices c.self.inside.list c.args.event.now c.self.invariant.indices ok
 
 pub invariant_of-self : goal.invariant_of-self
 invariant_of-self g c =
     let list = c.self.inside.list in
-    let x = c.args.event in
+    let x = c.args.event.now in
     let ok = subst (λ (v : GroupList). IsEventOk x v.size) (sym c.self.view_is) c.requires.good in
     let open_list = λ (h : IsTrue (is_complete list)). c.requires.before_end (subst (λ (v : GroupList). IsTrue (is_complete v.list)) c.self.view_is h) in
     let room : length list < MOST_RECORDS = omega (arith, c.requires.room, ap (λ (v : GroupList). length v.list) c.self.view_is) in
-    let indices = subst (λ l. AreIndices l (list ++ x ∷ [])) (sym c.add_access.ensures) (indices_more c.self.inside.items list x c.self.invariant.indices ok open_list room) in
-    subst (λ (l : List Event). IsKept c.add_access.new.self l (c.self.inside.taken + 1) c.self.inside.end) (sym c.push.ensures)
+    let indices = subst (λ (l : GroupIndex). AreIndices l.indices (list ++ x ∷ [])) (sym c.add_access.ensures) (indices_more c.self.inside.items.indices list x c.self.invariant.indices ok open_list room) in
+    subst (λ (l : List Event). IsKept c.add_access.new.self.indices l (c.self.inside.taken + 1) c.self.inside.end) (sym c.push.ensures)
     (record { indices = indices; count = ap (λ n. n + 1) c.self.invariant.count ∙ sym (length_push list x); ending = c.self.invariant.ending ∙ sym (none_more list x open_list c.requires.access.ends) })

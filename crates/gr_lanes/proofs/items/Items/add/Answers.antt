@@ -1,19 +1,17 @@
-use Rattle.std.proofs.Common.{◌∙◌, ap, arith, false, get_or, length, set}
+use Rattle.std.proofs.Common.{◌∙◌, ap, false, get_or, set}
 use Rattle.gr_lanes.specs.Indices.{no_index, with_event}
-use Rattle.gr_lanes.proofs.KeptLemmas.{event_alike, event_with, few_events, indexed_event, length-indices}
+use Rattle.gr_lanes.specs.Kept.{with_indices}
+use Rattle.gr_lanes.proofs.KeptLemmas.{event_lanes, event_with, few_events, indexed_event}
 use Rattle.gr_lanes.proofs.items.Items.add.Goals as goal
 
-pub index_mut-requires : goal.index_mut-requires
-index_mut-requires g c = omega (arith, c.requires.item, c.from.ensures, ap length c.self.view_is, length-indices c.self.inside.firsts.items 0 c.self.inside.lanes.items, c.self.inside.lanes.ok.0)
-
 pub add-requires : goal.add-requires
-add-requires g c = record { few = few_events c.self.inside.firsts.items c.self.inside.lanes.items c.self.invariant c.args.event.now c.from.result c.from.ensures c.self.view_is c.requires.item c.index_mut.result.now c.index_mut.ensures.value c.requires.few }
+add-requires g c = record { few = few_events c.self.inside.firsts.items c.self.inside.lanes.items c.self.invariant c.args.event.now c.from.ensures c.self.view_is c.requires.item c.index_mut.ensures.value c.requires.few }
 
 pub invariant_of-self-2 : goal.invariant_of-self-2
-invariant_of-self-2 g c = event_alike c.self.inside.firsts.items c.self.inside.lanes.items c.self.invariant c.args.event.now c.from.result c.from.ensures c.self.view_is c.requires.item c.index_mut.result.now c.index_mut.ensures.value c.add.new.self c.is_release.result c.in_ok-add.ensures.ok
+invariant_of-self-2 g c = event_lanes c.self.inside.firsts.items c.self.inside.lanes.items c.self.invariant c.args.event.now c.from.ensures c.self.view_is c.requires.item c.index_mut.ensures.value c.add.new.self c.is_release.result c.in_ok-add.ensures.ok
 
 pub returns-clause-ok : goal.returns-clause-ok
 returns-clause-ok g c =
-    event_with c.self.inside.firsts.items c.self.inside.lanes.items c.self.invariant c.args.event.now c.from.result c.from.ensures c.self.view_is c.requires.item c.index_mut.result.now c.index_mut.ensures.value c.add.new.self c.is_release.result c.in_ok-add.ensures.ok
-    ∙ (ap (λ b. set c.args.self.now c.args.event.now.item (with_event (get_or c.args.self.now c.args.event.now.item no_index) c.args.event.now b false)) c.is_release.ensures
-    ∙ indexed_event c.args.self.now c.args.event.now (let off = c.if-is_end.false in let says = c.is_end.ensures in cc) (let off = c.if-is_barrier.false in let says = c.is_barrier.ensures in cc))
+    event_with c.self.inside.firsts.items c.self.inside.lanes.items c.self.invariant c.args.event.now c.from.ensures c.self.view_is c.requires.item c.index_mut.ensures.value c.add.new.self c.is_release.result c.in_ok-add.ensures.ok
+    ∙ ap (with_indices c.args.self.now) (ap (λ b. set c.args.self.now.indices c.args.event.now.item (with_event (get_or c.args.self.now.indices c.args.event.now.item no_index) c.args.event.now b false)) c.is_release.ensures
+    ∙ indexed_event c.args.self.now.indices c.args.event.now (let off = c.if-is_end.false in let says = c.is_end.ensures in cc) (let off = c.if-is_barrier.false in let says = c.is_barrier.ensures in cc))

@@ -1,17 +1,33 @@
-use Rattle.std.proofs.Common.{ap, subst, sym, Some, ℕ}
-use Rattle.std.specs.Prelude.{◌<◌, ◌≡◌, ◌≢◌, MatchOption, length, slice_get, slice_index_or}
-use Rattle.gr_lanes.specs.Indices.{Index, AreRising, no_index}
-use Rattle.gr_lanes.proofs.KeptLemmas.{lacks_item, lane_index, not_among}
+use Rattle.std.proofs.Common.{◌∙◌, ◌+◌, ◌-◌, ◌≤◌, ap, arith, sym}
+use Rattle.std.specs.Prelude.{◌≡◌, slice_get, slice_index_or}
+use Rattle.std.proofs.lemmas.Option.{slice_get_within}
+use Rattle.gr_lanes.specs.Indices.{Index, no_index}
+use Rattle.gr_lanes.specs.Kept.{GroupIndex}
+use Rattle.gr_lanes.proofs.KeptLemmas.{barrier_read, count_read, lacks_item, not_among, rising_read}
 use Rattle.gr_lanes.proofs.items.Items.barrier_number.Goals as goal
 
-pub barrier_number-requires-clause-few : goal.barrier_number-requires-clause-few
-barrier_number-requires-clause-few g c = subst (λ (l : Index). length l.barriers < 4_294_967_296) (lane_index c.self.inside.firsts.items c.self.inside.lanes.items c.deref.result.now c.deref.ensures.value c.args.item c.from.result c.from.ensures c.self.view_is c.in-Some.lane.now c.in-Some.ensures.lookup.0 c.in-Some.ensures.lookup.1) c.requires.few
+pub barrier_place-requires-clause-few : goal.barrier_place-requires-clause-few
+barrier_place-requires-clause-few g c = omega (arith, count_read c.deref.ensures.value c.from.ensures c.self.view_is c.in-Some.ensures.lookup.0 c.in-Some.ensures.lookup.1 c.self.invariant, c.requires.few)
 
-pub barrier_number-requires-clause-rise : goal.barrier_number-requires-clause-rise
-barrier_number-requires-clause-rise g c = subst (λ (l : Index). AreRising l.barriers) (lane_index c.self.inside.firsts.items c.self.inside.lanes.items c.deref.result.now c.deref.ensures.value c.args.item c.from.result c.from.ensures c.self.view_is c.in-Some.lane.now c.in-Some.ensures.lookup.0 c.in-Some.ensures.lookup.1) c.requires.rise
+pub barrier_place-requires-clause-rise : goal.barrier_place-requires-clause-rise
+barrier_place-requires-clause-rise g c = rising_read c.deref.ensures.value c.from.ensures c.self.view_is c.in-Some.ensures.lookup.0 c.in-Some.ensures.lookup.1 c.self.invariant c.requires.rise
+
+pub overflow_add-result : goal.overflow_add-result
+overflow_add-result g c =
+    let within = slice_get_within c.in-Some.lane.now.barriers c.in-Some-barrier_place.place c.args.index c.in-Some-barrier_place.ensures in
+    omega (arith, within, count_read c.deref.ensures.value c.from.ensures c.self.view_is c.in-Some.ensures.lookup.0 c.in-Some.ensures.lookup.1 c.self.invariant, c.requires.few)
 
 pub returns-in-None : goal.returns-in-None
-returns-in-None g c k at = not_among (slice_index_or c.args.self.now c.args.item no_index).barriers (ap (λ (l : Index). l.barriers) (lacks_item c.self.inside.firsts.items c.self.inside.lanes.items c.deref.result.now c.deref.ensures.value c.args.item c.from.result c.from.ensures c.self.view_is c.in-None.ensures.lookup.0)) k c.args.index at
+returns-in-None g c k at = not_among (slice_index_or c.args.self.now.indices c.args.item no_index).barriers (ap (λ (l : Index). l.barriers) (lacks_item c.deref.ensures.value c.from.ensures c.self.view_is c.in-None.ensures.lookup.0)) k c.args.index at
 
-pub returns-in-Some : goal.returns-in-Some
-returns-in-Some g c = subst (λ (l : Index). MatchOption c.barrier_number.result ((k : ℕ) → slice_get l.barriers k ≢ Some c.args.index) (λ k. slice_get l.barriers k ≡ Some c.args.index)) (sym (lane_index c.self.inside.firsts.items c.self.inside.lanes.items c.deref.result.now c.deref.ensures.value c.args.item c.from.result c.from.ensures c.self.view_is c.in-Some.lane.now c.in-Some.ensures.lookup.0 c.in-Some.ensures.lookup.1)) c.barrier_number.ensures
+pub returns-in-None-barrier_place : goal.returns-in-None-barrier_place
+returns-in-None-barrier_place g c k at =
+    let kept : c.self.inside.forgotten ≤ k = omega (arith, c.requires.remembered k at, ap (λ (l : GroupIndex). l.forgotten) c.self.view_is) in
+    c.in-None-barrier_place.ensures (k - c.self.inside.forgotten) (barrier_read c.deref.ensures.value c.from.ensures c.self.view_is c.in-Some.ensures.lookup.0 c.in-Some.ensures.lookup.1 c.self.invariant k kept ∙ at)
+
+pub returns-in-Some-barrier_place : goal.returns-in-Some-barrier_place
+returns-in-Some-barrier_place g c =
+    let forgotten = c.self.inside.forgotten in
+    let place = c.in-Some-barrier_place.place in
+    let same : forgotten + place - forgotten ≡ place = omega arith in
+    sym (barrier_read c.deref.ensures.value c.from.ensures c.self.view_is c.in-Some.ensures.lookup.0 c.in-Some.ensures.lookup.1 c.self.invariant (forgotten + place) (omega arith)) ∙ (ap (slice_get c.in-Some.lane.now.barriers) same ∙ c.in-Some-barrier_place.ensures)

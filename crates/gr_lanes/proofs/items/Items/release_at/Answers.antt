@@ -5,7 +5,7 @@ use Rattle.gr_lanes.proofs.KeptLemmas.{lacks_item, lane_index}
 use Rattle.gr_lanes.proofs.items.Items.release_at.Goals as goal
 
 pub returns-in-None : goal.returns-in-None
-returns-in-None g c = sym (ap (λ (l : Index). slice_get l.releases c.args.number) (lacks_item c.self.inside.firsts.items c.self.inside.lanes.items c.deref.result.now c.deref.ensures.value c.args.item c.from.result c.from.ensures c.self.view_is c.in-None.ensures.lookup.0))
+returns-in-None g c = sym (ap (λ (l : Index). slice_get l.releases c.args.number) (lacks_item c.deref.ensures.value c.from.ensures c.self.view_is c.in-None.ensures.lookup.0))
 
 pub returns-in-Some : goal.returns-in-Some
-returns-in-Some g c = c.release.ensures ∙ sym (ap (λ (l : Index). slice_get l.releases c.args.number) (lane_index c.self.inside.firsts.items c.self.inside.lanes.items c.deref.result.now c.deref.ensures.value c.args.item c.from.result c.from.ensures c.self.view_is c.in-Some.lane.now c.in-Some.ensures.lookup.0 c.in-Some.ensures.lookup.1))
+returns-in-Some g c = c.release.ensures ∙ sym (ap (λ (l : Index). slice_get l.releases c.args.number) (lane_index c.deref.ensures.value c.from.ensures c.self.view_is c.in-Some.ensures.lookup.0 c.in-Some.ensures.lookup.1))

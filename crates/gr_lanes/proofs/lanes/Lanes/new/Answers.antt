@@ -3,7 +3,7 @@ use Rattle.std.proofs.lemmas.List.{take_all}
 use Rattle.gr_model.proofs.GroupLaws.{part_of_shape}
 use Rattle.gr_lanes.specs.Indices.{AreGroups, taken_of}
 use Rattle.gr_lanes.specs.Takes.{nothing_taken}
-use Rattle.gr_lanes.proofs.GroupLemmas.{empty, nothing_groups, nothing_is, one_group_more}
+use Rattle.gr_lanes.proofs.GroupLemmas.{empty, nothing_groups, nothing_is, one_group_more, whole_is}
 use Rattle.gr_lanes.proofs.lanes.Lanes.new.Goals as goal
 
 pub loop-group-preserved : goal.loop-group-preserved
@@ -23,3 +23,8 @@ returns-clause-nothing g c =
 
 pub returns-clause-prefixes : goal.returns-clause-prefixes
 returns-clause-prefixes g c = (invariant_of-result g c).prefixes
+
+pub returns-clause-whole : goal.returns-clause-whole
+returns-clause-whole g c =
+    let whole : take c.loop-group.group c.args.shape ≡ c.args.shape = take_all c.loop-group.group c.args.shape (omega (arith, c.groups-group-end.ensures.count)) in
+    whole_is c.args.shape c.loop-group.groups.items (c.loop-group.invariant ∙ ap (map empty) whole) c.of-shape.result c.of-shape.ensures

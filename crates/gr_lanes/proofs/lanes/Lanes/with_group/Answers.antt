@@ -1,8 +1,9 @@
 use Rattle.std.proofs.Common.{◌≡◌, ◌<◌, ◌≤◌, ◌∙◌, ℕ, List, length, set, sym, ap, subst, arith}
-use Rattle.gr_model.specs.Groups.{put, with_group}
+use Rattle.gr_model.specs.Groups.{put}
 use Rattle.gr_model.specs.Streams.{ArePrefixes}
 use Rattle.gr_model.proofs.PutLemmas.{puts_last, puts_more}
-use Rattle.gr_lanes.specs.Indices.{AreGroups, taken_of}
+use Rattle.gr_lanes.specs.Indices.{AreGroups, remembered_of}
+use Rattle.gr_lanes.specs.Remembered.{Remembered, with_group}
 use Rattle.gr_lanes.proofs.GroupLemmas.{added_groups, added_prefixes, added_taken, empty}
 use Rattle.gr_lanes.proofs.lanes.Lanes.with_group.Goals as goal
 
@@ -30,8 +31,8 @@ returns-clause-comes g c =
     let sizes = c.self.inside.shape in
     let there : c.args.group < length groups = omega (arith, c.loop-alloc-test.false, c.from.ensures) in
     let is : set groups c.args.group c.in_ok-added.added ≡ put (empty 0) old c.args.group (empty c.args.items) = puts_last (empty 0) groups c.args.group c.in_ok-added.added old c.loop-alloc.invariant there ∙ ap (put (empty 0) old c.args.group) c.in_ok-added.ensures in
-    ap (λ (l : List ℕ). taken_of l (set groups c.from-2.result c.in_ok-added.added)) c.in_ok-shape.ensures ∙
-    (ap (λ (p : ℕ). taken_of (put 0 sizes c.args.group c.args.items) (set groups p c.in_ok-added.added)) c.from-2.ensures ∙
+    ap (λ (l : List ℕ). remembered_of l (set groups c.from-2.result c.in_ok-added.added)) c.in_ok-shape.ensures ∙
+    (ap (λ (p : ℕ). remembered_of (put 0 sizes c.args.group c.args.items) (set groups p c.in_ok-added.added)) c.from-2.ensures ∙
     added_taken sizes old c.self.invariant c.args.self c.self.view_is c.args.group c.args.items c.requires (set groups c.args.group c.in_ok-added.added) is)
 
 pub returns-clause-prefixes : goal.returns-clause-prefixes
@@ -41,8 +42,8 @@ returns-clause-prefixes g c =
     let sizes = c.self.inside.shape in
     let there : c.args.group < length groups = omega (arith, c.loop-alloc-test.false, c.from.ensures) in
     let is : set groups c.args.group c.in_ok-added.added ≡ put (empty 0) old c.args.group (empty c.args.items) = puts_last (empty 0) groups c.args.group c.in_ok-added.added old c.loop-alloc.invariant there ∙ ap (put (empty 0) old c.args.group) c.in_ok-added.ensures in
-    let comes : taken_of c.in_ok-shape.shape (set groups c.from-2.result c.in_ok-added.added) ≡ with_group c.args.self c.args.group c.args.items =
-    ap (λ (l : List ℕ). taken_of l (set groups c.from-2.result c.in_ok-added.added)) c.in_ok-shape.ensures ∙
-    (ap (λ (p : ℕ). taken_of (put 0 sizes c.args.group c.args.items) (set groups p c.in_ok-added.added)) c.from-2.ensures ∙
+    let comes : remembered_of c.in_ok-shape.shape (set groups c.from-2.result c.in_ok-added.added) ≡ with_group c.args.self c.args.group c.args.items =
+    ap (λ (l : List ℕ). remembered_of l (set groups c.from-2.result c.in_ok-added.added)) c.in_ok-shape.ensures ∙
+    (ap (λ (p : ℕ). remembered_of (put 0 sizes c.args.group c.args.items) (set groups p c.in_ok-added.added)) c.from-2.ensures ∙
     added_taken sizes old c.self.invariant c.args.self c.self.view_is c.args.group c.args.items c.requires (set groups c.args.group c.in_ok-added.added) is) in
-    subst ArePrefixes (sym comes) (added_prefixes sizes old c.self.invariant c.args.self c.self.view_is c.args.group c.args.items c.requires (set groups c.args.group c.in_ok-added.added) is)
+    subst (λ (r : Remembered). ArePrefixes r.streams) (sym comes) (added_prefixes sizes old c.self.invariant c.args.self c.self.view_is c.args.group c.args.items c.requires (set groups c.args.group c.in_ok-added.added) is)

@@ -10,6 +10,6 @@ use Rattle.gr_order.proofs.order.Order.event_at.Goals as goal
 pub returns : goal.returns
 returns g c =
     let ready = subst (λ (v : Sequence). IsReady v.taken v.handled c.args.event) (sym c.self.view_is) c.requires in
-    let index = ready_is_next c.self.inside.lanes c.self.inside.handled c.self.invariant.state.sequence.lawful (λ i. count_of c.self.inside.frontier i) c.self.invariant.state.first c.args.event ready in
-    c.waiting.ensures ∙ (first_waits c.self.inside.lanes c.self.inside.frontier c.self.inside.windows c.self.invariant.waits c.args.event index
+    let index = ready_is_next c.self.inside.lanes.streams c.self.inside.handled c.self.invariant.kept.state.sequence.lawful (λ i. count_of c.self.inside.frontier i) c.self.invariant.kept.state.first c.args.event ready in
+    c.waiting.ensures ∙ (first_waits c.self.inside.lanes.streams c.self.inside.frontier c.self.inside.windows c.self.invariant.kept.waits c.args.event index
     ∙ ap (λ (v : Sequence). event_at v.taken c.args.event) c.self.view_is)

@@ -9,4 +9,4 @@ use Rattle.gr_order.proofs.order.Order.meeting.Goals as goal
 pub returns-clause-meeting : goal.returns-clause-meeting
 returns-clause-meeting g c =
     subst (λ (q : Sequence). MatchOption c.next_instance.result (¬ CanMeet q.taken q.handled c.args.group) (λ k. (a : Mark) × IsMeeting q.taken q.handled c.args.group k a)) c.self.view_is
-    (meeting_of c.self.inside.lanes c.self.inside.handled c.self.inside.frontier c.self.invariant.state.first c.args.group c.next_instance.result c.next_instance.ensures)
+    (meeting_of c.self.inside.lanes.streams c.self.inside.handled c.self.inside.frontier c.self.invariant.kept.state.first c.args.group c.next_instance.result c.next_instance.ensures)

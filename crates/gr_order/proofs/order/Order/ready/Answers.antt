@@ -9,5 +9,5 @@ loop-group-preserved g c = below_more _ _ c.loop-group.invariant c.in-None.ensur
 pub returns-clause-ready : goal.returns-clause-ready
 returns-clause-ready g c =
     let count : c.groups-group-end.result ≡ length c.args.self.now.taken.sizes = c.groups-group-end.ensures.count ∙ ap length (c.shape.ensures.sizes ∙ ap (λ (q : Sequence). q.taken.sizes) c.self.view_is) in
-    let is = subst IsSequence c.self.view_is c.self.invariant.state.sequence in
+    let is = subst IsSequence c.self.view_is c.self.invariant.kept.state.sequence in
     rest_is_done c.args.self.now is (all_rest c.args.self.now is (λ n within. c.loop-group.invariant n (omega arith)))

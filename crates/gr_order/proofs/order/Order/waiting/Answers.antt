@@ -10,7 +10,7 @@ use Rattle.gr_order.proofs.order.Order.waiting.Goals as goal
 
 pub returns : goal.returns
 returns g c counts first =
-    let q : Sequence = record { taken = c.self.inside.lanes; handled = c.self.inside.handled } in
+    let q : Sequence = record { taken = c.self.inside.lanes.streams; handled = c.self.inside.handled } in
     let e : EventId = record { at = c.args.item; index = count_of counts c.args.item } in
-    let waits = waits_as q c.self.inside.frontier c.self.inside.windows c.self.inside.held c.self.invariant counts (subst (λ (v : Sequence). AreBelowFrontier v.handled counts) (sym c.self.view_is) first) in
-    c.waiting.ensures ∙ (first_waits c.self.inside.lanes counts c.self.inside.windows waits e refl ∙ ap (λ (v : Sequence). event_at v.taken e) c.self.view_is)
+    let waits = waits_as q c.self.inside.frontier c.self.inside.windows c.self.inside.held c.self.invariant.kept counts (subst (λ (v : Sequence). AreBelowFrontier v.handled counts) (sym c.self.view_is) first) in
+    c.waiting.ensures ∙ (first_waits c.self.inside.lanes.streams counts c.self.inside.windows waits e refl ∙ ap (λ (v : Sequence). event_at v.taken e) c.self.view_is)

@@ -7,6 +7,6 @@ use Rattle.gr_order.proofs.order.Order.windows.Goals as goal
 
 pub returns : goal.returns
 returns g c counts first =
-    let q : Sequence = record { taken = c.self.inside.lanes; handled = c.self.inside.handled } in
+    let q : Sequence = record { taken = c.self.inside.lanes.streams; handled = c.self.inside.handled } in
     subst (λ (v : Sequence). AreWaiting v.taken counts c.self.inside.windows) c.self.view_is
-    (waits_as q c.self.inside.frontier c.self.inside.windows c.self.inside.held c.self.invariant counts (subst (λ (v : Sequence). AreBelowFrontier v.handled counts) (sym c.self.view_is) first))
+    (waits_as q c.self.inside.frontier c.self.inside.windows c.self.inside.held c.self.invariant.kept counts (subst (λ (v : Sequence). AreBelowFrontier v.handled counts) (sym c.self.view_is) first))

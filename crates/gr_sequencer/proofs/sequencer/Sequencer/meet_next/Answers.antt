@@ -11,6 +11,9 @@ meet-requires-clause-free g c =
     let can = c.next_meeting-instance.ensures.meeting in
     group_unspent q.taken q.handled c.args.group c.next_meeting-instance.result c.self.inside.known.clocks c.next_meeting-instance.ensures.sequence.prefixes c.next_meeting-instance.ensures.sequence.lawful known_is.clocks can.0 can.1
 
+pub meet-requires-clause-fresh : goal.meet-requires-clause-fresh
+meet-requires-clause-fresh g c = c.next_meeting-instance.ensures.meeting.1.fresh
+
 pub invariant_of-self-2 : goal.invariant_of-self-2
 invariant_of-self-2 g c =
     let q = c.order-order.result.now in

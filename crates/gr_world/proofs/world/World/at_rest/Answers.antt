@@ -16,7 +16,7 @@ returns-then-not-is_idle-clause-rest g c = (λ yes. absurd (true≢false (sym ye
 
 pub returns-clause-rest : goal.returns-clause-rest
 returns-clause-rest g c =
-    let w : World = world_of c.self.inside.config c.self.inside.sent c.self.inside.intakes.items c.self.inside.sequencer c.self.inside.in_flight c.self.inside.workers.items in
+    let w : World = world_of c.self.inside.config c.self.inside.sent.streams c.self.inside.intakes.items c.self.inside.sequencer c.self.inside.in_flight c.self.inside.workers.items in
     let drained : IsTrue c.is_drained.result = search rules in
     let resting : IsTrue c.is_idle.result = search rules in
     let empty : AreEmpty w.intakes = subst (λ (v : World). AreEmpty v.intakes) (sym c.self.view_is) (c.is_drained.ensures.0 drained) in
@@ -28,7 +28,7 @@ returns-clause-rest g c =
 
 pub returns-clause-done : goal.returns-clause-done
 returns-clause-done g c =
-    let w : World = world_of c.self.inside.config c.self.inside.sent c.self.inside.intakes.items c.self.inside.sequencer c.self.inside.in_flight c.self.inside.workers.items in
+    let w : World = world_of c.self.inside.config c.self.inside.sent.streams c.self.inside.intakes.items c.self.inside.sequencer c.self.inside.in_flight c.self.inside.workers.items in
     let drained : IsTrue c.is_drained.result = search rules in
     let empty : AreEmpty w.intakes = subst (λ (v : World). AreEmpty v.intakes) (sym c.self.view_is) (c.is_drained.ensures.0 drained) in
     λ yes. subst (λ (v : World). AreGrounded v.sent v.sequence.handled) c.self.view_is

@@ -14,14 +14,14 @@ use Rattle.gr_world.proofs.world.World.handle.Goals.{in-Some-1, in-None-1}
 
 pub invariant_of-self-in-One-2 : goal.invariant_of-self-in-One-2
 invariant_of-self-in-One-2 g c =
-    let w : World = world_of c.self.inside.config c.self.inside.sent c.self.inside.intakes.items c.self.inside.sequencer c.self.inside.in_flight c.self.inside.workers.items in
+    let w : World = world_of c.self.inside.config c.self.inside.sent.streams c.self.inside.intakes.items c.self.inside.sequencer c.self.inside.in_flight c.self.inside.workers.items in
     let step : IsSequencerStep c.self.inside.sequencer c.handle.new.self (One c.in-One.event c.in-One.access) = rw c.in-One.is at c.in_ok-access.ensures.step in
     let free : w.in_flight ≡ None = no_in_flight c.self.inside.in_flight (search rules) in
     handling_is_world w c.self.invariant c.in-One.event c.handle.new.self (option_map clocked c.in-One.access) free step.0 (in_flight_of c.handle.new.self.taken c.in-One.event c.in-One.access step.1) c.handle.ensures.sequence
 
 pub returns-clause-step : goal.returns-clause-step
 returns-clause-step g c =
-    let w : World = world_of c.self.inside.config c.self.inside.sent c.self.inside.intakes.items c.self.inside.sequencer c.self.inside.in_flight c.self.inside.workers.items in
+    let w : World = world_of c.self.inside.config c.self.inside.sent.streams c.self.inside.intakes.items c.self.inside.sequencer c.self.inside.in_flight c.self.inside.workers.items in
     let step : IsSequencerStep c.self.inside.sequencer c.handle.new.self (One c.in-One.event c.in-One.access) = rw c.in-One.is at c.in_ok-access.ensures.step in
     let item : IsOfItem c.args.item (One c.in-One.event c.in-One.access) = rw c.in-One.is at c.in_ok-access.ensures.item in
     let free : w.in_flight ≡ None = no_in_flight c.self.inside.in_flight (search rules) in

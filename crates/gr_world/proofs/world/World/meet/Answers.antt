@@ -19,13 +19,13 @@ met old new g (Met f k) step of = (k, subst (λ n. MeetsInstance old n k new) of
 
 pub invariant_of-self-2 : goal.invariant_of-self-2
 invariant_of-self-2 g c =
-    let w : World = world_of c.self.inside.config c.self.inside.sent c.self.inside.intakes.items c.self.inside.sequencer c.self.inside.in_flight c.self.inside.workers.items in
+    let w : World = world_of c.self.inside.config c.self.inside.sent.streams c.self.inside.intakes.items c.self.inside.sequencer c.self.inside.in_flight c.self.inside.workers.items in
     let meets = met c.self.inside.sequencer c.meet.new.self c.args.group c.in_ok-_met._met c.in_ok-_met.ensures.step c.in_ok-_met.ensures.group in
     meeting_is_world w c.self.invariant c.args.group meets.0 c.meet.new.self meets.1 c.meet.ensures.sequence
 
 pub returns-clause-step : goal.returns-clause-step
 returns-clause-step g c =
-    let w : World = world_of c.self.inside.config c.self.inside.sent c.self.inside.intakes.items c.self.inside.sequencer c.self.inside.in_flight c.self.inside.workers.items in
+    let w : World = world_of c.self.inside.config c.self.inside.sent.streams c.self.inside.intakes.items c.self.inside.sequencer c.self.inside.in_flight c.self.inside.workers.items in
     let meets = met c.self.inside.sequencer c.meet.new.self c.args.group c.in_ok-_met._met c.in_ok-_met.ensures.step c.in_ok-_met.ensures.group in
     let there : c.args.group < length w.sent.sizes = search rules in
     let new : World = going_on w c.meet.new.self w.in_flight in
@@ -34,7 +34,7 @@ returns-clause-step g c =
 
 pub returns-in_err-_met-clause-err : goal.returns-in_err-_met-clause-err
 returns-in_err-_met-clause-err g c =
-    let w : World = world_of c.self.inside.config c.self.inside.sent c.self.inside.intakes.items c.self.inside.sequencer c.self.inside.in_flight c.self.inside.workers.items in
+    let w : World = world_of c.self.inside.config c.self.inside.sent.streams c.self.inside.intakes.items c.self.inside.sequencer c.self.inside.in_flight c.self.inside.workers.items in
     let there : c.args.group < length w.sent.sizes = search rules in
     subst (λ (v : World). IfErr c.from_residual.result (IsStepRefusal v (Meet c.args.group))) c.self.view_is
     (meet_refused w c.args.group c.from_residual.result c.in_err-_met.field-0.0 c.from_residual.ensures.1 there c.in_err-_met.ensures.err)

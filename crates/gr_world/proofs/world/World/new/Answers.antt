@@ -9,7 +9,7 @@ use Rattle.gr_world.proofs.world.World.new.Goals as goal
 
 pub invariant_of-result : goal.invariant_of-result
 invariant_of-result g c =
-    let w : World = world_of {Z = g.row.A.Denot} c.args.config c.in_ok-sent.sent c.in_ok-intakes.intakes.items c.in_ok-sequencer.sequencer None c.in_ok-workers.workers.items in
+    let w : World = world_of {Z = g.row.A.Denot} c.args.config c.in_ok-sent.sent.streams c.in_ok-intakes.intakes.items c.in_ok-sequencer.sequencer None c.in_ok-workers.workers.items in
     let sent : w.sent ≡ nothing_taken c.args.shape = c.in_ok-sent.ensures.nothing ∙ ap nothing_taken c.in_ok-copy.ensures in
     let intakes : w.intakes ≡ replicate c.args.config.queues (empty_queue c.args.config.capacity) =
     c.in_ok-intakes.ensures ∙ (ap (λ n. replicate n (empty_queue c.capacity.result)) c.queues.ensures.number ∙ ap (λ n. replicate c.args.config.queues (empty_queue n)) c.capacity.ensures.number) in

@@ -15,7 +15,7 @@ use Rattle.gr_world.proofs.world.World.pass.Goals as goal
 
 pub invariant_of-self-2 : goal.invariant_of-self-2
 invariant_of-self-2 g c =
-    let w : World = world_of c.self.inside.config c.self.inside.sent c.self.inside.intakes.items c.self.inside.sequencer c.self.inside.in_flight c.self.inside.workers.items in
+    let w : World = world_of c.self.inside.config c.self.inside.sent.streams c.self.inside.intakes.items c.self.inside.sequencer c.self.inside.in_flight c.self.inside.workers.items in
     let x : ClockedAccess = clocked c.in-Some-take.access in
     let same : c.in-Some.access ≡ c.in-Some-take.access = same_Some c.in-Some.access c.in-Some-take.access (sym c.in-Some.is ∙ (sym c.take.ensures.value ∙ c.in-Some-take.is)) in
     let in_flight : w.in_flight ≡ Some x = ap (option_map clocked) (sym c.take.ensures.value ∙ c.in-Some-take.is) in
@@ -24,7 +24,7 @@ invariant_of-self-2 g c =
     let there : worker_of w x < length c.self.inside.workers.items = let lt = worker_there w c.self.invariant x in omega (arith, lt, c.self.invariant.worker_count) in
     let now : c.index_mut-worker.result.now ≡ work_at w (worker_of w x) =
     c.index_mut-worker.ensures.value ∙ (ap (λ n. get_or c.self.inside.workers.items n c.index_mut-worker.result.now) number ∙ get_or_default c.self.inside.workers.items (worker_of w x) c.index_mut-worker.result.now (no_work 0) there) in
-    let new : World = world_of c.self.inside.config c.self.inside.sent c.self.inside.intakes.items c.self.inside.sequencer c.take.new.self (set c.self.inside.workers.items c.from.result c.push.new.self) in
+    let new : World = world_of c.self.inside.config c.self.inside.sent.streams c.self.inside.intakes.items c.self.inside.sequencer c.take.new.self (set c.self.inside.workers.items c.from.result c.push.new.self) in
     let workers : new.workers ≡ set c.self.inside.workers.items (worker_of w x) (queueing (work_at w (worker_of w x)) x) =
     ap (λ n. set c.self.inside.workers.items n c.push.new.self) number ∙ ap (set c.self.inside.workers.items (worker_of w x)) (c.push.ensures ∙ ap (λ (k : Work). queueing k x) now) in
     let is : new ≡ passing w x = λ k. record { config = w.config; sent = w.sent; intakes = w.intakes; sequence = w.sequence; in_flight = option_map clocked (c.take.ensures.after k); workers = workers k } in
@@ -32,7 +32,7 @@ invariant_of-self-2 g c =
 
 pub returns-clause-step : goal.returns-clause-step
 returns-clause-step g c =
-    let w : World = world_of c.self.inside.config c.self.inside.sent c.self.inside.intakes.items c.self.inside.sequencer c.self.inside.in_flight c.self.inside.workers.items in
+    let w : World = world_of c.self.inside.config c.self.inside.sent.streams c.self.inside.intakes.items c.self.inside.sequencer c.self.inside.in_flight c.self.inside.workers.items in
     let x : ClockedAccess = clocked c.in-Some-take.access in
     let same : c.in-Some.access ≡ c.in-Some-take.access = same_Some c.in-Some.access c.in-Some-take.access (sym c.in-Some.is ∙ (sym c.take.ensures.value ∙ c.in-Some-take.is)) in
     let in_flight : w.in_flight ≡ Some x = ap (option_map clocked) (sym c.take.ensures.value ∙ c.in-Some-take.is) in
@@ -41,7 +41,7 @@ returns-clause-step g c =
     let there : worker_of w x < length c.self.inside.workers.items = let lt = worker_there w c.self.invariant x in omega (arith, lt, c.self.invariant.worker_count) in
     let now : c.index_mut-worker.result.now ≡ work_at w (worker_of w x) =
     c.index_mut-worker.ensures.value ∙ (ap (λ n. get_or c.self.inside.workers.items n c.index_mut-worker.result.now) number ∙ get_or_default c.self.inside.workers.items (worker_of w x) c.index_mut-worker.result.now (no_work 0) there) in
-    let new : World = world_of c.self.inside.config c.self.inside.sent c.self.inside.intakes.items c.self.inside.sequencer c.take.new.self (set c.self.inside.workers.items c.from.result c.push.new.self) in
+    let new : World = world_of c.self.inside.config c.self.inside.sent.streams c.self.inside.intakes.items c.self.inside.sequencer c.take.new.self (set c.self.inside.workers.items c.from.result c.push.new.self) in
     let workers : new.workers ≡ set c.self.inside.workers.items (worker_of w x) (queueing (work_at w (worker_of w x)) x) =
     ap (λ n. set c.self.inside.workers.items n c.push.new.self) number ∙ ap (set c.self.inside.workers.items (worker_of w x)) (c.push.ensures ∙ ap (λ (k : Work). queueing k x) now) in
     let is : new ≡ passing w x = λ k. record { config = w.config; sent = w.sent; intakes = w.intakes; sequence = w.sequence; in_flight = option_map clocked (c.take.ensures.after k); workers = workers k } in

@@ -4,6 +4,7 @@ use Rattle.gr_model.specs.declared.event.Sent.{Sent}
 use Rattle.gr_model.specs.declared.limits.TheConstants.{MOST_RECORDS}
 use Rattle.gr_model.specs.Events.{is_end}
 use Rattle.gr_model.specs.Streams.{list_of}
+use Rattle.gr_lanes.specs.Remembered.{Remembered}
 use Rattle.gr_world.specs.Queues.{Bounded, HasRoom, pushed}
 use Rattle.gr_world.specs.Views.{world_of}
 use Rattle.gr_world.specs.Worlds.{World, intake_at, no_queue, queue_of}
@@ -12,7 +13,7 @@ use Rattle.gr_world.proofs.world.World.put.Goals as goal
 
 pub invariant_of-self-2 : goal.invariant_of-self-2
 invariant_of-self-2 g c =
-    let w : World = world_of c.self.inside.config c.self.inside.sent c.self.inside.intakes.items c.self.inside.sequencer c.self.inside.in_flight c.self.inside.workers.items in
+    let w : World = world_of c.self.inside.config c.self.inside.sent.streams c.self.inside.intakes.items c.self.inside.sequencer c.self.inside.in_flight c.self.inside.workers.items in
     let sent : Sent = record { group = c.args.group; event = c.args.event } in
     let queue : c.from-queue.result ≡ queue_of w c.args.group = search rules in
     let there : c.from-queue.result < length c.self.inside.intakes.items = subst (λ n. n < length c.self.inside.intakes.items) (sym queue) (queue_there w c.self.invariant c.args.group) in
@@ -23,8 +24,8 @@ invariant_of-self-2 g c =
     (subst (λ (v : World). c.args.group < length v.sent.sizes) (sym c.self.view_is) c.requires.group)
     (record { unclosed = search rules; room = subst (HasRoom {T = Sent}) seen (c.has_room.ensures.0 has_room) })
     (subst (λ (v : World). IsFalse (is_end c.args.event) → length (list_of v.sent c.args.group) + 1 < MOST_RECORDS) (sym c.self.view_is) c.requires.room)
-    c.take.new.self
+    c.take.new.self.streams
     (set c.self.inside.intakes.items c.from-queue.result c.push.new.self)
-    c.in-Ok.ensures.ok.1 c.in-Ok.ensures.prefixes
+    (ap (λ (r : Remembered). r.streams) c.in-Ok.ensures.ok.1) c.in-Ok.ensures.prefixes
     (ap (λ (b : Bounded Sent). set c.self.inside.intakes.items c.from-queue.result b) (c.push.ensures ∙ ap (λ (b : Bounded Sent). pushed b sent) now)
     ∙ ap (λ n. set c.self.inside.intakes.items n (pushed (intake_at w (queue_of w c.args.group)) sent)) queue)

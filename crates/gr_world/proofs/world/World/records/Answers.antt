@@ -8,14 +8,14 @@ use Rattle.gr_world.proofs.world.World.records.Goals as goal
 
 pub overflow_add-records : goal.overflow_add-records
 overflow_add-records g c =
-    let s = c.self.inside.sent in
+    let s = c.self.inside.sent.streams in
     let there : c.loop-group.group < length s.sizes = omega (arith, ap length c.shape.ensures.sizes) in
     let few : length (list_of s c.loop-group.group) ≤ 16777216 = (c.self.invariant.sent.each c.loop-group.group there).few in
     omega (arith, c.taken.ensures, few, c.loop-group.invariant.bound, c.self.invariant.sent.shape.groups)
 
 pub loop-group-preserved : goal.loop-group-preserved
 loop-group-preserved g c =
-    let s = c.self.inside.sent in
+    let s = c.self.inside.sent.streams in
     let there : c.loop-group.group < length s.sizes = omega (arith, ap length c.shape.ensures.sizes) in
     let few : length (list_of s c.loop-group.group) ≤ 16777216 = (c.self.invariant.sent.each c.loop-group.group there).few in
     let within : c.loop-group.group < length s.lists = omega (arith, c.self.invariant.sent.count) in
@@ -25,6 +25,6 @@ loop-group-preserved g c =
 pub returns : goal.returns
 returns g c =
     let sizes = ap length c.shape.ensures.sizes in
-    let all : length c.self.inside.sent.lists ≤ c.loop-group.group = omega (arith, sizes, c.self.invariant.sent.count) in
-    (c.loop-group.invariant.so_far ∙ ap (sum_by length) (take_all c.loop-group.group c.self.inside.sent.lists all))
+    let all : length c.self.inside.sent.streams.lists ≤ c.loop-group.group = omega (arith, sizes, c.self.invariant.sent.count) in
+    (c.loop-group.invariant.so_far ∙ ap (sum_by length) (take_all c.loop-group.group c.self.inside.sent.streams.lists all))
     ∙ ap (λ (v : World). sum_by length v.sent.lists) c.self.view_is

@@ -10,7 +10,7 @@ use Rattle.gr_world.proofs.world.World.report.Goals as goal
 
 pub returns : goal.returns
 returns g c =
-    let w : World = world_of c.self.inside.config c.self.inside.sent c.self.inside.intakes.items c.self.inside.sequencer c.self.inside.in_flight c.self.inside.workers.items in
+    let w : World = world_of c.self.inside.config c.self.inside.sent.streams c.self.inside.intakes.items c.self.inside.sequencer c.self.inside.in_flight c.self.inside.workers.items in
     let rest : IsWorldAtRest w = subst IsWorldAtRest (sym c.self.view_is) c.requires in
     let taken : w.sequence.taken ≡ w.sent = drained_is_sent w c.self.invariant rest.intakes in
     let sent : w.sent ≡ c.args.self.now.sent = ap (λ (v : World). v.sent) c.self.view_is in

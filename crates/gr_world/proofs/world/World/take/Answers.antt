@@ -11,7 +11,7 @@ use Rattle.gr_world.proofs.world.World.take.Goals as goal
 
 pub take-requires-clause-good : goal.take-requires-clause-good
 take-requires-clause-good g c =
-    let w : World = world_of c.self.inside.config c.self.inside.sent c.self.inside.intakes.items c.self.inside.sequencer c.self.inside.in_flight c.self.inside.workers.items in
+    let w : World = world_of c.self.inside.config c.self.inside.sent.streams c.self.inside.intakes.items c.self.inside.sequencer c.self.inside.in_flight c.self.inside.workers.items in
     let there : c.from.result < length c.self.inside.intakes.items = search rules in
     let now : c.in-Some.intake.now ≡ intake_at w c.from.result = c.in-Some.ensures.value ∙ get_or_default c.self.inside.intakes.items c.from.result c.in-Some.intake.now no_queue there in
     let front : (intake_at w c.from.result).items ≡ c.in-Some-front.sent.now ∷ c.in-Some-front.ensures.0 = ap (λ (b : Bounded Sent). b.items) (sym now) ∙ c.in-Some-front.ensures.1 in
@@ -20,7 +20,7 @@ take-requires-clause-good g c =
 
 pub take-requires-clause-room : goal.take-requires-clause-room
 take-requires-clause-room g c =
-    let w : World = world_of c.self.inside.config c.self.inside.sent c.self.inside.intakes.items c.self.inside.sequencer c.self.inside.in_flight c.self.inside.workers.items in
+    let w : World = world_of c.self.inside.config c.self.inside.sent.streams c.self.inside.intakes.items c.self.inside.sequencer c.self.inside.in_flight c.self.inside.workers.items in
     let there : c.from.result < length c.self.inside.intakes.items = search rules in
     let now : c.in-Some.intake.now ≡ intake_at w c.from.result = c.in-Some.ensures.value ∙ get_or_default c.self.inside.intakes.items c.from.result c.in-Some.intake.now no_queue there in
     let front : (intake_at w c.from.result).items ≡ c.in-Some-front.sent.now ∷ c.in-Some-front.ensures.0 = ap (λ (b : Bounded Sent). b.items) (sym now) ∙ c.in-Some-front.ensures.1 in
@@ -28,7 +28,7 @@ take-requires-clause-room g c =
 
 pub invariant_of-self-2 : goal.invariant_of-self-2
 invariant_of-self-2 g c =
-    let w : World = world_of c.self.inside.config c.self.inside.sent c.self.inside.intakes.items c.self.inside.sequencer c.self.inside.in_flight c.self.inside.workers.items in
+    let w : World = world_of c.self.inside.config c.self.inside.sent.streams c.self.inside.intakes.items c.self.inside.sequencer c.self.inside.in_flight c.self.inside.workers.items in
     let there : c.from.result < length c.self.inside.intakes.items = search rules in
     let now : c.in-Some.intake.now ≡ intake_at w c.from.result = c.in-Some.ensures.value ∙ get_or_default c.self.inside.intakes.items c.from.result c.in-Some.intake.now no_queue there in
     let front : (intake_at w c.from.result).items ≡ c.in-Some-front.sent.now ∷ c.in-Some-front.ensures.0 = ap (λ (b : Bounded Sent). b.items) (sym now) ∙ c.in-Some-front.ensures.1 in
@@ -42,7 +42,7 @@ invariant_of-self-2 g c =
 
 pub unreachable-requires : goal.unreachable-requires
 unreachable-requires g c =
-    let w : World = world_of c.self.inside.config c.self.inside.sent c.self.inside.intakes.items c.self.inside.sequencer c.self.inside.in_flight c.self.inside.workers.items in
+    let w : World = world_of c.self.inside.config c.self.inside.sent.streams c.self.inside.intakes.items c.self.inside.sequencer c.self.inside.in_flight c.self.inside.workers.items in
     let there : c.from.result < length c.self.inside.intakes.items = search rules in
     let now : c.in-Some.intake.now ≡ intake_at w c.from.result = c.in-Some.ensures.value ∙ get_or_default c.self.inside.intakes.items c.from.result c.in-Some.intake.now no_queue there in
     let front : (intake_at w c.from.result).items ≡ c.in-Some-front.sent.now ∷ c.in-Some-front.ensures.0 = ap (λ (b : Bounded Sent). b.items) (sym now) ∙ c.in-Some-front.ensures.1 in
@@ -51,17 +51,17 @@ unreachable-requires g c =
 
 pub returns-clause-step : goal.returns-clause-step
 returns-clause-step g c =
-    let w : World = world_of c.self.inside.config c.self.inside.sent c.self.inside.intakes.items c.self.inside.sequencer c.self.inside.in_flight c.self.inside.workers.items in
+    let w : World = world_of c.self.inside.config c.self.inside.sent.streams c.self.inside.intakes.items c.self.inside.sequencer c.self.inside.in_flight c.self.inside.workers.items in
     let there : c.from.result < length c.self.inside.intakes.items = search rules in
     let now : c.in-Some.intake.now ≡ intake_at w c.from.result = c.in-Some.ensures.value ∙ get_or_default c.self.inside.intakes.items c.from.result c.in-Some.intake.now no_queue there in
     let front : (intake_at w c.from.result).items ≡ c.in-Some-front.sent.now ∷ c.in-Some-front.ensures.0 = ap (λ (b : Bounded Sent). b.items) (sym now) ∙ c.in-Some-front.ensures.1 in
     let left : c.pop-taken.new.self ≡ leaving (intake_at w c.from.result) c.in-Some-front.ensures.0 =
     popped_is c.in-Some.intake.now c.pop-taken.new.self c.pop-taken.result c.in-Some-front.sent.now c.in-Some-front.ensures.0 c.in-Some-front.ensures.1 c.pop-taken.ensures
     ∙ ap (λ (b : Bounded Sent). leaving b c.in-Some-front.ensures.0) now in
-    let new : World = world_of c.self.inside.config c.self.inside.sent (set c.self.inside.intakes.items c.from.result c.pop-taken.new.self) c.take.new.self c.self.inside.in_flight c.self.inside.workers.items in
+    let new : World = world_of c.self.inside.config c.self.inside.sent.streams (set c.self.inside.intakes.items c.from.result c.pop-taken.new.self) c.take.new.self c.self.inside.in_flight c.self.inside.workers.items in
     let is : new ≡ taking_front w c.from.result c.in-Some-front.sent.now c.in-Some-front.ensures.0 = λ k. record {
       config = c.self.inside.config;
-      sent = c.self.inside.sent;
+      sent = c.self.inside.sent.streams;
       intakes = set c.self.inside.intakes.items c.from.result (left k);
       sequence = c.in-Ok.ensures.ok.1 k;
       in_flight = w.in_flight;

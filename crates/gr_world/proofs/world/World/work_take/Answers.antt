@@ -16,13 +16,13 @@ on_err (Err e) p = p
 
 pub invariant_of-self-2 : goal.invariant_of-self-2
 invariant_of-self-2 g c =
-    let w : World = world_of c.self.inside.config c.self.inside.sent c.self.inside.intakes.items c.self.inside.sequencer c.self.inside.in_flight c.self.inside.workers.items in
+    let w : World = world_of c.self.inside.config c.self.inside.sent.streams c.self.inside.intakes.items c.self.inside.sequencer c.self.inside.in_flight c.self.inside.workers.items in
     let got : c.in_ok-receive.field-0 ≡ true = search rules in
     let receives = subst (λ b. Receives c.in-Some.worker.now b c.receive.new.self) got c.in_ok-receive.ensures.ok in
     let there : c.from.result < length c.self.inside.workers.items = search rules in
     let now : c.in-Some.worker.now ≡ work_at w c.from.result = c.in-Some.ensures.value ∙ get_or_default c.self.inside.workers.items c.from.result c.in-Some.worker.now (no_work 0) there in
     let front : (work_at w c.from.result).queue.items ≡ receives.0 ∷ receives.1 = ap (λ (k : Work). k.queue.items) (sym now) ∙ receives.2 in
-    let new : World = world_of c.self.inside.config c.self.inside.sent c.self.inside.intakes.items c.self.inside.sequencer c.self.inside.in_flight (set c.self.inside.workers.items c.from.result c.receive.new.self) in
+    let new : World = world_of c.self.inside.config c.self.inside.sent.streams c.self.inside.intakes.items c.self.inside.sequencer c.self.inside.in_flight (set c.self.inside.workers.items c.from.result c.receive.new.self) in
     let workers : new.workers ≡ set c.self.inside.workers.items c.from.result (receiving (work_at w c.from.result) receives.0 receives.1) =
     ap (set c.self.inside.workers.items c.from.result) (receives.3 ∙ ap (λ (k : Work). receiving k receives.0 receives.1) now) in
     let is : new ≡ working w c.from.result receives.0 receives.1 = λ k. record { config = w.config; sent = w.sent; intakes = w.intakes; sequence = w.sequence; in_flight = w.in_flight; workers = workers k } in
@@ -31,13 +31,13 @@ invariant_of-self-2 g c =
 
 pub returns-clause-step : goal.returns-clause-step
 returns-clause-step g c =
-    let w : World = world_of c.self.inside.config c.self.inside.sent c.self.inside.intakes.items c.self.inside.sequencer c.self.inside.in_flight c.self.inside.workers.items in
+    let w : World = world_of c.self.inside.config c.self.inside.sent.streams c.self.inside.intakes.items c.self.inside.sequencer c.self.inside.in_flight c.self.inside.workers.items in
     let got : c.in_ok-receive.field-0 ≡ true = search rules in
     let receives = subst (λ b. Receives c.in-Some.worker.now b c.receive.new.self) got c.in_ok-receive.ensures.ok in
     let there : c.from.result < length c.self.inside.workers.items = search rules in
     let now : c.in-Some.worker.now ≡ work_at w c.from.result = c.in-Some.ensures.value ∙ get_or_default c.self.inside.workers.items c.from.result c.in-Some.worker.now (no_work 0) there in
     let front : (work_at w c.from.result).queue.items ≡ receives.0 ∷ receives.1 = ap (λ (k : Work). k.queue.items) (sym now) ∙ receives.2 in
-    let new : World = world_of c.self.inside.config c.self.inside.sent c.self.inside.intakes.items c.self.inside.sequencer c.self.inside.in_flight (set c.self.inside.workers.items c.from.result c.receive.new.self) in
+    let new : World = world_of c.self.inside.config c.self.inside.sent.streams c.self.inside.intakes.items c.self.inside.sequencer c.self.inside.in_flight (set c.self.inside.workers.items c.from.result c.receive.new.self) in
     let workers : new.workers ≡ set c.self.inside.workers.items c.from.result (receiving (work_at w c.from.result) receives.0 receives.1) =
     ap (set c.self.inside.workers.items c.from.result) (receives.3 ∙ ap (λ (k : Work). receiving k receives.0 receives.1) now) in
     let is : new ≡ working w c.from.result receives.0 receives.1 = λ k. record { config = w.config; sent = w.sent; intakes = w.intakes; sequence = w.sequence; in_flight = w.in_flight; workers = workers k } in
@@ -47,7 +47,7 @@ returns-clause-step g c =
 
 pub returns-in_err-receive-clause-err : goal.returns-in_err-receive-clause-err
 returns-in_err-receive-clause-err g c =
-    let w : World = world_of c.self.inside.config c.self.inside.sent c.self.inside.intakes.items c.self.inside.sequencer c.self.inside.in_flight c.self.inside.workers.items in
+    let w : World = world_of c.self.inside.config c.self.inside.sent.streams c.self.inside.intakes.items c.self.inside.sequencer c.self.inside.in_flight c.self.inside.workers.items in
     let there : c.from.result < length c.self.inside.workers.items = search rules in
     let now : c.in-Some.worker.now ≡ work_at w c.from.result = c.in-Some.ensures.value ∙ get_or_default c.self.inside.workers.items c.from.result c.in-Some.worker.now (no_work 0) there in
     let below : c.from.result < w.config.workers = omega (arith, there, c.self.invariant.worker_count) in
@@ -57,7 +57,7 @@ returns-in_err-receive-clause-err g c =
 
 pub returns-in_err-receive-clause-unchanged : goal.returns-in_err-receive-clause-unchanged
 returns-in_err-receive-clause-unchanged g c =
-    let w : World = world_of c.self.inside.config c.self.inside.sent c.self.inside.intakes.items c.self.inside.sequencer c.self.inside.in_flight c.self.inside.workers.items in
+    let w : World = world_of c.self.inside.config c.self.inside.sent.streams c.self.inside.intakes.items c.self.inside.sequencer c.self.inside.in_flight c.self.inside.workers.items in
     let there : c.from.result < length c.self.inside.workers.items = search rules in
     let now : c.in-Some.worker.now ≡ work_at w c.from.result = c.in-Some.ensures.value ∙ get_or_default c.self.inside.workers.items c.from.result c.in-Some.worker.now (no_work 0) there in
     let back : set c.self.inside.workers.items c.from.result c.receive.new.self ≡ c.self.inside.workers.items =
@@ -66,7 +66,7 @@ returns-in_err-receive-clause-unchanged g c =
 
 pub invariant_of-self-then-not-branch : goal.invariant_of-self-then-not-branch
 invariant_of-self-then-not-branch g c =
-    let w : World = world_of c.self.inside.config c.self.inside.sent c.self.inside.intakes.items c.self.inside.sequencer c.self.inside.in_flight c.self.inside.workers.items in
+    let w : World = world_of c.self.inside.config c.self.inside.sent.streams c.self.inside.intakes.items c.self.inside.sequencer c.self.inside.in_flight c.self.inside.workers.items in
     let got : c.in_ok-receive.field-0 ≡ false = search rules in
     let receives = subst (λ b. Receives c.in-Some.worker.now b c.receive.new.self) got c.in_ok-receive.ensures.ok in
     let there : c.from.result < length c.self.inside.workers.items = search rules in

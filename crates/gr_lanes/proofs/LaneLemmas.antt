@@ -1,0 +1,159 @@
+-- What a lane keeps of an item's barriers.
+use Rattle.std.proofs.Common.{◌≡◌, ℕ, zero, suc, ◌+◌, ◌-◌, ◌<◌, ◌≤◌, ◌==◌, Bool, true, false, List, [], ◌∷◌, ◌++◌, length, map, get_or, take, drop, refl, sym, ap, ◌∙◌, subst, arith, append-nil, append_assoc, cond, Some, slice_get}
+use Rattle.std.proofs.lemmas.Bool.{eqb-false, eqb-true}
+use Rattle.std.proofs.lemmas.Option.{get_or_from_slice_get, slice_get-map, slice_get_within}
+use Rattle.std.specs.Prelude.{option_map}
+use Rattle.std.proofs.lemmas.List.{drop-append-le, drop-drop, drop-map, get_or-drop, get_or_push, length-append, length-drop, length-map, length-take-le, length_push, map-append, take-append-le, take_more}
+use Rattle.gr_model.specs.declared.event.Event.{Event}
+use Rattle.gr_lanes.specs.declared.bare.Bare.{Bare}
+use Rattle.gr_lanes.specs.Indices.{AreRising, with_event}
+use Rattle.gr_lanes.specs.Kept.{Arrives, IsLane, Kept, alike_more, apart_more, bare_of, forgetting_one, kept_with, of_item}
+
+get-drop : {X : Type 0} (n : ℕ) (xs : List X) (k : ℕ) → slice_get (drop n xs) k ≡ slice_get xs (n + k)
+get-drop zero xs k = (let e : k ≡ 0 + k = omega arith in ap (slice_get xs) e)
+get-drop (suc n) [] k = refl
+get-drop (suc n) (x ∷ xs) k = get-drop n xs k ∙ (let e : suc (n + k) ≡ suc n + k = omega arith in ap (slice_get (x ∷ xs)) e)
+
+alike_at : (firsts apart : List Bare) (a n : ℕ) → a ≤ length firsts → n < a → slice_get firsts n ≡ slice_get (take a firsts ++ apart) n
+alike_at firsts apart zero n within below = absurd (omega arith)
+alike_at [] apart (suc a) n within below = absurd (omega arith)
+alike_at (x ∷ firsts) apart (suc a) zero within below = refl
+alike_at (x ∷ firsts) apart (suc a) (suc n) within below = alike_at firsts apart a n (omega arith) (omega arith)
+
+apart_at : (firsts apart : List Bare) (a m : ℕ) → a ≤ length firsts → slice_get apart m ≡ slice_get (take a firsts ++ apart) (a + m)
+apart_at firsts apart zero m within = ap (slice_get apart) (omega arith)
+apart_at [] apart (suc a) m within = absurd (omega arith)
+apart_at (x ∷ firsts) apart (suc a) m within = apart_at firsts apart a m (omega arith) ∙ ap (slice_get (x ∷ take a firsts ++ apart)) (let n : suc (a + m) ≡ suc a + m = omega arith in n)
+
+-- the first of those that were said is forgotten, which is the first of the firsts
+alike_goes : (firsts apart : List Bare) (m : ℕ) → suc m ≤ length firsts → drop 1 (take (suc m) firsts ++ apart) ≡ take m (drop 1 firsts) ++ apart
+alike_goes [] apart m within = absurd (omega arith)
+alike_goes (x ∷ firsts) apart m within = refl
+
+pub rising_rest : (n : ℕ) (places : List ℕ) → AreRising places → AreRising (drop n places)
+rising_rest n places rises i j le within =
+    let at = rises (n + i) (n + j) (omega arith) (omega (arith, length-drop n places, within)) in
+    omega (arith, at, get_or-drop n places i 0, get_or-drop n places j 0)
+
+module _ {forgotten : ℕ} {firsts : List Bare} {i : ℕ} {k : Kept} (lane : IsLane forgotten firsts i k) where
+  abbrev all_said : List Bare
+  all_said = take (k.alike - forgotten) firsts ++ k.apart
+
+  pub barriers_count : length k.index.barriers ≡ forgotten + length k.barriers
+  barriers_count = omega (arith, ap length lane.places, length-drop forgotten k.index.barriers, lane.passed)
+
+  pub said_count : length k.index.barriers ≡ k.alike + length k.apart
+  said_count = omega (arith, ap length lane.saying, length-map all_said (of_item i), length-append (take (k.alike - forgotten) firsts) k.apart, length-take-le (k.alike - forgotten) firsts lane.within, length-drop forgotten k.index.arrived, lane.records, lane.passed, lane.least)
+
+  pub barrier_at : (n : ℕ) → forgotten ≤ n → slice_get k.barriers (n - forgotten) ≡ slice_get k.index.barriers n
+  barrier_at n le = ap (λ l. slice_get l (n - forgotten)) lane.places ∙ (get-drop forgotten k.index.barriers (n - forgotten) ∙ ap (slice_get k.index.barriers) (omega (arith, le)))
+
+  said_at : (n : ℕ) → forgotten ≤ n → slice_get (map (of_item i) all_said) (n - forgotten) ≡ slice_get k.index.arrived n
+  said_at n le = ap (λ l. slice_get l (n - forgotten)) (sym lane.saying) ∙ (get-drop forgotten k.index.arrived (n - forgotten) ∙ ap (slice_get k.index.arrived) (omega (arith, le)))
+
+  same_record : (xs : List Bare) (m n : ℕ) → slice_get xs m ≡ slice_get all_said n → slice_get (map (of_item i) xs) m ≡ slice_get (map (of_item i) all_said) n
+  same_record xs m n same = slice_get-map (of_item i) xs m ∙ (ap (option_map (of_item i)) same ∙ sym (slice_get-map (of_item i) all_said n))
+
+  pub said_alike : (n : ℕ) → forgotten ≤ n → n < k.alike → slice_get (map (of_item i) firsts) (n - forgotten) ≡ slice_get k.index.arrived n
+  said_alike n le below = same_record firsts (n - forgotten) (n - forgotten) (alike_at firsts k.apart (k.alike - forgotten) (n - forgotten) lane.within (omega (arith, le, below))) ∙ said_at n le
+
+  pub said_apart : (n : ℕ) → k.alike ≤ n → slice_get (map (of_item i) k.apart) (n - k.alike) ≡ slice_get k.index.arrived n
+  said_apart n behind =
+      same_record k.apart (n - k.alike) (n - forgotten) (apart_at firsts k.apart (k.alike - forgotten) (n - k.alike) lane.within ∙ ap (slice_get all_said) (omega (arith, behind, lane.least)))
+      ∙ said_at n (omega (arith, behind, lane.least))
+
+  -- firsts more change nothing
+  pub lane_more : (more : List Bare) → IsLane forgotten (firsts ++ more) i k
+  lane_more more = record {
+    places = lane.places;
+    saying = lane.saying ∙ ap (λ t. map (of_item i) (t ++ k.apart)) (sym (take-append-le (k.alike - forgotten) firsts more lane.within));
+    records = lane.records;
+    passed = lane.passed;
+    least = lane.least;
+    within = omega (arith, lane.within, length-append firsts more);
+    few = lane.few;
+  }
+
+  -- nor does an event that is no barrier
+  pub lane_with : (x : Event) (release : Bool) → IsLane forgotten firsts i (kept_with k x release)
+  lane_with x release = record { places = lane.places; saying = lane.saying; records = lane.records; passed = lane.passed; least = lane.least; within = lane.within; few = omega (arith, lane.few) }
+
+  -- one instance more is forgotten, to which the item came
+  pub lane_forgets : forgotten < length k.index.barriers → IsLane (forgotten + 1) (drop 1 firsts) i (forgetting_one forgotten k)
+  lane_forgets came = by_alike (k.alike == forgotten) refl
+    where
+      forgets : (a : ℕ) (rest : List Bare) → drop 1 all_said ≡ take (a - (forgotten + 1)) (drop 1 firsts) ++ rest → forgotten + 1 ≤ a → a - (forgotten + 1) ≤ length (drop 1 firsts) → IsLane (forgotten + 1) (drop 1 firsts) i (record { index = k.index; barriers = drop 1 k.barriers; alike = a; apart = rest })
+      forgets a rest said least within = record {
+        places = ap (λ l. drop 1 l) lane.places ∙ drop-drop 1 forgotten k.index.barriers;
+        saying = sym (drop-drop 1 forgotten k.index.arrived) ∙ (ap (λ l. drop 1 l) lane.saying ∙ (drop-map (of_item i) 1 all_said ∙ ap (map (of_item i)) said));
+        records = lane.records;
+        passed = omega (arith, came);
+        least = least;
+        within = within;
+        few = lane.few;
+      }
+
+      by_alike : (b : Bool) → (k.alike == forgotten) ≡ b → IsLane (forgotten + 1) (drop 1 firsts) i (record { index = k.index; barriers = drop 1 k.barriers; alike = cond b (k.alike + 1) k.alike; apart = cond b (drop 1 k.apart) k.apart })
+      by_alike true is =
+          let same : k.alike ≡ forgotten = eqb-true k.alike forgotten is in
+          let before : k.alike - forgotten ≡ 0 = omega (arith, same) in
+          let after : 0 ≡ k.alike + 1 - (forgotten + 1) = omega (arith, same) in
+          forgets (k.alike + 1) (drop 1 k.apart)
+          (ap (λ n. drop 1 (take n firsts ++ k.apart)) before ∙ ap (λ n. take n (drop 1 firsts) ++ drop 1 k.apart) after)
+          (omega (arith, same)) (omega (arith, same))
+      by_alike false isnt =
+          let apart : forgotten + 1 ≤ k.alike = omega (arith, lane.least, eqb-false k.alike forgotten isnt) in
+          let one : k.alike - forgotten ≡ suc (k.alike - (forgotten + 1)) = omega (arith, apart) in
+          let within : suc (k.alike - (forgotten + 1)) ≤ length firsts = omega (arith, lane.within, apart) in
+          forgets k.alike k.apart
+          (ap (λ n. drop 1 (take n firsts ++ k.apart)) one ∙ alike_goes firsts k.apart (k.alike - (forgotten + 1)) within)
+          apart (omega (arith, within, length-drop 1 firsts))
+
+-- a barrier more
+record_is : (x : Event) → x.names ≡ [] → of_item x.item (bare_of x) ≡ x
+record_is x bare = λ d. record { item = x.item; kind = x.kind; space = x.space; word = x.word; names = sym bare d }
+
+module _ {forgotten : ℕ} (x : Event) (bare : x.names ≡ []) {k : Kept} where
+  lane_grows : {firsts : List Bare} → IsLane forgotten firsts x.item k → (a : ℕ) (rest : List Bare) → take (a - forgotten) firsts ++ rest ≡ (take (k.alike - forgotten) firsts ++ k.apart) ++ bare_of x ∷ [] → forgotten ≤ a → a - forgotten ≤ length firsts
+      → IsLane forgotten firsts x.item (record { index = with_event k.index x false true; barriers = k.barriers ++ k.index.count ∷ []; alike = a; apart = rest })
+  lane_grows {firsts} lane a rest said least within = record {
+    places = ap (λ l. l ++ k.index.count ∷ []) lane.places ∙ sym (drop-append-le forgotten k.index.barriers (k.index.count ∷ []) lane.passed);
+    saying =
+        drop-append-le forgotten k.index.arrived (x ∷ []) (omega (arith, lane.passed, lane.records)) ∙ (ap (λ l. l ++ x ∷ []) lane.saying
+        ∙ (ap (λ y. map (of_item x.item) (take (k.alike - forgotten) firsts ++ k.apart) ++ y ∷ []) (sym (record_is x bare))
+        ∙ (sym (map-append (of_item x.item) (take (k.alike - forgotten) firsts ++ k.apart) (bare_of x ∷ [])) ∙ ap (map (of_item x.item)) (sym said))));
+    records = length_push k.index.arrived x ∙ (ap (λ n. n + 1) lane.records ∙ sym (length_push k.index.barriers k.index.count));
+    passed = omega (arith, lane.passed, length_push k.index.barriers k.index.count);
+    least = least;
+    within = within;
+    few = omega (arith, lane.few, length_push k.index.barriers k.index.count);
+  }
+
+  lane_alike : {firsts : List Bare} → IsLane forgotten firsts x.item k → k.apart ≡ [] → k.alike - forgotten < length firsts → get_or firsts (k.alike - forgotten) (bare_of x) ≡ bare_of x → IsLane forgotten firsts x.item (alike_more k x)
+  lane_alike {firsts} lane none there first =
+      let a : k.alike + 1 - forgotten ≡ k.alike - forgotten + 1 = omega (arith, lane.least) in
+      let taken = ap (λ n. take n firsts) a ∙ (take_more firsts (k.alike - forgotten) (bare_of x) there ∙ ap (λ b. take (k.alike - forgotten) firsts ++ b ∷ []) first) in
+      lane_grows lane (k.alike + 1) k.apart
+      (ap (λ l. take (k.alike + 1 - forgotten) firsts ++ l) none ∙ (append-nil (take (k.alike + 1 - forgotten) firsts) ∙ (taken
+      ∙ ap (λ l. l ++ bare_of x ∷ []) (sym (ap (λ l. take (k.alike - forgotten) firsts ++ l) none ∙ append-nil (take (k.alike - forgotten) firsts))))))
+      (omega (arith, lane.least)) (omega (arith, there, lane.least))
+
+  arrives_as : {firsts firsts' : List Bare} {new now : Kept} (more : List Bare) → firsts' ≡ firsts ++ more → IsLane forgotten firsts' x.item now → now.index ≡ with_event k.index x false true → new ≡ now → Arrives forgotten firsts firsts' k new x
+  arrives_as {firsts} {firsts'} more grown lane index is = record { more = more; grown = grown; lane = subst (IsLane forgotten firsts' x.item) (sym is) lane; index = ap (λ (l : Kept). l.index) is ∙ index }
+
+  module _ {firsts : List Bare} (lane : IsLane forgotten firsts x.item k) {new : Kept} where
+    pub arrives_alike : k.apart ≡ [] → slice_get firsts (k.alike - forgotten) ≡ Some (bare_of x) → new ≡ alike_more k x → Arrives forgotten firsts firsts k new x
+    arrives_alike none first is =
+        arrives_as [] (sym (append-nil firsts))
+        (lane_alike lane none (slice_get_within firsts (k.alike - forgotten) (bare_of x) first) (get_or_from_slice_get firsts (k.alike - forgotten) (bare_of x) (bare_of x) first)) refl is
+
+    pub arrives_first : k.apart ≡ [] → k.alike - forgotten ≡ length firsts → {firsts' : List Bare} → firsts' ≡ firsts ++ bare_of x ∷ [] → new ≡ alike_more k x → Arrives forgotten firsts firsts' k new x
+    arrives_first none last {firsts'} grown is =
+        arrives_as (bare_of x ∷ []) grown
+        (subst (λ f. IsLane forgotten f x.item (alike_more k x)) (sym grown)
+        (lane_alike (lane_more lane (bare_of x ∷ [])) none (omega (arith, last, length_push firsts (bare_of x))) (get_or_push firsts (bare_of x) (bare_of x) (k.alike - forgotten) (sym last)))) refl is
+
+    pub arrives_apart : new ≡ apart_more k x → Arrives forgotten firsts firsts k new x
+    arrives_apart is =
+        arrives_as [] (sym (append-nil firsts))
+        (lane_grows lane k.alike (k.apart ++ bare_of x ∷ []) (sym (append_assoc (take (k.alike - forgotten) firsts) k.apart (bare_of x ∷ []))) lane.least lane.within) refl is

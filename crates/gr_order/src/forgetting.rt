@@ -1,0 +1,120 @@
+//! Which instances of barriers are forgotten: of each group the least ones, once all its items have passed them.
+
+ghost use Rattle.std.specs.Prelude.{◌≡◌, ◌<◌, ◌≤◌, ℕ, IsTrue, MatchOption, ⊤, length};
+ghost use Rattle.gr_model.specs.Streams.{size_of};
+ghost use Rattle.gr_lanes.specs.Remembered.{forgotten_of};
+ghost use Rattle.gr_order.specs.Forgetting.{ForgetsNext, ForgetsPassed, HasPassed};
+ghost use Rattle.gr_order.specs.Readiness.{IsNextInstance};
+
+use gr_clocks::tally::Tally;
+use gr_findings::instances::cause;
+use gr_lanes::instance::barrier;
+use gr_lanes::lanes::Lanes;
+use gr_model::event::ItemId;
+use gr_model::memory::Memory;
+use gr_model::report::Divergence;
+use std::alloc::Allocator;
+
+/// Forgets the instance of a group whose barriers are the next events of its items, if it is the least one remembered.
+pub(crate) fn forget_next<A: Allocator>(lanes: &mut Lanes<A>, frontier: &Tally<A>, group: u16)
+    requires { (k : ℕ) × IsNextInstance lanes.old.streams frontier.now group k }
+    ensures { ForgetsNext lanes.old frontier.now group lanes.new }
+{
+    let first = ItemId { group, item: 0 };
+    let least = lanes.forgotten(group);
+    match lanes.barrier_at(first, least) {
+        None => {}
+        Some(index) => {
+            if index == frontier.get(first) {
+                lanes.forget(group);
+            }
+        }
+    }
+}
+
+/// Whether an item's barrier of an instance was taken and handled. The instance is not forgotten.
+fn has_passed<A: Allocator>(
+    lanes: &Lanes<A>,
+    frontier: &Tally<A>,
+    item: ItemId,
+    instance: u32,
+) -> bool
+    requires { forgotten_of lanes.now item.group ≤ instance }
+    ensures { IsTrue result → HasPassed lanes.now.streams frontier.now item.group instance item.item }
+{
+    match lanes.barrier_at(item, instance) {
+        None => false,
+        Some(index) => frontier.covers(item, index),
+    }
+}
+
+/// The first item of a group, from this one on, that has not passed the least instance remembered, if there is one.
+fn first_behind<A: Allocator>(
+    lanes: &Lanes<A>,
+    frontier: &Tally<A>,
+    group: u16,
+    from: u16,
+) -> Option<u16>
+    requires { group < length lanes.now.streams.sizes }
+    ensures { MatchOption result ((i : ℕ) → from ≤ i → i < size_of lanes.now.streams group → HasPassed lanes.now.streams frontier.now group (forgotten_of lanes.now group) i) (λ i. ⊤) }
+{
+    let instance = lanes.forgotten(group);
+    for item in from..lanes.shape().items(group) {
+        if !has_passed(lanes, frontier, ItemId { group, item }, instance) {
+            return Some(item);
+        }
+    }
+    None
+}
+
+/// Forgets the least instance of a group that is remembered, if all its items have passed it. A divergent one for which there is
+/// no room stays.
+fn forget_passed<A: Allocator>(lanes: &mut Lanes<A>, frontier: &Tally<A>, group: u16)
+    requires { group < length lanes.old.streams.sizes }
+    ensures { ForgetsPassed lanes.old frontier.now group lanes.new }
+{
+    if lanes.shape().items(group) == 0 || first_behind(lanes, frontier, group, 0).is_some() {
+        return;
+    }
+    let instance = lanes.forgotten(group);
+    let Some(mine) = barrier(lanes, ItemId { group, item: 0 }, instance) else {
+        return;
+    };
+    match cause(lanes, group, instance, &mine) {
+        None => lanes.forget(group),
+        Some(cause) => {
+            let divergence = Divergence {
+                group,
+                instance,
+                cause,
+            };
+            match lanes.decide(divergence) {
+                Ok(()) | Err(Memory) => {}
+            }
+        }
+    }
+}
+
+/// Forgets the least instance of a group that is remembered, once all its items have passed it. It begins to look at the item
+/// that had not when it last looked, so that it looks at each item once, and at all of them once more at the end.
+pub(crate) fn forget_if_passed<A: Allocator>(
+    lanes: &mut Lanes<A>,
+    frontier: &Tally<A>,
+    lagging: &mut [u16],
+    group: u16,
+)
+    requires { group < length lanes.old.streams.sizes }
+    ensures { ForgetsPassed lanes.old frontier.now group lanes.new }
+{
+    let place = usize::from(group);
+    if place >= lagging.len() {
+        return;
+    }
+    match first_behind(lanes, frontier, group, lagging[place]) {
+        Some(item) => lagging[place] = item,
+        None => {
+            lagging[place] = 0;
+            forget_passed(lanes, frontier, group);
+        }
+    }
+}

@@ -1,0 +1,86 @@
+//! An instance of barriers that all items have passed takes no memory: many take no more growths than a few do, also behind one
+//! that was divergent.
+
+use crate::calls::{is_lawful, shape_of};
+use gr_model::event::{Event, ItemId, Kind, Space};
+use gr_model::names::Names;
+use gr_order::order::Order;
+use refusing::Refusing;
+use std::alloc::{Allocator, Global};
+
+fn barrier(item: u16, site: u32) -> Event {
+    Event {
+        item,
+        kind: Kind::Barrier {
+            global: true,
+            local: true,
+        },
+        space: Space::Global,
+        word: site,
+        names: Names::none(),
+    }
+}
+
+/// Takes the barriers of two items, with these sites.
+fn come<A: Allocator>(order: &mut Order<A>, sites: [u32; 2]) -> Option<()> {
+    for item in 0..2_u16 {
+        let event = barrier(item, sites[usize::from(item)]);
+        if !is_lawful(&event) || order.taken(0) >= 16_777_216 {
+            return None;
+        }
+        order.take(0, event).ok()?;
+    }
+    Some(())
+}
+
+/// Both items come with one site, and meet.
+fn meet<A: Allocator>(order: &mut Order<A>) -> Option<()> {
+    come(order, [7, 7])?;
+    let _instance = order.meet(0).ok()?;
+    Some(())
+}
+
+/// They come with two sites, and each passes by itself.
+fn part<A: Allocator>(order: &mut Order<A>) -> Option<()> {
+    come(order, [7, 8])?;
+    for item in 0..2 {
+        let _event = order.handle(ItemId { group: 0, item }).ok()?;
+    }
+    Some(())
+}
+
+/// Two items part once, or not, and meet so many times.
+fn go<A: Allocator + Copy>(alloc: A, is_parted: bool, times: u32) -> Option<()> {
+    let shape = shape_of(alloc, &[2]).ok()?;
+    let mut order = Order::new(alloc, shape).ok()?;
+    if is_parted {
+        part(&mut order)?;
+    }
+    for _time in 0..times {
+        meet(&mut order)?;
+    }
+    Some(())
+}
+
+/// Whether they do with no more growths than these.
+fn goes_within(alloc: Global, growths: u64, is_parted: bool, times: u32) -> bool {
+    let memory = Refusing::new(alloc, growths);
+    let done = go(&memory, is_parted, times).is_some();
+    done && !memory.refused()
+}
+
+/// Whether they do a thousand times with the fewest growths with which they do so a few times.
+fn takes_no_more(alloc: Global, is_parted: bool) -> bool {
+    for growths in 0..64 {
+        if goes_within(alloc, growths, is_parted, 9) {
+            return goes_within(alloc, growths, is_parted, 1_000);
+        }
+    }
+    false
+}
+
+#[test]
+fn forgotten_instances_take_no_memory(rt: HostRuntime) {
+    assert!(rt; takes_no_more(rt.alloc(), false));
+    assert!(rt; takes_no_more(rt.alloc(), true));
+}
