@@ -51,10 +51,9 @@ impl<A: Allocator> Window<A> {
         ensures ok { OnOk result (self.new ≡ self.old ++ event.now ∷ []) }
         ensures err { OnErr result (self.new ≡ self.old) }
     {
-        match self.events.push_back(*event) {
-            Ok(()) => Ok(()),
-            Err(_) => Err(Memory),
-        }
+        self.events.reserve(1)?;
+        self.events.push_back_reserved(*event);
+        Ok(())
     }
 
     /// Forgets the first event.
