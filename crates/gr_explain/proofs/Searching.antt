@@ -12,7 +12,6 @@ use Rattle.gr_model.specs.Reports.{EventBelow}
 use Rattle.gr_model.specs.Streams.{Streams, word_at}
 use Rattle.gr_model.specs.Waits.{IsGrounded}
 use Rattle.gr_model.proofs.Descent.{below_before, lawful_descends}
-use Rattle.gr_model.proofs.HitsAreRaces.{may_race_swaps}
 use Rattle.gr_model.proofs.RacePairLaws.{both_grounded, of_race, race_of, race_swap}
 use Rattle.gr_explain.specs.LeastRaces.{IsLeastOf, IsLeastRace}
 use Rattle.gr_explain.specs.Searching.{IsFound, StandsBefore}

@@ -1,10 +1,8 @@
 -- What an order has taken of a launch, list after list.
-use Rattle.std.proofs.Common.{◌≡◌, ℕ, zero, suc, ◌+◌, ◌<◌, ◌≤◌, List, [], ◌∷◌, ◌++◌, length, map, None, get_or, set, take, refl, sym, ap, ◌∙◌, subst, ⊎_elim, arith, eq-or-lt_of_le}
+use Rattle.std.proofs.Common.{◌≡◌, ℕ, zero, suc, ◌+◌, ◌<◌, ◌≤◌, List, [], ◌∷◌, ◌++◌, length, map, get_or, set, take, refl, sym, ap, ◌∙◌, subst, ⊎_elim, arith, eq-or-lt_of_le}
 use Rattle.std.proofs.lemmas.List.{ext_get_or, get_or-set_other, get_or-set_same, length-map, length-set, set-get_or, take_more}
 use Rattle.std.proofs.lemmas.Option.{slice_get-get_or}
 use Rattle.gr_model.specs.declared.event.Event.{Event}
-use Rattle.gr_model.specs.declared.event.Kind.TheVariants.{Read}
-use Rattle.gr_model.specs.declared.event.Space.TheVariants.{Global}
 use Rattle.gr_model.specs.Streams.{Streams, AreAccepted, IsAccepted, list_of, size_of}
 use Rattle.gr_lanes.specs.Takes.{IsEventButItem}
 use Rattle.gr_order.specs.Sequences.{Sequence, nothing, taking}

@@ -12,7 +12,6 @@ use Rattle.gr_windows.specs.Windows.{AreWaiting, Table, window_of}
 use Rattle.gr_order.specs.Sequences.{IsDone, IsSequence, Sequence}
 use Rattle.gr_order.specs.States.{AreBelowFrontier}
 use Rattle.gr_order.specs.Forgetting.{ForgetsHandled}
-use Rattle.gr_model.specs.Barriers.{is_barrier}
 use Rattle.gr_lanes.specs.Remembered.{IsEventRemembered, Remembered, forgotten_of}
 use Rattle.gr_held.specs.Waiting.{ForgetsGrounded, IsStuck}
 

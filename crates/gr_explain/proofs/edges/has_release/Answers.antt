@@ -1,4 +1,4 @@
-use Rattle.std.proofs.Common.{All, List, Contains, length, get_or, take, sym, ap, ◌∙◌, subst, true≢false, arith}
+use Rattle.std.proofs.Common.{All, List, Contains, sym, ap, ◌∙◌, subst, true≢false, arith}
 use Rattle.std.proofs.lemmas.List.{take_all}
 use Rattle.std.proofs.lemmas.List.Elements.{All-more}
 use Rattle.gr_model.specs.declared.event.Name.{Name}
