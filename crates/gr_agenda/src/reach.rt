@@ -61,7 +61,7 @@ pub(crate) fn reach_of<A: Allocator>(lanes: &Lanes<A>, group: u16, event: &Event
         item: event.item,
     };
     let instance = lanes.barrier_count(at);
-    // never of an item that is there
+    // so it may be of an item that is not there, which has no barriers
     if instance < lanes.forgotten(group) {
         return Reach::Group;
     }
