@@ -89,15 +89,15 @@ impl<A: Allocator> Base<A> {
         Ok(Base { blocks })
     }
 
-    /// Has a block for the group, and counts what it did.
-    fn reach(&mut self, group: usize) -> Result<(), ClockError>
+    /// Has blocks for so many groups, and counts what it did.
+    fn reach(&mut self, groups: usize) -> Result<(), ClockError>
     where
         A: Clone,
         ensures same { OnOk result (CountSame self.new self.old) }
-        ensures there { OnOk result (group < length self.new) }
+        ensures there { OnOk result (groups ≤ length self.new) }
         ensures memory { IsOkUnless result ClockError.Memory }
     {
-        while self.blocks.len() <= group {
+        while self.blocks.len() < groups {
             let block = Block::empty(self.alloc()?)?;
             self.blocks.push(block)?;
         }
@@ -113,23 +113,11 @@ impl<A: Allocator> Base<A> {
         ensures memory { IsOkUnless result ClockError.Memory }
     {
         let group = item.group as usize;
-        self.reach(group)?;
+        self.reach(group + 1)?;
         if self.blocks[group].get(item.item) < count {
             let block = self.blocks[group].with(item.item, count)?;
             self.blocks[group] = block;
         }
-        Ok(())
-    }
-
-    /// Takes the greater count of each item of a group.
-    fn learn_block(&mut self, group: usize, block: &Block<A>) -> Result<(), ClockError>
-    where
-        A: Clone,
-        ensures raised { OnOk result (IsRaisedBy self.old group block.now self.new) }
-        ensures memory { IsOkUnless result ClockError.Memory }
-    {
-        self.reach(group)?;
-        self.blocks[group].learn(block)?;
         Ok(())
     }
 
@@ -141,8 +129,11 @@ impl<A: Allocator> Base<A> {
         ensures raised { OnOk result (IsRaisedBy self.old group counts.items self.new) }
         ensures memory { IsOkUnless result ClockError.Memory }
     {
+        let group = group as usize;
         let block = Block::of(self.alloc()?, counts)?;
-        self.learn_block(group as usize, &block)
+        self.reach(group + 1)?;
+        self.blocks[group].learn(&block)?;
+        Ok(())
     }
 
     /// Takes the greater count of each item.
@@ -152,8 +143,9 @@ impl<A: Allocator> Base<A> {
         ensures join { OnOk result (IsJoin self.old other.now self.new) }
         ensures memory { IsOkUnless result ClockError.Memory }
     {
+        self.reach(other.blocks.len())?;
         for group in 0..other.blocks.len() {
-            self.learn_block(group, &other.blocks[group])?;
+            self.blocks[group].learn(&other.blocks[group])?;
         }
         Ok(())
     }

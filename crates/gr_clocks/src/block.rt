@@ -30,15 +30,18 @@ impl<A: Allocator> Model for Block<A> {
     ghost invariant = { λ b. IsBlock b.counts.value.items b.most };
 }
 
-/// Whether no count is above the other's, of which there are at least as many.
+/// Whether no count is above the other's, of which there are at least as many. They are compared as signed numbers, which
+/// takes less where several are compared at once.
 fn are_within(mine: &[u32], theirs: &[u32]) -> bool
-    requires { length mine.now ≤ length theirs.now }
+    requires size { length mine.now ≤ length theirs.now }
+    requires mine { All (λ n. n ≤ LARGEST_COUNT) mine.now }
+    requires theirs { All (λ n. n ≤ LARGEST_COUNT) theirs.now }
     ensures { IsTrue result → IsRowWithin mine.now theirs.now }
 {
     // without an early end, so that several places are compared at once
     let mut within = true;
     for place in 0..mine.len() {
-        within &= mine[place] <= theirs[place];
+        within &= mine[place] as i32 <= theirs[place] as i32;
     }
     within
 }

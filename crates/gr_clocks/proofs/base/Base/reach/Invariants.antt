@@ -1,4 +1,4 @@
-use Rattle.std.proofs.Common.{◌+◌, ◌-◌, length}
+use Rattle.std.proofs.Common.{◌-◌, length}
 use Rattle.gr_clocks.specs.Counts.{CountSame}
 use Rattle.gr_clocks.proofs.base.Base.reach.Given as goal
 
@@ -6,4 +6,4 @@ abbrev pub invariant-loop-self : goal.invariant-loop-self
 invariant-loop-self g l = CountSame l.self l.initial.self
 
 abbrev pub decreases-loop-self : goal.decreases-loop-self
-decreases-loop-self g l = l.group + 1 - length l.self
+decreases-loop-self g l = l.groups - length l.self
