@@ -32,7 +32,7 @@ use Rattle.gr_replay.specs.Intakes.{AreGroupsOf, AreOpen, IsIntake, IsNext, IsRe
 use Rattle.gr_replay.specs.Joined.{Flat}
 use Rattle.gr_replay.specs.Laws.{AreStreams}
 use Rattle.gr_replay.specs.Sequencing.{AreShadowsOf}
-use Rattle.gr_replay.specs.Waiting.{Coming}
+use Rattle.gr_backlog.specs.Waiting.{Coming}
 use Rattle.gr_replay.proofs.Behind.{header_cut, nothing_follows, record_cut}
 use Rattle.gr_replay.proofs.Accepted.{AreRead, none_are, one_end, one_more, with_one}
 

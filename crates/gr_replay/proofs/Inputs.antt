@@ -11,7 +11,7 @@ use Rattle.gr_replay.specs.declared.intake.Intake.{Intake}
 use Rattle.gr_replay.specs.declared.open.Open.{Open}
 use Rattle.gr_replay.specs.Intakes.{Moves, behind, come, coming_in, read_behind, unit_at, unit_of}
 use Rattle.gr_replay.specs.Joined.{joined_of}
-use Rattle.gr_replay.specs.Waiting.{Coming}
+use Rattle.gr_backlog.specs.Waiting.{Coming}
 use Rattle.gr_replay.proofs.Comings.{between}
 
 -- ---- nothing was read

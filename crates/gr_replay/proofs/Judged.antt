@@ -17,7 +17,7 @@ use Rattle.gr_replay.specs.Intakes.{AreGroupsOf, IsGap, come, come_of, coming_in
 use Rattle.gr_replay.specs.Joined.{Flat}
 use Rattle.gr_replay.specs.Laws.{AreStreams}
 use Rattle.gr_replay.specs.Launch.{HasGroup, IsLaunchFault, IsLaunchOf}
-use Rattle.gr_replay.specs.Waiting.{Coming}
+use Rattle.gr_backlog.specs.Waiting.{Coming}
 
 -- ---- sizes
 

@@ -13,4 +13,3 @@ mod Judged
 mod Inputs
 mod Behind
 mod Comings
-mod Backlogs

@@ -14,7 +14,7 @@ use Rattle.gr_replay.specs.Intakes.{AreGroupsOf, come, come_of, headers_of}
 use Rattle.gr_replay.specs.Joined.{Flat}
 use Rattle.gr_replay.specs.Laws.{AreStreams}
 use Rattle.gr_replay.specs.Sequencing.{AreTakenFrom}
-use Rattle.gr_replay.specs.Waiting.{Coming}
+use Rattle.gr_backlog.specs.Waiting.{Coming}
 use Rattle.gr_replay.proofs.Turns.{can_take_first, good_first, one_taken_from, room_for_first, still_accepted, still_there}
 
 -- ---- the next record of a stream

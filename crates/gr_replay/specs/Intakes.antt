@@ -23,7 +23,7 @@ use Rattle.gr_shadow.specs.Kept.{Kept}
 use Rattle.gr_replay.specs.Joined.{Flat, ◌>>=◌, at_place, joined_at}
 use Rattle.gr_replay.specs.Laws.{AreStreams}
 use Rattle.gr_replay.specs.Sequencing.{AreShadowsOf}
-use Rattle.gr_replay.specs.Waiting.{Coming}
+use Rattle.gr_backlog.specs.Waiting.{Coming}
 use Rattle.gr_replay.specs.declared.intake.Intake.{Intake}
 use Rattle.gr_replay.specs.declared.open.Open.{Open}
 

@@ -6,5 +6,4 @@ pub mod Replays
 pub mod Laws
 pub mod Each
 pub mod Races
-pub mod Waiting
 pub mod Intakes

@@ -10,8 +10,8 @@ ghost use Rattle.gr_record.specs.Reading.{header_at};
 ghost use Rattle.gr_record.specs.Spelling.{IsHeader};
 ghost use Rattle.gr_replay.specs.Intakes.{IsIntake, IsKeptOpen, IsRead, IsStuck, Moves, Stays, behind, come, come_of, goes_on, read_behind, read_on, unit_of};
 
-use crate::backlog::Backlog;
 use crate::open::Open;
+use gr_backlog::backlog::Backlog;
 use gr_model::memory::Memory;
 use gr_record::error::RecordError;
 use gr_record::fault::Fault;

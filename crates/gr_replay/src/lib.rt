@@ -1,7 +1,6 @@
 //! From the bytes of streams to the text of a report.
 #![tactic(auto)]
 
-mod backlog;
 pub mod detect;
 pub mod each;
 mod handling;
@@ -12,11 +11,9 @@ mod judging;
 pub mod launch;
 pub mod laws;
 mod open;
-mod piece;
 mod races;
 pub mod records;
 mod run;
-mod short;
 mod taking;
 mod turn;
 mod waiting;

@@ -9,9 +9,9 @@ ghost use Rattle.gr_record.specs.Versions.{record_length};
 ghost use Rattle.gr_replay.specs.Intakes.{AreOpen, IsKeptOpen, come_of, next_event_at, with_event};
 ghost use Rattle.gr_replay.specs.Sequencing.{AreShadowsOf};
 
-use crate::backlog::Backlog;
 use crate::taking::take_record;
 use crate::turn::Turn;
+use gr_backlog::backlog::Backlog;
 use gr_model::event::Event;
 use gr_model::limits::MOST_RECORDS;
 use gr_model::memory::Memory;

@@ -9,10 +9,10 @@ ghost use Rattle.gr_replay.specs.Intakes.{AreGroupsOf, come, headers_of};
 ghost use Rattle.gr_replay.specs.Laws.{AreStreams};
 ghost use Rattle.gr_replay.specs.Sequencing.{AreShadowsOf, AreTakenFrom};
 
-use crate::backlog::Backlog;
 use crate::handling::handle_ready;
 use crate::taking::take_record;
 use crate::turn::{MOST_IN_TURN, Turn};
+use gr_backlog::backlog::Backlog;
 use gr_model::memory::Memory;
 use gr_sequencer::sequencer::Sequencer;
 use gr_shadow::shadows::Shadows;

@@ -3,7 +3,7 @@ use Rattle.std.proofs.lemmas.List.{length-append}
 use Rattle.std.proofs.lemmas.Result.{err_from_is_err_and}
 use Rattle.gr_input.specs.Faults.{Fails}
 use Rattle.gr_replay.specs.Intakes.{IsRead, come, come_of, read_behind, read_on}
-use Rattle.gr_replay.specs.Waiting.{Coming}
+use Rattle.gr_backlog.specs.Waiting.{Coming}
 use Rattle.gr_replay.proofs.intake.take_current.Goals as goal
 
 pub returns-in_err-ended-clause-fault : goal.returns-in_err-ended-clause-fault

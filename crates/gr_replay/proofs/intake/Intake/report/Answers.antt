@@ -1,7 +1,7 @@
 use Rattle.std.proofs.Common.{◌≡◌, ℕ, List, subst}
 use Rattle.gr_model.specs.Shapes.{IsShape}
 use Rattle.gr_replay.specs.Intakes.{IsGap, come}
-use Rattle.gr_replay.specs.Waiting.{Coming}
+use Rattle.gr_backlog.specs.Waiting.{Coming}
 use Rattle.gr_replay.proofs.Judged.{gap_is_launch_fault, groups_between, launch_taken, memory_is_launch_fault, memory_is_of_values}
 use Rattle.gr_replay.proofs.intake.Intake.report.Goals as goal
 

@@ -34,6 +34,6 @@ returns-then-self-clause-kept g c =
     let s = c.args.sequencer.now.taken in
     let b = c.args.self.now.backlog in
     record {
-      count = one_more_counts (come_of s b) (come_of s c.push.new.self) c.args.event c.args.self.now.count c.requires.kept.count (waiting_comes s b c.push.new.self c.args.event c.in_ok-push.ensures);
+      count = one_more_counts (come_of s b) (come_of s c.push.new.self) c.args.event c.args.self.now.count c.requires.kept.count (waiting_comes s b c.push.new.self c.args.event c.in_ok-push.ensures.ok);
       waits = λ off. absurd (true≢false (sym c.if-self.true ∙ off));
     }

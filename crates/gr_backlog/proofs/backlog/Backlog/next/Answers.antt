@@ -1,7 +1,7 @@
 use Rattle.std.proofs.Common.{◌<◌, ap, sym, ◌∙◌, arith, length}
-use Rattle.gr_replay.specs.Waiting.{Coming}
-use Rattle.gr_replay.proofs.Backlogs.{coming, first_piece, nothing_in}
-use Rattle.gr_replay.proofs.backlog.Backlog.next.Goals as goal
+use Rattle.gr_backlog.specs.Waiting.{Coming}
+use Rattle.gr_backlog.proofs.Backlogs.{coming, first_piece, nothing_in}
+use Rattle.gr_backlog.proofs.backlog.Backlog.next.Goals as goal
 
 pub returns-in-Some : goal.returns-in-Some
 returns-in-Some g c =

@@ -1,8 +1,8 @@
 use Rattle.std.proofs.Common.{◌∙◌, ap, drop, sym, refl, length, arith, get_or, ◌<◌}
 use Rattle.std.proofs.lemmas.Bool.{ltb-false, ltb-true}
-use Rattle.gr_replay.specs.Waiting.{with_names}
-use Rattle.gr_replay.proofs.Backlogs.{behind_plain, first_plain, none_listed}
-use Rattle.gr_replay.proofs.piece.Piece.next.Goals as goal
+use Rattle.gr_backlog.specs.Waiting.{with_names}
+use Rattle.gr_backlog.proofs.Backlogs.{behind_plain, first_plain, none_listed}
+use Rattle.gr_backlog.proofs.piece.Piece.next.Goals as goal
 
 pub returns-in-None : goal.returns-in-None
 returns-in-None g c =

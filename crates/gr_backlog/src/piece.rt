@@ -2,7 +2,7 @@
 //!
 //! Invariant: behind the records that were read, there is a list of names for each that has some.
 
-ghost use Rattle.std.specs.Prelude.{◌≡◌, ◌∷◌, ◌++◌, [], IfOk, MatchOption, OnOk};
+ghost use Rattle.std.specs.Prelude.{◌≡◌, ◌∷◌, ◌++◌, [], IfOk, MatchOption, OnErr, OnOk};
 
 use crate::short::{Short, next_names};
 use gr_model::event::Event;
@@ -30,7 +30,7 @@ pub(crate) struct Piece<A: Allocator = Global> {
 impl<A: Allocator> Model for Piece<A> {
     ghost use Rattle.std.specs.Prelude.{◌≤◌, List, drop, length};
     ghost use Rattle.gr_model.specs.declared.event.Event.{Event};
-    ghost use Rattle.gr_replay.specs.Waiting.{AreNamed, listed};
+    ghost use Rattle.gr_backlog.specs.Waiting.{AreNamed, listed};
 
     ghost Value = { List Event };
 
@@ -66,10 +66,11 @@ impl<A: Allocator> Piece<A> {
     /// Adds a record.
     ///
     /// # Errors
-    /// `Memory`: out of memory.
+    /// `Memory`: out of memory. The piece is then as it was.
     #[inline(always)]
     pub(crate) fn push(&mut self, event: &Event) -> Result<(), Memory>
-        ensures { OnOk result (self.new ≡ self.old ++ event.now ∷ []) }
+        ensures ok { OnOk result (self.new ≡ self.old ++ event.now ∷ []) }
+        ensures err { OnErr result (self.new ≡ self.old) }
     {
         if !event.names.as_slice().is_empty() {
             return self.push_naming(event);
@@ -81,9 +82,10 @@ impl<A: Allocator> Piece<A> {
     /// Adds a record that names releases.
     ///
     /// # Errors
-    /// `Memory`: out of memory.
+    /// `Memory`: out of memory. The piece is then as it was.
     fn push_naming(&mut self, event: &Event) -> Result<(), Memory>
-        ensures { OnOk result (self.new ≡ self.old ++ event.now ∷ []) }
+        ensures ok { OnOk result (self.new ≡ self.old ++ event.now ∷ []) }
+        ensures err { OnErr result (self.new ≡ self.old) }
     {
         self.names.reserve(1)?;
         self.shorts.push(Short::of(event, true))?;

@@ -2,9 +2,9 @@ use Rattle.std.proofs.Common.{◌∙◌, ◌<◌, List, ap, drop, sym, refl, len
 use Rattle.std.proofs.lemmas.Bool.{ltb-false, ltb-true}
 use Rattle.std.proofs.lemmas.List.{length-drop}
 use Rattle.gr_model.specs.declared.event.Name.{Name}
-use Rattle.gr_replay.specs.Waiting.{behind_names, first_names, listed}
-use Rattle.gr_replay.proofs.Backlogs.{first_taken, names_there, none_listed}
-use Rattle.gr_replay.proofs.piece.Piece.next_naming.Goals as goal
+use Rattle.gr_backlog.specs.Waiting.{behind_names, first_names, listed}
+use Rattle.gr_backlog.proofs.Backlogs.{first_taken, names_there, none_listed}
+use Rattle.gr_backlog.proofs.piece.Piece.next_naming.Goals as goal
 
 pub returns-in-None : goal.returns-in-None
 returns-in-None g c =

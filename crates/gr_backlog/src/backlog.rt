@@ -3,7 +3,7 @@
 //! Invariant: nothing waits in the pieces before the one that is read.
 
 ghost use Rattle.std.specs.Prelude.{◌≡◌, ◌⊎◌, ◌+◌, ◌<◌, ◌++◌, ◌∷◌, [], IfOk, IsTrue, MatchOption, OnErr, OnOk, length};
-ghost use Rattle.gr_replay.specs.Waiting.{with_waiting};
+ghost use Rattle.gr_backlog.specs.Waiting.{with_waiting};
 
 use crate::piece::Piece;
 use gr_model::event::Event;
@@ -12,10 +12,11 @@ use gr_record::header::Header;
 use std::alloc::{Allocator, Global};
 use std::marker::Model;
 
-/// The records of a stream that have come and were not taken. Contracts see the stream's header and the records.
+/// The records of a stream that have come and were not taken, first come, first served. Contracts see the stream's header and
+/// the records.
 #[derive(Drop)]
 #[derive_where(Debug)]
-pub(crate) struct Backlog<A: Allocator = Global> {
+pub struct Backlog<A: Allocator = Global> {
     #[derive_where(skip)]
     alloc: A,
     header: Header,
@@ -26,7 +27,7 @@ pub(crate) struct Backlog<A: Allocator = Global> {
 
 impl<A: Allocator> Model for Backlog<A> {
     ghost use Rattle.std.specs.List.{flat_map};
-    ghost use Rattle.gr_replay.specs.Waiting.{ArePieces, Coming};
+    ghost use Rattle.gr_backlog.specs.Waiting.{ArePieces, Coming};
 
     ghost Value = { Coming };
 
@@ -65,8 +66,8 @@ fn last_with_room<A: Allocator + Copy>(
 }
 
 impl<A: Allocator + Copy> Backlog<A> {
-    /// What waits of a stream of which nothing has come.
-    pub(crate) fn new(alloc: A, header: Header) -> Backlog<A>
+    /// What waits of a stream with this header, of which no record has come. It takes no memory.
+    pub fn new(alloc: A, header: Header) -> Backlog<A>
         ensures { result ≡ record { header = header; waiting = [] } }
     {
         Backlog {
@@ -77,12 +78,13 @@ impl<A: Allocator + Copy> Backlog<A> {
         }
     }
 
-    /// Adds the next record.
+    /// Adds the stream's next record behind those that wait.
     ///
     /// # Errors
-    /// `Memory`: out of memory.
-    pub(crate) fn push(&mut self, event: &Event) -> Result<(), Memory>
-        ensures { OnOk result (self.new ≡ with_waiting self.old event.now) }
+    /// `Memory`: out of memory. The backlog is then as it was.
+    pub fn push(&mut self, event: &Event) -> Result<(), Memory>
+        ensures ok { OnOk result (self.new ≡ with_waiting self.old event.now) }
+        ensures err { OnErr result (self.new ≡ self.old) }
     {
         let last = last_with_room(self.alloc, &mut self.pieces)?;
         self.first = self.first.min(last);
@@ -93,14 +95,14 @@ impl<A: Allocator + Copy> Backlog<A> {
 
 impl<A: Allocator> Backlog<A> {
     /// The header of the stream.
-    pub(crate) fn header(&self) -> Header
+    pub fn header(&self) -> Header
         ensures { result ≡ self.now.header }
     {
         self.header
     }
 
-    /// The next record, or `None` where none waits.
-    pub(crate) fn next(&mut self) -> Option<Event>
+    /// The record that has waited longest, which then waits no more, or `None` where none waits.
+    pub fn next(&mut self) -> Option<Event>
         ensures { MatchOption result ((self.old.waiting ≡ []) × (self.new ≡ self.old)) (λ e. self.old ≡ record { header = self.new.header; waiting = e ∷ self.new.waiting }) }
     {
         while self.first < self.pieces.len() {

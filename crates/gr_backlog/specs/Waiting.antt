@@ -4,7 +4,7 @@ use Rattle.std.specs.Prelude.{◌≡◌, ℕ, ◌<◌, ◌≤◌, Bool, List, []
 use Rattle.gr_model.specs.declared.event.Event.{Event}
 use Rattle.gr_model.specs.declared.event.Name.{Name}
 use Rattle.gr_record.specs.declared.header.Header.{Header}
-use Rattle.gr_replay.specs.declared.short.Short.{Short}
+use Rattle.gr_backlog.specs.declared.short.Short.{Short}
 
 -- a stream of which some records wait
 pub record Coming : Type 0 where

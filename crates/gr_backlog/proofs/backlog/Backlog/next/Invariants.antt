@@ -1,7 +1,7 @@
 use Rattle.std.proofs.Common.{◌≡◌, ◌-◌, length}
-use Rattle.gr_replay.specs.Waiting.{ArePieces}
-use Rattle.gr_replay.proofs.Backlogs.{coming, waiting_in}
-use Rattle.gr_replay.proofs.backlog.Backlog.next.Given as goal
+use Rattle.gr_backlog.specs.Waiting.{ArePieces}
+use Rattle.gr_backlog.proofs.Backlogs.{coming, waiting_in}
+use Rattle.gr_backlog.proofs.backlog.Backlog.next.Given as goal
 
 abbrev pub invariant-loop-self : goal.invariant-loop-self
 invariant-loop-self g l = record {

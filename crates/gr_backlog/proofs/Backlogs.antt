@@ -7,8 +7,8 @@ use Rattle.std.proofs.lemmas.List.Elements.{filter-append}
 use Rattle.gr_model.specs.declared.event.Event.{Event}
 use Rattle.gr_model.specs.declared.event.Name.{Name}
 use Rattle.gr_record.specs.declared.header.Header.{Header}
-use Rattle.gr_replay.specs.declared.short.Short.{Short}
-use Rattle.gr_replay.specs.Waiting.{AreNamed, ArePieces, Coming, behind_names, first_names, listed, short_of, with_names}
+use Rattle.gr_backlog.specs.declared.short.Short.{Short}
+use Rattle.gr_backlog.specs.Waiting.{AreNamed, ArePieces, Coming, behind_names, first_names, listed, short_of, with_names}
 
 -- a stream with what waits of it
 abbrev pub coming : Header → List Event → Coming

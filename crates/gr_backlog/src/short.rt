@@ -1,8 +1,8 @@
 //! Records that wait, in few bytes: without the places for the releases that they name, which most have none of.
 
 ghost use Rattle.std.specs.Prelude.{◌≡◌, ◌<◌, ◌≤◌, Bool, drop, length, true};
-ghost use Rattle.gr_replay.specs.Waiting as waiting;
-ghost use Rattle.gr_replay.specs.Waiting.{behind_names, first_names};
+ghost use Rattle.gr_backlog.specs.Waiting as waiting;
+ghost use Rattle.gr_backlog.specs.Waiting.{behind_names, first_names};
 
 use gr_model::event::{Event, Kind, Space};
 use gr_model::names::Names;
