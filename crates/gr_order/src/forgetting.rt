@@ -3,7 +3,7 @@
 ghost use Rattle.std.specs.Prelude.{◌≡◌, ◌<◌, ◌≤◌, ℕ, IsTrue, MatchOption, ⊤, length};
 ghost use Rattle.gr_model.specs.Streams.{size_of};
 ghost use Rattle.gr_lanes.specs.Remembered.{forgotten_of};
-ghost use Rattle.gr_order.specs.Forgetting.{ForgetsNext, ForgetsPassed, HasPassed};
+ghost use Rattle.gr_order.specs.Forgetting.{ForgetsNext, ForgetsPassed, HasPassed, HaveAllPassed};
 ghost use Rattle.gr_order.specs.Readiness.{IsNextInstance};
 
 use gr_clocks::tally::Tally;
@@ -67,13 +67,21 @@ fn first_behind<A: Allocator>(
     None
 }
 
+/// Whether all items of a group have passed the least instance remembered, and there are some.
+fn have_all_passed<A: Allocator>(lanes: &Lanes<A>, frontier: &Tally<A>, group: u16) -> bool
+    requires { group < length lanes.now.streams.sizes }
+    ensures { IsTrue result → HaveAllPassed lanes.now.streams frontier.now group (forgotten_of lanes.now group) }
+{
+    lanes.shape().items(group) != 0 && first_behind(lanes, frontier, group, 0).is_none()
+}
+
 /// Forgets the least instance of a group that is remembered, if all its items have passed it. A divergent one for which there is
 /// no room stays.
 fn forget_passed<A: Allocator>(lanes: &mut Lanes<A>, frontier: &Tally<A>, group: u16)
     requires { group < length lanes.old.streams.sizes }
     ensures { ForgetsPassed lanes.old frontier.now group lanes.new }
 {
-    if lanes.shape().items(group) == 0 || first_behind(lanes, frontier, group, 0).is_some() {
+    if !have_all_passed(lanes, frontier, group) {
         return;
     }
     let instance = lanes.forgotten(group);
