@@ -39,11 +39,11 @@ fn are_within(mine: &[u32], theirs: &[u32]) -> bool
     ensures { IsTrue result → IsRowWithin mine.now theirs.now }
 {
     // without an early end, so that several places are compared at once
-    let mut within = true;
+    let mut is_above = false;
     for place in 0..mine.len() {
-        within &= mine[place] as i32 <= theirs[place] as i32;
+        is_above |= mine[place] as i32 > theirs[place] as i32;
     }
-    within
+    !is_above
 }
 
 /// Takes the greater count of each item, of which the other has no more.
