@@ -1,7 +1,7 @@
 -- The counts of all items, as rows of one group each: what is joined and written.
-use Rattle.std.proofs.Common.{◌≡◌, ◌≢◌, ℕ, zero, suc, ◌<◌, ◌≤◌, max, List, [], ◌∷◌, ◌++◌, length, slice_index, get_or, set, replicate, refl, sym, ◌∙◌, ap, subst, arith, ⊎_elim}
+use Rattle.std.proofs.Common.{◌≡◌, ◌≢◌, ℕ, zero, suc, ◌+◌, ◌<◌, ◌≤◌, max, List, [], ◌∷◌, ◌++◌, length, slice_index, get_or, set, replicate, refl, sym, ◌∙◌, ap, subst, arith, ⊎_elim}
 use Rattle.std.proofs.lemmas.Bool.{cases_eq, cases_lt}
-use Rattle.std.proofs.lemmas.List.{get_or_past, get_or-set_same, get_or-set_other, length-map, length-replicate, get_or-replicate, ext_get_or}
+use Rattle.std.proofs.lemmas.List.{get_or_past, get_or_push, get_or_append_left, length_push, get_or-set_same, get_or-set_other, length-map, length-replicate, get_or-replicate, ext_get_or}
 use Rattle.std.proofs.Math.ListN.{get_or-map}
 use Rattle.gr_model.specs.declared.event.ItemId.{ItemId}
 use Rattle.gr_model.specs.Groups.{put}
@@ -9,7 +9,7 @@ use Rattle.gr_model.proofs.PutLemmas.{put_other, put_same}
 use Rattle.std.proofs.lemmas.List.Elements.{All-get_or, All-from_get_or}
 use Rattle.gr_clocks.specs.declared.clock.TheConstants.{LARGEST_COUNT}
 use Rattle.gr_clocks.specs.Blocks.{IsBlock, IsRowJoin, IsRowWith, IsRowWithin}
-use Rattle.gr_clocks.specs.Counts.{Counts, count_of, sizes_of, CountSame, IsZero}
+use Rattle.gr_clocks.specs.Counts.{Counts, count_of, sizes_of, CountSame, IsJoin, IsZero}
 use Rattle.gr_clocks.specs.Owned.{with_count, IsRaisedBy, IsRaisedTo}
 use Rattle.gr_clocks.proofs.RowLemmas.{one_item}
 
@@ -66,6 +66,42 @@ join_to_within mine theirs joined within is = record { counts = λ p. let same :
 
 pub join_swap : (mine theirs joined : List ℕ) → IsRowJoin theirs mine joined → IsRowJoin mine theirs joined
 join_swap mine theirs joined join = record { counts = λ p. let at = join.counts p in omega arith }
+
+-- a join with a group that the others lack
+pub join_past : (mine joined : List ℕ) (theirs : Counts) (g : ℕ) → length theirs ≤ g → joined ≡ mine → IsRowJoin mine (get_or theirs g []) joined
+join_past mine joined theirs g past is =
+    let none : get_or theirs g [] ≡ [] = get_or_past theirs g [] past in
+    join_of_within mine (get_or theirs g []) joined (λ p. let zero_there : slice_index (get_or theirs g []) p ≡ 0 = ap (λ (r : List ℕ). slice_index r p) none in omega arith) is
+
+-- one row more is joined
+pub rows_joined_more : (mine theirs made more : Counts) (row : List ℕ) (n : ℕ) → length made ≡ n → ((p : ℕ) → p < n → IsRowJoin (get_or mine p []) (get_or theirs p []) (get_or made p [])) → IsRowJoin (get_or mine n []) (get_or theirs n []) row → more ≡ made ++ row ∷ [] → record { count : length more ≡ n + 1; joined : (p : ℕ) → p < n + 1 → IsRowJoin (get_or mine p []) (get_or theirs p []) (get_or more p []) }
+rows_joined_more mine theirs made more row n size rows join is = record {
+  count = ap length is ∙ length_push made row ∙ ap (λ (m : ℕ). m + 1) size;
+  joined = λ p below. subst (λ (c : Counts). IsRowJoin (get_or mine p []) (get_or theirs p []) (get_or c p [])) (sym is)
+      (⊎_elim
+      (λ (same : p ≡ n).
+      subst (IsRowJoin (get_or mine p []) (get_or theirs p [])) (sym (get_or_push made row [] p (size ∙ sym same)))
+      (subst (λ (m : ℕ). IsRowJoin (get_or mine m []) (get_or theirs m []) row) (sym same) join))
+      (λ (apart : p ≡ n → ⊥).
+      subst (IsRowJoin (get_or mine p []) (get_or theirs p [])) (sym (get_or_append_left made (row ∷ []) [] p (omega arith)))
+      (rows p (omega arith)))
+      (cases_eq p n));
+}
+
+-- all rows are joined, where the others have no more
+pub join_of_rows : (mine theirs joined : Counts) → length joined ≡ length mine → length theirs ≤ length mine → ((p : ℕ) → p < length mine → IsRowJoin (get_or mine p []) (get_or theirs p []) (get_or joined p [])) → IsJoin mine theirs joined
+join_of_rows mine theirs joined size fewer rows = record {
+  counts = λ j.
+      let none : (c : Counts) → length c ≤ j.group → count_of c j ≡ 0 = λ c past. ap (λ (r : List ℕ). slice_index r j.item) (get_or_past c j.group [] past) in
+      ⊎_elim
+      (λ (lt : j.group < length mine). (rows j.group lt).counts j.item)
+      (λ (le : length mine ≤ j.group).
+      let my_none = none mine le in
+      let their_none = none theirs (omega arith) in
+      let none_joined = none joined (omega arith) in
+      omega arith)
+      (cases_lt j.group (length mine));
+}
 
 -- ---- a row in place of the one there
 

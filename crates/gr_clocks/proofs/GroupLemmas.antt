@@ -2,10 +2,11 @@
 use Rattle.std.proofs.Common.{◌≡◌, ◌≢◌, ℕ, zero, suc, ◌+◌, ◌<◌, ◌≤◌, ◌^◌, max, All, Bool, true, false, List, [], ◌∷◌, ◌++◌, length, slice_index, get_or, set, if◌then◌else◌, refl, sym, ◌∙◌, ap, subst, arith, ⊎_elim}
 use Rattle.std.proofs.lemmas.Bool.{cases_eq, cases_lt, false≢true}
 use Rattle.std.proofs.lemmas.List.{get_or_past, get_or_push, get_or_append_left, length_push, length-set, get_or-set_same, get_or-set_other}
+use Rattle.std.proofs.lemmas.List.Elements.{All-get_or}
 use Rattle.gr_model.specs.declared.event.ItemId.{ItemId}
 use Rattle.gr_clocks.specs.declared.clock.TheConstants.{LARGEST_COUNT}
 use Rattle.gr_clocks.specs.Counts.{Counts, count_of, tick_at, CountSame, CountsOneMore, IsJoin}
-use Rattle.gr_clocks.specs.Groups.{item_of, greatest, GroupClocks, clock_in_group, Keeps, IsGroup, IsShared, IsGrown, MergesFirst, Merges, raised_count, AreRaised, met_count, IsMetBase, TickFirst, MeetsEach}
+use Rattle.gr_clocks.specs.Groups.{item_of, greatest, GroupClocks, clock_in_group, Keeps, IsFirstLearned, IsGroup, IsShared, IsGrown, MergesFirst, Merges, raised_count, AreRaised, met_count, IsMetBase, TickFirst, MeetsEach}
 use Rattle.gr_clocks.proofs.RowLemmas.{same_item_self}
 use Rattle.gr_clocks.specs.Owned.{IsRaisedBy}
 use Rattle.gr_clocks.proofs.OwnLemmas.{not_ticked}
@@ -106,17 +107,45 @@ module _ (number : ℕ) (met : Counts) (clocks : List Counts) (learned : List Bo
 
   -- ---- what was met, and what items have learned since
 
-  pub merges_none : (base : Counts) → base ≡ met → MergesFirst met Whole 0 base
-  merges_none base is = record {
-    above = λ j. let same : count_of base j ≡ count_of met j = ap (λ (c : Counts). count_of c j) is in omega arith;
-    least = λ k j below other. absurd (omega arith);
-    most = λ j some.
-        let f = λ (k : ℕ). count_of (get_or clocks k []) j in
-        let same : count_of base j ≡ count_of met j = ap (λ (c : Counts). count_of c j) is in
-        let first : count_of met j ≤ f 0 = (are.each 0 some).least j in
-        let top : f 0 ≤ greatest (length clocks) f = greatest_above (length clocks) f 0 some in
-        omega arith;
-  }
+  -- where none has learned anything
+  pub merges_met : (base : Counts) → base ≡ met → All (λ b. b ≡ false) learned → Merges Whole base
+  merges_met base is none =
+      let same : (j : ItemId) → count_of base j ≡ count_of met j = λ j. ap (λ (c : Counts). count_of c j) is in
+      record {
+        least = λ k j below other.
+            let off : get_or learned k false ≡ false = All-get_or (λ b. b ≡ false) learned k false (let marks = are.marks in omega arith) none in
+            let kept = (are.each k below).most off j other in
+            let at = same j in
+            omega arith;
+        most = λ j some.
+            let f = λ (k : ℕ). count_of (get_or clocks k []) j in
+            let first : count_of met j ≤ f 0 = (are.each 0 some).least j in
+            let top : f 0 ≤ greatest (length clocks) f = greatest_above (length clocks) f 0 some in
+            let at = same j in
+            omega arith;
+      }
+
+  -- the first that has learned something counts what was met, and so what those before it count
+  pub merges_from : (first : ℕ) (base : Counts) → IsFirstLearned learned first → CountSame base (get_or clocks first []) → MergesFirst met Whole (first + 1) base
+  merges_from first base mark same =
+      let there : first < length clocks = let marks = are.marks in let within = mark.there in omega arith in
+      let above : (j : ItemId) → count_of met j ≤ count_of base j = λ j. let was = (are.each first there).least j in let is = same j in omega arith in
+      record {
+        above = above;
+        least = λ k j below other.
+            ⊎_elim
+            (λ (here : k ≡ first). subst (λ (m : ℕ). count_of (get_or clocks m []) j ≤ count_of base j) (sym here) (let is = same j in omega arith))
+            (λ (apart : k ≡ first → ⊥).
+            let kept = (are.each k (omega arith)).most (mark.before k (omega arith)) j other in
+            let over = above j in
+            omega arith)
+            (cases_eq k first);
+        most = λ j some.
+            let f = λ (k : ℕ). count_of (get_or clocks k []) j in
+            let top : f first ≤ greatest (length clocks) f = greatest_above (length clocks) f first there in
+            let is = same j in
+            omega arith;
+      }
 
   merges_step : (n : ℕ) (base more : Counts) → MergesFirst met Whole n base → ((j : ItemId) → count_of base j ≤ count_of more j) → ((j : ItemId) → item_of number n ≢ j → count_of (get_or clocks n []) j ≤ count_of more j) → ((j : ItemId) → 0 < length clocks → count_of more j ≤ greatest (length clocks) (λ k. count_of (get_or clocks k []) j)) → MergesFirst met Whole (n + 1) more
   merges_step n base more first grows last most = record {

@@ -96,18 +96,18 @@ shared_tick mine base i n same count = record {
 }
 
 -- counts that learn what a clock counts: first those that it shares, and then its own
-pub own_taught : (p : OwnCounts) (mine joined taught : Counts) → IsOwn p → IsJoin mine p.base joined → IsRaisedTo joined p.item p.count taught → IsJoin mine (counts_of p) taught
-own_taught p mine joined taught own join raised = record {
+pub join_with_own : (p : OwnCounts) (mine joined raised_join : Counts) → IsOwn p → IsJoin mine p.base joined → IsRaisedTo joined p.item p.count raised_join → IsJoin mine (counts_of p) raised_join
+join_with_own p mine joined raised_join own join raised = record {
   counts = λ j.
       let joined_here = join.counts j in
       ⊎_elim
       (λ (here : p.item ≡ j).
-      let at : count_of taught j ≡ max (count_of joined j) p.count = subst (λ (i : ItemId). count_of taught i ≡ max (count_of joined i) p.count) here raised.item in
+      let at : count_of raised_join j ≡ max (count_of joined j) p.count = subst (λ (i : ItemId). count_of raised_join i ≡ max (count_of joined i) p.count) here raised.item in
       let their : count_of (counts_of p) j ≡ p.count = subst (λ (i : ItemId). count_of (counts_of p) i ≡ p.count) here (own_count p) in
       let above : count_of p.base j ≤ p.count = subst (λ (i : ItemId). count_of p.base i ≤ p.count) here own.above in
       omega arith)
       (λ (other : p.item ≢ j).
-      let at : count_of taught j ≡ count_of joined j = raised.others j other in
+      let at : count_of raised_join j ≡ count_of joined j = raised.others j other in
       let their : count_of (counts_of p) j ≡ count_of p.base j = other_count p j other in
       omega arith)
       (cases_item p.item j);

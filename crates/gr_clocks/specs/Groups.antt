@@ -43,6 +43,12 @@ pub record IsGroup (number : ℕ) (met : Counts) (clocks : List Counts) (learned
   pub marks : length learned ≡ length clocks
   pub each : (k : ℕ) → k < length clocks → Keeps met (item_of number k) (slice_index_or learned k false) (slice_index_or clocks k [])
 
+-- the place of the first item that learned something
+pub record IsFirstLearned (learned : List Bool) (first : ℕ) : Type 0 where
+  pub there : first < length learned
+  pub before : (k : ℕ) → k < first → slice_index_or learned k false ≡ false
+  pub is : slice_index_or learned first false ≡ true
+
 -- a group of so many items, who all count the same
 pub record IsShared (met : Counts) (group count : ℕ) (g : GroupClocks) : Type 0 where
   pub number : g.number ≡ group

@@ -132,21 +132,42 @@ impl<A: Allocator> Base<A> {
         let group = group as usize;
         let block = Block::of(self.alloc()?, counts)?;
         self.reach(group + 1)?;
-        self.blocks[group].learn(&block)?;
+        let joined = self.blocks[group].joined(&block)?;
+        self.blocks[group] = joined;
         Ok(())
     }
 
-    /// Takes the greater count of each item.
-    pub(crate) fn learn(&mut self, other: &Base<A>) -> Result<(), ClockError>
+    /// The greater count of each item, where the other counts have blocks of no more groups.
+    fn merged(&self, other: &Base<A>) -> Result<Base<A>, ClockError>
     where
         A: Clone,
-        ensures join { OnOk result (IsJoin self.old other.now self.new) }
+        requires { length other.now ≤ length self.now }
+        ensures join { IfOk result (λ b. IsJoin self.now other.now b) }
         ensures memory { IsOkUnless result ClockError.Memory }
     {
-        self.reach(other.blocks.len())?;
-        for group in 0..other.blocks.len() {
-            self.blocks[group].learn(&other.blocks[group])?;
+        let mut blocks = Vec::with_capacity(self.alloc()?, self.blocks.len())?;
+        for group in 0..self.blocks.len() {
+            let mine = &self.blocks[group];
+            let joined = match other.blocks.get(group) {
+                None => mine.copy()?,
+                Some(theirs) => mine.joined(theirs)?,
+            };
+            blocks.push(joined)?;
         }
-        Ok(())
+        Ok(Base { blocks })
+    }
+
+    /// The greater count of each item, in blocks that are shared where one of the two's has it.
+    pub(crate) fn joined(&self, other: &Base<A>) -> Result<Base<A>, ClockError>
+    where
+        A: Clone,
+        ensures join { IfOk result (λ b. IsJoin self.now other.now b) }
+        ensures memory { IsOkUnless result ClockError.Memory }
+    {
+        if self.blocks.len() < other.blocks.len() {
+            other.merged(self)
+        } else {
+            self.merged(other)
+        }
     }
 }

@@ -157,35 +157,26 @@ impl<A: Allocator> Block<A> {
         })
     }
 
-    /// The greater count of each item, in the other's counts where no own one is above them, and else in counts of its own.
-    fn joined(&self, other: &Block<A>) -> Result<Block<A>, ClockError>
+    /// The greater count of each item: in one of the two's counts, shared, where no other one is above them, and else in counts
+    /// of its own.
+    pub(crate) fn joined(&self, other: &Block<A>) -> Result<Block<A>, ClockError>
     where
         A: Clone,
         ensures join { IfOk result (λ b. IsRowJoin self.now other.now b) }
         ensures memory { IsOkUnless result ClockError.Memory }
     {
+        // the other's are mostly the later ones
         if self.is_within(other) {
             return other.copy();
+        }
+        if other.is_within(self) {
+            return self.copy();
         }
         if self.len() < other.len() {
             other.merged(self)
         } else {
             self.merged(other)
         }
-    }
-
-    /// Takes the greater count of each item, and shares the other's counts where no own one is above them.
-    pub(crate) fn learn(&mut self, other: &Block<A>) -> Result<(), ClockError>
-    where
-        A: Clone,
-        ensures join { OnOk result (IsRowJoin self.old other.now self.new) }
-        ensures memory { IsOkUnless result ClockError.Memory }
-    {
-        if other.is_within(self) {
-            return Ok(());
-        }
-        *self = self.joined(other)?;
-        Ok(())
     }
 
     /// The same counts, but this one of an item.

@@ -102,6 +102,18 @@ impl<A: Allocator> Clock<A> {
         Ok(Clock { base, item, count })
     }
 
+    /// The same counts, none of them apart.
+    pub(crate) fn counts(&self) -> Result<Base<A>, ClockError>
+    where
+        A: Clone,
+        ensures same { IfOk result (λ b. CountSame b self.now) }
+        ensures memory { IsOkUnless result ClockError.Memory }
+    {
+        let mut base = self.base.copy()?;
+        base.raise_to(self.item, self.count)?;
+        Ok(base)
+    }
+
     /// The same counts, none of them apart. Where the one apart is also the one that is shared, they stay shared.
     fn whole(&self) -> Result<Arc<Base<A>, A>, ClockError>
     where
@@ -113,23 +125,22 @@ impl<A: Allocator> Clock<A> {
             let whole = Arc::try_clone(&self.base)?;
             return Ok(whole);
         }
-        let mut base = self.base.copy()?;
-        base.raise_to(self.item, self.count)?;
-        let alloc = base.alloc()?;
-        let whole = Arc::new(alloc, base)?;
+        let counts = self.counts()?;
+        let alloc = counts.alloc()?;
+        let whole = Arc::new(alloc, counts)?;
         Ok(whole)
     }
 
-    /// Lets counts take the greater one of each item.
-    pub(crate) fn teach(&self, base: &mut Base<A>) -> Result<(), ClockError>
+    /// The greater count of each item, of these counts and of what the clock counts.
+    pub(crate) fn joined(&self, counts: &Base<A>) -> Result<Base<A>, ClockError>
     where
         A: Clone,
-        ensures join { OnOk result (IsJoin base.old self.now base.new) }
+        ensures join { IfOk result (λ b. IsJoin counts.now self.now b) }
         ensures memory { IsOkUnless result ClockError.Memory }
     {
-        base.learn(&self.base)?;
-        base.raise_to(self.item, self.count)?;
-        Ok(())
+        let mut joined = counts.joined(&self.base)?;
+        joined.raise_to(self.item, self.count)?;
+        Ok(joined)
     }
 
     /// How many events of the item are counted; 0 where the clock lacks the item.
@@ -222,8 +233,7 @@ impl<A: Allocator> Clock<A> {
         ensures memory { IsOkUnless result ClockError.Memory }
         ensures err { OnErr result (self.new ≡ self.old) }
     {
-        let mut base = self.base.copy()?;
-        other.teach(&mut base)?;
+        let base = other.joined(&self.base)?;
         let count = self.count.max(base.get(self.item));
         let base = Arc::new(base.alloc()?, base)?;
         self.base = base;

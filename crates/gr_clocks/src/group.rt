@@ -4,10 +4,10 @@
 //! nothing since counts no more, but of its own events. So a barrier looks again at the clocks of those alone that have
 //! learned something.
 
-ghost use Rattle.std.specs.Prelude.{◌≡◌, ◌↔◌, ◌<◌, ◌≢◌, IsTrue, IfOk, OnOk, OnErr, IsOkUnless, length};
+ghost use Rattle.std.specs.Prelude.{◌≡◌, ◌↔◌, ◌<◌, ◌≢◌, IsTrue, IfOk, OnOk, OnErr, IsOkUnless, All, MatchOption, false, length};
 ghost use Rattle.gr_clocks.specs.declared.clock.ClockError.TheVariants.{Memory as OutOfMemory};
 ghost use Rattle.gr_clocks.specs.Counts.{count_of, CountsOneMore};
-ghost use Rattle.gr_clocks.specs.Groups.{item_of, GroupClocks, clock_in_group, with_clock, IsFullClock, HasFullClock, IsShared, TicksClock, IsGrown, Merges, AreRaised, IsMetBase, TicksEach, MeetsEach};
+ghost use Rattle.gr_clocks.specs.Groups.{item_of, GroupClocks, clock_in_group, with_clock, IsFirstLearned, IsFullClock, HasFullClock, IsShared, TicksClock, IsGrown, Merges, AreRaised, IsMetBase, TicksEach, MeetsEach};
 
 use crate::base::Base;
 use crate::clock::{Clock, ClockError, raise_both};
@@ -36,6 +36,13 @@ impl<A: Allocator> Model for Group<A> {
     ghost view = { λ g. record { number = g.number; clocks = g.clocks.items } };
 
     ghost invariant = { λ g. IsGroup g.number g.met.value g.clocks.items g.learned.items };
+}
+
+/// The place of the first item that learned something.
+fn first_learned(learned: &[bool]) -> Option<usize>
+    ensures { MatchOption result (All (λ b. b ≡ false) learned.now) (λ k. IsFirstLearned learned.now k) }
+{
+    learned.iter().position(|has_learned| *has_learned)
 }
 
 impl<A: Allocator> Group<A> {
@@ -154,17 +161,21 @@ impl<A: Allocator> Group<A> {
         })
     }
 
-    /// What the group counted when it last met, and what its items have learned since.
+    /// What the group counted when it last met, and what its items have learned since: what the first that learned something
+    /// counts has the former in it.
     fn merged(&self) -> Result<Base<A>, ClockError>
     where
         A: Clone,
         ensures merged { IfOk result (λ b. Merges self.now b) }
         ensures memory { IsOkUnless result ClockError.Memory }
     {
-        let mut base = self.met.copy()?;
-        for item in 0..self.clocks.len() {
+        let Some(first) = first_learned(&self.learned) else {
+            return self.met.copy();
+        };
+        let mut base = self.clocks[first].counts()?;
+        for item in first + 1..self.clocks.len() {
             if self.learned[item] {
-                self.clocks[item].teach(&mut base)?;
+                base = self.clocks[item].joined(&base)?;
             }
         }
         Ok(base)

@@ -1,7 +1,7 @@
 use Rattle.std.proofs.Common.{◌≡◌, sym, ap, ◌∙◌}
 use Rattle.gr_clocks.specs.Counts.{Counts, count_of}
 use Rattle.gr_clocks.specs.Owned.{OwnCounts}
-use Rattle.gr_clocks.proofs.OwnLemmas.{own_whole, with_own}
+use Rattle.gr_clocks.proofs.OwnLemmas.{with_own}
 use Rattle.gr_clocks.proofs.clock.Clock.whole.Goals as goal
 
 pub returns-then-get-self-clause-whole : goal.returns-then-get-self-clause-whole
@@ -11,7 +11,4 @@ returns-then-get-self-clause-whole g c j =
     ap (λ (v : Counts). count_of v j) c.in_ok-whole.ensures ∙ sym (with_own o.base o.item o.count is j) ∙ ap (λ (v : Counts). count_of v j) c.self.view_is
 
 pub returns-clause-whole : goal.returns-clause-whole
-returns-clause-whole g c j =
-    let o : OwnCounts = record { base = c.self.inside.base.value; item = c.self.inside.item; count = c.self.inside.count } in
-    let copied : c.in_ok-base.base ≡ o.base = c.in_ok-base.ensures.copy ∙ c.deref-2.ensures in
-    ap (λ (v : Counts). count_of v j) c.in_ok-whole-2.ensures.ok ∙ own_whole o c.in_ok-base.base c.raise_to.new.self c.self.invariant copied c.in_ok-raise_to.ensures.raised j ∙ ap (λ (v : Counts). count_of v j) c.self.view_is
+returns-clause-whole g c j = ap (λ (v : Counts). count_of v j) c.in_ok-whole-2.ensures.ok ∙ c.in_ok-counts.ensures.same j
