@@ -58,6 +58,15 @@ fn learn(mine: &mut [u32], theirs: &[u32])
     }
 }
 
+/// The greatest of some counts, or 0 where there is none.
+fn greatest(counts: &[u32]) -> u32
+    requires { All (λ n. n ≤ LARGEST_COUNT) counts.now }
+    ensures above { All (λ n. n ≤ result) counts.now }
+    ensures limit { result ≤ LARGEST_COUNT }
+{
+    counts.iter().copied().max().unwrap_or(0)
+}
+
 impl<A: Allocator + Copy> Block<A> {
     /// The counts of so many items of which nothing is counted.
     pub(crate) fn zero(alloc: A, size: u16) -> Result<Block<A>, ClockError>
@@ -89,11 +98,9 @@ impl<A: Allocator> Block<A> {
         ensures counts { IfOk result (λ b. b ≡ counts.items) }
         ensures memory { IsOkUnless result ClockError.Memory }
     {
+        let most = greatest(&counts);
         let counts = Arc::new(alloc, counts)?;
-        Ok(Block {
-            counts,
-            most: LARGEST_COUNT,
-        })
+        Ok(Block { counts, most })
     }
 
     /// How many events of an item are counted; 0 where there is no such item.
@@ -157,25 +164,38 @@ impl<A: Allocator> Block<A> {
         })
     }
 
-    /// The greater count of each item: in one of the two's counts, shared, where no other one is above them, and else in counts
-    /// of its own.
+    /// The greater count of each item, where these counts are the later ones, if one of the two are: in one of the two's
+    /// counts, shared, where no other one is above them, and else in counts of its own.
+    fn joined_to(&self, earlier: &Block<A>) -> Result<Block<A>, ClockError>
+    where
+        A: Clone,
+        ensures join { IfOk result (λ b. IsRowJoin self.now earlier.now b) }
+        ensures memory { IsOkUnless result ClockError.Memory }
+    {
+        if earlier.is_within(self) {
+            return self.copy();
+        }
+        if self.is_within(earlier) {
+            return earlier.copy();
+        }
+        if self.len() < earlier.len() {
+            earlier.merged(self)
+        } else {
+            self.merged(earlier)
+        }
+    }
+
+    /// The greater count of each item. The counts with the greater one somewhere are mostly the later ones.
     pub(crate) fn joined(&self, other: &Block<A>) -> Result<Block<A>, ClockError>
     where
         A: Clone,
         ensures join { IfOk result (λ b. IsRowJoin self.now other.now b) }
         ensures memory { IsOkUnless result ClockError.Memory }
     {
-        // the other's are mostly the later ones
-        if self.is_within(other) {
-            return other.copy();
-        }
-        if other.is_within(self) {
-            return self.copy();
-        }
-        if self.len() < other.len() {
-            other.merged(self)
+        if self.most > other.most {
+            self.joined_to(other)
         } else {
-            self.merged(other)
+            other.joined_to(self)
         }
     }
 
