@@ -2,7 +2,7 @@
 //!
 //! Invariant: none is above `most`, and that is not above `LARGEST_COUNT`. So where `most` is 0 nothing is counted.
 
-ghost use Rattle.std.specs.Prelude.{◌≡◌, ◌<◌, ◌≤◌, ℕ, IsTrue, All, IfOk, OnOk, IsOkUnless, length, slice_index, replicate, []};
+ghost use Rattle.std.specs.Prelude.{◌≡◌, ◌<◌, ◌≤◌, ℕ, IsTrue, All, IfOk, IsOkUnless, length, slice_index, replicate, []};
 ghost use Rattle.gr_clocks.specs.declared.clock.ClockError.TheVariants.{Memory as OutOfMemory};
 ghost use Rattle.gr_clocks.specs.Blocks.{IsRowWithin, IsRowJoin, IsRowWith};
 
