@@ -164,8 +164,8 @@ impl<A: Allocator> Block<A> {
         })
     }
 
-    /// The greater count of each item, where these counts are the later ones, if one of the two are: in one of the two's
-    /// counts, shared, where no other one is above them, and else in counts of its own.
+    /// The greater count of each item: in one of the two's counts, shared, where no other one is above them, and else in counts
+    /// of its own. That is seen soonest where these are the later ones.
     fn joined_to(&self, earlier: &Block<A>) -> Result<Block<A>, ClockError>
     where
         A: Clone,
