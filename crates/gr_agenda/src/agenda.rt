@@ -11,7 +11,7 @@ ghost use Rattle.gr_model.specs.declared.event.Name.{Name as AnyName};
 ghost use Rattle.gr_model.specs.declared.limits.TheConstants.{MOST_RECORDS};
 ghost use Rattle.gr_model.specs.Groups.{CanAdd};
 ghost use Rattle.gr_model.specs.Names.{release_place};
-ghost use Rattle.gr_model.specs.Streams.{list_of, size_of};
+ghost use Rattle.gr_model.specs.Streams.{Streams, list_of, size_of};
 ghost use Rattle.gr_order.specs.declared.steps.Ready.TheVariants.{Group, Item};
 ghost use Rattle.gr_lanes.specs.Takes.{CanTake, IsEventButItem, IsTakeFault, next_of};
 ghost use Rattle.gr_steps.specs.Steps.{CanHandle, CanMeet, IsReady};
@@ -80,6 +80,15 @@ fn no_lists<A: Allocator + Copy>(alloc: A) -> Result<Vec<Vec<ItemId, A>, A>, Mem
         lists.push(Vec::new(alloc))?;
     }
     Ok(lists)
+}
+
+/// For each group that no instance is known not to be divergent.
+fn no_instances<A: Allocator + Copy>(alloc: A) -> Result<Vec<Option<u32>, A>, Memory>
+    ensures { IfOk result (λ v. (s : Streams) → AreUndiverged s v.items) }
+{
+    let mut undiverged = Vec::with_capacity(alloc, GROUPS)?;
+    undiverged.resize(GROUPS, None)?;
+    Ok(undiverged)
 }
 
 /// Whether an item's next event is a barrier, as it is where an instance of its group may meet.
@@ -324,10 +333,9 @@ impl<A: Allocator + Copy> Agenda<A> {
         requires { order ≡ nothing order.taken.sizes }
         ensures { IfOk result (λ a. a ≡ order) }
     {
-        let worklist = Worklist::new(alloc)?;
+        let undiverged = no_instances(alloc)?;
         let waiting = no_lists(alloc)?;
-        let mut undiverged = Vec::with_capacity(alloc, GROUPS)?;
-        undiverged.resize(GROUPS, None)?;
+        let worklist = Worklist::new(alloc)?;
         Ok(Agenda {
             order,
             worklist,

@@ -1,15 +1,11 @@
 -- The command that a parse met.
-use Rattle.std.proofs.Common.{◌≡◌, ◌∙◌, Bool, false, true, true≢false, codes, List, [], ◌∷◌, Option, Some, None, refl, sym, ap, ap₂, subst}
-use Rattle.std.specs.Prelude.{Box, is_some, option_map}
-use Rattle.std.specs.Box.{box_value}
+use Rattle.std.proofs.Common.{◌≡◌, ◌∙◌, Bool, false, true, codes, List, [], ◌∷◌, Option, Some, None, refl, ap, subst}
 use Rattle.clap.specs.declared.parser.matches.ArgMatches.{ArgMatches}
-use Rattle.clap.specs.declared.parser.matches.ArgMatches.TheViews.{out-ArgMatches, out-SubCommand}
-use Rattle.clap.specs.declared.parser.matches.SubCommand.{SubCommand}
 use Rattle.clap.specs.declared.parser.matches.ValueSource.TheVariants.{CommandLine, DefaultValue}
 use Rattle.clap.specs.declared.builder.value_parser.ValueParser.TheVariants.{String}
 use Rattle.clap.specs.Values.{reading_of}
 use Rattle.clap.specs.Walk.{Row}
-use Rattle.clap.specs.Words.{App, HasMatchesOf, Text, fault_of, is_simple, is_simple_and_free, subcommand_name_of, subcommand_of, subcommand_rows, subcommand_rows_of}
+use Rattle.clap.specs.Words.{App, HasMatchesOf, Text, fault_of, is_simple, is_simple_and_free, subcommand_of, subcommand_rows_of}
 use Rattle.clap.proofs.OnLiterals.{clap_on_literals}
 use Rattle.gr_arguments.specs.declared.request.Task.{Task}
 use Rattle.gr_arguments.specs.declared.request.Task.TheVariants.{Replay, Pack, Dump, Upgrade}
@@ -72,22 +68,6 @@ no_word_asks = record { taken = none_taken; asks = rw none_met refl }
 
 -- ---- a parse
 
--- the name is that of the rows
-name_from_rows : {Z : Type 0} (o : Option (Box SubCommand Z)) → option_map (λ b. (out-SubCommand (box_value b)).name.now) o ≡ option_map (λ p. p.0) (subcommand_rows o)
-name_from_rows None = refl
-name_from_rows (Some b) = refl
-
-injected : {X : Type 0} (x y : X) → Some x ≡ Some y → x ≡ y
-injected x y e = cc
-
-no_parts : {X Y : Type 0} (o : Option (X × Y)) → option_map (λ p. p.0) o ≡ None → o ≡ None
-no_parts None none = refl
-no_parts {X = X} (Some p) none = absurd (true≢false (ap (λ (o : Option X). is_some o) none))
-
-both_parts : {X Y : Type 0} (o : Option (X × Y)) (x : X) (y : Y) → option_map (λ p. p.0) o ≡ Some x → option_map (λ p. p.1) o ≡ Some y → o ≡ Some (x, y)
-both_parts {X = X} None x y first second = absurd (true≢false (sym (ap (λ (o : Option X). is_some o) first)))
-both_parts {X = X} {Y = Y} (Some p) x y first second = ap₂ (λ (u : X) (v : Y). Some (u, v)) (injected p.0 x first) (injected p.1 y second)
-
 module _ (command : App) (is : command ≡ gpurace) (words : List Text) where
   -- the command that was built is simple, and has the program's faults
   pub is_free : is_simple_and_free command ≡ true
@@ -97,28 +77,11 @@ module _ (command : App) (is : command ≡ gpurace) (words : List Text) where
   unfolding faults
   faults_are = ap (λ (a : App). fault_of a words) is
 
+  -- what was met is what the words name, and so is what it asks for
   module _ (m : ArgMatches) (matches : HasMatchesOf command words m) where
-    -- what was met is what the words name
     meets : subcommand_rows_of m ≡ command_of words
     unfolding command_of
     meets = (matches (ap is_simple is ∙ gpurace_is_simple)).1 ∙ ap (λ (a : App). subcommand_of a words) is
 
-    named : option_map (λ p. p.0) (subcommand_rows_of m) ≡ subcommand_name_of m
-    named = sym (name_from_rows (out-ArgMatches m).subcommand)
-
-    meets_none : None ≡ subcommand_name_of m → command_of words ≡ None
-    meets_none none = sym meets ∙ no_parts (subcommand_rows_of m) (named ∙ sym none)
-
-    meets_some : (name : Text) (rows : List Row) → Some name ≡ subcommand_name_of m → Some rows ≡ option_map (λ p. p.1) (subcommand_rows_of m) → command_of words ≡ Some (name, rows)
-    meets_some name rows at_name at_rows = sym meets ∙ both_parts (subcommand_rows_of m) name rows (named ∙ sym at_name) (sym at_rows)
-
-    -- and so is what they ask for
-    module _ (taken : faults words ≡ []) (a : Asked) where
-      asks_by : (met : Option (Text × List Row)) → command_of words ≡ met → IsAskedBy (name_met met) (values_met met) a → AsksTo a words
-      asks_by met at asks = record { taken = taken; asks = subst (λ (c : Option (Text × List Row)). IsAskedBy (name_met c) (values_met c) a) (sym at) asks }
-
-      pub asks_none : None ≡ subcommand_name_of m → IsAskedBy (name_met None) [] a → AsksTo a words
-      asks_none none asks = asks_by None (meets_none none) asks
-
-      pub asks_some : (name : Text) (rows : List Row) → Some name ≡ subcommand_name_of m → Some rows ≡ option_map (λ p. p.1) (subcommand_rows_of m) → IsAskedBy (name_met (Some (name, rows))) rows a → AsksTo a words
-      asks_some name rows at_name at_rows asks = asks_by (Some (name, rows)) (meets_some name rows at_name at_rows) asks
+    pub asks_to : (a : Asked) → faults words ≡ [] → IsAskedBy (name_met (subcommand_rows_of m)) (values_met (subcommand_rows_of m)) a → AsksTo a words
+    asks_to a taken asks = record { taken = taken; asks = subst (λ (c : Option (Text × List Row)). IsAskedBy (name_met c) (values_met c) a) meets asks }

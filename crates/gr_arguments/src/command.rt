@@ -4,7 +4,8 @@ ghost use Rattle.std.specs.Prelude.{◌≡◌, false, IfOk};
 ghost use Rattle.clap.specs.declared.builder.command.Command.TheViews.{out-Command as fields_of};
 ghost use Rattle.clap.specs.Walk.{rule_of};
 ghost use Rattle.clap.specs.Words.{app_of, shape_of};
-ghost use Rattle.gr_arguments.specs.Commands.{gpurace, command_named, dumping, explaining, flag_rule, option_rule, racing, running, wanted, wanted_files, checking, inquiring, recalling};
+ghost use Rattle.gr_arguments.specs.Commands.{gpurace};
+ghost use Rattle.gr_arguments.specs.Pages.{rule_for, shape_for, with_commands, with_rules};
 
 use clap::{Arg, ArgAction, Command};
 use std::alloc::{AllocError, Global};
@@ -272,181 +273,211 @@ const ITEM: &str = "The number of its work-item in the group";
 
 const INDEX: &str = "The number of its record in the work-item's trace";
 
-/// A command without options.
-fn plain_command<'a>(alloc: Global, name: &'a str, about: &'a str, example: &'a str) -> Command<'a>
-    ensures shape { shape_of result ≡ command_named name.now }
-    ensures alone { (fields_of result).has_globals ≡ false }
-{
-    Command::new(alloc, name).about(about).after_help(example)
+/// What a command takes.
+#[derive(Clone, Copy)]
+enum Parameter {
+    /// An option that is there or not: its name and its help.
+    Flag(&'static str, &'static str),
+    /// An option with a value: its name, the name of the value, and its help.
+    Valued(&'static str, &'static str, &'static str),
+    /// A value that has to be given: its name and its help.
+    Wanted(&'static str, &'static str),
+    /// The files, of which there is one at least.
+    Files,
 }
 
-/// An option that is there or not.
-fn flag_arg<'a>(alloc: Global, name: &'a str, help: &'a str) -> Arg<'a>
-    ensures rule { rule_of result ≡ flag_rule name.now }
+/// A command: its name, its help and what it takes.
+#[derive(Clone, Copy)]
+struct Page {
+    name: &'static str,
+    about: &'static str,
+    long_about: Option<&'static str>,
+    example: &'static str,
+    parameters: &'static [Parameter],
+}
+
+/// The program's commands, in the order in which help shows them.
+const PAGES: [Page; 10] = [
+    Page {
+        name: "replay",
+        about: REPLAY,
+        long_about: None,
+        example: AFTER_REPLAY,
+        parameters: &[],
+    },
+    Page {
+        name: "pack",
+        about: PACK,
+        long_about: None,
+        example: AFTER_PACK,
+        parameters: &[],
+    },
+    Page {
+        name: "dump",
+        about: DUMP,
+        long_about: Some(LONG_DUMP),
+        example: AFTER_DUMP,
+        parameters: &[Parameter::Flag("partial", PARTIAL)],
+    },
+    Page {
+        name: "upgrade",
+        about: UPGRADE,
+        long_about: None,
+        example: AFTER_UPGRADE,
+        parameters: &[],
+    },
+    Page {
+        name: "explain",
+        about: EXPLAIN,
+        long_about: Some(LONG_EXPLAIN),
+        example: AFTER_EXPLAIN,
+        parameters: &[
+            Parameter::Flag("long", LONG),
+            Parameter::Valued("places", "FILE", LONG_PLACES),
+            Parameter::Valued("buffers", "FILE", LONG_BUFFERS),
+            Parameter::Flag("json", JSON),
+            Parameter::Wanted("SPACE", SPACE),
+            Parameter::Wanted("WORD", WORD),
+            Parameter::Files,
+        ],
+    },
+    Page {
+        name: "races",
+        about: RACES,
+        long_about: Some(LONG_RACES),
+        example: AFTER_RACES,
+        parameters: &[
+            Parameter::Valued("most", "N", MOST),
+            Parameter::Valued("places", "FILE", PLACES),
+            Parameter::Valued("buffers", "FILE", BUFFERS),
+            Parameter::Flag("causes", CAUSES),
+            Parameter::Flag("json", JSON),
+            Parameter::Files,
+        ],
+    },
+    Page {
+        name: "history",
+        about: HISTORY,
+        long_about: Some(LONG_HISTORY),
+        example: AFTER_HISTORY,
+        parameters: &[
+            Parameter::Valued("places", "FILE", PLACES),
+            Parameter::Valued("buffers", "FILE", BUFFERS),
+            Parameter::Wanted("SPACE", SPACE),
+            Parameter::Wanted("WORD", WORD),
+            Parameter::Files,
+        ],
+    },
+    Page {
+        name: "run",
+        about: RUN,
+        long_about: Some(LONG_RUN),
+        example: AFTER_RUN,
+        parameters: &[
+            Parameter::Valued("workers", "N", WORKERS),
+            Parameter::Valued("queues", "N", QUEUES),
+            Parameter::Valued("capacity", "N", CAPACITY),
+            Parameter::Flag("json", JSON),
+            Parameter::Files,
+        ],
+    },
+    Page {
+        name: "check",
+        about: CHECK,
+        long_about: Some(LONG_CHECK),
+        example: AFTER_CHECK,
+        parameters: &[Parameter::Flag("json", JSON), Parameter::Files],
+    },
+    Page {
+        name: "why-held",
+        about: WHY_HELD,
+        long_about: Some(LONG_WHY_HELD),
+        example: AFTER_WHY_HELD,
+        parameters: &[
+            Parameter::Wanted("GROUP", GROUP),
+            Parameter::Wanted("ITEM", ITEM),
+            Parameter::Wanted("INDEX", INDEX),
+            Parameter::Files,
+        ],
+    },
+];
+
+/// The argument that a parameter is.
+fn arg_of<'a>(alloc: Global, parameter: Parameter) -> Arg<'a>
+    ensures rule { rule_of result ≡ rule_for parameter }
     ensures alone { result.global ≡ false }
 {
-    Arg::new(alloc, name)
-        .long(name)
-        .action(ArgAction::SetTrue)
-        .help(help)
+    match parameter {
+        Parameter::Flag(name, help) => Arg::new(alloc, name)
+            .long(name)
+            .action(ArgAction::SetTrue)
+            .help(help),
+        Parameter::Valued(name, value, help) => Arg::new(alloc, name)
+            .long(name)
+            .value_name(value)
+            .help(help),
+        Parameter::Wanted(name, help) => Arg::new(alloc, name).required(true).help(help),
+        Parameter::Files => Arg::new(alloc, "FILE")
+            .required(true)
+            .action(ArgAction::Append)
+            .help(FILES),
+    }
 }
 
-/// An option with a value.
-fn option_arg<'a>(alloc: Global, name: &'a str, value: &'a str, help: &'a str) -> Arg<'a>
-    ensures rule { rule_of result ≡ option_rule name.now }
-    ensures alone { result.global ≡ false }
-{
-    Arg::new(alloc, name)
-        .long(name)
-        .value_name(value)
-        .help(help)
-}
-
-/// A value that has to be given.
-fn wanted_arg<'a>(alloc: Global, name: &'a str, help: &'a str) -> Arg<'a>
-    ensures rule { rule_of result ≡ wanted name.now }
-    ensures alone { result.global ≡ false }
-{
-    Arg::new(alloc, name).required(true).help(help)
-}
-
-/// The files, of which there is one at least.
-fn files_arg<'a>(alloc: Global) -> Arg<'a>
-    ensures rule { rule_of result ≡ wanted_files }
-    ensures alone { result.global ≡ false }
-{
-    Arg::new(alloc, "FILE")
-        .required(true)
-        .action(ArgAction::Append)
-        .help(FILES)
-}
-
-/// The command that writes streams as text.
-fn dump_command<'a>(alloc: Global) -> Result<Command<'a>, AllocError>
-    ensures shape { IfOk result (λ c. shape_of c ≡ dumping) }
+/// The command, with these parameters too.
+fn with_parameters<'a>(
+    alloc: Global,
+    mut command: Command<'a>,
+    parameters: &[Parameter],
+) -> Result<Command<'a>, AllocError>
+    requires alone { (fields_of command).has_globals ≡ false }
+    ensures app { IfOk result (λ c. app_of c ≡ with_rules (app_of command.entry) parameters.now) }
     ensures alone { IfOk result (λ c. (fields_of c).has_globals ≡ false) }
 {
-    Command::new(alloc, "dump")
-        .about(DUMP)
-        .long_about(LONG_DUMP)
-        .after_help(AFTER_DUMP)
-        .arg(flag_arg(alloc, "partial", PARTIAL))
+    for parameter in parameters {
+        command = command.arg(arg_of(alloc, *parameter))?;
+    }
+    Ok(command)
 }
 
-/// The command that shows one word.
-fn explain_command<'a>(alloc: Global) -> Result<Command<'a>, AllocError>
-    ensures shape { IfOk result (λ c. shape_of c ≡ explaining) }
+/// The command of a page.
+fn command_of<'a>(alloc: Global, page: &Page) -> Result<Command<'a>, AllocError>
+    ensures shape { IfOk result (λ c. shape_of c ≡ shape_for page.now) }
     ensures alone { IfOk result (λ c. (fields_of c).has_globals ≡ false) }
 {
-    Command::new(alloc, "explain")
-        .about(EXPLAIN)
-        .long_about(LONG_EXPLAIN)
-        .after_help(AFTER_EXPLAIN)
-        .arg(flag_arg(alloc, "long", LONG))?
-        .arg(option_arg(alloc, "places", "FILE", LONG_PLACES))?
-        .arg(option_arg(alloc, "buffers", "FILE", LONG_BUFFERS))?
-        .arg(flag_arg(alloc, "json", JSON))?
-        .arg(wanted_arg(alloc, "SPACE", SPACE))?
-        .arg(wanted_arg(alloc, "WORD", WORD))?
-        .arg(files_arg(alloc))
+    let command = Command::new(alloc, page.name)
+        .about(page.about)
+        .after_help(page.example);
+    match page.long_about {
+        None => with_parameters(alloc, command, page.parameters),
+        Some(text) => with_parameters(alloc, command.long_about(text), page.parameters),
+    }
 }
 
-/// The command that shows all races.
-fn races_command<'a>(alloc: Global) -> Result<Command<'a>, AllocError>
-    ensures shape { IfOk result (λ c. shape_of c ≡ racing) }
-    ensures alone { IfOk result (λ c. (fields_of c).has_globals ≡ false) }
+/// The program, with the commands of these pages too.
+fn with_pages<'a>(
+    alloc: Global,
+    mut command: Command<'a>,
+    pages: &[Page],
+) -> Result<Command<'a>, AllocError>
+    ensures { IfOk result (λ c. app_of c ≡ with_commands (app_of command.entry) pages.now) }
 {
-    Command::new(alloc, "races")
-        .about(RACES)
-        .long_about(LONG_RACES)
-        .after_help(AFTER_RACES)
-        .arg(option_arg(alloc, "most", "N", MOST))?
-        .arg(option_arg(alloc, "places", "FILE", PLACES))?
-        .arg(option_arg(alloc, "buffers", "FILE", BUFFERS))?
-        .arg(flag_arg(alloc, "causes", CAUSES))?
-        .arg(flag_arg(alloc, "json", JSON))?
-        .arg(files_arg(alloc))
-}
-
-/// The command that runs a launch in threads.
-fn run_command<'a>(alloc: Global) -> Result<Command<'a>, AllocError>
-    ensures shape { IfOk result (λ c. shape_of c ≡ running) }
-    ensures alone { IfOk result (λ c. (fields_of c).has_globals ≡ false) }
-{
-    Command::new(alloc, "run")
-        .about(RUN)
-        .long_about(LONG_RUN)
-        .after_help(AFTER_RUN)
-        .arg(option_arg(alloc, "workers", "N", WORKERS))?
-        .arg(option_arg(alloc, "queues", "N", QUEUES))?
-        .arg(option_arg(alloc, "capacity", "N", CAPACITY))?
-        .arg(flag_arg(alloc, "json", JSON))?
-        .arg(files_arg(alloc))
-}
-
-/// The command that checks files.
-fn check_command<'a>(alloc: Global) -> Result<Command<'a>, AllocError>
-    ensures shape { IfOk result (λ c. shape_of c ≡ checking) }
-    ensures alone { IfOk result (λ c. (fields_of c).has_globals ≡ false) }
-{
-    Command::new(alloc, "check")
-        .about(CHECK)
-        .long_about(LONG_CHECK)
-        .after_help(AFTER_CHECK)
-        .arg(flag_arg(alloc, "json", JSON))?
-        .arg(files_arg(alloc))
-}
-
-/// The command that tells why an event is held.
-fn why_held_command<'a>(alloc: Global) -> Result<Command<'a>, AllocError>
-    ensures shape { IfOk result (λ c. shape_of c ≡ inquiring) }
-    ensures alone { IfOk result (λ c. (fields_of c).has_globals ≡ false) }
-{
-    Command::new(alloc, "why-held")
-        .about(WHY_HELD)
-        .long_about(LONG_WHY_HELD)
-        .after_help(AFTER_WHY_HELD)
-        .arg(wanted_arg(alloc, "GROUP", GROUP))?
-        .arg(wanted_arg(alloc, "ITEM", ITEM))?
-        .arg(wanted_arg(alloc, "INDEX", INDEX))?
-        .arg(files_arg(alloc))
-}
-
-/// The command that tells of all accesses to one word.
-fn history_command<'a>(alloc: Global) -> Result<Command<'a>, AllocError>
-    ensures shape { IfOk result (λ c. shape_of c ≡ recalling) }
-    ensures alone { IfOk result (λ c. (fields_of c).has_globals ≡ false) }
-{
-    Command::new(alloc, "history")
-        .about(HISTORY)
-        .long_about(LONG_HISTORY)
-        .after_help(AFTER_HISTORY)
-        .arg(option_arg(alloc, "places", "FILE", PLACES))?
-        .arg(option_arg(alloc, "buffers", "FILE", BUFFERS))?
-        .arg(wanted_arg(alloc, "SPACE", SPACE))?
-        .arg(wanted_arg(alloc, "WORD", WORD))?
-        .arg(files_arg(alloc))
+    for page in pages {
+        command = command.subcommand(command_of(alloc, page)?)?;
+    }
+    Ok(command)
 }
 
 /// The program's commands and options, as help shows them.
 pub(crate) fn command<'a>(alloc: Global) -> Result<Command<'a>, AllocError>
     ensures { IfOk result (λ c. app_of c ≡ gpurace) }
 {
-    Command::new(alloc, "gpurace")
+    let command = Command::new(alloc, "gpurace")
         .bin_name("gpurace")?
         .no_binary_name(true)
         .version("0.1.0")
         .about(ABOUT)
         .long_about(LONG_ABOUT)
-        .after_help(AFTER_HELP)
-        .subcommand(plain_command(alloc, "replay", REPLAY, AFTER_REPLAY))?
-        .subcommand(plain_command(alloc, "pack", PACK, AFTER_PACK))?
-        .subcommand(dump_command(alloc)?)?
-        .subcommand(plain_command(alloc, "upgrade", UPGRADE, AFTER_UPGRADE))?
-        .subcommand(explain_command(alloc)?)?
-        .subcommand(races_command(alloc)?)?
-        .subcommand(history_command(alloc)?)?
-        .subcommand(run_command(alloc)?)?
-        .subcommand(check_command(alloc)?)?
-        .subcommand(why_held_command(alloc)?)
+        .after_help(AFTER_HELP);
+    with_pages(alloc, command, &PAGES)
 }

@@ -2,9 +2,10 @@
 
 ghost use Rattle.std.specs.Prelude.{◌≡◌, IfOk, map};
 ghost use Rattle.clap.specs.Walk.{rows_of};
-ghost use Rattle.clap.specs.Words.{FailsBy, found_of};
+ghost use Rattle.clap.specs.Words.{FailsBy, found_of, subcommand_rows_of};
 ghost use Rattle.gr_arguments.specs.Asked.{AsksTo, IsAskedBy, asked_of};
-ghost use Rattle.gr_arguments.specs.Commands.{faults, meant};
+ghost use Rattle.gr_arguments.specs.Commands.{faults, meant, name_met, values_met};
+ghost use Rattle.gr_arguments.specs.Names.{text_of};
 
 use crate::command::command;
 use crate::values::{
@@ -144,34 +145,68 @@ pub enum Request<'a> {
     WhyHeld(Option<Inquiry<'a>>),
 }
 
-/// What the command of this name asks for with these values. A name that is none of the program's is `replay`.
+/// A command of the program.
+#[derive(Clone, Copy)]
+enum Name {
+    Replay,
+    Pack,
+    Dump,
+    Upgrade,
+    Explain,
+    Races,
+    History,
+    Run,
+    Check,
+    WhyHeld,
+}
+
+/// The command of this name. A name that is none of the program's is `replay`.
+fn name_meant(name: &str) -> Name
+    ensures { text_of result ≡ meant name.now }
+{
+    match name {
+        "pack" => Name::Pack,
+        "dump" => Name::Dump,
+        "upgrade" => Name::Upgrade,
+        "explain" => Name::Explain,
+        "races" => Name::Races,
+        "history" => Name::History,
+        "run" => Name::Run,
+        "check" => Name::Check,
+        "why-held" => Name::WhyHeld,
+        _ => Name::Replay,
+    }
+}
+
+/// What a command asks for with these values.
 fn request_by<'a>(
     alloc: Global,
-    name: &str,
+    name: Name,
     values: &ArgMatches<'a>,
 ) -> Result<Request<'a>, AllocError>
-    ensures { IfOk result (λ r. IsAskedBy (meant name.now) (rows_of (found_of values.now)) (asked_of r)) }
+    ensures { IfOk result (λ r. IsAskedBy (text_of name) (rows_of (found_of values.now)) (asked_of r)) }
 {
-    if name == "explain" {
-        Ok(Request::Explain(question_of(alloc, values)?))
-    } else if name == "races" {
-        Ok(Request::Races(listing_of(alloc, values)?))
-    } else if name == "history" {
-        Ok(Request::History(recall_of(alloc, values)?))
-    } else if name == "run" {
-        Ok(Request::Run(plan_of(alloc, values)?))
-    } else if name == "check" {
-        Ok(Request::Check(inspection_of(alloc, values)?))
-    } else if name == "why-held" {
-        Ok(Request::WhyHeld(inquiry_of(alloc, values)?))
-    } else if name == "pack" {
-        Ok(Request::Perform(Task::Pack))
-    } else if name == "dump" {
-        Ok(Request::Perform(dump_of(values)))
-    } else if name == "upgrade" {
-        Ok(Request::Perform(Task::Upgrade))
-    } else {
-        Ok(Request::Perform(Task::Replay))
+    match name {
+        Name::Replay => Ok(Request::Perform(Task::Replay)),
+        Name::Pack => Ok(Request::Perform(Task::Pack)),
+        Name::Dump => Ok(Request::Perform(dump_of(values))),
+        Name::Upgrade => Ok(Request::Perform(Task::Upgrade)),
+        Name::Explain => Ok(Request::Explain(question_of(alloc, values)?)),
+        Name::Races => Ok(Request::Races(listing_of(alloc, values)?)),
+        Name::History => Ok(Request::History(recall_of(alloc, values)?)),
+        Name::Run => Ok(Request::Run(plan_of(alloc, values)?)),
+        Name::Check => Ok(Request::Check(inspection_of(alloc, values)?)),
+        Name::WhyHeld => Ok(Request::WhyHeld(inquiry_of(alloc, values)?)),
+    }
+}
+
+/// What the command that a parse met asks for with its values; a report where it met none.
+fn request_in<'a>(alloc: Global, matches: &ArgMatches<'a>) -> Result<Request<'a>, AllocError>
+    ensures { IfOk result (λ r. IsAskedBy (name_met (subcommand_rows_of matches.now)) (values_met (subcommand_rows_of matches.now)) (asked_of r)) }
+{
+    match matches.subcommand() {
+        None => Ok(Request::Perform(Task::Replay)),
+        Some((name, values)) => request_by(alloc, name_meant(name), values),
     }
 }
 
@@ -184,8 +219,5 @@ pub fn request_of<'a, S: AsStr>(alloc: Global, words: &'a [S]) -> Result<Request
     ensures asks { IfOk result (λ r. AsksTo (asked_of r) (map S.text words.now)) }
 {
     let matches = command(alloc)?.try_get_matches_from(words)?;
-    match matches.subcommand() {
-        None => Ok(Request::Perform(Task::Replay)),
-        Some((name, values)) => Ok(request_by(alloc, name, values)?),
-    }
+    Ok(request_in(alloc, &matches)?)
 }

@@ -20,13 +20,9 @@ use Rattle.gr_model.specs.Barriers.{is_barrier, mark_of}
 use Rattle.gr_lanes.proofs.IndexLemmas.{few-places}
 use Rattle.std.proofs.lemmas.Option.{slice_get_within}
 use Rattle.gr_model.proofs.StreamPrefixes.{prefix_push}
-use Rattle.gr_lanes.specs.Indices.{AreGroups, EndsCut, GroupList, remembered_of, taken_of}
+use Rattle.gr_lanes.specs.Indices.{AreGroups, EndsCut, GroupList, empty, remembered_of, taken_of}
 use Rattle.gr_lanes.specs.Remembered.{HaveAllCome, IsWhole, Remembered, decided_of, deciding, forgetting, forgotten_of, remembering, with_group}
 use Rattle.gr_lanes.specs.Takes.{CanTake, IsEventButItem, nothing_taken, with_record}
-
--- a group of which nothing was taken
-abbrev pub empty : ℕ → GroupList
-empty n = record { size = n; list = []; forgotten = 0; decided = [] }
 
 lists_empty : (sizes : List ℕ) → map (λ g. g.list) (map empty sizes) ≡ map (λ n. []) sizes
 lists_empty [] = refl

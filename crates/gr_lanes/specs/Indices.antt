@@ -74,6 +74,10 @@ pub record GroupList : Type 0 where
   pub forgotten : ℕ
   pub decided : List Divergence
 
+-- a group of so many items of which nothing was taken
+abbrev pub empty : ℕ → GroupList
+empty n = record { size = n; list = []; forgotten = 0; decided = [] }
+
 -- where these places have one of this number, it is none of the first so many
 abbrev pub IsNumberKept : ℕ → List ℕ → ℕ → Type 0
 IsNumberKept forgotten places number = (p : ℕ) → slice_get places number ≡ Some p → forgotten ≤ number

@@ -4,11 +4,11 @@
 
 ghost use Rattle.std.specs.Prelude.{[], ◌≡◌, ◌≢◌, ◌↔◌, ◌<◌, ◌≤◌, ℕ, Some, IsTrue, IfOk, IfErr, MatchOption, OnOk, OnErr, filter, length, option_and_then};
 ghost use Rattle.gr_model.specs.declared.limits.TheConstants.{MOST_RECORDS};
-ghost use Rattle.gr_model.specs.Groups.{CanAdd};
+ghost use Rattle.gr_model.specs.Groups.{CanAdd, put};
 ghost use Rattle.gr_model.specs.Streams.{ArePrefixes, is_complete, list_of, place_of, trace_of};
 ghost use Rattle.gr_model.specs.Access.{event_word, is_release};
 ghost use Rattle.gr_model.specs.Barriers.{is_barrier};
-ghost use Rattle.gr_lanes.specs.Indices.{record_of};
+ghost use Rattle.gr_lanes.specs.Indices.{empty, record_of};
 ghost use Rattle.gr_model.specs.Reports.{IsCut};
 ghost use Rattle.gr_model.specs.Names.{release_place};
 ghost use Rattle.gr_lanes.specs.declared.seq_error.SeqError.TheVariants.{Memory as OutOfMemory};
@@ -86,15 +86,31 @@ impl<A: Allocator + Copy> Lanes<A> {
         ensures comes { IfOk result (λ l. l ≡ with_group self group items) }
         ensures prefixes { IfOk result (λ l. ArePrefixes l.streams) }
     {
-        let added = Group::new(alloc, items)?;
         let Lanes { shape, mut groups } = self;
+        put_group(alloc, &mut groups, group, items)?;
         let shape = shape.with_group(group, items)?;
-        while groups.len() <= usize::from(group) {
-            groups.push(Group::new(alloc, 0)?)?;
-        }
-        groups[usize::from(group)] = added;
         Ok(Lanes { shape, groups })
     }
+}
+
+/// Puts a group of so many items in its place, and where groups below it are not there, groups without items before it.
+///
+/// # Errors
+/// `Memory`: out of memory.
+fn put_group<A: Allocator + Copy>(
+    alloc: A,
+    groups: &mut Vec<Group<A>, A>,
+    group: u16,
+    items: u16,
+) -> Result<(), Memory>
+    ensures { OnOk result (groups.new.items ≡ put (empty 0) groups.old.items group (empty items)) }
+{
+    let added = Group::new(alloc, items)?;
+    while groups.len() <= usize::from(group) {
+        groups.push(Group::new(alloc, 0)?)?;
+    }
+    groups[usize::from(group)] = added;
+    Ok(())
 }
 
 impl<A: Allocator> Lanes<A> {

@@ -5,7 +5,7 @@
 
 ghost use Rattle.std.specs.Prelude.{◌≡◌, ◌≤◌, ◌*◌, IsTrue, None, Some, if◌then◌else◌, [], length, take};
 ghost use Rattle.gr_record.specs.Versions.{record_length};
-ghost use Rattle.gr_record.specs.Reading.{version_of, header_at, is_field_ok, bad_field, space_of, scope_of, order_of, kind_of, space_at, are_unused, name_in, names_in, names_at, is_order_ok, naming, event_at};
+ghost use Rattle.gr_record.specs.Reading.{version_of, header_at, header_behind, is_field_ok, bad_field, space_of, scope_of, order_of, kind_of, space_at, are_unused, name_in, names_in, names_at, is_order_ok, naming, event_at};
 
 use crate::error::RecordError;
 use crate::header::{Header, Version};
@@ -62,6 +62,15 @@ pub(crate) fn read_header(bytes: &[u8]) -> Result<Header, RecordError>
     let Some(version) = read_version(LittleEndian::read_u32(bytes)) else {
         return Err(RecordError::BadMagic);
     };
+    read_launch(version, bytes)
+}
+
+/// What a whole header of this version says of group, items and launch, or its fault.
+/// Requires: there are at least `HEADER_LENGTH` bytes.
+fn read_launch(version: Version, bytes: &[u8]) -> Result<Header, RecordError>
+    requires { HEADER_LENGTH ≤ length bytes.now }
+    ensures { result ≡ header_behind (Some version) bytes.now }
+{
     let group = LittleEndian::read_u16(&bytes[4..]);
     let items = LittleEndian::read_u16(&bytes[6..]);
     let launch = LittleEndian::read_u32(&bytes[8..]);

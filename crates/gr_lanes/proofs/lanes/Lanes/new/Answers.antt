@@ -3,7 +3,8 @@ use Rattle.std.proofs.lemmas.List.{take_all}
 use Rattle.gr_model.proofs.GroupLaws.{part_of_shape}
 use Rattle.gr_lanes.specs.Indices.{AreGroups, taken_of}
 use Rattle.gr_lanes.specs.Takes.{nothing_taken}
-use Rattle.gr_lanes.proofs.GroupLemmas.{empty, nothing_groups, nothing_is, one_group_more, whole_is}
+use Rattle.gr_lanes.specs.Indices.{empty}
+use Rattle.gr_lanes.proofs.GroupLemmas.{nothing_groups, nothing_is, one_group_more, whole_is}
 use Rattle.gr_lanes.proofs.lanes.Lanes.new.Goals as goal
 
 pub loop-group-preserved : goal.loop-group-preserved

@@ -1,5 +1,5 @@
 use Rattle.std.proofs.Common.{◌≡◌, map, take}
-use Rattle.gr_lanes.proofs.GroupLemmas.{empty}
+use Rattle.gr_lanes.specs.Indices.{empty}
 use Rattle.gr_lanes.proofs.lanes.Lanes.new.Given as goal
 
 abbrev pub invariant-loop-group : goal.invariant-loop-group

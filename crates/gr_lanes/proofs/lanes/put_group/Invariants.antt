@@ -1,8 +1,7 @@
 use Rattle.std.proofs.Common.{◌≡◌, ◌+◌, ◌-◌, length}
 use Rattle.gr_model.specs.Groups.{put}
-use Rattle.gr_lanes.specs.Indices.{GroupList}
-use Rattle.gr_lanes.proofs.GroupLemmas.{empty}
-use Rattle.gr_lanes.proofs.lanes.Lanes.with_group.Given as goal
+use Rattle.gr_lanes.specs.Indices.{GroupList, empty}
+use Rattle.gr_lanes.proofs.lanes.put_group.Given as goal
 
 abbrev pub invariant-loop-alloc : goal.invariant-loop-alloc
 invariant-loop-alloc g l = (x : GroupList) → put (empty 0) l.groups.items l.group x ≡ put (empty 0) l.initial.groups.items l.group x
