@@ -1,9 +1,10 @@
 //! The streams of a reader, taken as they come.
 
-ghost use Rattle.std.specs.Prelude.{◌≡◌, ◌++◌, IfErr, IfOk, IfSome, None, Ok, OnOk};
+ghost use Rattle.std.specs.Prelude.{[], ◌≡◌, ◌++◌, ◌<◌, ℕ, List, Option, IfErr, IfOk, IfSome, None, Ok, OnOk, length};
+ghost use Rattle.std.specs.Io.KnownBytes.{Consumes, IsAtEnd};
 ghost use Rattle.gr_input.specs.Faults.{Fails};
-ghost use Rattle.gr_record.specs.Faults.{IsOfReading};
-ghost use Rattle.gr_replay.specs.Intakes.{IsIntake, come};
+ghost use Rattle.gr_record.specs.Faults.{IsOfReading, IsOfValues};
+ghost use Rattle.gr_replay.specs.Intakes.{IsIntake, Moves, behind, come, unit_of};
 ghost use Rattle.gr_replay.specs.Joined.{joined_of};
 
 use crate::intake::Intake;
@@ -34,6 +35,47 @@ fn copy_of<A: Allocator>(alloc: A, left: &[u8]) -> Result<Vec<u8, A>, Memory>
     Ok(copy)
 }
 
+/// Reads a piece, keeps it behind the bytes that are held, and tells how long it is.
+///
+/// # Errors
+/// `Read`: the reader failed. `Memory`: out of memory.
+fn read_piece<A: Allocator, T: Read>(
+    reader: &mut T,
+    piece: &mut [u8; PIECE_LENGTH],
+    held: &mut Vec<u8, A>,
+) -> Result<usize, Fault>
+    ensures comes { IfOk result (λ n. (bytes : List ℕ) × Consumes (T.remaining reader.old) (T.remaining reader.new) bytes × (held.new.items ≡ held.old.items ++ bytes) × (n ≡ 0 → (bytes ≡ []) × IsAtEnd (T.remaining reader.new))) }
+    ensures fault { IfErr result (λ f. (known : Option (List ℕ)) → IfSome known (λ bytes. Fails f (joined_of bytes))) }
+    ensures reading { IfErr result IsOfReading }
+{
+    let Ok(count) = reader.read(piece) else {
+        return Err(Fault::Read);
+    };
+    keep(held, &piece[..count])?;
+    Ok(count)
+}
+
+/// Takes all headers and records that lie whole in the bytes that are held, and holds those that are left.
+///
+/// # Errors
+/// The first fault from the left; `Memory`: out of memory.
+fn take_held<A: Allocator + Copy>(
+    alloc: A,
+    intake: Intake<A>,
+    held: &mut Vec<u8, A>,
+) -> Result<Intake<A>, Fault>
+    requires { IsIntake intake }
+    ensures moves { IfOk result (λ i. Moves intake held.old.items i held.new.items) }
+    ensures short { IfOk result (λ i. length held.new.items < unit_of i) }
+    ensures fault { IfErr result (λ f. (more : List ℕ) → Fails f (behind intake (held.old.items ++ more))) }
+    ensures values { IfErr result IsOfValues }
+{
+    let (next, left) = intake.take(alloc, held.as_slice())?;
+    let kept = copy_of(alloc, left)?;
+    *held = kept;
+    Ok(next)
+}
+
 /// Reads streams to their end, and takes their records as they come. Of the input no more is held than a piece, and what waits.
 ///
 /// # Errors
@@ -53,16 +95,11 @@ pub(crate) fn take_input<A: Allocator + Copy, T: Read>(
     let mut held = Vec::new(alloc);
     let mut piece = [0u8; PIECE_LENGTH];
     for _ in 0..MOST_READS {
-        match reader.read(&mut piece) {
-            Err(_) => return Err(Fault::Read),
-            Ok(0) => return intake.finish(held.as_slice()),
-            Ok(count) => {
-                keep(&mut held, &piece[..count])?;
-                let (next, left) = intake.take(alloc, held.as_slice())?;
-                held = copy_of(alloc, left)?;
-                intake = next;
-            }
+        let count = read_piece(reader, &mut piece, &mut held)?;
+        if count == 0 {
+            return intake.finish(held.as_slice());
         }
+        intake = take_held(alloc, intake, &mut held)?;
     }
     Err(Fault::Read)
 }

@@ -1,6 +1,6 @@
 //! What was read of a joined input, one header or record after the other, and what was taken of it at once.
 
-ghost use Rattle.std.specs.Prelude.{◌≡◌, ◌++◌, ◌∷◌, [], ◌<◌, ℕ, List, IfErr, IfOk, None, Some, Ok, Err, OnOk, IsTrue, IsFalse, length};
+ghost use Rattle.std.specs.Prelude.{◌≡◌, ◌++◌, ◌∷◌, [], ◌<◌, ℕ, List, false, IfErr, IfOk, None, Some, Ok, Err, OnOk, IsTrue, IsFalse, length};
 ghost use Rattle.std.specs.List.{list_any};
 ghost use Rattle.std.specs.Prelude.{not, ◌==◌};
 ghost use Rattle.gr_input.specs.Faults.{Fails};
@@ -65,17 +65,15 @@ impl<A: Allocator + Copy> Intake<A> {
         })
     }
 
-    /// Begins the stream of this header, where none goes on.
+    /// Refuses the header of a stream whose group has come, or that is of another launch than those that have come.
     ///
     /// # Errors
-    /// `SameGroup`, and else `OtherLaunch`; `Memory`: out of memory.
-    fn begin(self, alloc: A, header: Header) -> Result<Intake<A>, Fault>
-        requires intake { IsIntake self }
-        requires none { self.current ≡ None }
-        requires header { IsHeader header }
-        ensures intake { IfOk result IsIntake }
-        ensures goes { IfOk result (λ i. (unit more : List ℕ) → length unit ≡ HEADER_LENGTH → header_at unit ≡ Ok header → behind self (unit ++ more) ≡ behind i more) }
-        ensures fault { IfErr result (λ f. (unit more : List ℕ) → length unit ≡ HEADER_LENGTH → header_at unit ≡ Ok header → Fails f (behind self (unit ++ more))) }
+    /// `SameGroup`, and else `OtherLaunch`.
+    fn check(&self, header: Header) -> Result<(), Fault>
+        requires { self.now.current ≡ None }
+        ensures group { OnOk result (list_any (λ s. s.header.group == header.group) self.now.streams.items ≡ false) }
+        ensures launch { OnOk result (list_any (λ s. not (s.header.launch == header.launch)) self.now.streams.items ≡ false) }
+        ensures fault { IfErr result (λ f. (unit more : List ℕ) → length unit ≡ HEADER_LENGTH → header_at unit ≡ Ok header → Fails f (behind self.now (unit ++ more))) }
         ensures values { IfErr result IsOfValues }
     {
         let place = self.streams.len() as u64;
@@ -85,6 +83,44 @@ impl<A: Allocator + Copy> Intake<A> {
         if has_other_launch(&self.streams, header.launch) {
             return Err(Fault::OtherLaunch(place));
         }
+        Ok(())
+    }
+
+    /// The header that the bytes are, where no stream goes on.
+    ///
+    /// # Errors
+    /// The header's fault, `SameGroup`, and else `OtherLaunch`.
+    fn header_of(&self, unit: &[u8]) -> Result<Header, Fault>
+        requires all { length unit.now ≡ HEADER_LENGTH }
+        requires none { self.now.current ≡ None }
+        ensures header { IfOk result (λ h. header_at unit.now ≡ Ok h) }
+        ensures group { IfOk result (λ h. list_any (λ s. s.header.group == h.group) self.now.streams.items ≡ false) }
+        ensures launch { IfOk result (λ h. list_any (λ s. not (s.header.launch == h.launch)) self.now.streams.items ≡ false) }
+        ensures fault { IfErr result (λ f. (more : List ℕ) → Fails f (behind self.now (unit.now ++ more))) }
+        ensures values { IfErr result IsOfValues }
+    {
+        match read_front_header(unit) {
+            Ok((header, _)) => {
+                self.check(header)?;
+                Ok(header)
+            }
+            Err(error) => Err(Fault::of_stream(self.streams.len() as u64, error)),
+        }
+    }
+
+    /// Begins the stream of this header, where none goes on.
+    ///
+    /// # Errors
+    /// `Memory`: out of memory.
+    fn begin(self, alloc: A, header: Header) -> Result<Intake<A>, Memory>
+        requires intake { IsIntake self }
+        requires none { self.current ≡ None }
+        requires header { IsHeader header }
+        requires group { list_any (λ s. s.header.group == header.group) self.streams.items ≡ false }
+        requires launch { list_any (λ s. not (s.header.launch == header.launch)) self.streams.items ≡ false }
+        ensures intake { IfOk result IsIntake }
+        ensures goes { IfOk result (λ i. (unit more : List ℕ) → length unit ≡ HEADER_LENGTH → header_at unit ≡ Ok header → behind self (unit ++ more) ≡ behind i more) }
+    {
         let Intake {
             sequencer,
             shadows,
@@ -92,7 +128,7 @@ impl<A: Allocator + Copy> Intake<A> {
             current: _,
         } = self;
         let Ok(sequencer) = sequencer.with_group(header.group, header.items) else {
-            return Err(Fault::Memory);
+            return Err(Memory);
         };
         let current = Open::new(alloc, header, sequencer.held());
         Ok(Intake {
@@ -120,10 +156,8 @@ impl<A: Allocator + Copy> Intake<A> {
             return Ok((self, bytes));
         }
         let (unit, rest) = bytes.split_at(HEADER_LENGTH);
-        match read_front_header(unit) {
-            Ok((header, _)) => Ok((self.begin(alloc, header)?, rest)),
-            Err(error) => Err(Fault::of_stream(self.streams.len() as u64, error)),
-        }
+        let header = self.header_of(unit)?;
+        Ok((self.begin(alloc, header)?, rest))
     }
 }
 
@@ -169,6 +203,48 @@ fn take_records<'p, A: Allocator + Copy>(
     Ok((false, rest))
 }
 
+/// Keeps one more stream, which has come whole.
+fn keep<A: Allocator>(streams: &mut Vec<Backlog<A>, A>, stream: Backlog<A>) -> Result<(), Memory>
+    ensures { OnOk result (streams.new.items ≡ streams.old.items ++ stream ∷ []) }
+{
+    streams.push(stream)?;
+    Ok(())
+}
+
+impl<A: Allocator + Copy> Intake<A> {
+    /// Takes the records at the front of the bytes, up to the end of the stream that goes on, which stands apart, and answers the
+    /// bytes behind them.
+    ///
+    /// # Errors
+    /// The fault of the first record that has one; `Memory`: out of memory.
+    fn go_on<'p>(&mut self, current: Open<A>, bytes: &'p [u8]) -> Result<&'p [u8], Fault>
+        requires none { self.old.current ≡ None }
+        requires read { IsRead self.old.sequencer self.old.shadows self.old.streams.items (Some current.backlog) }
+        requires kept { IsKeptOpen self.old.sequencer.taken current }
+        ensures moves { IfOk result (λ rest. Moves (goes_on self.old current) bytes.now self.new rest.now) }
+        ensures stuck { IfOk result (λ rest. IsStuck bytes.now self.new rest.now) }
+        ensures fault { IfErr result (λ f. (more : List ℕ) → Fails f (behind (goes_on self.old current) (bytes.now ++ more))) }
+        ensures values { IfErr result IsOfValues }
+    {
+        let mut current = current;
+        let (ended, rest) = take_records(
+            &mut self.sequencer,
+            &mut self.shadows,
+            self.streams.as_slice(),
+            &mut current,
+            bytes,
+        )?;
+        if !ended {
+            self.current = Some(current);
+            return Ok(rest);
+        }
+        let Ok(()) = keep(&mut self.streams, current.backlog) else {
+            return Err(Fault::Memory);
+        };
+        Ok(rest)
+    }
+}
+
 /// Takes the records at the front of the bytes, up to the end of the stream that goes on, and answers the bytes behind them.
 ///
 /// # Errors
@@ -178,6 +254,7 @@ fn take_current<'p, A: Allocator + Copy>(
     current: Open<A>,
     bytes: &'p [u8],
 ) -> Result<(Intake<A>, &'p [u8]), Fault>
+    requires none { intake.current ≡ None }
     requires read { IsRead intake.sequencer intake.shadows intake.streams.items (Some current.backlog) }
     requires kept { IsKeptOpen intake.sequencer.taken current }
     ensures moves { IfOk result (λ x. Moves (goes_on intake current) bytes.now x.0 x.1.now) }
@@ -185,51 +262,9 @@ fn take_current<'p, A: Allocator + Copy>(
     ensures fault { IfErr result (λ f. (more : List ℕ) → Fails f (behind (goes_on intake current) (bytes.now ++ more))) }
     ensures values { IfErr result IsOfValues }
 {
-    let Intake {
-        mut sequencer,
-        mut shadows,
-        mut streams,
-        current: _,
-    } = intake;
-    let mut current = current;
-    let (ended, rest) = take_records(
-        &mut sequencer,
-        &mut shadows,
-        streams.as_slice(),
-        &mut current,
-        bytes,
-    )?;
-    if !ended {
-        return Ok((
-            Intake {
-                sequencer,
-                shadows,
-                streams,
-                current: Some(current),
-            },
-            rest,
-        ));
-    }
-    let Ok(()) = keep(&mut streams, current.backlog) else {
-        return Err(Fault::Memory);
-    };
-    Ok((
-        Intake {
-            sequencer,
-            shadows,
-            streams,
-            current: None,
-        },
-        rest,
-    ))
-}
-
-/// Keeps one more stream, which has come whole.
-fn keep<A: Allocator>(streams: &mut Vec<Backlog<A>, A>, stream: Backlog<A>) -> Result<(), Memory>
-    ensures { OnOk result (streams.new.items ≡ streams.old.items ++ stream ∷ []) }
-{
-    streams.push(stream)?;
-    Ok(())
+    let mut intake = intake;
+    let rest = intake.go_on(current, bytes)?;
+    Ok((intake, rest))
 }
 
 impl<A: Allocator + Copy> Intake<A> {
@@ -245,19 +280,8 @@ impl<A: Allocator + Copy> Intake<A> {
         ensures fault { IfErr result (λ f. (more : List ℕ) → Fails f (behind self (bytes.now ++ more))) }
         ensures values { IfErr result IsOfValues }
     {
-        let Intake {
-            sequencer,
-            shadows,
-            streams,
-            current,
-        } = self;
-        let between = Intake {
-            sequencer,
-            shadows,
-            streams,
-            current: None,
-        };
-        match current {
+        let mut between = self;
+        match between.current.take() {
             None => between.take_header(alloc, bytes),
             Some(current) => take_current(between, current, bytes),
         }

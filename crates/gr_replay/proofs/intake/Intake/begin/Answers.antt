@@ -11,29 +11,10 @@ use Rattle.gr_replay.proofs.Behind.{other_launch_refused, same_group_refused, st
 use Rattle.gr_replay.proofs.Comings.{any_come, apart_of, begins, between, may_come, none_come, none_goes_on, whole_stay}
 use Rattle.gr_replay.proofs.intake.Intake.begin.Goals as goal
 
-pub returns-then-has_group-clause-fault : goal.returns-then-has_group-clause-fault
-returns-then-has_group-clause-fault g c = λ unit more all is.
-    let s = c.args.self.sequencer.taken in
-    let cs = c.args.self.streams.items in
-    let h = c.args.header in
-    let same : list_any (λ f. f.header.group == h.group) (come s cs) ≡ true = any_come (λ x. x.group == h.group) s cs ∙ (ap (λ (xs : List Coming). list_any (λ x. x.header.group == h.group) xs) (sym c.deref.ensures.value) ∙ (sym c.has_group.ensures ∙ c.if-has_group.true)) in
-    let place : length (come s cs) ≡ c.len-place.result = omega (arith, length-map cs (come_of s), c.len-place.ensures, c.args.self.streams.ok.0) in
-    between c.args.self c.requires.none (unit ++ more) ∙ (same_group_refused (come s cs) unit more all h is same ∙ ap (λ n. Err (SameGroup n)) place)
-
-pub returns-then-has_other_launch-clause-fault : goal.returns-then-has_other_launch-clause-fault
-returns-then-has_other_launch-clause-fault g c = λ unit more all is.
-    let s = c.args.self.sequencer.taken in
-    let cs = c.args.self.streams.items in
-    let h = c.args.header in
-    let other : list_any (λ f. f.header.group == h.group) (come s cs) ≡ false = any_come (λ x. x.group == h.group) s cs ∙ (ap (λ (xs : List Coming). list_any (λ x. x.header.group == h.group) xs) (sym c.deref.ensures.value) ∙ (sym c.has_group.ensures ∙ c.if-has_group.false)) in
-    let launch : list_any (λ f. not (f.header.launch == h.launch)) (come s cs) ≡ true = any_come (λ x. not (x.launch == h.launch)) s cs ∙ (ap (λ (xs : List Coming). list_any (λ x. not (x.header.launch == h.launch)) xs) (sym c.deref-2.ensures.value) ∙ (sym c.has_other_launch.ensures ∙ c.if-has_other_launch.true)) in
-    let place : length (come s cs) ≡ c.len-place.result = omega (arith, length-map cs (come_of s), c.len-place.ensures, c.args.self.streams.ok.0) in
-    between c.args.self c.requires.none (unit ++ more) ∙ (other_launch_refused (come s cs) unit more all h is other launch ∙ ap (λ n. Err (OtherLaunch n)) place)
-
 pub with_group-requires : goal.with_group-requires
 with_group-requires g c =
     let h = c.args.header in
-    let fresh = ap (λ (xs : List Coming). list_any (λ x. x.header.group == h.group) xs) (sym c.deref.ensures.value) ∙ (sym c.has_group.ensures ∙ c.if-has_group.false) in
+    let fresh = c.requires.group in
     may_come c.args.self.sequencer c.args.self.shadows c.args.self.streams.items h (none_goes_on c.args.self c.requires.none c.requires.intake) c.requires.header (apart_of h.group c.args.self.streams.items fresh)
 
 pub returns-clause-intake : goal.returns-clause-intake
@@ -42,9 +23,9 @@ returns-clause-intake g c =
     let cs = c.args.self.streams.items in
     let h = c.args.header in
     let read = none_goes_on c.args.self c.requires.none c.requires.intake in
-    let fresh = ap (λ (xs : List Coming). list_any (λ x. x.header.group == h.group) xs) (sym c.deref.ensures.value) ∙ (sym c.has_group.ensures ∙ c.if-has_group.false) in
+    let fresh = c.requires.group in
     let other : list_any (λ f. f.header.group == h.group) (come s cs) ≡ false = any_come (λ x. x.group == h.group) s cs ∙ fresh in
-    let launch : list_any (λ f. not (f.header.launch == h.launch)) (come s cs) ≡ false = any_come (λ x. not (x.launch == h.launch)) s cs ∙ (ap (λ (xs : List Coming). list_any (λ x. not (x.header.launch == h.launch)) xs) (sym c.deref-2.ensures.value) ∙ (sym c.has_other_launch.ensures ∙ c.if-has_other_launch.false)) in
+    let launch : list_any (λ f. not (f.header.launch == h.launch)) (come s cs) ≡ false = any_come (λ x. not (x.launch == h.launch)) s cs ∙ c.requires.launch in
     let apart = apart_of h.group cs fresh in
     let is = begins c.args.self.sequencer c.args.self.shadows cs h read c.requires.header apart other launch in
     let none = none_come c.args.self.sequencer c.args.self.shadows cs h read c.requires.header apart in
@@ -63,9 +44,9 @@ returns-clause-goes g c = λ unit more all is.
     let cs = c.args.self.streams.items in
     let h = c.args.header in
     let read = none_goes_on c.args.self c.requires.none c.requires.intake in
-    let fresh = ap (λ (xs : List Coming). list_any (λ x. x.header.group == h.group) xs) (sym c.deref.ensures.value) ∙ (sym c.has_group.ensures ∙ c.if-has_group.false) in
+    let fresh = c.requires.group in
     let other : list_any (λ f. f.header.group == h.group) (come s cs) ≡ false = any_come (λ x. x.group == h.group) s cs ∙ fresh in
-    let launch : list_any (λ f. not (f.header.launch == h.launch)) (come s cs) ≡ false = any_come (λ x. not (x.launch == h.launch)) s cs ∙ (ap (λ (xs : List Coming). list_any (λ x. not (x.header.launch == h.launch)) xs) (sym c.deref-2.ensures.value) ∙ (sym c.has_other_launch.ensures ∙ c.if-has_other_launch.false)) in
+    let launch : list_any (λ f. not (f.header.launch == h.launch)) (come s cs) ≡ false = any_come (λ x. not (x.launch == h.launch)) s cs ∙ c.requires.launch in
     let apart = apart_of h.group cs fresh in
     let new = c.in-Ok.sequencer in
     let none = ap (come_of new.taken) c.new-current.ensures.backlog ∙ (ap (λ (q : Sequence). come_of q.taken (record { header = h; waiting = [] })) c.in-Ok.ensures ∙ none_come c.args.self.sequencer c.args.self.shadows cs h read c.requires.header apart) in
