@@ -28,8 +28,7 @@ fn order_of<A: Allocator + Copy>(alloc: A, traces: &Traces<A>) -> Result<Vec<Eve
     ensures whole { IfOk result (λ v. IsWholeOrder traces.now v.items) }
 {
     let mut order = take_all(alloc, traces)?;
-    let listed = list_grounded(alloc, &mut order)?;
-    Ok(listed)
+    list_grounded(alloc, &mut order)
 }
 
 /// Takes and handles the records of a launch.

@@ -3,7 +3,7 @@
 ghost use Rattle.std.specs.Prelude.{◌≢◌, ◌↔◌, IfOk, IsTrue};
 ghost use Rattle.gr_model.specs.Counts.{Sees};
 ghost use Rattle.gr_model.specs.HappensBefore.{HappensBefore};
-ghost use Rattle.gr_model.specs.LawfulOrders.{IsIn, IsLawful};
+ghost use Rattle.gr_model.specs.LawfulOrders.{IsIn, IsLawful, IsWholeOrder};
 ghost use Rattle.gr_model.specs.Races.{IsRace};
 ghost use Rattle.gr_model.specs.Streams.{ArePrefixes};
 ghost use Rattle.gr_explain.specs.Judgements.{IsJudgement};
@@ -87,6 +87,33 @@ fn is_race<A: Allocator + Copy>(
     Ok(!after)
 }
 
+/// Whether two events of a launch are a race on a word, or one of them is held: it does not stand in the lawful order of all
+/// grounded events.
+///
+/// # Errors
+/// `Memory`: out of memory.
+fn judgement_of<A: Allocator + Copy>(
+    alloc: A,
+    records: &Records<A>,
+    order: &[EventId],
+    word: Word,
+    first: EventId,
+    second: EventId,
+) -> Result<Judgement, Memory>
+    requires prefixes { ArePrefixes records.now }
+    requires whole { IsWholeOrder records.now order.now }
+    ensures { IfOk result (λ j. IsJudgement records.now word first second j) }
+{
+    if !stands_in(order, first) || !stands_in(order, second) {
+        return Ok(Judgement::Held);
+    }
+    if is_race(alloc, records, order, word, first, second)? {
+        Ok(Judgement::Race)
+    } else {
+        Ok(Judgement::NoRace)
+    }
+}
+
 /// Whether two events of a launch are a race on a word, or one of them is held.
 ///
 /// It follows base pairs alone, without clocks, and so takes time and memory that grow with the events of the launch.
@@ -103,19 +130,12 @@ pub fn judge<A: Allocator + Copy>(
     ensures { IfOk result (λ j. IsJudgement traces.now word first second j) }
 {
     let grounded = grounded_events(alloc, traces)?;
-    if !stands_in(&grounded.order, first) || !stands_in(&grounded.order, second) {
-        return Ok(Judgement::Held);
-    }
-    if is_race(
+    judgement_of(
         alloc,
         &grounded.records,
         &grounded.order,
         word,
         first,
         second,
-    )? {
-        Ok(Judgement::Race)
-    } else {
-        Ok(Judgement::NoRace)
-    }
+    )
 }

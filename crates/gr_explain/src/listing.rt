@@ -4,9 +4,11 @@ ghost use Rattle.std.specs.Prelude.{◌≡◌, ◌++◌, ◌<◌, ◌≤◌, [],
 ghost use Rattle.gr_model.specs.declared.event.EventId.{EventId as AnyEvent};
 ghost use Rattle.gr_model.specs.Barriers.{IsConvergent};
 ghost use Rattle.gr_model.specs.Instances.{Mark};
+ghost use Rattle.gr_model.specs.LawfulOrders.{IsWholeOrder};
+ghost use Rattle.gr_model.specs.Streams.{ArePrefixes};
 ghost use Rattle.gr_lanes.specs.Remembered.{forgotten_of};
 ghost use Rattle.gr_order.specs.Answers.{CanMake};
-ghost use Rattle.gr_order.specs.Sequences.{IsDone, IsSequence};
+ghost use Rattle.gr_order.specs.Sequences.{IsSequence};
 ghost use Rattle.gr_steps.specs.Steps.{AreBarriers};
 
 use gr_lanes::lanes::Lanes;
@@ -86,10 +88,8 @@ pub(crate) fn list_grounded<A: Allocator + Copy>(
     order: &mut Order<A>,
 ) -> Result<Vec<EventId, A>, Memory>
     requires { order.old.handled ≡ [] }
-    ensures taken { OnOk result (order.new.taken ≡ order.old.taken) }
-    ensures done { OnOk result (IsDone order.new) }
-    ensures sequence { OnOk result (IsSequence order.new) }
-    ensures listed { IfOk result (λ listed. listed.items ≡ order.new.handled) }
+    ensures prefixes { OnOk result (ArePrefixes order.old.taken) }
+    ensures whole { IfOk result (λ listed. IsWholeOrder order.old.taken listed.items) }
 {
     let mut listed = Vec::new(alloc);
     while let Some(step) = order.ready() {

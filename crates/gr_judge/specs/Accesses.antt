@@ -5,6 +5,7 @@ use Rattle.std.specs.Map.{lookup}
 use Rattle.gr_model.specs.declared.event.EventId.{EventId}
 use Rattle.gr_model.specs.declared.race.Race.{Race}
 use Rattle.gr_model.specs.Streams.{Streams, word_at}
+use Rattle.gr_model.specs.Waits.{IsGrounded}
 use Rattle.gr_clocks.specs.declared.access.Access.{Access}
 use Rattle.gr_closure.specs.Accesses.{IsAccess}
 use Rattle.gr_explain.specs.Edges.{Has, same_event}
@@ -28,6 +29,11 @@ IsKept s Among e (Some a) = Among e × IsAccess s e a
 -- this is so of each wanted event
 abbrev pub AreKept : {Z : Type 0} → Streams → (EventId → Type 0) → List EventId → List (EventId × Access Z) → Type 0
 AreKept s Among wanted accesses = (e : EventId) → Has wanted e → IsKept s Among e (access_at accesses e)
+
+-- and of both events of a pair, where the grounded ones were handled
+pub record AreBothKept {Z : Type 0} (s : Streams) (accesses : List (EventId × Access Z)) (r : Race) : Type 0 where
+  pub first : IsKept s (IsGrounded s) r.first (access_at accesses r.first)
+  pub second : IsKept s (IsGrounded s) r.second (access_at accesses r.second)
 
 -- the access of a step is kept where its event is wanted, and what was kept stays
 abbrev pub KeepsStep : {Z : Type 0} → List EventId → Handled Z → List (EventId × Access Z) → List (EventId × Access Z) → Type 0

@@ -1,10 +1,10 @@
 //! The accesses of some events of a launch, kept as they are handled.
 
-ghost use Rattle.std.specs.Prelude.{IfOk, OnOk, All};
+ghost use Rattle.std.specs.Prelude.{◌≡◌, [], IfOk, OnOk, All};
 ghost use Rattle.gr_model.specs.declared.race.Race.{Race as AnyRace};
 ghost use Rattle.gr_model.specs.LawfulOrders.{IsIn};
 ghost use Rattle.gr_model.specs.Waits.{IsGrounded};
-ghost use Rattle.gr_judge.specs.Accesses.{AreKept, AreWanted, KeepsStep};
+ghost use Rattle.gr_judge.specs.Accesses.{AreBothKept, AreKept, AreWanted, KeepsStep};
 
 use crate::taking::take_all;
 use gr_clocks::access::Access;
@@ -19,7 +19,7 @@ use std::alloc::Allocator;
 use std::hash::{BuildHasherDefault, FoldHasher};
 
 /// A set of events.
-pub(crate) type Events<A> = IndexSet<EventId, BuildHasherDefault<FoldHasher>, A>;
+type Events<A> = IndexSet<EventId, BuildHasherDefault<FoldHasher>, A>;
 
 /// Accesses, by their events.
 pub(crate) type Accesses<A> = IndexMap<EventId, Access<A>, BuildHasherDefault<FoldHasher>, A>;
@@ -41,7 +41,7 @@ fn add_pair<A: Allocator>(events: &mut Events<A>, race: &Race) -> Result<(), Mem
 ///
 /// # Errors
 /// `Memory`: out of memory.
-pub(crate) fn events_of<A: Allocator + Copy>(alloc: A, races: &[Race]) -> Result<Events<A>, Memory>
+fn events_of<A: Allocator + Copy>(alloc: A, races: &[Race]) -> Result<Events<A>, Memory>
     ensures { IfOk result (λ events. All (AreWanted events.keys) races.now) }
 {
     let mut events = IndexSet::new(alloc);
@@ -96,11 +96,28 @@ fn handle_all<A: Allocator + Copy>(
     Ok(())
 }
 
+/// The accesses of the wanted events among those that a sequencer, which has handled nothing, can handle.
+///
+/// # Errors
+/// `Memory`: out of memory.
+fn kept_by<A: Allocator + Copy>(
+    alloc: A,
+    sequencer: &mut Sequencer<A>,
+    wanted: &Events<A>,
+) -> Result<Accesses<A>, Memory>
+    requires { sequencer.old.handled ≡ [] }
+    ensures { IfOk result (λ accesses. AreKept sequencer.old.taken (IsGrounded sequencer.old.taken) wanted.now.keys accesses.entries) }
+{
+    let mut accesses = IndexMap::new(alloc);
+    handle_all(sequencer, wanted, &mut accesses)?;
+    Ok(accesses)
+}
+
 /// The accesses of the wanted events of a launch that are grounded.
 ///
 /// # Errors
 /// `Memory`: out of memory.
-pub(crate) fn accesses_of<A: Allocator + Copy>(
+fn accesses_of<A: Allocator + Copy>(
     alloc: A,
     traces: &Traces<A>,
     wanted: &Events<A>,
@@ -108,7 +125,20 @@ pub(crate) fn accesses_of<A: Allocator + Copy>(
     ensures { IfOk result (λ accesses. AreKept traces.now (IsGrounded traces.now) wanted.now.keys accesses.entries) }
 {
     let mut sequencer = take_all(alloc, traces)?;
-    let mut accesses = IndexMap::new(alloc);
-    handle_all(&mut sequencer, wanted, &mut accesses)?;
-    Ok(accesses)
+    kept_by(alloc, &mut sequencer, wanted)
+}
+
+/// The accesses of the events of pairs of a launch that are grounded.
+///
+/// # Errors
+/// `Memory`: out of memory.
+pub(crate) fn accesses_of_pairs<A: Allocator + Copy>(
+    alloc: A,
+    traces: &Traces<A>,
+    races: &[Race],
+) -> Result<Accesses<A>, Memory>
+    ensures { IfOk result (λ accesses. All (AreBothKept traces.now accesses.entries) races.now) }
+{
+    let wanted = events_of(alloc, races)?;
+    accesses_of(alloc, traces, &wanted)
 }

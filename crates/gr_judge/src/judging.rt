@@ -2,13 +2,12 @@
 
 ghost use Rattle.std.specs.Prelude.{◌≡◌, ◌↔◌, All, IfOk, IsTrue};
 ghost use Rattle.gr_model.specs.Streams.{Streams};
-ghost use Rattle.gr_model.specs.Waits.{IsGrounded};
 ghost use Rattle.gr_clocks.specs.ClockedAccess.{clocked};
 ghost use Rattle.gr_shadow.specs.Clashes as shadow;
-ghost use Rattle.gr_judge.specs.Accesses.{IsKept, access_at};
+ghost use Rattle.gr_judge.specs.Accesses.{AreBothKept};
 ghost use Rattle.gr_judge.specs.Judged.{AreAccesses, AreJudgements, ClashOn, IsJudged};
 
-use crate::accesses::{Accesses, accesses_of, events_of};
+use crate::accesses::{Accesses, accesses_of_pairs};
 use gr_clocks::access::Access;
 use gr_explain::judging::Judgement;
 use gr_model::event::Word;
@@ -41,7 +40,7 @@ fn are_race<A: Allocator>(word: Word, first: &Access<A>, second: &Access<A>) -> 
 
 /// What the two events of a pair are to each other on its word, where the accesses of those that are grounded were kept.
 fn judgement_of<A: Allocator>(accesses: &Accesses<A>, race: &Race) -> Judgement
-    ensures { (s : Streams) → AreAccesses s race.now → IsKept s (IsGrounded s) race.now.first (access_at accesses.now.entries race.now.first) → IsKept s (IsGrounded s) race.now.second (access_at accesses.now.entries race.now.second) → IsJudged s race.now result }
+    ensures { (s : Streams) → AreAccesses s race.now → AreBothKept s accesses.now.entries race.now → IsJudged s race.now result }
 {
     match (accesses.get(&race.first), accesses.get(&race.second)) {
         (Some(first), Some(second)) => {
@@ -53,6 +52,24 @@ fn judgement_of<A: Allocator>(accesses: &Accesses<A>, race: &Race) -> Judgement
         }
         _ => Judgement::Held,
     }
+}
+
+/// What the two accesses of each pair are to each other on its word, where the accesses of those that are grounded were kept.
+///
+/// # Errors
+/// `Memory`: out of memory.
+fn judgements_of<A: Allocator + Copy>(
+    alloc: A,
+    accesses: &Accesses<A>,
+    races: &[Race],
+) -> Result<Vec<Judgement, A>, Memory>
+    ensures { IfOk result (λ judgements. (s : Streams) → All (AreAccesses s) races.now → All (AreBothKept s accesses.now.entries) races.now → AreJudgements s races.now judgements.items) }
+{
+    let mut judgements = Vec::new(alloc);
+    for race in races {
+        judgements.push(judgement_of(accesses, race))?;
+    }
+    Ok(judgements)
 }
 
 /// What the two accesses of each pair are to each other on its word: a race, no race, or one of them is held. The answers
@@ -70,11 +87,6 @@ pub fn judge_races<A: Allocator + Copy>(
     requires accesses { All (AreAccesses traces.now) races.now }
     ensures { IfOk result (λ judgements. AreJudgements traces.now races.now judgements.items) }
 {
-    let wanted = events_of(alloc, races)?;
-    let accesses = accesses_of(alloc, traces, &wanted)?;
-    let mut judgements = Vec::new(alloc);
-    for race in races {
-        judgements.push(judgement_of(&accesses, race))?;
-    }
-    Ok(judgements)
+    let accesses = accesses_of_pairs(alloc, traces, races)?;
+    judgements_of(alloc, &accesses, races)
 }

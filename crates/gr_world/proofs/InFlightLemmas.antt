@@ -1,5 +1,5 @@
 -- A world in which an event was handled, an instance met, or an access went on, is a world.
-use Rattle.std.proofs.Common.{◌≡◌, ◌≢◌, ℕ, ◌<◌, ◌==◌, true≢false, IsFalse, List, [], ◌∷◌, ◌++◌, length, set, Option, Some, None, Result, Ok, Err, refl, sym, ap, ◌∙◌, subst, ⊎_elim, arith, append_assoc, append-nil, eq-eqb, ne_eqb, cond}
+use Rattle.std.proofs.Common.{◌≡◌, ◌≢◌, ℕ, ◌<◌, ◌==◌, true≢false, IsFalse, IsTrue, List, [], ◌∷◌, ◌++◌, length, set, Option, Some, None, Result, Ok, Err, refl, sym, ap, ◌∙◌, subst, ⊎_elim, arith, append_assoc, append-nil, eq-eqb, ne_eqb, cond}
 use Rattle.std.proofs.Math.Nat.{mod-lt}
 use Rattle.std.specs.Option.{option_map}
 use Rattle.std.specs.Prelude.{IfErr, IsErrAnd, is_some}
@@ -19,7 +19,7 @@ use Rattle.gr_clocks.specs.ClockedAccess.{bare}
 use Rattle.gr_hits.specs.Accesses.{AreAccesses}
 use Rattle.gr_hits.proofs.Adding.{bare_access, handled_adds, met_add_none, others_add_none}
 use Rattle.gr_order.specs.Sequences.{HandlesEvent, IsSequence, MeetsInstance, Sequence}
-use Rattle.gr_order.specs.Answers.{IsMeetFault}
+use Rattle.gr_order.specs.Answers.{IsHandleFault, IsMeetFault}
 use Rattle.gr_order.specs.declared.go_error.GoError.{GoError}
 use Rattle.gr_order.specs.declared.go_error.GoError.TheVariants.{NotReady as OrderNotReady, Memory as OrderMemory}
 use Rattle.gr_shadow.specs.Clashes.{ClockedAccess, clocked}
@@ -226,6 +226,10 @@ received_is_step w k x rest new there front leads = record {
 
 -- ---- refusals
 
+not_busy : (in_flight : Option ClockedAccess) → in_flight ≡ None → ¬ IsTrue (is_some in_flight)
+not_busy None free busy = absurd cc
+not_busy (Some x) free busy = absurd cc
+
 pub meet_refused : {R : Type 0} (w : World) (g : ℕ) (result : Result R StepError) (e : GoError) → IsErrAnd result (Becomes e) → g < length w.sent.sizes → IsMeetFault w.sequence g e → IfErr result (IsStepRefusal w (Meet g))
 meet_refused w g (Ok x) e is there fault = absurd is
 meet_refused w g (Err f) OrderNotReady is there fault = subst (IsStepRefusal w (Meet g)) (sym is) ((λ bad. omega (arith, bad, there)), (λ none. none), λ can. fault can)
@@ -235,6 +239,18 @@ meet_refused w g (Err f) OrderMemory is there fault = subst (IsStepRefusal w (Me
   room = λ none. none;
   some = λ none. none;
   free = λ none. none;
+  ready = λ wait. wait fault;
+})
+
+pub handle_refused : {R : Type 0} (w : World) (i : ItemId) (result : Result R StepError) (e : GoError) → IsErrAnd result (Becomes e) → HasItem w.sent.sizes i → w.in_flight ≡ None → IsHandleFault w.sequence i e → IfErr result (IsStepRefusal w (Handle i))
+handle_refused w i (Ok x) e is there free fault = absurd is
+handle_refused w i (Err f) OrderNotReady is there free fault = subst (IsStepRefusal w (Handle i)) (sym is) ((λ bad. bad there), not_busy w.in_flight free, λ can. fault can)
+handle_refused w i (Err f) OrderMemory is there free fault = subst (IsStepRefusal w (Handle i)) (sym is) (record {
+  good = λ bad. bad there;
+  unclosed = λ none. none;
+  room = λ none. none;
+  some = λ none. none;
+  free = not_busy w.in_flight free;
   ready = λ wait. wait fault;
 })
 

@@ -4,9 +4,10 @@
 //! is lawful; what each worker received, followed by what is queued for it and what is on its way to it, are the
 //! accesses along the handled order that go to it.
 
-ghost use Rattle.std.specs.Prelude.{◌≡◌, ◌≢◌, ◌↔◌, ◌<◌, ◌+◌, IsTrue, IsFalse, IfOk, IfErr, OnOk, OnErr, length, replicate};
+ghost use Rattle.std.specs.Prelude.{◌≡◌, ◌≢◌, ◌↔◌, ◌<◌, ◌+◌, IsTrue, IsFalse, IfOk, IfErr, OnOk, OnErr, None, length, replicate};
 ghost use Rattle.gr_model.specs.declared.limits.TheConstants.{MOST_RECORDS};
 ghost use Rattle.gr_model.specs.Events.{IsEventOk, is_end};
+ghost use Rattle.gr_model.specs.Shapes.{HasItem};
 ghost use Rattle.std.specs.List.{sum_by};
 ghost use Rattle.gr_model.specs.Reports.{IsReportOf, Lists, WordBelow};
 ghost use Rattle.gr_model.specs.Streams.{list_of, size_of};
@@ -197,6 +198,19 @@ impl<A: Allocator + Copy> World<A> {
         if self.in_flight.is_some() {
             return Err(StepError::Busy);
         }
+        self.handle_next(item)
+    }
+
+    /// Handles the next event of an item that is there, where no access is on its way; its access, if it has one, is then.
+    fn handle_next(&mut self, item: ItemId) -> Result<(), StepError>
+    where
+        A: Clone,
+        requires there { HasItem self.old.sent.sizes item }
+        requires free { self.old.in_flight ≡ None }
+        ensures step { OnOk result (IsWorldStep self.old (steps.Handle item) self.new) }
+        ensures err { IfErr result (IsStepRefusal self.old (steps.Handle item)) }
+        ensures unchanged { OnErr result (self.new ≡ self.old) }
+    {
         match self.sequencer.handle(item)? {
             Handled::One { event: _, access } => self.in_flight = access,
             Handled::Meet {

@@ -1,36 +1,10 @@
-use Rattle.std.proofs.Common.{◌≡◌, ℕ, IsTrue, List, None, rules, subst, sym}
-use Rattle.std.specs.Option.{option_map}
+use Rattle.std.proofs.Common.{ℕ, IsTrue, List, rules, subst}
 use Rattle.gr_model.specs.Shapes.{HasItem}
-use Rattle.gr_shadow.specs.Clashes.{clocked}
-use Rattle.gr_sequencer.specs.Answers.{IsOfItem, IsStep as IsSequencerStep}
-use Rattle.gr_sequencer.specs.declared.handled.Handled.TheVariants.{One}
-use Rattle.gr_world.specs.declared.step.Step.TheVariants.{Handle}
-use Rattle.gr_world.specs.Steps.{IsWorldStep}
-use Rattle.gr_world.specs.Views.{world_of}
-use Rattle.gr_world.specs.Worlds.{World, going_on}
-use Rattle.gr_world.proofs.InFlightLemmas.{handled_is_step, handling_is_world, no_in_flight, in_flight_of}
+use Rattle.gr_world.specs.Worlds.{World}
 use Rattle.gr_world.proofs.world.World.handle.Goals as goal
-use Rattle.gr_world.proofs.world.World.handle.Goals.{in-Some-1, in-None-1}
 
-pub invariant_of-self-in-One-2 : goal.invariant_of-self-in-One-2
-invariant_of-self-in-One-2 g c =
-    let w : World = world_of c.self.inside.config c.self.inside.sent.streams c.self.inside.intakes.items c.self.inside.sequencer c.self.inside.in_flight c.self.inside.workers.items in
-    let step : IsSequencerStep c.self.inside.sequencer c.handle.new.self (One c.in-One.event c.in-One.access) = rw c.in-One.is at c.in_ok-access.ensures.step in
-    let free : w.in_flight ≡ None = no_in_flight c.self.inside.in_flight (search rules) in
-    handling_is_world w c.self.invariant c.in-One.event c.handle.new.self (option_map clocked c.in-One.access) free step.0 (in_flight_of c.handle.new.self.taken c.in-One.event c.in-One.access step.1) c.handle.ensures.sequence
-
-pub returns-clause-step : goal.returns-clause-step
-returns-clause-step g c =
-    let w : World = world_of c.self.inside.config c.self.inside.sent.streams c.self.inside.intakes.items c.self.inside.sequencer c.self.inside.in_flight c.self.inside.workers.items in
-    let step : IsSequencerStep c.self.inside.sequencer c.handle.new.self (One c.in-One.event c.in-One.access) = rw c.in-One.is at c.in_ok-access.ensures.step in
-    let item : IsOfItem c.args.item (One c.in-One.event c.in-One.access) = rw c.in-One.is at c.in_ok-access.ensures.item in
-    let free : w.in_flight ≡ None = no_in_flight c.self.inside.in_flight (search rules) in
+pub handle_next-requires-clause-there : goal.handle_next-requires-clause-there
+handle_next-requires-clause-there g c =
     let found : IsTrue c.has.result = search rules in
-    let has : HasItem w.sent.sizes c.args.item = subst (λ (sizes : List ℕ). HasItem sizes c.args.item) c.shape.ensures.sizes (c.has.ensures.0 found) in
-    let new : World = going_on w c.handle.new.self (option_map clocked c.in-One.access) in
-    let made : IsWorldStep c.args.self.now (Handle c.args.item) new = subst (λ (v : World). IsWorldStep v (Handle c.args.item) new) c.self.view_is
-    (handled_is_step w c.args.item c.in-One.event c.handle.new.self (option_map clocked c.in-One.access) new has free item step.0 (in_flight_of c.handle.new.self.taken c.in-One.event c.in-One.access step.1) (λ k. new)) in
-    elim c.match-self-access.branch [
-      | in-Some-1 v ↦ subst (λ (n : World). IsWorldStep c.args.self.now (Handle c.args.item) n) (sym v.self-is) made
-      | in-None-1 v ↦ subst (λ (n : World). IsWorldStep c.args.self.now (Handle c.args.item) n) (sym v.self-is) made
-    ]
+    subst (λ (v : World). HasItem v.sent.sizes c.args.item) c.self.view_is
+    (subst (λ (sizes : List ℕ). HasItem sizes c.args.item) c.shape.ensures.sizes (c.has.ensures.0 found))

@@ -1,6 +1,0 @@
-use Rattle.std.proofs.Common.{take}
-use Rattle.gr_judge.specs.Judged.{AreJudgements}
-use Rattle.gr_judge.proofs.judging.judge_races.Given as goal
-
-abbrev pub invariant-loop-race : goal.invariant-loop-race
-invariant-loop-race g l = AreJudgements l.traces (take l.race-index l.races) l.judgements.items
