@@ -1,7 +1,7 @@
-use Rattle.std.proofs.Common.{ℕ, List, sym, subst}
+use Rattle.std.proofs.Common.{◌<◌, ◌∙◌, ℕ, List, ap, length, sym, subst}
 use Rattle.gr_model.specs.Shapes.{HasItem}
 use Rattle.gr_clocks.specs.Counts.{CountsOneMore}
-use Rattle.gr_clocks.specs.Groups.{item_of, GroupClocks, clock_in_group}
+use Rattle.gr_clocks.specs.Groups.{item_of, GroupClocks, IsFullClock, clock_in_group}
 use Rattle.gr_clocks.specs.Tables.{clock_at}
 use Rattle.gr_clocks.proofs.RowLemmas.{row_of_item}
 use Rattle.gr_clocks.proofs.TableLemmas.{group_is, item_groups, item_table, ticks_item}
@@ -23,4 +23,32 @@ returns-clause-ok g c =
     let other_tick : CountsOneMore (clock_at c.args.other.now c.args.item) c.args.item (clock_in_group c.tick_clocks.new.other c.args.item.item) = subst (λ (x : GroupClocks). CountsOneMore (clock_in_group x c.args.item.item) (item_of x.number c.args.item.item) (clock_in_group c.tick_clocks.new.other c.args.item.item)) other_is c.in_ok-tick_clocks.ensures.ok.1.tick in (
       ticks_item c.args.one.now _ c.args.item (clock_in_group c.tick_clocks.new.one c.args.item.item) c.requires.item (item_table c.one.inside.groups.items c.args.one.now c.one.invariant c.one.view_is c.args.item c.index_mut.result.now c.tick_clocks.new.one (clock_in_group c.tick_clocks.new.one c.args.item.item) c.requires.item c.index_mut.ensures.value c.in_ok-tick_clocks.ensures.ok.0.group) one_tick,
       ticks_item c.args.other.now _ c.args.item (clock_in_group c.tick_clocks.new.other c.args.item.item) (subst (λ (sizes : List ℕ). HasItem sizes c.args.item) (sym c.requires.same) c.requires.item) (item_table c.other.inside.groups.items c.args.other.now c.other.invariant c.other.view_is c.args.item c.index_mut-2.result.now c.tick_clocks.new.other (clock_in_group c.tick_clocks.new.other c.args.item.item) (subst (λ (sizes : List ℕ). HasItem sizes c.args.item) (sym c.requires.same) c.requires.item) c.index_mut-2.ensures.value c.in_ok-tick_clocks.ensures.ok.1.group) other_tick,
+    )
+
+pub tick_clocks-requires-clause-items : goal.tick_clocks-requires-clause-items
+tick_clocks-requires-clause-items g c =
+    let one = row_of_item c.args.one.now c.args.item c.requires.item in
+    let one_is = group_is c.one.inside.groups.items c.args.one.now c.one.invariant c.one.view_is c.args.item.group c.index_mut.result.now one.0 c.index_mut.ensures.value in
+    let other = row_of_item c.args.other.now c.args.item (subst (λ (sizes : List ℕ). HasItem sizes c.args.item) (sym c.requires.same) c.requires.item) in
+    let other_is = group_is c.other.inside.groups.items c.args.other.now c.other.invariant c.other.view_is c.args.item.group c.index_mut-2.result.now other.0 c.index_mut-2.ensures.value in (
+      subst (λ (x : GroupClocks). c.args.item.item < length x.clocks) (sym one_is) one.1,
+      subst (λ (x : GroupClocks). c.args.item.item < length x.clocks) (sym other_is) other.1,
+    )
+
+pub tick_clocks-requires-clause-same : goal.tick_clocks-requires-clause-same
+tick_clocks-requires-clause-same g c =
+    let one = row_of_item c.args.one.now c.args.item c.requires.item in
+    let one_is = group_is c.one.inside.groups.items c.args.one.now c.one.invariant c.one.view_is c.args.item.group c.index_mut.result.now one.0 c.index_mut.ensures.value in
+    let other = row_of_item c.args.other.now c.args.item (subst (λ (sizes : List ℕ). HasItem sizes c.args.item) (sym c.requires.same) c.requires.item) in
+    let other_is = group_is c.other.inside.groups.items c.args.other.now c.other.invariant c.other.view_is c.args.item.group c.index_mut-2.result.now other.0 c.index_mut-2.ensures.value in
+    ap (λ (x : GroupClocks). x.number) other_is ∙ sym (ap (λ (x : GroupClocks). x.number) one_is)
+
+pub tick_clocks-requires-clause-room : goal.tick_clocks-requires-clause-room
+tick_clocks-requires-clause-room g c =
+    let one = row_of_item c.args.one.now c.args.item c.requires.item in
+    let one_is = group_is c.one.inside.groups.items c.args.one.now c.one.invariant c.one.view_is c.args.item.group c.index_mut.result.now one.0 c.index_mut.ensures.value in
+    let other = row_of_item c.args.other.now c.args.item (subst (λ (sizes : List ℕ). HasItem sizes c.args.item) (sym c.requires.same) c.requires.item) in
+    let other_is = group_is c.other.inside.groups.items c.args.other.now c.other.invariant c.other.view_is c.args.item.group c.index_mut-2.result.now other.0 c.index_mut-2.ensures.value in (
+      subst (λ (x : GroupClocks). ¬ IsFullClock x c.args.item.item) (sym one_is) c.requires.room,
+      subst (λ (x : GroupClocks). ¬ IsFullClock x c.args.item.item) (sym other_is) c.requires.other_room,
     )

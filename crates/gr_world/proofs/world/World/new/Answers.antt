@@ -23,3 +23,12 @@ invariant_of-result g c =
 
 pub returns-clause-world : goal.returns-clause-world
 returns-clause-world g c = invariant_of-result g c
+
+pub returns-clause-made : goal.returns-clause-made
+returns-clause-made g c =
+    let sent = c.in_ok-sent.ensures.nothing ∙ ap nothing_taken c.in_ok-copy.ensures in
+    let intakes =
+    c.in_ok-intakes.ensures ∙ (ap (λ n. replicate n (empty_queue c.capacity.result)) c.queues.ensures.number ∙ ap (λ n. replicate c.args.config.queues (empty_queue n)) c.capacity.ensures.number) in
+    let workers =
+    c.in_ok-workers.ensures ∙ (ap (λ n. replicate n (no_work c.capacity-2.result)) c.workers.ensures.number ∙ ap (λ n. replicate c.args.config.workers (no_work n)) c.capacity-2.ensures.number) in
+    λ k. record { config = c.args.config; sent = sent k; intakes = intakes k; sequence = c.in_ok-sequencer.ensures k; in_flight = None; workers = workers k }
