@@ -1,13 +1,11 @@
-use Rattle.std.proofs.Common.{◌≡◌, ◌++◌, [], false, true, List, Err, Some, ap, sym, subst, ◌∙◌, length, arith}
+use Rattle.std.proofs.Common.{◌≡◌, ◌++◌, [], false, List, Some, ap, sym, subst, ◌∙◌, length}
 use Rattle.std.specs.Prelude.{not, ◌==◌}
 use Rattle.std.specs.List.{list_any}
-use Rattle.std.proofs.lemmas.List.{length-map}
-use Rattle.gr_record.specs.declared.fault.Fault.TheVariants.{OtherLaunch, SameGroup}
 use Rattle.gr_order.specs.Sequences.{Sequence, with_group}
 use Rattle.gr_replay.specs.Intakes.{IsRead, come, come_of, read_behind}
 use Rattle.gr_replay.specs.Joined.{Flat}
 use Rattle.gr_backlog.specs.Waiting.{Coming}
-use Rattle.gr_replay.proofs.Behind.{other_launch_refused, same_group_refused, stream_begins}
+use Rattle.gr_replay.proofs.Behind.{stream_begins}
 use Rattle.gr_replay.proofs.Comings.{any_come, apart_of, begins, between, may_come, none_come, none_goes_on, whole_stay}
 use Rattle.gr_replay.proofs.intake.Intake.begin.Goals as goal
 

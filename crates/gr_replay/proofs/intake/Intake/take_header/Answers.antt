@@ -1,18 +1,14 @@
 use Rattle.std.proofs.Common.{◌≡◌, ◌++◌, [], ℕ, List, ap, sym, subst, ◌∙◌, length, refl, arith}
-use Rattle.std.proofs.lemmas.List.{length-map, length-take-le}
+use Rattle.std.proofs.lemmas.List.{length-take-le}
 use Rattle.std.proofs.lemmas.Result.{err_from_is_err_and}
 use Rattle.gr_input.specs.Faults.{Fails}
-use Rattle.gr_record.specs.Faults.{stream_fault}
 use Rattle.gr_record.specs.Laws.{AreBytes}
-use Rattle.gr_record.specs.WholeStreams.{front_header_at}
 use Rattle.gr_record.specs.declared.layout.TheConstants.{HEADER_LENGTH}
 use Rattle.gr_record.proofs.Found.{read_header_is_spelled}
 use Rattle.gr_record.proofs.FoundPrefixes.{bytes_take}
-use Rattle.gr_replay.specs.Intakes.{behind, come, come_of}
-use Rattle.gr_replay.proofs.Behind.{header_failed, header_found, header_refused, split_more, split_whole}
-use Rattle.gr_replay.proofs.Comings.{between}
+use Rattle.gr_replay.specs.Intakes.{behind}
+use Rattle.gr_replay.proofs.Behind.{split_more, split_whole}
 use Rattle.gr_replay.proofs.Inputs.{memory_fails_behind}
-use Rattle.gr_replay.proofs.Joining.{fault_at-fails}
 use Rattle.gr_replay.proofs.intake.Intake.take_header.Goals as goal
 
 pub returns-then-bytes-lt-HEADER_LENGTH-clause-moves : goal.returns-then-bytes-lt-HEADER_LENGTH-clause-moves
