@@ -4,7 +4,7 @@ ghost use Rattle.std.specs.Prelude.{◌≡◌, ◌<◌, [], IfOk, OnOk, length};
 ghost use Rattle.gr_model.specs.Streams.{AreAccepted, IsAccepted, list_of, size_of};
 ghost use Rattle.gr_explain.specs.Taking.{all_taken, with_list};
 ghost use Rattle.gr_order.specs.Answers.{CanMake};
-ghost use Rattle.gr_order.specs.Sequences.{IsDone, IsSequence};
+ghost use Rattle.gr_order.specs.Sequences.{IsDone, IsSequence, nothing};
 
 use gr_agenda::agenda::Agenda;
 use gr_model::event::Event;
@@ -36,6 +36,21 @@ fn take_list<A: Allocator + Copy>(
     Ok(())
 }
 
+/// Has an agenda that has taken nothing take all records of a launch.
+///
+/// # Errors
+/// `Memory`: out of memory.
+fn take_lists<A: Allocator + Copy>(agenda: &mut Agenda<A>, traces: &Traces<A>) -> Result<(), Memory>
+    requires nothing { agenda.old ≡ nothing traces.now.sizes }
+    ensures taken { OnOk result (agenda.new ≡ all_taken traces.now) }
+    ensures accepted { AreAccepted traces.now }
+{
+    for group in 0..traces.shape().groups() {
+        take_list(agenda, group, traces.list(group))?;
+    }
+    Ok(())
+}
+
 /// An agenda that has taken all records of a launch, and handled nothing.
 ///
 /// # Errors
@@ -48,9 +63,7 @@ pub(crate) fn take_all<A: Allocator + Copy>(
     ensures accepted { IfOk result (λ agenda. AreAccepted traces.now) }
 {
     let mut agenda = Agenda::new(alloc, traces.shape().copy()?)?;
-    for group in 0..traces.shape().groups() {
-        take_list(&mut agenda, group, traces.list(group))?;
-    }
+    take_lists(&mut agenda, traces)?;
     Ok(agenda)
 }
 

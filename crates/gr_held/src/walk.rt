@@ -141,6 +141,29 @@ fn none_visited<A: Allocator + Copy>(alloc: A, judged: &Judged<A>) -> Result<Tal
     }
 }
 
+/// Follows the chain from a held event to its end, and puts its links into a list that has none.
+///
+/// # Errors
+/// `Memory`: out of memory.
+fn follow<A: Allocator, B: Allocator>(
+    judged: &Judged<A>,
+    links: &mut Vec<Link, B>,
+    visited: &mut Tally<A>,
+    event: EventId,
+) -> Result<(), Memory>
+    requires held { IsHeldEvent judged.now event }
+    requires none { links.old.items ≡ [] }
+    requires visited { AreVisited judged.now [] visited.old }
+    ensures { OnOk result (IsChain judged.now event links.new.items) }
+{
+    let mut next = Some(event);
+    while let Some(held) = next {
+        let first = go_to_first(judged, links, held)?;
+        next = go_on(judged, links, visited, first)?;
+    }
+    Ok(())
+}
+
 /// The chain from a held event.
 ///
 /// It takes time and memory that grow with the work-items of the launch.
@@ -155,12 +178,8 @@ pub(crate) fn chain_of<A: Allocator + Copy>(
     requires held { IsHeldEvent judged.now event }
     ensures { IfOk result (λ links. IsChain judged.now event links.items) }
 {
-    let mut links = Vec::new(alloc);
     let mut visited = none_visited(alloc, judged)?;
-    let mut next = Some(event);
-    while let Some(held) = next {
-        let first = go_to_first(judged, &mut links, held)?;
-        next = go_on(judged, &mut links, &mut visited, first)?;
-    }
+    let mut links = Vec::new(alloc);
+    follow(judged, &mut links, &mut visited, event)?;
     Ok(links)
 }

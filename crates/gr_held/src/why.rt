@@ -36,6 +36,26 @@ impl<A: Allocator> WhyHeld<A> {
     }
 }
 
+/// Why an event of a launch is held, where it is known which events are grounded.
+///
+/// # Errors
+/// `Memory`: out of memory.
+fn why_in<A: Allocator + Copy>(
+    alloc: A,
+    judged: &Judged<A>,
+    event: EventId,
+) -> Result<WhyHeld<A>, Memory>
+    ensures { IfOk result (λ why. IsWhy judged.now event (answer_of why)) }
+{
+    if judged.is_grounded(event) {
+        return Ok(WhyHeld::Judged);
+    }
+    match judged.record_of(event) {
+        None => Ok(WhyHeld::NoRecord),
+        Some(_) => Ok(WhyHeld::Held(chain_of(alloc, judged, event)?)),
+    }
+}
+
 /// Why an event of a launch is held, or that it is judged, or that it is not there.
 ///
 /// It handles all events of the launch once, and so takes time and memory that grow with them.
@@ -50,11 +70,5 @@ pub fn why_held<A: Allocator + Copy>(
     ensures { IfOk result (λ why. IsWhy traces.now event (answer_of why)) }
 {
     let judged = Judged::of(alloc, traces)?;
-    if judged.is_grounded(event) {
-        return Ok(WhyHeld::Judged);
-    }
-    match judged.record_of(event) {
-        None => Ok(WhyHeld::NoRecord),
-        Some(_) => Ok(WhyHeld::Held(chain_of(alloc, &judged, event)?)),
-    }
+    why_in(alloc, &judged, event)
 }

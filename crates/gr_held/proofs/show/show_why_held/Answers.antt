@@ -1,27 +1,37 @@
-use Rattle.std.proofs.Common.{rules, ◌↔◌, Bool, IsTrue, refl, subst, sym}
-use Rattle.gr_held.specs.Shown.{IsHeldIn}
-use Rattle.gr_held.specs.Why.{answer_of}
-use Rattle.gr_held.proofs.WhyLemmas.{why_said}
+use Rattle.std.proofs.Common.{rules, map}
+use Rattle.std.proofs.lemmas.Result.{IfErr-weaker, IfOk-weaker}
+use Rattle.gr_replay.specs.Each.{all_known}
+use Rattle.gr_held.proofs.ShownLemmas.{outside_fault}
 use Rattle.gr_held.proofs.show.show_why_held.Goals as goal
 
-pub returns-in-Ok-clause-shown : goal.returns-in-Ok-clause-shown
-returns-in-Ok-clause-shown g c =
-    let s = c.in_ok-traces.traces in record {
-      launch = s;
+pub returns-clause-shown : goal.returns-clause-shown
+returns-clause-shown g c =
+    IfOk-weaker c.show_launch.result _ _
+    (λ held shown. record {
+      launch = c.in_ok-traces.traces;
       spelled = c.in_ok-traces.ensures.launch;
       accepted = search rules;
-      text = _;
-      exact = record { why = answer_of c.in_ok-why.why; exact = c.in_ok-why.ensures; is = refl };
-      written = c.in-Ok.ensures.whole;
-      said = subst (λ (b : Bool). IsTrue b ↔ IsHeldIn c.args.event s) (sym c.is_held.ensures) (why_said s c.args.event (answer_of c.in_ok-why.why) c.in_ok-why.ensures);
-    }
+      text = shown.text;
+      exact = shown.exact;
+      written = shown.written;
+      said = shown.said;
+    })
+    c.show_launch.ensures.shown
 
 pub returns-clause-prefix : goal.returns-clause-prefix
-returns-clause-prefix g c = λ _. record {
-  launch = c.in_ok-traces.traces;
-  spelled = c.in_ok-traces.ensures.launch;
-  accepted = search rules;
-  text = _;
-  exact = record { why = answer_of c.in_ok-why.why; exact = c.in_ok-why.ensures; is = refl };
-  prefix = c.in-Err.ensures.prefix;
-}
+returns-clause-prefix g c =
+    IfErr-weaker c.show_launch.result _ _
+    (λ f shown is. let prefix = shown is in record {
+      launch = c.in_ok-traces.traces;
+      spelled = c.in_ok-traces.ensures.launch;
+      accepted = search rules;
+      text = prefix.text;
+      exact = prefix.exact;
+      prefix = prefix.prefix;
+    })
+    c.show_launch.ensures.prefix
+
+pub returns-clause-fault : goal.returns-clause-fault
+returns-clause-fault g c =
+    let known = all_known (map g.T.Read.remaining c.args.readers.items) in
+    IfErr-weaker c.show_launch.result _ _ (λ f is. outside_fault known f is) c.show_launch.ensures.fault

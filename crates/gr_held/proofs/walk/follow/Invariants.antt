@@ -3,7 +3,7 @@ use Rattle.gr_held.specs.Chains.{IsChainTo}
 use Rattle.gr_held.specs.Waiting.{IsHeldEvent}
 use Rattle.gr_held.specs.Walks.{AreVisited}
 use Rattle.gr_held.proofs.WalkLemmas.{steps_left}
-use Rattle.gr_held.proofs.walk.chain_of.Given as goal
+use Rattle.gr_held.proofs.walk.follow.Given as goal
 
 abbrev pub invariant-loop-next : goal.invariant-loop-next
 invariant-loop-next g l = IsChainTo l.judged l.fn.event l.links.items l.next × IfSome l.next (IsHeldEvent l.judged) × AreVisited l.judged l.links.items l.visited

@@ -1,6 +1,6 @@
 use Rattle.std.proofs.Common.{subst}
 use Rattle.gr_held.specs.Chains.{IsChainTo}
-use Rattle.gr_held.proofs.walk.chain_of.Goals as goal
+use Rattle.gr_held.proofs.walk.follow.Goals as goal
 
 pub loop-next-preserved : goal.loop-next-preserved
 loop-next-preserved g c =
