@@ -2,7 +2,7 @@
 -- what side files say of them.
 -- Source: docs/FORMATS.md, "JSON".
 use Rattle.std.specs.Prelude.{ℕ, List, Option, None, Some, codes}
-use Rattle.serde_json.specs.Data.{Data, member, no_members, object, string}
+use Rattle.serde_json.specs.Data.{Data, Members, member, no_members, object, put, string}
 use Rattle.gr_model.specs.declared.event.Word.{Word}
 use Rattle.gr_causes.specs.declared.cause.Cause.{Cause}
 use Rattle.gr_causes.specs.declared.cause.Cause.TheVariants.{Flags, Scope, Divergence, NoBarrier, NoHandOver}
@@ -14,7 +14,7 @@ use Rattle.gr_sides.specs.Sides.{SidesSaid}
 use Rattle.gr_json.specs.Between.{between_data}
 use Rattle.gr_json.specs.Details.{details_data}
 use Rattle.gr_json.specs.Lines.{json_line}
-use Rattle.gr_json.specs.Races.{answer_data}
+use Rattle.gr_json.specs.Races.{answer_data, with_race}
 use Rattle.gr_json.specs.Words.{buffer_data, word_data}
 
 abbrev pub cause_name : Cause → List ℕ
@@ -34,6 +34,19 @@ race_data buffer place w a =
     (member (codes "first") (details_data (place (Event a.first)) a.first a.first_details)
     (member (codes "second") (details_data (place (Event a.second)) a.second a.second_details)
     (member (codes "type") (string (codes "race")) (member (codes "word") (word_data w) no_members)))))))
+
+-- members, with the two accesses of a racing pair
+abbrev pub with_accesses : (Placed → Option (List ℕ)) → AccountSaid → Members → Members
+with_accesses place a ms =
+    put (codes "second") (details_data (place (Event a.second)) a.second a.second_details) (put (codes "first") (details_data (place (Event a.first)) a.first a.first_details) ms)
+
+-- members, with what stands between its accesses and the cause of their race
+abbrev pub with_cause : (Placed → Option (List ℕ)) → AccountSaid → Members → Members
+with_cause place a ms = put (codes "cause") (string (cause_name a.cause)) (put (codes "between") (between_data place a.between) ms)
+
+-- members, with its word and the word's buffer
+abbrev pub with_word : Option ElementSaid → Word → Members → Members
+with_word buffer w ms = with_race w (put (codes "buffer") (buffer_data buffer) ms)
 
 -- the same, or a word that has no racing pair
 abbrev pub account_data : Option ElementSaid → (Placed → Option (List ℕ)) → Word → Option AccountSaid → Data

@@ -1,7 +1,7 @@
 -- What an access is, and where it stands in the source, as JSON.
 -- Source: docs/FORMATS.md, "JSON".
 use Rattle.std.specs.Prelude.{ℕ, List, Option, codes}
-use Rattle.serde_json.specs.Data.{Data, member, no_members, number, object, string, unsigned}
+use Rattle.serde_json.specs.Data.{Data, Members, member, no_members, number, object, put, string, unsigned}
 use Rattle.gr_model.specs.declared.event.EventId.{EventId}
 use Rattle.gr_model.specs.declared.event.Kind.{Kind}
 use Rattle.gr_model.specs.declared.event.Kind.TheVariants as kinds
@@ -49,3 +49,11 @@ details_data place e d =
     (member (codes "index") (number (unsigned e.index))
     (member (codes "item") (number (unsigned e.at.item))
     (member (codes "phase") (number (unsigned d.phase)) (member (codes "place") (text_data place) (member (codes "record") (number (unsigned d.number)) no_members)))))))
+
+-- members, with an event
+abbrev pub with_event : EventId → Members → Members
+with_event e ms = put (codes "item") (number (unsigned e.at.item)) (put (codes "index") (number (unsigned e.index)) (put (codes "group") (number (unsigned e.at.group)) ms))
+
+-- members, with what is told of an access beside its event and its place
+abbrev pub with_told : Details → Members → Members
+with_told d ms = put (codes "record") (number (unsigned d.number)) (put (codes "phase") (number (unsigned d.phase)) (put (codes "access") (kind_data d.kind) ms))

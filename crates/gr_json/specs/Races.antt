@@ -1,7 +1,7 @@
 -- The least racing pair of a word as JSON.
 -- Source: docs/FORMATS.md, "JSON".
 use Rattle.std.specs.Prelude.{ℕ, List, Option, None, Some, codes}
-use Rattle.serde_json.specs.Data.{Data, member, no_members, object, string}
+use Rattle.serde_json.specs.Data.{Data, Members, member, no_members, object, put, string}
 use Rattle.gr_model.specs.declared.event.EventId.{EventId}
 use Rattle.gr_model.specs.declared.event.Word.{Word}
 use Rattle.gr_model.specs.RacePairs.{Pair}
@@ -14,6 +14,14 @@ pair_data w e f =
     object
     (member (codes "first") (event_data e)
     (member (codes "second") (event_data f) (member (codes "type") (string (codes "race")) (member (codes "word") (word_data w) no_members))))
+
+-- members, with two events
+abbrev pub with_pair : EventId → EventId → Members → Members
+with_pair e f ms = put (codes "second") (event_data f) (put (codes "first") (event_data e) ms)
+
+-- members, with a word that has a race
+abbrev pub with_race : Word → Members → Members
+with_race w ms = put (codes "word") (word_data w) (put (codes "type") (string (codes "race")) ms)
 
 -- a word and its racing pair, or a word that has none
 abbrev pub answer_data : Word → Option Pair → Data

@@ -2,7 +2,7 @@
 -- Source: docs/FORMATS.md, "JSON".
 use Rattle.std.specs.Prelude.{ℕ, List, ◌++◌, codes, length}
 use Rattle.std.specs.List.{flat_map}
-use Rattle.serde_json.specs.Data.{Data, member, no_members, number, object, string, unsigned}
+use Rattle.serde_json.specs.Data.{Data, Members, member, no_members, number, object, put, string, unsigned}
 use Rattle.gr_model.specs.declared.event.Word.{Word}
 use Rattle.gr_model.specs.declared.report.Divergence.{Divergence}
 use Rattle.gr_model.specs.declared.report.DivergenceCause.{DivergenceCause}
@@ -24,6 +24,10 @@ head_data r =
     (member (codes "groups") (count r.groups)
     (member (codes "items") (count r.items) (member (codes "records") (count r.records) (member (codes "type") (string (codes "launch")) no_members))))
 
+-- members, with how large the launch is
+abbrev pub with_sizes : WholeReport → Members → Members
+with_sizes r ms = put (codes "type") (string (codes "launch")) (put (codes "records") (count r.records) (put (codes "items") (count r.items) (put (codes "groups") (count r.groups) ms)))
+
 -- a group whose stream was cut
 abbrev pub cut_data : ℕ → Data
 cut_data group = object (member (codes "group") (count group) (member (codes "type") (string (codes "cut")) no_members))
@@ -44,6 +48,11 @@ divergence_data d =
     (member (codes "cause") (string (divergence_cause d.cause))
     (member (codes "group") (count d.group) (member (codes "instance") (count d.instance) (member (codes "type") (string (codes "diverge")) no_members))))
 
+-- members, with a divergent instance
+abbrev pub with_instance : Divergence → Members → Members
+with_instance d ms =
+    put (codes "type") (string (codes "diverge")) (put (codes "instance") (count d.instance) (put (codes "group") (count d.group) (put (codes "cause") (string (divergence_cause d.cause)) ms)))
+
 -- an unmatched acquire, and its cause
 abbrev pub acquire_cause : AcquireCause → List ℕ
 acquire_cause Absent = codes "absent"
@@ -63,6 +72,11 @@ end_data r =
     (member (codes "diverge") (count (length r.divergences))
     (member (codes "held") (count r.held)
     (member (codes "races") (count (length r.races)) (member (codes "type") (string (codes "end")) (member (codes "unmatched") (count (length r.unmatched)) no_members)))))
+
+-- members, with these
+abbrev pub with_counts : WholeReport → Members → Members
+with_counts r ms =
+    put (codes "unmatched") (count (length r.unmatched)) (put (codes "type") (string (codes "end")) (put (codes "races") (count (length r.races)) (put (codes "held") (count r.held) (put (codes "diverge") (count (length r.divergences)) ms))))
 
 -- the whole: the kinds of lines in the order of the report's text, and of one kind as the report lists them
 abbrev pub report_json : WholeReport → List ℕ

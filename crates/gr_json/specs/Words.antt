@@ -1,7 +1,7 @@
 -- Words of memory, events, texts, and what side files say of them, as JSON.
 -- Source: docs/FORMATS.md, "JSON".
 use Rattle.std.specs.Prelude.{ℕ, List, Option, None, Some, codes}
-use Rattle.serde_json.specs.Data.{Data, member, no_members, null, number, object, string, unsigned}
+use Rattle.serde_json.specs.Data.{Data, Members, member, no_members, null, number, object, put, string, unsigned}
 use Rattle.gr_model.specs.declared.event.EventId.{EventId}
 use Rattle.gr_model.specs.declared.event.Word.{Word}
 use Rattle.gr_model.specs.declared.event.Word.TheVariants.{Global, Local}
@@ -22,6 +22,10 @@ event_data e =
 abbrev pub text_data : Option (List ℕ) → Data
 text_data None = null
 text_data (Some text) = string text
+
+-- members, with the place in the source of an event or a site
+abbrev pub with_place : Option (List ℕ) → Members → Members
+with_place place ms = put (codes "place") (text_data place) ms
 
 -- a word by its buffer and its place there
 abbrev pub element_data : ElementSaid → Data

@@ -1,20 +1,21 @@
 //! The least racing pair of a word, what its accesses are, what stands between them, and the cause of their race, as JSON, with
 //! what side files say of them.
 
-ghost use Rattle.std.specs.Prelude.{◌≡◌, IfOk, option_map};
+ghost use Rattle.std.specs.Prelude.{◌≡◌, IfOk, OnOk, option_map};
 ghost use Rattle.std.specs.Option.{option_copied};
-ghost use Rattle.serde_json.specs.View.{view};
+ghost use Rattle.serde_json.specs.View.{members_view, view};
 ghost use Rattle.gr_long.specs.Accounts.{account_said};
 ghost use Rattle.gr_places.specs.PlaceIndexes.{place_at};
 ghost use Rattle.gr_places.specs.SideLines.{element_of as element_said};
 ghost use Rattle.gr_sides.specs.Sides.{sides_said};
 ghost use Rattle.gr_json.specs.Accounts as spec;
+ghost use Rattle.gr_json.specs.Lines.{json_line};
 
 use crate::between::between_value;
 use crate::details::details_value;
-use crate::lines::push_value;
-use crate::race::answer_value;
-use crate::words::{buffer_value, word_value};
+use crate::lines::line_of;
+use crate::race::{answer_value, put_race};
+use crate::words::buffer_value;
 use gr_causes::cause::Cause;
 use gr_long::account::Account;
 use gr_model::event::Word;
@@ -22,7 +23,7 @@ use gr_model::memory::Memory;
 use gr_places::buffers::element_of;
 use gr_places::index::PlaceIndex;
 use gr_sides::sides::Sides;
-use serde_json::{Value, json};
+use serde_json::{Map, Value, put};
 use std::alloc::{AllocError, Global};
 
 /// The name of a cause.
@@ -38,6 +39,59 @@ pub fn cause_name(cause: Cause) -> &'static str
     }
 }
 
+/// Adds what the two accesses of a racing pair are.
+///
+/// # Errors
+/// `AllocError`: out of memory.
+fn put_accesses(
+    alloc: Global,
+    members: &mut Map<String, Value>,
+    places: &PlaceIndex<'_>,
+    account: &Account,
+) -> Result<(), AllocError>
+    ensures { OnOk result (members_view members.new.entries ≡ spec.with_accesses (place_at places.now) (account_said account.now) (members_view members.old.entries)) }
+{
+    let first = details_value(alloc, places, account.first, &account.first_details)?;
+    put(members, alloc, "first", first)?;
+    let second = details_value(alloc, places, account.second, &account.second_details)?;
+    put(members, alloc, "second", second)
+}
+
+/// Adds what stands between the two accesses of a racing pair, and the cause of their race.
+///
+/// # Errors
+/// `AllocError`: out of memory.
+fn put_cause(
+    alloc: Global,
+    members: &mut Map<String, Value>,
+    places: &PlaceIndex<'_>,
+    account: &Account,
+) -> Result<(), AllocError>
+    ensures { OnOk result (members_view members.new.entries ≡ spec.with_cause (place_at places.now) (account_said account.now) (members_view members.old.entries)) }
+{
+    let between = between_value(alloc, places, &account.between)?;
+    put(members, alloc, "between", between)?;
+    let cause = Value::try_from_str(alloc, cause_name(account.cause))?;
+    put(members, alloc, "cause", cause)
+}
+
+/// Adds a word that has a race, and its buffer.
+///
+/// # Errors
+/// `AllocError`: out of memory.
+fn put_word(
+    alloc: Global,
+    members: &mut Map<String, Value>,
+    sides: &Sides<'_>,
+    word: Word,
+) -> Result<(), AllocError>
+    ensures { OnOk result (members_view members.new.entries ≡ spec.with_word (element_said (sides_said sides.now).buffers word) word (members_view members.old.entries)) }
+{
+    let buffer = buffer_value(alloc, element_of(sides.buffers, word))?;
+    put(members, alloc, "buffer", buffer)?;
+    put_race(alloc, members, word)
+}
+
 /// A racing pair of a word with what its accesses are, what stands between them, the cause of their race, and the word's buffer.
 ///
 /// # Errors
@@ -51,21 +105,11 @@ fn race_value(
 ) -> Result<Value, AllocError>
     ensures { IfOk result (λ v. view v ≡ spec.race_data (element_said (sides_said sides.now).buffers word) (place_at places.now) word (account_said account.now)) }
 {
-    let between = between_value(alloc, places, &account.between)?;
-    let buffer = buffer_value(alloc, element_of(sides.buffers, word))?;
-    let cause = cause_name(account.cause);
-    let first = details_value(alloc, places, account.first, &account.first_details)?;
-    let second = details_value(alloc, places, account.second, &account.second_details)?;
-    let word = word_value(alloc, word)?;
-    json!(in alloc; {
-        "between": between,
-        "buffer": buffer,
-        "cause": cause,
-        "first": first,
-        "second": second,
-        "type": "race",
-        "word": word
-    })
+    let mut members = Map::new(alloc);
+    put_accesses(alloc, &mut members, places, account)?;
+    put_cause(alloc, &mut members, places, account)?;
+    put_word(alloc, &mut members, sides, word)?;
+    Ok(Value::Object(members))
 }
 
 /// The same, or a word that has no racing pair.
@@ -87,6 +131,23 @@ fn account_value(
     }
 }
 
+/// The line of these, with the places of this index.
+///
+/// # Errors
+/// `Memory`: out of memory.
+fn account_line(
+    alloc: Global,
+    sides: &Sides<'_>,
+    places: &PlaceIndex<'_>,
+    word: Word,
+    account: Option<&Account>,
+) -> Result<Vec<u8>, Memory>
+    ensures { IfOk result (λ text. text.items ≡ json_line (spec.account_data (element_said (sides_said sides.now).buffers word) (place_at places.now) word (option_map account_said (option_copied account.entry)))) }
+{
+    let value = account_value(alloc, sides, places, word, account)?;
+    line_of(alloc, &value)
+}
+
 /// The line of a word's racing pair, what its accesses are, what stands between them and the cause of their race, with what
 /// side files say of the word, of these events and of barriers, or of a word that has no racing pair.
 ///
@@ -101,8 +162,5 @@ pub fn account_json(
     ensures { IfOk result (λ text. text.items ≡ spec.account_json (sides_said sides.now) word (option_map account_said (option_copied account.entry))) }
 {
     let places = PlaceIndex::of(alloc, sides.places)?;
-    let value = account_value(alloc, sides, &places, word, account)?;
-    let mut text = Vec::new(alloc);
-    push_value(alloc, &mut text, &value)?;
-    Ok(text)
+    account_line(alloc, sides, &places, word, account)
 }

@@ -1,17 +1,17 @@
 //! What an access is, and where it stands in the source, as JSON.
 
-ghost use Rattle.std.specs.Prelude.{◌≡◌, IfOk};
-ghost use Rattle.serde_json.specs.View.{view};
+ghost use Rattle.std.specs.Prelude.{◌≡◌, IfOk, OnOk};
+ghost use Rattle.serde_json.specs.View.{members_view, view};
 ghost use Rattle.gr_places.specs.PlaceIndexes.{place_at};
 ghost use Rattle.gr_places.specs.declared.places.Placed.TheVariants.{Event as AnEvent};
 ghost use Rattle.gr_json.specs.Details as spec;
 
-use crate::words::text_value;
+use crate::words::put_place;
 use gr_long::details::Details;
 use gr_model::event::{EventId, Kind, Order, Scope};
 use gr_places::index::PlaceIndex;
 use gr_places::places::Placed;
-use serde_json::{Value, json};
+use serde_json::{Map, Value, json, put};
 use std::alloc::{AllocError, Global};
 
 fn scope_name(scope: Scope) -> &'static str
@@ -77,6 +77,40 @@ fn kind_value(alloc: Global, kind: Kind) -> Result<Value, AllocError>
     }
 }
 
+/// Adds an event: its group, its index in its item's trace, and the item.
+///
+/// # Errors
+/// `AllocError`: out of memory.
+fn put_event(
+    alloc: Global,
+    members: &mut Map<String, Value>,
+    event: EventId,
+) -> Result<(), AllocError>
+    ensures { OnOk result (members_view members.new.entries ≡ spec.with_event event (members_view members.old.entries)) }
+{
+    put(members, alloc, "group", Value::from(event.at.group))?;
+    put(members, alloc, "index", Value::from(event.index))?;
+    put(members, alloc, "item", Value::from(event.at.item))
+}
+
+/// Adds what the record of an access says, the record's number in its stream, and how many barriers of its item stand before
+/// it.
+///
+/// # Errors
+/// `AllocError`: out of memory.
+fn put_told(
+    alloc: Global,
+    members: &mut Map<String, Value>,
+    details: &Details,
+) -> Result<(), AllocError>
+    ensures { OnOk result (members_view members.new.entries ≡ spec.with_told details.now (members_view members.old.entries)) }
+{
+    let access = kind_value(alloc, details.kind)?;
+    put(members, alloc, "access", access)?;
+    put(members, alloc, "phase", Value::from(details.phase))?;
+    put(members, alloc, "record", Value::from(details.number))
+}
+
 /// An event with what its record says, the record's number in its stream, how many barriers of its item stand before it, and
 /// where it stands, or null where this index has no place of it.
 ///
@@ -90,15 +124,9 @@ pub(crate) fn details_value(
 ) -> Result<Value, AllocError>
     ensures { IfOk result (λ v. view v ≡ spec.details_data (place_at places.now (AnEvent event)) event details.now) }
 {
-    let access = kind_value(alloc, details.kind)?;
-    let place = text_value(alloc, places.place_of(Placed::Event(event)))?;
-    json!(in alloc; {
-        "access": access,
-        "group": event.at.group,
-        "index": event.index,
-        "item": event.at.item,
-        "phase": details.phase,
-        "place": place,
-        "record": details.number
-    })
+    let mut members = Map::new(alloc);
+    put_event(alloc, &mut members, event)?;
+    put_told(alloc, &mut members, details)?;
+    put_place(alloc, &mut members, places.place_of(Placed::Event(event)))?;
+    Ok(Value::Object(members))
 }

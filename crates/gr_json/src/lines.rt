@@ -1,6 +1,6 @@
 //! Texts of lines.
 
-ghost use Rattle.std.specs.Prelude.{◌≡◌, ◌++◌, false, OnErr, OnOk};
+ghost use Rattle.std.specs.Prelude.{◌≡◌, ◌++◌, false, IfOk, OnErr, OnOk};
 ghost use Rattle.std.specs.Io.KnownBytes.{Appends};
 ghost use Rattle.serde_json.specs.View.{view};
 ghost use Rattle.serde_json.specs.Written.{has_float};
@@ -25,6 +25,19 @@ pub fn push_value(alloc: Global, text: &mut Vec<u8>, value: &Value) -> Result<()
     text.extend_from_slice(line.as_bytes())?;
     text.push(b'\n')?;
     Ok(())
+}
+
+/// The line of JSON of a value.
+///
+/// # Errors
+/// `Memory`: out of memory.
+pub(crate) fn line_of(alloc: Global, value: &Value) -> Result<Vec<u8>, Memory>
+    requires { has_float (view value.now) ≡ false }
+    ensures { IfOk result (λ text. text.items ≡ json_line (view value.now)) }
+{
+    let mut text = Vec::new(alloc);
+    push_value(alloc, &mut text, value)?;
+    Ok(text)
 }
 
 /// Writes a text, and flushes.

@@ -1,15 +1,50 @@
 //! The least racing pair of a word as JSON.
 
-ghost use Rattle.std.specs.Prelude.{◌≡◌, IfOk};
-ghost use Rattle.serde_json.specs.View.{view};
-ghost use Rattle.gr_json.specs.Races.{answer_data, explanation_json, pair_data};
+ghost use Rattle.std.specs.Prelude.{◌≡◌, IfOk, OnOk};
+ghost use Rattle.serde_json.specs.View.{members_view, view};
+ghost use Rattle.gr_json.specs.Races.{answer_data, explanation_json, pair_data, with_pair, with_race};
 
-use crate::lines::push_value;
+use crate::lines::line_of;
 use crate::words::{event_value, word_value};
 use gr_model::event::{EventId, Word};
 use gr_model::memory::Memory;
-use serde_json::{Value, json};
+use serde_json::{Map, Value, json, put};
 use std::alloc::{AllocError, Global};
+
+/// Adds a word that has a race.
+///
+/// # Errors
+/// `AllocError`: out of memory.
+pub(crate) fn put_race(
+    alloc: Global,
+    members: &mut Map<String, Value>,
+    word: Word,
+) -> Result<(), AllocError>
+    ensures { OnOk result (members_view members.new.entries ≡ with_race word (members_view members.old.entries)) }
+{
+    let kind = Value::try_from_str(alloc, "race")?;
+    put(members, alloc, "type", kind)?;
+    let word = word_value(alloc, word)?;
+    put(members, alloc, "word", word)
+}
+
+/// Adds two events.
+///
+/// # Errors
+/// `AllocError`: out of memory.
+fn put_pair(
+    alloc: Global,
+    members: &mut Map<String, Value>,
+    first: EventId,
+    second: EventId,
+) -> Result<(), AllocError>
+    ensures { OnOk result (members_view members.new.entries ≡ with_pair first second (members_view members.old.entries)) }
+{
+    let first = event_value(alloc, first)?;
+    put(members, alloc, "first", first)?;
+    let second = event_value(alloc, second)?;
+    put(members, alloc, "second", second)
+}
 
 /// A word and two events that race on it.
 ///
@@ -23,10 +58,10 @@ fn pair_value(
 ) -> Result<Value, AllocError>
     ensures { IfOk result (λ v. view v ≡ pair_data word first second) }
 {
-    let word = word_value(alloc, word)?;
-    let first = event_value(alloc, first)?;
-    let second = event_value(alloc, second)?;
-    json!(in alloc; {"first": first, "second": second, "type": "race", "word": word})
+    let mut members = Map::new(alloc);
+    put_pair(alloc, &mut members, first, second)?;
+    put_race(alloc, &mut members, word)?;
+    Ok(Value::Object(members))
 }
 
 /// A word and its racing pair, or a word that has none.
@@ -61,7 +96,5 @@ pub fn explanation_json(
     ensures { IfOk result (λ text. text.items ≡ explanation_json word pair) }
 {
     let value = answer_value(alloc, word, pair)?;
-    let mut text = Vec::new(alloc);
-    push_value(alloc, &mut text, &value)?;
-    Ok(text)
+    line_of(alloc, &value)
 }

@@ -2,7 +2,7 @@
 
 ghost use Rattle.std.specs.Prelude.{◌≡◌, ◌++◌, IfOk, OnOk};
 ghost use Rattle.std.specs.List.{flat_map};
-ghost use Rattle.serde_json.specs.View.{view};
+ghost use Rattle.serde_json.specs.View.{members_view, view};
 ghost use Rattle.gr_report.specs.Whole.{whole_of};
 ghost use Rattle.gr_json.specs.Lines.{json_line};
 ghost use Rattle.gr_json.specs.Reports as spec;
@@ -13,8 +13,26 @@ use gr_model::event::Word;
 use gr_model::memory::Memory;
 use gr_model::report::{AcquireCause, Divergence, DivergenceCause, Unmatched};
 use gr_report::report::Report;
-use serde_json::{Value, json};
+use serde_json::{Map, Value, json, put};
 use std::alloc::{AllocError, Allocator, Global};
+
+/// Adds how large the launch is.
+///
+/// # Errors
+/// `AllocError`: out of memory.
+fn put_sizes<A: Allocator>(
+    alloc: Global,
+    members: &mut Map<String, Value>,
+    report: &Report<A>,
+) -> Result<(), AllocError>
+    ensures { OnOk result (members_view members.new.entries ≡ spec.with_sizes (whole_of report.now) (members_view members.old.entries)) }
+{
+    put(members, alloc, "groups", Value::from(report.groups))?;
+    put(members, alloc, "items", Value::from(report.items))?;
+    put(members, alloc, "records", Value::from(report.records))?;
+    let kind = Value::try_from_str(alloc, "launch")?;
+    put(members, alloc, "type", kind)
+}
 
 /// How large the launch is.
 ///
@@ -23,12 +41,9 @@ use std::alloc::{AllocError, Allocator, Global};
 fn head_value<A: Allocator>(alloc: Global, report: &Report<A>) -> Result<Value, AllocError>
     ensures { IfOk result (λ v. view v ≡ spec.head_data (whole_of report.now)) }
 {
-    json!(in alloc; {
-        "groups": report.groups,
-        "items": report.items,
-        "records": report.records,
-        "type": "launch"
-    })
+    let mut members = Map::new(alloc);
+    put_sizes(alloc, &mut members, report)?;
+    Ok(Value::Object(members))
 }
 
 /// A group whose stream was cut.
@@ -62,6 +77,25 @@ fn divergence_cause(cause: DivergenceCause) -> &'static str
     }
 }
 
+/// Adds a divergent instance of a group's barriers.
+///
+/// # Errors
+/// `AllocError`: out of memory.
+fn put_instance(
+    alloc: Global,
+    members: &mut Map<String, Value>,
+    divergence: Divergence,
+) -> Result<(), AllocError>
+    ensures { OnOk result (members_view members.new.entries ≡ spec.with_instance divergence (members_view members.old.entries)) }
+{
+    let cause = Value::try_from_str(alloc, divergence_cause(divergence.cause))?;
+    put(members, alloc, "cause", cause)?;
+    put(members, alloc, "group", Value::from(divergence.group))?;
+    put(members, alloc, "instance", Value::from(divergence.instance))?;
+    let kind = Value::try_from_str(alloc, "diverge")?;
+    put(members, alloc, "type", kind)
+}
+
 /// A divergent instance of a group's barriers.
 ///
 /// # Errors
@@ -69,13 +103,9 @@ fn divergence_cause(cause: DivergenceCause) -> &'static str
 fn divergence_value(alloc: Global, divergence: Divergence) -> Result<Value, AllocError>
     ensures { IfOk result (λ v. view v ≡ spec.divergence_data divergence) }
 {
-    let cause = divergence_cause(divergence.cause);
-    json!(in alloc; {
-        "cause": cause,
-        "group": divergence.group,
-        "instance": divergence.instance,
-        "type": "diverge"
-    })
+    let mut members = Map::new(alloc);
+    put_instance(alloc, &mut members, divergence)?;
+    Ok(Value::Object(members))
 }
 
 fn acquire_cause(cause: AcquireCause) -> &'static str
@@ -100,6 +130,28 @@ fn unmatched_value(alloc: Global, acquire: Unmatched) -> Result<Value, AllocErro
     json!(in alloc; {"cause": cause, "event": event, "type": "unmatched"})
 }
 
+/// Adds how much of each was found, and how many events are held.
+///
+/// # Errors
+/// `AllocError`: out of memory.
+fn put_counts<A: Allocator>(
+    alloc: Global,
+    members: &mut Map<String, Value>,
+    report: &Report<A>,
+) -> Result<(), AllocError>
+    ensures { OnOk result (members_view members.new.entries ≡ spec.with_counts (whole_of report.now) (members_view members.old.entries)) }
+{
+    let diverge = report.divergences.as_slice().len();
+    put(members, alloc, "diverge", Value::from(diverge))?;
+    put(members, alloc, "held", Value::from(report.held))?;
+    let races = report.races.as_slice().len();
+    put(members, alloc, "races", Value::from(races))?;
+    let kind = Value::try_from_str(alloc, "end")?;
+    put(members, alloc, "type", kind)?;
+    let unmatched = report.unmatched.as_slice().len();
+    put(members, alloc, "unmatched", Value::from(unmatched))
+}
+
 /// How much of each was found, and how many events are held.
 ///
 /// # Errors
@@ -107,16 +159,9 @@ fn unmatched_value(alloc: Global, acquire: Unmatched) -> Result<Value, AllocErro
 fn end_value<A: Allocator>(alloc: Global, report: &Report<A>) -> Result<Value, AllocError>
     ensures { IfOk result (λ v. view v ≡ spec.end_data (whole_of report.now)) }
 {
-    let races = report.races.as_slice().len();
-    let diverge = report.divergences.as_slice().len();
-    let unmatched = report.unmatched.as_slice().len();
-    json!(in alloc; {
-        "diverge": diverge,
-        "held": report.held,
-        "races": races,
-        "type": "end",
-        "unmatched": unmatched
-    })
+    let mut members = Map::new(alloc);
+    put_counts(alloc, &mut members, report)?;
+    Ok(Value::Object(members))
 }
 
 fn push_cuts(alloc: Global, text: &mut Vec<u8>, groups: &[u16]) -> Result<(), Memory>

@@ -1,13 +1,13 @@
 //! Words of memory and of buffers, events and texts as JSON.
 
-ghost use Rattle.std.specs.Prelude.{◌≡◌, IfOk, option_map};
-ghost use Rattle.serde_json.specs.View.{view};
+ghost use Rattle.std.specs.Prelude.{◌≡◌, IfOk, OnOk, option_map};
+ghost use Rattle.serde_json.specs.View.{members_view, view};
 ghost use Rattle.gr_places.specs.SideLines.{element};
-ghost use Rattle.gr_json.specs.Words.{buffer_data, element_data, event_data, text_data, word_data};
+ghost use Rattle.gr_json.specs.Words.{buffer_data, element_data, event_data, text_data, with_place, word_data};
 
 use gr_model::event::{EventId, Word};
 use gr_places::buffers::Element;
-use serde_json::{Value, json};
+use serde_json::{Map, Value, json, put};
 use std::alloc::{AllocError, Global};
 
 /// A word of memory: its memory, its number, and the group of a local one.
@@ -46,6 +46,21 @@ pub fn text_value(alloc: Global, text: Option<&str>) -> Result<Value, AllocError
         None => Ok(Value::Null),
         Some(text) => Value::try_from_str(alloc, text),
     }
+}
+
+/// Adds the place in the source of an event or a site, or null where there is none.
+///
+/// # Errors
+/// `AllocError`: out of memory.
+pub(crate) fn put_place(
+    alloc: Global,
+    members: &mut Map<String, Value>,
+    place: Option<&str>,
+) -> Result<(), AllocError>
+    ensures { OnOk result (members_view members.new.entries ≡ with_place (option_map (λ s. s.now) place.entry) (members_view members.old.entries)) }
+{
+    let place = text_value(alloc, place)?;
+    put(members, alloc, "place", place)
 }
 
 /// A word by its buffer and its place there.

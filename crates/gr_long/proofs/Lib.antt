@@ -1,3 +1,4 @@
 pub mod AccountLemmas
 pub mod BetweenLemmas
 pub mod DetailLemmas
+pub mod LaterLemmas

@@ -8,9 +8,13 @@ use Rattle.gr_sides.specs.Sides.{SidesSaid}
 use Rattle.gr_long.specs.Accounts.{AccountSaid, IsAccountOf}
 use Rattle.gr_long.specs.AccountText.{account_text}
 
+-- the text of a racing pair of a word, or that the word has none, with what side files say
+abbrev pub account_shown : SidesSaid → Word → Option AccountSaid → List ℕ
+account_shown sides w account = account_text (element_of sides.buffers w) (place_of sides.places) w account
+
 -- the text of the word's least racing pair, of what its accesses are, of what stands between them and of the cause, with what
 -- side files say of the word, of these events and of barriers; or that it has none
 pub record IsAccountText (sides : SidesSaid) (w : Word) (s : Streams) (text : List ℕ) : Type 0 where
   pub account : Option AccountSaid
   pub exact : IsAccountOf s w account
-  pub is : text ≡ account_text (element_of sides.buffers w) (place_of sides.places) w account
+  pub is : text ≡ account_shown sides w account

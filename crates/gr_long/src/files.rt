@@ -4,18 +4,49 @@ ghost use Rattle.std.specs.Prelude.{◌≡◌, ◌≢◌, IfErr, IfOk, map};
 ghost use Rattle.std.specs.Fn.{FnReturnsAt};
 ghost use Rattle.std.specs.Io.KnownBytes.{Keeps};
 ghost use Rattle.gr_record.specs.declared.fault.Fault.TheVariants as faults;
+ghost use Rattle.gr_replay.specs.Each.{all_known};
 ghost use Rattle.gr_sides.specs.Opening.{HoldsOfAllFiles, IsSidesFault, side_names};
 ghost use Rattle.gr_sides.specs.declared.fault.SidesFault.TheVariants.{Run as ARun};
 ghost use Rattle.gr_show.specs.Shown.{IsRacyIn, IsShown, ShowsPrefix};
+ghost use Rattle.gr_places.specs.SideLines.{place_line};
+ghost use Rattle.gr_long.specs.Files.{HoldsOfSides, IsLaterFault};
 ghost use Rattle.gr_long.specs.Shown.{IsAccountText};
 
 use crate::show::show_account;
 use gr_model::event::Word;
+use gr_places::places::PlaceLine;
 use gr_sides::fault::SidesFault;
 use gr_sides::files::{Opened, SideNames, buffers_of, bytes_of, open_files, places_of};
 use gr_sides::sides::Sides;
 use std::alloc::Allocator;
 use std::io::{self, Read, Write};
+
+/// Reads the streams of a launch, one from each file, and shows what `show_account` shows, with what these places and the bytes of
+/// a file of buffers say.
+///
+/// # Errors
+/// `Buffers` with the first line that is out of form; then `Run` with those of `show_account`.
+fn show_with_places<A: Allocator + Copy, T: Read + Drop, W: Write>(
+    alloc: A,
+    places: &[PlaceLine<'_>],
+    bytes: &[u8],
+    streams: Vec<T, A>,
+    word: Word,
+    writer: &mut W,
+) -> Result<bool, SidesFault>
+    ensures shown { IfOk result (λ found. HoldsOfSides (map place_line places.now) bytes.now (λ said. IsShown (IsAccountText said word) (IsRacyIn word) (all_known (map T.remaining streams.items)) found (W.contents writer.old) (W.contents writer.new))) }
+    ensures fault { IfErr result (λ f. IsLaterFault bytes.now (all_known (map T.remaining streams.items)) f) }
+    ensures untouched { IfErr result (λ f. f ≢ ARun faults.Write → Keeps (W.contents writer.old) (W.contents writer.new)) }
+    ensures prefix { IfErr result (λ f. f ≡ ARun faults.Write → HoldsOfSides (map place_line places.now) bytes.now (λ said. ShowsPrefix (IsAccountText said word) (all_known (map T.remaining streams.items)) (W.contents writer.old) (W.contents writer.new))) }
+    ensures threads { IfErr result (λ f. f ≢ ARun faults.Threads) }
+{
+    let buffers = buffers_of(alloc, bytes)?;
+    let sides = Sides {
+        places,
+        buffers: &buffers,
+    };
+    Ok(show_account(alloc, streams, &sides, word, writer)?)
+}
 
 /// Opens the side files that are named and the files of these names, reads the side files and then the streams of a
 /// launch, one from each file, writes the line of a word, what the two accesses are, what stands between them and the cause
@@ -54,10 +85,5 @@ where
     let place_bytes = bytes_of(alloc, places)?;
     let places = places_of(alloc, &place_bytes)?;
     let buffer_bytes = bytes_of(alloc, buffers)?;
-    let buffers = buffers_of(alloc, &buffer_bytes)?;
-    let said = Sides {
-        places: &places,
-        buffers: &buffers,
-    };
-    Ok(show_account(alloc, streams, &said, word, writer)?)
+    show_with_places(alloc, &places, &buffer_bytes, streams, word, writer)
 }

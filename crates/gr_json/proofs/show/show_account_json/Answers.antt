@@ -1,35 +1,20 @@
-use Rattle.std.proofs.Common.{rules, ◌∙◌, ◌↔◌, Bool, IsTrue, option_map, subst, sym}
-use Rattle.gr_show.specs.Shown.{IsRacyIn}
-use Rattle.gr_long.proofs.AccountLemmas.{account_racy}
-use Rattle.gr_long.specs.Accounts.{account_said}
+use Rattle.std.proofs.Common.{map}
+use Rattle.std.proofs.lemmas.Result.{IfErr-weaker, IfOk-weaker}
+use Rattle.gr_replay.specs.Each.{all_known}
+use Rattle.gr_long.proofs.AccountLemmas.{outside_fault}
 use Rattle.gr_json.proofs.show.show_account_json.Goals as goal
 
-pub returns-in-Ok-clause-shown : goal.returns-in-Ok-clause-shown
-returns-in-Ok-clause-shown g c =
-    let s = c.in_ok-traces.traces in record {
-      launch = s;
-      spelled = c.in_ok-traces.ensures.launch;
-      accepted = search rules;
-      text = c.deref.result.now;
-      exact = record {
-        account = option_map account_said c.in_ok-account.account;
-        exact = c.in_ok-account.ensures;
-        is = c.deref.ensures.value ∙ rw c.as_ref.ensures.value at c.in_ok-text.ensures;
-      };
-      written = c.in-Ok.ensures.whole;
-      said = subst (λ (b : Bool). IsTrue b ↔ IsRacyIn c.args.word s) (sym c.is_some.ensures) (account_racy s c.args.word c.in_ok-account.account c.in_ok-account.ensures);
-    }
+pub returns-clause-shown : goal.returns-clause-shown
+returns-clause-shown g c =
+    let known = all_known (map g.T.Read.remaining c.args.readers.items) in
+    IfOk-weaker c.show_account_of.result _ _ (λ found shown. shown known c.in_ok-traces.ensures.launch) c.show_account_of.ensures.shown
+
+pub returns-clause-fault : goal.returns-clause-fault
+returns-clause-fault g c =
+    let known = all_known (map g.T.Read.remaining c.args.readers.items) in
+    IfErr-weaker c.show_account_of.result _ _ (λ f is. outside_fault known f is) c.show_account_of.ensures.fault
 
 pub returns-clause-prefix : goal.returns-clause-prefix
-returns-clause-prefix g c = λ _. record {
-  launch = c.in_ok-traces.traces;
-  spelled = c.in_ok-traces.ensures.launch;
-  accepted = search rules;
-  text = c.deref.result.now;
-  exact = record {
-    account = option_map account_said c.in_ok-account.account;
-    exact = c.in_ok-account.ensures;
-    is = c.deref.ensures.value ∙ rw c.as_ref.ensures.value at c.in_ok-text.ensures;
-  };
-  prefix = c.in-Err.ensures.prefix;
-}
+returns-clause-prefix g c =
+    let known = all_known (map g.T.Read.remaining c.args.readers.items) in
+    IfErr-weaker c.show_account_of.result _ _ (λ f shown is. shown is known c.in_ok-traces.ensures.launch) c.show_account_of.ensures.prefix

@@ -1,38 +1,9 @@
 use Rattle.std.proofs.Common.{◌∙◌, ap, sym}
-use Rattle.std.proofs.lemmas.Result.{err_from_is_err_and}
-use Rattle.gr_places.specs.SideLines.{buffers_in, places_in}
-use Rattle.gr_sides.proofs.FileLemmas.{buffers_refused, holds_of_all, places_refused, same_fault, streams_refused, unread}
+use Rattle.std.proofs.lemmas.Result.{IfErr-weaker, IfOk-weaker, err_from_is_err_and}
+use Rattle.gr_places.specs.SideLines.{places_in}
+use Rattle.gr_sides.proofs.FileLemmas.{places_refused, unread}
+use Rattle.gr_long.proofs.LaterLemmas.{holds_later, later_refused}
 use Rattle.gr_long.proofs.files.show_account_of_files.Goals as goal
-
-pub returns-in_err-buffers-clause-fault : goal.returns-in_err-buffers-clause-fault
-returns-in_err-buffers-clause-fault g c =
-    let p = err_from_is_err_and c.from_residual-in_err-buffers.result c.from_residual-in_err-buffers.ensures.1 in
-    let files = c.in_ok-places.field-0 in
-    let places_said = ap places_in (sym c.deref.ensures.value) ∙ c.in_ok-places-2.ensures.said in
-    rw (p.1, p.2)
-    (buffers_refused g.T.Read.remaining _ _ _ (record { places = files.places; buffers = files.buffers }) files.streams.items c.in_ok-places.ensures.opened
-    c.in_ok-place_bytes.place_bytes.items c.in_ok-place_bytes.ensures.bytes _ places_said c.in_ok-buffer_bytes.buffer_bytes.items c.in_ok-buffer_bytes.ensures.bytes
-    c.in_err-buffers.field-0.0 (rw c.deref-2.ensures.value at c.in_err-buffers.ensures.fault))
-
-pub returns-in_err-show_account-clause-fault : goal.returns-in_err-show_account-clause-fault
-returns-in_err-show_account-clause-fault g c =
-    let p = err_from_is_err_and c.from_residual-in_err-show_account.result c.from_residual-in_err-show_account.ensures.1 in
-    let files = c.in_ok-places.field-0 in
-    let places_said = ap places_in (sym c.deref.ensures.value) ∙ c.in_ok-places-2.ensures.said in
-    let buffers_said = ap buffers_in (sym c.deref-2.ensures.value) ∙ c.in_ok-buffers.ensures.said in
-    rw (p.1, p.2)
-    (streams_refused g.T.Read.remaining _ _ _ (record { places = files.places; buffers = files.buffers }) files.streams.items c.in_ok-places.ensures.opened
-    c.in_ok-place_bytes.place_bytes.items c.in_ok-place_bytes.ensures.bytes _ places_said c.in_ok-buffer_bytes.buffer_bytes.items c.in_ok-buffer_bytes.ensures.bytes _ buffers_said
-    c.in_err-show_account.field-0.0 c.in_err-show_account.ensures.fault)
-
-pub returns-clause-shown : goal.returns-clause-shown
-returns-clause-shown g c =
-    let files = c.in_ok-places.field-0 in
-    let places_said = ap places_in (sym c.deref.ensures.value) ∙ c.in_ok-places-2.ensures.said in
-    let buffers_said = ap buffers_in (sym c.deref-2.ensures.value) ∙ c.in_ok-buffers.ensures.said in
-    holds_of_all g.T.Read.remaining _ _ _ (record { places = files.places; buffers = files.buffers }) files.streams.items c.in_ok-places.ensures.opened
-    c.in_ok-place_bytes.place_bytes.items c.in_ok-place_bytes.ensures.bytes _ places_said c.in_ok-buffer_bytes.buffer_bytes.items c.in_ok-buffer_bytes.ensures.bytes _ buffers_said
-    _ (rw (c.deref-3.ensures.value, c.deref-4.ensures.value) at c.in_ok-show_account.ensures.shown)
 
 pub returns-in_err-place_bytes-clause-fault : goal.returns-in_err-place_bytes-clause-fault
 returns-in_err-place_bytes-clause-fault g c =
@@ -56,14 +27,26 @@ returns-in_err-buffer_bytes-clause-fault g c =
     rw (p.1, p.2)
     (unread g.T.Read.remaining _ _ _ (record { places = files.places; buffers = files.buffers }) files.streams.items c.in_ok-places.ensures.opened c.in_err-buffer_bytes.field-0.0 c.in_err-buffer_bytes.ensures.faults)
 
-pub returns-in_err-show_account-clause-prefix : goal.returns-in_err-show_account-clause-prefix
-returns-in_err-show_account-clause-prefix g c =
-    let p = err_from_is_err_and c.from_residual-in_err-show_account.result c.from_residual-in_err-show_account.ensures.1 in
+pub returns-clause-shown : goal.returns-clause-shown
+returns-clause-shown g c =
     let files = c.in_ok-places.field-0 in
-    let places_said = ap places_in (sym c.deref.ensures.value) ∙ c.in_ok-places-2.ensures.said in
-    let buffers_said = ap buffers_in (sym c.deref-2.ensures.value) ∙ c.in_ok-buffers.ensures.said in
-    let prefix = rw (c.deref-3.ensures.value, c.deref-4.ensures.value) at c.in_err-show_account.ensures.prefix in
-    rw (p.1, p.2)
-    (λ is. holds_of_all g.T.Read.remaining _ _ _ (record { places = files.places; buffers = files.buffers }) files.streams.items c.in_ok-places.ensures.opened
-    c.in_ok-place_bytes.place_bytes.items c.in_ok-place_bytes.ensures.bytes _ places_said c.in_ok-buffer_bytes.buffer_bytes.items c.in_ok-buffer_bytes.ensures.bytes _ buffers_said
-    _ (prefix (same_fault _ _ is)))
+    let said = ap places_in (sym c.deref.ensures.value) ∙ c.in_ok-places-2.ensures.said in
+    IfOk-weaker c.show_with_places.result _ _ (λ found shown. holds_later g.T.Read.remaining _ _ _ (record { places = files.places; buffers = files.buffers }) files.streams.items c.in_ok-places.ensures.opened
+    c.in_ok-place_bytes.place_bytes.items c.in_ok-place_bytes.ensures.bytes _ said c.in_ok-buffer_bytes.buffer_bytes.items c.in_ok-buffer_bytes.ensures.bytes _ (rw (c.deref-2.ensures.value, c.deref-3.ensures.value) at shown))
+    c.show_with_places.ensures.shown
+
+pub returns-clause-fault : goal.returns-clause-fault
+returns-clause-fault g c =
+    let files = c.in_ok-places.field-0 in
+    let said = ap places_in (sym c.deref.ensures.value) ∙ c.in_ok-places-2.ensures.said in
+    IfErr-weaker c.show_with_places.result _ _ (λ f refused. later_refused g.T.Read.remaining _ _ _ (record { places = files.places; buffers = files.buffers }) files.streams.items c.in_ok-places.ensures.opened
+    c.in_ok-place_bytes.place_bytes.items c.in_ok-place_bytes.ensures.bytes _ said c.in_ok-buffer_bytes.buffer_bytes.items c.in_ok-buffer_bytes.ensures.bytes f (rw c.deref-3.ensures.value at refused))
+    c.show_with_places.ensures.fault
+
+pub returns-clause-prefix : goal.returns-clause-prefix
+returns-clause-prefix g c =
+    let files = c.in_ok-places.field-0 in
+    let said = ap places_in (sym c.deref.ensures.value) ∙ c.in_ok-places-2.ensures.said in
+    IfErr-weaker c.show_with_places.result _ _ (λ f shown is. holds_later g.T.Read.remaining _ _ _ (record { places = files.places; buffers = files.buffers }) files.streams.items c.in_ok-places.ensures.opened
+    c.in_ok-place_bytes.place_bytes.items c.in_ok-place_bytes.ensures.bytes _ said c.in_ok-buffer_bytes.buffer_bytes.items c.in_ok-buffer_bytes.ensures.bytes _ (rw (c.deref-2.ensures.value, c.deref-3.ensures.value) at (shown is)))
+    c.show_with_places.ensures.prefix
