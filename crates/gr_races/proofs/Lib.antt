@@ -1,4 +1,5 @@
 pub mod KindLemmas
 pub mod ListingLemmas
 pub mod RunLemmas
+pub mod ShownLemmas
 pub mod TellingLemmas

@@ -1,6 +1,7 @@
 -- What is shown of the races of a launch.
 -- Source: docs/FORMATS.md, "Races".
-use Rattle.std.specs.Prelude.{◌≡◌, ℕ, Bool, List, Option, length}
+use Rattle.std.specs.Prelude.{◌≡◌, ◌↔◌, ℕ, Bool, IsTrue, List, Option, length}
+use Rattle.std.specs.Io.KnownBytes.{Appends}
 use Rattle.gr_model.specs.declared.event.Word.{Word}
 use Rattle.gr_model.specs.declared.race.Race.{Race}
 use Rattle.gr_model.specs.RacePairs.{ArePairedRaces}
@@ -10,6 +11,7 @@ use Rattle.gr_model.specs.Waits.{IsGrounded}
 use Rattle.gr_causes.specs.declared.cause.Cause.{Cause}
 use Rattle.gr_places.specs.SideLines.{place_number}
 use Rattle.gr_places.specs.declared.places.Placed.{Placed}
+use Rattle.gr_report.specs.Putting.{AppendsPrefix}
 use Rattle.gr_races.specs.Kinds.{all_kinded}
 use Rattle.gr_races.specs.Listing.{Entry, entries}
 use Rattle.gr_races.specs.RacesText.{races_text}
@@ -43,6 +45,19 @@ IsRacesText sides most = IsTextOfRaces sides (races_text sides most)
 -- a word is racy
 abbrev pub HasRace : Streams → Type 0
 HasRace s = (w : Word) × IsRacy s (IsGrounded s) w
+
+-- that text of a launch is written whole, and it is said whether a word is racy
+pub record ShowsRacesOf (s : Streams) (sides : SidesSaid) (most : Option ℕ) (causes : Bool) (found : Bool) (old new : Option (List ℕ)) : Type 0 where
+  pub text : List ℕ
+  pub exact : IsRacesText sides most causes s text
+  pub written : Appends old new text
+  pub said : IsTrue found ↔ HasRace s
+
+-- a prefix of that text of a launch was written
+pub record ShowsRacesPrefixOf (s : Streams) (sides : SidesSaid) (most : Option ℕ) (causes : Bool) (old new : Option (List ℕ)) : Type 0 where
+  pub text : List ℕ
+  pub exact : IsRacesText sides most causes s text
+  pub prefix : AppendsPrefix old new text
 
 -- that text is written whole, and it is said whether a word is racy
 abbrev pub AreRacesShown : Option (List (List ℕ)) → SidesSaid → Option ℕ → Bool → Bool → Option (List ℕ) → Option (List ℕ) → Type 0

@@ -55,7 +55,7 @@ fn keep_row<A: Allocator>(
 ///
 /// # Errors
 /// `Memory`: out of memory.
-pub(crate) fn all_kinded<A: Allocator + Copy>(
+fn all_kinded<A: Allocator + Copy>(
     alloc: A,
     records: &Records<A>,
     index: &PlaceIndex<'_, A>,
@@ -142,7 +142,7 @@ fn entry_of_kind<A: Allocator + Copy>(
 ///
 /// # Errors
 /// `Memory`: out of memory.
-pub(crate) fn list_kinds<A: Allocator + Copy>(
+fn list_kinds<A: Allocator + Copy>(
     alloc: A,
     rows: &[KindedRace],
 ) -> Result<Vec<KindEntry<A>, A>, Memory>
@@ -154,4 +154,21 @@ pub(crate) fn list_kinds<A: Allocator + Copy>(
         entries.push(entry_of_kind(alloc, rows, *kind)?)?;
     }
     Ok(entries)
+}
+
+/// The races kind by kind, where these are the causes that are told of them, the first of the first race.
+///
+/// # Errors
+/// `Memory`: out of memory.
+pub(crate) fn entries_of<A: Allocator + Copy>(
+    alloc: A,
+    records: &Records<A>,
+    index: &PlaceIndex<'_, A>,
+    races: &[Race],
+    causes: &[Cause],
+) -> Result<Vec<KindEntry<A>, A>, Memory>
+    ensures { IfOk result (λ entries. map spec.entry_of entries.items ≡ spec.entries (all_kinded records.now (number_at index.now) (with_causes races.now causes.now))) }
+{
+    let rows = all_kinded(alloc, records, index, races, causes)?;
+    list_kinds(alloc, &rows)
 }

@@ -1,12 +1,11 @@
 -- The streams of a launch are of different groups, so of each group there is one receipt.
-use Rattle.std.proofs.Common.{◌≡◌, ◌≢◌, ℕ, zero, suc, ◌<◌, cond, List, [], ◌∷◌, length, map, Contains, refl, sym, ap, ◌∙◌, subst, arith, eq-eqb, ne_eqb}
+use Rattle.std.proofs.Common.{◌≡◌, ◌≢◌, ℕ, zero, suc, cond, List, [], ◌∷◌, length, Contains, refl, sym, ap, ◌∙◌, subst, arith, eq-eqb, ne_eqb}
 use Rattle.std.specs.Prelude.{◌==◌, filter}
 use Rattle.gr_detector.specs.Refusals.{IsHandedBack}
 use Rattle.gr_detector.specs.Runs.{IsEachOnce, Run}
 use Rattle.gr_detector.specs.declared.error.FinishError.{FinishError}
 use Rattle.gr_detector.specs.declared.error.FinishError.TheVariants.{Memory as NoMemory, Receipts}
 use Rattle.gr_record.specs.declared.header.Header.{Header}
-use Rattle.gr_replay.specs.Joined.{Flat}
 use Rattle.gr_route.specs.IntakeSeats.{Seat}
 use Rattle.gr_streams.specs.Headers.{AreApart, AreHeadersOf}
 use Rattle.gr_streams.specs.Streams.{IsWantOfMemory}

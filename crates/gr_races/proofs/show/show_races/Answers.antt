@@ -1,30 +1,9 @@
-use Rattle.std.proofs.Common.{rules, refl}
-use Rattle.gr_races.proofs.KindLemmas.{race_said}
+use Rattle.std.proofs.Common.{rules}
+use Rattle.gr_races.proofs.ShownLemmas.{prefix_of, shown_of}
 use Rattle.gr_races.proofs.show.show_races.Goals as goal
 
-pub returns-in-Ok-clause-shown : goal.returns-in-Ok-clause-shown
-returns-in-Ok-clause-shown g c =
-    let s = c.in_ok-traces.traces in
-    let listed = c.in_ok-entries.ensures in
-    record {
-      launch = s;
-      spelled = c.in_ok-traces.ensures.launch;
-      accepted = search rules;
-      text = _;
-      exact = record { races = listed.races; exact = listed.exact; told = listed.told; causes_told = listed.causes_told; is = refl };
-      written = rw (c.deref.ensures.value, listed.listed, listed.counted) at c.in-Ok.ensures.whole;
-      said = race_said s listed.races c.in_ok-entries.races listed.exact listed.counted;
-    }
+pub returns-clause-shown : goal.returns-clause-shown
+returns-clause-shown g c = shown_of c.in_ok-traces.traces _ c.in_ok-traces.ensures.launch (search rules) _ _ _ _ _ c.show_launch.result c.show_launch.ensures.shown
 
 pub returns-clause-prefix : goal.returns-clause-prefix
-returns-clause-prefix g c = λ _.
-    let s = c.in_ok-traces.traces in
-    let listed = c.in_ok-entries.ensures in
-    record {
-      launch = s;
-      spelled = c.in_ok-traces.ensures.launch;
-      accepted = search rules;
-      text = _;
-      exact = record { races = listed.races; exact = listed.exact; told = listed.told; causes_told = listed.causes_told; is = refl };
-      prefix = rw (c.deref.ensures.value, listed.listed, listed.counted) at c.in-Err.ensures.prefix;
-    }
+returns-clause-prefix g c = prefix_of c.in_ok-traces.traces _ c.in_ok-traces.ensures.launch (search rules) _ _ _ _ _ c.show_launch.result c.show_launch.ensures.prefix

@@ -1,4 +1,4 @@
-use Rattle.std.proofs.Common.{◌≡◌, ◌∙◌, ◌+◌, ◌++◌, ◌∷◌, [], List, append_assoc, ap, arith, length, map, subst, sym}
+use Rattle.std.proofs.Common.{◌≡◌, ◌∙◌, ◌+◌, ◌++◌, ◌∷◌, [], List, append_assoc, ap, arith, length, map, refl, rules, subst, sym}
 use Rattle.std.specs.Prelude.{All, Contains}
 use Rattle.std.specs.Vec.Iter.{into_iter_items}
 use Rattle.std.proofs.lemmas.List.{length-append, length-map, map_push}
@@ -6,7 +6,7 @@ use Rattle.std.proofs.lemmas.List.Elements.{All-push}
 use Rattle.gr_detector.specs.Runs.{IsOfRun}
 use Rattle.gr_record.specs.declared.header.Header.{Header}
 use Rattle.gr_sender.specs.Senders.{Sending}
-use Rattle.gr_streams.specs.Sources.{AreServed, Begun, IsHeaded, IsReady, known_of}
+use Rattle.gr_streams.specs.Sources.{AreServed, Begun, HasSender, IsHeaded, IsReady, known_of}
 use Rattle.gr_streams.specs.declared.source.Source.{Source}
 use Rattle.gr_streams.proofs.JoinLemmas.{all_tail, contains_head, placed_next, served_next}
 use Rattle.gr_streams.proofs.joins.start_all.Goals as goal
@@ -16,6 +16,38 @@ ready : {T : Type 0} (s : Source T) (left rest : List (Source T)) (senders : Lis
 ready {T} s left rest senders is served sender there group =
     let here = subst (λ (l : List (Source T)). AreServed (map (λ (x : Source T). x.header) l) senders) is served in
     here.ready s.header sender (contains_head s.header (map (λ (x : Source T). x.header) rest)) there group
+
+-- the first of the sources that are left is headed, and has a sender
+its_sender : {T : Type 0} (s : Source T) (left rest : List (Source T)) (senders : List Sending) → left ≡ s ∷ rest → AreServed (map (λ (x : Source T). x.header) left) senders → HasSender senders s.header.group
+its_sender {T} s left rest senders is served =
+    let here = subst (λ (l : List (Source T)). AreServed (map (λ (x : Source T). x.header) l) senders) is served in
+    here.there s.header (contains_head s.header (map (λ (x : Source T). x.header) rest))
+
+its_header : {T : Type 0} (s : Source T) (left rest : List (Source T)) → left ≡ s ∷ rest → All (λ (x : Source T). IsHeaded x.header x.prefix.items) left → IsHeaded s.header s.prefix.items
+its_header {T} s left rest is headed =
+    let here : All (λ (x : Source T). IsHeaded x.header x.prefix.items) (s ∷ rest) = subst (All (λ (x : Source T). IsHeaded x.header x.prefix.items)) is headed in
+    here 0 s (omega arith)
+
+pub loop-source-init : goal.loop-source-init
+loop-source-init g c =
+    let items : into_iter_items c.into_iter-source-iterator.result ≡ c.args.sources.items = search rules in
+    rw c.requires.none.0 (record {
+      left = items;
+      headed = subst (λ l. All (λ (x : Source _). IsHeaded x.header x.prefix.items) l) (sym items) c.requires.headed;
+      served = subst (λ l. AreServed (map (λ (x : Source _). x.header) l) c.args.senders.items) (sym items) c.requires.senders;
+      fewer = λ x there. there;
+      begun = record { placed = λ k d lt. absurd (omega (arith, lt)); groups = refl; bytes = refl };
+      run = λ run senders k d lt. absurd (omega (arith, lt));
+      place = refl;
+      count = c.requires.none.1;
+      room = search rules;
+    })
+
+pub take_sender-sender-requires : goal.take_sender-sender-requires
+take_sender-sender-requires g c = its_sender c.in-Some.source _ _ c.loop-source.senders.items c.in-Some.ensures.steps.0 c.loop-source.invariant.served
+
+pub start-requires-clause-headed : goal.start-requires-clause-headed
+start-requires-clause-headed g c κs within = its_header c.in-Some.source _ _ c.in-Some.ensures.steps.0 c.loop-source.invariant.headed
 
 pub start-requires-clause-items : goal.start-requires-clause-items
 start-requires-clause-items g c κs within = (ready c.in-Some.source _ _ c.loop-source.senders.items c.in-Some.ensures.steps.0 c.loop-source.invariant.served c.take_sender-sender.result c.take_sender-sender.ensures.there c.take_sender-sender.ensures.group).items
@@ -63,3 +95,9 @@ loop-source-preserved g c =
       count = omega (arith, inv.count, grown, c.push_reserved.ensures.len);
       room = omega (arith, inv.room, c.in-Some.ensures.steps.1, c.push_reserved.ensures.len, c.push_reserved.ensures.capacity);
     }
+
+pub push_reserved-requires : goal.push_reserved-requires
+push_reserved-requires g c = omega (arith, c.loop-source.invariant.room, c.in-Some.ensures.steps.1)
+
+pub returns-clause-run : goal.returns-clause-run
+returns-clause-run g c = c.loop-source.invariant.run
