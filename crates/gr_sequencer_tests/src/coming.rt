@@ -107,6 +107,15 @@ fn last_group<A: Allocator + Copy>(sequencer: &mut Sequencer<A>) -> Option<(bool
     Some((acquire, read))
 }
 
+/// A launch of which group 0 has come.
+fn first_comes<A: Allocator + Copy>(alloc: A) -> Option<Sequencer<A>>
+    ensures { IfSome result (λ s. s.taken.sizes ≡ 1 ∷ []) }
+{
+    let mut sequencer = one_group(alloc)?;
+    first_group(&mut sequencer)?;
+    Some(sequencer)
+}
+
 /// Behind group 0 comes group 2.
 fn with_last_group<A: Allocator + Copy>(sequencer: Sequencer<A>) -> Option<Sequencer<A>>
     requires { sequencer.taken.sizes ≡ 1 ∷ [] }
@@ -118,6 +127,16 @@ fn with_last_group<A: Allocator + Copy>(sequencer: Sequencer<A>) -> Option<Seque
     }
 }
 
+/// Behind group 0 comes group 2, and its records: the launch, and what `last_group` says.
+fn last_comes<A: Allocator + Copy>(sequencer: Sequencer<A>) -> Option<(Sequencer<A>, (bool, bool))>
+    requires { sequencer.taken.sizes ≡ 1 ∷ [] }
+    ensures { IfSome result (λ x. x.0.taken.sizes ≡ 1 ∷ 0 ∷ 1 ∷ []) }
+{
+    let mut sequencer = with_last_group(sequencer)?;
+    let answers = last_group(&mut sequencer)?;
+    Some((sequencer, answers))
+}
+
 /// Between them comes group 1.
 fn with_group_between<A: Allocator + Copy>(sequencer: Sequencer<A>) -> Option<Sequencer<A>>
     requires { sequencer.taken.sizes ≡ 1 ∷ 0 ∷ 1 ∷ [] }
@@ -125,21 +144,28 @@ fn with_group_between<A: Allocator + Copy>(sequencer: Sequencer<A>) -> Option<Se
     sequencer.with_group(1, 1).ok()
 }
 
+/// Whether the read of group 0 happens before one of group 1, whether all is at its end then, and how many events are held.
+fn group_between<A: Allocator + Copy>(sequencer: &mut Sequencer<A>) -> Option<(bool, bool, u64)> {
+    let other = access(sequencer, 1, READ, &[])?;
+    end(sequencer, 1)?;
+    Some((other, sequencer.at_end(), sequencer.held()))
+}
+
+/// Between the two comes group 1, and its records: what `group_between` says.
+fn between_comes<A: Allocator + Copy>(sequencer: Sequencer<A>) -> Option<(bool, bool, u64)>
+    requires { sequencer.taken.sizes ≡ 1 ∷ 0 ∷ 1 ∷ [] }
+{
+    let mut sequencer = with_group_between(sequencer)?;
+    group_between(&mut sequencer)
+}
+
 /// Group 0 comes, then group 2, then group 1: whether the read of group 0 happens before those of the others, whether the
 /// sequencer is at its end before and behind the last end, and how many events are held there.
 fn come<A: Allocator + Copy>(alloc: A) -> Option<([bool; 5], u64)> {
-    let mut sequencer = one_group(alloc)?;
-    first_group(&mut sequencer)?;
-    let mut sequencer = with_last_group(sequencer)?;
-    let (acquire, read) = last_group(&mut sequencer)?;
+    let (sequencer, (acquire, read)) = last_comes(first_comes(alloc)?)?;
     let early = sequencer.at_end();
-    let mut sequencer = with_group_between(sequencer)?;
-    let other = access(&mut sequencer, 1, READ, &[])?;
-    end(&mut sequencer, 1)?;
-    Some((
-        [acquire, read, other, early, sequencer.at_end()],
-        sequencer.held(),
-    ))
+    let (other, late, held) = between_comes(sequencer)?;
+    Some(([acquire, read, other, early, late], held))
 }
 
 #[test]

@@ -49,23 +49,28 @@ fn part<A: Allocator>(order: &mut Order<A>) -> Option<()> {
     Some(())
 }
 
-/// Two items part once, or not, and meet so many times.
-fn go<A: Allocator + Copy>(alloc: A, is_parted: bool, times: u32) -> Option<()> {
-    let shape = shape_of(alloc, &[2]).ok()?;
-    let mut order = Order::new(alloc, shape).ok()?;
+/// Both items part once, or not, and meet so many times.
+fn go<A: Allocator>(order: &mut Order<A>, is_parted: bool, times: u32) -> Option<()> {
     if is_parted {
-        part(&mut order)?;
+        part(order)?;
     }
     for _time in 0..times {
-        meet(&mut order)?;
+        meet(order)?;
     }
     Some(())
+}
+
+/// The same of two items of which nothing was taken.
+fn go_anew<A: Allocator + Copy>(alloc: A, is_parted: bool, times: u32) -> Option<()> {
+    let shape = shape_of(alloc, &[2]).ok()?;
+    let mut order = Order::new(alloc, shape).ok()?;
+    go(&mut order, is_parted, times)
 }
 
 /// Whether they do with no more growths than these.
 fn goes_within(alloc: Global, growths: u64, is_parted: bool, times: u32) -> bool {
     let memory = Refusing::new(alloc, growths);
-    let done = go(&memory, is_parted, times).is_some();
+    let done = go_anew(&memory, is_parted, times).is_some();
     done && !memory.refused()
 }
 
