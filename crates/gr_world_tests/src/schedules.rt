@@ -139,12 +139,36 @@ fn has_report(world: &World, due: &Report) -> bool {
     world.at_rest() && world.report().is_ok_and(|report| report == *due)
 }
 
+/// Whether the schedule of a row leads a world to this report, which is the row's too.
+fn leads_to(
+    alloc: Global,
+    world: &mut World,
+    row: &Row,
+    way: Way,
+    numbers: Numbers,
+    due: &Report,
+) -> bool {
+    follow_row(alloc, world, row, way, numbers).is_some()
+        && has_report(world, due)
+        && reported(world) == Some(row.told)
+}
+
+/// Whether the report of a row's world, however many workers and queues there are, is the row's, and this one.
+fn is_reported(
+    alloc: Global,
+    row: &Row,
+    way: Way,
+    numbers: Numbers,
+    due: &Report,
+) -> Result<bool, Fail> {
+    let mut world = new(alloc, row.sizes, numbers).ok_or("a world")?;
+    Ok(leads_to(alloc, &mut world, row, way, numbers, due))
+}
+
 /// Whether the report of a row's world, however many workers and queues there are, is the row's, and that of its lists.
 fn is_told(alloc: Global, row: &Row, way: Way, numbers: Numbers) -> Result<bool, Fail> {
     let due = due_of(alloc, row)?;
-    let mut world = new(alloc, row.sizes, numbers).ok_or("a world")?;
-    let followed = follow_row(alloc, &mut world, row, way, numbers);
-    Ok(followed.is_some() && has_report(&world, &due) && reported(&world) == Some(row.told))
+    is_reported(alloc, row, way, numbers, &due)
 }
 
 /// A schedule of a row.

@@ -39,6 +39,7 @@ impl Tried {
 pub(crate) type Line = (Tried, Result<(), StepError>);
 
 /// A script of steps, which begins with a new world.
+#[derive(Clone, Copy)]
 pub(crate) struct Script {
     pub(crate) name: &'static str,
     /// The sizes of the groups.

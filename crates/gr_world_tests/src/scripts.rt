@@ -319,6 +319,11 @@ const SCRIPTS: [Script; 10] = [
     NOT_HANDLED,
 ];
 
+/// All scripts.
+fn scripts() -> [Script; 10] {
+    SCRIPTS
+}
+
 /// How many steps of a script `run` refuses, and what is reported at the end; `None` if out of memory.
 fn ran(alloc: Global, script: &Script) -> Option<(u64, Option<Told>)> {
     let steps = steps_of(alloc, script)?;
@@ -339,7 +344,7 @@ fn first_wrong_script(alloc: Global, scripts: &[Script]) -> Option<&'static str>
 
 #[test]
 fn each_step_is_answered_and_run_counts_the_refused(rt: HostRuntime) {
-    assert_eq!(rt; first_wrong_script(rt.alloc(), &SCRIPTS), None);
+    assert_eq!(rt; first_wrong_script(rt.alloc(), &scripts()), None);
 }
 
 /// Refuses each growth in turn, until none is refused; the number of one where the script goes otherwise, if there is
@@ -369,5 +374,5 @@ fn first_wrong_refusal(alloc: Global, scripts: &[Script]) -> Option<(&'static st
 
 #[test]
 fn each_step_is_answered_whatever_growth_is_refused(rt: HostRuntime) {
-    assert_eq!(rt; first_wrong_refusal(rt.alloc(), &SCRIPTS), None);
+    assert_eq!(rt; first_wrong_refusal(rt.alloc(), &scripts()), None);
 }
