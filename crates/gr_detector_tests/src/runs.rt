@@ -22,6 +22,15 @@ use std::time::Clock;
 /// How a run is set up: the items of each group, the workers, the queues, and the places of each queue.
 pub type Plan<'a> = (&'a [u16], u16, u16, u32);
 
+/// The shape and the configuration of a plan.
+fn set_up(alloc: Global, plan: Plan<'_>) -> Result<(Shape, Config), Fail> {
+    let (sizes, workers, queues, capacity) = plan;
+    let config = Config::new(workers, queues, capacity).map_err(|_| "no configuration")?;
+    let sizes = Vec::from_slice(alloc, sizes)?;
+    let shape = Shape::new(sizes).map_err(|_| "no shape")?;
+    Ok((shape, config))
+}
+
 /// Starts a run.
 pub fn begin<
     R: Threads + Wait + Clock + Copy + Send + 'static,
@@ -34,13 +43,35 @@ pub fn begin<
 ) -> Result<(Vec<Sender>, Running), Fail>
     ensures { IfOk result (λ made. All (IsSender made.1) made.0.items) }
 {
-    let (sizes, workers, queues, capacity) = plan;
-    let sizes = Vec::from_slice(alloc, sizes)?;
-    let shape = Shape::new(sizes).map_err(|_| "no shape")?;
-    let config = Config::new(workers, queues, capacity).map_err(|_| "no configuration")?;
+    let (shape, config) = set_up(alloc, plan)?;
     match start(rt, alloc, shape, config, watch) {
         Ok(started) => Ok(started),
         Err(_) => Err("not started")?,
+    }
+}
+
+/// Starts a run of one work-group, and gives its sender.
+pub fn begin_one<
+    R: Threads + Wait + Clock + Copy + Send + 'static,
+    W: Watch + Send + Sync + Drop + 'static,
+>(rt: R, alloc: Global, plan: Plan<'_>, watch: Arc<W, Global>) -> Result<(Sender, Running), Fail>
+    ensures { IfOk result (λ made. IsSender made.1 made.0) }
+{
+    match begin(rt, alloc, plan, watch) {
+        Ok((senders, running)) => with_one(running, senders),
+        Err(fail) => Err(fail),
+    }
+}
+
+/// A run, with its last sender.
+fn with_one(running: Running, senders: Vec<Sender>) -> Result<(Sender, Running), Fail>
+    requires { All (IsSender running) senders.items }
+    ensures { IfOk result (λ made. IsSender made.1 made.0) }
+{
+    let mut senders = senders;
+    match pop_last(&running, &mut senders) {
+        Some(sender) => Ok((sender, running)),
+        None => Err("no sender")?,
     }
 }
 
@@ -56,26 +87,59 @@ pub fn pop_last<A: Allocator>(
     senders.pop()
 }
 
-/// The last of the senders of a run.
-pub fn last_of(running: &Running, senders: &mut Vec<Sender>) -> Result<Sender, Fail>
-    requires { All (IsSender running.now) senders.old.items }
-    ensures left { OnOk result (All (IsSender running.now) senders.new.items) }
-    ensures last { IfOk result (IsSender running.now) }
+/// The two senders of a run, or `None` where there are fewer.
+pub fn two_of<A: Allocator>(
+    running: &Running<A>,
+    senders: Vec<Sender<A>, A>,
+) -> Option<(Sender<A>, Sender<A>)>
+    requires { All (IsSender running.now) senders.items }
+    ensures first { IfSome result (λ two. IsSender running.now two.0) }
+    ensures second { IfSome result (λ two. IsSender running.now two.1) }
 {
-    match pop_last(running, senders) {
-        Some(sender) => Ok(sender),
-        None => Err("no sender")?,
+    let mut senders = senders;
+    let second = pop_last(running, &mut senders);
+    let first = pop_last(running, &mut senders);
+    match (first, second) {
+        (Some(first), Some(second)) => Some((first, second)),
+        _ => None,
     }
 }
 
+/// Why a receipt is not kept: its sender was refused, or there is no room.
+#[derive(Clone, Copy)]
+pub struct NotKept;
+
 /// Adds a receipt to others of the same run.
-pub fn add(running: &Running, receipts: &mut Vec<Receipt>, receipt: Receipt) -> Result<(), Fail>
+pub fn add<A: Allocator>(
+    running: &Running<A>,
+    receipts: &mut Vec<Receipt, A>,
+    receipt: Option<Receipt>,
+) -> Result<(), NotKept>
     requires all { AreReceiptsOf running.now receipts.old.items }
-    requires one { IsReceipt running.now receipt }
+    requires one { IfSome receipt (IsReceipt running.now) }
     ensures { OnOk result (AreReceiptsOf running.now receipts.new.items) }
 {
-    receipts.push(receipt)?;
+    let Some(receipt) = receipt else {
+        return Err(NotKept);
+    };
+    receipts.push(receipt).map_err(|_| NotKept)?;
     Ok(())
+}
+
+/// Adds two receipts to others of the same run.
+pub fn add_both<A: Allocator>(
+    running: &Running<A>,
+    receipts: &mut Vec<Receipt, A>,
+    first: Option<Receipt>,
+    second: Option<Receipt>,
+) -> Result<(), NotKept>
+    requires all { AreReceiptsOf running.now receipts.old.items }
+    requires first { IfSome first (IsReceipt running.now) }
+    requires second { IfSome second (IsReceipt running.now) }
+    ensures { OnOk result (AreReceiptsOf running.now receipts.new.items) }
+{
+    add(running, receipts, second)?;
+    add(running, receipts, first)
 }
 
 /// The report of a run, of which these are the receipts, or `None` where there is none.
@@ -85,23 +149,56 @@ pub fn report_of<R: Threads>(rt: &R, running: Running, receipts: Vec<Receipt>) -
     running.finish(rt, receipts).ok()
 }
 
-/// The report of a run of one sender, which has this receipt if it was not refused.
-pub fn report_of_one<R: Threads>(
+/// What the report of a run of one work-group tells: how many records and races there are, and whether the group was cut.
+pub type Told = (u64, usize, bool);
+
+/// What a report of one work-group tells.
+fn told(report: &Report) -> Told {
+    let cut = report.cut.as_slice() == [0].as_slice();
+    (report.records, report.races.as_slice().len(), cut)
+}
+
+/// What the report of a run of one sender tells, which has this receipt if it was not refused.
+pub fn told_of_one<R: Threads>(
     rt: &R,
     alloc: Global,
     running: Running,
     receipt: Option<Receipt>,
-) -> Result<Report, Fail>
+) -> Option<Told>
     requires { IfSome receipt (IsReceipt running) }
 {
-    let Some(receipt) = receipt else {
-        return Err("refused")?;
-    };
     let mut receipts = Vec::new(alloc);
-    add(&running, &mut receipts, receipt)?;
+    match add(&running, &mut receipts, receipt) {
+        Ok(()) => told_of(rt, running, receipts),
+        Err(NotKept) => None,
+    }
+}
+
+/// What the report of a run of one sender tells, of which these are the receipts.
+fn told_of<R: Threads>(rt: &R, running: Running, receipts: Vec<Receipt>) -> Option<Told>
+    requires { AreReceiptsOf running receipts.items }
+{
     match report_of(rt, running, receipts) {
-        Some(report) => Ok(report),
-        None => Err("no report")?,
+        Some(report) => Some(told(&report)),
+        None => None,
+    }
+}
+
+/// The report of a run of two senders, which have these receipts if they were not refused.
+pub fn report_of_two<R: Threads>(
+    rt: &R,
+    alloc: Global,
+    running: Running,
+    first: Option<Receipt>,
+    second: Option<Receipt>,
+) -> Option<Report>
+    requires first { IfSome first (IsReceipt running) }
+    requires second { IfSome second (IsReceipt running) }
+{
+    let mut receipts = Vec::new(alloc);
+    match add_both(&running, &mut receipts, first, second) {
+        Ok(()) => report_of(rt, running, receipts),
+        Err(NotKept) => None,
     }
 }
 

@@ -28,9 +28,13 @@ stream_of count = writes_below count ++ end_of false ∷ []
 abbrev pub IsFreshSender : Room → ℕ → Sending → Type 0
 IsFreshSender queue group sender = sender ≡ record { queue = queue; group = group; items = 1; records = MOST_RECORDS; sent = [] }
 
--- the receipt of a sender that sent the whole stream
-abbrev pub IsReceiptOf : Sending → ℕ → Seat → Type 0
-IsReceiptOf sender count receipt = receipt ≡ record { queue = sender.queue.queue; group = sender.group; items = sender.items; pushed = stream_of count }
+-- senders of the groups 0 to 2
+abbrev pub AreFreshSenders : Room → (Sending × Sending × Sending) → Type 0
+AreFreshSenders queue senders = IsFreshSender queue 0 senders.0 × IsFreshSender queue 1 senders.1 × IsFreshSender queue 2 senders.2
+
+-- the seat of a sender that sent the whole stream
+abbrev pub IsSeatOf : Sending → ℕ → Seat → Type 0
+IsSeatOf sender count seat = seat ≡ record { queue = sender.queue.queue; group = sender.group; items = sender.items; pushed = stream_of count }
 
 -- of the groups 0 to 2 the end was popped
 abbrev pub HasEnds : Taker → Type 0

@@ -1,20 +1,20 @@
 //! Three senders and a taker, each on a thread of its own, over one queue: of each work-group, what was popped is what
 //! was sent.
 
-ghost use Rattle.std.specs.Prelude.{◌≡◌, ◌<◌, ◌≤◌, ◌==◌, ℕ, false, [], slice_index_or, if◌then◌else◌, IfOk, IfSome};
+ghost use Rattle.std.specs.Prelude.{◌≡◌, ◌<◌, ◌≤◌, ◌==◌, ℕ, false, [], slice_index, slice_index_or, slice_set, if◌then◌else◌, IfOk, IfSome, OnOk};
 ghost use Rattle.std.specs.Arc.{arc_value};
 ghost use Rattle.gr_model.specs.Events.{is_end};
 ghost use Rattle.gr_model.specs.Streams.{events_of};
+ghost use Rattle.gr_route.specs.IntakeRule.{no_sizes};
 ghost use Rattle.gr_route.specs.IntakeSeats.{popped_of};
-ghost use Rattle.gr_route_tests.specs.Sent.{HasAll, HasEnds, IsFreshSender, IsReceiptOf, stream_of, write_of};
+ghost use Rattle.gr_route_tests.specs.Sent.{AreFreshSenders, HasAll, HasEnds, IsFreshSender, IsSeatOf, stream_of, write_of};
 
 use gr_model::event::{Event, Kind, Sent, Space};
 use gr_model::limits::{MOST_GROUPS, MOST_PLACES, MOST_RECORDS};
 use gr_model::memory::Memory;
 use gr_model::names::Names;
 use gr_route::intake::{Intake, IntakeSeat, TakerSeat};
-use gr_sender::receipt::Receipt;
-use gr_sender::sender::Sender;
+use gr_sender::sender::{SendError, Sender};
 use std::alloc::Global;
 use std::sync::{Arc, Wait};
 use std::thread::{Threads, join, yield_now};
@@ -33,21 +33,28 @@ pub fn write(word: u32) -> Event
     }
 }
 
-/// Sends writes of the words below a count, and then the end. The sender comes back where it refused one of them.
-fn send_all<R: Wait + Clock>(rt: &R, sender: Sender, count: u32) -> Result<Receipt, Sender>
+/// Sends writes of the words below a count, and then the end.
+fn send_stream<R: Wait + Clock>(rt: &R, sender: &mut Sender, count: u32) -> Result<(), SendError>
+    requires { sender.old.sent ≡ [] }
+    ensures { OnOk result (sender.new ≡ record sender.old { sent = stream_of count }) }
+{
+    for word in 0..count {
+        sender.send_wait(rt, write(word))?;
+    }
+    sender.close_wait(rt, false)
+}
+
+/// Sends writes of the words below a count, and then the end. What is left is the seat, or `None` where the sender refused
+/// one of them.
+fn send_all<R: Wait + Clock>(rt: &R, sender: Sender, count: u32) -> Option<IntakeSeat>
     requires { sender.sent ≡ [] }
-    ensures { IfOk result (IsReceiptOf sender count) }
+    ensures { IfSome result (IsSeatOf sender count) }
 {
     let mut sender = sender;
-    for word in 0..count {
-        if sender.send_wait(rt, write(word)).is_err() {
-            return Err(sender);
-        }
+    match send_stream(rt, &mut sender, count) {
+        Ok(()) => Some(sender.into_receipt().ok()?.into_seat()),
+        Err(_) => None,
     }
-    if sender.close_wait(rt, false).is_err() {
-        return Err(sender);
-    }
-    sender.into_receipt()
 }
 
 /// Notes whether a popped event is the end of its group.
@@ -105,32 +112,46 @@ fn join_all(queue: &Intake, taker: &mut TakerSeat, a: IntakeSeat, b: IntakeSeat,
     queue.join_back(taker, c);
 }
 
-/// An open sender of a group of one item, or `None` where the group has had a seat.
+/// An open sender of a group of one item, which has had no seat.
 fn sender_of(
     queue: &Arc<Intake, Global>,
     taker: &mut TakerSeat,
     group: u16,
-) -> Result<Option<Sender>, Memory>
+) -> Result<Sender, Memory>
     requires queue { taker.old.queue ≡ (arc_value queue.now).queue }
     requires group { group < MOST_GROUPS }
-    ensures sender { IfOk result (λ made. IfSome made (IsFreshSender (arc_value queue.now) group)) }
-    ensures taker { (taker.new.queue ≡ taker.old.queue) × (taker.new.popped ≡ taker.old.popped) }
+    requires free { slice_index taker.old.sizes group ≡ 0 }
+    ensures sender { IfOk result (IsFreshSender (arc_value queue.now) group) }
+    ensures taker { taker.new ≡ record taker.old { sizes = slice_set taker.old.sizes group 1 } }
 {
     let Some(seat) = queue.split(taker, group, 1) else {
-        return Ok(None);
+        unreachable!();
     };
     let queue = Arc::try_clone(queue)?;
-    let sender = Sender::new(group, 1, MOST_RECORDS as u32, queue, seat);
-    Ok(Some(sender))
+    Ok(Sender::new(group, 1, MOST_RECORDS as u32, queue, seat))
 }
 
-/// What a run leaves: of each sender its receipt, and of the taker its seat and what it popped.
+/// An open sender of each of the groups 0 to 2, each of one item, where no group has had a seat.
+fn senders_of(
+    queue: &Arc<Intake, Global>,
+    taker: &mut TakerSeat,
+) -> Result<(Sender, Sender, Sender), Memory>
+    requires queue { taker.old.queue ≡ (arc_value queue.now).queue }
+    requires fresh { taker.old.sizes ≡ no_sizes }
+    ensures senders { IfOk result (AreFreshSenders (arc_value queue.now)) }
+    ensures taker { OnOk result ((taker.new.queue ≡ taker.old.queue) × (taker.new.popped ≡ taker.old.popped)) }
+{
+    Ok((
+        sender_of(queue, taker, 0)?,
+        sender_of(queue, taker, 1)?,
+        sender_of(queue, taker, 2)?,
+    ))
+}
+
+/// What a run leaves: of each sender its seat, and of the taker its seat and what it popped.
 type Left = (
-    (Result<Receipt, Sender>, Result<Receipt, Sender>),
-    (
-        Result<Receipt, Sender>,
-        (TakerSeat, Result<Vec<Sent>, Memory>),
-    ),
+    (Option<IntakeSeat>, Option<IntakeSeat>),
+    (Option<IntakeSeat>, (TakerSeat, Result<Vec<Sent>, Memory>)),
 );
 
 /// Runs three senders and a taker, each on a thread of its own.
@@ -144,25 +165,22 @@ fn run<R: Threads + Wait + Clock + Sync>(
 ) -> Left
     requires senders { (senders.0.sent ≡ []) × (senders.1.sent ≡ []) × (senders.2.sent ≡ []) }
     requires taker { (taker.queue ≡ queue.now.queue) × (taker.popped ≡ []) }
-    ensures first { IfOk result.0.0 (IsReceiptOf senders.0 count) }
-    ensures second { IfOk result.0.1 (IsReceiptOf senders.1 count) }
-    ensures third { IfOk result.1.0 (IsReceiptOf senders.2 count) }
+    ensures first { IfSome result.0.0 (IsSeatOf senders.0 count) }
+    ensures second { IfSome result.0.1 (IsSeatOf senders.1 count) }
+    ensures third { IfSome result.1.0 (IsSeatOf senders.2 count) }
     ensures taker { result.1.1.0 ≡ record taker { popped = result.1.1.0.popped } }
     ensures popped { IfOk result.1.1.1 (HasAll result.1.1.0) }
 {
     let (a, b, c) = senders;
     join(
         rt,
-        || -> (Result<Receipt, Sender>, Result<Receipt, Sender>)
+        || -> (Option<IntakeSeat>, Option<IntakeSeat>)
             requires { (a.sent ≡ []) × (b.sent ≡ []) }
-            ensures { IfOk result.0 (IsReceiptOf a count) × IfOk result.1 (IsReceiptOf b count) }
+            ensures { IfSome result.0 (IsSeatOf a count) × IfSome result.1 (IsSeatOf b count) }
         { join(rt, || send_all(rt, a, count), || send_all(rt, b, count)) },
-        || -> (
-            Result<Receipt, Sender>,
-            (TakerSeat, Result<Vec<Sent>, Memory>),
-        )
+        || -> (Option<IntakeSeat>, (TakerSeat, Result<Vec<Sent>, Memory>))
             requires { (c.sent ≡ []) × (taker.queue ≡ queue.now.queue) × (taker.popped ≡ []) }
-            ensures { IfOk result.0 (IsReceiptOf c count) × (result.1.0 ≡ record taker { popped = result.1.0.popped }) × IfOk result.1.1 (HasAll result.1.0) }
+            ensures { IfSome result.0 (IsSeatOf c count) × (result.1.0 ≡ record taker { popped = result.1.0.popped }) × IfOk result.1.1 (HasAll result.1.0) }
         {
             join(
                 rt,
@@ -171,6 +189,60 @@ fn run<R: Threads + Wait + Clock + Sync>(
             )
         },
     )
+}
+
+/// Runs three senders of groups 0 to 2 and a taker, joins back the seats, and lists what was popped. `None` where a sender
+/// refused.
+fn run_to_end<R: Threads + Wait + Clock + Sync>(
+    rt: &R,
+    alloc: Global,
+    queue: &Intake,
+    taker: TakerSeat,
+    senders: (Sender, Sender, Sender),
+    count: u32,
+) -> Result<Option<Vec<Sent>>, Memory>
+    requires senders { AreFreshSenders queue.now senders }
+    requires taker { (taker.queue ≡ queue.now.queue) × (taker.popped ≡ []) }
+    ensures { IfOk result (λ done. IfSome done (λ all. (g : ℕ) → g < 3 → events_of g all.items ≡ stream_of count)) }
+{
+    let ((a, b), (c, (taker, all))) = run(rt, alloc, queue, taker, senders, count);
+    let (Some(a), Some(b), Some(c)) = (a, b, c) else {
+        return Ok(None);
+    };
+    let all = all?;
+    let mut taker = taker;
+    join_all(queue, &mut taker, a, b, c);
+    Ok(Some(all))
+}
+
+/// Makes three senders over a queue, and runs them and a taker. `None` where a sender refused.
+fn run_over<R: Threads + Wait + Clock + Sync>(
+    rt: &R,
+    alloc: Global,
+    queue: &Arc<Intake, Global>,
+    taker: TakerSeat,
+    count: u32,
+) -> Result<Option<Vec<Sent>>, Memory>
+    requires queue { taker.queue ≡ (arc_value queue.now).queue }
+    requires fresh { (taker.popped ≡ []) × (taker.sizes ≡ no_sizes) }
+    ensures { IfOk result (λ done. IfSome done (λ all. (g : ℕ) → g < 3 → events_of g all.items ≡ stream_of count)) }
+{
+    let mut taker = taker;
+    let senders = senders_of(queue, &mut taker)?;
+    run_to_end(rt, alloc, queue, taker, senders, count)
+}
+
+/// An empty queue that can be shared, and the seat that pops.
+pub(crate) fn shared_queue(
+    alloc: Global,
+    capacity: u32,
+) -> Result<(Arc<Intake, Global>, TakerSeat), Memory>
+    requires { (0 < capacity) × (capacity ≤ MOST_PLACES) }
+    ensures queue { IfOk result (λ made. made.1.queue ≡ (arc_value made.0).queue) }
+    ensures fresh { IfOk result (λ made. (made.1.popped ≡ []) × (made.1.sizes ≡ no_sizes)) }
+{
+    let (queue, taker) = Intake::new(alloc, capacity)?;
+    Ok((Arc::new(alloc, queue)?, taker))
 }
 
 /// Three senders of groups 0 to 2, each of one item, send the writes of the words below a count and then the end, while a
@@ -184,22 +256,6 @@ pub fn three_senders<R: Threads + Wait + Clock + Sync>(
     requires { (0 < capacity) × (capacity ≤ MOST_PLACES) }
     ensures { IfOk result (λ done. IfSome done (λ all. (g : ℕ) → g < 3 → events_of g all.items ≡ stream_of count)) }
 {
-    let (queue, mut taker) = Intake::new(alloc, capacity)?;
-    let queue = Arc::new(alloc, queue)?;
-    let (Some(a), Some(b), Some(c)) = (
-        sender_of(&queue, &mut taker, 0)?,
-        sender_of(&queue, &mut taker, 1)?,
-        sender_of(&queue, &mut taker, 2)?,
-    ) else {
-        return Ok(None);
-    };
-    let shared: &Intake = &queue;
-    let ((a, b), (c, (taker, all))) = run(rt, alloc, shared, taker, (a, b, c), count);
-    let (Ok(a), Ok(b), Ok(c)) = (a, b, c) else {
-        return Ok(None);
-    };
-    let all = all?;
-    let (mut taker, a, b, c) = (taker, a.into_seat(), b.into_seat(), c.into_seat());
-    join_all(shared, &mut taker, a, b, c);
-    Ok(Some(all))
+    let (queue, taker) = shared_queue(alloc, capacity)?;
+    run_over(rt, alloc, &queue, taker, count)
 }

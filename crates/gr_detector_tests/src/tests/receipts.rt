@@ -1,40 +1,125 @@
 //! Receipts that are not all, and what a sender refuses.
 
-use crate::runs::{add, begin, hand_in, last_of, report_of, report_of_one};
+ghost use Rattle.std.specs.Prelude.{All, IfSome};
+ghost use Rattle.gr_detector.specs.Runs.{AreReceiptsOf};
+ghost use Rattle.gr_detector_tests.specs.Senders.{IsReceipt, IsSender};
+
+use crate::runs::{NotKept, add, begin, begin_one, hand_in, report_of, told_of_one, two_of};
 use crate::senders::{close, plain, sends};
 use gr_detector::NoWatch;
+use gr_detector::running::Running;
 use gr_model::event::Kind;
-use std::sync::Arc;
+use gr_sender::receipt::Receipt;
+use gr_sender::sender::Sender;
+use std::alloc::Global;
+use std::sync::{Arc, Wait};
 use std::test::*;
+use std::thread::Threads;
+use std::time::Clock;
+
+/// How many records a run has once its last receipt is there too, and how many receipts there were before.
+fn with_last<R: Threads>(
+    rt: &R,
+    running: Running,
+    receipts: Vec<Receipt>,
+    last: Option<Receipt>,
+) -> Option<(usize, u64)>
+    requires all { AreReceiptsOf running receipts.items }
+    requires one { IfSome last (IsReceipt running) }
+{
+    let mut receipts = receipts;
+    let before = receipts.len();
+    match add(&running, &mut receipts, last) {
+        Ok(()) => records_of(rt, running, receipts, before),
+        Err(NotKept) => None,
+    }
+}
+
+/// How many records a run has of which these are the receipts, and how many receipts there were before.
+fn records_of<R: Threads>(
+    rt: &R,
+    running: Running,
+    receipts: Vec<Receipt>,
+    before: usize,
+) -> Option<(usize, u64)>
+    requires { AreReceiptsOf running receipts.items }
+{
+    match report_of(rt, running, receipts) {
+        Some(report) => Some((before, report.records)),
+        None => None,
+    }
+}
+
+/// Hands in some receipts and, once these came back, the last one too. How many came back, and how many records there are.
+fn hand_in_apart<R: Threads>(
+    rt: &R,
+    running: Running,
+    receipts: Vec<Receipt>,
+    last: Option<Receipt>,
+) -> Option<(usize, u64)>
+    requires all { AreReceiptsOf running receipts.items }
+    requires one { IfSome last (IsReceipt running) }
+{
+    match hand_in(rt, running, receipts) {
+        Some((running, receipts)) => with_last(rt, running, receipts, last),
+        None => None,
+    }
+}
+
+/// Hands in the second of two receipts and, once it came back, both. How many came back, and how many records there are.
+fn hand_in_two<R: Threads>(
+    rt: &R,
+    alloc: Global,
+    running: Running,
+    first: Option<Receipt>,
+    second: Option<Receipt>,
+) -> Option<(usize, u64)>
+    requires first { IfSome first (IsReceipt running) }
+    requires second { IfSome second (IsReceipt running) }
+{
+    let mut receipts = Vec::new(alloc);
+    match add(&running, &mut receipts, second) {
+        Ok(()) => hand_in_apart(rt, running, receipts, first),
+        Err(NotKept) => None,
+    }
+}
+
+/// Closes the two senders of a run, and hands in their receipts, one alone first.
+fn close_two<R: Threads + Wait + Clock>(
+    rt: &R,
+    alloc: Global,
+    running: Running,
+    senders: Vec<Sender>,
+) -> Option<(usize, u64)>
+    requires { All (IsSender running) senders.items }
+{
+    match two_of(&running, senders) {
+        Some((first, second)) => {
+            let second = close(rt, second, false);
+            let first = close(rt, first, false);
+            hand_in_two(rt, alloc, running, first, second)
+        }
+        None => None,
+    }
+}
 
 #[test]
 fn receipts_are_handed_back_until_all_are_there(rt: HostRuntime) -> Result<(), Fail> {
     let watch = Arc::new(rt.alloc(), NoWatch)?;
-    let (mut senders, running) = begin(rt, rt.alloc(), (&[1, 1], 8, 4, 1024), watch)?;
-    let second = last_of(&running, &mut senders)?;
-    let first = last_of(&running, &mut senders)?;
-    let second = close(&rt, second, false).ok_or("refused")?;
-    let first = close(&rt, first, false).ok_or("refused")?;
-    let mut receipts = Vec::new(rt.alloc());
-    add(&running, &mut receipts, second)?;
-    let (running, mut receipts) = hand_in(&rt, running, receipts).ok_or("one receipt is missing")?;
-    assert_eq!(rt; receipts.len(), 1);
-    add(&running, &mut receipts, first)?;
-    let report = report_of(&rt, running, receipts).ok_or("no report")?;
-    assert_eq!(rt; report.records, 2);
+    let (senders, running) = begin(rt, rt.alloc(), (&[1, 1], 8, 4, 1024), watch)?;
+    let told = close_two(&rt, rt.alloc(), running, senders);
+    assert_eq!(rt; told, Some((1, 2)));
     Ok(())
 }
 
 #[test]
 fn a_cut_stream_is_told(rt: HostRuntime) -> Result<(), Fail> {
     let watch = Arc::new(rt.alloc(), NoWatch)?;
-    let (mut senders, running) = begin(rt, rt.alloc(), (&[2], 1, 1, 1), watch)?;
-    let mut sender = last_of(&running, &mut senders)?;
-    assert!(rt; sends(&rt, &mut sender, plain(0, Kind::Write, 16)), "sent");
+    let (mut sender, running) = begin_one(rt, rt.alloc(), (&[2], 1, 1, 1), watch)?;
+    let is_sent = sends(&rt, &mut sender, plain(0, Kind::Write, 16));
     let receipt = close(&rt, sender, true);
-    let report = report_of_one(&rt, rt.alloc(), running, receipt)?;
-    assert_eq!(rt; report.records, 2);
-    assert_eq!(rt; report.races.as_slice().len(), 0);
-    assert_eq!(rt; report.cut.as_slice(), [0].as_slice());
+    let told = told_of_one(&rt, rt.alloc(), running, receipt);
+    assert!(rt; is_sent, "sent");
+    assert_eq!(rt; told, Some((2, 0, true)));
     Ok(())
 }

@@ -1,16 +1,23 @@
 //! Two senders on threads of their own, through a queue of one place.
 
+ghost use Rattle.std.specs.Prelude.{All};
+ghost use Rattle.gr_detector_tests.specs.Senders.{IsSender};
+
 use crate::counts::Counts;
-use crate::runs::{add, begin, last_of, report_of};
+use crate::runs::{begin, report_of_two, two_of};
 use crate::senders::{plain, send_both};
+use gr_detector::running::Running;
 use gr_model::event::{Event, Kind, Word};
 use gr_model::shape::Shape;
 use gr_model::traces::Traces;
 use gr_replay::detect::detect;
 use gr_report::report::Report;
+use gr_sender::sender::Sender;
 use std::alloc::{Allocator, Global};
-use std::sync::Arc;
+use std::sync::{Arc, Wait};
 use std::test::*;
+use std::thread::Threads;
+use std::time::Clock;
 
 /// The list of so many plain accesses by item 0, and its end.
 fn list_of(alloc: Global, kind: Kind, first: u32, count: u32) -> Result<Vec<Event>, Fail> {
@@ -41,21 +48,62 @@ pub(crate) fn names_the_shared_words<A: Allocator>(report: &Report<A>) -> bool {
             .all(|(number, race)| *race == Word::Global(number))
 }
 
+/// What the report of the two senders tells: how many groups, items and records there are, whether its races are those of
+/// the shared words, and whether it is the report of `detect`.
+type Told = (u16, u16, u64, bool, bool);
+
+/// What a report of the two senders tells.
+fn told(alloc: Global, report: &Report) -> Result<Told, Fail> {
+    let is_detected = *report == detected(alloc)?;
+    Ok((
+        report.groups,
+        report.items,
+        report.records,
+        names_the_shared_words(report),
+        is_detected,
+    ))
+}
+
+/// Runs the two senders of a run that was started, and gives the report.
+fn report_of_both<R: Threads + Wait + Clock + Sync>(
+    rt: &R,
+    alloc: Global,
+    running: Running,
+    senders: Vec<Sender>,
+) -> Option<Report>
+    requires { All (IsSender running) senders.items }
+{
+    match two_of(&running, senders) {
+        Some((first, second)) => {
+            let (first, second) = send_both(rt, first, second);
+            report_of_two(rt, alloc, running, first, second)
+        }
+        None => None,
+    }
+}
+
+/// Runs the two senders of a run that was started. What its report tells.
+fn told_of_both<R: Threads + Wait + Clock + Sync>(
+    rt: &R,
+    alloc: Global,
+    running: Running,
+    senders: Vec<Sender>,
+) -> Result<Told, Fail>
+    requires { All (IsSender running) senders.items }
+{
+    match report_of_both(rt, alloc, running, senders) {
+        Some(report) => told(alloc, &report),
+        None => Err("no report")?,
+    }
+}
+
 #[test]
 fn two_senders_race_on_fifty_words(rt: HostRuntime) -> Result<(), Fail> {
     let watch = Arc::new(rt.alloc(), Counts::new())?;
     let theirs = Arc::try_clone(&watch)?;
-    let (mut senders, running) = begin(rt, rt.alloc(), (&[1, 1], 2, 1, 1), theirs)?;
-    let second = last_of(&running, &mut senders)?;
-    let first = last_of(&running, &mut senders)?;
-    let (first, second) = send_both(&rt, first, second);
-    let mut receipts = Vec::new(rt.alloc());
-    add(&running, &mut receipts, second.ok_or("refused")?)?;
-    add(&running, &mut receipts, first.ok_or("refused")?)?;
-    let report = report_of(&rt, running, receipts).ok_or("no report")?;
-    assert_eq!(rt; (report.groups, report.items, report.records), (2, 2, 201));
-    assert!(rt; names_the_shared_words(&report), "races");
-    assert!(rt; report == detected(rt.alloc())?, "as detect has it");
+    let (senders, running) = begin(rt, rt.alloc(), (&[1, 1], 2, 1, 1), theirs)?;
+    let told = told_of_both(&rt, rt.alloc(), running, senders)?;
+    assert_eq!(rt; told, (2, 2, 201, true, true));
     assert_eq!(rt; watch.all(), [101, 100, 100, 99, 50, (1 << 50) - 1, 0]);
     Ok(())
 }

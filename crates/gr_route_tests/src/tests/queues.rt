@@ -1,13 +1,14 @@
 //! Queues of one place, and a seat for each work-group.
 
-ghost use Rattle.std.specs.Prelude.{◌≡◌, [], OnOk, IfOk, IsFalse};
-ghost use Rattle.gr_route.specs.WorkRule.{is_stop};
+ghost use Rattle.std.specs.Prelude.{◌≡◌, ◌∷◌, ◌++◌, [], OnOk, IfOk, IfSome, IfNone, IsFalse};
+ghost use Rattle.gr_route.specs.WorkRule.{is_stop, is_stopped};
 
 use crate::three_senders::write;
 use gr_clocks::access::Access;
 use gr_clocks::clock::Clock;
 use gr_model::event::{Event, ItemId, Sent, Word};
 use gr_model::limits::MOST_GROUPS;
+use gr_model::memory::Memory;
 use gr_model::shape::Shape;
 use gr_route::intake::{Intake, IntakeSeat, TakerSeat};
 use gr_route::work::{GiverSeat, Work, WorkQueue, WorkerSeat};
@@ -41,23 +42,45 @@ fn pushed_and_popped<R: Wait>(
     Some((back, [first, second]))
 }
 
+/// What a queue of one place gives: of a seat the group and the items, what `pushed_and_popped` tells, and whether the group
+/// is refused a seat while it has one and after that was joined back.
+type IntakeAnswers = (
+    (u16, u16),
+    Option<(Option<Event>, [Option<Sent>; 2])>,
+    [bool; 2],
+);
+
+/// What an empty queue of one place gives; `None` where the first split is refused.
+fn split_push_and_join<R: Wait>(
+    rt: &R,
+    queue: &Intake,
+    taker: &mut TakerSeat,
+) -> Option<IntakeAnswers>
+    requires { taker.old.queue ≡ queue.now.queue }
+{
+    let mut seat = queue.split(taker, 5, 2)?;
+    let of = (seat.group(), seat.items());
+    let refused = queue.split(taker, 5, 2).is_none();
+    let seen = pushed_and_popped(rt, queue, taker, &mut seat);
+    queue.join_back(taker, seat);
+    Some((of, seen, [refused, queue.split(taker, 5, 2).is_none()]))
+}
+
+/// What a queue of one place gives; `None` where the first split is refused.
+fn intake_answers<R: Wait>(rt: &R, alloc: Global) -> Result<Option<IntakeAnswers>, Memory> {
+    let (queue, mut taker) = Intake::new(alloc, 1)?;
+    Ok(split_push_and_join(rt, &queue, &mut taker))
+}
+
 #[test]
 fn an_intake_queue_of_one_place(rt: HostRuntime) -> Result<(), Fail> {
-    let (queue, mut taker) = Intake::new(rt.alloc(), 1)?;
-    let mut seat = queue.split(&mut taker, 5, 2).ok_or("the first split")?;
-    assert_eq!(rt; (seat.group(), seat.items()), (5, 2));
-    assert!(rt; queue.split(&mut taker, 5, 2).is_none(), "a second split");
     let first = Sent {
         group: 5,
         event: write(7),
     };
-    let seen = pushed_and_popped(&rt, &queue, &mut taker, &mut seat);
-    assert_eq!(rt; seen, Some((Some(write(8)), [Some(first), None])));
-    queue.join_back(&mut taker, seat);
-    assert!(rt;
-        queue.split(&mut taker, 5, 2).is_none(),
-        "a split after the join"
-    );
+    let seen = Some((Some(write(8)), [Some(first), None]));
+    let answers = intake_answers(&rt, rt.alloc())?;
+    assert_eq!(rt; answers, Some(((5, 2), seen, [true, true])));
     Ok(())
 }
 
@@ -74,12 +97,27 @@ fn split_all(alloc: Global, queue: &Intake, taker: &mut TakerSeat) -> Result<Vec
     Ok(seats)
 }
 
+/// How many seats the groups have of a queue, and whether a second one is refused.
+fn split_all_and_one(
+    alloc: Global,
+    queue: &Intake,
+    taker: &mut TakerSeat,
+) -> Result<(usize, bool), Fail>
+    requires { taker.old.queue ≡ queue.now.queue }
+{
+    let seats = split_all(alloc, queue, taker)?;
+    Ok((seats.len(), queue.split(taker, 5, 1).is_none()))
+}
+
+/// How many seats the groups have of a queue of one place, and whether a second one is refused.
+fn seats_of_one_place(alloc: Global) -> Result<(usize, bool), Fail> {
+    let (queue, mut taker) = Intake::new(alloc, 1)?;
+    split_all_and_one(alloc, &queue, &mut taker)
+}
+
 #[test]
 fn each_group_has_one_seat(rt: HostRuntime) -> Result<(), Fail> {
-    let (queue, mut taker) = Intake::new(rt.alloc(), 1)?;
-    let seats = split_all(rt.alloc(), &queue, &mut taker)?;
-    assert_eq!(rt; seats.len(), 64);
-    assert!(rt; queue.split(&mut taker, 5, 1).is_none());
+    assert_eq!(rt; seats_of_one_place(rt.alloc())?, (64, true));
     Ok(())
 }
 
@@ -118,6 +156,24 @@ fn pop_word<R: Wait>(rt: &R, queue: &WorkQueue, worker: &mut WorkerSeat) -> Opti
     }
 }
 
+/// Pushes work, and tells the word of what comes back; `None` where nothing does.
+fn push_word<R: Wait>(
+    rt: &R,
+    queue: &WorkQueue,
+    giver: &mut GiverSeat,
+    work: Work,
+) -> Option<Option<Word>>
+    requires queue { giver.old.queue ≡ queue.now.queue }
+    requires unstopped { IsFalse (is_stopped giver.old.pushed) }
+    ensures pushed { IfNone result (giver.new ≡ record giver.old { pushed = giver.old.pushed ++ work ∷ [] }) }
+    ensures unchanged { IfSome result (λ _. giver.new ≡ giver.old) }
+{
+    match queue.push(rt, giver, work) {
+        Ok(()) => None,
+        Err(full) => Some(word_of(&full.0)),
+    }
+}
+
 /// Pushes an access and, into the full queue, the word that there are no more, and pops twice; then pushes that word again,
 /// and pops it. Tells the words of what was popped, or `None` where a push was not answered as it is due.
 fn through_one_place<R: Wait>(
@@ -133,41 +189,65 @@ fn through_one_place<R: Wait>(
     ensures worker { worker.new.queue ≡ queue.now.queue }
     ensures giver { giver.new.queue ≡ queue.now.queue }
 {
-    if queue.push(rt, giver, access).is_err() {
+    if push_word(rt, queue, giver, access).is_some() {
         return None;
     }
-    match queue.push(rt, giver, Work::Stop) {
-        Ok(()) => return None,
-        Err(full) => {
-            if word_of(&full.0).is_some() {
-                return None;
-            }
-        }
+    if push_word(rt, queue, giver, Work::Stop) != Some(None) {
+        return None;
     }
     let first = pop_word(rt, queue, worker);
     let second = pop_word(rt, queue, worker);
-    if queue.push(rt, giver, Work::Stop).is_err() {
+    if push_word(rt, queue, giver, Work::Stop).is_some() {
         return None;
     }
     let last = pop_word(rt, queue, worker);
     Some([first, second, last])
 }
 
+/// What a work queue of one place gives: what `through_one_place` tells, and whether a seat is refused while there is one and
+/// after that was joined back.
+type WorkAnswers = (Option<[Option<Option<Word>>; 3]>, [bool; 2]);
+
+/// What an empty queue of one place gives; `None` where the first split is refused.
+fn split_give_and_join<R: Wait>(
+    rt: &R,
+    queue: &WorkQueue,
+    worker: &mut WorkerSeat,
+    access: Work,
+) -> Option<WorkAnswers>
+    requires queue { worker.old.queue ≡ queue.now.queue }
+    requires access { IsFalse (is_stop access) }
+{
+    let mut giver = queue.split(worker)?;
+    let refused = queue.split(worker).is_none();
+    let popped = through_one_place(rt, queue, &mut giver, worker, access);
+    queue.join_back(worker, giver);
+    Some((popped, [refused, queue.split(worker).is_none()]))
+}
+
+/// What an empty queue of one place gives where the access is a write; `None` where the first split is refused.
+fn give_write<R: Wait>(
+    rt: &R,
+    alloc: Global,
+    queue: &WorkQueue,
+    worker: &mut WorkerSeat,
+) -> Result<Option<WorkAnswers>, Fail>
+    requires { worker.old.queue ≡ queue.now.queue }
+{
+    let access = write_by_one(alloc, 7)?;
+    Ok(split_give_and_join(rt, queue, worker, access))
+}
+
+/// What a queue of one place gives; `None` where the first split is refused.
+fn work_answers<R: Wait>(rt: &R, alloc: Global) -> Result<Option<WorkAnswers>, Fail> {
+    let (queue, mut worker) = WorkQueue::new(alloc, 1)?;
+    give_write(rt, alloc, &queue, &mut worker)
+}
+
 #[test]
 fn a_work_queue_of_one_place(rt: HostRuntime) -> Result<(), Fail> {
-    let access = write_by_one(rt.alloc(), 7)?;
-    let (queue, mut worker) = WorkQueue::new(rt.alloc(), 1)?;
-    let mut giver = queue.split(&mut worker).ok_or("the first split")?;
-    assert!(rt; queue.split(&mut worker).is_none(), "a second split");
-    let popped = through_one_place(&rt, &queue, &mut giver, &mut worker, access);
-    assert_eq!(rt;
-        popped,
-        Some([Some(Some(Word::Global(7))), None, Some(None)])
-    );
-    queue.join_back(&mut worker, giver);
-    assert!(rt;
-        queue.split(&mut worker).is_none(),
-        "a split after the join"
-    );
+    let popped = Some([Some(Some(Word::Global(7))), None, Some(None)]);
+    let answers = work_answers(&rt, rt.alloc())?;
+    assert_eq!(rt; answers, Some((popped, [true, true])));
     Ok(())
 }

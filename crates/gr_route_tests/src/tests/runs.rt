@@ -1,7 +1,7 @@
 //! Senders and a taker on threads of their own.
 
 use crate::three_senders::three_senders;
-use gr_model::event::{Event, Kind, Space};
+use gr_model::event::{Event, Kind, Sent, Space};
 use gr_model::names::Names;
 use std::test::*;
 
@@ -21,23 +21,29 @@ fn sent_at(place: u32) -> Event {
     }
 }
 
+/// How many records of a group the list has, or the place and the event of the first that is not what was sent there.
+fn count_of(all: &[Sent], group: u16) -> Result<u32, (u32, Event)> {
+    let mut place = 0_u32;
+    for sent in all {
+        if sent.group == group {
+            if sent.event != sent_at(place) {
+                return Err((place, sent.event));
+            }
+            place = place.saturating_add(1);
+        }
+    }
+    Ok(place)
+}
+
+/// How many records the list has, and of each group 0 to 2.
+fn counts_of(all: Vec<Sent>) -> (usize, [Result<u32, (u32, Event)>; 3]) {
+    let groups = [count_of(&all, 0), count_of(&all, 1), count_of(&all, 2)];
+    (all.len(), groups)
+}
+
 #[test]
 fn what_three_senders_sent_arrives_in_order(rt: HostRuntime) -> Result<(), Fail> {
     let all = three_senders(&rt, rt.alloc(), 1, 100)?.ok_or("a sender refused")?;
-    assert_eq!(rt; all.len(), 303);
-    for group in 0..3_u16 {
-        let mut place = 0_u32;
-        for sent in &all {
-            if sent.group == group {
-                assert_eq!(rt;
-                    sent.event,
-                    sent_at(place),
-                    "place {place} of group {group}"
-                );
-                place = place.saturating_add(1);
-            }
-        }
-        assert_eq!(rt; place, 101, "group {group}");
-    }
+    assert_eq!(rt; counts_of(all), (303, [Ok(101), Ok(101), Ok(101)]));
     Ok(())
 }
