@@ -82,7 +82,10 @@ fn no_lists<A: Allocator + Copy>(alloc: A) -> Result<Vec<Vec<ItemId, A>, A>, Mem
     Ok(lists)
 }
 
-/// For each group that no instance is known not to be divergent.
+/// Of each group no instance that is known not to be divergent.
+///
+/// # Errors
+/// `Memory`: out of memory.
 fn no_instances<A: Allocator + Copy>(alloc: A) -> Result<Vec<Option<u32>, A>, Memory>
     ensures { IfOk result (λ v. (s : Streams) → AreUndiverged s v.items) }
 {

@@ -21,8 +21,8 @@ use gr_sides::sides::Sides;
 use std::alloc::Allocator;
 use std::io::{self, Read, Write};
 
-/// Reads the streams of a launch, one from each file, and shows what `show_account` shows, with what these places and the bytes of
-/// a file of buffers say.
+/// Reads the streams of a launch, one from each file, and shows what `show_account` shows, with what these places and
+/// the bytes of a file of buffers say.
 ///
 /// # Errors
 /// `Buffers` with the first line that is out of form; then `Run` with those of `show_account`.
