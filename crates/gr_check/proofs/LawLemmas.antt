@@ -17,7 +17,7 @@ use Rattle.gr_record.specs.Decoding.{close, last_answer, reading}
 use Rattle.gr_record.specs.Fronts.{records_of}
 use Rattle.gr_record.specs.WholeStreams.{front_header_at, front_records_at, up_to}
 use Rattle.gr_replay.specs.Each.{each_at, only_stream_at}
-use Rattle.gr_replay.specs.Joined.{Flat, ◌>>=◌, at_place, stream_at}
+use Rattle.gr_intake.specs.Joined.{Flat, ◌>>=◌, at_place, stream_at}
 use Rattle.gr_check.specs.Laws.{FaultsAreWhereReadingStops}
 use Rattle.gr_check.proofs.SpotLemmas.{header_stops, stop_read}
 

@@ -7,12 +7,12 @@ use Rattle.gr_record.specs.declared.fault.Fault.TheVariants as faults
 use Rattle.gr_record.specs.Faults.{IsOfReading, IsOfValues}
 use Rattle.gr_input.specs.Faults.{Fails}
 use Rattle.gr_input.proofs.Outside.{at_any}
-use Rattle.gr_replay.specs.declared.intake.Intake.{Intake}
-use Rattle.gr_replay.specs.declared.open.Open.{Open}
-use Rattle.gr_replay.specs.Intakes.{Moves, behind, come, coming_in, read_behind, unit_at, unit_of}
-use Rattle.gr_replay.specs.Joined.{joined_of}
+use Rattle.gr_intake.specs.declared.intake.Intake.{Intake}
+use Rattle.gr_intake.specs.declared.open.Open.{Open}
+use Rattle.gr_intake.specs.Intakes.{Moves, behind, come, coming_in, read_behind, unit_at, unit_of}
+use Rattle.gr_intake.specs.Joined.{joined_of}
 use Rattle.gr_backlog.specs.Waiting.{Coming}
-use Rattle.gr_replay.proofs.Comings.{between}
+use Rattle.gr_intake.proofs.Comings.{between}
 
 -- ---- nothing was read
 
@@ -63,17 +63,9 @@ pub memory_fails : {R : Type 0} (result : Result R Fault) (known : Option (List 
 memory_fails (Ok x) known is = tt
 memory_fails (Err f) known is = subst (λ (x : Fault). IfSome known (λ bytes. Fails x (joined_of bytes))) (sym is) (at_any known (λ bytes. Fails faults.Memory (joined_of bytes)) (λ xs. tt))
 
-pub memory_fails_behind : {R Z : Type 0} (result : Result R Fault) (i : Intake Z) (bytes : List ℕ) → IsErrAnd result (λ f. f ≡ faults.Memory) → IfErr result (λ f. (more : List ℕ) → Fails f (behind i (bytes ++ more)))
-memory_fails_behind (Ok x) i bytes is = tt
-memory_fails_behind (Err f) i bytes is = subst (λ (x : Fault). (more : List ℕ) → Fails x (behind i (bytes ++ more))) (sym is) (λ more. tt)
-
 pub memory_is_of_reading : {R : Type 0} (result : Result R Fault) → IsErrAnd result (λ f. f ≡ faults.Memory) → IfErr result IsOfReading
 memory_is_of_reading (Ok x) is = tt
 memory_is_of_reading (Err f) is = subst IsOfReading (sym is) (λ same. cc, λ same. cc)
-
-pub memory_is_of_values : {R : Type 0} (result : Result R Fault) → IsErrAnd result (λ f. f ≡ faults.Memory) → IfErr result IsOfValues
-memory_is_of_values (Ok x) is = tt
-memory_is_of_values (Err f) is = subst IsOfValues (sym is) (λ same. cc, λ same. cc, λ same. cc)
 
 pub values_are_of_reading : (f : Fault) → IsOfValues f → IsOfReading f
 values_are_of_reading f is = (is.1, is.2)

@@ -5,7 +5,6 @@ use Rattle.std.specs.List.{list_any}
 use Rattle.std.proofs.lemmas.List.{length-map}
 use Rattle.gr_model.specs.declared.event.Event.{Event}
 use Rattle.gr_record.specs.declared.error.RecordError.{RecordError}
-use Rattle.gr_record.specs.declared.error.RecordError.TheVariants as errors
 use Rattle.gr_record.specs.declared.header.Header.{Header}
 use Rattle.gr_record.specs.declared.fault.Fault.{Fault}
 use Rattle.gr_record.specs.declared.fault.Fault.TheVariants as faults
@@ -15,16 +14,13 @@ use Rattle.gr_record.specs.WholeStreams.{front_header_at, front_records_at}
 use Rattle.gr_replay.specs.declared.joined.Stream.{Stream}
 use Rattle.gr_input.specs.Faults.{Fails}
 use Rattle.gr_input.proofs.Outside.{fails_through}
-use Rattle.gr_replay.specs.Joined.{Flat, flats, stream_at, joined_at}
+use Rattle.gr_intake.specs.Joined.{Flat, stream_at, joined_at}
+use Rattle.gr_replay.specs.InMemory.{flats}
+use Rattle.gr_intake.proofs.Faults.{fault_at-fails}
 
 list_any-flats : (test : Header → Bool) (seen : List Stream) → list_any (λ s. test s.header) (flats seen) ≡ list_any (λ s. test s.header) seen
 list_any-flats test [] = refl
 list_any-flats test (s ∷ seen) = ap (λ b. test s.header || b) (list_any-flats test seen)
-
--- where memory suffices, the error in its place is that of the whole
-pub fault_at-fails : {X Y : Type 0} (place : ℕ) (e : RecordError) (read : Result X RecordError) (whole : Result Y Fault) → record_spec.Fails e read → (read ≡ Err e → whole ≡ Err (faults.Stream place e)) → Fails (stream_fault place e) whole
-fault_at-fails place errors.Memory read whole h go = tt
-fault_at-fails place e read whole h go = go h
 
 module _ (seen : List Stream) (bytes : List ℕ) where
   pub header_fails : (e : RecordError) → record_spec.Fails e (front_header_at bytes) → Fails (stream_fault (length seen) e) (stream_at (flats seen) bytes)
@@ -85,5 +81,3 @@ module _ (seen : List Flat) (stop i : ℕ) (bytes : List ℕ) (total : Result (L
         let k : stop - i ≡ suc (stop - (i + 1)) = omega arith in
         let one : joined_at (stop - i) seen bytes ≡ joined_at (stop - (i + 1)) (seen ++ s ∷ []) after = rw (k, some, e) refl in
         sym one ∙ so_far
-
--- ---- from a list of bytes to a reader

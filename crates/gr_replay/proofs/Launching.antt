@@ -15,9 +15,10 @@ use Rattle.gr_model.specs.Streams.{Streams, IsAccepted, AreAccepted}
 use Rattle.gr_model.proofs.HitsAreRaces.{eqb_swap}
 use Rattle.gr_model.proofs.Places.{Contains-at}
 use Rattle.gr_replay.specs.declared.joined.Stream.{Stream}
-use Rattle.gr_replay.specs.Joined.{Flat, flat, flats}
-use Rattle.gr_replay.specs.Laws.{AreStreams}
-use Rattle.gr_replay.specs.Launch.{IsLaunchOf, IsLeastMissing, AreApart, AreRising, ArePlaced}
+use Rattle.gr_intake.specs.Joined.{Flat}
+use Rattle.gr_replay.specs.InMemory.{flat, flats}
+use Rattle.gr_intake.specs.Laws.{AreStreams}
+use Rattle.gr_intake.specs.Launch.{IsLaunchOf, IsLeastMissing, AreApart, AreRising, ArePlaced}
 use Rattle.gr_steps.proofs.Orders.{there_is}
 
 -- what holds of the values of each two elements holds of each two values

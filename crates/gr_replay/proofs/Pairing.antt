@@ -16,8 +16,8 @@ use Rattle.gr_shadow.specs.Clashes.{IsClashIn, IsHitIn}
 use Rattle.gr_shadow.specs.Kept.{Kept}
 use Rattle.gr_shadow.specs.StandsFor.{StandsFor}
 use Rattle.gr_replay.specs.Races.{AreRacesOfHits, IsRaceIn, IsRaceOf}
-use Rattle.gr_replay.specs.Sequencing.{AreShadowsOf}
-use Rattle.gr_replay.proofs.Reporting.{races_are_listed}
+use Rattle.gr_intake.specs.Sequencing.{AreShadowsOf}
+use Rattle.gr_intake.proofs.Reporting.{races_are_listed}
 
 -- ---- the races of the first clashes of a list
 

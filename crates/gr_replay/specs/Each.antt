@@ -6,8 +6,8 @@ use Rattle.gr_record.specs.declared.error.RecordError.TheVariants.{AfterEnd}
 use Rattle.gr_record.specs.declared.fault.Fault.{Fault}
 use Rattle.gr_record.specs.declared.fault.Fault.TheVariants as faults
 use Rattle.gr_input.specs.Faults.{Fails}
-use Rattle.gr_replay.specs.Joined.{Flat, ◌>>=◌, stream_at}
-use Rattle.gr_replay.specs.Launch.{IsLaunchOf, IsLaunchFault}
+use Rattle.gr_intake.specs.Joined.{Flat, ◌>>=◌, stream_at}
+use Rattle.gr_intake.specs.Launch.{IsLaunchOf, IsLaunchFault}
 
 -- the bytes of vectors
 abbrev pub inputs_of : {Z : Type 0} → List (Vec ℕ Z) → List (List ℕ)

@@ -1,9 +1,5 @@
 pub mod Standing
-pub mod Joined
-pub mod Launch
-pub mod Sequencing
+pub mod InMemory
 pub mod Replays
-pub mod Laws
 pub mod Each
 pub mod Races
-pub mod Intakes

@@ -7,7 +7,7 @@ use Rattle.gr_record.specs.declared.fault.Fault.{Fault}
 use Rattle.gr_record.specs.declared.fault.Fault.TheVariants as faults
 use Rattle.gr_report.specs.Putting.{AppendsPrefix}
 use Rattle.gr_report.specs.ReportText.{report_text}
-use Rattle.gr_replay.specs.Launch.{Reads, IsReadFault}
+use Rattle.gr_intake.specs.Launch.{Reads, IsReadFault}
 
 -- the report is exact: the bytes are the streams of a launch, which the model accepts, and it is the report of the definitions on that launch
 pub record IsExact (bytes : List ℕ) (report : WholeReport) : Type 0 where

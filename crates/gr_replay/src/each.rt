@@ -4,8 +4,8 @@ ghost use Rattle.std.specs.Prelude.{◌≡◌, ◌++◌, ◌∷◌, [], IfErr, I
 ghost use Rattle.gr_record.specs.Faults.{IsOfReading, IsOfValues};
 ghost use Rattle.gr_replay.specs.Each.{AreRead, IsEachFault, ReadsEach, all_known, each_of, inputs_of, only_stream_at};
 ghost use Rattle.gr_input.specs.Faults.{Gives, IsOutside};
-ghost use Rattle.gr_replay.specs.Joined.{flat, flats};
-ghost use Rattle.gr_replay.specs.Laws.{AreStreams};
+ghost use Rattle.gr_replay.specs.InMemory.{flat, flats};
+ghost use Rattle.gr_intake.specs.Laws.{AreStreams};
 
 use crate::joined::{Stream, keep, read_stream};
 use crate::launch::traces_of;

@@ -4,10 +4,10 @@ ghost use Rattle.std.specs.Prelude.{[], ◌≡◌, ◌++◌, ◌<◌, ℕ, List,
 ghost use Rattle.std.specs.Io.KnownBytes.{Consumes, IsAtEnd};
 ghost use Rattle.gr_input.specs.Faults.{Fails};
 ghost use Rattle.gr_record.specs.Faults.{IsOfReading, IsOfValues};
-ghost use Rattle.gr_replay.specs.Intakes.{IsIntake, Moves, behind, come, unit_of};
-ghost use Rattle.gr_replay.specs.Joined.{joined_of};
+ghost use Rattle.gr_intake.specs.Intakes.{IsIntake, Moves, behind, come, unit_of};
+ghost use Rattle.gr_intake.specs.Joined.{joined_of};
 
-use crate::intake::Intake;
+use gr_intake::intake::Intake;
 use gr_model::memory::Memory;
 use gr_record::fault::Fault;
 use std::alloc::Allocator;

@@ -4,8 +4,9 @@ ghost use Rattle.std.specs.Prelude.{◌≡◌, ◌==◌, ◌++◌, ◌∷◌, []
 ghost use Rattle.std.specs.List.{list_any};
 ghost use Rattle.gr_record.specs.Faults.{IsOfValues};
 ghost use Rattle.gr_input.specs.Faults.{Gives};
-ghost use Rattle.gr_replay.specs.Laws.{AreStreams};
-ghost use Rattle.gr_replay.specs.Joined.{flat, flats, stream_at, joined_of};
+ghost use Rattle.gr_intake.specs.Laws.{AreStreams};
+ghost use Rattle.gr_intake.specs.Joined.{stream_at, joined_of};
+ghost use Rattle.gr_replay.specs.InMemory.{flat, flats};
 
 use crate::records::Records;
 use gr_record::fault::Fault;

@@ -3,9 +3,9 @@
 ghost use Rattle.std.specs.Prelude.{◌≡◌, IfOk, IfErr, IfSome, MatchOption, IsPermutation, map};
 ghost use Rattle.gr_record.specs.Faults.{IsOfReading, IsOfValues};
 ghost use Rattle.gr_model.specs.Streams.{AreAccepted};
-ghost use Rattle.gr_replay.specs.Joined.{flats};
-ghost use Rattle.gr_replay.specs.Laws.{AreStreams};
-ghost use Rattle.gr_replay.specs.Launch.{AreApart, streams_of, AreRising, ArePlaced, IsLeastMissing, IsLaunchOf, IsLaunchFault, Reads, IsReadFault};
+ghost use Rattle.gr_replay.specs.InMemory.{flats, streams_of};
+ghost use Rattle.gr_intake.specs.Laws.{AreStreams};
+ghost use Rattle.gr_intake.specs.Launch.{AreApart, AreRising, ArePlaced, IsLeastMissing, IsLaunchOf, IsLaunchFault, Reads, IsReadFault};
 
 use crate::joined::{Stream, read_streams};
 use gr_input::read_all;

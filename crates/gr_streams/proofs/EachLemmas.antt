@@ -11,7 +11,7 @@ use Rattle.gr_record.specs.declared.fault.Fault.{Fault}
 use Rattle.gr_record.specs.declared.fault.Fault.TheVariants as faults
 use Rattle.gr_record.specs.WholeStreams.{front_header_at, front_records_at}
 use Rattle.gr_replay.specs.Each.{each_at, each_of, only_stream_at}
-use Rattle.gr_replay.specs.Joined.{Flat, ◌>>=◌, at_place, stream_at}
+use Rattle.gr_intake.specs.Joined.{Flat, ◌>>=◌, at_place, stream_at}
 use Rattle.gr_streams.specs.Headers.{header_behind, headers_behind, headers_of, streams_with, unless_seen}
 use Rattle.gr_streams.specs.Records.{events_at, lists_behind, lists_of}
 

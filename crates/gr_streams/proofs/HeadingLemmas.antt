@@ -6,7 +6,7 @@ use Rattle.gr_record.specs.declared.fault.Fault.{Fault}
 use Rattle.gr_input.specs.Faults.{Fails}
 use Rattle.gr_input.proofs.Outside.{fails_through}
 use Rattle.gr_replay.specs.Each.{all_known}
-use Rattle.gr_replay.specs.Joined.{◌>>=◌}
+use Rattle.gr_intake.specs.Joined.{◌>>=◌}
 use Rattle.gr_streams.specs.Headers.{header_behind, headers_behind, headers_of}
 use Rattle.gr_streams.specs.Sources.{AreKnown}
 

@@ -10,8 +10,8 @@ use Rattle.gr_detector.specs.Runs.{AreReceiptsOf, AreSendersOf, IsOfRun, Run, se
 use Rattle.gr_model.specs.declared.event.Event.{Event}
 use Rattle.gr_record.specs.declared.header.Header.{Header}
 use Rattle.gr_replay.specs.Each.{all_known}
-use Rattle.gr_replay.specs.Joined.{Flat}
-use Rattle.gr_replay.specs.Launch.{HasGroup, IsLaunchOf}
+use Rattle.gr_intake.specs.Joined.{Flat}
+use Rattle.gr_intake.specs.Launch.{HasGroup, IsLaunchOf}
 use Rattle.gr_route.specs.IntakeSeats.{Seat}
 use Rattle.gr_sender.specs.Senders.{Sending}
 use Rattle.gr_steps.proofs.Orders.{there_is}

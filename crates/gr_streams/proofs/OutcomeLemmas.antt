@@ -20,8 +20,8 @@ use Rattle.gr_record.specs.Reading.{header_at}
 use Rattle.gr_record.specs.WholeStreams as record_spec
 use Rattle.gr_record.specs.WholeStreams.{front_header_at, front_records_at, up_to}
 use Rattle.gr_record.proofs.Places.{bytes_drop}
-use Rattle.gr_replay.specs.Joined.{◌>>=◌, at_place}
-use Rattle.gr_replay.proofs.Accepted.{AreRead, records_read}
+use Rattle.gr_intake.specs.Joined.{◌>>=◌, at_place}
+use Rattle.gr_intake.proofs.Accepted.{AreRead, records_read}
 use Rattle.gr_streams.specs.Records.{events_at}
 use Rattle.gr_streams.proofs.HeaderLemmas.{same_header}
 

@@ -6,8 +6,8 @@ use Rattle.gr_record.specs.declared.header.Header.{Header}
 use Rattle.gr_record.specs.declared.fault.Fault.{Fault}
 use Rattle.gr_record.specs.declared.fault.Fault.TheVariants as faults
 use Rattle.gr_record.specs.WholeStreams.{front_header_at}
-use Rattle.gr_replay.specs.Launch.{IsLaunchOf}
-use Rattle.gr_replay.specs.Joined.{Flat, ◌>>=◌, at_place}
+use Rattle.gr_intake.specs.Launch.{IsLaunchOf}
+use Rattle.gr_intake.specs.Joined.{Flat, ◌>>=◌, at_place}
 use Rattle.gr_model.specs.declared.event.Event.{Event}
 use Rattle.gr_model.specs.Streams.{Streams}
 

@@ -6,7 +6,7 @@ use Rattle.gr_record.specs.declared.error.RecordError.TheVariants.{AfterEnd}
 use Rattle.gr_record.specs.declared.fault.Fault.{Fault}
 use Rattle.gr_record.specs.declared.fault.Fault.TheVariants as faults
 use Rattle.gr_record.specs.WholeStreams.{front_header_at, front_records_at}
-use Rattle.gr_replay.specs.Joined.{◌>>=◌, at_place}
+use Rattle.gr_intake.specs.Joined.{◌>>=◌, at_place}
 
 -- the records of the one stream that the input at a place is
 unfoldable pub events_at : ℕ → List ℕ → Result (List Event) Fault

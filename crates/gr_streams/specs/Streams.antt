@@ -14,7 +14,7 @@ use Rattle.gr_input.specs.Faults.{Fails}
 use Rattle.gr_report.specs.Putting.{AppendsPrefix}
 use Rattle.gr_report.specs.ReportText.{report_text}
 use Rattle.gr_replay.specs.Each.{ReadsEach}
-use Rattle.gr_replay.specs.Launch.{IsLaunchFault, IsLaunchOf}
+use Rattle.gr_intake.specs.Launch.{IsLaunchFault, IsLaunchOf}
 use Rattle.gr_streams.specs.Headers.{AreHeadersOf, bares, headers_of, streams_with}
 use Rattle.gr_streams.specs.Records.{lists_of}
 

@@ -2,7 +2,7 @@
 
 ghost use Rattle.std.specs.Prelude.{◌≡◌, IfErr, IfOk, IsPermutation, MatchOption, map};
 ghost use Rattle.gr_model.specs.Shapes.{IsShape};
-ghost use Rattle.gr_replay.specs.Launch.{AreRising, ArePlaced, IsLaunchFault, IsLeastMissing};
+ghost use Rattle.gr_intake.specs.Launch.{AreRising, ArePlaced, IsLaunchFault, IsLeastMissing};
 ghost use Rattle.gr_streams.specs.Headers.{AreApart, AreHeadersOf, bares};
 
 use gr_model::memory::Memory;

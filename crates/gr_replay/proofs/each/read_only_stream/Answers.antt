@@ -5,8 +5,8 @@ use Rattle.gr_record.specs.Laws.{AreBytes}
 use Rattle.gr_record.specs.declared.error.RecordError.TheVariants.{AfterEnd}
 use Rattle.gr_record.specs.declared.fault.Fault.TheVariants as faults
 use Rattle.gr_replay.specs.Each.{only_stream_at}
-use Rattle.gr_replay.specs.Joined.{flat, flats}
-use Rattle.gr_replay.proofs.Accepted.{stream_is_one}
+use Rattle.gr_replay.specs.InMemory.{flat, flats}
+use Rattle.gr_intake.proofs.Accepted.{stream_is_one}
 use Rattle.gr_replay.proofs.Apart.{only_fails, only_one, more_behind}
 use Rattle.gr_replay.proofs.each.read_only_stream.Goals as goal
 

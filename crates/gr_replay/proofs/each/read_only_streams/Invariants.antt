@@ -1,7 +1,7 @@
 use Rattle.std.proofs.Common.{◌≡◌, drop}
 use Rattle.gr_replay.specs.Each.{each_at, each_of, inputs_of}
-use Rattle.gr_replay.specs.Joined.{flats}
-use Rattle.gr_replay.specs.Laws.{AreStreams}
+use Rattle.gr_replay.specs.InMemory.{flats}
+use Rattle.gr_intake.specs.Laws.{AreStreams}
 use Rattle.gr_replay.proofs.each.read_only_streams.Given as goal
 
 abbrev pub invariant-loop-input : goal.invariant-loop-input

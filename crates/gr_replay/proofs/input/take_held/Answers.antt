@@ -1,4 +1,4 @@
-use Rattle.gr_replay.proofs.Inputs.{memory_fails_behind, memory_is_of_values}
+use Rattle.gr_intake.proofs.Faults.{memory_fails_behind, memory_is_of_values}
 use Rattle.gr_replay.proofs.input.take_held.Goals as goal
 
 pub returns-in_err-kept-clause-fault : goal.returns-in_err-kept-clause-fault

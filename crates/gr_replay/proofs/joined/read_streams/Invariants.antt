@@ -1,5 +1,6 @@
 use Rattle.std.proofs.Common.{◌≡◌, ◌-◌, length}
-use Rattle.gr_replay.specs.Joined.{flats, joined_at, joined_of}
+use Rattle.gr_intake.specs.Joined.{joined_at, joined_of}
+use Rattle.gr_replay.specs.InMemory.{flats}
 use Rattle.gr_replay.proofs.joined.read_streams.Given as goal
 
 abbrev pub invariant-loop : goal.invariant-loop

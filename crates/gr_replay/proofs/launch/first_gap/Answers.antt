@@ -1,6 +1,7 @@
 use Rattle.std.proofs.Common.{◌≡◌, ◌<◌, ◌≤◌, get_or, arith, sym, ap, ◌∙◌, eq-or-lt_of_le, ⊎_elim, subst}
 use Rattle.std.proofs.lemmas.List.{length-map}
-use Rattle.gr_replay.specs.Joined.{Flat, flat, flats}
+use Rattle.gr_intake.specs.Joined.{Flat}
+use Rattle.gr_replay.specs.InMemory.{flat, flats}
 use Rattle.gr_replay.proofs.Launching.{gap, at_least, same_at, group_at}
 use Rattle.gr_replay.proofs.launch.first_gap.Goals as goal
 

@@ -1,4 +1,4 @@
-use Rattle.gr_replay.specs.Joined.{flats}
+use Rattle.gr_replay.specs.InMemory.{flats}
 use Rattle.gr_replay.proofs.Launching.{PlacedBelow}
 use Rattle.gr_replay.proofs.launch.first_gap.Given as goal
 

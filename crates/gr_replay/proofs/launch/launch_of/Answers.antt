@@ -1,8 +1,8 @@
 use Rattle.std.proofs.Common.{List, ℕ, map, refl, subst, sym}
 use Rattle.gr_model.specs.Shapes.{IsShape, IsShapeFault}
 use Rattle.gr_model.specs.Streams.{Streams, AreAccepted}
-use Rattle.gr_replay.specs.Joined.{flats}
-use Rattle.gr_replay.specs.Launch.{IsLaunchOf}
+use Rattle.gr_replay.specs.InMemory.{flats}
+use Rattle.gr_intake.specs.Launch.{IsLaunchOf}
 use Rattle.gr_replay.proofs.Launching.{launch_of, missing_permutation, launch_is, is_launch, launch_accepted, these}
 use Rattle.gr_replay.proofs.launch.launch_of.Goals as goal
 

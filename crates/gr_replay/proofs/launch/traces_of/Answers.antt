@@ -1,8 +1,8 @@
 use Rattle.std.proofs.Common.{List, subst, sym, true≢false}
 use Rattle.gr_model.specs.declared.event.Event.{Event}
 use Rattle.gr_model.specs.Streams.{AreAccepted}
-use Rattle.gr_replay.specs.Joined.{flats}
-use Rattle.gr_replay.specs.Launch.{IsLaunchOf}
+use Rattle.gr_replay.specs.InMemory.{flats}
+use Rattle.gr_intake.specs.Launch.{IsLaunchOf}
 use Rattle.gr_replay.proofs.Launching.{these}
 use Rattle.gr_replay.proofs.launch.traces_of.Goals as goal
 

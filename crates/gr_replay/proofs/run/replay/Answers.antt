@@ -1,7 +1,7 @@
 use Rattle.std.proofs.Common.{◌≡◌, Ok, inl, inr}
 use Rattle.std.proofs.lemmas.Result.{err_from_is_err_and}
-use Rattle.gr_replay.specs.Joined.{joined_of}
-use Rattle.gr_replay.specs.Intakes.{come}
+use Rattle.gr_intake.specs.Joined.{joined_of}
+use Rattle.gr_intake.specs.Intakes.{come}
 use Rattle.gr_replay.proofs.Inputs.{if_some}
 use Rattle.gr_replay.proofs.run.replay.Goals as goal
 

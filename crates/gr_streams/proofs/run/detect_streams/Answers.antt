@@ -6,7 +6,7 @@ use Rattle.gr_record.specs.declared.fault.Fault.{Fault}
 use Rattle.gr_record.specs.declared.fault.Fault.TheVariants as faults
 use Rattle.gr_record.specs.declared.header.Header.{Header}
 use Rattle.gr_replay.specs.Each.{all_known}
-use Rattle.gr_replay.specs.Launch.{IsLaunchFault}
+use Rattle.gr_intake.specs.Launch.{IsLaunchFault}
 use Rattle.gr_report.specs.Whole.{whole_of}
 use Rattle.gr_streams.specs.Headers.{AreApart, AreHeadersOf, bares, headers_of, streams_with}
 use Rattle.gr_streams.specs.Sources.{known_of}

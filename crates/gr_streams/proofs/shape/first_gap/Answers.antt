@@ -3,7 +3,7 @@ use Rattle.std.proofs.lemmas.List.{length-map}
 use Rattle.std.proofs.lemmas.Option.{slice_get-get_or, get_or_from_slice_get}
 use Rattle.gr_record.specs.declared.header.Header.{Header}
 use Rattle.gr_record.specs.declared.header.Version.TheVariants.{One}
-use Rattle.gr_replay.specs.Joined.{Flat}
+use Rattle.gr_intake.specs.Joined.{Flat}
 use Rattle.gr_replay.proofs.Launching.{gap, at_least, same_at, group_at}
 use Rattle.gr_streams.specs.Headers.{bare, bares}
 use Rattle.gr_streams.proofs.shape.first_gap.Goals as goal

@@ -1,7 +1,7 @@
 use Rattle.std.proofs.Common.{◌≡◌, ◌∙◌, ◌∷◌, [], List, ℕ, ap, map, refl, subst, sym}
 use Rattle.gr_model.specs.Shapes.{IsShapeFault}
 use Rattle.gr_record.specs.declared.header.Header.{Header}
-use Rattle.gr_replay.specs.Joined.{Flat}
+use Rattle.gr_intake.specs.Joined.{Flat}
 use Rattle.gr_replay.proofs.Launching.{launch_of, missing_permutation, is_launch}
 use Rattle.gr_streams.specs.Headers.{bares}
 use Rattle.gr_streams.proofs.shape.shape_of.Goals as goal

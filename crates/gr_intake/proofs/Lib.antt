@@ -1,0 +1,11 @@
+pub mod Accepted
+pub mod TakenLists
+pub mod EventLists
+pub mod StepLemmas
+pub mod Reporting
+pub mod Faults
+pub mod Judged
+pub mod Comings
+mod Turns
+mod Rounds
+mod Behind

@@ -1,0 +1,44 @@
+-- Streams that stand one after another, or the first fault among them.
+-- Source: docs/FORMATS.md, "Several streams".
+use Rattle.std.specs.Prelude.{ℕ, zero, suc, not, ◌==◌, if◌then◌else◌, List, [], ◌∷◌, ◌++◌, length, Result, Ok, Err}
+use Rattle.std.specs.List.{list_any}
+use Rattle.gr_model.specs.declared.event.Event.{Event}
+use Rattle.gr_record.specs.declared.error.RecordError.{RecordError}
+use Rattle.gr_record.specs.declared.header.Header.{Header}
+use Rattle.gr_record.specs.declared.fault.Fault.{Fault}
+use Rattle.gr_record.specs.declared.fault.Fault.TheVariants as faults
+use Rattle.gr_record.specs.WholeStreams.{front_header_at, front_records_at}
+
+-- a stream, wherever it lies in memory
+pub record Flat : Type 0 where
+  pub header : Header
+  pub events : List Event
+
+infixl 10 ◌>>=◌
+abbrev pub ◌>>=◌ : {X Y : Type 0} → Result X Fault → (X → Result Y Fault) → Result Y Fault
+(Ok x) >>= f = f x
+(Err e) >>= f = Err e
+
+-- an error of the stream at this place
+abbrev pub at_place : {X : Type 0} → ℕ → Result X RecordError → Result X Fault
+at_place place (Ok x) = Ok x
+at_place place (Err e) = Err (faults.Stream place e)
+
+-- the stream at the front of the bytes, behind these streams, and the bytes after it
+unfoldable pub stream_at : List Flat → List ℕ → Result (Flat × List ℕ) Fault
+stream_at seen bytes =
+    at_place (length seen) (front_header_at bytes) >>= λ h.
+    if list_any (λ s. s.header.group == h.0.group) seen then Err (faults.SameGroup (length seen))
+    else if list_any (λ s. not (s.header.launch == h.0.launch)) seen then Err (faults.OtherLaunch (length seen))
+    else at_place (length seen) (front_records_at h.0 h.1) >>= λ r. Ok (record { header = h.0; events = r.0 }, r.1)
+
+-- these streams, and at most n that follow in the bytes
+unfoldable pub joined_at : ℕ → List Flat → List ℕ → Result (List Flat) Fault
+joined_at zero seen bytes = Ok seen
+joined_at (suc n) seen bytes =
+    if length bytes == 0 then Ok seen
+    else stream_at seen bytes >>= λ s. joined_at n (seen ++ s.0 ∷ []) s.1
+
+-- the streams in the bytes; each has a byte at least
+abbrev pub joined_of : List ℕ → Result (List Flat) Fault
+joined_of bytes = joined_at (length bytes) [] bytes

@@ -1,0 +1,5 @@
+pub mod Joined
+pub mod Laws
+pub mod Launch
+pub mod Sequencing
+pub mod Intakes

@@ -1,0 +1,331 @@
+//! What was read of a joined input, one header or record after the other, and what was taken of it at once.
+
+ghost use Rattle.std.specs.Prelude.{◌≡◌, ◌++◌, ◌∷◌, [], ◌<◌, ℕ, List, false, IfErr, IfOk, None, Some, Ok, Err, OnOk, IsTrue, IsFalse, length};
+ghost use Rattle.std.specs.List.{list_any};
+ghost use Rattle.std.specs.Prelude.{not, ◌==◌};
+ghost use Rattle.gr_input.specs.Faults.{Fails};
+ghost use Rattle.gr_record.specs.declared.layout.TheConstants.{HEADER_LENGTH};
+ghost use Rattle.gr_record.specs.Faults.{IsOfValues};
+ghost use Rattle.gr_record.specs.Reading.{header_at};
+ghost use Rattle.gr_record.specs.Spelling.{IsHeader};
+ghost use Rattle.gr_intake.specs.Intakes.{IsIntake, IsKeptOpen, IsRead, IsStuck, Moves, Stays, behind, come, come_of, goes_on, read_behind, read_on, unit_of};
+
+use crate::open::Open;
+use gr_backlog::backlog::Backlog;
+use gr_model::memory::Memory;
+use gr_record::error::RecordError;
+use gr_record::fault::Fault;
+use gr_record::header::Header;
+use gr_record::layout::HEADER_LENGTH;
+use gr_record::stream::read_front_header;
+use gr_sequencer::sequencer::Sequencer;
+use gr_shadow::shadows::Shadows;
+use std::alloc::{Allocator, Global};
+
+/// What was read of a joined input: the streams that came whole, and the one that goes on, if there is one.
+#[derive(Drop)]
+#[derive_where(Debug)]
+pub struct Intake<A: Allocator = Global> {
+    pub(crate) sequencer: Sequencer<A>,
+    pub(crate) shadows: Shadows<A>,
+    pub(crate) streams: Vec<Backlog<A>, A>,
+    pub(crate) current: Option<Open<A>>,
+}
+
+/// Whether one of the streams is of this group.
+fn has_group<A: Allocator>(streams: &[Backlog<A>], group: u16) -> bool
+    ensures { result ≡ list_any (λ s. s.header.group == group) streams.now }
+{
+    streams.iter().any(|stream| stream.header().group == group)
+}
+
+/// Whether one of the streams is of another launch.
+fn has_other_launch<A: Allocator>(streams: &[Backlog<A>], launch: u32) -> bool
+    ensures { result ≡ list_any (λ s. not (s.header.launch == launch)) streams.now }
+{
+    streams
+        .iter()
+        .any(|stream| stream.header().launch != launch)
+}
+
+impl<A: Allocator + Copy> Intake<A> {
+    /// What was read of an input of which nothing was.
+    ///
+    /// # Errors
+    /// `Memory`: out of memory.
+    pub fn new(alloc: A) -> Result<Intake<A>, Memory>
+        ensures intake { IfOk result IsIntake }
+        ensures nothing { IfOk result (λ i. (i.streams.items ≡ []) × (i.current ≡ None)) }
+    {
+        Ok(Intake {
+            sequencer: Sequencer::without_groups(alloc)?,
+            shadows: Shadows::new(alloc),
+            streams: Vec::new(alloc),
+            current: None,
+        })
+    }
+
+    /// Refuses the header of a stream whose group has come, or that is of another launch than those that have come.
+    ///
+    /// # Errors
+    /// `SameGroup`, and else `OtherLaunch`.
+    fn check(&self, header: Header) -> Result<(), Fault>
+        requires { self.now.current ≡ None }
+        ensures group { OnOk result (list_any (λ s. s.header.group == header.group) self.now.streams.items ≡ false) }
+        ensures launch { OnOk result (list_any (λ s. not (s.header.launch == header.launch)) self.now.streams.items ≡ false) }
+        ensures fault { IfErr result (λ f. (unit more : List ℕ) → length unit ≡ HEADER_LENGTH → header_at unit ≡ Ok header → Fails f (behind self.now (unit ++ more))) }
+        ensures values { IfErr result IsOfValues }
+    {
+        let place = self.streams.len() as u64;
+        if has_group(&self.streams, header.group) {
+            return Err(Fault::SameGroup(place));
+        }
+        if has_other_launch(&self.streams, header.launch) {
+            return Err(Fault::OtherLaunch(place));
+        }
+        Ok(())
+    }
+
+    /// The header that the bytes are, where no stream goes on.
+    ///
+    /// # Errors
+    /// The header's fault, `SameGroup`, and else `OtherLaunch`.
+    fn header_of(&self, unit: &[u8]) -> Result<Header, Fault>
+        requires all { length unit.now ≡ HEADER_LENGTH }
+        requires none { self.now.current ≡ None }
+        ensures header { IfOk result (λ h. header_at unit.now ≡ Ok h) }
+        ensures group { IfOk result (λ h. list_any (λ s. s.header.group == h.group) self.now.streams.items ≡ false) }
+        ensures launch { IfOk result (λ h. list_any (λ s. not (s.header.launch == h.launch)) self.now.streams.items ≡ false) }
+        ensures fault { IfErr result (λ f. (more : List ℕ) → Fails f (behind self.now (unit.now ++ more))) }
+        ensures values { IfErr result IsOfValues }
+    {
+        match read_front_header(unit) {
+            Ok((header, _)) => {
+                self.check(header)?;
+                Ok(header)
+            }
+            Err(error) => Err(Fault::of_stream(self.streams.len() as u64, error)),
+        }
+    }
+
+    /// Begins the stream of this header, where none goes on.
+    ///
+    /// # Errors
+    /// `Memory`: out of memory.
+    fn begin(self, alloc: A, header: Header) -> Result<Intake<A>, Memory>
+        requires intake { IsIntake self }
+        requires none { self.current ≡ None }
+        requires header { IsHeader header }
+        requires group { list_any (λ s. s.header.group == header.group) self.streams.items ≡ false }
+        requires launch { list_any (λ s. not (s.header.launch == header.launch)) self.streams.items ≡ false }
+        ensures intake { IfOk result IsIntake }
+        ensures goes { IfOk result (λ i. (unit more : List ℕ) → length unit ≡ HEADER_LENGTH → header_at unit ≡ Ok header → behind self (unit ++ more) ≡ behind i more) }
+    {
+        let Intake {
+            sequencer,
+            shadows,
+            streams,
+            current: _,
+        } = self;
+        let Ok(sequencer) = sequencer.with_group(header.group, header.items) else {
+            return Err(Memory);
+        };
+        let current = Open::new(alloc, header, sequencer.held());
+        Ok(Intake {
+            sequencer,
+            shadows,
+            streams,
+            current: Some(current),
+        })
+    }
+
+    /// Takes the header at the front of the bytes, where no stream goes on, and answers the bytes behind it; all of them where
+    /// they are no whole header.
+    ///
+    /// # Errors
+    /// The header's fault, `SameGroup`, `OtherLaunch`; `Memory`: out of memory.
+    fn take_header<'p>(self, alloc: A, bytes: &'p [u8]) -> Result<(Intake<A>, &'p [u8]), Fault>
+        requires intake { IsIntake self }
+        requires none { self.current ≡ None }
+        ensures moves { IfOk result (λ x. Moves self bytes.now x.0 x.1.now) }
+        ensures stuck { IfOk result (λ x. IsStuck bytes.now x.0 x.1.now) }
+        ensures fault { IfErr result (λ f. (more : List ℕ) → Fails f (behind self (bytes.now ++ more))) }
+        ensures values { IfErr result IsOfValues }
+    {
+        if bytes.len() < HEADER_LENGTH {
+            return Ok((self, bytes));
+        }
+        let (unit, rest) = bytes.split_at(HEADER_LENGTH);
+        let header = self.header_of(unit)?;
+        Ok((self.begin(alloc, header)?, rest))
+    }
+}
+
+/// Takes the records at the front of the bytes, up to the end of the stream that goes on. Tells whether the end came, and the
+/// bytes behind it; else those that are no whole record.
+///
+/// # Errors
+/// The fault of the first record that has one; `Memory`: out of memory.
+fn take_records<'p, A: Allocator + Copy>(
+    sequencer: &mut Sequencer<A>,
+    shadows: &mut Shadows<A>,
+    streams: &[Backlog<A>],
+    current: &mut Open<A>,
+    bytes: &'p [u8],
+) -> Result<(bool, &'p [u8]), Fault>
+    requires read { IsRead sequencer.old shadows.old streams.now (Some current.old.backlog) }
+    requires kept { IsKeptOpen sequencer.old.taken current.old }
+    ensures stays { IfOk result (λ x. IsFalse x.0 → Stays sequencer.new shadows.new streams.now current.new x.1.now) }
+    ensures ends { IfOk result (λ x. IsTrue x.0 → IsRead sequencer.new shadows.new (streams.now ++ current.new.backlog ∷ []) None) }
+    ensures goes { IfOk result (λ x. (more : List ℕ) → read_behind (come sequencer.old.taken streams.now) (Some (come_of sequencer.old.taken current.old.backlog)) (bytes.now ++ more) ≡ read_on x.0 sequencer.new.taken streams.now current.new.backlog (x.1.now ++ more)) }
+    ensures left { IfOk result (λ x. (front : List ℕ) × (bytes.now ≡ front ++ x.1.now) × (IsTrue x.0 → 0 < length front)) }
+    ensures fault { IfErr result (λ f. (more : List ℕ) → Fails f (read_behind (come sequencer.old.taken streams.now) (Some (come_of sequencer.old.taken current.old.backlog)) (bytes.now ++ more))) }
+    ensures values { IfErr result IsOfValues }
+{
+    let place = streams.len() as u64;
+    let size = current.header().version.record_length();
+    let mut rest = bytes;
+    while size <= rest.len() {
+        let (unit, after) = rest.split_at(size);
+        let event = match current.read(unit) {
+            Ok(event) => event,
+            Err(error) => return Err(Fault::of_stream(place, error)),
+        };
+        let is_end = event.kind.is_end();
+        let Ok(()) = current.take(sequencer, shadows, event) else {
+            return Err(Fault::Memory);
+        };
+        rest = after;
+        if is_end {
+            return Ok((true, rest));
+        }
+    }
+    Ok((false, rest))
+}
+
+/// Keeps one more stream, which has come whole.
+fn keep<A: Allocator>(streams: &mut Vec<Backlog<A>, A>, stream: Backlog<A>) -> Result<(), Memory>
+    ensures { OnOk result (streams.new.items ≡ streams.old.items ++ stream ∷ []) }
+{
+    streams.push(stream)?;
+    Ok(())
+}
+
+impl<A: Allocator + Copy> Intake<A> {
+    /// Takes the records at the front of the bytes, up to the end of the stream that goes on, which stands apart, and answers the
+    /// bytes behind them.
+    ///
+    /// # Errors
+    /// The fault of the first record that has one; `Memory`: out of memory.
+    fn go_on<'p>(&mut self, current: Open<A>, bytes: &'p [u8]) -> Result<&'p [u8], Fault>
+        requires none { self.old.current ≡ None }
+        requires read { IsRead self.old.sequencer self.old.shadows self.old.streams.items (Some current.backlog) }
+        requires kept { IsKeptOpen self.old.sequencer.taken current }
+        ensures moves { IfOk result (λ rest. Moves (goes_on self.old current) bytes.now self.new rest.now) }
+        ensures stuck { IfOk result (λ rest. IsStuck bytes.now self.new rest.now) }
+        ensures fault { IfErr result (λ f. (more : List ℕ) → Fails f (behind (goes_on self.old current) (bytes.now ++ more))) }
+        ensures values { IfErr result IsOfValues }
+    {
+        let mut current = current;
+        let (ended, rest) = take_records(
+            &mut self.sequencer,
+            &mut self.shadows,
+            self.streams.as_slice(),
+            &mut current,
+            bytes,
+        )?;
+        if !ended {
+            self.current = Some(current);
+            return Ok(rest);
+        }
+        let Ok(()) = keep(&mut self.streams, current.backlog) else {
+            return Err(Fault::Memory);
+        };
+        Ok(rest)
+    }
+}
+
+/// Takes the records at the front of the bytes, up to the end of the stream that goes on, and answers the bytes behind them.
+///
+/// # Errors
+/// The fault of the first record that has one; `Memory`: out of memory.
+fn take_current<'p, A: Allocator + Copy>(
+    intake: Intake<A>,
+    current: Open<A>,
+    bytes: &'p [u8],
+) -> Result<(Intake<A>, &'p [u8]), Fault>
+    requires none { intake.current ≡ None }
+    requires read { IsRead intake.sequencer intake.shadows intake.streams.items (Some current.backlog) }
+    requires kept { IsKeptOpen intake.sequencer.taken current }
+    ensures moves { IfOk result (λ x. Moves (goes_on intake current) bytes.now x.0 x.1.now) }
+    ensures stuck { IfOk result (λ x. IsStuck bytes.now x.0 x.1.now) }
+    ensures fault { IfErr result (λ f. (more : List ℕ) → Fails f (behind (goes_on intake current) (bytes.now ++ more))) }
+    ensures values { IfErr result IsOfValues }
+{
+    let mut intake = intake;
+    let rest = intake.go_on(current, bytes)?;
+    Ok((intake, rest))
+}
+
+impl<A: Allocator + Copy> Intake<A> {
+    /// Takes the header at the front of the bytes, or the records up to the end of the stream that goes on, and answers the
+    /// bytes behind them; all of them where they are no whole header or record.
+    ///
+    /// # Errors
+    /// The first fault from the left; `Memory`: out of memory.
+    fn take_part<'p>(self, alloc: A, bytes: &'p [u8]) -> Result<(Intake<A>, &'p [u8]), Fault>
+        requires { IsIntake self }
+        ensures moves { IfOk result (λ x. Moves self bytes.now x.0 x.1.now) }
+        ensures stuck { IfOk result (λ x. IsStuck bytes.now x.0 x.1.now) }
+        ensures fault { IfErr result (λ f. (more : List ℕ) → Fails f (behind self (bytes.now ++ more))) }
+        ensures values { IfErr result IsOfValues }
+    {
+        let mut between = self;
+        match between.current.take() {
+            None => between.take_header(alloc, bytes),
+            Some(current) => take_current(between, current, bytes),
+        }
+    }
+
+    /// Takes all headers and records that lie whole in the bytes, and answers those that are left.
+    ///
+    /// # Errors
+    /// The first fault from the left; `Memory`: out of memory.
+    pub fn take<'p>(self, alloc: A, bytes: &'p [u8]) -> Result<(Intake<A>, &'p [u8]), Fault>
+        requires { IsIntake self }
+        ensures moves { IfOk result (λ x. Moves self bytes.now x.0 x.1.now) }
+        ensures short { IfOk result (λ x. length x.1.now < unit_of x.0) }
+        ensures fault { IfErr result (λ f. (more : List ℕ) → Fails f (behind self (bytes.now ++ more))) }
+        ensures values { IfErr result IsOfValues }
+    {
+        let mut intake = self;
+        let mut rest = bytes;
+        loop {
+            let before = rest.len();
+            let (next, after) = intake.take_part(alloc, rest)?;
+            intake = next;
+            rest = after;
+            if rest.len() == before {
+                return Ok((intake, rest));
+            }
+        }
+    }
+
+    /// Ends the reading where the input ends, of which these bytes are left, no whole header or record.
+    ///
+    /// # Errors
+    /// `Truncated`, where a stream goes on or bytes are left.
+    pub fn finish(self, bytes: &[u8]) -> Result<Intake<A>, Fault>
+        requires intake { IsIntake self }
+        requires short { length bytes.now < unit_of self }
+        ensures intake { IfOk result IsIntake }
+        ensures whole { IfOk result (λ i. (i.current ≡ None) × (behind self bytes.now ≡ Ok (come i.sequencer.taken i.streams.items))) }
+        ensures fault { IfErr result (λ f. behind self bytes.now ≡ Err f) }
+        ensures values { IfErr result IsOfValues }
+    {
+        if self.current.is_none() && bytes.is_empty() {
+            return Ok(self);
+        }
+        Err(Fault::of_stream(self.streams.len() as u64, RecordError::Truncated))
+    }
+}

@@ -1,0 +1,12 @@
+//! The records of the streams of an input, each taken as it comes, and the report on them at the end. What can be handled is
+//! handled at once; of the input no more is kept than what waits.
+#![tactic(auto)]
+
+mod handling;
+pub mod intake;
+mod judging;
+mod open;
+pub mod reports;
+pub mod taking;
+mod turn;
+mod waiting;

@@ -1,9 +1,0 @@
-use Rattle.std.proofs.Common.{length}
-use Rattle.gr_replay.specs.Intakes.{Moves}
-use Rattle.gr_replay.proofs.intake.Intake.take.Given as goal
-
-abbrev pub invariant-loop-next : goal.invariant-loop-next
-invariant-loop-next g l = Moves l.fn.self l.bytes l.intake l.rest
-
-abbrev pub decreases-loop-next : goal.decreases-loop-next
-decreases-loop-next g l = length l.rest

@@ -1,5 +1,0 @@
-use Rattle.gr_replay.proofs.Judged.{AreSomeBelow}
-use Rattle.gr_replay.proofs.judging.gap_of.Given as goal
-
-abbrev pub invariant-loop-group : goal.invariant-loop-group
-invariant-loop-group g l = AreSomeBelow l.shape l.group
