@@ -4,6 +4,7 @@ use gr_model::event::{
     Event, EventId, ItemId, Kind, Name, Order, Scope, Space, Word, event_ok, word_of,
 };
 use gr_model::names::Names;
+use std::process::Abort;
 use std::test::Fail;
 
 fn name_of(group: u16, item: u16, release: u32) -> Name {
@@ -136,19 +137,25 @@ fn other_cases() -> [Case; 6] {
     ]
 }
 
+/// Of each row's record it is said whether a group of two items may have it.
+fn are_told(rt: &impl Abort, cases: &[Case]) {
+    for (name, event, ok) in cases {
+        assert_eq!(rt; event_ok(event, 2), *ok, "{name}");
+    }
+}
+
 #[test]
 fn a_group_may_have_just_these_records(rt: HostRuntime) -> Result<(), Fail> {
-    for (name, event, ok) in access_cases() {
-        assert_eq!(rt; event_ok(&event, 2), ok, "{name}");
-    }
-    for (name, event, ok) in other_cases() {
-        assert_eq!(rt; event_ok(&event, 2), ok, "{name}");
-    }
+    are_told(&rt, &access_cases());
+    are_told(&rt, &other_cases());
     let names = Names::new(&[name_of(0, 0, 0)]).ok_or("a name")?;
-    for (name, event, ok) in named_cases(names) {
-        assert_eq!(rt; event_ok(&event, 2), ok, "{name}");
-    }
+    are_told(&rt, &named_cases(names));
     Ok(())
+}
+
+/// No acquire has these names.
+fn are_refused(rt: &impl Abort, names: &[Name]) {
+    assert!(rt; Names::new(names).is_none(), "{names:?}");
 }
 
 #[test]
@@ -156,6 +163,13 @@ fn an_acquire_may_have_just_these_names(rt: HostRuntime) {
     let least = name_of(0, 0, 0);
     let last = name_of(63, 255, 16_777_215);
     let four = [least, name_of(0, 0, 1), name_of(0, 1, 0), last];
+    assert_eq!(rt; Names::none().as_slice(), [].as_slice());
+    for given in [&[], four.as_slice()] {
+        assert!(rt;
+            Names::new(given).is_some_and(|names| names.as_slice() == given),
+            "{given:?}"
+        );
+    }
     let five = [
         least,
         name_of(0, 0, 1),
@@ -163,17 +177,14 @@ fn an_acquire_may_have_just_these_names(rt: HostRuntime) {
         name_of(1, 0, 0),
         last,
     ];
-    assert_eq!(rt; Names::new(&[]), Some(Names::none()));
-    assert_eq!(rt; Names::none().as_slice(), [].as_slice());
-    assert!(rt; Names::new(&four).is_some_and(|names| names.as_slice() == four.as_slice()));
-    assert!(rt; Names::new(&five).is_none());
-    assert!(rt; Names::new(&[least, least]).is_none());
-    assert!(rt; Names::new(&[name_of(0, 0, 1), least]).is_none());
-    assert!(rt; Names::new(&[name_of(0, 1, 0), name_of(0, 0, 1)]).is_none());
-    assert!(rt; Names::new(&[name_of(1, 0, 0), name_of(0, 1, 1)]).is_none());
-    assert!(rt; Names::new(&[name_of(64, 0, 0)]).is_none());
-    assert!(rt; Names::new(&[name_of(0, 256, 0)]).is_none());
-    assert!(rt; Names::new(&[least, name_of(0, 0, 16_777_216)]).is_none());
+    are_refused(&rt, &five);
+    are_refused(&rt, &[least, least]);
+    are_refused(&rt, &[name_of(0, 0, 1), least]);
+    are_refused(&rt, &[name_of(0, 1, 0), name_of(0, 0, 1)]);
+    are_refused(&rt, &[name_of(1, 0, 0), name_of(0, 1, 1)]);
+    are_refused(&rt, &[name_of(64, 0, 0)]);
+    are_refused(&rt, &[name_of(0, 256, 0)]);
+    are_refused(&rt, &[least, name_of(0, 0, 16_777_216)]);
 }
 
 #[test]
@@ -217,13 +228,24 @@ fn orders_kinds_and_names_tell_what_they_are(rt: HostRuntime) {
         assert_eq!(rt; (order.acquires(), order.releases()), (acquires, releases));
         assert_eq!(rt; Kind::Rmw(Scope::Device, order).is_acquire(), acquires);
     }
-    assert!(rt; Kind::End { cut: false }.is_end());
-    assert!(rt; !Kind::Write.is_end());
-    assert!(rt; Word::Global(9) < Word::Local(0, 1));
-    assert!(rt; Word::Local(0, 9) < Word::Local(1, 1));
-    assert!(rt; event_id(0, 0, 5) < event_id(0, 1, 0));
-    assert!(rt; event_id(0, 1, 5) < event_id(1, 0, 0));
-    assert!(rt; event_id(1, 0, 0) < event_id(1, 0, 1));
+    assert_eq!(rt;
+        (Kind::End { cut: false }.is_end(), Kind::Write.is_end()),
+        (true, false)
+    );
+    let words = (
+        Word::Global(9) < Word::Local(0, 1),
+        Word::Local(0, 9) < Word::Local(1, 1),
+    );
+    let events = (
+        event_id(0, 0, 5) < event_id(0, 1, 0),
+        event_id(0, 1, 5) < event_id(1, 0, 0),
+        event_id(1, 0, 0) < event_id(1, 0, 1),
+    );
+    assert_eq!(rt;
+        (words, events),
+        ((true, true), (true, true, true)),
+        "words and events ascend"
+    );
     let at = ItemId { group: 64, item: 0 };
     assert!(rt; !Name { at, release: 0 }.is_in_range());
 }

@@ -8,22 +8,37 @@ use refusing::Refusing;
 use std::alloc::Allocator;
 use std::test::Fail;
 
-/// How many items the traces of one group of two have, where all growths are granted.
-fn items_of_made_traces<A: Allocator + Copy>(alloc: A) -> Result<u32, Memory> {
+/// The sizes of one group of two.
+fn sizes_of_two<A: Allocator>(alloc: A) -> Result<Vec<u16, A>, Memory> {
     let mut sizes = Vec::new(alloc);
     sizes.push(2)?;
-    let Ok(shape) = Shape::new(sizes) else {
-        return Ok(0);
-    };
-    let copy = shape.copy()?;
+    Ok(sizes)
+}
+
+/// The list of one group, which has its end alone.
+fn lists_of_one<A: Allocator + Copy>(alloc: A) -> Result<Vec<Vec<Event, A>, A>, Memory> {
     let mut list = Vec::new(alloc);
     list.push(Event::end(false))?;
     let mut lists = Vec::new(alloc);
     lists.push(list)?;
-    let Ok(traces) = Traces::new(copy, lists) else {
-        return Ok(0);
-    };
-    Ok(traces.shape().total())
+    Ok(lists)
+}
+
+/// How many items the traces of this shape's copy have, where all growths are granted.
+fn items_of_copy<A: Allocator + Copy>(alloc: A, shape: &Shape<A>) -> Result<u32, Memory> {
+    let copy = shape.copy()?;
+    match Traces::new(copy, lists_of_one(alloc)?) {
+        Ok(traces) => Ok(traces.shape().total()),
+        Err(_) => Ok(0),
+    }
+}
+
+/// How many items the traces of one group of two have, where all growths are granted.
+fn items_of_made_traces<A: Allocator + Copy>(alloc: A) -> Result<u32, Memory> {
+    match Shape::new(sizes_of_two(alloc)?) {
+        Ok(shape) => items_of_copy(alloc, &shape),
+        Err(_) => Ok(0),
+    }
 }
 
 #[test]
