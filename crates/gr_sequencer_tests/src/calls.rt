@@ -105,14 +105,12 @@ pub(crate) fn take_and_handle<A: Allocator + Copy>(
     event: Event,
 ) -> Option<Option<Handled<A>>> {
     let before = state(sequencer);
-    let mut answer = take_and_handle_once(sequencer, group, &event);
-    if matches!(&answer, Err(SeqError::Memory)) {
-        if state(sequencer) != before {
-            return None;
+    match take_and_handle_once(sequencer, group, &event) {
+        Err(SeqError::Memory) if state(sequencer) == before => {
+            take_and_handle_once(sequencer, group, &event).ok()
         }
-        answer = take_and_handle_once(sequencer, group, &event);
+        answer => answer.ok(),
     }
-    answer.ok()
 }
 
 pub(crate) fn step<A: Allocator + Copy>(
@@ -136,14 +134,10 @@ pub(crate) fn handle<A: Allocator + Copy>(
     item: ItemId,
 ) -> Option<Option<Handled<A>>> {
     let before = state(sequencer);
-    let mut answer = sequencer.handle(item);
-    if matches!(&answer, Err(GoError::Memory)) {
-        if state(sequencer) != before {
-            return None;
-        }
-        answer = sequencer.handle(item);
+    match sequencer.handle(item) {
+        Err(GoError::Memory) if state(sequencer) == before => judged(sequencer.handle(item)),
+        answer => judged(answer),
     }
-    judged(answer)
 }
 
 /// The step, or `None` where it is not ready.
@@ -152,14 +146,10 @@ pub(crate) fn meet<A: Allocator + Copy>(
     group: u16,
 ) -> Option<Option<Handled<A>>> {
     let before = state(sequencer);
-    let mut answer = sequencer.meet(group);
-    if matches!(&answer, Err(GoError::Memory)) {
-        if state(sequencer) != before {
-            return None;
-        }
-        answer = sequencer.meet(group);
+    match sequencer.meet(group) {
+        Err(GoError::Memory) if state(sequencer) == before => judged(sequencer.meet(group)),
+        answer => judged(answer),
     }
-    judged(answer)
 }
 
 fn judged<A: Allocator>(answer: Result<Handled<A>, GoError>) -> Option<Option<Handled<A>>> {

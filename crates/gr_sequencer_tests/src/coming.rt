@@ -107,13 +107,13 @@ fn last_group<A: Allocator + Copy>(sequencer: &mut Sequencer<A>) -> Option<(bool
     Some((acquire, read))
 }
 
-/// A launch of which group 0 has come.
-fn first_comes<A: Allocator + Copy>(alloc: A) -> Option<Sequencer<A>>
-    ensures { IfSome result (λ s. s.taken.sizes ≡ 1 ∷ []) }
+/// A launch of which group 0 has come, and what `first_group` says.
+fn first_comes<A: Allocator + Copy>(alloc: A) -> Option<(Sequencer<A>, Option<()>)>
+    ensures { IfSome result (λ x. x.0.taken.sizes ≡ 1 ∷ []) }
 {
     let mut sequencer = one_group(alloc)?;
-    first_group(&mut sequencer)?;
-    Some(sequencer)
+    let answer = first_group(&mut sequencer);
+    Some((sequencer, answer))
 }
 
 /// Behind group 0 comes group 2.
@@ -128,12 +128,14 @@ fn with_last_group<A: Allocator + Copy>(sequencer: Sequencer<A>) -> Option<Seque
 }
 
 /// Behind group 0 comes group 2, and its records: the launch, and what `last_group` says.
-fn last_comes<A: Allocator + Copy>(sequencer: Sequencer<A>) -> Option<(Sequencer<A>, (bool, bool))>
+fn last_comes<A: Allocator + Copy>(
+    sequencer: Sequencer<A>,
+) -> Option<(Sequencer<A>, Option<(bool, bool)>)>
     requires { sequencer.taken.sizes ≡ 1 ∷ [] }
     ensures { IfSome result (λ x. x.0.taken.sizes ≡ 1 ∷ 0 ∷ 1 ∷ []) }
 {
     let mut sequencer = with_last_group(sequencer)?;
-    let answers = last_group(&mut sequencer)?;
+    let answers = last_group(&mut sequencer);
     Some((sequencer, answers))
 }
 
@@ -162,9 +164,12 @@ fn between_comes<A: Allocator + Copy>(sequencer: Sequencer<A>) -> Option<(bool, 
 /// Group 0 comes, then group 2, then group 1: whether the read of group 0 happens before those of the others, whether the
 /// sequencer is at its end before and behind the last end, and how many events are held there.
 fn come<A: Allocator + Copy>(alloc: A) -> Option<([bool; 5], u64)> {
-    let (sequencer, (acquire, read)) = last_comes(first_comes(alloc)?)?;
+    let (sequencer, first) = first_comes(alloc)?;
+    let (sequencer, last) = last_comes(sequencer)?;
     let early = sequencer.at_end();
     let (other, late, held) = between_comes(sequencer)?;
+    first?;
+    let (acquire, read) = last?;
     Some(([acquire, read, other, early, late], held))
 }
 

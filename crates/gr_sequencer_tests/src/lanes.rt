@@ -69,7 +69,7 @@ fn take_them<A: Allocator>(lanes: &mut Lanes<A>, records: &[Record], cut: bool) 
 fn are_rows_lanes<A: Allocator + Copy>(alloc: A, row: &Row) -> Option<bool> {
     let (_, sizes, records, told) = row;
     let made = new_lanes(alloc, sizes).or_else(|_| new_lanes(alloc, sizes));
-    take_them(&mut made.ok()?, records, told.2[0] == Some(0))
+    take_them(&mut made.ok()?, records, told.2.0 == Some(0))
 }
 
 fn new_order<A: Allocator + Copy>(alloc: A, sizes: &[u16]) -> Result<Order<A>, Memory> {
@@ -165,5 +165,5 @@ fn first_wrong_row(alloc: Global, rows: &[Row]) -> Option<(&'static str, u64)> {
 
 #[test]
 fn rows_are_taken_and_ordered_whatever_growth_is_refused(rt: HostRuntime) {
-    assert_eq!(rt; first_wrong_row(rt.alloc(), &rows()), None);
+    assert_eq!(rt; first_wrong_row(rt.alloc(), rows()), None);
 }

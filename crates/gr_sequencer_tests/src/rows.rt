@@ -16,9 +16,9 @@ pub(crate) type Unmatched = (u16, u16, u32, AcquireCause);
 /// What is told at the end: the first divergent instances, the first unmatched acquires, the first cut groups, and how many
 /// events are held.
 pub(crate) type Told = (
-    [Option<Divergent>; 2],
-    [Option<Unmatched>; 3],
-    [Option<u16>; 2],
+    (Option<Divergent>, Option<Divergent>),
+    (Option<Unmatched>, Option<Unmatched>, Option<Unmatched>),
+    (Option<u16>, Option<u16>),
     u64,
 );
 
@@ -111,7 +111,7 @@ const FIRST_1_0: &[Name] = &[Name {
 }];
 
 /// Nothing is told.
-pub(crate) const NOTHING: Told = ([None; 2], [None; 3], [None; 2], 0);
+pub(crate) const NOTHING: Told = ((None, None), (None, None, None), (None, None), 0);
 
 const HANDED_OVER: Row = (
     "a release hands over to another group",
@@ -221,9 +221,9 @@ const MISSING_ITEM: Row = (
         (0, 0, END, GLOBAL, 0, &[]),
     ],
     (
-        [Some((0, 1, DivergenceCause::Missing)), None],
-        [None; 3],
-        [None; 2],
+        (Some((0, 1, DivergenceCause::Missing)), None),
+        (None, None, None),
+        (None, None),
         0,
     ),
 );
@@ -237,9 +237,9 @@ const TWO_SITES: Row = (
         (0, 0, END, GLOBAL, 0, &[]),
     ],
     (
-        [Some((0, 0, DivergenceCause::Site)), None],
-        [None; 3],
-        [None; 2],
+        (Some((0, 0, DivergenceCause::Site)), None),
+        (None, None, None),
+        (None, None),
         0,
     ),
 );
@@ -253,9 +253,9 @@ const TWO_FLAGS: Row = (
         (0, 0, END, GLOBAL, 0, &[]),
     ],
     (
-        [Some((0, 0, DivergenceCause::Flags)), None],
-        [None; 3],
-        [None; 2],
+        (Some((0, 0, DivergenceCause::Flags)), None),
+        (None, None, None),
+        (None, None),
         0,
     ),
 );
@@ -273,9 +273,9 @@ const NO_SUCH_RELEASE: Row = (
         (1, 0, END, GLOBAL, 0, &[]),
     ],
     (
-        [None; 2],
-        [Some((1, 0, 0, AcquireCause::Absent)), None, None],
-        [None; 2],
+        (None, None),
+        (Some((1, 0, 0, AcquireCause::Absent)), None, None),
+        (None, None),
         2,
     ),
 );
@@ -292,13 +292,13 @@ const CROSSED_NAMES: Row = (
         (1, 0, END, GLOBAL, 0, &[]),
     ],
     (
-        [None; 2],
-        [
+        (None, None),
+        (
             Some((0, 0, 0, AcquireCause::Behind)),
             Some((1, 0, 0, AcquireCause::Behind)),
             None,
-        ],
-        [None; 2],
+        ),
+        (None, None),
         4,
     ),
 );
@@ -325,7 +325,7 @@ const CUT_STREAM: Row = (
     "a cut stream",
     &[1],
     &[(0, 0, WRITE, GLOBAL, 16, &[]), (0, 0, CUT, GLOBAL, 0, &[])],
-    ([None; 2], [None; 3], [Some(0), None], 0),
+    ((None, None), (None, None, None), (Some(0), None), 0),
 );
 
 const ITS_OWN_NAME: Row = (
@@ -336,9 +336,9 @@ const ITS_OWN_NAME: Row = (
         (0, 0, END, GLOBAL, 0, &[]),
     ],
     (
-        [None; 2],
-        [Some((0, 0, 0, AcquireCause::Behind)), None, None],
-        [None; 2],
+        (None, None),
+        (Some((0, 0, 0, AcquireCause::Behind)), None, None),
+        (None, None),
         1,
     ),
 );
@@ -366,9 +366,9 @@ const ONE_OF_TWO_RELEASES: Row = (
         (0, 0, END, GLOBAL, 0, &[]),
     ],
     (
-        [None; 2],
-        [Some((0, 2, 0, AcquireCause::Absent)), None, None],
-        [None; 2],
+        (None, None),
+        (Some((0, 2, 0, AcquireCause::Absent)), None, None),
+        (None, None),
         2,
     ),
 );
@@ -382,9 +382,9 @@ const ANOTHER_WORD: Row = (
         (0, 0, END, GLOBAL, 0, &[]),
     ],
     (
-        [None; 2],
-        [Some((0, 1, 0, AcquireCause::OtherWord)), None, None],
-        [None; 2],
+        (None, None),
+        (Some((0, 1, 0, AcquireCause::OtherWord)), None, None),
+        (None, None),
         1,
     ),
 );
@@ -401,19 +401,19 @@ const BEHIND_A_BARRIER: Row = (
         (0, 0, END, GLOBAL, 0, &[]),
     ],
     (
-        [None; 2],
-        [Some((0, 0, 0, AcquireCause::Behind)), None, None],
-        [None; 2],
+        (None, None),
+        (Some((0, 0, 0, AcquireCause::Behind)), None, None),
+        (None, None),
         4,
     ),
 );
 
 /// All rows.
-pub(crate) fn rows() -> [Row; 19] {
-    ROWS
+pub(crate) fn rows() -> &'static [Row] {
+    &ROWS
 }
 
-const ROWS: [Row; 19] = [
+static ROWS: [Row; 19] = [
     HANDED_OVER,
     HANDED_OVER_LAST_FIRST,
     SCOPES_OF_A_GROUP,

@@ -90,11 +90,16 @@ fn follow<A: Allocator + Copy>(sequencer: &mut Sequencer<A>, row: &Row, way: Way
     }
 }
 
-/// What a row tells at its end.
+/// What a sequencer that has taken nothing tells at a row's end.
+fn told_by<A: Allocator + Copy>(sequencer: &mut Sequencer<A>, row: &Row, way: Way) -> Option<Told> {
+    follow(sequencer, row, way)?;
+    told(sequencer)
+}
+
+/// The same of a new sequencer.
 fn told_of<A: Allocator + Copy>(alloc: A, row: &Row, way: Way) -> Option<Told> {
     let mut sequencer = new(alloc, row.1)?;
-    let followed = follow(&mut sequencer, row, way);
-    followed.and_then(|()| told(&sequencer))
+    told_by(&mut sequencer, row, way)
 }
 
 /// Refuses each growth in turn, until none is refused; the number of one where the row's answer is wrong, if there is one.
@@ -125,5 +130,5 @@ fn first_wrong_row(alloc: Global, rows: &[Row]) -> Option<(&'static str, Way, u6
 
 #[test]
 fn rows_are_told_whatever_growth_is_refused(rt: HostRuntime) {
-    assert_eq!(rt; first_wrong_row(rt.alloc(), &rows()), None);
+    assert_eq!(rt; first_wrong_row(rt.alloc(), rows()), None);
 }

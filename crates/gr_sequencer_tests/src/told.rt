@@ -34,13 +34,13 @@ pub(crate) fn told<A: Allocator + Copy>(sequencer: &Sequencer<A>) -> Option<Told
         Err(_) => sequencer.cut().ok()?,
     };
     Some((
-        [divergent(instances.get(0)), divergent(instances.get(1))],
-        [
+        (divergent(instances.get(0)), divergent(instances.get(1))),
+        (
             unmatched(acquires.get(0)),
             unmatched(acquires.get(1)),
             unmatched(acquires.get(2)),
-        ],
-        [groups.get(0).copied(), groups.get(1).copied()],
+        ),
+        (groups.get(0).copied(), groups.get(1).copied()),
         sequencer.held(),
     ))
 }
