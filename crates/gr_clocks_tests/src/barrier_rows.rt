@@ -5,23 +5,22 @@ ghost use Rattle.std.specs.Prelude.{◌≡◌, ◌<◌, ◌≤◌, ◌+◌, ◌�
 ghost use Rattle.gr_model.specs.declared.event.ItemId.{ItemId};
 ghost use Rattle.gr_barriers.specs.Arrived.{sizes_of, marks_of};
 
+use crate::growths::is_always;
 use crate::launch::{item, two_items};
 use gr_barriers::instances::{BarrierError, Instances, State};
 use gr_barriers::{Divergence, DivergenceCause};
-use gr_model::shape::Shape;
-use refusing::Refusing;
 use std::alloc::Allocator;
-use std::test::Fail;
 
-fn new_instances<A: Allocator + Copy>(alloc: A, shape: &Shape<A>) -> Option<Instances<A>>
-    requires { shape.now ≡ 2 ∷ [] }
+/// The instances of two items; where a growth is refused they are asked for once more.
+fn new_instances<A: Allocator + Copy>(alloc: A) -> Option<Instances<A>>
     ensures sizes { IfSome result (λ v. sizes_of v ≡ 2 ∷ []) }
     ensures none { IfSome result (λ v. (i : ItemId) → length (marks_of v i) ≤ 0) }
 {
-    if let Ok(instances) = Instances::new(alloc, shape) {
+    let shape = two_items(alloc)?;
+    if let Ok(instances) = Instances::new(alloc, &shape) {
         return Some(instances);
     }
-    Instances::new(alloc, shape).ok()
+    Instances::new(alloc, &shape).ok()
 }
 
 /// The states of the first three instances.
@@ -104,20 +103,21 @@ type Seen = (
 );
 
 /// Item 0 at site 1, item 1 at site 2, item 0 at site 1 again, the end of the group, and arrivals of items 0 and 2.
-fn two_sites_and_an_end<A: Allocator + Copy>(alloc: A) -> Option<Seen> {
-    let shape = two_items(alloc)?;
-    let mut instances = new_instances(alloc, &shape)?;
-    let first = arrive(&mut instances, 0, 1, 0);
+fn arrivals_and_an_end<A: Allocator + Copy>(instances: &mut Instances<A>) -> Option<Seen>
+    requires sizes { sizes_of instances.old ≡ 2 ∷ [] }
+    requires none { (i : ItemId) → length (marks_of instances.old i) ≤ 0 }
+{
+    let first = arrive(instances, 0, 1, 0);
     let after_one = instances.state(0, 0);
-    let second = arrive(&mut instances, 1, 2, 1);
+    let second = arrive(instances, 1, 2, 1);
     let after_two = instances.state(0, 0);
-    let third = arrive(&mut instances, 0, 1, 2);
-    if end_group(&mut instances).is_err() {
+    let third = arrive(instances, 0, 1, 2);
+    if end_group(instances).is_err() {
         return None;
     }
-    let listed = divergences(&instances)?;
-    let late = arrive(&mut instances, 0, 1, 3);
-    let unknown = arrive(&mut instances, 2, 1, 4);
+    let listed = divergences(instances)?;
+    let late = arrive(instances, 0, 1, 3);
+    let unknown = arrive(instances, 2, 1, 4);
     Some((
         [first, second, third],
         [after_one, after_two],
@@ -126,33 +126,32 @@ fn two_sites_and_an_end<A: Allocator + Copy>(alloc: A) -> Option<Seen> {
     ))
 }
 
-const FIRST: Divergence = Divergence {
-    group: 0,
-    instance: 0,
-    cause: DivergenceCause::Site,
-};
+/// The same of new instances.
+fn two_sites_and_an_end<A: Allocator + Copy>(alloc: A) -> Option<Seen> {
+    let mut instances = new_instances(alloc)?;
+    arrivals_and_an_end(&mut instances)
+}
 
-const SECOND: Divergence = Divergence {
-    group: 0,
-    instance: 1,
-    cause: DivergenceCause::Missing,
-};
+/// The divergence of an instance of group 0.
+fn divergence(instance: u32, cause: DivergenceCause) -> Divergence {
+    Divergence {
+        group: 0,
+        instance,
+        cause,
+    }
+}
 
 #[test]
-fn arrivals_and_divergences(rt: HostRuntime) -> Result<(), Fail> {
-    for at in 0..1_000_u64 {
-        let heap = Refusing::new(rt.alloc(), at);
-        let want = Some((
-            [Ok(0), Ok(0), Ok(1)],
-            [Some(State::Waiting), Some(State::Divergent)],
-            [Some(FIRST), Some(SECOND), None],
-            [Err(BarrierError::Ended(0)), Err(BarrierError::UnknownItem)],
-        ));
-        assert_eq!(rt; two_sites_and_an_end(&heap), want, "growth {at} refused");
-        if !heap.refused() {
-            assert!(rt; at > 0, "no growth was refused");
-            return Ok(());
-        }
-    }
-    Err("no end")?
+fn arrivals_and_divergences(rt: HostRuntime) {
+    let want = Some((
+        [Ok(0), Ok(0), Ok(1)],
+        [Some(State::Waiting), Some(State::Divergent)],
+        [
+            Some(divergence(0, DivergenceCause::Site)),
+            Some(divergence(1, DivergenceCause::Missing)),
+            None,
+        ],
+        [Err(BarrierError::Ended(0)), Err(BarrierError::UnknownItem)],
+    ));
+    is_always(&rt, rt.alloc(), |heap| two_sites_and_an_end(heap), &want);
 }

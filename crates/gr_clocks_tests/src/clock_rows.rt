@@ -3,19 +3,19 @@
 
 ghost use Rattle.std.specs.Prelude.{◌≡◌, ◌<◌, ◌∷◌, [], IfSome};
 
+use crate::growths::is_always;
 use crate::launch::{item, two_items};
 use gr_clocks::clock::{Clock, ClockError, LARGEST_COUNT};
 use gr_clocks::clocks::Clocks;
 use gr_clocks::snapshot::Snapshot;
 use gr_model::event::{Scope, Space, Word};
-use gr_model::shape::Shape;
-use refusing::Refusing;
 use std::alloc::Allocator;
-use std::test::Fail;
 
-fn new_clock<A: Allocator + Copy>(alloc: A, shape: &Shape<A>) -> Option<Clock<A>> {
-    Clock::new(alloc, shape)
-        .or_else(|_| Clock::new(alloc, shape))
+/// A clock of two items; where a growth is refused it is asked for once more.
+fn new_clock<A: Allocator + Copy>(alloc: A) -> Option<Clock<A>> {
+    let shape = two_items(alloc)?;
+    Clock::new(alloc, &shape)
+        .or_else(|_| Clock::new(alloc, &shape))
         .ok()
 }
 
@@ -49,37 +49,37 @@ fn copy<A: Allocator + Copy>(clock: &Clock<A>) -> Option<Clock<A>> {
     clock.copy().ok()
 }
 
-/// Ticks item 0 of one clock twice and item 1 of another once, and joins the first into the other: the other's counts, its
-/// copy's, and whether it covers indices 1 and 2 of item 0.
-fn ticks_and_a_join<A: Allocator + Copy>(alloc: A) -> Option<([u32; 2], [u32; 2], bool, bool)> {
-    let shape = two_items(alloc)?;
-    let mut first = new_clock(alloc, &shape)?;
-    let mut second = new_clock(alloc, &shape)?;
-    let ticked = tick(&mut first, 0) && tick(&mut first, 0) && tick(&mut second, 1);
-    if !ticked || !join(&mut second, &first) {
+/// What is seen of a clock: its counts, its copy's, and whether it covers indices 1 and 2 of item 0.
+type Joined = ([u32; 2], [u32; 2], bool, bool);
+
+/// Ticks item 0 of one clock twice and item 1 of another once, and joins the first into the other, which is told of.
+fn tick_and_join<A: Allocator + Copy>(
+    first: &mut Clock<A>,
+    second: &mut Clock<A>,
+) -> Option<Joined> {
+    if !(tick(first, 0) && tick(first, 0) && tick(second, 1) && join(second, first)) {
         return None;
     }
-    let copied = copy(&second)?;
+    let copied = copy(second)?;
     Some((
-        counts(&second),
+        counts(second),
         counts(&copied),
         second.covers(item(0), 1),
         second.covers(item(0), 2),
     ))
 }
 
+/// The same of two new clocks.
+fn ticks_and_a_join<A: Allocator + Copy>(alloc: A) -> Option<Joined> {
+    let mut first = new_clock(alloc)?;
+    let mut second = new_clock(alloc)?;
+    tick_and_join(&mut first, &mut second)
+}
+
 #[test]
-fn a_clock_ticks_joins_and_covers(rt: HostRuntime) -> Result<(), Fail> {
-    for at in 0..1_000_u64 {
-        let heap = Refusing::new(rt.alloc(), at);
-        let want = Some(([2, 1], [2, 1], true, false));
-        assert_eq!(rt; ticks_and_a_join(&heap), want, "growth {at} refused");
-        if !heap.refused() {
-            assert!(rt; at > 0, "no growth was refused");
-            return Ok(());
-        }
-    }
-    Err("no end")?
+fn a_clock_ticks_joins_and_covers(rt: HostRuntime) {
+    let want = Some(([2, 1], [2, 1], true, false));
+    is_always(&rt, rt.alloc(), |heap| ticks_and_a_join(heap), &want);
 }
 
 /// Ticks an item so often, and tells how often it went well from the start on.
@@ -92,25 +92,31 @@ fn tick_times<A: Allocator + Copy>(clock: &mut Clock<A>, place: u16, times: u32)
     times
 }
 
-#[test]
-fn a_count_is_spent_at_its_limit(rt: HostRuntime) -> Result<(), Fail> {
-    let shape = two_items(rt.alloc()).ok_or("memory")?;
-    let mut clock = new_clock(rt.alloc(), &shape).ok_or("memory")?;
-    assert_eq!(rt; tick_times(&mut clock, 0, 16_777_216), 16_777_216);
-    assert_eq!(rt; clock.tick(item(0)), Err(ClockError::Spent));
-    assert_eq!(rt; counts(&clock), [16_777_216, 0]);
-    assert_eq!(rt; LARGEST_COUNT, 16_777_216);
-    Ok(())
+/// Ticks item 0 up to the greatest count, and once more: how many ticks went well, what the last one answers, and the counts
+/// behind it.
+fn ticks_to_the_limit<A: Allocator + Copy>(
+    alloc: A,
+) -> Option<(u32, Result<(), ClockError>, [u32; 2])> {
+    let mut clock = new_clock(alloc)?;
+    let ticked = tick_times(&mut clock, 0, 16_777_216);
+    Some((ticked, clock.tick(item(0)), counts(&clock)))
 }
 
-fn new_clocks<A: Allocator + Copy>(alloc: A, shape: &Shape<A>) -> Option<Clocks<A>>
-    requires { shape.now ≡ 2 ∷ [] }
+#[test]
+fn a_count_is_spent_at_its_limit(rt: HostRuntime) {
+    let want = Some((16_777_216, Err(ClockError::Spent), [16_777_216, 0]));
+    assert_eq!(rt; ticks_to_the_limit(rt.alloc()), want);
+    assert_eq!(rt; LARGEST_COUNT, 16_777_216);
+}
+
+/// The clocks of two items; where a growth is refused they are asked for once more.
+fn new_clocks<A: Allocator + Copy>(alloc: A) -> Option<Clocks<A>>
     ensures { IfSome result (λ c. c.sizes ≡ 2 ∷ []) }
 {
-    if let Ok(clocks) = Clocks::new(alloc, shape) {
-        return Some(clocks);
-    }
-    Clocks::new(alloc, shape).ok()
+    let shape = two_items(alloc)?;
+    Clocks::new(alloc, &shape)
+        .or_else(|_| Clocks::new(alloc, &shape))
+        .ok()
 }
 
 /// The counts of an item's clock in a memory.
@@ -250,30 +256,23 @@ fn steps_of_two_items<A: Allocator + Copy>(clocks: &mut Clocks<A>) -> Option<See
 
 /// The same with clocks of their own.
 fn release_acquire_and_a_barrier<A: Allocator + Copy>(alloc: A) -> Option<Seen> {
-    let shape = two_items(alloc)?;
-    let mut clocks = new_clocks(alloc, &shape)?;
+    let mut clocks = new_clocks(alloc)?;
     steps_of_two_items(&mut clocks)
 }
 
+static SEEN: Option<Seen> = Some((
+    [2, 0],
+    [[2, 1], [0, 1]],
+    [2, 2],
+    [[3, 3], [3, 3], [3, 0], [0, 3]],
+));
+
 #[test]
-fn releases_acquires_and_barriers(rt: HostRuntime) -> Result<(), Fail> {
-    for at in 0..1_000_u64 {
-        let heap = Refusing::new(rt.alloc(), at);
-        let want = Some((
-            [2, 0],
-            [[2, 1], [0, 1]],
-            [2, 2],
-            [[3, 3], [3, 3], [3, 0], [0, 3]],
-        ));
-        assert_eq!(rt;
-            release_acquire_and_a_barrier(&heap),
-            want,
-            "growth {at} refused"
-        );
-        if !heap.refused() {
-            assert!(rt; at > 0, "no growth was refused");
-            return Ok(());
-        }
-    }
-    Err("no end")?
+fn releases_acquires_and_barriers(rt: HostRuntime) {
+    is_always(
+        &rt,
+        rt.alloc(),
+        |heap| release_acquire_and_a_barrier(heap),
+        &SEEN,
+    );
 }

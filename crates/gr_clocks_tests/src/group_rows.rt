@@ -10,7 +10,6 @@ use gr_clocks::snapshot::Snapshot;
 use gr_model::event::{ItemId, Scope, Space, Word};
 use refusing::Refusing;
 use std::alloc::Allocator;
-use std::test::Fail;
 
 /// The counts of both items of group 0, of the one item of group 1 and of the one item of group 2.
 type Counts = [u32; 4];
@@ -34,17 +33,23 @@ fn known<A: Allocator>(clocks: &Clocks<A>, item: ItemId) -> Counts
     ]
 }
 
-/// The clocks of group 0 alone, which has two items, one of whom has made an access and a release.
-fn first_group<A: Allocator + Copy>(alloc: A) -> Option<(Clocks<A>, Snapshot<A>)>
-    ensures { IfSome result (λ both. both.0.sizes ≡ 2 ∷ []) }
+/// The clocks of group 0 alone, which has two items.
+fn first_group<A: Allocator + Copy>(alloc: A) -> Option<Clocks<A>>
+    ensures { IfSome result (λ c. c.sizes ≡ 2 ∷ []) }
 {
     let shape = two_items(alloc)?;
-    let mut clocks = Clocks::new(alloc, &shape).ok()?;
+    Clocks::new(alloc, &shape).ok()
+}
+
+/// An item of group 0 makes an access and a release.
+fn access_and_release<A: Allocator + Copy>(clocks: &mut Clocks<A>) -> Option<Snapshot<A>>
+    requires { clocks.old.sizes ≡ 2 ∷ [] }
+    ensures { clocks.new.sizes ≡ 2 ∷ [] }
+{
     clocks.access(at(0, 0)).ok()?;
-    let snapshot = clocks
+    clocks
         .release(at(0, 0), Word::Global(20), Scope::Device)
-        .ok()?;
-    Some((clocks, snapshot))
+        .ok()
 }
 
 /// The item of group 2 acquires this release, and releases.
@@ -78,29 +83,53 @@ fn acquire_and_meet<A: Allocator + Copy>(
     ])
 }
 
+/// Group 1 comes between groups 0 and 2, and learns from a release of group 2.
+fn with_the_last_group<A: Allocator + Copy>(
+    alloc: A,
+    clocks: Clocks<A>,
+    snapshot: &Snapshot<A>,
+) -> Option<[Counts; 4]>
+    requires { clocks.sizes ≡ 2 ∷ 0 ∷ 1 ∷ [] }
+{
+    let mut clocks = clocks.with_group(alloc, 1, 1).ok()?;
+    acquire_and_meet(&mut clocks, snapshot)
+}
+
+/// Group 2 comes behind group 0, and learns from a release of group 0; then group 1 comes.
+fn with_two_groups_more<A: Allocator + Copy>(
+    alloc: A,
+    clocks: Clocks<A>,
+    snapshot: &Snapshot<A>,
+) -> Option<[Counts; 4]>
+    requires { clocks.sizes ≡ 2 ∷ [] }
+{
+    let mut clocks = clocks.with_group(alloc, 2, 1).ok()?;
+    let second = hand_on(&mut clocks, snapshot)?;
+    with_the_last_group(alloc, clocks, &second)
+}
+
 /// Group 2 comes behind group 0, and then group 1 between them.
 fn groups_one_after_another<A: Allocator + Copy>(alloc: A) -> Option<[Counts; 4]> {
-    let (clocks, first) = first_group(alloc)?;
-    let mut clocks = clocks.with_group(alloc, 2, 1).ok()?;
-    let second = hand_on(&mut clocks, &first)?;
-    let mut clocks = clocks.with_group(alloc, 1, 1).ok()?;
-    acquire_and_meet(&mut clocks, &second)
+    let mut clocks = first_group(alloc)?;
+    let first = access_and_release(&mut clocks)?;
+    with_two_groups_more(alloc, clocks, &first)
 }
 
 #[test]
-fn groups_come_one_after_another(rt: HostRuntime) -> Result<(), Fail> {
+fn groups_come_one_after_another(rt: HostRuntime) {
     let want = Some([[3, 1, 0, 0], [3, 1, 0, 0], [2, 0, 1, 2], [2, 0, 0, 2]]);
     for growth in 0..1_000_u64 {
         let heap = Refusing::new(rt.alloc(), growth);
         let answer = groups_one_after_another(&heap);
+        let refused = heap.refused();
         assert!(rt;
-            answer == want || (answer.is_none() && heap.refused()),
+            answer == want || (answer.is_none() && refused),
             "growth {growth} refused"
         );
-        if !heap.refused() {
+        if !refused {
             assert!(rt; growth > 0, "no growth was refused");
-            return Ok(());
+            return;
         }
     }
-    Err("no end")?
+    panic!(rt; "no end")
 }

@@ -3,24 +3,23 @@
 ghost use Rattle.std.specs.Prelude.{◌≡◌, ◌<◌, ◌∷◌, [], IfSome, map};
 ghost use Rattle.gr_clocks.specs.ItemClocks.{AreOfOneWord};
 
+use crate::growths::is_always;
 use crate::launch::{item, three_items};
 use gr_clocks::clocks::Clocks;
 use gr_clocks::snapshot::Snapshot;
 use gr_model::event::{Scope, Space, Word};
-use gr_model::shape::Shape;
-use refusing::Refusing;
 use std::alloc::Allocator;
-use std::test::Fail;
 
 /// The counts of three items in global memory, then in local memory.
 type Counts = [[u32; 3]; 2];
 
-fn new_clocks<A: Allocator + Copy>(alloc: A, shape: &Shape<A>) -> Option<Clocks<A>>
-    requires { shape.now ≡ 3 ∷ [] }
+/// The clocks of three items; where a growth is refused they are asked for once more.
+fn new_clocks<A: Allocator + Copy>(alloc: A) -> Option<Clocks<A>>
     ensures { IfSome result (λ c. c.sizes ≡ 3 ∷ []) }
 {
-    Clocks::new(alloc, shape)
-        .or_else(|_| Clocks::new(alloc, shape))
+    let shape = three_items(alloc)?;
+    Clocks::new(alloc, &shape)
+        .or_else(|_| Clocks::new(alloc, &shape))
         .ok()
 }
 
@@ -81,19 +80,17 @@ fn acquire<A: Allocator + Copy>(
     clocks.acquire(item(place), snapshots).is_ok() && stay
 }
 
-/// Items 0 and 1 each release the word, item 1 after a release of another one. The snapshots of the two.
-fn releases<A: Allocator + Copy>(
+/// Item 1 releases another word, and then this one.
+fn release_behind_another<A: Allocator + Copy>(
     clocks: &mut Clocks<A>,
     word: Word,
-) -> Option<(Snapshot<A>, Snapshot<A>)>
+) -> Option<Snapshot<A>>
     requires { clocks.old.sizes ≡ 3 ∷ [] }
     ensures sizes { clocks.new.sizes ≡ 3 ∷ [] }
-    ensures word { IfSome result (λ both. (both.0.word ≡ word) × (both.1.word ≡ word)) }
+    ensures word { IfSome result (λ s. s.word ≡ word) }
 {
-    let first = release(clocks, 0, word)?;
     let _other = release(clocks, 1, Word::Global(28))?;
-    let second = release(clocks, 1, word)?;
-    Some((first, second))
+    release(clocks, 1, word)
 }
 
 /// Item 2 acquires the first release, both, and none: its counts behind each.
@@ -121,53 +118,47 @@ fn acquires_of_releases<A: Allocator + Copy>(
 ) -> Option<[Counts; 3]>
     requires { clocks.old.sizes ≡ 3 ∷ [] }
 {
-    let (first, second) = releases(clocks, word)?;
+    let first = release(clocks, 0, word)?;
+    let second = release_behind_another(clocks, word)?;
     acquires(clocks, &first, &second)
 }
 
 /// The same of new clocks.
 fn acquires_of_two_releases<A: Allocator + Copy>(alloc: A, word: Word) -> Option<[Counts; 3]> {
-    let shape = three_items(alloc)?;
-    let mut clocks = new_clocks(alloc, &shape)?;
+    let mut clocks = new_clocks(alloc)?;
     acquires_of_releases(&mut clocks, word)
 }
 
-static GLOBAL: [Counts; 3] = [
+static GLOBAL: Option<[Counts; 3]> = Some([
     [[1, 0, 1], [0, 0, 1]],
     [[1, 2, 2], [0, 0, 2]],
     [[1, 2, 3], [0, 0, 3]],
-];
+]);
 
-static LOCAL: [Counts; 3] = [
+static LOCAL: Option<[Counts; 3]> = Some([
     [[0, 0, 1], [1, 0, 1]],
     [[0, 0, 2], [1, 2, 2]],
     [[0, 0, 3], [1, 2, 3]],
-];
+]);
 
 #[test]
-fn an_acquire_learns_from_all_releases_of_a_global_word(rt: HostRuntime) -> Result<(), Fail> {
-    for at in 0..1_000_u64 {
-        let heap = Refusing::new(rt.alloc(), at);
-        let seen = acquires_of_two_releases(&heap, Word::Global(20));
-        assert_eq!(rt; seen, Some(GLOBAL), "growth {at} refused");
-        if !heap.refused() {
-            assert!(rt; at > 0, "no growth was refused");
-            return Ok(());
-        }
-    }
-    Err("no end")?
+fn an_acquire_learns_from_all_releases_of_a_global_word(rt: HostRuntime) {
+    let word = Word::Global(20);
+    is_always(
+        &rt,
+        rt.alloc(),
+        |heap| acquires_of_two_releases(heap, word),
+        &GLOBAL,
+    );
 }
 
 #[test]
-fn an_acquire_learns_from_all_releases_of_a_local_word(rt: HostRuntime) -> Result<(), Fail> {
-    for at in 0..1_000_u64 {
-        let heap = Refusing::new(rt.alloc(), at);
-        let seen = acquires_of_two_releases(&heap, Word::Local(0, 20));
-        assert_eq!(rt; seen, Some(LOCAL), "growth {at} refused");
-        if !heap.refused() {
-            assert!(rt; at > 0, "no growth was refused");
-            return Ok(());
-        }
-    }
-    Err("no end")?
+fn an_acquire_learns_from_all_releases_of_a_local_word(rt: HostRuntime) {
+    let word = Word::Local(0, 20);
+    is_always(
+        &rt,
+        rt.alloc(),
+        |heap| acquires_of_two_releases(heap, word),
+        &LOCAL,
+    );
 }

@@ -75,23 +75,58 @@ const fn on_global(kind: Kind, word: u32) -> Event {
     }
 }
 
+/// A name, the scope of a release of word 20, the scope, the order and the word of a load in another group, and whether the
+/// two synchronize.
+type Pair = (&'static str, Scope, Scope, Order, u32, bool);
+
+static PAIRS: [Pair; 5] = [
+    (
+        "device scope",
+        Scope::Device,
+        Scope::Device,
+        Order::Acquire,
+        20,
+        true,
+    ),
+    (
+        "relaxed load",
+        Scope::Device,
+        Scope::Device,
+        Order::Relaxed,
+        20,
+        false,
+    ),
+    (
+        "another word",
+        Scope::Device,
+        Scope::Device,
+        Order::Acquire,
+        24,
+        false,
+    ),
+    (
+        "group scope",
+        Scope::Device,
+        Scope::Group,
+        Order::Acquire,
+        20,
+        false,
+    ),
+    (
+        "group scope of the release",
+        Scope::Group,
+        Scope::Device,
+        Order::Acquire,
+        20,
+        false,
+    ),
+];
+
 #[test]
 fn releases_and_acquires(rt: HostRuntime) {
-    let release = on_global(Kind::Store(Scope::Device, Order::Release), 20);
-    let pairs = [
-        ("device scope", Scope::Device, Order::Acquire, 20, true),
-        ("relaxed load", Scope::Device, Order::Relaxed, 20, false),
-        ("another word", Scope::Device, Order::Acquire, 24, false),
-        ("group scope", Scope::Group, Order::Acquire, 20, false),
-    ];
-    for (name, scope, order, word, want) in pairs {
-        let acquire = on_global(Kind::Load(scope, order), word);
-        assert_eq!(rt; pairs_with(&release, 0, &acquire, 1), want, "{name}");
+    for &(name, of_release, of_load, order, word, want) in &PAIRS {
+        let release = on_global(Kind::Store(of_release, Order::Release), 20);
+        let load = on_global(Kind::Load(of_load, order), word);
+        assert_eq!(rt; pairs_with(&release, 0, &load, 1), want, "{name}");
     }
-    let group_release = on_global(Kind::Store(Scope::Group, Order::Release), 20);
-    let acquire = on_global(Kind::Load(Scope::Device, Order::Acquire), 20);
-    assert!(rt;
-        !pairs_with(&group_release, 0, &acquire, 1),
-        "group scope of the release"
-    );
 }

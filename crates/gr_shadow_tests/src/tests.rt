@@ -14,7 +14,7 @@ use gr_shadow::merge::merge;
 use gr_shadow::shadows::Shadows;
 use refusing::Refusing;
 use std::alloc::{Allocator, Global};
-use std::test::Fail;
+use std::process::Abort;
 
 /// An access: its word, the number of its item in the launch, its index and class, and the counts of its clock by items.
 type Step = (Word, u16, u32, Class, [u32; 6]);
@@ -368,26 +368,91 @@ fn answer<A: Allocator + Copy>(
     shadows.apply(access).ok()
 }
 
+/// The first words of a list, of which no test has more than three.
+fn first_words(words: &[Word]) -> [Option<Word>; 4] {
+    [
+        words.get(0).copied(),
+        words.get(1).copied(),
+        words.get(2).copied(),
+        words.get(3).copied(),
+    ]
+}
+
 /// The answers to the accesses of a row, and the hit words at its end.
+type Answers = ([Option<Word>; 7], [Option<Word>; 4]);
+
+/// The answer to the access of a step in groups of so many items.
+fn answer_to<A: Allocator + Copy>(
+    alloc: A,
+    shape: &Shape<A>,
+    shadows: &mut Shadows<A>,
+    items: u16,
+    step: Step,
+) -> Option<Option<Word>> {
+    let access = access_of(alloc, shape, items, step)?;
+    answer(shadows, &access)
+}
+
+/// The answers of shadows to the accesses of a row.
+fn answers_of<A: Allocator + Copy>(
+    alloc: A,
+    shape: &Shape<A>,
+    shadows: &mut Shadows<A>,
+    items: u16,
+    steps: &[Option<Step>; 7],
+) -> Option<Answers> {
+    let mut all = [None; 7];
+    for place in 0..7_usize {
+        if let Some(step) = steps[place] {
+            all[place] = answer_to(alloc, shape, shadows, items, step)?;
+        }
+    }
+    let words = racy(shadows)?;
+    Some((all, first_words(&words)))
+}
+
+/// The same of new shadows.
 fn answers<A: Allocator + Copy>(
     alloc: A,
     groups: u16,
     items: u16,
     steps: &[Option<Step>; 7],
-) -> Option<([Option<Word>; 7], Vec<Word, A>)> {
+) -> Option<Answers> {
     let shape = shape_of(alloc, groups, items)?;
     let mut shadows = Shadows::new(alloc);
+    answers_of(alloc, &shape, &mut shadows, items, steps)
+}
+
+/// What the slow body answers to the access of a step in groups of so many items.
+fn slow_answer_to<A: Allocator + Copy>(
+    alloc: A,
+    shape: &Shape<A>,
+    slow: &mut Slow<A>,
+    items: u16,
+    step: Step,
+) -> Option<Option<Word>> {
+    let access = access_of(alloc, shape, items, step)?;
+    slow.apply(&access).ok()
+}
+
+/// What a slow body answers to the accesses of a row.
+fn slow_answers_of<A: Allocator + Copy>(
+    alloc: A,
+    shape: &Shape<A>,
+    slow: &mut Slow<A>,
+    items: u16,
+    steps: &[Option<Step>; 7],
+) -> Option<[Option<Word>; 7]> {
     let mut all = [None; 7];
     for place in 0..7_usize {
         if let Some(step) = steps[place] {
-            let access = access_of(alloc, &shape, items, step)?;
-            all[place] = answer(&mut shadows, &access)?;
+            all[place] = slow_answer_to(alloc, shape, slow, items, step)?;
         }
     }
-    Some((all, racy(&shadows)?))
+    Some(all)
 }
 
-/// What the slow body answers to the accesses of a row.
+/// The same of a new slow body.
 fn slow_answers<A: Allocator + Copy>(
     alloc: A,
     groups: u16,
@@ -396,14 +461,7 @@ fn slow_answers<A: Allocator + Copy>(
 ) -> Option<[Option<Word>; 7]> {
     let shape = shape_of(alloc, groups, items)?;
     let mut slow = Slow::new(alloc);
-    let mut all = [None; 7];
-    for place in 0..7_usize {
-        if let Some(step) = steps[place] {
-            let access = access_of(alloc, &shape, items, step)?;
-            all[place] = slow.apply(&access).ok()?;
-        }
-    }
-    Some(all)
+    slow_answers_of(alloc, &shape, &mut slow, items, steps)
 }
 
 /// Whether the shadows and the slow body answer as a row wants, and the hit words at its end are those of the row.
@@ -411,7 +469,7 @@ fn is_as_wanted<A: Allocator + Copy>(alloc: A, row: &Row) -> Option<bool> {
     let (_name, groups, items, steps, wanted, hits) = row;
     let (all, words) = answers(alloc, *groups, *items, steps)?;
     let slow = slow_answers(alloc, *groups, *items, steps)?;
-    Some(all == *wanted && slow == *wanted && words.as_slice() == *hits)
+    Some(all == *wanted && slow == *wanted && words == first_words(hits))
 }
 
 /// The name of the first row that is answered otherwise, if there is one.
@@ -502,65 +560,88 @@ fn answers_to_a_write<A: Allocator + Copy>(
     answers_of_both(both, &write)
 }
 
+/// The same of new ones.
+fn answers_of_new_ones<A: Allocator + Copy>(alloc: A, lacking: usize) -> Option<[Option<Word>; 2]> {
+    let mut both = Both {
+        shadows: Shadows::new(alloc),
+        slow: Slow::new(alloc),
+    };
+    answers_to_a_write(alloc, &mut both, lacking)
+}
+
 #[test]
-fn the_last_read_of_each_item_is_kept_beside_many(rt: HostRuntime) -> Result<(), Fail> {
+fn the_last_read_of_each_item_is_kept_beside_many(rt: HostRuntime) {
     for lacking in 0..7_usize {
         let wanted = (lacking != 0 && lacking != 6).then_some(FOUR);
-        let mut both = Both {
-            shadows: Shadows::new(rt.alloc()),
-            slow: Slow::new(rt.alloc()),
-        };
-        let answers = answers_to_a_write(rt.alloc(), &mut both, lacking);
+        let answers = answers_of_new_ones(rt.alloc(), lacking);
         assert_eq!(rt; answers, Some([wanted; 2]), "item {lacking}");
     }
-    Ok(())
 }
 
 /// The union of two lists, tried twice.
-fn union<A: Allocator + Copy>(alloc: A, first: &[Word], second: &[Word]) -> Option<Vec<Word, A>> {
-    match merge(alloc, first, second) {
-        Ok(words) => Some(words),
-        Err(Memory) => merge(alloc, first, second).ok(),
-    }
+fn union<A: Allocator + Copy>(
+    alloc: A,
+    first: &[Word],
+    second: &[Word],
+) -> Option<[Option<Word>; 4]> {
+    let words = match merge(alloc, first, second) {
+        Ok(words) => words,
+        Err(Memory) => merge(alloc, first, second).ok()?,
+    };
+    Some(first_words(&words))
+}
+
+/// The answers to two rows, and a union: none where a refusal changed the hit words.
+type Seen = (Answers, Answers, [Option<Word>; 4]);
+
+fn two_rows_and_a_union<A: Allocator + Copy>(alloc: A) -> Option<Seen> {
+    Some((
+        answers(alloc, 1, 2, &ANSWERED_ONCE)?,
+        answers(alloc, 1, 6, &SIX_ATOMICS)?,
+        union(alloc, &[SIXTEEN], &[Word::Global(3), Word::Local(0, 1)])?,
+    ))
+}
+
+static SEEN: Option<Seen> = Some((
+    (
+        [None, Some(SIXTEEN), None, None, None, None, None],
+        [Some(SIXTEEN), None, None, None],
+    ),
+    (
+        [None, None, None, None, None, None, Some(FOUR)],
+        [Some(FOUR), None, None, None],
+    ),
+    [
+        Some(Word::Global(3)),
+        Some(SIXTEEN),
+        Some(Word::Local(0, 1)),
+        None,
+    ],
+));
+
+/// The answers are the same with this growth refused; whether it was.
+fn is_same_without(rt: &impl Abort, alloc: Global, growth: u64) -> bool {
+    let heap = Refusing::new(alloc, growth);
+    let seen = two_rows_and_a_union(&heap);
+    let wanted = SEEN;
+    assert_eq!(rt; seen, wanted, "growth {growth}");
+    heap.refused()
 }
 
 #[test]
-fn each_refused_growth_leaves_the_hit_words(rt: HostRuntime) -> Result<(), Fail> {
-    for at in 0..1_000_u64 {
-        let heap = Refusing::new(rt.alloc(), at);
-        let (all, words) = answers(&heap, 1, 2, &ANSWERED_ONCE).ok_or(
-            "a refusal changed the words",
-        )?;
-        assert_eq!(rt;
-            all,
-            [None, Some(SIXTEEN), None, None, None, None, None],
-            "growth {at}"
-        );
-        assert_eq!(rt; words.as_slice(), [SIXTEEN].as_slice(), "growth {at}");
-        let (all, _four) = answers(&heap, 1, 6, &SIX_ATOMICS).ok_or("a refusal changed the words")?;
-        assert_eq!(rt;
-            all,
-            [None, None, None, None, None, None, Some(FOUR)],
-            "growth {at}"
-        );
-        let merged = union(&heap, &words, &[Word::Global(3), Word::Local(0, 1)]).ok_or("memory")?;
-        assert_eq!(rt;
-            merged.as_slice(),
-            [Word::Global(3), SIXTEEN, Word::Local(0, 1)].as_slice(),
-            "growth {at}"
-        );
-        if !heap.refused() {
-            assert!(rt; at > 0, "no growth was refused");
-            return Ok(());
+fn each_refused_growth_leaves_the_hit_words(rt: HostRuntime) {
+    for growth in 0..1_000_u64 {
+        if !is_same_without(&rt, rt.alloc(), growth) {
+            assert!(rt; growth > 0, "no growth was refused");
+            return;
         }
     }
-    Err("a growth was refused each time")?
+    panic!(rt; "a growth was refused each time")
 }
 
 #[test]
-fn a_union_is_in_order_and_without_repeats(rt: HostRuntime) -> Result<(), Fail> {
+fn a_union_is_in_order_and_without_repeats(rt: HostRuntime) {
     let local = Word::Local(0, 1);
-    let words = merge(rt.alloc(), &[local, SIXTEEN, local], &[SIXTEEN, FOUR])?;
-    assert_eq!(rt; words.as_slice(), [FOUR, SIXTEEN, local].as_slice());
-    Ok(())
+    let words = union(rt.alloc(), &[local, SIXTEEN, local], &[SIXTEEN, FOUR]);
+    assert_eq!(rt; words, Some([Some(FOUR), Some(SIXTEEN), Some(local), None]));
 }

@@ -1,9 +1,12 @@
 //! A stream gives the same parts however its bytes are cut.
 
+ghost use Rattle.std.specs.Prelude.{◌≤◌};
+
 use super::vectors::HEADER;
 use gr_record::decoder::Decoder;
 use gr_record::error::RecordError;
 use gr_record::part::Part;
+use std::alloc::Global;
 use std::test::Fail;
 
 /// `group 0 items 2 launch 7`, `0 w g 16`, `1 r g 16`, `end`
@@ -27,42 +30,78 @@ static TWO_STREAMS: [u8; 144] = [
     6, 0, 0, 0, 0, 0, 0, 0, 0, 0, 0, 0, 255, 255, 255, 255, 255, 255, 255, 255,
 ];
 
+/// The parts of a stream that is fed at once.
+fn whole(alloc: Global, stream: &[u8]) -> Result<Vec<Part>, RecordError> {
+    let mut parts = Vec::new(alloc);
+    let mut decoder = Decoder::new();
+    decoder.feed(stream, &mut parts)?;
+    decoder.finish()?;
+    Ok(parts)
+}
+
+/// Whether the first of two pieces is taken, the answer to the second, and whether these are the parts then.
+fn two_pieces(
+    alloc: Global,
+    first: &[u8],
+    second: &[u8],
+    whole: &[Part],
+) -> (bool, Result<(), RecordError>, bool) {
+    let mut parts = Vec::new(alloc);
+    let mut decoder = Decoder::new();
+    let is_taken = decoder.feed(first, &mut parts).is_ok();
+    let answer = decoder.feed(second, &mut parts);
+    (is_taken, answer, parts.as_slice() == whole)
+}
+
 #[test]
 fn two_pieces_give_what_one_gives(rt: HostRuntime) -> Result<(), Fail> {
-    let mut whole: Vec<Part> = Vec::new(rt.alloc());
-    Decoder::new().feed(&TWO_STREAMS[..72], &mut whole)?;
+    let whole = whole(rt.alloc(), &TWO_STREAMS[..72])?;
     assert_eq!(rt; whole.len(), 4);
     for cut in 0..145 {
-        let (prefix, back) = TWO_STREAMS.split_at(cut);
-        let mut parts = Vec::new(rt.alloc());
-        let mut decoder = Decoder::new();
-        let first = decoder.feed(prefix, &mut parts);
-        let second = decoder.feed(back, &mut parts);
-        assert!(rt; first.is_ok() == (cut <= 72), "first piece, cut at {cut}");
-        assert!(rt;
-            second == Err(RecordError::AfterEnd),
-            "second piece, cut at {cut}"
-        );
-        assert!(rt; parts.as_slice() == whole.as_slice(), "parts, cut at {cut}");
+        let (first, second) = TWO_STREAMS.split_at(cut);
+        let answers = two_pieces(rt.alloc(), first, second, &whole);
+        let wanted = (cut <= 72, Err(RecordError::AfterEnd), true);
+        assert!(rt; answers == wanted, "cut at {cut}: {answers:?}");
     }
     Ok(())
 }
 
+/// Feeds single bytes: whether the stream was truncated before each.
+fn feed_each(
+    decoder: &mut Decoder,
+    bytes: &[u8],
+    parts: &mut Vec<Part>,
+) -> Result<bool, RecordError> {
+    let mut is_truncated = true;
+    for &byte in bytes {
+        is_truncated &= decoder.finish() == Err(RecordError::Truncated);
+        decoder.feed(&[byte], parts)?;
+    }
+    Ok(is_truncated)
+}
+
+/// Whether the stream is truncated before each of its bytes, the answers at its end and to one byte more, and whether these
+/// are the parts then.
+fn single_bytes(
+    alloc: Global,
+    whole: &[Part],
+) -> (
+    Result<bool, RecordError>,
+    [Result<(), RecordError>; 2],
+    bool,
+) {
+    let mut parts = Vec::new(alloc);
+    let mut decoder = Decoder::new();
+    let is_truncated = feed_each(&mut decoder, &STREAM, &mut parts);
+    let answers = [decoder.finish(), decoder.feed(&[0], &mut parts)];
+    (is_truncated, answers, parts.as_slice() == whole)
+}
+
 #[test]
 fn single_bytes_give_what_the_whole_gives(rt: HostRuntime) -> Result<(), Fail> {
-    let mut whole: Vec<Part> = Vec::new(rt.alloc());
-    let mut at_once = Decoder::new();
-    at_once.feed(&STREAM, &mut whole)?;
-    assert!(rt; at_once.finish().is_ok());
-    let mut parts = Vec::new(rt.alloc());
-    let mut decoder = Decoder::new();
-    for &byte in &STREAM {
-        assert!(rt; decoder.finish() == Err(RecordError::Truncated));
-        decoder.feed(&[byte], &mut parts)?;
-    }
-    assert!(rt; parts.as_slice() == whole.as_slice());
-    assert!(rt; decoder.finish().is_ok());
-    assert!(rt; decoder.feed(&[0], &mut parts) == Err(RecordError::AfterEnd));
+    let whole = whole(rt.alloc(), &STREAM)?;
+    let wanted = (Ok(true), [Ok(()), Err(RecordError::AfterEnd)], true);
+    assert!(rt; single_bytes(rt.alloc(), &whole) == wanted);
     Ok(())
 }
 
@@ -76,30 +115,50 @@ fn a_stream_that_breaks_off_is_truncated(rt: HostRuntime) -> Result<(), Fail> {
     Ok(())
 }
 
-#[test]
-fn one_record_more_than_the_limit_is_refused(rt: HostRuntime) -> Result<(), Fail> {
-    let mut parts: Vec<Part> = Vec::new(rt.alloc());
-    let mut decoder = Decoder::with_limit(2);
-    assert!(rt; decoder.feed(&STREAM, &mut parts) == Err(RecordError::TooManyRecords));
-    assert_eq!(rt; parts.len(), 3);
-    assert!(rt; decoder.feed(&[], &mut parts) == Err(RecordError::TooManyRecords));
-    let mut whole: Vec<Part> = Vec::new(rt.alloc());
-    Decoder::with_limit(3).feed(&STREAM, &mut whole)?;
-    assert_eq!(rt; whole.len(), 4);
-    assert!(rt; parts.as_slice() == &whole.as_slice()[..3]);
-    Ok(())
+/// The answers to the stream and to nothing more of a decoder that takes so many records, and whether these are the parts then.
+fn limited(alloc: Global, records: u32, wanted: &[Part]) -> ([Result<(), RecordError>; 2], bool)
+    requires some { 1 ≤ records }
+    requires few { records ≤ 3 }
+{
+    let mut parts = Vec::new(alloc);
+    let mut decoder = Decoder::with_limit(records);
+    let answers = [
+        decoder.feed(&STREAM, &mut parts),
+        decoder.feed(&[], &mut parts),
+    ];
+    (answers, parts.as_slice() == wanted)
 }
 
 #[test]
-fn it_says_how_many_bytes_are_missing(rt: HostRuntime) -> Result<(), Fail> {
-    let mut parts: Vec<Part> = Vec::new(rt.alloc());
+fn one_record_more_than_the_limit_is_refused(rt: HostRuntime) -> Result<(), Fail> {
+    let whole = whole(rt.alloc(), &STREAM)?;
+    assert_eq!(rt; whole.len(), 4);
+    let refused = ([Err(RecordError::TooManyRecords); 2], true);
+    assert!(rt; limited(rt.alloc(), 2, &whole[..3]) == refused);
+    let ([answer, _], is_whole) = limited(rt.alloc(), 3, &whole);
+    assert!(rt; answer.is_ok() && is_whole);
+    Ok(())
+}
+
+/// How many bytes are missing behind a piece.
+fn missing_behind(
+    decoder: &mut Decoder,
+    piece: &[u8],
+    parts: &mut Vec<Part>,
+) -> Result<usize, RecordError> {
+    decoder.feed(piece, parts)?;
+    Ok(decoder.wants())
+}
+
+#[test]
+fn it_says_how_many_bytes_are_missing(rt: HostRuntime) {
+    let mut parts = Vec::new(rt.alloc());
     let mut decoder = Decoder::new();
     assert_eq!(rt; decoder.wants(), 12);
-    decoder.feed(&HEADER[..3], &mut parts)?;
-    assert_eq!(rt; decoder.wants(), 9);
-    decoder.feed(&HEADER[3..], &mut parts)?;
-    assert_eq!(rt; decoder.wants(), 20);
-    decoder.feed(&STREAM[12..], &mut parts)?;
-    assert_eq!(rt; decoder.wants(), 0);
-    Ok(())
+    let missing = [
+        missing_behind(&mut decoder, &HEADER[..3], &mut parts),
+        missing_behind(&mut decoder, &HEADER[3..], &mut parts),
+        missing_behind(&mut decoder, &STREAM[12..], &mut parts),
+    ];
+    assert_eq!(rt; missing, [Ok(9), Ok(20), Ok(0)]);
 }

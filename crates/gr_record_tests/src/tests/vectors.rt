@@ -10,6 +10,8 @@ use gr_record::decoder::Decoder;
 use gr_record::encoding::{encode_event, encode_header};
 use gr_record::header::{Header, Version};
 use gr_record::part::Part;
+use std::alloc::{Allocator, Global};
+use std::process::Abort;
 use std::test::Fail;
 
 /// `group 0 items 2 launch 7`
@@ -124,6 +126,12 @@ pub(super) fn vectors() -> [Vector; 8] {
     ]
 }
 
+/// Whether a stream that begins so gives these parts.
+fn gives(alloc: Global, bytes: &[u8], wanted: &[Part]) -> bool {
+    let mut parts = Vec::new(alloc);
+    Decoder::new().feed(bytes, &mut parts).is_ok() && parts.as_slice() == wanted
+}
+
 #[test]
 fn a_header_is_written_and_read(rt: HostRuntime) -> Result<(), Fail> {
     let header = Header {
@@ -135,47 +143,67 @@ fn a_header_is_written_and_read(rt: HostRuntime) -> Result<(), Fail> {
     let mut bytes = [0; 12];
     encode_header(&header, &mut bytes);
     assert!(rt; bytes == HEADER);
-    let mut parts = Vec::new(rt.alloc());
-    let mut decoder = Decoder::new();
-    decoder.feed(&bytes, &mut parts)?;
-    assert!(rt; parts.as_slice() == [Part::Header(header)].as_slice());
-    let text = line_text(rt.alloc(), &Line::Header(header))?;
+    assert!(rt; gives(rt.alloc(), &bytes, &[Part::Header(header)]));
+    let line = Line::Header(header);
+    assert!(rt; parse_line(b"group 0 items 2 launch 7") == Some(line));
+    let text = line_text(rt.alloc(), &line)?;
     assert_eq!(rt; text.as_str(), "group 0 items 2 launch 7");
-    assert!(rt; parse_line(b"group 0 items 2 launch 7") == Some(Line::Header(header)));
     Ok(())
 }
 
-#[test]
-fn each_record_is_written_and_read(rt: HostRuntime) -> Result<(), Fail> {
-    for (text, event, bytes) in vectors() {
-        assert!(rt; event_ok(&event, MOST_ITEMS_OF_A_GROUP), "{text}");
-        assert!(rt; event.names.as_slice().len() <= 1, "{text}");
-        let mut written = [0; 20];
-        encode_event(&event, &mut written);
-        assert!(rt; written == bytes, "{text}");
-        let mut parts = Vec::new(rt.alloc());
-        let mut decoder = Decoder::new();
-        decoder.feed(&LARGE_HEADER, &mut parts)?;
-        parts.clear();
-        decoder.feed(&bytes, &mut parts)?;
-        assert!(rt;
-            parts.as_slice() == [Part::Event(event)].as_slice(),
-            "{text}"
-        );
+/// The bytes of an event; none where it has no record.
+fn bytes_of(event: &Event) -> Option<[u8; 20]> {
+    if !event_ok(event, MOST_ITEMS_OF_A_GROUP) || event.names.as_slice().len() > 1 {
+        return None;
     }
-    Ok(())
+    let mut bytes = [0; 20];
+    encode_event(event, &mut bytes);
+    Some(bytes)
+}
+
+/// Whether these bytes behind a header give the event.
+fn is_read(alloc: Global, bytes: &[u8; 20], event: &Event) -> bool {
+    let mut parts = Vec::new(alloc);
+    let mut decoder = Decoder::new();
+    let has_header = decoder.feed(&LARGE_HEADER, &mut parts).is_ok();
+    parts.clear();
+    has_header
+        && decoder.feed(bytes, &mut parts).is_ok()
+        && parts.as_slice() == [Part::Event(*event)].as_slice()
 }
 
 #[test]
-fn each_record_has_its_line(rt: HostRuntime) -> Result<(), Fail> {
-    for (text, event, _) in vectors() {
-        assert!(rt; event_ok(&event, MOST_ITEMS_OF_A_GROUP), "{text}");
-        let written = line_text(rt.alloc(), &Line::Event(event))?;
-        assert_eq!(rt; written.as_str(), text);
-        assert!(rt;
-            parse_line(text.as_bytes()) == Some(Line::Event(event)),
-            "{text}"
-        );
+fn each_record_is_written_and_read(rt: HostRuntime) {
+    for (text, event, bytes) in &vectors() {
+        assert!(rt; bytes_of(event) == Some(*bytes), "{text}");
+        assert!(rt; is_read(rt.alloc(), bytes, event), "{text}");
     }
-    Ok(())
+}
+
+/// The line of an event; none where it has none, or memory runs out.
+pub(super) fn line_of<A: Allocator>(alloc: A, event: &Event) -> Option<String<A>> {
+    if !event_ok(event, MOST_ITEMS_OF_A_GROUP) {
+        return None;
+    }
+    line_text(alloc, &Line::Event(*event)).ok()
+}
+
+/// Whether the event has a line, which then is this one.
+pub(super) fn has_line<A: Allocator>(rt: &impl Abort, alloc: A, event: &Event, text: &str) -> bool {
+    match line_of(alloc, event) {
+        Some(line) => {
+            assert!(rt; line.as_str() == text, "{text}: {line}");
+            true
+        }
+        None => false,
+    }
+}
+
+#[test]
+fn each_record_has_its_line(rt: HostRuntime) {
+    for (text, event, _) in &vectors() {
+        assert!(rt; has_line(&rt, rt.alloc(), event, text), "{text}");
+        let line = parse_line(text.as_bytes());
+        assert!(rt; line == Some(Line::Event(*event)), "{text}");
+    }
 }

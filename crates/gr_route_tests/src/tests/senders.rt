@@ -55,38 +55,41 @@ fn receipt_of(sender: Sender) -> Option<(u16, u16)> {
     Some((receipt.group(), receipt.into_seat().items()))
 }
 
-/// A sender's state, and its answer to a write.
-type Opened = (State, Answer);
-
-/// A sender's answer to the end, its state then, and its answers to a write and to another end.
-type Closed = (Answer, State, [Answer; 2]);
-
-/// What a sender tells as it sends its end, and then a write and another end.
-fn close<R: Wait>(rt: &R, sender: &mut Sender) -> Closed {
-    let answer = sender.close(rt, false);
+/// What a sender tells as it sends its end, and then a write and another end: its answers, and its state behind the first end.
+fn close<R: Wait>(rt: &R, sender: &mut Sender) -> ([Answer; 3], State) {
+    let end = sender.close(rt, false);
     let state = state_of(sender);
     let after = sender.send(rt, write(16));
-    (answer, state, [after, sender.close(rt, true)])
+    ([end, after, sender.close(rt, true)], state)
 }
+
+/// A sender's four answers, its state before them and behind its end, and its receipt.
+type Told = ([Answer; 4], [State; 2], Option<(u16, u16)>);
 
 /// What a sender tells as it sends a write, then as it is closed, and in the end its receipt. `None` where it gives a
 /// receipt before it is closed.
-fn open_and_close<R: Wait>(rt: &R, sender: Sender) -> Option<(Opened, Closed, Option<(u16, u16)>)> {
+fn open_and_close<R: Wait>(rt: &R, sender: Sender) -> Option<Told> {
     let mut sender = sender;
-    let opened = (state_of(&sender), sender.send(rt, write(16)));
+    let open = state_of(&sender);
+    let first = sender.send(rt, write(16));
     let mut back = sender.into_receipt().err()?;
-    let closed = close(rt, &mut back);
-    Some((opened, closed, receipt_of(back)))
+    let ([end, after, again], closed) = close(rt, &mut back);
+    let receipt = receipt_of(back);
+    Some(([first, end, after, again], [open, closed], receipt))
 }
 
 #[test]
 fn a_closed_sender_sends_nothing(rt: HostRuntime) -> Result<(), Fail> {
     let sender = lone_sender(rt.alloc(), 4, 1000)?;
-    let opened = ((0, 0, false), Ok(()));
-    let refused = [Err(SendError::Closed), Err(SendError::Closed)];
-    let closed = (Ok(()), (0, 2, true), refused);
-    let answers = open_and_close(&rt, sender);
-    assert_eq!(rt; answers, Some((opened, closed, Some((0, 1)))));
+    let answers = [
+        Ok(()),
+        Ok(()),
+        Err(SendError::Closed),
+        Err(SendError::Closed),
+    ];
+    let states = [(0, 0, false), (0, 2, true)];
+    let told = open_and_close(&rt, sender);
+    assert_eq!(rt; told, Some((answers, states, Some((0, 1)))));
     Ok(())
 }
 
@@ -106,28 +109,20 @@ fn the_last_record_is_the_end(rt: HostRuntime) -> Result<(), Fail> {
     Ok(())
 }
 
-/// A sender's answers to an event that is sent, and sent again with waiting.
-fn send_both_ways<R: Wait + Clock>(rt: &R, sender: &mut Sender, event: &Event) -> [Answer; 2] {
-    let answer = sender.send(rt, *event);
-    [answer, sender.send_wait(rt, *event)]
-}
-
-/// The answers where an event is refused both ways.
-fn refused_both_ways(refusal: &SendError) -> [Answer; 2] {
-    [Err(*refusal), Err(*refusal)]
-}
-
-/// A sender's answers to each of three events, both ways, and how many records it has then sent.
+/// A sender's answers to each of three events, each sent at once and then with waiting, and how many records it has then sent.
 fn send_each<R: Wait + Clock>(
     rt: &R,
     sender: Sender,
-    events: &[Event; 3],
-) -> ([[Answer; 2]; 3], u32) {
+    [a, b, c]: &[Event; 3],
+) -> ([Answer; 6], u32) {
     let mut sender = sender;
     let answers = [
-        send_both_ways(rt, &mut sender, &events[0]),
-        send_both_ways(rt, &mut sender, &events[1]),
-        send_both_ways(rt, &mut sender, &events[2]),
+        sender.send(rt, *a),
+        sender.send_wait(rt, *a),
+        sender.send(rt, *b),
+        sender.send_wait(rt, *b),
+        sender.send(rt, *c),
+        sender.send_wait(rt, *c),
     ];
     (answers, sender.sent())
 }
@@ -149,57 +144,46 @@ fn only_events_of_the_group_are_sent(rt: HostRuntime) -> Result<(), Fail> {
     let events = [of_item_1, Event::end(false), barrier_of_local_words];
     let sender = lone_sender(rt.alloc(), 8, 1000)?;
     let refused = [
-        refused_both_ways(&SendError::UnknownItem),
-        refused_both_ways(&SendError::BadEvent),
-        refused_both_ways(&SendError::BadEvent),
+        Err(SendError::UnknownItem),
+        Err(SendError::UnknownItem),
+        Err(SendError::BadEvent),
+        Err(SendError::BadEvent),
+        Err(SendError::BadEvent),
+        Err(SendError::BadEvent),
     ];
     assert_eq!(rt; send_each(&rt, sender, &events), (refused, 0));
     Ok(())
 }
 
-/// A sender's answers to two writes and the end, and its state then.
-type Filled = ([Answer; 3], State);
-
-/// Whether an event was popped, a sender's answer to the end behind that, and its state then.
-type Popped = (bool, Answer, State);
-
-/// What a sender tells as it sends two writes and the end.
-fn fill<R: Wait>(rt: &R, sender: &mut Sender) -> Filled {
+/// What a sender answers as it sends two writes and the end.
+fn fill<R: Wait>(rt: &R, sender: &mut Sender) -> [Answer; 3] {
     let first = sender.send(rt, write(16));
     let second = sender.send(rt, write(17));
-    let end = sender.close(rt, false);
-    ([first, second, end], state_of(sender))
+    [first, second, sender.close(rt, false)]
 }
 
-/// Pops an event, and tells what a sender then tells as it sends the end.
-fn pop_and_close<R: Wait>(
-    rt: &R,
-    queue: &Intake,
-    taker: &mut TakerSeat,
-    sender: &mut Sender,
-) -> Popped
-    requires { taker.old.queue ≡ queue.now.queue }
-{
-    let popped = queue.pop(rt, taker).is_some();
-    let end = sender.close(rt, false);
-    (popped, end, state_of(sender))
-}
+/// A sender's four answers, its state behind the third and the last of them, and whether an event was popped between these.
+type Filled = ([Answer; 4], [State; 2], bool);
 
 /// What a sender of its own tells over a queue, before and after an event is popped.
 fn fill_and_pop<R: Wait>(
     rt: &R,
     queue: &Arc<Intake, Global>,
     taker: &mut TakerSeat,
-) -> Result<(Filled, Popped), Fail>
+) -> Result<Filled, Fail>
     requires { taker.old.queue ≡ (arc_value queue.now).queue }
 {
     let mut sender = sender_over(queue, taker, 1000)?;
-    let filled = fill(rt, &mut sender);
-    Ok((filled, pop_and_close(rt, queue, taker, &mut sender)))
+    let [first, second, full] = fill(rt, &mut sender);
+    let before = state_of(&sender);
+    let popped = queue.pop(rt, taker).is_some();
+    let end = sender.close(rt, false);
+    let states = [before, state_of(&sender)];
+    Ok(([first, second, full, end], states, popped))
 }
 
 /// What a sender tells over a queue of one place, before and after an event is popped.
-fn fill_one_place<R: Wait>(rt: &R, alloc: Global) -> Result<(Filled, Popped), Fail> {
+fn fill_one_place<R: Wait>(rt: &R, alloc: Global) -> Result<Filled, Fail> {
     let (queue, mut taker) = shared_queue(alloc, 1)?;
     fill_and_pop(rt, &queue, &mut taker)
 }
@@ -210,9 +194,9 @@ fn a_full_queue_takes_no_end(rt: HostRuntime) -> Result<(), Fail> {
         Ok(()),
         Err(SendError::Full(write(17))),
         Err(SendError::Full(Event::end(false))),
+        Ok(()),
     ];
-    let filled = (answers, (0, 1, false));
-    let popped = (true, Ok(()), (0, 2, true));
-    assert_eq!(rt; fill_one_place(&rt, rt.alloc())?, (filled, popped));
+    let states = [(0, 1, false), (0, 2, true)];
+    assert_eq!(rt; fill_one_place(&rt, rt.alloc())?, (answers, states, true));
     Ok(())
 }

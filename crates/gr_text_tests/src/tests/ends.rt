@@ -1,35 +1,11 @@
-//! Readers that fail, and writers that fail.
+//! Readers that fail, and writers that are full.
 
 use super::pairs::RACE;
 use gr_record::fault::Fault;
 use gr_text::{dump, pack};
-use std::io::{self, ErrorKind, Read, Write};
-use std::test::Fail;
-
-/// Gives one byte at a call, and fails at its last call.
-#[derive(Drop)]
-struct FailingReader<'a> {
-    bytes: &'a [u8],
-    /// How many calls succeed.
-    calls: usize,
-}
-
-impl Read for FailingReader<'_> {
-    fn read(&mut self, buf: &mut [u8]) -> io::Result<usize> {
-        if self.calls == 0 {
-            return Err(io::Error::from(ErrorKind::BrokenPipe));
-        }
-        self.calls -= 1;
-        match (self.bytes.split_first(), buf.split_first_mut()) {
-            (Some((byte, others)), Some((place, _))) => {
-                *place = *byte;
-                self.bytes = others;
-                Ok(1)
-            }
-            _ => Ok(0),
-        }
-    }
-}
+use refusing::failing::FailingReader;
+use std::alloc::Global;
+use std::io::{self, Write};
 
 /// Takes one byte at a call as long as there is room, and then takes none.
 #[derive(Drop)]
@@ -55,63 +31,70 @@ impl Write for FullWriter {
     }
 }
 
-#[test]
-fn a_reader_that_fails_is_a_read_fault(rt: HostRuntime) -> Result<(), Fail> {
-    let (_, text, bytes) = RACE;
-    for calls in [0, 1, 40] {
-        let mut written = Vec::new(rt.alloc());
-        let mut lines = FailingReader {
-            bytes: text.as_bytes(),
-            calls,
-        };
-        assert!(rt;
-            pack(rt.alloc(), &mut lines, &mut written) == Err(Fault::Read),
-            "packing, {calls} calls"
-        );
-        let mut streams = FailingReader { bytes, calls };
-        assert!(rt;
-            dump(rt.alloc(), &mut streams, &mut written) == Err(Fault::Read),
-            "dumping, {calls} calls"
-        );
-        assert!(rt; written.is_empty(), "{calls} calls");
-    }
-    let mut written = Vec::new(rt.alloc());
-    let mut streams = FailingReader { bytes, calls: 73 };
-    assert!(rt; dump(rt.alloc(), &mut streams, &mut written) == Ok(()));
-    assert!(rt; written.as_slice() == text.as_bytes());
-    Ok(())
+/// Whether packing fails to read behind so many calls, and writes nothing.
+fn packs_nothing(alloc: Global, calls: usize) -> bool {
+    let mut written = Vec::new(alloc);
+    let mut lines = FailingReader {
+        bytes: RACE.1.as_bytes(),
+        calls,
+    };
+    pack(alloc, &mut lines, &mut written) == Err(Fault::Read) && written.is_empty()
+}
+
+/// Whether dumping behind so many calls answers so, and writes this text.
+fn dumps_so(alloc: Global, calls: usize, due: Result<(), Fault>, text: &str) -> bool {
+    let mut written = Vec::new(alloc);
+    let mut streams = FailingReader {
+        bytes: RACE.2,
+        calls,
+    };
+    dump(alloc, &mut streams, &mut written) == due && written.as_slice() == text.as_bytes()
 }
 
 #[test]
-fn a_writer_that_fails_has_a_prefix(rt: HostRuntime) -> Result<(), Fail> {
-    let (_, text, bytes) = RACE;
-    for room in [0, 1, 40] {
-        let mut writer = FullWriter {
-            taken: Vec::new(rt.alloc()),
-            room,
-        };
-        let mut lines = text.as_bytes();
+fn a_reader_that_fails_is_a_read_fault(rt: HostRuntime) {
+    for calls in 0..41 {
+        let fault = Err(Fault::Read);
+        assert!(rt; packs_nothing(rt.alloc(), calls), "packing, {calls} calls");
         assert!(rt;
-            pack(rt.alloc(), &mut lines, &mut writer) == Err(Fault::Write),
+            dumps_so(rt.alloc(), calls, fault, ""),
+            "dumping, {calls} calls"
+        );
+    }
+    assert!(rt; dumps_so(rt.alloc(), 73, Ok(()), RACE.1));
+}
+
+/// Whether packing fails to write where there is room for a prefix alone, which is taken.
+fn packs_prefix(alloc: Global, prefix: &[u8]) -> bool {
+    let mut writer = FullWriter {
+        taken: Vec::new(alloc),
+        room: prefix.len(),
+    };
+    let mut lines = RACE.1.as_bytes();
+    pack(alloc, &mut lines, &mut writer) == Err(Fault::Write) && writer.taken.as_slice() == prefix
+}
+
+/// The same of dumping.
+fn dumps_prefix(alloc: Global, prefix: &[u8]) -> bool {
+    let mut writer = FullWriter {
+        taken: Vec::new(alloc),
+        room: prefix.len(),
+    };
+    let mut streams = RACE.2;
+    dump(alloc, &mut streams, &mut writer) == Err(Fault::Write) && writer.taken.as_slice() == prefix
+}
+
+#[test]
+fn a_writer_that_fails_has_a_prefix(rt: HostRuntime) {
+    let (bytes, text) = (RACE.2, RACE.1.as_bytes());
+    for room in 0..41 {
+        assert!(rt;
+            packs_prefix(rt.alloc(), &bytes[..room]),
             "packing, room for {room}"
         );
         assert!(rt;
-            writer.taken.as_slice() == &bytes[..room],
-            "packing, room for {room}"
-        );
-        let mut writer = FullWriter {
-            taken: Vec::new(rt.alloc()),
-            room,
-        };
-        let mut streams = bytes;
-        assert!(rt;
-            dump(rt.alloc(), &mut streams, &mut writer) == Err(Fault::Write),
-            "dumping, room for {room}"
-        );
-        assert!(rt;
-            text.as_bytes().starts_with(&writer.taken) && writer.taken.len() == room,
+            dumps_prefix(rt.alloc(), &text[..room]),
             "dumping, room for {room}"
         );
     }
-    Ok(())
 }

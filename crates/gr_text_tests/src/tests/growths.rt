@@ -1,100 +1,94 @@
 //! Each growth is refused in turn: the answer is then out of memory, with nothing written, or what is due.
 
-use super::pairs::{PAIRS, Pair, RACE};
+use super::pairs::{PAIRS, RACE};
 use gr_model::memory::Memory;
 use gr_record::fault::Fault;
 use gr_text::{dump, pack, upgrade};
 use refusing::Refusing;
 use std::alloc::{Allocator, Global};
-use std::test::Fail;
+use std::process::Abort;
 
-/// Whether the answer is what is due, or memory ran out with nothing written.
-fn is_due(answer: Result<(), Fault>, written: &[u8], due: &[u8]) -> Result<bool, Memory> {
-    match answer {
-        Ok(()) => Ok(written == due),
+/// What is done with an input.
+#[derive(Clone, Copy)]
+enum Work {
+    Pack,
+    Dump,
+    Upgrade,
+}
+
+/// Does the work on an input.
+fn do_work<A: Allocator + Copy>(
+    alloc: A,
+    work: Work,
+    input: &[u8],
+    written: &mut Vec<u8>,
+) -> Result<(), Fault> {
+    let mut reader = input;
+    match work {
+        Work::Pack => pack(alloc, &mut reader, written),
+        Work::Dump => dump(alloc, &mut reader, written),
+        Work::Upgrade => upgrade(alloc, &mut reader, written),
+    }
+}
+
+/// Whether the work gives what is due, or memory ran out with nothing written.
+fn is_done<A: Allocator + Copy>(
+    alloc: A,
+    ample: Global,
+    work: Work,
+    input: &[u8],
+    due: &[u8],
+) -> Result<bool, Memory> {
+    let mut written = Vec::new(ample);
+    match do_work(alloc, work, input, &mut written) {
+        Ok(()) => Ok(written.as_slice() == due),
         Err(Fault::Memory) if written.is_empty() => Err(Memory),
         Err(_) => Ok(false),
     }
 }
 
-fn packs<A: Allocator + Copy>(alloc: A, ample: Global, pair: Pair) -> Result<bool, Memory> {
-    let (_, text, bytes) = pair;
-    let mut written = Vec::new(ample);
-    let mut lines = text.as_bytes();
-    let answer = pack(alloc, &mut lines, &mut written);
-    is_due(answer, written.as_slice(), bytes)
-}
-
-fn dumps<A: Allocator + Copy>(alloc: A, ample: Global, pair: Pair) -> Result<bool, Memory> {
-    let (_, text, bytes) = pair;
-    let mut written = Vec::new(ample);
-    let mut streams = bytes;
-    let answer = dump(alloc, &mut streams, &mut written);
-    is_due(answer, written.as_slice(), text.as_bytes())
-}
-
-fn upgrades<A: Allocator + Copy>(alloc: A, ample: Global, due: &[u8]) -> Result<bool, Memory> {
-    let mut written = Vec::new(ample);
-    let mut streams = RACE.2;
-    let answer = upgrade(alloc, &mut streams, &mut written);
-    is_due(answer, written.as_slice(), due)
+/// The work is done, or out of memory, whichever growth is refused.
+fn meets_each_growth(
+    rt: &impl Abort,
+    alloc: Global,
+    work: Work,
+    input: &[u8],
+    due: &[u8],
+    name: &str,
+) {
+    for at in 0..1_000_u64 {
+        let heap = Refusing::new(alloc, at);
+        let answer = is_done(&heap, alloc, work, input, due);
+        let refused = heap.refused();
+        assert!(rt;
+            answer == Ok(true) || (answer == Err(Memory) && refused),
+            "{name}: growth {at}"
+        );
+        if !refused {
+            assert!(rt; at > 1 || input.is_empty(), "{name}: growths");
+            return;
+        }
+    }
 }
 
 #[test]
-fn each_refused_growth_of_packing_is_out_of_memory(rt: HostRuntime) -> Result<(), Fail> {
-    for &pair in &PAIRS {
-        for at in 0..1_000_u64 {
-            let heap = Refusing::new(rt.alloc(), at);
-            let answer = packs(&heap, rt.alloc(), pair);
-            let name = pair.0;
-            assert!(rt;
-                answer == Ok(true) || (answer == Err(Memory) && heap.refused()),
-                "{name}: growth {at}"
-            );
-            if !heap.refused() {
-                assert!(rt; at > 1 || name == "nothing", "{name}: growths");
-                break;
-            }
-        }
+fn each_refused_growth_of_packing_is_out_of_memory(rt: HostRuntime) {
+    for &(name, text, bytes) in &PAIRS {
+        meets_each_growth(&rt, rt.alloc(), Work::Pack, text.as_bytes(), bytes, name);
     }
-    Ok(())
 }
 
 #[test]
-fn each_refused_growth_of_dumping_is_out_of_memory(rt: HostRuntime) -> Result<(), Fail> {
-    for &pair in &PAIRS {
-        for at in 0..1_000_u64 {
-            let heap = Refusing::new(rt.alloc(), at);
-            let answer = dumps(&heap, rt.alloc(), pair);
-            let name = pair.0;
-            assert!(rt;
-                answer == Ok(true) || (answer == Err(Memory) && heap.refused()),
-                "{name}: growth {at}"
-            );
-            if !heap.refused() {
-                assert!(rt; at > 1 || name == "nothing", "{name}: growths");
-                break;
-            }
-        }
+fn each_refused_growth_of_dumping_is_out_of_memory(rt: HostRuntime) {
+    for &(name, text, bytes) in &PAIRS {
+        meets_each_growth(&rt, rt.alloc(), Work::Dump, bytes, text.as_bytes(), name);
     }
-    Ok(())
 }
 
 #[test]
 fn each_refused_growth_of_upgrading_is_out_of_memory(rt: HostRuntime) {
+    let (name, _, bytes) = RACE;
     let mut due = Vec::new(rt.alloc());
-    let mut streams = RACE.2;
-    assert_eq!(rt; upgrade(rt.alloc(), &mut streams, &mut due), Ok(()));
-    for at in 0..1_000_u64 {
-        let heap = Refusing::new(rt.alloc(), at);
-        let answer = upgrades(&heap, rt.alloc(), due.as_slice());
-        assert!(rt;
-            answer == Ok(true) || (answer == Err(Memory) && heap.refused()),
-            "growth {at}"
-        );
-        if !heap.refused() {
-            assert!(rt; at > 1, "growths");
-            return;
-        }
-    }
+    assert_eq!(rt; do_work(rt.alloc(), Work::Upgrade, bytes, &mut due), Ok(()));
+    meets_each_growth(&rt, rt.alloc(), Work::Upgrade, bytes, &due, name);
 }

@@ -4,8 +4,8 @@ ghost use Rattle.std.specs.Prelude.{◌≤◌, length};
 
 use gr_record::fault::Fault;
 use gr_text::{dump, pack};
+use std::alloc::Global;
 use std::io::{self, ErrorKind, Read, Write};
-use std::test::Fail;
 
 /// One line of the text and its record: item 1 writes global word 4,000,000,000.
 const LINE: &[u8] = b"1 w g 4000000000\n";
@@ -142,18 +142,37 @@ fn due(flush_fails: bool) -> Result<(), Fault> {
     }
 }
 
-#[test]
-fn large_streams_are_packed_and_dumped(rt: HostRuntime) -> Result<(), Fail> {
-    for &(name, records, at_once, flush_fails) in &ROWS {
-        let mut writer = Comparing::of(bytes_of(records, at_once), flush_fails);
-        let answer = pack(rt.alloc(), &mut text_of(records, at_once), &mut writer);
-        assert_eq!(rt; answer, due(flush_fails), "packing {name}");
-        assert!(rt; writer.is_done(), "packing {name}");
+/// What packing answers, and whether all records are written then.
+fn packed(
+    alloc: Global,
+    records: u64,
+    at_once: usize,
+    flush_fails: bool,
+) -> (Result<(), Fault>, bool) {
+    let mut writer = Comparing::of(bytes_of(records, at_once), flush_fails);
+    let answer = pack(alloc, &mut text_of(records, at_once), &mut writer);
+    (answer, writer.is_done())
+}
 
-        let mut writer = Comparing::of(text_of(records, at_once), flush_fails);
-        let answer = dump(rt.alloc(), &mut bytes_of(records, at_once), &mut writer);
-        assert_eq!(rt; answer, due(flush_fails), "dumping {name}");
-        assert!(rt; writer.is_done(), "dumping {name}");
+/// The same of dumping.
+fn dumped(
+    alloc: Global,
+    records: u64,
+    at_once: usize,
+    flush_fails: bool,
+) -> (Result<(), Fault>, bool) {
+    let mut writer = Comparing::of(text_of(records, at_once), flush_fails);
+    let answer = dump(alloc, &mut bytes_of(records, at_once), &mut writer);
+    (answer, writer.is_done())
+}
+
+#[test]
+fn large_streams_are_packed_and_dumped(rt: HostRuntime) {
+    for &(name, records, at_once, flush_fails) in &ROWS {
+        let wanted = (due(flush_fails), true);
+        let seen = packed(rt.alloc(), records, at_once, flush_fails);
+        assert!(rt; seen == wanted, "packing {name}: {seen:?}");
+        let seen = dumped(rt.alloc(), records, at_once, flush_fails);
+        assert!(rt; seen == wanted, "dumping {name}: {seen:?}");
     }
-    Ok(())
 }

@@ -74,7 +74,7 @@ fn is_packed(alloc: Global, text: &str, bytes: &[u8]) -> bool {
 }
 
 /// Whether bytes are dumped as this text.
-fn is_dumped(alloc: Global, bytes: &[u8], text: &str) -> bool {
+pub(super) fn is_dumped(alloc: Global, bytes: &[u8], text: &str) -> bool {
     let mut dumped = Vec::new(alloc);
     let mut streams = bytes;
     dump(alloc, &mut streams, &mut dumped) == Ok(()) && dumped.as_slice() == text.as_bytes()

@@ -44,34 +44,26 @@ static CUTS: [(usize, usize); 8] = [
     (71, 43),
 ];
 
+/// Whether a stream that breaks off behind a whole one is told so, with this text behind the whole one's.
+fn gives_behind_whole(alloc: Global, cut: &[u8], told: &[u8]) -> Result<bool, AllocError> {
+    let two = joined(alloc, RACE.2, cut)?;
+    let due = joined(alloc, RACE.1.as_bytes(), told)?;
+    let fault = Fault::Stream(1, RecordError::Truncated);
+    Ok(gives(alloc, &two, Err(fault), &due))
+}
+
 #[test]
-fn a_stream_that_breaks_off_is_told_up_to_its_last_whole_record(
-    rt: HostRuntime,
-) -> Result<(), Fail> {
+fn a_stream_that_breaks_off_is_told_up_to_its_last_whole_record(rt: HostRuntime) {
     let (_, text, bytes) = RACE;
+    let fault = Fault::Stream(0, RecordError::Truncated);
     for &(length, told) in &CUTS {
+        let (cut, due) = (&bytes[..length], &text.as_bytes()[..told]);
+        assert!(rt; gives(rt.alloc(), cut, Err(fault), due), "{length} bytes");
         assert!(rt;
-            gives(
-                rt.alloc(),
-                &bytes[..length],
-                Err(Fault::Stream(0, RecordError::Truncated)),
-                &text.as_bytes()[..told],
-            ),
-            "{length} bytes"
-        );
-        let two = joined(rt.alloc(), bytes, &bytes[..length])?;
-        let due = joined(rt.alloc(), text.as_bytes(), &text.as_bytes()[..told])?;
-        assert!(rt;
-            gives(
-                rt.alloc(),
-                &two,
-                Err(Fault::Stream(1, RecordError::Truncated)),
-                &due,
-            ),
+            gives_behind_whole(rt.alloc(), cut, due) == Ok(true),
             "a stream and {length} bytes"
         );
     }
-    Ok(())
 }
 
 /// A place in the stream of the first race, the byte that stands there instead, the fault, and how many bytes of its text
@@ -97,18 +89,26 @@ fn changed_among(alloc: Global, at: u8, byte: u8) -> Result<Vec<u8>, AllocError>
     Ok(all)
 }
 
+/// Whether the changed stream is told so, with this text behind that of the first stream.
+fn gives_changed(
+    alloc: Global,
+    at: u8,
+    byte: u8,
+    error: RecordError,
+    told: &[u8],
+) -> Result<bool, AllocError> {
+    let three = changed_among(alloc, at, byte)?;
+    let due = joined(alloc, RACE.1.as_bytes(), told)?;
+    Ok(gives(alloc, &three, Err(Fault::Stream(1, error)), &due))
+}
+
 #[test]
-fn a_bad_record_is_told_up_to_and_no_further(rt: HostRuntime) -> Result<(), Fail> {
+fn a_bad_record_is_told_up_to_and_no_further(rt: HostRuntime) {
     let text = RACE.1.as_bytes();
     for &(at, byte, error, told) in &CHANGES {
-        let three = changed_among(rt.alloc(), at, byte)?;
-        let due = joined(rt.alloc(), text, &text[..told])?;
-        assert!(rt;
-            gives(rt.alloc(), &three, Err(Fault::Stream(1, error)), &due),
-            "byte {at}"
-        );
+        let is_told = gives_changed(rt.alloc(), at, byte, error, &text[..told]);
+        assert!(rt; is_told == Ok(true), "byte {at}");
     }
-    Ok(())
 }
 
 #[test]

@@ -77,26 +77,31 @@ static STREAM: [u8; 53] = [
     0,
 ];
 
+/// Whether dumping answers so, and writes something only where the bytes are taken.
+fn is_answered(alloc: Global, bytes: &[u8], due: Result<(), Fault>) -> bool {
+    let mut dumped = Vec::new(alloc);
+    let mut reader = bytes;
+    dump(alloc, &mut reader, &mut dumped) == due && dumped.is_empty() == due.is_err()
+}
+
+/// The answer to so many bytes of the stream.
+fn due(length: usize) -> Result<(), Fault> {
+    match length {
+        52 => Ok(()),
+        53 => Err(Fault::Stream(1, RecordError::Truncated)),
+        _ => Err(Fault::Stream(0, RecordError::Truncated)),
+    }
+}
+
 #[test]
-fn streams_that_break_off_are_truncated(rt: HostRuntime) -> Result<(), Fail> {
+fn streams_that_break_off_are_truncated(rt: HostRuntime) {
     for length in 1..54 {
-        let mut dumped = Vec::new(rt.alloc());
-        let mut bytes = &STREAM[..length];
-        let due = match length {
-            52 => Ok(()),
-            53 => Err(Fault::Stream(1, RecordError::Truncated)),
-            _ => Err(Fault::Stream(0, RecordError::Truncated)),
-        };
+        let bytes = &STREAM[..length];
         assert!(rt;
-            dump(rt.alloc(), &mut bytes, &mut dumped) == due,
-            "the first {length} bytes"
-        );
-        assert!(rt;
-            dumped.is_empty() == due.is_err(),
+            is_answered(rt.alloc(), bytes, due(length)),
             "the first {length} bytes"
         );
     }
-    Ok(())
 }
 
 /// A place in the stream, the byte that stands there instead, and the fault of the stream.
@@ -120,19 +125,12 @@ fn stream_and_changed(alloc: Global, at: usize, byte: u8) -> Result<Vec<u8>, All
     Ok(two)
 }
 
-/// Whether bytes are refused with this fault, and nothing is written.
-fn are_no_streams(alloc: Global, bytes: &[u8], fault: Fault) -> bool {
-    let mut dumped = Vec::new(alloc);
-    let mut reader = bytes;
-    dump(alloc, &mut reader, &mut dumped) == Err(fault) && dumped.is_empty()
-}
-
 #[test]
 fn each_bad_stream_is_refused_at_its_place(rt: HostRuntime) -> Result<(), Fail> {
     for &(at, byte, fault) in &CHANGES {
         let two = stream_and_changed(rt.alloc(), at, byte)?;
-        let fault = Fault::Stream(1, fault);
-        assert!(rt; are_no_streams(rt.alloc(), &two, fault), "byte {at}");
+        let due = Err(Fault::Stream(1, fault));
+        assert!(rt; is_answered(rt.alloc(), &two, due), "byte {at}");
     }
     Ok(())
 }

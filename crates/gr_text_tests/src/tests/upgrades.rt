@@ -1,8 +1,9 @@
 //! Streams that are upgraded, and texts of version 2.
 
+use super::pairs::is_dumped;
 use gr_record::error::RecordError;
 use gr_record::fault::Fault;
-use gr_text::{dump, pack, upgrade};
+use gr_text::{pack, upgrade};
 use std::alloc::Global;
 use std::test::Fail;
 
@@ -31,40 +32,47 @@ fn upgraded(alloc: Global, bytes: &[u8]) -> Result<Vec<u8>, Fault> {
     Ok(long)
 }
 
+/// Whether bytes of version 2 stay as they are when they are upgraded, and are dumped as this text.
+fn stays(alloc: Global, bytes: &[u8], long: &str) -> Result<bool, Fault> {
+    let upgraded = upgraded(alloc, bytes)?;
+    Ok(upgraded.as_slice() == bytes && is_dumped(alloc, bytes, long))
+}
+
 /// Whether a text, upgraded once or twice, is this text.
 fn becomes(alloc: Global, text: &str, long: &str) -> Result<bool, Fault> {
-    let once = upgraded(alloc, packed(alloc, text)?.as_slice())?;
-    let twice = upgraded(alloc, once.as_slice())?;
-    let mut lines = Vec::new(alloc);
-    let mut reader = twice.as_slice();
-    dump(alloc, &mut reader, &mut lines)?;
-    Ok(once.as_slice() == twice.as_slice() && lines.as_slice() == long.as_bytes())
+    let bytes = packed(alloc, text)?;
+    let once = upgraded(alloc, &bytes)?;
+    stays(alloc, &once, long)
 }
 
 #[test]
-fn streams_become_those_of_version_2(rt: HostRuntime) -> Result<(), Fail> {
-    for (text, long) in [(FIRST, FIRST_LONG), (NAMED, NAMED_LONG), (FOUR, FOUR)] {
-        assert!(rt; becomes(rt.alloc(), text, long) == Ok(true), "{text}");
-    }
-    Ok(())
+fn streams_become_those_of_version_2(rt: HostRuntime) {
+    assert!(rt;
+        becomes(rt.alloc(), FIRST, FIRST_LONG) == Ok(true),
+        "{FIRST}"
+    );
+    assert!(rt;
+        becomes(rt.alloc(), NAMED, NAMED_LONG) == Ok(true),
+        "{NAMED}"
+    );
+    assert!(rt; becomes(rt.alloc(), FOUR, FOUR) == Ok(true), "{FOUR}");
+}
+
+/// How many bytes the first race has, in version 2 too, and whether the latter begin with that version's magic.
+fn lengths(alloc: Global) -> Result<(usize, usize, bool), Fault> {
+    let bytes = packed(alloc, FIRST)?;
+    let long = upgraded(alloc, bytes.as_slice())?;
+    let has_magic = long.as_slice().starts_with(b"GRT2");
+    Ok((bytes.len(), long.len(), has_magic))
 }
 
 #[test]
 fn the_first_race_has_144_bytes(rt: HostRuntime) -> Result<(), Fail> {
-    let Ok(mut bytes) = packed(rt.alloc(), FIRST) else {
-        panic!(rt; "packed");
-    };
-    assert_eq!(rt; bytes.len(), 72);
-    let Ok(long) = upgraded(rt.alloc(), bytes.as_slice()) else {
-        panic!(rt; "upgraded");
-    };
-    assert_eq!(rt; long.len(), 144);
-    assert!(rt; long.as_slice().starts_with(b"GRT2"));
+    assert_eq!(rt; lengths(rt.alloc()), Ok((72, 144, true)));
+    let mut bytes = packed(rt.alloc(), FIRST)?;
     bytes.truncate(31);
-    assert!(rt;
-        upgraded(rt.alloc(), bytes.as_slice()).err()
-            == Some(Fault::Stream(0, RecordError::Truncated))
-    );
+    let answer = upgraded(rt.alloc(), bytes.as_slice()).err();
+    assert_eq!(rt; answer, Some(Fault::Stream(0, RecordError::Truncated)));
     Ok(())
 }
 
