@@ -1,6 +1,7 @@
-//! Tests of queues and senders, and a run of three senders whose contract says that all that was sent arrives in order.
+//! Tests alone: of queues and senders, and a run of three senders whose contract says that all that was sent arrives in order.
 #![tactic(auto)]
 
 #[cfg(test)]
 mod tests;
-pub mod three_senders;
+#[cfg(test)]
+mod three_senders;
