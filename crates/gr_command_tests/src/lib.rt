@@ -2,6 +2,14 @@
 #![tactic(auto)]
 
 #[cfg(test)]
-mod tests;
+mod broken;
+#[cfg(test)]
+mod runs;
+#[cfg(test)]
+mod statuses;
+#[cfg(test)]
+mod stored;
+#[cfg(test)]
+mod transcript;
 #[cfg(test)]
 mod words;
