@@ -6,6 +6,7 @@ use gr_model::event::{EventId, ItemId, Word};
 use gr_model::report::{AcquireCause, Divergence, DivergenceCause, Unmatched};
 
 /// A launch, and its report.
+#[derive(Clone, Copy)]
 pub(crate) struct Row {
     pub(crate) name: &'static str,
     /// The sizes of the groups.
@@ -233,8 +234,7 @@ const TWO_WORDS: Row = Row {
     },
 };
 
-/// All rows.
-pub(crate) const ROWS: [Row; 11] = [
+const ROWS: [Row; 11] = [
     HANDED_OVER,
     SCOPES_OF_A_GROUP,
     TWO_MEMORIES,
@@ -247,3 +247,8 @@ pub(crate) const ROWS: [Row; 11] = [
     TWO_NAMES,
     TWO_WORDS,
 ];
+
+/// All rows.
+pub(crate) fn rows() -> [Row; 11] {
+    ROWS
+}

@@ -3,7 +3,7 @@
 
 use crate::calls::{Numbers, new, shape_of, step};
 use crate::records::Record;
-use crate::rows::{ROWS, Row};
+use crate::rows::{Row, rows};
 use crate::steps::{Way, of_sequencer, of_workers, sends_of};
 use crate::told::reported;
 use gr_model::event::Event;
@@ -190,6 +190,6 @@ fn first_wrong_schedule(alloc: Global, rows: &[Row]) -> Result<Option<Scheduled>
 
 #[test]
 fn schedules_change_no_report(rt: HostRuntime) -> Result<(), Fail> {
-    assert_eq!(rt; first_wrong_schedule(rt.alloc(), &ROWS)?, None);
+    assert_eq!(rt; first_wrong_schedule(rt.alloc(), &rows())?, None);
     Ok(())
 }
