@@ -10,6 +10,8 @@ mod growths;
 #[cfg(test)]
 mod notes;
 #[cfg(test)]
+mod ones;
+#[cfg(test)]
 mod runs;
 #[cfg(test)]
 mod senders;

@@ -2,9 +2,10 @@
 
 ghost use Rattle.std.specs.Prelude.{All, IfSome};
 ghost use Rattle.gr_detector.specs.Runs.{AreReceiptsOf};
-ghost use Rattle.gr_detector_tests.specs.Senders.{IsReceipt, IsSender};
+ghost use Rattle.gr_detector_tests.specs.Senders.{IsReceipt, IsSameSender, IsSender};
 
-use crate::runs::{NotKept, add, begin, begin_one, hand_in, report_of, told_of_one, two_of};
+use crate::ones::{Sends, run_one};
+use crate::runs::{NotKept, add, begin, hand_in, report_of, two_of};
 use crate::senders::{close, plain, sends};
 use gr_detector::NoWatch;
 use gr_detector::running::Running;
@@ -103,23 +104,33 @@ fn close_two<R: Threads + Wait + Clock>(
     }
 }
 
+/// Starts a run of two senders, closes them, and hands in their receipts, one alone first.
+fn run_two<R: Threads + Wait + Clock + Copy + Send + 'static>(
+    rt: R,
+    alloc: Global,
+) -> Result<Option<(usize, u64)>, Fail> {
+    let watch = Arc::new(alloc, NoWatch)?;
+    let (senders, running) = begin(rt, alloc, (&[1, 1], 8, 4, 1024), watch)?;
+    Ok(close_two(&rt, alloc, running, senders))
+}
+
 #[test]
 fn receipts_are_handed_back_until_all_are_there(rt: HostRuntime) -> Result<(), Fail> {
-    let watch = Arc::new(rt.alloc(), NoWatch)?;
-    let (senders, running) = begin(rt, rt.alloc(), (&[1, 1], 8, 4, 1024), watch)?;
-    let told = close_two(&rt, rt.alloc(), running, senders);
-    assert_eq!(rt; told, Some((1, 2)));
+    assert_eq!(rt; run_two(rt, rt.alloc())?, Some((1, 2)));
     Ok(())
+}
+
+impl Sends for NoWatch {
+    /// Sends a write.
+    fn send_under<R: Wait + Clock>(&self, rt: &R, sender: &mut Sender) -> bool {
+        sends(rt, sender, plain(0, Kind::Write, 16))
+    }
 }
 
 #[test]
 fn a_cut_stream_is_told(rt: HostRuntime) -> Result<(), Fail> {
     let watch = Arc::new(rt.alloc(), NoWatch)?;
-    let (mut sender, running) = begin_one(rt, rt.alloc(), (&[2], 1, 1, 1), watch)?;
-    let is_sent = sends(&rt, &mut sender, plain(0, Kind::Write, 16));
-    let receipt = close(&rt, sender, true);
-    let told = told_of_one(&rt, rt.alloc(), running, receipt);
-    assert!(rt; is_sent, "sent");
-    assert_eq!(rt; told, Some((2, 0, true)));
+    let went = run_one(rt, rt.alloc(), (&[2], 1, 1, 1), &watch, true)?;
+    assert_eq!(rt; went, (true, Some((2, 0, true))));
     Ok(())
 }

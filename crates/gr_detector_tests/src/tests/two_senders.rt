@@ -29,14 +29,28 @@ fn list_of(alloc: Global, kind: Kind, first: u32, count: u32) -> Result<Vec<Even
     Ok(list)
 }
 
-/// The report of `detect` on the same streams.
-fn detected(alloc: Global) -> Result<Report, Fail> {
-    let shape = Shape::new(vec![in alloc; 1_u16, 1]?).map_err(|_| "no shape")?;
+/// The lists of the two senders.
+fn lists_of_two(alloc: Global) -> Result<Vec<Vec<Event>>, Fail> {
     let mut lists = Vec::new(alloc);
     lists.push(list_of(alloc, Kind::Write, 0, 100)?)?;
     lists.push(list_of(alloc, Kind::Read, 50, 99)?)?;
-    let traces = Traces::new(shape, lists).map_err(|_| "no traces")?;
-    Ok(detect(alloc, &traces)?)
+    Ok(lists)
+}
+
+/// The same streams for `detect`.
+fn traces_of_two(alloc: Global) -> Result<Traces, Fail> {
+    let shape = Shape::new(vec![in alloc; 1_u16, 1]?).map_err(|_| "no shape")?;
+    let lists = lists_of_two(alloc)?;
+    Ok(Traces::new(shape, lists).map_err(|_| "no traces")?)
+}
+
+/// Whether this is the report of `detect` on the same streams.
+fn is_detected(alloc: Global, report: &Report) -> Result<bool, Fail> {
+    let traces = traces_of_two(alloc)?;
+    match detect(alloc, &traces) {
+        Ok(detected) => Ok(*report == detected),
+        Err(_) => Err("out of memory")?,
+    }
 }
 
 /// The words of the races of a report are the global words 50 to 99.
@@ -54,7 +68,7 @@ type Told = (u16, u16, u64, bool, bool);
 
 /// What a report of the two senders tells.
 fn told(alloc: Global, report: &Report) -> Result<Told, Fail> {
-    let is_detected = *report == detected(alloc)?;
+    let is_detected = is_detected(alloc, report)?;
     Ok((
         report.groups,
         report.items,
@@ -97,13 +111,22 @@ fn told_of_both<R: Threads + Wait + Clock + Sync>(
     }
 }
 
+/// Starts a run of the two senders under a watch, and runs them. What its report tells.
+fn told_under<R: Threads + Wait + Clock + Copy + Send + Sync + 'static>(
+    rt: R,
+    alloc: Global,
+    watch: &Arc<Counts>,
+) -> Result<Told, Fail> {
+    let theirs = Arc::try_clone(watch)?;
+    let (senders, running) = begin(rt, alloc, (&[1, 1], 2, 1, 1), theirs)?;
+    told_of_both(&rt, alloc, running, senders)
+}
+
 #[test]
 fn two_senders_race_on_fifty_words(rt: HostRuntime) -> Result<(), Fail> {
     let watch = Arc::new(rt.alloc(), Counts::new())?;
-    let theirs = Arc::try_clone(&watch)?;
-    let (senders, running) = begin(rt, rt.alloc(), (&[1, 1], 2, 1, 1), theirs)?;
-    let told = told_of_both(&rt, rt.alloc(), running, senders)?;
-    assert_eq!(rt; told, (2, 2, 201, true, true));
-    assert_eq!(rt; watch.all(), [101, 100, 100, 99, 50, (1 << 50) - 1, 0]);
+    let told = told_under(rt, rt.alloc(), &watch)?;
+    let counts = [101, 100, 100, 99, 50, (1 << 50) - 1, 0];
+    assert_eq!(rt; (told, watch.all()), ((2, 2, 201, true, true), counts));
     Ok(())
 }

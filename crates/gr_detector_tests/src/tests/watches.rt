@@ -3,8 +3,8 @@
 ghost use Rattle.gr_detector_tests.specs.Senders.{IsSameSender};
 
 use crate::gates::{Apart, Races, Turns, came};
-use crate::runs::{begin_one, told_of_one};
-use crate::senders::{close, plain, sends};
+use crate::ones::{Sends, run_one};
+use crate::senders::{plain, sends};
 use gr_model::event::Kind;
 use gr_sender::sender::Sender;
 use std::sync::atomic::{AtomicU64, Ordering};
@@ -12,13 +12,13 @@ use std::sync::{Arc, Wait};
 use std::test::*;
 use std::time::Clock;
 
-/// Sends a write and a read of a word by two items. Tells whether both were sent, and their race was seen.
-fn sends_a_race<R: Wait + Clock>(rt: &R, sender: &mut Sender, races: &Races) -> bool
-    ensures { IsSameSender sender.old sender.new }
-{
-    sends(rt, sender, plain(0, Kind::Write, 16))
-        && sends(rt, sender, plain(1, Kind::Read, 16))
-        && came(&races.seen, 1)
+impl Sends for Races {
+    /// Sends a write and a read of a word by two items. Tells whether both were sent, and their race was seen.
+    fn send_under<R: Wait + Clock>(&self, rt: &R, sender: &mut Sender) -> bool {
+        sends(rt, sender, plain(0, Kind::Write, 16))
+            && sends(rt, sender, plain(1, Kind::Read, 16))
+            && came(&self.seen, 1)
+    }
 }
 
 #[test]
@@ -27,21 +27,16 @@ fn a_race_is_seen_before_any_stream_ends(rt: HostRuntime) -> Result<(), Fail> {
         seen: AtomicU64::new(0),
     };
     let watch = Arc::new(rt.alloc(), races)?;
-    let theirs = Arc::try_clone(&watch)?;
-    let (mut sender, running) = begin_one(rt, rt.alloc(), (&[2], 1, 1, 4), theirs)?;
-    let is_seen = sends_a_race(&rt, &mut sender, &watch);
-    let receipt = close(&rt, sender, false);
-    let told = told_of_one(&rt, rt.alloc(), running, receipt);
-    assert!(rt; is_seen, "both are sent, and their race is seen");
-    assert_eq!(rt; told, Some((3, 1, false)));
+    let went = run_one(rt, rt.alloc(), (&[2], 1, 1, 4), &watch, false)?;
+    assert_eq!(rt; went, (true, Some((3, 1, false))));
     Ok(())
 }
 
-/// Sends writes of two words. Tells whether both were sent.
-fn sends_two<R: Wait + Clock>(rt: &R, sender: &mut Sender) -> bool
-    ensures { IsSameSender sender.old sender.new }
-{
-    sends(rt, sender, plain(0, Kind::Write, 16)) && sends(rt, sender, plain(0, Kind::Write, 17))
+impl Sends for Apart {
+    /// Sends writes of two words. Tells whether both were sent.
+    fn send_under<R: Wait + Clock>(&self, rt: &R, sender: &mut Sender) -> bool {
+        sends(rt, sender, plain(0, Kind::Write, 16)) && sends(rt, sender, plain(0, Kind::Write, 17))
+    }
 }
 
 #[test]
@@ -51,28 +46,26 @@ fn two_workers_are_at_work_at_once(rt: HostRuntime) -> Result<(), Fail> {
         missed: AtomicU64::new(0),
     };
     let watch = Arc::new(rt.alloc(), apart)?;
-    let theirs = Arc::try_clone(&watch)?;
-    let (mut sender, running) = begin_one(rt, rt.alloc(), (&[1], 2, 1, 4), theirs)?;
-    let are_sent = sends_two(&rt, &mut sender);
-    let receipt = close(&rt, sender, false);
-    let told = told_of_one(&rt, rt.alloc(), running, receipt);
-    assert!(rt; are_sent, "both are sent");
-    assert_eq!(rt; told, Some((3, 0, false)));
-    assert_eq!(rt; watch.seconds.load(Ordering::SeqCst), 1);
-    assert_eq!(rt; watch.missed.load(Ordering::SeqCst), 0);
+    let went = run_one(rt, rt.alloc(), (&[1], 2, 1, 4), &watch, false)?;
+    let seconds = watch.seconds.load(Ordering::SeqCst);
+    let missed = watch.missed.load(Ordering::SeqCst);
+    assert_eq!(rt;
+        (went, seconds, missed),
+        ((true, Some((3, 0, false))), 1, 0)
+    );
     Ok(())
 }
 
-/// Sends writes of two words, the second one only after the first was accessed. Tells whether it came to that, and both
-/// were sent.
-fn sends_in_turn<R: Wait + Clock>(rt: &R, sender: &mut Sender, turns: &Turns) -> bool
-    ensures { IsSameSender sender.old sender.new }
-{
-    if !sends(rt, sender, plain(0, Kind::Write, 16)) {
-        return false;
+impl Sends for Turns {
+    /// Sends writes of two words, the second one only after the first was accessed. Tells whether it came to that, and
+    /// both were sent.
+    fn send_under<R: Wait + Clock>(&self, rt: &R, sender: &mut Sender) -> bool {
+        if !sends(rt, sender, plain(0, Kind::Write, 16)) {
+            return false;
+        }
+        self.sent.fetch_add(1, Ordering::SeqCst);
+        came(&self.accesses, 1) && sends(rt, sender, plain(0, Kind::Write, 17))
     }
-    turns.sent.fetch_add(1, Ordering::SeqCst);
-    came(&turns.accesses, 1) && sends(rt, sender, plain(0, Kind::Write, 17))
 }
 
 #[test]
@@ -84,13 +77,8 @@ fn the_sequencer_and_a_worker_wait_for_what_comes_later(rt: HostRuntime) -> Resu
         missed: AtomicU64::new(0),
     };
     let watch = Arc::new(rt.alloc(), turns)?;
-    let theirs = Arc::try_clone(&watch)?;
-    let (mut sender, running) = begin_one(rt, rt.alloc(), (&[1], 1, 1, 4), theirs)?;
-    let are_sent = sends_in_turn(&rt, &mut sender, &watch);
-    let receipt = close(&rt, sender, false);
-    let told = told_of_one(&rt, rt.alloc(), running, receipt);
-    assert!(rt; are_sent, "both are sent, the second one after an access");
-    assert_eq!(rt; told, Some((3, 0, false)));
-    assert_eq!(rt; watch.missed.load(Ordering::SeqCst), 0);
+    let went = run_one(rt, rt.alloc(), (&[1], 1, 1, 4), &watch, false)?;
+    let missed = watch.missed.load(Ordering::SeqCst);
+    assert_eq!(rt; (went, missed), ((true, Some((3, 0, false))), 0));
     Ok(())
 }
