@@ -2,8 +2,9 @@
 -- Source: docs/FORMATS.md, "JSON".
 use Rattle.std.specs.Prelude.{ℕ, List, [], ◌∷◌, ◌++◌, length, Option, None, Some, codes}
 use Rattle.std.specs.List.{flat_map}
-use Rattle.serde_json.specs.Data.{Data, member, no_members, null, number, object, string, unsigned}
+use Rattle.serde_json.specs.Data.{Data, Members, member, no_members, null, number, object, put, string, unsigned}
 use Rattle.gr_model.specs.declared.event.EventId.{EventId}
+use Rattle.gr_model.specs.declared.event.Word.{Word}
 use Rattle.gr_model.specs.declared.race.Race.{Race}
 use Rattle.gr_causes.specs.declared.cause.Cause.{Cause}
 use Rattle.gr_json.specs.Lines.{json_line}
@@ -32,6 +33,14 @@ race_data s cause r =
     (member (codes "cause") (cause_data r.word cause)
     (member (codes "first") (access_data s r.first) (member (codes "second") (access_data s r.second) (member (codes "word") (word_data r.word) no_members)))))
 
+-- members, with the buffer of a word and the cause that is told
+abbrev pub with_told : SidesSaid → Option Cause → Word → Members → Members
+with_told s cause w ms = put (codes "cause") (cause_data w cause) (put (codes "buffer") (buffer_data (lines.element_of s.buffers w)) ms)
+
+-- members, with two events that race, and where they stand
+abbrev pub with_accesses : SidesSaid → EventId → EventId → Members → Members
+with_accesses s e f ms = put (codes "second") (access_data s f) (put (codes "first") (access_data s e) ms)
+
 -- the first of races
 abbrev pub first_data : SidesSaid → Option Cause → List Race → Data
 first_data s cause [] = null
@@ -44,6 +53,14 @@ entry_data s e =
     (member (codes "kind") (kind_data e.kind)
     (member (codes "race") (first_data s e.kind.cause e.races)
     (member (codes "runs") (runs_data e.runs) (member (codes "type") (string (codes "kind")) (member (codes "words") (number (unsigned (length e.races))) no_members)))))
+
+-- members, with a kind and the first of its races
+abbrev pub with_kind : SidesSaid → Entry → Members → Members
+with_kind s e ms = put (codes "race") (first_data s e.kind.cause e.races) (put (codes "kind") (kind_data e.kind) ms)
+
+-- members, with the runs of a kind's words, and how many words there are
+abbrev pub with_words : Entry → Members → Members
+with_words e ms = put (codes "words") (number (unsigned (length e.races))) (put (codes "type") (string (codes "kind")) (put (codes "runs") (runs_data e.runs) ms))
 
 -- how many kinds and races there are
 abbrev pub end_data : ℕ → ℕ → Data

@@ -2,7 +2,7 @@
 
 ghost use Rattle.std.specs.Prelude.{◌≡◌, ◌++◌, IfOk, OnOk, map};
 ghost use Rattle.std.specs.List.{flat_map};
-ghost use Rattle.serde_json.specs.View.{view};
+ghost use Rattle.serde_json.specs.View.{members_view, view};
 ghost use Rattle.gr_json.specs.Lines.{json_line};
 ghost use Rattle.gr_races.specs.Listing.{entry_of};
 ghost use Rattle.gr_sides.specs.Sides.{sides_said};
@@ -15,8 +15,44 @@ use gr_model::memory::Memory;
 use gr_races::listing::KindEntry;
 use gr_races::text::at_most;
 use gr_sides::sides::Sides;
-use serde_json::{Value, json};
+use serde_json::{Map, Value, json, put};
 use std::alloc::{AllocError, Global};
+
+/// Adds a kind, and the first of its races.
+///
+/// # Errors
+/// `AllocError`: out of memory.
+fn put_kind(
+    alloc: Global,
+    members: &mut Map<String, Value>,
+    sides: &Sides<'_>,
+    entry: &KindEntry,
+) -> Result<(), AllocError>
+    ensures { OnOk result (members_view members.new.entries ≡ spec.with_kind (sides_said sides.now) (entry_of entry.now) (members_view members.old.entries)) }
+{
+    let kind = kind_value(alloc, entry.kind)?;
+    put(members, alloc, "kind", kind)?;
+    let race = first_value(alloc, sides, entry.kind.cause, &entry.races)?;
+    put(members, alloc, "race", race)
+}
+
+/// Adds the runs of a kind's words, and how many words there are.
+///
+/// # Errors
+/// `AllocError`: out of memory.
+fn put_words(
+    alloc: Global,
+    members: &mut Map<String, Value>,
+    entry: &KindEntry,
+) -> Result<(), AllocError>
+    ensures { OnOk result (members_view members.new.entries ≡ spec.with_words (entry_of entry.now) (members_view members.old.entries)) }
+{
+    let runs = runs_value(alloc, &entry.runs)?;
+    put(members, alloc, "runs", runs)?;
+    let kind = Value::try_from_str(alloc, "kind")?;
+    put(members, alloc, "type", kind)?;
+    put(members, alloc, "words", Value::from(entry.races.len()))
+}
 
 /// A kind, the first of its races, and its words.
 ///
@@ -25,17 +61,10 @@ use std::alloc::{AllocError, Global};
 fn entry_value(alloc: Global, sides: &Sides<'_>, entry: &KindEntry) -> Result<Value, AllocError>
     ensures { IfOk result (λ v. view v ≡ spec.entry_data (sides_said sides.now) (entry_of entry.now)) }
 {
-    let kind = kind_value(alloc, entry.kind)?;
-    let words = entry.races.len();
-    let race = first_value(alloc, sides, entry.kind.cause, &entry.races)?;
-    let runs = runs_value(alloc, &entry.runs)?;
-    json!(in alloc; {
-        "kind": kind,
-        "race": race,
-        "runs": runs,
-        "type": "kind",
-        "words": words
-    })
+    let mut members = Map::new(alloc);
+    put_kind(alloc, &mut members, sides, entry)?;
+    put_words(alloc, &mut members, entry)?;
+    Ok(Value::Object(members))
 }
 
 /// How many kinds and races there are.
