@@ -1,7 +1,7 @@
 -- The first fault of files that are refused, where it is, what is wrong and what would be right, as JSON.
 -- Source: docs/FORMATS.md, "JSON".
 use Rattle.std.specs.Prelude.{ℕ, false, List, Option, None, Some, codes, option_map, slice_get}
-use Rattle.serde_json.specs.Data.{Data, boolean, member, no_members, null, object, string}
+use Rattle.serde_json.specs.Data.{Data, Members, boolean, member, no_members, null, object, put, string}
 use Rattle.gr_record.specs.declared.fault.Fault.{Fault}
 use Rattle.gr_record.specs.declared.fault.Fault.TheVariants.{MissingGroup, OtherLaunch, SameGroup, Stream}
 use Rattle.gr_check.specs.declared.spot.Spot.{Spot}
@@ -32,10 +32,18 @@ abbrev pub stream_data : ℕ → Option (List ℕ) → Option Spot → Data
 stream_data place file at =
     object (member (codes "byte") (byte_data at) (member (codes "file") (text_data file) (member (codes "record") (record_data at) (member (codes "stream") (count place) no_members))))
 
+-- members, with the same
+abbrev pub with_stream : ℕ → Option (List ℕ) → Option Spot → Members → Members
+with_stream place file at ms = put (codes "stream") (count place) (put (codes "record") (record_data at) (put (codes "file") (text_data file) (put (codes "byte") (byte_data at) ms)))
+
 -- a stream at fault, its file, and the one beside which it does not fit
 abbrev pub beside_data : ℕ → Option (List ℕ) → Option (List ℕ) → Data
 beside_data place file beside =
     object (member (codes "beside") (text_data beside) (member (codes "file") (text_data file) (member (codes "stream") (count place) no_members)))
+
+-- members, with the same
+abbrev pub with_beside : ℕ → Option (List ℕ) → Option (List ℕ) → Members → Members
+with_beside place file beside ms = put (codes "stream") (count place) (put (codes "file") (text_data file) (put (codes "beside") (text_data beside) ms))
 
 -- a group that is missing, and the first file of a greater one
 abbrev pub missing_data : ℕ → Option (List ℕ) → Data
@@ -56,6 +64,12 @@ refusal_data names inputs f =
     (member (codes "accepted") (boolean false)
     (member (codes "place") (place_data names inputs f)
     (member (codes "right") (string (right f)) (member (codes "type") (string (codes "check")) (member (codes "wrong") (string (wrong f)) no_members)))))
+
+-- members, with the same, where this is said of the place
+abbrev pub with_refusal : Data → Fault → Members → Members
+with_refusal place f ms =
+    put (codes "wrong") (string (wrong f))
+    (put (codes "type") (string (codes "check")) (put (codes "right") (string (right f)) (put (codes "place") place (put (codes "accepted") (boolean false) ms))))
 
 -- the same as a line
 abbrev pub refusal_json : List (List ℕ) → List (List ℕ) → Fault → List ℕ

@@ -1,7 +1,7 @@
 //! The first fault of files that are refused, where it is, what is wrong and what would be right, as JSON.
 
-ghost use Rattle.std.specs.Prelude.{◌≡◌, IfOk, map, option_map};
-ghost use Rattle.serde_json.specs.View.{view};
+ghost use Rattle.std.specs.Prelude.{◌≡◌, IfOk, OnOk, map, option_map};
+ghost use Rattle.serde_json.specs.View.{members_view, view};
 ghost use Rattle.gr_check.specs.Spots.{spot};
 ghost use Rattle.gr_replay.specs.Each.{inputs_of};
 ghost use Rattle.gr_check_json.specs.Refusals as spec;
@@ -15,7 +15,7 @@ use gr_json::words::text_value;
 use gr_model::memory::Memory;
 use gr_record::error::RecordError;
 use gr_record::fault::Fault;
-use serde_json::{Value, json};
+use serde_json::{Map, Value, json, put};
 use std::alloc::{AllocError, Global};
 
 /// The byte of a place in a stream.
@@ -50,6 +50,26 @@ fn spot_in(error: RecordError, bytes: Option<&[u8]>) -> Option<Spot>
     }
 }
 
+/// Adds a stream at fault, its file, and where in it the fault is.
+///
+/// # Errors
+/// `AllocError`: out of memory.
+fn put_stream(
+    alloc: Global,
+    members: &mut Map<String, Value>,
+    place: u64,
+    file: Option<&str>,
+    spot: Option<Spot>,
+) -> Result<(), AllocError>
+    ensures { OnOk result (members_view members.new.entries ≡ spec.with_stream place (option_map (λ s. s.now) file.entry) spot (members_view members.old.entries)) }
+{
+    put(members, alloc, "byte", byte_value(spot))?;
+    let file = text_value(alloc, file)?;
+    put(members, alloc, "file", file)?;
+    put(members, alloc, "record", record_value(spot))?;
+    put(members, alloc, "stream", Value::from(place))
+}
+
 /// A stream at fault, its file, and where in it the fault is.
 ///
 /// # Errors
@@ -62,10 +82,29 @@ fn stream_value(
 ) -> Result<Value, AllocError>
     ensures { IfOk result (λ v. view v ≡ spec.stream_data place (option_map (λ s. s.now) file.entry) spot) }
 {
-    let byte = byte_value(spot);
-    let record = record_value(spot);
+    let mut members = Map::new(alloc);
+    put_stream(alloc, &mut members, place, file, spot)?;
+    Ok(Value::Object(members))
+}
+
+/// Adds a stream at fault, its file, and the one beside which it does not fit.
+///
+/// # Errors
+/// `AllocError`: out of memory.
+fn put_beside(
+    alloc: Global,
+    members: &mut Map<String, Value>,
+    place: u64,
+    file: Option<&str>,
+    beside: Option<&str>,
+) -> Result<(), AllocError>
+    ensures { OnOk result (members_view members.new.entries ≡ spec.with_beside place (option_map (λ s. s.now) file.entry) (option_map (λ s. s.now) beside.entry) (members_view members.old.entries)) }
+{
+    let beside = text_value(alloc, beside)?;
+    put(members, alloc, "beside", beside)?;
     let file = text_value(alloc, file)?;
-    json!(in alloc; {"byte": byte, "file": file, "record": record, "stream": place})
+    put(members, alloc, "file", file)?;
+    put(members, alloc, "stream", Value::from(place))
 }
 
 /// A stream at fault, its file, and the one beside which it does not fit.
@@ -80,9 +119,9 @@ fn beside_value(
 ) -> Result<Value, AllocError>
     ensures { IfOk result (λ v. view v ≡ spec.beside_data place (option_map (λ s. s.now) file.entry) (option_map (λ s. s.now) beside.entry)) }
 {
-    let file = text_value(alloc, file)?;
-    let beside = text_value(alloc, beside)?;
-    json!(in alloc; {"beside": beside, "file": file, "stream": place})
+    let mut members = Map::new(alloc);
+    put_beside(alloc, &mut members, place, file, beside)?;
+    Ok(Value::Object(members))
 }
 
 /// A group that is missing, and the first file of a greater one.
@@ -134,6 +173,28 @@ fn place_value(
     }
 }
 
+/// Adds what is said of a fault: its place, what is wrong and what would be right.
+///
+/// # Errors
+/// `AllocError`: out of memory.
+fn put_refusal(
+    alloc: Global,
+    members: &mut Map<String, Value>,
+    place: Value,
+    fault: Fault,
+) -> Result<(), AllocError>
+    ensures { OnOk result (members_view members.new.entries ≡ spec.with_refusal (view place) fault (members_view members.old.entries)) }
+{
+    put(members, alloc, "accepted", Value::Bool(false))?;
+    put(members, alloc, "place", place)?;
+    let right = Value::try_from_str(alloc, right(fault))?;
+    put(members, alloc, "right", right)?;
+    let check = Value::try_from_str(alloc, "check")?;
+    put(members, alloc, "type", check)?;
+    let wrong = Value::try_from_str(alloc, wrong(fault))?;
+    put(members, alloc, "wrong", wrong)
+}
+
 /// A refusal: where it is, what is wrong and what would be right.
 ///
 /// # Errors
@@ -146,16 +207,10 @@ fn refusal_value(
 ) -> Result<Value, AllocError>
     ensures { IfOk result (λ v. view v ≡ spec.refusal_data (map (λ s. s.now) names.now) (inputs_of inputs.now) fault) }
 {
-    let right = right(fault);
-    let wrong = wrong(fault);
     let place = place_value(alloc, names, inputs, fault)?;
-    json!(in alloc; {
-        "accepted": false,
-        "place": place,
-        "right": right,
-        "type": "check",
-        "wrong": wrong
-    })
+    let mut members = Map::new(alloc);
+    put_refusal(alloc, &mut members, place, fault)?;
+    Ok(Value::Object(members))
 }
 
 /// The line of a fault of inputs that come from files of these names: where it is, what is wrong and what would be right.
