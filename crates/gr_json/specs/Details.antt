@@ -30,6 +30,10 @@ abbrev pub atomic_data : List ℕ → Scope → Order → Data
 atomic_data name scope order =
     object (member (codes "kind") (string name) (member (codes "order") (string (order_name order)) (member (codes "scope") (string (scope_name scope)) no_members)))
 
+-- members, with the same
+abbrev pub with_atomic : List ℕ → Scope → Order → Members → Members
+with_atomic name scope order ms = put (codes "scope") (string (scope_name scope)) (put (codes "order") (string (order_name order)) (put (codes "kind") (string name) ms))
+
 abbrev pub kind_data : Kind → Data
 kind_data kinds.Read = plain_data (codes "read")
 kind_data kinds.Write = plain_data (codes "write")
@@ -49,10 +53,6 @@ details_data place e d =
     (member (codes "index") (number (unsigned e.index))
     (member (codes "item") (number (unsigned e.at.item))
     (member (codes "phase") (number (unsigned d.phase)) (member (codes "place") (text_data place) (member (codes "record") (number (unsigned d.number)) no_members)))))))
-
--- members, with an event
-abbrev pub with_event : EventId → Members → Members
-with_event e ms = put (codes "item") (number (unsigned e.at.item)) (put (codes "index") (number (unsigned e.index)) (put (codes "group") (number (unsigned e.at.group)) ms))
 
 -- members, with what is told of an access beside its event and its place
 abbrev pub with_told : Details → Members → Members

@@ -28,6 +28,10 @@ abbrev pub answer_data : Word → Option Pair → Data
 answer_data w (Some pair) = pair_data w pair.0 pair.1
 answer_data w None = object (member (codes "type") (string (codes "no race")) (member (codes "word") (word_data w) no_members))
 
+-- members, with a word that has no race
+abbrev pub with_no_race : Word → Members → Members
+with_no_race w ms = put (codes "word") (word_data w) (put (codes "type") (string (codes "no race")) ms)
+
 -- the same as a line
 abbrev pub explanation_json : Word → Option Pair → List ℕ
 explanation_json w pair = json_line (answer_data w pair)

@@ -65,6 +65,10 @@ unmatched_data u =
     (member (codes "cause") (string (acquire_cause u.cause))
     (member (codes "event") (event_data u.event) (member (codes "type") (string (codes "unmatched")) no_members)))
 
+-- members, with the same
+abbrev pub with_acquire : Unmatched → Members → Members
+with_acquire u ms = put (codes "type") (string (codes "unmatched")) (put (codes "event") (event_data u.event) (put (codes "cause") (string (acquire_cause u.cause)) ms))
+
 -- how many of each there are, and how many events are held
 abbrev pub end_data : WholeReport → Data
 end_data r =

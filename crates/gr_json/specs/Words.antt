@@ -13,10 +13,19 @@ word_data (Global n) = object (member (codes "number") (number (unsigned n)) (me
 word_data (Local group n) =
     object (member (codes "group") (number (unsigned group)) (member (codes "number") (number (unsigned n)) (member (codes "space") (string (codes "local")) no_members)))
 
+-- members, with the same
+abbrev pub with_word : Word → Members → Members
+with_word (Global n) ms = put (codes "space") (string (codes "global")) (put (codes "number") (number (unsigned n)) ms)
+with_word (Local group n) ms = put (codes "space") (string (codes "local")) (put (codes "number") (number (unsigned n)) (put (codes "group") (number (unsigned group)) ms))
+
 -- an event, by its group, item and index
 abbrev pub event_data : EventId → Data
 event_data e =
     object (member (codes "group") (number (unsigned e.at.group)) (member (codes "index") (number (unsigned e.index)) (member (codes "item") (number (unsigned e.at.item)) no_members)))
+
+-- members, with an event
+abbrev pub with_event : EventId → Members → Members
+with_event e ms = put (codes "item") (number (unsigned e.at.item)) (put (codes "index") (number (unsigned e.index)) (put (codes "group") (number (unsigned e.at.group)) ms))
 
 -- a text, where there is one
 abbrev pub text_data : Option (List ℕ) → Data

@@ -6,7 +6,7 @@ ghost use Rattle.gr_places.specs.PlaceIndexes.{place_at};
 ghost use Rattle.gr_places.specs.declared.places.Placed.TheVariants.{Event as AnEvent};
 ghost use Rattle.gr_json.specs.Details as spec;
 
-use crate::words::put_place;
+use crate::words::{put_event, put_place};
 use gr_long::details::Details;
 use gr_model::event::{EventId, Kind, Order, Scope};
 use gr_places::index::PlaceIndex;
@@ -44,6 +44,27 @@ fn plain_value(alloc: Global, name: &str) -> Result<Value, AllocError>
     json!(in alloc; {"kind": name})
 }
 
+/// Adds an atomic access.
+///
+/// # Errors
+/// `AllocError`: out of memory.
+fn put_atomic(
+    alloc: Global,
+    members: &mut Map<String, Value>,
+    name: &str,
+    scope: Scope,
+    order: Order,
+) -> Result<(), AllocError>
+    ensures { OnOk result (members_view members.new.entries ≡ spec.with_atomic name.now scope order (members_view members.old.entries)) }
+{
+    let kind = Value::try_from_str(alloc, name)?;
+    put(members, alloc, "kind", kind)?;
+    let order = Value::try_from_str(alloc, order_name(order))?;
+    put(members, alloc, "order", order)?;
+    let scope = Value::try_from_str(alloc, scope_name(scope))?;
+    put(members, alloc, "scope", scope)
+}
+
 /// An atomic access.
 ///
 /// # Errors
@@ -51,9 +72,9 @@ fn plain_value(alloc: Global, name: &str) -> Result<Value, AllocError>
 fn atomic_value(alloc: Global, name: &str, scope: Scope, order: Order) -> Result<Value, AllocError>
     ensures { IfOk result (λ v. view v ≡ spec.atomic_data name.now scope order) }
 {
-    let order = order_name(order);
-    let scope = scope_name(scope);
-    json!(in alloc; {"kind": name, "order": order, "scope": scope})
+    let mut members = Map::new(alloc);
+    put_atomic(alloc, &mut members, name, scope, order)?;
+    Ok(Value::Object(members))
 }
 
 /// What a record says.
@@ -75,22 +96,6 @@ fn kind_value(alloc: Global, kind: Kind) -> Result<Value, AllocError>
         } => plain_value(alloc, "barrier"),
         Kind::End { cut: _ } => plain_value(alloc, "end"),
     }
-}
-
-/// Adds an event: its group, its index in its item's trace, and the item.
-///
-/// # Errors
-/// `AllocError`: out of memory.
-fn put_event(
-    alloc: Global,
-    members: &mut Map<String, Value>,
-    event: EventId,
-) -> Result<(), AllocError>
-    ensures { OnOk result (members_view members.new.entries ≡ spec.with_event event (members_view members.old.entries)) }
-{
-    put(members, alloc, "group", Value::from(event.at.group))?;
-    put(members, alloc, "index", Value::from(event.index))?;
-    put(members, alloc, "item", Value::from(event.at.item))
 }
 
 /// Adds what the record of an access says, the record's number in its stream, and how many barriers of its item stand before

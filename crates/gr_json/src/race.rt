@@ -1,14 +1,14 @@
 //! The least racing pair of a word as JSON.
 
-ghost use Rattle.std.specs.Prelude.{◌≡◌, IfOk, OnOk};
+ghost use Rattle.std.specs.Prelude.{◌≡◌, IfOk, None, OnOk};
 ghost use Rattle.serde_json.specs.View.{members_view, view};
-ghost use Rattle.gr_json.specs.Races.{answer_data, explanation_json, pair_data, with_pair, with_race};
+ghost use Rattle.gr_json.specs.Races.{answer_data, explanation_json, pair_data, with_no_race, with_pair, with_race};
 
 use crate::lines::line_of;
 use crate::words::{event_value, word_value};
 use gr_model::event::{EventId, Word};
 use gr_model::memory::Memory;
-use serde_json::{Map, Value, json, put};
+use serde_json::{Map, Value, put};
 use std::alloc::{AllocError, Global};
 
 /// Adds a word that has a race.
@@ -64,6 +64,35 @@ fn pair_value(
     Ok(Value::Object(members))
 }
 
+/// Adds a word that has no race.
+///
+/// # Errors
+/// `AllocError`: out of memory.
+fn put_no_race(
+    alloc: Global,
+    members: &mut Map<String, Value>,
+    word: Word,
+) -> Result<(), AllocError>
+    ensures { OnOk result (members_view members.new.entries ≡ with_no_race word (members_view members.old.entries)) }
+{
+    let kind = Value::try_from_str(alloc, "no race")?;
+    put(members, alloc, "type", kind)?;
+    let word = word_value(alloc, word)?;
+    put(members, alloc, "word", word)
+}
+
+/// A word that has no race.
+///
+/// # Errors
+/// `AllocError`: out of memory.
+fn no_race_value(alloc: Global, word: Word) -> Result<Value, AllocError>
+    ensures { IfOk result (λ v. view v ≡ answer_data word None) }
+{
+    let mut members = Map::new(alloc);
+    put_no_race(alloc, &mut members, word)?;
+    Ok(Value::Object(members))
+}
+
 /// A word and its racing pair, or a word that has none.
 ///
 /// # Errors
@@ -77,10 +106,7 @@ pub(crate) fn answer_value(
 {
     match pair {
         Some((first, second)) => pair_value(alloc, word, first, second),
-        None => {
-            let word = word_value(alloc, word)?;
-            json!(in alloc; {"type": "no race", "word": word})
-        }
+        None => no_race_value(alloc, word),
     }
 }
 

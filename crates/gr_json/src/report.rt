@@ -8,7 +8,8 @@ ghost use Rattle.gr_json.specs.Lines.{json_line};
 ghost use Rattle.gr_json.specs.Reports as spec;
 
 use crate::lines::push_value;
-use crate::words::{event_value, word_value};
+use crate::race::put_race;
+use crate::words::event_value;
 use gr_model::event::Word;
 use gr_model::memory::Memory;
 use gr_model::report::{AcquireCause, Divergence, DivergenceCause, Unmatched};
@@ -63,8 +64,9 @@ fn cut_value(alloc: Global, group: u16) -> Result<Value, AllocError>
 fn race_value(alloc: Global, word: Word) -> Result<Value, AllocError>
     ensures { IfOk result (λ v. view v ≡ spec.race_data word) }
 {
-    let word = word_value(alloc, word)?;
-    json!(in alloc; {"type": "race", "word": word})
+    let mut members = Map::new(alloc);
+    put_race(alloc, &mut members, word)?;
+    Ok(Value::Object(members))
 }
 
 fn divergence_cause(cause: DivergenceCause) -> &'static str
@@ -118,6 +120,25 @@ fn acquire_cause(cause: AcquireCause) -> &'static str
     }
 }
 
+/// Adds an unmatched acquire.
+///
+/// # Errors
+/// `AllocError`: out of memory.
+fn put_acquire(
+    alloc: Global,
+    members: &mut Map<String, Value>,
+    acquire: Unmatched,
+) -> Result<(), AllocError>
+    ensures { OnOk result (members_view members.new.entries ≡ spec.with_acquire acquire (members_view members.old.entries)) }
+{
+    let cause = Value::try_from_str(alloc, acquire_cause(acquire.cause))?;
+    put(members, alloc, "cause", cause)?;
+    let event = event_value(alloc, acquire.event)?;
+    put(members, alloc, "event", event)?;
+    let kind = Value::try_from_str(alloc, "unmatched")?;
+    put(members, alloc, "type", kind)
+}
+
 /// An unmatched acquire.
 ///
 /// # Errors
@@ -125,9 +146,9 @@ fn acquire_cause(cause: AcquireCause) -> &'static str
 fn unmatched_value(alloc: Global, acquire: Unmatched) -> Result<Value, AllocError>
     ensures { IfOk result (λ v. view v ≡ spec.unmatched_data acquire) }
 {
-    let cause = acquire_cause(acquire.cause);
-    let event = event_value(alloc, acquire.event)?;
-    json!(in alloc; {"cause": cause, "event": event, "type": "unmatched"})
+    let mut members = Map::new(alloc);
+    put_acquire(alloc, &mut members, acquire)?;
+    Ok(Value::Object(members))
 }
 
 /// Adds how much of each was found, and how many events are held.

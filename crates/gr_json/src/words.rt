@@ -3,12 +3,34 @@
 ghost use Rattle.std.specs.Prelude.{◌≡◌, IfOk, OnOk, option_map};
 ghost use Rattle.serde_json.specs.View.{members_view, view};
 ghost use Rattle.gr_places.specs.SideLines.{element};
-ghost use Rattle.gr_json.specs.Words.{buffer_data, element_data, event_data, text_data, with_place, word_data};
+ghost use Rattle.gr_json.specs.Words.{buffer_data, element_data, event_data, text_data, with_event, with_place, with_word, word_data};
 
 use gr_model::event::{EventId, Word};
 use gr_places::buffers::Element;
 use serde_json::{Map, Value, json, put};
 use std::alloc::{AllocError, Global};
+
+/// Adds a word of memory: its memory, its number, and the group of a local one.
+///
+/// # Errors
+/// `AllocError`: out of memory.
+fn put_word(alloc: Global, members: &mut Map<String, Value>, word: Word) -> Result<(), AllocError>
+    ensures { OnOk result (members_view members.new.entries ≡ with_word word (members_view members.old.entries)) }
+{
+    match word {
+        Word::Global(number) => {
+            put(members, alloc, "number", Value::from(number))?;
+            let space = Value::try_from_str(alloc, "global")?;
+            put(members, alloc, "space", space)
+        }
+        Word::Local(group, number) => {
+            put(members, alloc, "group", Value::from(group))?;
+            put(members, alloc, "number", Value::from(number))?;
+            let space = Value::try_from_str(alloc, "local")?;
+            put(members, alloc, "space", space)
+        }
+    }
+}
 
 /// A word of memory: its memory, its number, and the group of a local one.
 ///
@@ -17,12 +39,25 @@ use std::alloc::{AllocError, Global};
 pub fn word_value(alloc: Global, word: Word) -> Result<Value, AllocError>
     ensures { IfOk result (λ v. view v ≡ word_data word) }
 {
-    match word {
-        Word::Global(number) => json!(in alloc; {"number": number, "space": "global"}),
-        Word::Local(group, number) => {
-            json!(in alloc; {"group": group, "number": number, "space": "local"})
-        }
-    }
+    let mut members = Map::new(alloc);
+    put_word(alloc, &mut members, word)?;
+    Ok(Value::Object(members))
+}
+
+/// Adds an event: its group, its index in its item's trace, and the item.
+///
+/// # Errors
+/// `AllocError`: out of memory.
+pub(crate) fn put_event(
+    alloc: Global,
+    members: &mut Map<String, Value>,
+    event: EventId,
+) -> Result<(), AllocError>
+    ensures { OnOk result (members_view members.new.entries ≡ with_event event (members_view members.old.entries)) }
+{
+    put(members, alloc, "group", Value::from(event.at.group))?;
+    put(members, alloc, "index", Value::from(event.index))?;
+    put(members, alloc, "item", Value::from(event.at.item))
 }
 
 /// An event: its group, its item and its index in the item's trace.
@@ -32,7 +67,9 @@ pub fn word_value(alloc: Global, word: Word) -> Result<Value, AllocError>
 pub fn event_value(alloc: Global, event: EventId) -> Result<Value, AllocError>
     ensures { IfOk result (λ v. view v ≡ event_data event) }
 {
-    json!(in alloc; {"group": event.at.group, "index": event.index, "item": event.at.item})
+    let mut members = Map::new(alloc);
+    put_event(alloc, &mut members, event)?;
+    Ok(Value::Object(members))
 }
 
 /// A text, or null where there is none.
