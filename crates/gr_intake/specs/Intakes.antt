@@ -91,6 +91,18 @@ coming_in current = option_map (λ o. o.backlog) current
 abbrev pub IsIntake : {Z : Type 0} → Intake Z → Type 0
 IsIntake i = IsRead i.sequencer i.shadows i.streams.items (coming_in i.current) × IfSome i.current (IsKeptOpen i.sequencer.taken)
 
+-- nothing was read
+abbrev pub IsNew : {Z : Type 0} → Intake Z → Type 0
+IsNew i = (i.streams.items ≡ []) × (i.current ≡ None)
+
+-- no stream goes on
+abbrev pub IsBetween : {Z : Type 0} → Intake Z → Type 0
+IsBetween i = i.current ≡ None
+
+-- the streams that came whole
+abbrev pub streams_in : {Z : Type 0} → Intake Z → List Flat
+streams_in i = come i.sequencer.taken i.streams.items
+
 -- an intake whose open stream stands apart
 abbrev pub goes_on : {Z : Type 0} → Intake Z → Open Z → Intake Z
 goes_on i o = record { sequencer = i.sequencer; shadows = i.shadows; streams = i.streams; current = Some o }

@@ -8,7 +8,7 @@ ghost use Rattle.gr_record.specs.declared.layout.TheConstants.{HEADER_LENGTH};
 ghost use Rattle.gr_record.specs.Faults.{IsOfValues};
 ghost use Rattle.gr_record.specs.Reading.{header_at};
 ghost use Rattle.gr_record.specs.Spelling.{IsHeader};
-ghost use Rattle.gr_intake.specs.Intakes.{IsIntake, IsKeptOpen, IsRead, IsStuck, Moves, Stays, behind, come, come_of, goes_on, read_behind, read_on, unit_of};
+ghost use Rattle.gr_intake.specs.Intakes.{IsBetween, IsIntake, IsKeptOpen, IsNew, IsRead, IsStuck, Moves, Stays, behind, come, come_of, goes_on, read_behind, read_on, streams_in, unit_of};
 
 use crate::open::Open;
 use gr_backlog::backlog::Backlog;
@@ -55,7 +55,7 @@ impl<A: Allocator + Copy> Intake<A> {
     /// `Memory`: out of memory.
     pub fn new(alloc: A) -> Result<Intake<A>, Memory>
         ensures intake { IfOk result IsIntake }
-        ensures nothing { IfOk result (λ i. (i.streams.items ≡ []) × (i.current ≡ None)) }
+        ensures nothing { IfOk result IsNew }
     {
         Ok(Intake {
             sequencer: Sequencer::without_groups(alloc)?,
@@ -70,7 +70,7 @@ impl<A: Allocator + Copy> Intake<A> {
     /// # Errors
     /// `SameGroup`, and else `OtherLaunch`.
     fn check(&self, header: Header) -> Result<(), Fault>
-        requires { self.now.current ≡ None }
+        requires { IsBetween self.now }
         ensures group { OnOk result (list_any (λ s. s.header.group == header.group) self.now.streams.items ≡ false) }
         ensures launch { OnOk result (list_any (λ s. not (s.header.launch == header.launch)) self.now.streams.items ≡ false) }
         ensures fault { IfErr result (λ f. (unit more : List ℕ) → length unit ≡ HEADER_LENGTH → header_at unit ≡ Ok header → Fails f (behind self.now (unit ++ more))) }
@@ -92,7 +92,7 @@ impl<A: Allocator + Copy> Intake<A> {
     /// The header's fault, `SameGroup`, and else `OtherLaunch`.
     fn header_of(&self, unit: &[u8]) -> Result<Header, Fault>
         requires all { length unit.now ≡ HEADER_LENGTH }
-        requires none { self.now.current ≡ None }
+        requires none { IsBetween self.now }
         ensures header { IfOk result (λ h. header_at unit.now ≡ Ok h) }
         ensures group { IfOk result (λ h. list_any (λ s. s.header.group == h.group) self.now.streams.items ≡ false) }
         ensures launch { IfOk result (λ h. list_any (λ s. not (s.header.launch == h.launch)) self.now.streams.items ≡ false) }
@@ -114,7 +114,7 @@ impl<A: Allocator + Copy> Intake<A> {
     /// `Memory`: out of memory.
     fn begin(self, alloc: A, header: Header) -> Result<Intake<A>, Memory>
         requires intake { IsIntake self }
-        requires none { self.current ≡ None }
+        requires none { IsBetween self }
         requires header { IsHeader header }
         requires group { list_any (λ s. s.header.group == header.group) self.streams.items ≡ false }
         requires launch { list_any (λ s. not (s.header.launch == header.launch)) self.streams.items ≡ false }
@@ -146,7 +146,7 @@ impl<A: Allocator + Copy> Intake<A> {
     /// The header's fault, `SameGroup`, `OtherLaunch`; `Memory`: out of memory.
     fn take_header<'p>(self, alloc: A, bytes: &'p [u8]) -> Result<(Intake<A>, &'p [u8]), Fault>
         requires intake { IsIntake self }
-        requires none { self.current ≡ None }
+        requires none { IsBetween self }
         ensures moves { IfOk result (λ x. Moves self bytes.now x.0 x.1.now) }
         ensures stuck { IfOk result (λ x. IsStuck bytes.now x.0 x.1.now) }
         ensures fault { IfErr result (λ f. (more : List ℕ) → Fails f (behind self (bytes.now ++ more))) }
@@ -218,7 +218,7 @@ impl<A: Allocator + Copy> Intake<A> {
     /// # Errors
     /// The fault of the first record that has one; `Memory`: out of memory.
     fn go_on<'p>(&mut self, current: Open<A>, bytes: &'p [u8]) -> Result<&'p [u8], Fault>
-        requires none { self.old.current ≡ None }
+        requires none { IsBetween self.old }
         requires read { IsRead self.old.sequencer self.old.shadows self.old.streams.items (Some current.backlog) }
         requires kept { IsKeptOpen self.old.sequencer.taken current }
         ensures moves { IfOk result (λ rest. Moves (goes_on self.old current) bytes.now self.new rest.now) }
@@ -254,7 +254,7 @@ fn take_current<'p, A: Allocator + Copy>(
     current: Open<A>,
     bytes: &'p [u8],
 ) -> Result<(Intake<A>, &'p [u8]), Fault>
-    requires none { intake.current ≡ None }
+    requires none { IsBetween intake }
     requires read { IsRead intake.sequencer intake.shadows intake.streams.items (Some current.backlog) }
     requires kept { IsKeptOpen intake.sequencer.taken current }
     ensures moves { IfOk result (λ x. Moves (goes_on intake current) bytes.now x.0 x.1.now) }
@@ -319,7 +319,7 @@ impl<A: Allocator + Copy> Intake<A> {
         requires intake { IsIntake self }
         requires short { length bytes.now < unit_of self }
         ensures intake { IfOk result IsIntake }
-        ensures whole { IfOk result (λ i. (i.current ≡ None) × (behind self bytes.now ≡ Ok (come i.sequencer.taken i.streams.items))) }
+        ensures whole { IfOk result (λ i. IsBetween i × (behind self bytes.now ≡ Ok (streams_in i))) }
         ensures fault { IfErr result (λ f. behind self bytes.now ≡ Err f) }
         ensures values { IfErr result IsOfValues }
     {

@@ -5,7 +5,7 @@ ghost use Rattle.gr_model.specs.Shapes.{IsShape};
 ghost use Rattle.gr_model.specs.Streams.{AreAccepted, Streams as AnyStreams};
 ghost use Rattle.gr_model.specs.Reports.{IsReportOf};
 ghost use Rattle.gr_record.specs.Faults.{IsOfValues};
-ghost use Rattle.gr_intake.specs.Intakes.{IsGap, IsIntake, come};
+ghost use Rattle.gr_intake.specs.Intakes.{IsBetween, IsGap, IsIntake, streams_in};
 ghost use Rattle.gr_intake.specs.Launch.{IsLaunchFault, IsLaunchOf};
 ghost use Rattle.gr_report.specs.Whole.{whole_of};
 
@@ -41,9 +41,9 @@ impl<A: Allocator + Copy> Intake<A> {
     /// Those of `report`.
     fn judge(&mut self) -> Result<Report<A>, Fault>
         requires intake { IsIntake self.old }
-        requires whole { self.old.current ≡ None }
-        ensures report { IfOk result (λ r. (s : AnyStreams) × IsLaunchOf (come self.old.sequencer.taken self.old.streams.items) s × AreAccepted s × IsReportOf s (whole_of r)) }
-        ensures fault { IfErr result (λ f. IsLaunchFault (come self.old.sequencer.taken self.old.streams.items) f) }
+        requires whole { IsBetween self.old }
+        ensures report { IfOk result (λ r. (s : AnyStreams) × IsLaunchOf (streams_in self.old) s × AreAccepted s × IsReportOf s (whole_of r)) }
+        ensures fault { IfErr result (λ f. IsLaunchFault (streams_in self.old) f) }
         ensures values { IfErr result IsOfValues }
     {
         if let Some(fault) = gap_of(self.sequencer.shape()) {
@@ -64,9 +64,9 @@ impl<A: Allocator + Copy> Intake<A> {
     /// stream is of; `Memory`: out of memory.
     pub fn report(self) -> Result<Report<A>, Fault>
         requires intake { IsIntake self }
-        requires whole { self.current ≡ None }
-        ensures report { IfOk result (λ r. (s : AnyStreams) × IsLaunchOf (come self.sequencer.taken self.streams.items) s × AreAccepted s × IsReportOf s (whole_of r)) }
-        ensures fault { IfErr result (λ f. IsLaunchFault (come self.sequencer.taken self.streams.items) f) }
+        requires whole { IsBetween self }
+        ensures report { IfOk result (λ r. (s : AnyStreams) × IsLaunchOf (streams_in self) s × AreAccepted s × IsReportOf s (whole_of r)) }
+        ensures fault { IfErr result (λ f. IsLaunchFault (streams_in self) f) }
         ensures values { IfErr result IsOfValues }
     {
         let mut intake = self;

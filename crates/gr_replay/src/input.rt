@@ -4,7 +4,7 @@ ghost use Rattle.std.specs.Prelude.{[], ◌≡◌, ◌++◌, ◌<◌, ℕ, List,
 ghost use Rattle.std.specs.Io.KnownBytes.{Consumes, IsAtEnd};
 ghost use Rattle.gr_input.specs.Faults.{Fails};
 ghost use Rattle.gr_record.specs.Faults.{IsOfReading, IsOfValues};
-ghost use Rattle.gr_intake.specs.Intakes.{IsIntake, Moves, behind, come, unit_of};
+ghost use Rattle.gr_intake.specs.Intakes.{IsBetween, IsIntake, Moves, behind, streams_in, unit_of};
 ghost use Rattle.gr_intake.specs.Joined.{joined_of};
 
 use gr_intake::intake::Intake;
@@ -86,8 +86,8 @@ pub(crate) fn take_input<A: Allocator + Copy, T: Read>(
     reader: &mut T,
 ) -> Result<Intake<A>, Fault>
     ensures intake { IfOk result IsIntake }
-    ensures whole { IfOk result (λ i. i.current ≡ None) }
-    ensures exact { IfOk result (λ i. IfSome (T.remaining reader.old) (λ bytes. joined_of bytes ≡ Ok (come i.sequencer.taken i.streams.items))) }
+    ensures whole { IfOk result IsBetween }
+    ensures exact { IfOk result (λ i. IfSome (T.remaining reader.old) (λ bytes. joined_of bytes ≡ Ok (streams_in i))) }
     ensures fault { IfErr result (λ f. IfSome (T.remaining reader.old) (λ bytes. Fails f (joined_of bytes))) }
     ensures reading { IfErr result IsOfReading }
 {
