@@ -21,6 +21,7 @@ use gr_record::stream::read_front_header;
 use gr_sequencer::sequencer::Sequencer;
 use gr_shadow::shadows::Shadows;
 use std::alloc::{Allocator, Global};
+use std::mem;
 
 /// What was read of a joined input: the streams that came whole, and the one that goes on, if there is one.
 #[derive(Drop)]
@@ -111,53 +112,47 @@ impl<A: Allocator + Copy> Intake<A> {
     /// Begins the stream of this header, where none goes on.
     ///
     /// # Errors
-    /// `Memory`: out of memory.
-    fn begin(self, alloc: A, header: Header) -> Result<Intake<A>, Memory>
-        requires intake { IsIntake self }
-        requires none { IsBetween self }
+    /// `Memory`: out of memory. What was read is then lost.
+    fn begin(&mut self, alloc: A, header: Header) -> Result<(), Memory>
+        requires intake { IsIntake self.old }
+        requires none { IsBetween self.old }
         requires header { IsHeader header }
-        requires group { list_any (λ s. s.header.group == header.group) self.streams.items ≡ false }
-        requires launch { list_any (λ s. not (s.header.launch == header.launch)) self.streams.items ≡ false }
-        ensures intake { IfOk result IsIntake }
-        ensures goes { IfOk result (λ i. (unit more : List ℕ) → length unit ≡ HEADER_LENGTH → header_at unit ≡ Ok header → behind self (unit ++ more) ≡ behind i more) }
+        requires group { list_any (λ s. s.header.group == header.group) self.old.streams.items ≡ false }
+        requires launch { list_any (λ s. not (s.header.launch == header.launch)) self.old.streams.items ≡ false }
+        ensures intake { OnOk result (IsIntake self.new) }
+        ensures goes { OnOk result ((unit more : List ℕ) → length unit ≡ HEADER_LENGTH → header_at unit ≡ Ok header → behind self.old (unit ++ more) ≡ behind self.new more) }
     {
-        let Intake {
-            sequencer,
-            shadows,
-            streams,
-            current: _,
-        } = self;
-        let Ok(sequencer) = sequencer.with_group(header.group, header.items) else {
+        let empty = Sequencer::without_groups(alloc)?;
+        let sequencer = mem::replace(&mut self.sequencer, empty);
+        let Ok(grown) = sequencer.with_group(header.group, header.items) else {
             return Err(Memory);
         };
-        let current = Open::new(alloc, header, sequencer.held());
-        Ok(Intake {
-            sequencer,
-            shadows,
-            streams,
-            current: Some(current),
-        })
+        let current = Open::new(alloc, header, grown.held());
+        self.current = Some(current);
+        self.sequencer = grown;
+        Ok(())
     }
 
     /// Takes the header at the front of the bytes, where no stream goes on, and answers the bytes behind it; all of them where
     /// they are no whole header.
     ///
     /// # Errors
-    /// The header's fault, `SameGroup`, `OtherLaunch`; `Memory`: out of memory.
-    fn take_header<'p>(self, alloc: A, bytes: &'p [u8]) -> Result<(Intake<A>, &'p [u8]), Fault>
-        requires intake { IsIntake self }
-        requires none { IsBetween self }
-        ensures moves { IfOk result (λ x. Moves self bytes.now x.0 x.1.now) }
-        ensures stuck { IfOk result (λ x. IsStuck bytes.now x.0 x.1.now) }
-        ensures fault { IfErr result (λ f. (more : List ℕ) → Fails f (behind self (bytes.now ++ more))) }
+    /// The header's fault, `SameGroup`, `OtherLaunch`; `Memory`: out of memory, and what was read is then lost.
+    fn take_header<'p>(&mut self, alloc: A, bytes: &'p [u8]) -> Result<&'p [u8], Fault>
+        requires intake { IsIntake self.old }
+        requires none { IsBetween self.old }
+        ensures moves { IfOk result (λ rest. Moves self.old bytes.now self.new rest.now) }
+        ensures stuck { IfOk result (λ rest. IsStuck bytes.now self.new rest.now) }
+        ensures fault { IfErr result (λ f. (more : List ℕ) → Fails f (behind self.old (bytes.now ++ more))) }
         ensures values { IfErr result IsOfValues }
     {
         if bytes.len() < HEADER_LENGTH {
-            return Ok((self, bytes));
+            return Ok(bytes);
         }
         let (unit, rest) = bytes.split_at(HEADER_LENGTH);
         let header = self.header_of(unit)?;
-        Ok((self.begin(alloc, header)?, rest))
+        self.begin(alloc, header)?;
+        Ok(rest)
     }
 }
 
@@ -245,86 +240,60 @@ impl<A: Allocator + Copy> Intake<A> {
     }
 }
 
-/// Takes the records at the front of the bytes, up to the end of the stream that goes on, and answers the bytes behind them.
-///
-/// # Errors
-/// The fault of the first record that has one; `Memory`: out of memory.
-fn take_current<'p, A: Allocator + Copy>(
-    intake: Intake<A>,
-    current: Open<A>,
-    bytes: &'p [u8],
-) -> Result<(Intake<A>, &'p [u8]), Fault>
-    requires none { IsBetween intake }
-    requires read { IsRead intake.sequencer intake.shadows intake.streams.items (Some current.backlog) }
-    requires kept { IsKeptOpen intake.sequencer.taken current }
-    ensures moves { IfOk result (λ x. Moves (goes_on intake current) bytes.now x.0 x.1.now) }
-    ensures stuck { IfOk result (λ x. IsStuck bytes.now x.0 x.1.now) }
-    ensures fault { IfErr result (λ f. (more : List ℕ) → Fails f (behind (goes_on intake current) (bytes.now ++ more))) }
-    ensures values { IfErr result IsOfValues }
-{
-    let mut intake = intake;
-    let rest = intake.go_on(current, bytes)?;
-    Ok((intake, rest))
-}
-
 impl<A: Allocator + Copy> Intake<A> {
     /// Takes the header at the front of the bytes, or the records up to the end of the stream that goes on, and answers the
     /// bytes behind them; all of them where they are no whole header or record.
     ///
     /// # Errors
-    /// The first fault from the left; `Memory`: out of memory.
-    fn take_part<'p>(self, alloc: A, bytes: &'p [u8]) -> Result<(Intake<A>, &'p [u8]), Fault>
-        requires { IsIntake self }
-        ensures moves { IfOk result (λ x. Moves self bytes.now x.0 x.1.now) }
-        ensures stuck { IfOk result (λ x. IsStuck bytes.now x.0 x.1.now) }
-        ensures fault { IfErr result (λ f. (more : List ℕ) → Fails f (behind self (bytes.now ++ more))) }
+    /// The first fault from the left; `Memory`: out of memory. What was read is then lost.
+    fn take_part<'p>(&mut self, alloc: A, bytes: &'p [u8]) -> Result<&'p [u8], Fault>
+        requires { IsIntake self.old }
+        ensures moves { IfOk result (λ rest. Moves self.old bytes.now self.new rest.now) }
+        ensures stuck { IfOk result (λ rest. IsStuck bytes.now self.new rest.now) }
+        ensures fault { IfErr result (λ f. (more : List ℕ) → Fails f (behind self.old (bytes.now ++ more))) }
         ensures values { IfErr result IsOfValues }
     {
-        let mut between = self;
-        match between.current.take() {
-            None => between.take_header(alloc, bytes),
-            Some(current) => take_current(between, current, bytes),
+        match self.current.take() {
+            None => self.take_header(alloc, bytes),
+            Some(current) => self.go_on(current, bytes),
         }
     }
 
     /// Takes all headers and records that lie whole in the bytes, and answers those that are left.
     ///
     /// # Errors
-    /// The first fault from the left; `Memory`: out of memory.
-    pub fn take<'p>(self, alloc: A, bytes: &'p [u8]) -> Result<(Intake<A>, &'p [u8]), Fault>
-        requires { IsIntake self }
-        ensures moves { IfOk result (λ x. Moves self bytes.now x.0 x.1.now) }
-        ensures short { IfOk result (λ x. length x.1.now < unit_of x.0) }
-        ensures fault { IfErr result (λ f. (more : List ℕ) → Fails f (behind self (bytes.now ++ more))) }
+    /// The first fault from the left; `Memory`: out of memory. What was read is then lost.
+    pub fn take<'p>(&mut self, alloc: A, bytes: &'p [u8]) -> Result<&'p [u8], Fault>
+        requires { IsIntake self.old }
+        ensures moves { IfOk result (λ rest. Moves self.old bytes.now self.new rest.now) }
+        ensures short { IfOk result (λ rest. length rest.now < unit_of self.new) }
+        ensures fault { IfErr result (λ f. (more : List ℕ) → Fails f (behind self.old (bytes.now ++ more))) }
         ensures values { IfErr result IsOfValues }
     {
-        let mut intake = self;
         let mut rest = bytes;
         loop {
             let before = rest.len();
-            let (next, after) = intake.take_part(alloc, rest)?;
-            intake = next;
-            rest = after;
+            rest = self.take_part(alloc, rest)?;
             if rest.len() == before {
-                return Ok((intake, rest));
+                return Ok(rest);
             }
         }
     }
 
-    /// Ends the reading where the input ends, of which these bytes are left, no whole header or record.
+    /// Whether the input may end here, where these bytes are left, no whole header or record: no stream goes on, and no bytes
+    /// are left.
     ///
     /// # Errors
     /// `Truncated`, where a stream goes on or bytes are left.
-    pub fn finish(self, bytes: &[u8]) -> Result<Intake<A>, Fault>
-        requires intake { IsIntake self }
-        requires short { length bytes.now < unit_of self }
-        ensures intake { IfOk result IsIntake }
-        ensures whole { IfOk result (λ i. IsBetween i × (behind self bytes.now ≡ Ok (streams_in i))) }
-        ensures fault { IfErr result (λ f. behind self bytes.now ≡ Err f) }
+    pub fn finish(&self, bytes: &[u8]) -> Result<(), Fault>
+        requires intake { IsIntake self.now }
+        requires short { length bytes.now < unit_of self.now }
+        ensures whole { OnOk result (IsBetween self.now × (behind self.now bytes.now ≡ Ok (streams_in self.now))) }
+        ensures fault { IfErr result (λ f. behind self.now bytes.now ≡ Err f) }
         ensures values { IfErr result IsOfValues }
     {
         if self.current.is_none() && bytes.is_empty() {
-            return Ok(self);
+            return Ok(());
         }
         Err(Fault::of_stream(self.streams.len() as u64, RecordError::Truncated))
     }

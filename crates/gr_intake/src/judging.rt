@@ -38,8 +38,9 @@ impl<A: Allocator + Copy> Intake<A> {
     /// The report of the launch whose streams have come, of which what waits is taken.
     ///
     /// # Errors
-    /// Those of `report`.
-    fn judge(&mut self) -> Result<Report<A>, Fault>
+    /// `Shape` with `NoGroups` where no stream came; else `MissingGroup` with the least group below the greatest that no
+    /// stream is of; `Memory`: out of memory.
+    pub fn report(&mut self) -> Result<Report<A>, Fault>
         requires intake { IsIntake self.old }
         requires whole { IsBetween self.old }
         ensures report { IfOk result (λ r. (s : AnyStreams) × IsLaunchOf (streams_in self.old) s × AreAccepted s × IsReportOf s (whole_of r)) }
@@ -55,21 +56,5 @@ impl<A: Allocator + Copy> Intake<A> {
             self.streams.as_mut_slice(),
         )?;
         Ok(report_of(&self.sequencer, &self.shadows)?)
-    }
-
-    /// The report of the launch whose streams have come.
-    ///
-    /// # Errors
-    /// `Shape` with `NoGroups` where no stream came; else `MissingGroup` with the least group below the greatest that no
-    /// stream is of; `Memory`: out of memory.
-    pub fn report(self) -> Result<Report<A>, Fault>
-        requires intake { IsIntake self }
-        requires whole { IsBetween self }
-        ensures report { IfOk result (λ r. (s : AnyStreams) × IsLaunchOf (streams_in self) s × AreAccepted s × IsReportOf s (whole_of r)) }
-        ensures fault { IfErr result (λ f. IsLaunchFault (streams_in self) f) }
-        ensures values { IfErr result IsOfValues }
-    {
-        let mut intake = self;
-        intake.judge()
     }
 }

@@ -15,8 +15,8 @@ ghost use Rattle.gr_lanes.specs.Kept.{CameWith};
 ghost use Rattle.gr_lanes.specs.Takes.{IsMereAccess};
 
 use crate::items::Items;
-use gr_history::history::History;
 use gr_model::event::{Event, Kind};
+use gr_model::history::History;
 use gr_model::memory::Memory;
 use gr_model::report::Divergence;
 use std::alloc::{Allocator, Global};

@@ -11,8 +11,8 @@ ghost use Rattle.gr_lanes.specs.Kept as kept;
 ghost use Rattle.gr_lanes.specs.Kept.{alike_more, apart_more, Arrives, forgetting_one, IsLane, kept_with, nothing_kept};
 
 use crate::bare::Bare;
-use gr_history::history::History;
 use gr_model::event::Event;
+use gr_model::history::History;
 use gr_model::memory::Memory;
 use std::alloc::{Allocator, Global};
 use std::collections::VecDeque;

@@ -10,6 +10,7 @@ pub mod Names
 pub mod Instances
 pub mod Barriers
 pub mod HappensBefore
+pub mod Histories
 pub mod Waits
 pub mod LawfulOrders
 pub mod Races

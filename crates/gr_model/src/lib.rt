@@ -5,6 +5,7 @@
 pub mod config;
 pub mod event;
 pub mod growing;
+pub mod history;
 pub mod laws;
 pub mod limits;
 pub mod memory;

@@ -7,8 +7,8 @@ ghost use Rattle.gr_clocks.specs.Tables.{item_of};
 ghost use Rattle.gr_order.specs.States.{TicksItems, next_events};
 
 use gr_clocks::tally::Tally;
-use gr_history::history::History;
 use gr_model::event::{EventId, ItemId};
+use gr_model::history::History;
 use std::alloc::Allocator;
 
 /// Adds the next event of each item of a group to the order.

@@ -3,7 +3,7 @@
 //! A record's fields are judged from the left, so that the first fault is the one that is answered (docs/FORMATS.md,
 //! "Faults of a whole record").
 
-ghost use Rattle.std.specs.Prelude.{◌≡◌, ◌≤◌, ◌*◌, IsTrue, None, Some, if◌then◌else◌, [], length, take};
+ghost use Rattle.std.specs.Prelude.{◌≡◌, ◌≤◌, ◌*◌, ◌||◌, ◌==◌, IsTrue, None, Some, if◌then◌else◌, [], length, nat_le, nat_lt, take};
 ghost use Rattle.gr_record.specs.Versions.{record_length};
 ghost use Rattle.gr_record.specs.Reading.{version_of, header_at, header_behind, is_field_ok, bad_field, space_of, scope_of, order_of, kind_of, space_at, are_unused, name_in, names_in, names_at, is_order_ok, naming, event_at};
 
@@ -65,6 +65,13 @@ pub(crate) fn read_header(bytes: &[u8]) -> Result<Header, RecordError>
     read_launch(version, bytes)
 }
 
+/// Whether no launch has a group of this number, or none with so many items.
+fn is_out_of_range(group: u16, items: u16) -> bool
+    ensures { result ≡ nat_le MOST_GROUPS group || (items == 0) || nat_lt MOST_ITEMS_OF_A_GROUP items }
+{
+    usize::from(group) >= MOST_GROUPS || items == 0 || items > MOST_ITEMS_OF_A_GROUP
+}
+
 /// What a whole header of this version says of group, items and launch, or its fault.
 /// Requires: there are at least `HEADER_LENGTH` bytes.
 fn read_launch(version: Version, bytes: &[u8]) -> Result<Header, RecordError>
@@ -74,7 +81,7 @@ fn read_launch(version: Version, bytes: &[u8]) -> Result<Header, RecordError>
     let group = LittleEndian::read_u16(&bytes[4..]);
     let items = LittleEndian::read_u16(&bytes[6..]);
     let launch = LittleEndian::read_u32(&bytes[8..]);
-    if usize::from(group) >= MOST_GROUPS || items == 0 || items > MOST_ITEMS_OF_A_GROUP {
+    if is_out_of_range(group, items) {
         return Err(RecordError::BadHeader);
     }
     Ok(Header {

@@ -4,7 +4,7 @@ ghost use Rattle.std.specs.Prelude.{[], ◌≡◌, ◌++◌, ◌<◌, ℕ, List,
 ghost use Rattle.std.specs.Io.KnownBytes.{Consumes, IsAtEnd};
 ghost use Rattle.gr_input.specs.Faults.{Fails};
 ghost use Rattle.gr_record.specs.Faults.{IsOfReading, IsOfValues};
-ghost use Rattle.gr_intake.specs.Intakes.{IsBetween, IsIntake, Moves, behind, streams_in, unit_of};
+ghost use Rattle.gr_intake.specs.Intakes.{IsBetween, IsIntake, IsNew, Moves, behind, streams_in, unit_of};
 ghost use Rattle.gr_intake.specs.Joined.{joined_of};
 
 use gr_intake::intake::Intake;
@@ -61,19 +61,19 @@ fn read_piece<A: Allocator, T: Read>(
 /// The first fault from the left; `Memory`: out of memory.
 fn take_held<A: Allocator + Copy>(
     alloc: A,
-    intake: Intake<A>,
+    intake: &mut Intake<A>,
     held: &mut Vec<u8, A>,
-) -> Result<Intake<A>, Fault>
-    requires { IsIntake intake }
-    ensures moves { IfOk result (λ i. Moves intake held.old.items i held.new.items) }
-    ensures short { IfOk result (λ i. length held.new.items < unit_of i) }
-    ensures fault { IfErr result (λ f. (more : List ℕ) → Fails f (behind intake (held.old.items ++ more))) }
+) -> Result<(), Fault>
+    requires { IsIntake intake.old }
+    ensures moves { OnOk result (Moves intake.old held.old.items intake.new held.new.items) }
+    ensures short { OnOk result (length held.new.items < unit_of intake.new) }
+    ensures fault { IfErr result (λ f. (more : List ℕ) → Fails f (behind intake.old (held.old.items ++ more))) }
     ensures values { IfErr result IsOfValues }
 {
-    let (next, left) = intake.take(alloc, held.as_slice())?;
+    let left = intake.take(alloc, held.as_slice())?;
     let kept = copy_of(alloc, left)?;
     *held = kept;
-    Ok(next)
+    Ok(())
 }
 
 /// Reads streams to their end, and takes their records as they come. Of the input no more is held than a piece, and what waits.
@@ -84,14 +84,16 @@ fn take_held<A: Allocator + Copy>(
 pub(crate) fn take_input<A: Allocator + Copy, T: Read>(
     alloc: A,
     reader: &mut T,
-) -> Result<Intake<A>, Fault>
-    ensures intake { IfOk result IsIntake }
-    ensures whole { IfOk result IsBetween }
-    ensures exact { IfOk result (λ i. IfSome (T.remaining reader.old) (λ bytes. joined_of bytes ≡ Ok (streams_in i))) }
+    intake: &mut Intake<A>,
+) -> Result<(), Fault>
+    requires intake { IsIntake intake.old }
+    requires nothing { IsNew intake.old }
+    ensures intake { OnOk result (IsIntake intake.new) }
+    ensures whole { OnOk result (IsBetween intake.new) }
+    ensures exact { OnOk result (IfSome (T.remaining reader.old) (λ bytes. joined_of bytes ≡ Ok (streams_in intake.new))) }
     ensures fault { IfErr result (λ f. IfSome (T.remaining reader.old) (λ bytes. Fails f (joined_of bytes))) }
     ensures reading { IfErr result IsOfReading }
 {
-    let mut intake = Intake::new(alloc)?;
     let mut held = Vec::new(alloc);
     let mut piece = [0u8; PIECE_LENGTH];
     for _ in 0..MOST_READS {
@@ -99,7 +101,7 @@ pub(crate) fn take_input<A: Allocator + Copy, T: Read>(
         if count == 0 {
             return intake.finish(held.as_slice());
         }
-        intake = take_held(alloc, intake, &mut held)?;
+        take_held(alloc, intake, &mut held)?;
     }
     Err(Fault::Read)
 }

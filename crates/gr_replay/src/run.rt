@@ -2,17 +2,56 @@
 
 ghost use Rattle.std.specs.Prelude.{◌≡◌, ◌≢◌, IfOk, IfErr, IfSome};
 ghost use Rattle.std.specs.Io.KnownBytes.{Appends, Keeps};
+ghost use Rattle.gr_intake.specs.Intakes.{IsIntake, IsNew};
+ghost use Rattle.gr_intake.specs.Launch.{IsReadFault};
 ghost use Rattle.gr_record.specs.declared.fault.Fault.TheVariants as faults;
+ghost use Rattle.gr_record.specs.Faults.{IsOfReading};
 ghost use Rattle.gr_replay.specs.Replays.{IsExact, IsReplayFault, WritesPrefix};
 ghost use Rattle.gr_report.specs.ReportText.{report_text};
 ghost use Rattle.gr_report.specs.Whole.{whole_of};
 
 use crate::input::take_input;
+use gr_intake::intake::Intake;
 use gr_record::fault::Fault;
 use gr_report::report::Report;
 use gr_report::write;
 use std::alloc::Allocator;
 use std::io::{Read, Write};
+
+/// Reads streams to their end into an intake of nothing, and makes the report on them.
+///
+/// # Errors
+/// Those of `replay` but `Write`.
+fn report_by<A: Allocator + Copy, T: Read>(
+    alloc: A,
+    reader: &mut T,
+    intake: &mut Intake<A>,
+) -> Result<Report<A>, Fault>
+    requires intake { IsIntake intake.old }
+    requires nothing { IsNew intake.old }
+    ensures report { IfOk result (λ r. IfSome (T.remaining reader.old) (λ bytes. IsExact bytes (whole_of r))) }
+    ensures fault { IfErr result (λ f. IfSome (T.remaining reader.old) (λ bytes. IsReadFault bytes f)) }
+    ensures reading { IfErr result IsOfReading }
+{
+    take_input(alloc, reader, intake)?;
+    intake.report()
+}
+
+/// Reads streams to their end, and makes the report on them.
+///
+/// # Errors
+/// Those of `replay` but `Write`.
+fn read_report<A: Allocator + Copy, T: Read>(
+    alloc: A,
+    reader: &mut T,
+) -> Result<Report<A>, Fault>
+    ensures report { IfOk result (λ r. IfSome (T.remaining reader.old) (λ bytes. IsExact bytes (whole_of r))) }
+    ensures fault { IfErr result (λ f. IfSome (T.remaining reader.old) (λ bytes. IsReadFault bytes f)) }
+    ensures reading { IfErr result IsOfReading }
+{
+    let mut intake = Intake::new(alloc)?;
+    report_by(alloc, reader, &mut intake)
+}
 
 /// Reads streams to their end, and writes the text of the report on them and nothing else. Records are taken as they come; of
 /// the input no more is kept than what waits.
@@ -41,8 +80,7 @@ pub fn replay<A: Allocator + Copy, T: Read, W: Write>(
     ensures untouched { IfErr result (λ f. f ≢ faults.Write → Keeps (W.contents writer.old) (W.contents writer.new)) }
     ensures prefix { IfErr result (λ f. f ≡ faults.Write → IfSome (T.remaining reader.old) (λ bytes. WritesPrefix bytes (W.contents writer.old) (W.contents writer.new))) }
 {
-    let intake = take_input(alloc, reader)?;
-    let report = intake.report()?;
+    let report = read_report(alloc, reader)?;
     match write(&report, writer) {
         Ok(()) => Ok(report),
         Err(_) => Err(Fault::Write),

@@ -10,8 +10,8 @@ ghost use Rattle.gr_world.specs.Workers.{Receives};
 
 use crate::queue::Queue;
 use gr_clocks::access::Access;
-use gr_history::history::History;
 use gr_model::event::Word;
+use gr_model::history::History;
 use gr_model::memory::Memory;
 use gr_shadow::shadows::Shadows;
 use std::alloc::{Allocator, Global};

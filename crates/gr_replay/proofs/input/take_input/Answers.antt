@@ -11,10 +11,10 @@ use Rattle.gr_replay.proofs.input.take_input.Goals as goal
 
 pub loop-init : goal.loop-init
 loop-init g c =
-    let i = c.in_ok-intake.intake in
-    let none = c.in_ok-intake.ensures.nothing in
+    let i = c.args.intake.now in
+    let none = c.requires.nothing in
     record {
-      intake = c.in_ok-intake.ensures.intake;
+      intake = c.requires.intake;
       short = subst (λ (h : List ℕ). length h < unit_of i) (sym c.new-held.ensures.items) (header_is_next i none.1);
       read = ([], Consumes-none _, subst (λ (h : List ℕ). StandsSoFar i h []) (sym c.new-held.ensures.items) (nothing_came i none.0 none.1));
     }
@@ -28,18 +28,18 @@ finish-requires-clause-short g c =
 
 pub returns-in_err-count-clause-fault : goal.returns-in_err-count-clause-fault
 returns-in_err-count-clause-fault g c =
-    let p = err_from_is_err_and c.from_residual-in_err-count.result c.from_residual-in_err-count.ensures.1 in
+    let p = err_from_is_err_and c.from_residual.result c.from_residual.ensures.1 in
     rw (p.1, p.2) (c.in_err-count.ensures.fault _)
 
 pub returns-in_err-count-clause-reading : goal.returns-in_err-count-clause-reading
 returns-in_err-count-clause-reading g c =
-    let p = err_from_is_err_and c.from_residual-in_err-count.result c.from_residual-in_err-count.ensures.1 in
+    let p = err_from_is_err_and c.from_residual.result c.from_residual.ensures.1 in
     rw (p.1, p.2) c.in_err-count.ensures.reading
 
 -- ---- at the end of the input
 
 pub returns-then-count-eq0-clause-whole : goal.returns-then-count-eq0-clause-whole
-returns-then-count-eq0-clause-whole g c = if_ok _ _ c.finish.result c.finish.ensures.whole (λ i is. is.0)
+returns-then-count-eq0-clause-whole g c = if_ok _ _ c.finish.result c.finish.ensures.whole (λ _ is. is.0)
 
 pub returns-then-count-eq0-clause-exact : goal.returns-then-count-eq0-clause-exact
 returns-then-count-eq0-clause-exact g c =
@@ -49,7 +49,7 @@ returns-then-count-eq0-clause-exact g c =
     let ends = Consumes-all _ _ bytes (Consumes-then _ _ _ _ _ read.1 comes.1) (comes.3 c.if-count-eq0.true).1 in
     let so_far = subst (λ (h : List ℕ). StandsSoFar c.loop.intake h bytes) (sym comes.2) (piece_more c.loop.intake c.loop.held.items read.0 comes.0 read.2) in
     let all : joined_of bytes ≡ behind c.loop.intake c.as_slice.result.now = all_read c.loop.intake c.read_piece.new.held.items bytes so_far ∙ ap (behind c.loop.intake) (sym c.as_slice.ensures.value) in
-    if_ok _ _ c.finish.result c.finish.ensures.whole (λ i is. at_known _ bytes (λ xs. joined_of xs ≡ Ok (come i.sequencer.taken i.streams.items)) ends (all ∙ is.1))
+    if_ok _ _ c.finish.result c.finish.ensures.whole (λ _ is. at_known _ bytes (λ xs. joined_of xs ≡ Ok (come c.loop.intake.sequencer.taken c.loop.intake.streams.items)) ends (all ∙ is.1))
 
 pub returns-then-count-eq0-clause-fault : goal.returns-then-count-eq0-clause-fault
 returns-then-count-eq0-clause-fault g c =
@@ -66,34 +66,34 @@ returns-then-count-eq0-clause-reading g c = if_err _ _ c.finish.result c.finish.
 
 -- ---- a piece more
 
-pub returns-in_err-intake-2-clause-fault : goal.returns-in_err-intake-2-clause-fault
-returns-in_err-intake-2-clause-fault g c =
+pub returns-in_err-take_held-clause-fault : goal.returns-in_err-take_held-clause-fault
+returns-in_err-take_held-clause-fault g c =
     let read = c.loop.invariant.read in
     let comes = c.in_ok-count.ensures.comes in
     let bytes : List ℕ = read.0 ++ comes.0 in
     let so_far = subst (λ (h : List ℕ). StandsSoFar c.loop.intake h bytes) (sym comes.2) (piece_more c.loop.intake c.loop.held.items read.0 comes.0 read.2) in
-    let p = err_from_is_err_and c.from_residual-in_err-intake-2.result c.from_residual-in_err-intake-2.ensures.1 in
-    rw (p.1, p.2) (at_consumed _ _ bytes (λ xs. Fails c.in_err-intake-2.field-0.0 (joined_of xs)) (Consumes-then _ _ _ _ _ read.1 comes.1)
-    (λ more. subst (Fails c.in_err-intake-2.field-0.0) (sym (so_far more)) (c.in_err-intake-2.ensures.fault more)))
+    let p = err_from_is_err_and c.from_residual-in_err-take_held.result c.from_residual-in_err-take_held.ensures.1 in
+    rw (p.1, p.2) (at_consumed _ _ bytes (λ xs. Fails c.in_err-take_held.field-0.0 (joined_of xs)) (Consumes-then _ _ _ _ _ read.1 comes.1)
+    (λ more. subst (Fails c.in_err-take_held.field-0.0) (sym (so_far more)) (c.in_err-take_held.ensures.fault more)))
 
-pub returns-in_err-intake-2-clause-reading : goal.returns-in_err-intake-2-clause-reading
-returns-in_err-intake-2-clause-reading g c =
-    let p = err_from_is_err_and c.from_residual-in_err-intake-2.result c.from_residual-in_err-intake-2.ensures.1 in
-    rw (p.1, p.2) (values_are_of_reading c.in_err-intake-2.field-0.0 c.in_err-intake-2.ensures.values)
+pub returns-in_err-take_held-clause-reading : goal.returns-in_err-take_held-clause-reading
+returns-in_err-take_held-clause-reading g c =
+    let p = err_from_is_err_and c.from_residual-in_err-take_held.result c.from_residual-in_err-take_held.ensures.1 in
+    rw (p.1, p.2) (values_are_of_reading c.in_err-take_held.field-0.0 c.in_err-take_held.ensures.values)
 
 pub loop-preserved : goal.loop-preserved
 loop-preserved g c =
     let read = c.loop.invariant.read in
     let comes = c.in_ok-count.ensures.comes in
-    let next = c.in_ok-intake-2.intake in
+    let next = c.take_held.new.intake in
     let so_far = subst (λ (h : List ℕ). StandsSoFar c.loop.intake h (read.0 ++ comes.0)) (sym comes.2) (piece_more c.loop.intake c.loop.held.items read.0 comes.0 read.2) in
     record {
-      intake = c.in_ok-intake-2.ensures.moves.intake;
-      short = c.in_ok-intake-2.ensures.short;
+      intake = c.in_ok-take_held.ensures.moves.intake;
+      short = c.in_ok-take_held.ensures.short;
       read = (
         read.0 ++ comes.0,
         Consumes-then _ _ _ _ _ read.1 comes.1,
-        piece_taken c.loop.intake next c.read_piece.new.held.items c.take_held.new.held.items (read.0 ++ comes.0) so_far c.in_ok-intake-2.ensures.moves,
+        piece_taken c.loop.intake next c.read_piece.new.held.items c.take_held.new.held.items (read.0 ++ comes.0) so_far c.in_ok-take_held.ensures.moves,
       );
     }
 

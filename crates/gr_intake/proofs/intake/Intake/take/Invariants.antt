@@ -2,8 +2,8 @@ use Rattle.std.proofs.Common.{length}
 use Rattle.gr_intake.specs.Intakes.{Moves}
 use Rattle.gr_intake.proofs.intake.Intake.take.Given as goal
 
-abbrev pub invariant-loop-next : goal.invariant-loop-next
-invariant-loop-next g l = Moves l.fn.self l.bytes l.intake l.rest
+abbrev pub invariant-loop-rest : goal.invariant-loop-rest
+invariant-loop-rest g l = Moves l.initial.self l.bytes l.self l.rest
 
-abbrev pub decreases-loop-next : goal.decreases-loop-next
-decreases-loop-next g l = length l.rest
+abbrev pub decreases-loop-rest : goal.decreases-loop-rest
+decreases-loop-rest g l = length l.rest

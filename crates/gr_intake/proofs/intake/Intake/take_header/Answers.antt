@@ -31,7 +31,7 @@ returns-in_err-header-clause-fault g c =
     let rest = c.split_at.result.1.now in
     let bytes = c.args.bytes.now in
     let p = err_from_is_err_and c.from_residual.result c.from_residual.ensures.1 in
-    rw (p.1, p.2) (λ more. subst (λ (b : List ℕ). Fails c.in_err-header.field-0.0 (behind c.args.self b)) (sym (split_more HEADER_LENGTH bytes unit rest more c.split_at.ensures.front c.split_at.ensures.back)) (c.in_err-header.ensures.fault (rest ++ more)))
+    rw (p.1, p.2) (λ more. subst (λ (b : List ℕ). Fails c.in_err-header.field-0.0 (behind c.args.self.now b)) (sym (split_more HEADER_LENGTH bytes unit rest more c.split_at.ensures.front c.split_at.ensures.back)) (c.in_err-header.ensures.fault (rest ++ more)))
 
 pub returns-in_err-header-clause-values : goal.returns-in_err-header-clause-values
 returns-in_err-header-clause-values g c =
@@ -39,7 +39,7 @@ returns-in_err-header-clause-values g c =
     rw (p.1, p.2) c.in_err-header.ensures.values
 
 pub returns-in_err-begin-clause-fault : goal.returns-in_err-begin-clause-fault
-returns-in_err-begin-clause-fault g c = memory_fails_behind c.from_residual-in_err-begin.result c.args.self c.args.bytes.now c.from_residual-in_err-begin.ensures.1
+returns-in_err-begin-clause-fault g c = memory_fails_behind c.from_residual-in_err-begin.result c.args.self.now c.args.bytes.now c.from_residual-in_err-begin.ensures.1
 
 pub returns-clause-moves : goal.returns-clause-moves
 returns-clause-moves g c =
@@ -49,6 +49,6 @@ returns-clause-moves g c =
     let all : length unit ≡ HEADER_LENGTH = ap length c.split_at.ensures.front ∙ length-take-le HEADER_LENGTH bytes (omega (arith, c.if-bytes-lt-HEADER_LENGTH.false)) in
     record {
       intake = c.in_ok-begin.ensures.intake;
-      goes = λ more. ap (behind c.args.self) (split_more HEADER_LENGTH bytes unit rest more c.split_at.ensures.front c.split_at.ensures.back) ∙ c.in_ok-begin.ensures.goes unit (rest ++ more) all c.in_ok-header.ensures.header;
+      goes = λ more. ap (behind c.args.self.now) (split_more HEADER_LENGTH bytes unit rest more c.split_at.ensures.front c.split_at.ensures.back) ∙ c.in_ok-begin.ensures.goes unit (rest ++ more) all c.in_ok-header.ensures.header;
       left = (unit, split_whole HEADER_LENGTH bytes unit rest c.split_at.ensures.front c.split_at.ensures.back);
     }

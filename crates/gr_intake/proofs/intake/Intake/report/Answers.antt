@@ -4,7 +4,7 @@ use Rattle.gr_intake.specs.Intakes.{IsGap, come}
 use Rattle.gr_backlog.specs.Waiting.{Coming}
 use Rattle.gr_intake.proofs.Judged.{gap_is_launch_fault, groups_between, launch_taken, memory_is_launch_fault}
 use Rattle.gr_intake.proofs.Faults.{memory_is_of_values}
-use Rattle.gr_intake.proofs.intake.Intake.judge.Goals as goal
+use Rattle.gr_intake.proofs.intake.Intake.report.Goals as goal
 
 pub returns-in-Some-clause-fault : goal.returns-in-Some-clause-fault
 returns-in-Some-clause-fault g c =

@@ -26,7 +26,7 @@ impl<T> Model for History<T> {
 
     ghost Value = { List T };
 
-    ghost use Rattle.gr_history.specs.Histories.{listed};
+    ghost use Rattle.gr_model.specs.Histories.{listed};
 
     ghost view = { λ h. listed h.past.value };
 }

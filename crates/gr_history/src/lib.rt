@@ -1,4 +1,0 @@
-//! Lists that exist in proofs alone and take no bytes.
-#![tactic(auto)]
-
-pub mod history;
