@@ -1,8 +1,9 @@
-use Rattle.std.proofs.Common.{◌≡◌, ◌≢◌, ◌∙◌, ◌<◌, ℕ, [], length, get_or, ap, subst, sym, arith}
-use Rattle.std.proofs.lemmas.List.{get_or_read}
+use Rattle.std.proofs.Common.{◌≡◌, ◌≢◌, ◌∙◌, ◌<◌, ℕ, List, [], length, set, get_or, ap, subst, sym, arith}
+use Rattle.std.proofs.lemmas.List.{get_or_read, set-get_or}
+use Rattle.std.proofs.lemmas.Result.{err_from_is_err_and}
 use Rattle.gr_clocks.specs.declared.clock.TheConstants.{LARGEST_COUNT}
 use Rattle.gr_clocks.specs.Counts.{Counts, CountsOneMore, count_of}
-use Rattle.gr_clocks.specs.Groups.{item_of, GroupClocks, IsFullClock}
+use Rattle.gr_clocks.specs.Groups.{item_of, GroupClocks, IsFullClock, IsGroup}
 use Rattle.gr_clocks.proofs.GroupLemmas.{group_ticked}
 use Rattle.gr_clocks.proofs.group.tick_clocks.Goals as goal
 
@@ -33,4 +34,28 @@ raise_both-requires g c =
       subst (λ (x : Counts). count_of x (item_of c.one.inside.number c.args.item) ≢ LARGEST_COUNT) (sym one_is) one_room,
       subst (λ (x : Counts). count_of x (item_of c.one.inside.number c.args.item) ≢ LARGEST_COUNT) (sym other_is)
           (subst (λ (n : ℕ). count_of (get_or c.other.inside.clocks.items c.args.item []) (item_of n c.args.item) ≢ LARGEST_COUNT) number other_room),
+    )
+
+-- where memory runs out both clocks are as they were
+
+pub invariant_of-one : goal.invariant_of-one
+invariant_of-one g c =
+    let clocks = c.one.inside.clocks.items in
+    let unmoved = ap (set clocks c.args.item) (c.in_err-raise_both.ensures.err.0 ∙ c.index_mut.ensures.value) ∙ set-get_or clocks c.args.item c.index_mut.result.now in
+    subst (λ (cs : List Counts). IsGroup c.one.inside.number c.one.inside.met.value cs c.one.inside.learned.items) (sym unmoved) c.one.invariant
+
+pub invariant_of-other : goal.invariant_of-other
+invariant_of-other g c =
+    let clocks = c.other.inside.clocks.items in
+    let unmoved = ap (set clocks c.args.item) (c.in_err-raise_both.ensures.err.1 ∙ c.index_mut-2.ensures.value) ∙ set-get_or clocks c.args.item c.index_mut-2.result.now in
+    subst (λ (cs : List Counts). IsGroup c.other.inside.number c.other.inside.met.value cs c.other.inside.learned.items) (sym unmoved) c.other.invariant
+
+pub returns-in_err-raise_both-clause-err : goal.returns-in_err-raise_both-clause-err
+returns-in_err-raise_both-clause-err g c =
+    let one = c.one.inside.clocks.items in
+    let other = c.other.inside.clocks.items in
+    let p = err_from_is_err_and c.from_residual.result c.from_residual.ensures.1 in
+    rw (p.1) (
+      ap (λ (cs : List Counts). let x : GroupClocks = record { number = c.one.inside.number; clocks = cs } in x) (ap (set one c.args.item) (c.in_err-raise_both.ensures.err.0 ∙ c.index_mut.ensures.value) ∙ set-get_or one c.args.item c.index_mut.result.now) ∙ c.one.view_is,
+      ap (λ (cs : List Counts). let x : GroupClocks = record { number = c.other.inside.number; clocks = cs } in x) (ap (set other c.args.item) (c.in_err-raise_both.ensures.err.1 ∙ c.index_mut-2.ensures.value) ∙ set-get_or other c.args.item c.index_mut-2.result.now) ∙ c.other.view_is,
     )

@@ -1,8 +1,10 @@
-use Rattle.std.proofs.Common.{◌<◌, ◌∙◌, ℕ, List, ap, length, sym, subst}
+use Rattle.std.proofs.Common.{◌<◌, ◌∙◌, ℕ, List, ap, length, set, sym, subst}
+use Rattle.std.proofs.lemmas.List.{set-get_or}
+use Rattle.std.proofs.lemmas.Result.{err_from_is_err_and}
 use Rattle.gr_model.specs.Shapes.{HasItem}
 use Rattle.gr_clocks.specs.Counts.{CountsOneMore}
 use Rattle.gr_clocks.specs.Groups.{item_of, GroupClocks, IsFullClock, clock_in_group}
-use Rattle.gr_clocks.specs.Tables.{clock_at}
+use Rattle.gr_clocks.specs.Tables.{AreGroups, clock_at, table_of}
 use Rattle.gr_clocks.proofs.RowLemmas.{row_of_item}
 use Rattle.gr_clocks.proofs.TableLemmas.{group_is, item_groups, item_table, ticks_item}
 use Rattle.gr_clocks.proofs.table.tick_both.Goals as goal
@@ -51,4 +53,28 @@ tick_clocks-requires-clause-room g c =
     let other_is = group_is c.other.inside.groups.items c.args.other.now c.other.invariant c.other.view_is c.args.item.group c.index_mut-2.result.now other.0 c.index_mut-2.ensures.value in (
       subst (λ (x : GroupClocks). ¬ IsFullClock x c.args.item.item) (sym one_is) c.requires.room,
       subst (λ (x : GroupClocks). ¬ IsFullClock x c.args.item.item) (sym other_is) c.requires.other_room,
+    )
+
+-- where memory runs out both groups are as they were
+
+pub invariant_of-one : goal.invariant_of-one
+invariant_of-one g c =
+    let groups = c.one.inside.groups.items in
+    let unmoved = ap (set groups c.args.item.group) (c.in_err-tick_clocks.ensures.err.0 ∙ c.index_mut.ensures.value) ∙ set-get_or groups c.args.item.group c.index_mut.result.now in
+    subst AreGroups (sym unmoved) c.one.invariant
+
+pub invariant_of-other : goal.invariant_of-other
+invariant_of-other g c =
+    let groups = c.other.inside.groups.items in
+    let unmoved = ap (set groups c.args.item.group) (c.in_err-tick_clocks.ensures.err.1 ∙ c.index_mut-2.ensures.value) ∙ set-get_or groups c.args.item.group c.index_mut-2.result.now in
+    subst AreGroups (sym unmoved) c.other.invariant
+
+pub returns-in_err-tick_clocks-clause-err : goal.returns-in_err-tick_clocks-clause-err
+returns-in_err-tick_clocks-clause-err g c =
+    let one = c.one.inside.groups.items in
+    let other = c.other.inside.groups.items in
+    let p = err_from_is_err_and c.from_residual.result c.from_residual.ensures.1 in
+    rw (p.1) (
+      ap table_of (ap (set one c.args.item.group) (c.in_err-tick_clocks.ensures.err.0 ∙ c.index_mut.ensures.value) ∙ set-get_or one c.args.item.group c.index_mut.result.now) ∙ c.one.view_is,
+      ap table_of (ap (set other c.args.item.group) (c.in_err-tick_clocks.ensures.err.1 ∙ c.index_mut-2.ensures.value) ∙ set-get_or other c.args.item.group c.index_mut-2.result.now) ∙ c.other.view_is,
     )

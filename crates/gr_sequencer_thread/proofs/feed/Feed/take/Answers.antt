@@ -1,12 +1,13 @@
 use Rattle.std.proofs.Common.{◌≡◌, ◌≢◌, ◌∙◌, ◌<◌, ◌≤◌, ◌++◌, ◌∷◌, [], List, ℕ, rules, arith, ap, sym, subst, set, get_or, length}
 use Rattle.std.specs.Option.{option_map}
-use Rattle.std.proofs.lemmas.List.{length-set}
+use Rattle.std.proofs.lemmas.List.{length-set, set-get_or}
 use Rattle.std.proofs.Math.Seq.{map-set_same}
 use Rattle.gr_clocks.specs.ClockedAccess.{clocked}
 use Rattle.gr_model.specs.Streams.{Streams}
 use Rattle.gr_order.specs.Sequences.{Sequence, taking}
 use Rattle.gr_route.specs.IntakeSeats.{IsNextPopped, Taker}
-use Rattle.gr_sequencer_thread.specs.Feeds.{ArePassedOn, AreSeated, AreTaken, Feed, given_of, intakes_of, works_of}
+use Rattle.gr_sequencer_thread.specs.Feeds.{ArePassedOn, AreSeated, AreTaken, Feed, IsFeed, IsSameRun, given_of, intakes_of, works_of}
+use Rattle.gr_sequencer_thread.proofs.SameRuns.{goes_on}
 use Rattle.gr_sequencer_thread.proofs.TakeLemmas.{may_take, popping, still_seated, still_taken, taken_passed}
 use Rattle.gr_sequencer_thread.proofs.feed.Feed.take.Goals as goal
 
@@ -56,3 +57,27 @@ returns g c =
       intakes = map-set_same (λ (u : Taker). u.queue) takers q c.pop.new.self t queue ∙ ap (λ (f : Feed g.row.A.Denot). intakes_of f.takers) c.self.view_is;
       works = ap (λ (f : Feed g.row.A.Denot). works_of f.givers) c.self.view_is;
     }
+
+-- where there is none nothing changes
+
+pub invariant_of-self : goal.invariant_of-self
+invariant_of-self g c =
+    let takers = c.self.inside.inlets.items in
+    let t = c.index_mut.result.now in
+    let back : c.pop.new.self ≡ t = search rules in
+    let unmoved : set takers c.args.queue c.pop.new.self ≡ takers = ap (set takers c.args.queue) (back ∙ c.index_mut.ensures.value) ∙ set-get_or takers c.args.queue t in
+    subst
+    (λ (ts : List Taker). IsFeed {A = g.row.A.Denot} (record { config = c.self.inside.config; sequence = c.self.inside.sequencer; takers = ts; givers = c.self.inside.outlets.items; in_flight = option_map clocked c.self.inside.in_flight; failed = c.self.inside.failed }))
+    (sym unmoved)
+    c.self.invariant
+
+pub returns-in_err-sent : goal.returns-in_err-sent
+returns-in_err-sent g c =
+    let takers = c.self.inside.inlets.items in
+    let t = c.index_mut.result.now in
+    let back : c.pop.new.self ≡ t = search rules in
+    let unmoved : set takers c.args.queue c.pop.new.self ≡ takers = ap (set takers c.args.queue) (back ∙ c.index_mut.ensures.value) ∙ set-get_or takers c.args.queue t in
+    subst
+    (λ (ts : List Taker). IsSameRun {A = g.row.A.Denot} c.args.self.now (record { config = c.self.inside.config; sequence = c.self.inside.sequencer; takers = ts; givers = c.self.inside.outlets.items; in_flight = option_map clocked c.self.inside.in_flight; failed = c.self.inside.failed }))
+    (sym unmoved)
+    (subst (IsSameRun c.args.self.now) (sym c.self.view_is) (goes_on c.args.self.now))
