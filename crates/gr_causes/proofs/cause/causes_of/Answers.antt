@@ -1,10 +1,11 @@
 use Rattle.std.proofs.Common.{◌≡◌, ◌∙◌, All, List, ap, subst, sym}
+use Rattle.std.specs.Prelude.{IfOk}
 use Rattle.gr_model.specs.Streams.{ArePrefixes, Streams}
 use Rattle.gr_explain.specs.declared.judging.Judgement.{Judgement}
 use Rattle.gr_order.specs.Sequences.{Sequence}
 use Rattle.gr_order.proofs.ForgetLemmas.{none_forgotten}
 use Rattle.gr_judge.specs.Judged.{AreJudgements}
-use Rattle.gr_causes.specs.Causes.{IsPairOf}
+use Rattle.gr_causes.specs.Causes.{AreCauses, IsPairOf}
 use Rattle.gr_causes.specs.Relaxing.{relaxed}
 use Rattle.gr_causes.specs.declared.relaxing.Relaxation.TheVariants.{BothFlags, DeviceScope}
 use Rattle.gr_causes.proofs.cause.causes_of.Goals as goal
@@ -31,3 +32,8 @@ causes_from-requires-clause-scope g c =
 
 pub causes_from-requires-clause-whole : goal.causes_from-requires-clause-whole
 causes_from-requires-clause-whole g c = none_forgotten c.lanes.result.now c.in_ok-order.order.handled (ap (λ (q : Sequence). q.handled) c.in_ok-order.ensures) c.lanes.ensures.forgets
+
+pub returns : goal.returns
+returns g c =
+    let taken : c.lanes.result.now.streams ≡ c.args.traces.now = c.lanes.ensures.taken ∙ ap (λ (q : Sequence). q.taken) c.in_ok-order.ensures in
+    subst (λ (s : Streams). IfOk c.causes_from.result (λ causes. AreCauses s c.args.races.now causes.items)) taken c.causes_from.ensures
