@@ -4,6 +4,7 @@ use Rattle.std.proofs.lemmas.List.{length-set, set-get_or}
 use Rattle.std.proofs.Math.Seq.{map-set_same}
 use Rattle.gr_clocks.specs.ClockedAccess.{ClockedAccess, clocked}
 use Rattle.gr_model.specs.Configs.{worker_number}
+use Rattle.gr_route.specs.WorkRule.{is_stopped}
 use Rattle.gr_route.specs.WorkSeats.{Giver}
 use Rattle.gr_sequencer_thread.specs.Feeds.{AreOpen, ArePassedOn, Feed, IsFeed, given_of, intakes_of, works_of}
 use Rattle.gr_sequencer_thread.proofs.StepLemmas.{giving, pushed_passed, still_unstopped, worker_below}
@@ -15,7 +16,7 @@ invariant_of-self-in-Ok g c =
     let k = c.from-worker.result in
     let x = c.in-Some.access in
     let o = c.index_mut.result.now in
-    let to : k ≡ worker_number x.word config.workers = search rules in
+    let to : k ≡ worker_number x.word config.workers = c.from-worker.ensures ∙ (c.worker_of.ensures ∙ ap (worker_number x.word) c.workers.ensures.number) in
     let there : k < config.workers = subst (λ n. n < config.workers) (sym to) (worker_below x.word config.workers (let some = c.self.invariant.config.workers.0 in omega (arith, some))) in
     let at : o ≡ get_or c.self.inside.outlets.items k o = c.index_mut.ensures.value in
     let pushed : c.push.new.self ≡ giving o x = search rules in
@@ -66,3 +67,51 @@ returns-in-Ok g c =
       intakes = ap (λ (f : Feed g.row.A.Denot). intakes_of f.takers) c.self.view_is;
       works = map-set_same (λ (u : Giver g.row.A.Denot). u.queue) outlets k c.push.new.self o queue ∙ ap (λ (f : Feed g.row.A.Denot). works_of f.givers) c.self.view_is;
     }
+
+pub returns-in-Err-Access : goal.returns-in-Err-Access
+returns-in-Err-Access g c =
+    let outlets = c.self.inside.outlets.items in
+    let k = c.from-worker.result in
+    let o = c.index_mut.result.now in
+    let back : c.push.new.self ≡ o = search rules in
+    let kept : set outlets k c.push.new.self ≡ outlets = ap (set outlets k) (back ∙ c.index_mut.ensures.value) ∙ set-get_or outlets k o in
+    record {
+      config = ap (λ (f : Feed g.row.A.Denot). f.config) c.self.view_is;
+      sizes = ap (λ (f : Feed g.row.A.Denot). f.sequence.taken.sizes) c.self.view_is;
+      intakes = ap (λ (f : Feed g.row.A.Denot). intakes_of f.takers) c.self.view_is;
+      works = ap works_of kept ∙ ap (λ (f : Feed g.row.A.Denot). works_of f.givers) c.self.view_is;
+    }
+
+pub index_mut-requires : goal.index_mut-requires
+index_mut-requires g c =
+    let config = c.self.inside.config in
+    let k = c.from-worker.result in
+    let x = c.in-Some.access in
+    let to : k ≡ worker_number x.word config.workers = c.from-worker.ensures ∙ (c.worker_of.ensures ∙ ap (worker_number x.word) c.workers.ensures.number) in
+    let there : k < config.workers = subst (λ n. n < config.workers) (sym to) (worker_below x.word config.workers (let some = c.self.invariant.config.workers.0 in omega (arith, some))) in
+    let len : length c.self.inside.outlets.items ≡ c.self.inside.outlets.len = search rules in
+    omega (arith, there, len, c.self.invariant.worker_count)
+
+pub push-requires : goal.push-requires
+push-requires g c =
+    let config = c.self.inside.config in
+    let k = c.from-worker.result in
+    let x = c.in-Some.access in
+    let to : k ≡ worker_number x.word config.workers = c.from-worker.ensures ∙ (c.worker_of.ensures ∙ ap (worker_number x.word) c.workers.ensures.number) in
+    let there : k < config.workers = subst (λ n. n < config.workers) (sym to) (worker_below x.word config.workers (let some = c.self.invariant.config.workers.0 in omega (arith, some))) in
+    ap (λ (u : Giver g.row.A.Denot). is_stopped u.pushed) c.index_mut.ensures.value ∙ c.self.invariant.unstopped k c.index_mut.result.now (omega (arith, there, c.self.invariant.worker_count))
+
+-- where nothing is on its way nothing changes
+
+pub invariant_of-self : goal.invariant_of-self
+invariant_of-self g c =
+    subst (λ (w : Option ClockedAccess). IsFeed {A = g.row.A.Denot} (record { config = c.self.inside.config; sequence = c.self.inside.sequencer; takers = c.self.inside.inlets.items; givers = c.self.inside.outlets.items; in_flight = w; failed = c.self.inside.failed }))
+    (ap (option_map clocked) (sym c.take.ensures.value ∙ (c.in_default.is ∙ sym c.take.ensures.after))) c.self.invariant
+
+pub returns-in_default : goal.returns-in_default
+returns-in_default g c = record {
+  config = ap (λ (f : Feed g.row.A.Denot). f.config) c.self.view_is;
+  sizes = ap (λ (f : Feed g.row.A.Denot). f.sequence.taken.sizes) c.self.view_is;
+  intakes = ap (λ (f : Feed g.row.A.Denot). intakes_of f.takers) c.self.view_is;
+  works = ap (λ (f : Feed g.row.A.Denot). works_of f.givers) c.self.view_is;
+}

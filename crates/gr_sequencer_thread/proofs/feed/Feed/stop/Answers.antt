@@ -6,11 +6,12 @@ use Rattle.gr_clocks.specs.ClockedAccess.{ClockedAccess, clocked}
 use Rattle.gr_model.specs.Reports.{IsReportButRaces, WholeReport}
 use Rattle.gr_model.specs.Streams.{AreComplete}
 use Rattle.gr_order.specs.Sequences.{IsDone, Sequence}
+use Rattle.gr_steps.specs.Steps.{IsAtRest}
 use Rattle.gr_report.specs.declared.report.Report.{Report}
 use Rattle.gr_report.specs.Whole.{whole_of}
 use Rattle.gr_route.specs.WorkSeats.{Giver}
-use Rattle.gr_sequencer_thread.specs.Ends.{IsEnd, IsFound}
-use Rattle.gr_sequencer_thread.specs.Feeds.{ArePassedOn, Feed, IsOver, IsFeedWhole, given_of, works_of}
+use Rattle.gr_sequencer_thread.specs.Ends.{End, IsEnd, IsFound, end_line, feed_line}
+use Rattle.gr_sequencer_thread.specs.Feeds.{AreOpen, ArePassedOn, Feed, IsOver, IsFeedWhole, given_of, intakes_of, works_of}
 use Rattle.gr_sequencer_thread.proofs.feed.Feed.stop.Goals as goal
 
 whole_back : {X : Type 0} (n : ℕ) (was now : List X) → length was ≡ n → length now ≡ length was → take n (now ++ drop (length now) was) ≡ now
@@ -29,11 +30,11 @@ of-requires g c =
     let takers = c.self.inside.inlets.items in
     let was = c.self.inside.outlets.items in
     let now = c.stop_all.new.outlets in
-    let slice : c.deref_mut.result.now ≡ was = search rules in
+    let slice : c.deref_mut.result.now ≡ was = c.deref_mut.ensures.value in
     let queues : works_of now ≡ works_of was = c.stop_all.ensures.queues ∙ ap works_of slice in
     let given : given_of now ≡ given_of was = c.stop_all.ensures.given ∙ ap given_of slice in
     let count : length now ≡ length was = sym (length-map now (λ (u : Giver g.row.A.Denot). u.queue)) ∙ (ap length queues ∙ length-map was (λ (u : Giver g.row.A.Denot). u.queue)) in
-    let len : length was ≡ c.self.inside.outlets.len = search rules in
+    let len : length was ≡ c.self.inside.outlets.len = sym (ap length slice) ∙ c.deref_mut.ensures.len in
     let sizes : seq.taken.sizes ≡ c.args.shape = ap (λ (u : Feed g.row.A.Denot). u.sequence.taken.sizes) c.self.view_is ∙ c.requires.shape in
     let whole : c.self.inside.failed ≡ false → IsFeedWhole (record { config = config; sequence = seq; takers = takers; givers = now; in_flight = None; failed = false }) = λ f.
     let good = c.self.invariant.good f in
@@ -60,3 +61,28 @@ of-requires g c =
       found = found_is c.findings-report.result (c.self.inside.failed ≡ false) (IsReportButRaces seq.taken) (IsFound config c.args.shape takers now) c.findings-report.ensures.failed c.findings-report.ensures.report
           (λ f w is. record { sequence = seq; sizes_are = sizes; whole = whole f; report_is = is });
     })
+
+pub stop_all-requires : goal.stop_all-requires
+stop_all-requires g c = subst (λ (gs : List (Giver g.row.A.Denot)). AreOpen gs) (sym c.deref_mut.ensures.value) c.self.invariant.unstopped
+
+pub findings-report-requires-clause-shape : goal.findings-report-requires-clause-shape
+findings-report-requires-clause-shape g c = ap (λ (u : Feed g.row.A.Denot). u.sequence.taken.sizes) c.self.view_is ∙ c.requires.shape
+
+pub findings-report-requires-clause-rest : goal.findings-report-requires-clause-rest
+findings-report-requires-clause-rest g c = λ f.
+    subst (λ (u : Feed g.row.A.Denot). IsAtRest u.sequence.taken u.sequence.handled) (sym c.self.view_is)
+    (c.requires.over (sym (ap (λ (u : Feed g.row.A.Denot). u.failed) c.self.view_is) ∙ f)).done.rest
+
+pub returns : goal.returns
+returns g c =
+    let was = c.self.inside.outlets.items in
+    let now = c.stop_all.new.outlets in
+    let slice : c.deref_mut.result.now ≡ was = c.deref_mut.ensures.value in
+    let queues : works_of now ≡ works_of was = c.stop_all.ensures.queues ∙ ap works_of slice in
+    let count : length now ≡ length was = sym (length-map now (λ (u : Giver g.row.A.Denot). u.queue)) ∙ (ap length queues ∙ length-map was (λ (u : Giver g.row.A.Denot). u.queue)) in
+    let len : length was ≡ c.self.inside.outlets.len = sym (ap length slice) ∙ c.deref_mut.ensures.len in
+    let works = ap works_of (whole_back c.self.inside.outlets.len was now len count) ∙ queues in
+    let sizes = sym (ap (λ (u : Feed g.row.A.Denot). u.sequence.taken.sizes) c.self.view_is ∙ c.requires.shape) in
+    ap (λ (e : End g.row.A.Denot). end_line e) c.of.ensures
+    ∙ ((λ i. record { config = c.self.inside.config; sizes = sizes i; intakes = intakes_of c.self.inside.inlets.items; works = works i })
+    ∙ ap (λ (u : Feed g.row.A.Denot). feed_line u) c.self.view_is)
