@@ -1,5 +1,6 @@
 use Rattle.std.proofs.Common.{◌<◌, arith, get_or, inl, inr, length}
-use Rattle.gr_intake.proofs.Rounds.{IsTurn, round_accepted, round_goes_on, round_there}
+use Rattle.std.proofs.lemmas.Result.{err_from_is_err_and}
+use Rattle.gr_intake.proofs.Rounds.{IsTurn, round_accepted, round_begins, round_goes_on, round_there}
 use Rattle.gr_intake.proofs.waiting.take_round.Goals.{else-branch, then-branch}
 use Rattle.gr_intake.proofs.waiting.take_round.Goals as goal
 
@@ -29,3 +30,63 @@ loop-place-preserved g c =
       sequence = told.sequence;
       shadows = told.shadows;
     }
+
+pub bounds-streams-place : goal.bounds-streams-place
+bounds-streams-place g c = omega (arith, c.loop-place-test.true, c.loop-place.auto.streams)
+
+pub loop-place-init : goal.loop-place-init
+loop-place-init g c = record { round = round_begins c.args.sequencer.now.taken c.args.streams.now; sequence = c.requires.sequence; shadows = c.requires.shadows }
+
+pub take_turn-requires-clause-sequence : goal.take_turn-requires-clause-sequence
+take_turn-requires-clause-sequence g c = c.loop-place.invariant.sequence
+
+pub take_turn-requires-clause-shadows : goal.take_turn-requires-clause-shadows
+take_turn-requires-clause-shadows g c = c.loop-place.invariant.shadows
+
+pub returns-clause-come : goal.returns-clause-come
+returns-clause-come g c = c.loop-place.invariant.round.same
+
+pub returns-clause-sizes : goal.returns-clause-sizes
+returns-clause-sizes g c = c.loop-place.invariant.round.sizes
+
+pub returns-clause-some : goal.returns-clause-some
+returns-clause-some g c = c.loop-place.invariant.round.some
+
+pub returns-clause-none : goal.returns-clause-none
+returns-clause-none g c = λ none k d lt. c.loop-place.invariant.round.none none k d (omega (arith, lt, c.loop-place-test.false, c.loop-place.auto.streams))
+
+pub returns-clause-sequence : goal.returns-clause-sequence
+returns-clause-sequence g c = c.loop-place.invariant.sequence
+
+pub returns-clause-shadows : goal.returns-clause-shadows
+returns-clause-shadows g c = c.loop-place.invariant.shadows
+
+pub returns-in_err-take_turn-clause-come : goal.returns-in_err-take_turn-clause-come
+returns-in_err-take_turn-clause-come g c =
+    let p = err_from_is_err_and c.from_residual.result c.from_residual.ensures.1 in
+    rw (p.1) tt
+
+pub returns-in_err-take_turn-clause-sizes : goal.returns-in_err-take_turn-clause-sizes
+returns-in_err-take_turn-clause-sizes g c =
+    let p = err_from_is_err_and c.from_residual.result c.from_residual.ensures.1 in
+    rw (p.1) tt
+
+pub returns-in_err-take_turn-clause-some : goal.returns-in_err-take_turn-clause-some
+returns-in_err-take_turn-clause-some g c =
+    let p = err_from_is_err_and c.from_residual.result c.from_residual.ensures.1 in
+    rw (p.1) tt
+
+pub returns-in_err-take_turn-clause-none : goal.returns-in_err-take_turn-clause-none
+returns-in_err-take_turn-clause-none g c =
+    let p = err_from_is_err_and c.from_residual.result c.from_residual.ensures.1 in
+    rw (p.1) tt
+
+pub returns-in_err-take_turn-clause-sequence : goal.returns-in_err-take_turn-clause-sequence
+returns-in_err-take_turn-clause-sequence g c =
+    let p = err_from_is_err_and c.from_residual.result c.from_residual.ensures.1 in
+    rw (p.1) tt
+
+pub returns-in_err-take_turn-clause-shadows : goal.returns-in_err-take_turn-clause-shadows
+returns-in_err-take_turn-clause-shadows g c =
+    let p = err_from_is_err_and c.from_residual.result c.from_residual.ensures.1 in
+    rw (p.1) tt
