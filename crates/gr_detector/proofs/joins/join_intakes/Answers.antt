@@ -1,4 +1,4 @@
-use Rattle.std.proofs.Common.{◌≡◌, ◌∙◌, ◌<◌, ◌%◌, ◌∷◌, [], ℕ, List, IsTrue, rules, arith, ap, sym, subst, get_or, length}
+use Rattle.std.proofs.Common.{◌≡◌, ◌∙◌, ◌<◌, ◌%◌, ◌∷◌, [], List, IsTrue, Some, refl, rules, arith, ap, sym, subst, get_or, length}
 use Rattle.std.specs.Vec.Iter.{into_iter_items}
 use Rattle.std.proofs.Math.Nat.{mod-lt}
 use Rattle.std.proofs.Math.Seq.{map-set_same}
@@ -9,7 +9,15 @@ use Rattle.gr_model.specs.Streams.{events_of, is_complete}
 use Rattle.gr_route.specs.IntakeSeats.{Seat, Taker, popped_of}
 use Rattle.gr_sequencer_thread.specs.Feeds.{intakes_of}
 use Rattle.gr_detector.specs.Settling.{AreHere, ArePoppedWhole, IsPoppedWhole, popped_at, pops_of}
+use Rattle.gr_detector.proofs.SetupLemmas.{queue_at}
 use Rattle.gr_detector.proofs.joins.join_intakes.Goals as goal
+
+nothing_left : {X : Type 0} (xs : List X) → length xs ≡ 0 → xs ≡ []
+nothing_left [] e = refl
+nothing_left (x ∷ xs) e = absurd (omega (arith, e))
+
+same_some : {X : Type 0} (x y : X) → Some x ≡ Some y → x ≡ y
+same_some x y e = cc
 
 pub loop-receipt-preserved : goal.loop-receipt-preserved
 loop-receipt-preserved g c =
@@ -37,3 +45,34 @@ loop-receipt-preserved g c =
       here.1,
       λ rest. inv.3 (subst (ArePoppedWhole (pops_of init)) (sym items) (mine, rest)),
     )
+
+pub loop-receipt-init : goal.loop-receipt-init
+loop-receipt-init g c =
+    let gives = c.into_iter-receipt-iterator.ensures.into_iter_gives.0 in
+    (refl, refl, subst (AreHere (intakes_of c.args.inlets.now)) (sym gives) c.requires.here, λ whole. subst (ArePoppedWhole (pops_of c.args.inlets.now)) gives whole)
+
+pub loop-receipt-smaller : goal.loop-receipt-smaller
+loop-receipt-smaller g c = omega (arith, c.in-Some.ensures.steps.1)
+
+pub returns : goal.returns
+returns g c =
+    let left = c.loop-receipt.receipt-iterator in
+    let over : into_iter_items left ≡ [] = nothing_left (into_iter_items left) (sym left.rest.ok.0 ∙ c.in-None.ensures.steps.0) in
+    c.loop-receipt.invariant.3 (subst (ArePoppedWhole (pops_of c.args.inlets.now)) (sym over) tt)
+
+pub join_back-requires : goal.join_back-requires
+join_back-requires g c =
+    let inv = c.loop-receipt.invariant in
+    let init = c.args.inlets.now in
+    let inlets = c.loop-receipt.inlets in
+    let item = c.index-inlets-queue.result in
+    let r = c.in-Some.receipt in
+    let here = subst (AreHere (intakes_of init)) c.in-Some.ensures.steps.0 inv.2 in
+    let some : 0 < length inlets = omega (arith, c.requires.some, c.loop-receipt.auto.inlets) in
+    let group : c.from.result ≡ r.group = c.from.ensures ∙ c.group.ensures in
+    ap (λ (s : Seat). s.queue) c.into_seat.ensures.seat
+    ∙ (same_some r.queue (get_or inlets (r.group % length inlets) item).queue (sym here.0 ∙ queue_at inlets (intakes_of init) r.group item inv.0 some)
+    ∙ ap (λ n. (get_or inlets (n % length inlets) item).queue) (sym group))
+
+pub next-requires : goal.next-requires
+next-requires g c = tt

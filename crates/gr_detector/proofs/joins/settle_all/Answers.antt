@@ -11,6 +11,9 @@ use Rattle.gr_detector.specs.Settling.{IsHitAmong}
 use Rattle.gr_detector.proofs.HitLemmas.{none_among}
 use Rattle.gr_detector.proofs.joins.settle_all.Goals as goal
 
+same_head : {X : Type 0} (x y : X) (xs ys : List X) → x ∷ xs ≡ y ∷ ys → x ≡ y
+same_head x y xs ys e = cc
+
 no_queues : {A : Type 0} (givers : List (Giver A)) → works_of givers ≡ [] → givers ≡ []
 no_queues [] e = refl
 no_queues (o ∷ givers) e = absurd (omega (arith, ap length e))
@@ -43,3 +46,23 @@ returns g c =
     let none : into_iter_items c.loop-worker.left ≡ [] = no_queues (into_iter_items c.loop-worker.left) (sym c.loop-worker.invariant.0 ∙ ap worker_queues over) in
     let all : old.0 ≡ given_of c.args.outlets.items = sym (append-nil old.0) ∙ (ap (λ (l : List (Giver g.row.A.Denot)). old.0 ++ given_of l) (sym none) ∙ old.1) in
     subst (λ (l : List (List ClockedAccess)). IfOk c.loop-worker.words (λ v. Lists WordBelow (IsHitAmong l) v.items)) all old.2
+
+pub loop-worker-smaller : goal.loop-worker-smaller
+loop-worker-smaller g c = omega (arith, c.in-Some.ensures.steps.1)
+
+pub next-requires : goal.next-requires
+next-requires g c = tt
+
+pub settle-more-requires : goal.settle-more-requires
+settle-more-requires g c =
+    let w = c.in-Some.worker in
+    let o = c.in-Some-next.outlet in
+    let both = ap worker_queues (sym c.in-Some.ensures.steps.0) ∙ (c.loop-worker.invariant.0 ∙ ap works_of c.in-Some-next.ensures.items) in
+    ap (λ (u : Giver g.row.A.Denot). u.queue) c.into_seat.ensures ∙ (sym (same_head w.queue o.queue _ _ both) ∙ sym c.join.ensures)
+
+pub unreachable-requires : goal.unreachable-requires
+unreachable-requires g c =
+    let left = c.loop-worker.left in
+    let none : into_iter_items left ≡ [] = nothing_left (into_iter_items left) (sym left.rest.ok.0 ∙ c.in_default.ensures.cases.0) in
+    let both = ap worker_queues (sym c.in-Some.ensures.steps.0) ∙ (c.loop-worker.invariant.0 ∙ ap works_of none) in
+    omega (arith, ap length both)

@@ -1,9 +1,13 @@
-use Rattle.std.proofs.Common.{◌≡◌, ◌∙◌, ◌++◌, ◌∷◌, [], List, append_assoc, ap, arith, sym}
+use Rattle.std.proofs.Common.{◌≡◌, ◌∙◌, ◌++◌, ◌∷◌, [], List, append_assoc, append-nil, ap, arith, length, refl, rules, sym, vec_len}
 use Rattle.std.proofs.lemmas.List.{map_push}
 use Rattle.std.specs.Vec.Iter.{into_iter_items}
 use Rattle.atomic_table.specs.Seated.{TableId}
 use Rattle.gr_detector.specs.Runs.{worker_queues}
 use Rattle.gr_detector.proofs.stop.join_workers.Goals as goal
+
+nothing_left : {X : Type 0} (xs : List X) → length xs ≡ 0 → xs ≡ []
+nothing_left [] e = refl
+nothing_left (x ∷ xs) e = absurd (omega (arith, e))
 
 pub loop-worker-preserved : goal.loop-worker-preserved
 loop-worker-preserved g c =
@@ -16,3 +20,29 @@ loop-worker-preserved g c =
       omega (arith, inv.1, c.in-Some.ensures.steps.1, c.push_reserved.ensures.len),
       omega (arith, inv.2, c.push_reserved.ensures.capacity),
     )
+
+pub loop-worker-init : goal.loop-worker-init
+loop-worker-init g c =
+    let len : vec_len c.args.ends ≡ 0 = search rules in
+    (ap (λ (l : List _). worker_queues l ++ worker_queues (into_iter_items c.into_iter-worker-iterator.result)) c.requires.none ∙ ap worker_queues c.into_iter-worker-iterator.ensures.into_iter_gives.0, omega (arith, len, c.into_iter-worker-iterator.ensures.into_iter_gives.1), c.requires.room)
+
+pub next-requires : goal.next-requires
+next-requires g c = tt
+
+pub join-requires : goal.join-requires
+join-requires g c κs lives = lives
+
+pub push_reserved-requires : goal.push_reserved-requires
+push_reserved-requires g c = omega (arith, c.loop-worker.invariant.1, c.loop-worker.invariant.2, c.in-Some.ensures.steps.1)
+
+pub loop-worker-smaller : goal.loop-worker-smaller
+loop-worker-smaller g c = omega (arith, c.in-Some.ensures.steps.1)
+
+pub returns-clause-count : goal.returns-clause-count
+returns-clause-count g c = omega (arith, c.loop-worker.invariant.1, c.in-None.ensures.steps.0)
+
+pub returns-clause-queues : goal.returns-clause-queues
+returns-clause-queues g c =
+    let before = worker_queues c.loop-worker.ends.items in
+    let over : into_iter_items c.loop-worker.worker-iterator ≡ [] = nothing_left (into_iter_items c.loop-worker.worker-iterator) (sym c.loop-worker.worker-iterator.rest.ok.0 ∙ c.in-None.ensures.steps.0) in
+    sym (append-nil before) ∙ (ap (λ l. before ++ worker_queues l) (sym over) ∙ c.loop-worker.invariant.0)

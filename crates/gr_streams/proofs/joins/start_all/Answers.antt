@@ -1,4 +1,4 @@
-use Rattle.std.proofs.Common.{◌≡◌, ◌∙◌, ◌+◌, ◌++◌, ◌∷◌, [], List, append_assoc, ap, arith, length, map, refl, rules, subst, sym}
+use Rattle.std.proofs.Common.{◌≡◌, ◌∙◌, ◌+◌, ◌++◌, ◌∷◌, [], List, append-nil, append_assoc, ap, arith, length, map, refl, rules, subst, sym}
 use Rattle.std.specs.Prelude.{All, Contains}
 use Rattle.std.specs.Vec.Iter.{into_iter_items}
 use Rattle.std.proofs.lemmas.List.{length-append, length-map, map_push}
@@ -6,10 +6,18 @@ use Rattle.std.proofs.lemmas.List.Elements.{All-push}
 use Rattle.gr_detector.specs.Runs.{IsOfRun}
 use Rattle.gr_record.specs.declared.header.Header.{Header}
 use Rattle.gr_sender.specs.Senders.{Sending}
-use Rattle.gr_streams.specs.Sources.{AreServed, Begun, HasSender, IsHeaded, IsReady, known_of}
+use Rattle.gr_streams.specs.Sources.{AreBegun, AreServed, Begun, HasSender, IsHeaded, IsReady, known_of}
 use Rattle.gr_streams.specs.declared.source.Source.{Source}
 use Rattle.gr_streams.proofs.JoinLemmas.{all_tail, contains_head, placed_next, served_next}
 use Rattle.gr_streams.proofs.joins.start_all.Goals as goal
+
+nothing_left : {X : Type 0} (xs : List X) → length xs ≡ 0 → xs ≡ []
+nothing_left [] e = refl
+nothing_left (x ∷ xs) e = absurd (omega (arith, e))
+
+-- what was yielded is all, where nothing is left
+all_yielded : {X : Type 0} (ys left all : List X) → ys ++ left ≡ all → length left ≡ 0 → ys ≡ all
+all_yielded ys left all is none = sym (append-nil ys) ∙ (ap (λ (l : List _). ys ++ l) (sym (nothing_left left none)) ∙ is)
 
 -- the sender of the first of the sources that are left
 ready : {T : Type 0} (s : Source T) (left rest : List (Source T)) (senders : List Sending) → left ≡ s ∷ rest → AreServed (map (λ (x : Source T). x.header) left) senders → (sender : Sending) → Contains senders sender → sender.group ≡ s.header.group → IsReady s.header sender
@@ -101,3 +109,21 @@ push_reserved-requires g c = omega (arith, c.loop-source.invariant.room, c.in-So
 
 pub returns-clause-run : goal.returns-clause-run
 returns-clause-run g c = c.loop-source.invariant.run
+
+pub returns-clause-begun : goal.returns-clause-begun
+returns-clause-begun g c =
+    let left = c.loop-source.source-iterator in
+    let all = all_yielded c.loop-source.yielded (into_iter_items left) c.args.sources.items c.loop-source.invariant.left (sym left.rest.ok.0 ∙ c.in-None.ensures.steps.0) in
+    subst (λ (l : List (Source _)). AreBegun (map (λ (x : Source _). x.header) l) (map (known_of g.T.Read.remaining) l) c.loop-source.threads.items) all c.loop-source.invariant.begun
+
+pub returns-clause-count : goal.returns-clause-count
+returns-clause-count g c =
+    let left = c.loop-source.source-iterator in
+    let all = all_yielded c.loop-source.yielded (into_iter_items left) c.args.sources.items c.loop-source.invariant.left (sym left.rest.ok.0 ∙ c.in-None.ensures.steps.0) in
+    omega (arith, c.loop-source.invariant.count, ap length all, c.args.sources.ok.0)
+
+pub loop-source-smaller : goal.loop-source-smaller
+loop-source-smaller g c = omega (arith, c.in-Some.ensures.steps.1)
+
+pub next-requires : goal.next-requires
+next-requires g c = tt

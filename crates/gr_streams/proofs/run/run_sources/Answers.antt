@@ -1,4 +1,4 @@
-use Rattle.std.proofs.Common.{◌∙◌, length, map, subst, sym}
+use Rattle.std.proofs.Common.{◌∙◌, arith, length, map, subst, sym}
 use Rattle.std.proofs.lemmas.Result.{IfErr-weaker, IfOk-at_ok, IfOk-weaker}
 use Rattle.gr_detector.specs.Refusals.{IsHandedBack}
 use Rattle.gr_detector.specs.Runs.{IsEachOnce, sent_by}
@@ -54,3 +54,21 @@ returns-clause-report g c =
       exact = IfOk-at_ok (λ report. IsReportOf (sent_by run.sizes receipts) (whole_of report)) h.1 c.finish.ensures.report;
     })
     c.judge.ensures.report
+
+pub start_all-threads-requires-clause-room : goal.start_all-threads-requires-clause-room
+start_all-threads-requires-clause-room g c κs within = omega (arith, c.in_ok-threads.ensures.threads.2, c.len.ensures)
+
+pub start_all-threads-requires-clause-headed : goal.start_all-threads-requires-clause-headed
+start_all-threads-requires-clause-headed g c κs within = c.requires.headed
+
+pub start_all-threads-requires-clause-none : goal.start_all-threads-requires-clause-none
+start_all-threads-requires-clause-none g c κs within = (c.in_ok-threads.ensures.threads.0, c.in_ok-threads.ensures.threads.1)
+
+pub join_all-receipts-requires-clause-none : goal.join_all-receipts-requires-clause-none
+join_all-receipts-requires-clause-none g c = (c.in_ok-threads.ensures.receipts.0, c.in_ok-threads.ensures.receipts.1)
+
+pub join_all-receipts-requires-clause-room : goal.join_all-receipts-requires-clause-room
+join_all-receipts-requires-clause-room g c = omega (arith, c.in_ok-threads.ensures.receipts.2, c.len.ensures, c.start_all-threads.ensures.count)
+
+pub room_for-requires : goal.room_for-requires
+room_for-requires g c κs lives = lives
