@@ -1,7 +1,10 @@
-use Rattle.std.proofs.Common.{◌∙◌, ap, sym}
-use Rattle.std.proofs.lemmas.Result.{IfErr-weaker, IfOk-weaker, err_from_is_err_and}
+use Rattle.std.proofs.Common.{◌∙◌, ◌≢◌, ap, rules, sym}
+use Rattle.std.specs.Io.KnownBytes.{Keeps}
+use Rattle.std.proofs.lemmas.Result.{IfErr-weaker, IfOk-from_err, IfOk-weaker, err_from_is_err_and}
 use Rattle.gr_places.specs.SideLines.{places_in}
-use Rattle.gr_sides.proofs.FileLemmas.{places_refused, unread}
+use Rattle.gr_record.specs.declared.fault.Fault.TheVariants as faults
+use Rattle.gr_sides.specs.declared.fault.SidesFault.TheVariants.{Run}
+use Rattle.gr_sides.proofs.FileLemmas.{places_refused, same_fault, unread}
 use Rattle.gr_long.proofs.LaterLemmas.{holds_later, later_refused}
 use Rattle.gr_json.proofs.files.show_account_json_of_files.Goals as goal
 
@@ -50,3 +53,91 @@ returns-clause-prefix g c =
     IfErr-weaker c.show_with_places.result _ _ (λ f shown is. holds_later g.T.Read.remaining _ _ _ (record { places = files.places; buffers = files.buffers }) files.streams.items c.in_ok-places.ensures.opened
     c.in_ok-place_bytes.place_bytes.items c.in_ok-place_bytes.ensures.bytes _ said c.in_ok-buffer_bytes.buffer_bytes.items c.in_ok-buffer_bytes.ensures.bytes _ (rw (c.deref-2.ensures.value, c.deref-3.ensures.value) at (shown is)))
     c.show_with_places.ensures.prefix
+
+pub returns-in_err-places-clause-shown : goal.returns-in_err-places-clause-shown
+returns-in_err-places-clause-shown g c =
+    IfOk-from_err c.from_residual.result _ c.from_residual.ensures.0
+
+pub returns-in_err-places-clause-untouched : goal.returns-in_err-places-clause-untouched
+returns-in_err-places-clause-untouched g c =
+    let p = err_from_is_err_and c.from_residual.result c.from_residual.ensures.1 in
+    let kept : Keeps (g.W.Write.contents c.args.writer.now) (g.W.Write.contents c.args.writer.now) = search rules in
+    rw (p.1) (λ _. kept)
+
+pub returns-in_err-places-clause-prefix : goal.returns-in_err-places-clause-prefix
+returns-in_err-places-clause-prefix g c =
+    let p = err_from_is_err_and c.from_residual.result c.from_residual.ensures.1 in
+    let unlike : c.in_err-places.field-0.0 ≢ faults.Write = search (rules, c.in_err-places.ensures.fault) in
+    rw (p.1, p.2) (λ is. absurd (unlike (same_fault _ _ is)))
+
+pub returns-in_err-places-clause-threads : goal.returns-in_err-places-clause-threads
+returns-in_err-places-clause-threads g c =
+    let p = err_from_is_err_and c.from_residual.result c.from_residual.ensures.1 in
+    let unlike : c.in_err-places.field-0.0 ≢ faults.Threads = search (rules, c.in_err-places.ensures.fault) in
+    rw (p.1, p.2) (λ is. absurd (unlike (same_fault _ _ is)))
+
+pub returns-in_err-place_bytes-clause-shown : goal.returns-in_err-place_bytes-clause-shown
+returns-in_err-place_bytes-clause-shown g c =
+    IfOk-from_err c.from_residual-in_err-place_bytes.result _ c.from_residual-in_err-place_bytes.ensures.0
+
+pub returns-in_err-place_bytes-clause-untouched : goal.returns-in_err-place_bytes-clause-untouched
+returns-in_err-place_bytes-clause-untouched g c =
+    let p = err_from_is_err_and c.from_residual-in_err-place_bytes.result c.from_residual-in_err-place_bytes.ensures.1 in
+    let kept : Keeps (g.W.Write.contents c.args.writer.now) (g.W.Write.contents c.args.writer.now) = search rules in
+    rw (p.1) (λ _. kept)
+
+pub returns-in_err-place_bytes-clause-prefix : goal.returns-in_err-place_bytes-clause-prefix
+returns-in_err-place_bytes-clause-prefix g c =
+    let p = err_from_is_err_and c.from_residual-in_err-place_bytes.result c.from_residual-in_err-place_bytes.ensures.1 in
+    let unlike : c.in_err-place_bytes.field-0.0 ≢ faults.Write = search (rules, c.in_err-place_bytes.ensures.faults) in
+    rw (p.1, p.2) (λ is. absurd (unlike (same_fault _ _ is)))
+
+pub returns-in_err-place_bytes-clause-threads : goal.returns-in_err-place_bytes-clause-threads
+returns-in_err-place_bytes-clause-threads g c =
+    let p = err_from_is_err_and c.from_residual-in_err-place_bytes.result c.from_residual-in_err-place_bytes.ensures.1 in
+    let unlike : c.in_err-place_bytes.field-0.0 ≢ faults.Threads = search (rules, c.in_err-place_bytes.ensures.faults) in
+    rw (p.1, p.2) (λ is. absurd (unlike (same_fault _ _ is)))
+
+pub returns-in_err-places-2-clause-shown : goal.returns-in_err-places-2-clause-shown
+returns-in_err-places-2-clause-shown g c =
+    IfOk-from_err c.from_residual-in_err-places-2.result _ c.from_residual-in_err-places-2.ensures.0
+
+pub returns-in_err-places-2-clause-untouched : goal.returns-in_err-places-2-clause-untouched
+returns-in_err-places-2-clause-untouched g c =
+    let p = err_from_is_err_and c.from_residual-in_err-places-2.result c.from_residual-in_err-places-2.ensures.1 in
+    let kept : Keeps (g.W.Write.contents c.args.writer.now) (g.W.Write.contents c.args.writer.now) = search rules in
+    rw (p.1) (λ _. kept)
+
+pub returns-in_err-places-2-clause-prefix : goal.returns-in_err-places-2-clause-prefix
+returns-in_err-places-2-clause-prefix g c =
+    let p = err_from_is_err_and c.from_residual-in_err-places-2.result c.from_residual-in_err-places-2.ensures.1 in
+    let unlike : c.in_err-places-2.field-0.0 ≢ Run faults.Write = search (rules, c.in_err-places-2.ensures.fault) in
+    rw (p.1, p.2) (λ is. absurd (unlike is))
+
+pub returns-in_err-places-2-clause-threads : goal.returns-in_err-places-2-clause-threads
+returns-in_err-places-2-clause-threads g c =
+    let p = err_from_is_err_and c.from_residual-in_err-places-2.result c.from_residual-in_err-places-2.ensures.1 in
+    let unlike : c.in_err-places-2.field-0.0 ≢ Run faults.Threads = search (rules, c.in_err-places-2.ensures.fault) in
+    rw (p.1, p.2) (λ is. absurd (unlike is))
+
+pub returns-in_err-buffer_bytes-clause-shown : goal.returns-in_err-buffer_bytes-clause-shown
+returns-in_err-buffer_bytes-clause-shown g c =
+    IfOk-from_err c.from_residual-in_err-buffer_bytes.result _ c.from_residual-in_err-buffer_bytes.ensures.0
+
+pub returns-in_err-buffer_bytes-clause-untouched : goal.returns-in_err-buffer_bytes-clause-untouched
+returns-in_err-buffer_bytes-clause-untouched g c =
+    let p = err_from_is_err_and c.from_residual-in_err-buffer_bytes.result c.from_residual-in_err-buffer_bytes.ensures.1 in
+    let kept : Keeps (g.W.Write.contents c.args.writer.now) (g.W.Write.contents c.args.writer.now) = search rules in
+    rw (p.1) (λ _. kept)
+
+pub returns-in_err-buffer_bytes-clause-prefix : goal.returns-in_err-buffer_bytes-clause-prefix
+returns-in_err-buffer_bytes-clause-prefix g c =
+    let p = err_from_is_err_and c.from_residual-in_err-buffer_bytes.result c.from_residual-in_err-buffer_bytes.ensures.1 in
+    let unlike : c.in_err-buffer_bytes.field-0.0 ≢ faults.Write = search (rules, c.in_err-buffer_bytes.ensures.faults) in
+    rw (p.1, p.2) (λ is. absurd (unlike (same_fault _ _ is)))
+
+pub returns-in_err-buffer_bytes-clause-threads : goal.returns-in_err-buffer_bytes-clause-threads
+returns-in_err-buffer_bytes-clause-threads g c =
+    let p = err_from_is_err_and c.from_residual-in_err-buffer_bytes.result c.from_residual-in_err-buffer_bytes.ensures.1 in
+    let unlike : c.in_err-buffer_bytes.field-0.0 ≢ faults.Threads = search (rules, c.in_err-buffer_bytes.ensures.faults) in
+    rw (p.1, p.2) (λ is. absurd (unlike (same_fault _ _ is)))
