@@ -1,5 +1,9 @@
-use Rattle.std.proofs.Common.{arith}
-use Rattle.std.proofs.lemmas.List.{take_all}
+use Rattle.std.proofs.Common.{◌≡◌, ◌≢◌, ◌∙◌, All, ap, arith, length, refl, subst, sym, take, ◌++◌, ◌∷◌, []}
+use Rattle.std.proofs.lemmas.List.{get_or-map, length-map, take_all, take_more}
+use Rattle.std.proofs.lemmas.Bool.{false≢true}
+use Rattle.std.proofs.lemmas.List.Elements.{All-push}
+use Rattle.gr_clocks.specs.declared.clock.TheConstants.{LARGEST_COUNT}
+use Rattle.gr_clocks.specs.Counts.{Counts, count_of}
 use Rattle.gr_clocks.proofs.ReleaseLemmas.{none_spent}
 use Rattle.gr_clocks.proofs.clocks.are_spent.Goals as goal
 
@@ -9,3 +13,28 @@ returns g c =
       λ no. absurd (cc),
       λ spent. absurd (none_spent (λ s. s.now) c.args.snapshots.now c.args.item (rw (← whole) c.loop-snapshot.invariant) spent),
     )
+
+pub loop-snapshot-init : goal.loop-snapshot-init
+loop-snapshot-init g c k d below full = absurd (omega (arith, below))
+
+pub returns-then-is_spent : goal.returns-then-is_spent
+returns-then-is_spent g c =
+    let r = c.snapshot-item.result in
+    let i = c.loop-snapshot.snapshot-index in (
+      λ yes. (
+        i, r.now,
+        omega (arith, c.loop-snapshot-test.true, length-map c.args.snapshots.now (λ s. s.now)),
+        get_or-map (λ s. s.now) c.args.snapshots.now i r r.now c.loop-snapshot-test.true ∙ ap (λ s. s.now) (sym c.snapshot-item.is),
+        ap (λ (v : Counts). count_of v c.args.item) (sym c.clock.ensures) ∙ c.is_spent.ensures.0 c.if-is_spent.true,
+      ),
+      λ spent. refl,
+    )
+
+pub loop-snapshot-preserved : goal.loop-snapshot-preserved
+loop-snapshot-preserved g c =
+    let r = c.snapshot-item.result in
+    let i = c.loop-snapshot.snapshot-index in
+    let more = take_more c.args.snapshots.now i r c.loop-snapshot-test.true in
+    let room : count_of r.now.clock c.args.item ≢ LARGEST_COUNT = λ full. false≢true (c.if-is_spent.ensures.1 (ap (λ (v : Counts). count_of v c.args.item) c.clock.ensures ∙ full)) in
+    subst (All (λ s. count_of s.now.clock c.args.item ≢ LARGEST_COUNT)) (sym (more ∙ ap (λ x. take i c.args.snapshots.now ++ x ∷ []) (sym c.snapshot-item.is)))
+    (All-push (λ s. count_of s.now.clock c.args.item ≢ LARGEST_COUNT) (take i c.args.snapshots.now) r c.loop-snapshot.invariant room)
