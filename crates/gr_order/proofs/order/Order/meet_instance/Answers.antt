@@ -1,5 +1,6 @@
-use Rattle.std.proofs.Common.{◌≡◌, ◌∙◌, ◌-◌, ℕ, List, ap, arith, get_or, length, map, subst, sym}
+use Rattle.std.proofs.Common.{◌≡◌, ◌∙◌, ◌-◌, ◌<◌, ℕ, List, ap, arith, get_or, length, map, subst, sym}
 use Rattle.gr_model.specs.Streams.{Streams, size_of}
+use Rattle.gr_clocks.specs.Counts.{sizes_of}
 use Rattle.gr_steps.specs.Steps.{CanMeet}
 use Rattle.gr_order.specs.Sequences.{MeetsNext, Sequence}
 use Rattle.gr_order.specs.Waiting.{IsKept}
@@ -79,3 +80,25 @@ returns-clause-step g c =
 
 pub returns-clause-sequence : goal.returns-clause-sequence
 returns-clause-sequence g c = (invariant_of-self g c).kept.state.sequence
+
+-- the group is there, for what is called
+
+pub items-size-requires : goal.items-size-requires
+items-size-requires g c =
+    let q : Sequence = record { taken = c.self.inside.lanes.streams; handled = c.self.inside.handled } in
+    let can = subst (λ (v : Sequence). CanMeet v.taken v.handled c.args.group) (sym c.self.view_is) c.requires in
+    let there : c.args.group < length c.self.inside.lanes.streams.sizes = group_there q c.self.inside.frontier c.self.inside.held c.self.invariant.kept.state c.args.group can.0 can.1 can.2 in
+    omega (arith, there, ap length c.shape.ensures.sizes)
+
+pub count_next_events-requires-clause-group : goal.count_next_events-requires-clause-group
+count_next_events-requires-clause-group g c =
+    let q : Sequence = record { taken = c.self.inside.lanes.streams; handled = c.self.inside.handled } in
+    let can = subst (λ (v : Sequence). CanMeet v.taken v.handled c.args.group) (sym c.self.view_is) c.requires in
+    let there : c.args.group < length c.self.inside.lanes.streams.sizes = group_there q c.self.inside.frontier c.self.inside.held c.self.invariant.kept.state c.args.group can.0 can.1 can.2 in
+    omega (arith, there, ap length c.self.invariant.kept.state.shape)
+
+pub count_next_events-requires-clause-items : goal.count_next_events-requires-clause-items
+count_next_events-requires-clause-items g c =
+    let size : c.items-size.result ≡ size_of c.self.inside.lanes.streams c.args.group = c.items-size.ensures.size ∙ ap (λ (l : List ℕ). get_or l c.args.group 0) c.shape.ensures.sizes in
+    let counted : get_or (sizes_of c.self.inside.frontier) c.args.group 0 ≡ size_of c.self.inside.lanes.streams c.args.group = ap (λ (l : List ℕ). get_or l c.args.group 0) c.self.invariant.kept.state.shape in
+    omega (arith, size, counted)

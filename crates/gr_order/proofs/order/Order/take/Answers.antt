@@ -1,9 +1,13 @@
-use Rattle.std.proofs.Common.{◌≡◌, ◌∙◌, ◌+◌, ℕ, ap, arith, not, subst, sym}
+use Rattle.std.proofs.Common.{◌≡◌, ◌∙◌, ◌+◌, ◌<◌, ℕ, ap, arith, length, not, subst, sym}
+use Rattle.std.proofs.lemmas.Result.{err_from_is_err_and}
+use Rattle.gr_model.specs.declared.limits.TheConstants.{MOST_RECORDS}
+use Rattle.gr_model.specs.Streams.{list_of}
+use Rattle.gr_lanes.specs.Takes.{CanTake, IsTakeFault}
 use Rattle.gr_model.specs.Events.{is_end}
 use Rattle.gr_lanes.specs.Remembered.{Remembered}
 use Rattle.gr_order.proofs.ForgetLemmas.{forgets_taken}
 use Rattle.gr_order.specs.Waiting.{IsOrder}
-use Rattle.gr_order.specs.Sequences.{Sequence}
+use Rattle.gr_order.specs.Sequences.{Sequence, taking}
 use Rattle.gr_order.proofs.HeldLemmas.{held_most}
 use Rattle.gr_order.proofs.StateLemmas.{took}
 use Rattle.gr_order.proofs.TakenLemmas.{one_at_most, one_if}
@@ -47,3 +51,45 @@ invariant_of-self-in-Err g c =
       };
       forgets = c.self.invariant.forgets;
     })
+
+pub take_accepted-requires : goal.take_accepted-requires
+take_accepted-requires g c = record {
+  can = c.in-None.ensures.fault;
+  good = c.requires.good;
+  room = subst (λ (v : Sequence). length (list_of v.taken c.args.group) < MOST_RECORDS) (sym c.self.view_is) c.requires.room;
+}
+
+pub returns-in-Ok-clause-ok : goal.returns-in-Ok-clause-ok
+returns-in-Ok-clause-ok g c =
+    let q : Sequence = record { taken = c.self.inside.lanes.streams; handled = c.self.inside.handled } in
+    let new : Sequence = record { taken = c.take_accepted.new.self.streams; handled = c.self.inside.handled } in
+    let is : new ≡ taking q c.args.group c.args.event = λ k. record { taken = (c.in-Ok.ensures.ok k).streams; handled = c.self.inside.handled } in (
+      subst (λ (v : Sequence). CanTake v.taken c.args.group c.args.event) c.self.view_is c.in-None.ensures.fault,
+      is ∙ ap (λ (v : Sequence). taking v c.args.group c.args.event) c.self.view_is,
+    )
+
+-- where memory ran out nothing changes
+
+pub invariant_of-self : goal.invariant_of-self
+invariant_of-self g c = rw c.in_err-keep.ensures.err c.self.invariant
+
+pub returns-in_err-keep-clause-unchanged : goal.returns-in_err-keep-clause-unchanged
+returns-in_err-keep-clause-unchanged g c =
+    let p = err_from_is_err_and c.from_residual.result c.from_residual.ensures.1 in
+    rw (p.1) c.self.view_is
+
+pub returns-in_err-keep-clause-err : goal.returns-in_err-keep-clause-err
+returns-in_err-keep-clause-err g c =
+    let can : CanTake c.args.self.now.taken c.args.group c.args.event = subst (λ (v : Sequence). CanTake v.taken c.args.group c.args.event) c.self.view_is c.in-None.ensures.fault in
+    let p = err_from_is_err_and c.from_residual.result c.from_residual.ensures.1 in
+    rw (p.1) (subst (IsTakeFault c.args.self.now.taken c.args.group c.args.event) (sym p.2) can)
+
+pub returns-in-Err-clause-unchanged : goal.returns-in-Err-clause-unchanged
+returns-in-Err-clause-unchanged g c =
+    let q : Sequence = record { taken = c.self.inside.lanes.streams; handled = c.self.inside.handled } in
+    let new : Sequence = record { taken = c.take_accepted.new.self.streams; handled = c.self.inside.handled } in
+    let is : new ≡ q = λ k. record { taken = (c.in-Err.ensures.unchanged k).streams; handled = c.self.inside.handled } in
+    is ∙ c.self.view_is
+
+pub returns-in-Err-clause-err : goal.returns-in-Err-clause-err
+returns-in-Err-clause-err g c = subst (λ (v : Sequence). CanTake v.taken c.args.group c.args.event) c.self.view_is c.in-None.ensures.fault

@@ -1,4 +1,5 @@
-use Rattle.std.proofs.Common.{◌<◌, ℕ, length, rules, subst}
+use Rattle.std.proofs.Common.{◌∙◌, ◌<◌, ◌≤◌, ℕ, ap, arith, length, rules, subst, sym}
+use Rattle.std.proofs.lemmas.Result.{err_from_is_err_and}
 use Rattle.std.specs.Prelude.{IfErr}
 use Rattle.gr_order.specs.Sequences.{MeetsInstance}
 use Rattle.gr_sequencer.specs.Answers.{IsOfGroup, IsStep as IsSequencerStep}
@@ -8,7 +9,7 @@ use Rattle.gr_order.specs.Sequences.{Sequence}
 use Rattle.gr_world.specs.declared.step.Step.TheVariants.{Meet}
 use Rattle.gr_world.specs.Steps.{IsStepRefusal, IsWorldStep}
 use Rattle.gr_world.specs.Views.{world_of}
-use Rattle.gr_world.specs.Worlds.{World, going_on}
+use Rattle.gr_world.specs.Worlds.{IsWorld, World, going_on}
 use Rattle.gr_world.proofs.InFlightLemmas.{meet_refused, meeting_is_world, met_is_step}
 use Rattle.gr_world.proofs.world.World.meet.Goals as goal
 
@@ -38,3 +39,18 @@ returns-in_err-_met-clause-err g c =
     let there : c.args.group < length w.sent.sizes = search rules in
     subst (λ (v : World). IfErr c.from_residual.result (IsStepRefusal v (Meet c.args.group))) c.self.view_is
     (meet_refused w c.args.group c.from_residual.result c.in_err-_met.field-0.0 c.from_residual.ensures.1 there c.in_err-_met.ensures.err)
+
+-- where nothing of the group may meet, nothing changes
+
+pub invariant_of-self : goal.invariant_of-self
+invariant_of-self g c =
+    subst (λ (s : Sequence). IsWorld (world_of c.self.inside.config c.self.inside.sent.streams c.self.inside.intakes.items s c.self.inside.in_flight c.self.inside.workers.items)) (sym c.in_err-_met.ensures.unchanged) c.self.invariant
+
+pub returns-in_err-_met-clause-unchanged : goal.returns-in_err-_met-clause-unchanged
+returns-in_err-_met-clause-unchanged g c =
+    let p = err_from_is_err_and c.from_residual.result c.from_residual.ensures.1 in
+    rw (p.1) (ap (λ (s : Sequence). world_of c.self.inside.config c.self.inside.sent.streams c.self.inside.intakes.items s c.self.inside.in_flight c.self.inside.workers.items) c.in_err-_met.ensures.unchanged ∙ c.self.view_is)
+
+pub returns-then-group-groups-clause-err : goal.returns-then-group-groups-clause-err
+returns-then-group-groups-clause-err g c = subst (λ (v : World). length v.sent.sizes ≤ c.args.group) c.self.view_is
+    (omega (arith, c.if-group-groups.true, c.groups.ensures.count, ap length c.shape.ensures.sizes))

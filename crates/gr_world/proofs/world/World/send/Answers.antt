@@ -1,0 +1,51 @@
+use Rattle.std.proofs.Common.{◌≡◌, ◌+◌, ◌<◌, ◌≤◌, ◌⊎◌, ℕ, IsFalse, inl, inr, ap, arith, length, subst, sym, true≢false, ⊎_elim}
+use Rattle.std.proofs.lemmas.Result.{IfErr-weaker, on_ok_weaker}
+use Rattle.gr_model.specs.declared.event.Event.{Event}
+use Rattle.gr_model.specs.declared.limits.TheConstants.{MOST_RECORDS}
+use Rattle.gr_model.specs.Streams.{list_of}
+use Rattle.gr_world.specs.declared.step.Step.TheVariants.{Send}
+use Rattle.gr_world.specs.declared.step.StepError.{StepError}
+use Rattle.gr_world.specs.declared.step.StepError.TheVariants.{BadStep, NotOpen, Full, Empty, Busy, NotReady, Memory}
+use Rattle.gr_world.specs.Putting.{IsPutFault, MayPut, Queues}
+use Rattle.gr_world.specs.Steps.{IsAllowed, IsBad, IsBadEvent, IsStepRefusal, IsWorldStep}
+use Rattle.gr_world.specs.Worlds.{World}
+use Rattle.gr_world.proofs.world.World.send.Goals as goal
+
+module _ (w : World) (g : ℕ) (x : Event) (good : ¬ IsBad w (Send g x)) where
+  may_send : MayPut w g → IsAllowed w (Send g x)
+  may_send may = record { good = good; unclosed = may.unclosed; room = λ full. full may.room; some = λ bad. bad; free = λ bad. bad; ready = λ bad. bad }
+
+  refused : (e : StepError) → IsPutFault w g e → IsStepRefusal w (Send g x) e
+  refused BadStep fault = absurd fault
+  refused NotOpen fault = (good, fault)
+  refused Full fault = (good, fault.0, fault.1)
+  refused Empty fault = absurd fault
+  refused Busy fault = absurd fault
+  refused NotReady fault = absurd fault
+  refused Memory may = may_send may
+
+pub put-requires-clause-group : goal.put-requires-clause-group
+put-requires-clause-group g c = subst (λ (v : World). c.args.group < length v.sent.sizes) c.self.view_is
+    (omega (arith, c.if-group-groups.false, c.groups.ensures.count, ap length c.shape.ensures.sizes))
+
+pub put-requires-clause-room : goal.put-requires-clause-room
+put-requires-clause-room g c = λ _.
+    let few : ¬ (MOST_RECORDS ≤ length (list_of c.args.self.now.sent c.args.group) + 1) = λ many. true≢false (sym (c.if-is_bad.ensures.1 (inr (inr many)))) in
+    omega (arith, few)
+
+pub returns-clause-step : goal.returns-clause-step
+returns-clause-step g c =
+    let there : c.args.group < length c.args.self.now.sent.sizes = subst (λ (v : World). c.args.group < length v.sent.sizes) c.self.view_is
+    (omega (arith, c.if-group-groups.false, c.groups.ensures.count, ap length c.shape.ensures.sizes)) in
+    let good : ¬ IsBad c.args.self.now (Send c.args.group c.args.event) = λ bad. ⊎_elim (λ (le : length c.args.self.now.sent.sizes ≤ c.args.group). omega (arith, le, there)) (λ (ill : IsBadEvent c.args.self.now c.args.group c.args.event). true≢false (sym (c.if-is_bad.ensures.1 ill))) bad in
+    on_ok_weaker c.put.result (λ (q : Queues c.args.self.now c.args.group c.args.event c.put.new.self). record { allowed = may_send c.args.self.now c.args.group c.args.event good q.may; leads = q.sends }) c.put.ensures.ok
+
+pub returns-clause-err : goal.returns-clause-err
+returns-clause-err g c =
+    let there : c.args.group < length c.args.self.now.sent.sizes = subst (λ (v : World). c.args.group < length v.sent.sizes) c.self.view_is
+    (omega (arith, c.if-group-groups.false, c.groups.ensures.count, ap length c.shape.ensures.sizes)) in
+    let good : ¬ IsBad c.args.self.now (Send c.args.group c.args.event) = λ bad. ⊎_elim (λ (le : length c.args.self.now.sent.sizes ≤ c.args.group). omega (arith, le, there)) (λ (ill : IsBadEvent c.args.self.now c.args.group c.args.event). true≢false (sym (c.if-is_bad.ensures.1 ill))) bad in
+    IfErr-weaker c.put.result (IsPutFault c.args.self.now c.args.group) (IsStepRefusal c.args.self.now (Send c.args.group c.args.event)) (refused c.args.self.now c.args.group c.args.event good) c.put.ensures.err
+
+pub returns-clause-unchanged : goal.returns-clause-unchanged
+returns-clause-unchanged g c = c.put.ensures.unchanged
