@@ -1,7 +1,7 @@
 -- What was taken of groups, by what was taken of each.
-use Rattle.std.proofs.Common.{◌≡◌, ℕ, zero, suc, ◌+◌, ◌<◌, ◌≤◌, List, [], ◌∷◌, ◌++◌, length, map, get_or, set, take, filter, Some, slice_get, refl, sym, ap, ◌∙◌, subst, ⊎_elim, arith, IsTrue, true}
+use Rattle.std.proofs.Common.{◌≡◌, ℕ, zero, suc, ◌+◌, ◌<◌, ◌≤◌, List, [], ◌∷◌, ◌++◌, length, map, get_or, set, take, filter, Some, slice_get, refl, sym, ap, ◌∙◌, subst, ⊎_elim, arith, IsTrue, false, true}
 use Rattle.std.specs.Prelude.{nat_lt}
-use Rattle.std.proofs.lemmas.Bool.{cases_eq, cases_lt, ltb-true, false_from_ne_true}
+use Rattle.std.proofs.lemmas.Bool.{cases_eq, cases_lt, ltb-false, ltb-true, false_from_ne_true}
 use Rattle.std.proofs.lemmas.List.{length-set, length-map, map-set, get_or-map, get_or_past, get_or-set_same, get_or-set_other, map-append, take_more}
 use Rattle.std.proofs.Math.Seq.{map-set_same}
 use Rattle.gr_model.specs.declared.event.Event.{Event}
@@ -320,6 +320,17 @@ module _ (sizes : List ℕ) (groups found : List GroupList) (are : AreGroups siz
 
   pub is_cut_only : IsCut r.streams h → EndsCut now.list
   is_cut_only cut = subst EndsCut (sym list_is) (cut.1, cut.2, cut.3, cut.4)
+
+-- a group that is not there
+module _ (sizes : List ℕ) (groups found : List GroupList) (is : found ≡ groups) (g h : ℕ) (here : g ≡ h) (beyond : false ≡ nat_lt g (length found)) (r : Remembered) (seen : remembered_of sizes groups ≡ r) where
+  outside : length groups ≤ h
+  outside = let past = ltb-false g (length found) (sym beyond) in omega (arith, past, ap length is, here)
+
+  pub list_none : list_of r.streams h ≡ []
+  list_none = ap (λ (t : Remembered). list_of t.streams h) (sym seen) ∙ get_or_past (map (λ (x : GroupList). x.list) groups) h [] (omega (arith, outside, length-map groups (λ (x : GroupList). x.list)))
+
+  pub forgotten_none : forgotten_of r h ≡ 0
+  forgotten_none = ap (λ (t : Remembered). forgotten_of t h) (sym seen) ∙ get_or_past (map (λ (x : GroupList). x.forgotten) groups) h 0 (omega (arith, outside, length-map groups (λ (x : GroupList). x.forgotten)))
 
 -- ---- a group comes
 

@@ -1,6 +1,6 @@
 -- The events of the first entries of a list, and those of them that a clock counts.
 use Rattle.std.proofs.Common.{◌≡◌, ℕ, ◌+◌, ◌<◌, List, [], ◌∷◌, ◌++◌, ap, sym, ◌∙◌, get_or, length, subst, take}
-use Rattle.std.proofs.lemmas.List.{map-append, take_more}
+use Rattle.std.proofs.lemmas.List.{length-map, map-append, take_more}
 use Rattle.gr_model.specs.declared.event.EventId.{EventId}
 use Rattle.gr_clocks.specs.Counts.{Counts}
 use Rattle.gr_timeline.specs.declared.entry.Entry.{Entry}
@@ -11,6 +11,11 @@ use Rattle.gr_timeline.proofs.SelectionLemmas.{other_more, those_more}
 module _ {Z : Type 0} where
   lines_more : (entries : List (Entry Z)) (e : Entry Z) → events_of (lines_of (entries ++ e ∷ [])) ≡ events_of (lines_of entries) ++ e.event ∷ []
   lines_more entries e = ap events_of (map-append line_of entries (e ∷ [])) ∙ map-append (λ l. l.event) (lines_of entries) (line_of e ∷ [])
+
+  -- an entry is added, below as many as there are
+  pub line_pushed : (old new : List (Entry Z)) (e : Entry Z) → new ≡ old ++ e ∷ [] → e.above ≡ length old → lines_of new ≡ lines_of old ++ record { event = e.event; above = length (lines_of old); behind = e.behind.items } ∷ []
+  line_pushed old new e is above =
+      ap lines_of is ∙ (map-append line_of old (e ∷ []) ∙ ap (λ (n : ℕ). lines_of old ++ record { event = e.event; above = n; behind = e.behind.items } ∷ []) (above ∙ sym (length-map old line_of)))
 
   module _ (c : Counts) (entries : List (Entry Z)) (i : ℕ) (e : Entry Z) (lt : i < length entries) (here : e ≡ get_or entries i e) (behind new : List EventId) (are : AreThose (IsCounted c) (events_of (lines_of (take i entries))) behind) where
     events_more : events_of (lines_of (take (i + 1) entries)) ≡ events_of (lines_of (take i entries)) ++ e.event ∷ []

@@ -1,5 +1,6 @@
 use Rattle.std.proofs.Common.{◌∙◌, ◌++◌, ◌<◌, List, ap, arith, length, subst, sym}
 use Rattle.std.proofs.lemmas.List.{length-append}
+use Rattle.std.proofs.lemmas.Result.{err_from_is_err_and}
 use Rattle.gr_model.specs.declared.event.EventId.{EventId}
 use Rattle.gr_model.specs.Barriers.{is_barrier}
 use Rattle.gr_model.specs.Streams.{Streams, place_of}
@@ -39,3 +40,13 @@ list_instance-requires-clause-remembered g c =
     let e : EventId = record { at = record { group = c.in-Group.group; item = 0 }; index = first.0 } in
     unhandled_remembered c.lanes.result.now c.args.order.now.handled c.lanes.ensures.forgets e (λ there. meeting.1.fresh (e, first.1, there)) c.in-Some-meeting.instance
     (ap (λ (t : Streams). place_of t is_barrier e.at c.in-Some-meeting.instance) c.lanes.ensures.taken ∙ first.1.place)
+
+pub returns-in_err-push-in-Some : goal.returns-in_err-push-in-Some
+returns-in_err-push-in-Some g c =
+    let p = err_from_is_err_and c.from_residual.result c.from_residual.ensures.1 in
+    rw (p.1) record { listed = tt; taken = tt; more = tt; sequence = tt }
+
+pub returns-in_err-list_instance-in-Some-meeting : goal.returns-in_err-list_instance-in-Some-meeting
+returns-in_err-list_instance-in-Some-meeting g c =
+    let p = err_from_is_err_and c.from_residual-in_err-list_instance-in-Some-meeting.result c.from_residual-in_err-list_instance-in-Some-meeting.ensures.1 in
+    rw (p.1) record { listed = tt; taken = tt; more = tt; sequence = tt }

@@ -1,4 +1,5 @@
-use Rattle.std.proofs.Common.{◌∙◌, subst}
+use Rattle.std.proofs.Common.{◌∙◌, refl, subst}
+use Rattle.std.proofs.lemmas.Result.{err_from_is_err_and}
 use Rattle.gr_model.specs.LawfulOrders.{IsLawful}
 use Rattle.gr_order.specs.Sequences.{Sequence}
 use Rattle.gr_sequencer.specs.Answers.{IsStep}
@@ -23,3 +24,16 @@ returns g c =
     let same = same_where_none o old c.step.new.self c.in_default.not-Some c.in_ok-step.ensures.some in
     let lawful = subst (λ (q : Sequence). IsLawful q.taken q.handled) same c.step.ensures.sequence.lawful in
     history_at_rest c.args.sequencer.now.taken c.args.word old (lines_of c.loop-step.entries.items) c.loop-step.invariant.taken done lawful c.loop-step.invariant.along
+
+pub loop-step-init : goal.loop-step-init
+loop-step-init g c = record { taken = refl; along = c.requires }
+
+pub returns-in_err-step : goal.returns-in_err-step
+returns-in_err-step g c =
+    let p = err_from_is_err_and c.from_residual.result c.from_residual.ensures.1 in
+    rw (p.1) tt
+
+pub returns-in_err-add_step : goal.returns-in_err-add_step
+returns-in_err-add_step g c =
+    let p = err_from_is_err_and c.from_residual-in_err-add_step.result c.from_residual-in_err-add_step.ensures.1 in
+    rw (p.1) tt

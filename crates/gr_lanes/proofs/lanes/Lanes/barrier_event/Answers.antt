@@ -2,7 +2,7 @@ use Rattle.std.proofs.Common.{◌∙◌, List, ap, arith, filter, slice_get, sym
 use Rattle.gr_model.specs.declared.event.Event.{Event}
 use Rattle.gr_model.specs.Barriers.{is_barrier}
 use Rattle.gr_model.specs.Streams.{is_of, places_from}
-use Rattle.gr_lanes.proofs.GroupLemmas.{forgotten_read, list_is}
+use Rattle.gr_lanes.proofs.GroupLemmas.{forgotten_read, list_is, list_none}
 use Rattle.gr_lanes.proofs.lanes.Lanes.barrier_event.Goals as goal
 
 pub barrier_event-requires : goal.barrier_event-requires
@@ -14,3 +14,6 @@ barrier_event-requires g c place at =
 
 pub returns-in-Some : goal.returns-in-Some
 returns-in-Some g c = c.barrier_event.ensures ∙ ap (λ (l : List Event). slice_get (filter is_barrier (filter (is_of c.args.item.item) l)) c.args.number) (list_is c.self.inside.shape c.self.inside.groups.items c.deref.result.now c.self.invariant c.deref.ensures.value c.from.result c.args.item.group c.from.ensures c.in-Some.ensures.lookup.0 c.in-Some.group.now c.in-Some.ensures.lookup.1 c.args.self.now c.self.view_is)
+
+pub returns-in-None : goal.returns-in-None
+returns-in-None g c = sym (ap (λ (l : List Event). slice_get (filter is_barrier (filter (is_of c.args.item.item) l)) c.args.number) (list_none c.self.inside.shape c.self.inside.groups.items c.deref.result.now c.deref.ensures.value c.from.result c.args.item.group c.from.ensures c.in-None.ensures.lookup.0 c.args.self.now c.self.view_is))

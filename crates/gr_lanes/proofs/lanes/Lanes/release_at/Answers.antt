@@ -1,11 +1,14 @@
-use Rattle.std.proofs.Common.{◌∙◌, List, ap, filter, slice_get}
+use Rattle.std.proofs.Common.{◌∙◌, List, ap, filter, slice_get, sym}
 use Rattle.gr_model.specs.declared.event.Event.{Event}
 use Rattle.gr_model.specs.Access.{is_release}
 use Rattle.gr_model.specs.Streams.{is_of, places_from}
-use Rattle.gr_lanes.proofs.GroupLemmas.{list_is}
+use Rattle.gr_lanes.proofs.GroupLemmas.{list_is, list_none}
 use Rattle.gr_lanes.proofs.lanes.Lanes.release_at.Goals as goal
 
 pub returns-in-Some : goal.returns-in-Some
 returns-in-Some g c =
     c.release_at.ensures
     ∙ ap (λ (l : List Event). slice_get (places_from is_release 0 (filter (is_of c.args.name.at.item) l)) c.args.name.release) (list_is c.self.inside.shape c.self.inside.groups.items c.deref.result.now c.self.invariant c.deref.ensures.value c.from.result c.args.name.at.group c.from.ensures c.in-Some.ensures.lookup.0 c.in-Some.group.now c.in-Some.ensures.lookup.1 c.args.self.now c.self.view_is)
+
+pub returns-in-None : goal.returns-in-None
+returns-in-None g c = sym (ap (λ (l : List Event). slice_get (places_from is_release 0 (filter (is_of c.args.name.at.item) l)) c.args.name.release) (list_none c.self.inside.shape c.self.inside.groups.items c.deref.result.now c.deref.ensures.value c.from.result c.args.name.at.group c.from.ensures c.in-None.ensures.lookup.0 c.args.self.now c.self.view_is))
