@@ -21,11 +21,13 @@ pub is_divergent-requires-clause-group : goal.is_divergent-requires-clause-group
 is_divergent-requires-clause-group g c = c.requires.item.0
 
 pub returns-then-not-is_behind : goal.returns-then-not-is_behind
-returns-then-not-is_behind g c =
-    (λ no. absurd (true≢false (sym no)), λ parting. elim c.then-not-is_behind.branch [
-      | then-not-is_behind-via-then-not-is_behind w ↦ absurd (true≢false (sym (c.is_behind.ensures.1 parting.behind) ∙ w.if-not-is_behind.true))
-      | then-not-is_behind-via-else-not-is_behind+then-is_behind w ↦ absurd (parting.not_behind (w.is_behind-else-not-is_behind.ensures.0 w.if-is_behind.true))
-    ])
+returns-then-not-is_behind g c = (
+  λ no. absurd (true≢false (sym no)),
+  λ parting. elim c.then-not-is_behind.branch [
+    | then-not-is_behind-via-then-not-is_behind w ↦ absurd (true≢false (sym (c.is_behind.ensures.1 parting.behind) ∙ w.if-not-is_behind.true))
+    | then-not-is_behind-via-else-not-is_behind+then-is_behind w ↦ absurd (parting.not_behind (w.is_behind-else-not-is_behind.ensures.0 w.if-is_behind.true))
+  ],
+)
 
 pub returns-in-Some : goal.returns-in-Some
 returns-in-Some g c =

@@ -22,7 +22,8 @@ returns-then-is_spent g c =
     let r = c.snapshot-item.result in
     let i = c.loop-snapshot.snapshot-index in (
       λ yes. (
-        i, r.now,
+        i,
+        r.now,
         omega (arith, c.loop-snapshot-test.true, length-map c.args.snapshots.now (λ s. s.now)),
         get_or-map (λ s. s.now) c.args.snapshots.now i r r.now c.loop-snapshot-test.true ∙ ap (λ s. s.now) (sym c.snapshot-item.is),
         ap (λ (v : Counts). count_of v c.args.item) (sym c.clock.ensures) ∙ c.is_spent.ensures.0 c.if-is_spent.true,

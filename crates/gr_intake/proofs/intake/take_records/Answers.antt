@@ -153,7 +153,7 @@ loop-rest-init g c =
     record { read = c.requires.read; kept = c.requires.kept; goes = λ more. refl; left = ([], refl); size = size }
 
 pub read-requires : goal.read-requires
-read-requires g c = 
+read-requires g c =
     let rest = c.loop-rest.rest.now in
     ap length c.split_at.ensures.front ∙ (length-take-le _ rest (omega (arith, c.loop-rest-test.true)) ∙ c.loop-rest.invariant.size)
 

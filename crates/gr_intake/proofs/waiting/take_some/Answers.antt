@@ -53,13 +53,13 @@ returns-then-is_over-clause-taken g c =
 
 pub loop-init : goal.loop-init
 loop-init g c = record {
-      taken = ([], refl, none_taken c.args.sequencer.now.taken c.args.stream.now.header.group);
-      header = refl;
-      some = λ took. absurd (true≢false (sym took));
-      none = λ _. refl;
-      sequence = c.requires.sequence;
-      shadows = c.requires.shadows;
-    }
+  taken = ([], refl, none_taken c.args.sequencer.now.taken c.args.stream.now.header.group);
+  header = refl;
+  some = λ took. absurd (true≢false (sym took));
+  none = λ _. refl;
+  sequence = c.requires.sequence;
+  shadows = c.requires.shadows;
+}
 
 pub take_record-requires-clause-sequence : goal.take_record-requires-clause-sequence
 take_record-requires-clause-sequence g c = c.loop.invariant.sequence

@@ -24,7 +24,7 @@ returns-in-One g c =
     let group = c.in_ok-push_number.ensures ∙ ap (λ (n : ℕ). old ++ spaced (decimal n)) c.from.ensures in
     let items = c.in_ok-push_number-2.ensures ∙ ap (λ (n : ℕ). string_bytes c.push_word.new.text ++ spaced (decimal n)) c.from-2.ensures in
     let said = five_words old (string_bytes c.push_number.new.text) (string_bytes c.push_word.new.text) (string_bytes c.push_number-2.new.text) (string_bytes c.push_word-2.new.text) (string_bytes c.push_number-3.new.text)
-        (decimal h.group) (codes "items") (decimal h.items) (codes "launch") (decimal h.launch) group c.in_ok-push_word.ensures items c.in_ok-push_word-2.ensures c.in_ok-push_number-3.ensures in
+    (decimal h.group) (codes "items") (decimal h.items) (codes "launch") (decimal h.launch) group c.in_ok-push_word.ensures items c.in_ok-push_word-2.ensures c.in_ok-push_number-3.ensures in
     said ∙ ap (λ (v : Version). old ++ later_text (decimal h.group ∷ codes "items" ∷ decimal h.items ∷ codes "launch" ∷ decimal h.launch ∷ version_words v)) (sym c.in-One.is)
 
 pub returns-in-Two : goal.returns-in-Two
@@ -34,5 +34,5 @@ returns-in-Two g c =
     let group = c.in_ok-push_number.ensures ∙ ap (λ (n : ℕ). old ++ spaced (decimal n)) c.from.ensures in
     let items = c.in_ok-push_number-2.ensures ∙ ap (λ (n : ℕ). string_bytes c.push_word.new.text ++ spaced (decimal n)) c.from-2.ensures in
     let said = five_words old (string_bytes c.push_number.new.text) (string_bytes c.push_word.new.text) (string_bytes c.push_number-2.new.text) (string_bytes c.push_word-2.new.text) (string_bytes c.push_number-3.new.text)
-        (decimal h.group) (codes "items") (decimal h.items) (codes "launch") (decimal h.launch) group c.in_ok-push_word.ensures items c.in_ok-push_word-2.ensures c.in_ok-push_number-3.ensures in
+    (decimal h.group) (codes "items") (decimal h.items) (codes "launch") (decimal h.launch) group c.in_ok-push_word.ensures items c.in_ok-push_word-2.ensures c.in_ok-push_number-3.ensures in
     on_ok_weaker c.push_word-in-Two.result (λ is. word_more old (decimal h.group ∷ codes "items" ∷ decimal h.items ∷ codes "launch" ∷ decimal h.launch ∷ []) (string_bytes c.push_number-3.new.text) (string_bytes c.push_word-in-Two.new.text) (codes "v2") said is ∙ ap (λ (v : Version). old ++ later_text (decimal h.group ∷ codes "items" ∷ decimal h.items ∷ codes "launch" ∷ decimal h.launch ∷ version_words v)) (sym c.in-Two.is)) c.push_word-in-Two.ensures

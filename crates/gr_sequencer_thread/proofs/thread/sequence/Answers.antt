@@ -23,18 +23,18 @@ same_givers {Z} was now queues = sym (length-map now (λ (u : Giver Z). u.queue)
 pub new-feed-requires-clause-sequencer : goal.new-feed-requires-clause-sequencer
 new-feed-requires-clause-sequencer g c =
     let from : c.in-Ok-sequencer.sequencer ≡ nothing c.begin.inside.shape = subst (λ r. IfOk r (λ (s : Sequence). s ≡ nothing c.begin.inside.shape)) c.in-Ok-sequencer.is (elim c.match-copy.branch [
-      in-Ok w ↦ subst (λ r. IfOk r (λ (s : Sequence). s ≡ nothing c.begin.inside.shape)) (sym w.sequencer-is)
+      | in-Ok w ↦ subst (λ r. IfOk r (λ (s : Sequence). s ≡ nothing c.begin.inside.shape)) (sym w.sequencer-is)
           (subst (λ (l : List ℕ). IfOk w.new-sequencer.result (λ (s : Sequence). s ≡ nothing l)) w.in-Ok.ensures w.new-sequencer.ensures)
-    | in-Err w ↦ subst (λ r. IfOk r (λ (s : Sequence). s ≡ nothing c.begin.inside.shape)) (sym w.sequencer-is) tt
+      | in-Err w ↦ subst (λ r. IfOk r (λ (s : Sequence). s ≡ nothing c.begin.inside.shape)) (sym w.sequencer-is) tt
     ]) in
     from ∙ ap (λ (s : Sequence). nothing s.taken.sizes) (sym from)
 
 pub new-feed-requires-clause-fresh : goal.new-feed-requires-clause-fresh
 new-feed-requires-clause-fresh g c =
     let from : c.in-Ok-sequencer.sequencer ≡ nothing c.begin.inside.shape = subst (λ r. IfOk r (λ (s : Sequence). s ≡ nothing c.begin.inside.shape)) c.in-Ok-sequencer.is (elim c.match-copy.branch [
-      in-Ok w ↦ subst (λ r. IfOk r (λ (s : Sequence). s ≡ nothing c.begin.inside.shape)) (sym w.sequencer-is)
+      | in-Ok w ↦ subst (λ r. IfOk r (λ (s : Sequence). s ≡ nothing c.begin.inside.shape)) (sym w.sequencer-is)
           (subst (λ (l : List ℕ). IfOk w.new-sequencer.result (λ (s : Sequence). s ≡ nothing l)) w.in-Ok.ensures w.new-sequencer.ensures)
-    | in-Err w ↦ subst (λ r. IfOk r (λ (s : Sequence). s ≡ nothing c.begin.inside.shape)) (sym w.sequencer-is) tt
+      | in-Err w ↦ subst (λ r. IfOk r (λ (s : Sequence). s ≡ nothing c.begin.inside.shape)) (sym w.sequencer-is) tt
     ]) in
     subst (λ (sizes : List ℕ). IsFresh {A = g.row.A.Denot} c.begin.inside.config sizes c.begin.inside.inlets.items c.begin.inside.outlets.items)
     (sym (ap (λ (s : Sequence). s.taken.sizes) from)) c.begin.invariant
@@ -42,18 +42,18 @@ new-feed-requires-clause-fresh g c =
 pub run-requires : goal.run-requires
 run-requires g c =
     let from : c.in-Ok-sequencer.sequencer ≡ nothing c.begin.inside.shape = subst (λ r. IfOk r (λ (s : Sequence). s ≡ nothing c.begin.inside.shape)) c.in-Ok-sequencer.is (elim c.match-copy.branch [
-      in-Ok w ↦ subst (λ r. IfOk r (λ (s : Sequence). s ≡ nothing c.begin.inside.shape)) (sym w.sequencer-is)
+      | in-Ok w ↦ subst (λ r. IfOk r (λ (s : Sequence). s ≡ nothing c.begin.inside.shape)) (sym w.sequencer-is)
           (subst (λ (l : List ℕ). IfOk w.new-sequencer.result (λ (s : Sequence). s ≡ nothing l)) w.in-Ok.ensures w.new-sequencer.ensures)
-    | in-Err w ↦ subst (λ r. IfOk r (λ (s : Sequence). s ≡ nothing c.begin.inside.shape)) (sym w.sequencer-is) tt
+      | in-Err w ↦ subst (λ r. IfOk r (λ (s : Sequence). s ≡ nothing c.begin.inside.shape)) (sym w.sequencer-is) tt
     ]) in
     ap (λ (f : Feed g.row.A.Denot). f.sequence.taken.sizes) c.new-feed.ensures ∙ ap (λ (s : Sequence). s.taken.sizes) from
 
 pub returns-in-Ok-sequencer : goal.returns-in-Ok-sequencer
 returns-in-Ok-sequencer g c =
     let from : c.in-Ok-sequencer.sequencer ≡ nothing c.begin.inside.shape = subst (λ r. IfOk r (λ (s : Sequence). s ≡ nothing c.begin.inside.shape)) c.in-Ok-sequencer.is (elim c.match-copy.branch [
-      in-Ok w ↦ subst (λ r. IfOk r (λ (s : Sequence). s ≡ nothing c.begin.inside.shape)) (sym w.sequencer-is)
+      | in-Ok w ↦ subst (λ r. IfOk r (λ (s : Sequence). s ≡ nothing c.begin.inside.shape)) (sym w.sequencer-is)
           (subst (λ (l : List ℕ). IfOk w.new-sequencer.result (λ (s : Sequence). s ≡ nothing l)) w.in-Ok.ensures w.new-sequencer.ensures)
-    | in-Err w ↦ subst (λ r. IfOk r (λ (s : Sequence). s ≡ nothing c.begin.inside.shape)) (sym w.sequencer-is) tt
+      | in-Err w ↦ subst (λ r. IfOk r (λ (s : Sequence). s ≡ nothing c.begin.inside.shape)) (sym w.sequencer-is) tt
     ]) in
     let sizes : c.in-Ok-sequencer.sequencer.taken.sizes ≡ c.begin.inside.shape = ap (λ (s : Sequence). s.taken.sizes) from in
     c.run.ensures

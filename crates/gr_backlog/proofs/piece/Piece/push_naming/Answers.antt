@@ -30,7 +30,7 @@ invariant_of-self-in_err-push g c =
     let read = c.self.inside.read in
     let names_read = c.self.inside.names_read in
     subst (λ (ss : List Short). AreNamed (drop read ss) (drop names_read c.reserve.new.self.items) × (read ≤ length ss) × (names_read ≤ length c.reserve.new.self.items)) (sym c.in_err-push.ensures.items)
-      (subst (λ (ns : List (List Name)). AreNamed (drop read shorts) (drop names_read ns) × (read ≤ length shorts) × (names_read ≤ length ns)) (sym c.in_ok-reserve.ensures.items) c.self.invariant)
+    (subst (λ (ns : List (List Name)). AreNamed (drop read shorts) (drop names_read ns) × (read ≤ length shorts) × (names_read ≤ length ns)) (sym c.in_ok-reserve.ensures.items) c.self.invariant)
 
 pub returns-in_err-push-clause-err : goal.returns-in_err-push-clause-err
 returns-in_err-push-clause-err g c =

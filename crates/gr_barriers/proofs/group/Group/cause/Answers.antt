@@ -26,8 +26,7 @@ returns-in_err-mark g c = subst (λ o. IsCause c.args.self.now c.args.instance o
 pub returns-then-has_other_site : goal.returns-then-has_other_site
 returns-then-has_other_site g c =
     let some = c.in_ok-mark.ensures in
-    let other = c.if-has_other_site.ensures.0 refl in
-    (
+    let other = c.if-has_other_site.ensures.0 refl in (
       none_missing c.args.self.now c.args.instance c.in_ok-mark.mark (λ lacks. false≢true (c.if-is_missing_one.ensures.1 lacks)),
       (some.0, other.0, some.1, other.1, some.2, other.2, λ e. other.3 (sym e ∙ ap (λ (m : Mark). m.site) some.3)),
     )

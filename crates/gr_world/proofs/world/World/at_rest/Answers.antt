@@ -64,6 +64,6 @@ returns-then-not-is_idle-clause-done g c = λ yes. absurd (true≢false (sym yes
 
 pub returns-then-on_its_way-clause-rest : goal.returns-then-on_its_way-clause-rest
 returns-then-on_its_way-clause-rest g c = (
-      λ yes. absurd (true≢false (sym yes)),
-      λ rest. subst (λ (p : Option ClockedAccess). IsTrue (is_some p)) (ap (λ (v : World). v.in_flight) c.self.view_is ∙ rest.in_flight) (some_of clocked c.self.inside.in_flight (sym c.is_some-on_its_way.ensures ∙ c.if-on_its_way.true)),
-    )
+  λ yes. absurd (true≢false (sym yes)),
+  λ rest. subst (λ (p : Option ClockedAccess). IsTrue (is_some p)) (ap (λ (v : World). v.in_flight) c.self.view_is ∙ rest.in_flight) (some_of clocked c.self.inside.in_flight (sym c.is_some-on_its_way.ensures ∙ c.if-on_its_way.true)),
+)
