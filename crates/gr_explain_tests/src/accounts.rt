@@ -30,6 +30,9 @@ type Case = (
 const WRONG_FLAG: &str =
     "group 0 items 2 launch 7\n0 w g 16\n0 bar 1 l\n1 bar 1 l\n1 r g 16\nend\n";
 
+/// How many bytes the stream of `WRONG_FLAG` has.
+const BYTES: usize = 112;
+
 const WRONG_FLAG_LINES: &str = "race global 16: 0 0 0 with 0 1 1\n\
      first write record 0 phase 0\nsecond read record 3 phase 1\n\
      barrier 0 site 1 l\n\
@@ -167,30 +170,34 @@ fn is_shown<A: Allocator + Copy>(
     }
 }
 
-/// Refuses each growth in turn, until none is refused; the first whose answer is wrong, if there is one.
-fn first_wrong_growth(alloc: Global, inputs: &[Vec<u8>], case: &Case) -> Option<u64> {
+/// Refuses each growth in turn, until none is refused. Whether some are, and each answer is right.
+fn are_growths_told(alloc: Global, inputs: &[Vec<u8>], case: &Case) -> bool {
     for at in 0..10_000_u64 {
         let heap = Refusing::new(alloc, at);
         let answer = is_shown(&heap, alloc, inputs, case);
         if answer != Ok(true) && !(answer == Err(Memory) && heap.refused()) {
-            return Some(at);
+            return false;
         }
         if !heap.refused() {
-            return if at > 4 { None } else { Some(at) };
+            return at > 4;
         }
     }
-    Some(10_000)
+    false
+}
+
+/// Whether the lines of a case are written, and each refused growth is told.
+fn is_shown_or_memory_runs_out(alloc: Global, case: &Case) -> Result<bool, Fault> {
+    let inputs = inputs_of(alloc, case.1)?;
+    let answer = is_shown(alloc, alloc, &inputs, case);
+    Ok(answer == Ok(true) && are_growths_told(alloc, &inputs, case))
 }
 
 #[test]
 fn causes_are_shown_or_memory_runs_out(rt: HostRuntime) -> Result<(), Fail> {
     for case in &CASES {
         let name = case.0;
-        let inputs = inputs_of(rt.alloc(), case.1)?;
-        let answer = is_shown(rt.alloc(), rt.alloc(), &inputs, &case);
+        let answer = is_shown_or_memory_runs_out(rt.alloc(), &case);
         assert!(rt; answer == Ok(true), "{name}");
-        let wrong = first_wrong_growth(rt.alloc(), &inputs, &case);
-        assert_eq!(rt; wrong, None, "{name}");
     }
     Ok(())
 }
@@ -213,31 +220,42 @@ fn shown_between(
     show_account(alloc, readers, &NO_SIDES, Word::Global(16), writer)
 }
 
+/// Whether a reader that fails after so many calls is told, and nothing is written.
+fn fails_to_read(alloc: Global, input: &[u8], calls: usize) -> bool {
+    let mut writer = FailingWriter {
+        taken: Vec::new(alloc),
+        room: WRONG_FLAG_LINES.len(),
+        flushes: true,
+    };
+    let answer = shown_between(alloc, input, calls, &mut writer);
+    answer == Err(Fault::Read) && writer.taken.is_empty()
+}
+
+/// Whether a writer that fails after so many bytes, or at its flush after all of them, is told, and has a prefix of the lines.
+fn fails_to_write(alloc: Global, input: &[u8], room: usize) -> bool {
+    let lines = WRONG_FLAG_LINES.as_bytes();
+    let mut writer = FailingWriter {
+        taken: Vec::new(alloc),
+        room,
+        flushes: room < lines.len(),
+    };
+    let answer = shown_between(alloc, input, BYTES + 1, &mut writer);
+    answer == Err(Fault::Write) && writer.taken.len() == room && lines.starts_with(&writer.taken)
+}
+
 #[test]
 fn readers_and_writers_that_fail_show_no_more_than_a_prefix(rt: HostRuntime) -> Result<(), Fail> {
     let input = pack_text(rt.alloc(), WRONG_FLAG.as_bytes())?;
-    let (bytes, letters) = (112, WRONG_FLAG_LINES.len());
-    assert_eq!(rt; input.len(), bytes);
-    for calls in 0..bytes + 1 {
-        let mut writer = FailingWriter {
-            taken: Vec::new(rt.alloc()),
-            room: letters,
-            flushes: true,
-        };
-        let answer = shown_between(rt.alloc(), &input, calls, &mut writer);
-        assert_eq!(rt; answer, Err(Fault::Read), "after {calls} calls");
-        assert!(rt; writer.taken.is_empty(), "after {calls} calls");
-    }
-    for room in 0..letters + 1 {
-        let mut writer = FailingWriter {
-            taken: Vec::new(rt.alloc()),
-            room,
-            flushes: room < letters,
-        };
-        let answer = shown_between(rt.alloc(), &input, bytes + 1, &mut writer);
-        assert_eq!(rt; answer, Err(Fault::Write), "after {room} bytes");
+    assert_eq!(rt; input.len(), BYTES);
+    for calls in 0..BYTES + 1 {
         assert!(rt;
-            writer.taken.len() == room && WRONG_FLAG_LINES.as_bytes().starts_with(&writer.taken),
+            fails_to_read(rt.alloc(), &input, calls),
+            "after {calls} calls"
+        );
+    }
+    for room in 0..WRONG_FLAG_LINES.len() + 1 {
+        assert!(rt;
+            fails_to_write(rt.alloc(), &input, room),
             "after {room} bytes"
         );
     }

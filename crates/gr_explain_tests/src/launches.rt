@@ -222,17 +222,14 @@ fn traces_of<A: Allocator + Copy>(
     }
 }
 
-/// Whether the least racing pair is this one. A text that is no launch has none.
-pub(crate) fn is_explained<A: Allocator + Copy>(
+/// Whether the least racing pair of a word of these traces is this one.
+fn is_explained_in<A: Allocator + Copy>(
     alloc: A,
-    ample: Global,
-    case: &Case,
+    traces: &Traces<A>,
+    word: Word,
+    due: Option<Places>,
 ) -> Result<bool, Memory> {
-    let (_, text, word, due) = *case;
-    let Some(traces) = traces_of(alloc, ample, text)? else {
-        return Ok(false);
-    };
-    let pair = explain(alloc, &traces, word)?;
+    let pair = explain(alloc, traces, word)?;
     Ok(match (pair, due) {
         (None, None) => true,
         (Some((first, second)), Some((one, other))) => {
@@ -242,13 +239,31 @@ pub(crate) fn is_explained<A: Allocator + Copy>(
     })
 }
 
+/// Whether the least racing pair is this one. A text that is no launch has none.
+pub(crate) fn is_explained<A: Allocator + Copy>(
+    alloc: A,
+    ample: Global,
+    case: &Case,
+) -> Result<bool, Memory> {
+    let (_, text, word, due) = *case;
+    match traces_of(alloc, ample, text)? {
+        None => Ok(false),
+        Some(traces) => is_explained_in(alloc, &traces, word, due),
+    }
+}
+
+/// Whether a word of these traces is explained exactly where the detector reports it.
+fn is_reported_in(alloc: Global, traces: &Traces, word: Word) -> Result<bool, Memory> {
+    let pair = explain(alloc, traces, word)?;
+    let report = detect(alloc, traces)?;
+    Ok(report.races.as_slice().contains(&word) == pair.is_some())
+}
+
 /// Whether the word is explained exactly where the detector reports it.
 pub(crate) fn is_reported_too(alloc: Global, case: &Case) -> Result<bool, Memory> {
     let (_, text, word, _) = *case;
-    let Some(traces) = traces_of(alloc, alloc, text)? else {
-        return Ok(false);
-    };
-    let report = detect(alloc, &traces)?;
-    let pair = explain(alloc, &traces, word)?;
-    Ok(report.races.as_slice().contains(&word) == pair.is_some())
+    match traces_of(alloc, alloc, text)? {
+        None => Ok(false),
+        Some(traces) => is_reported_in(alloc, &traces, word),
+    }
 }

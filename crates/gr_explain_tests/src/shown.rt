@@ -31,6 +31,9 @@ const HANDED: &str =
 
 const BACK_LINE: &str = "race global 16: 0 0 3 with 0 1 1\n";
 
+/// How many bytes the stream of `HANDED_BACK_BY_ONE` has.
+const BACK_BYTES: usize = 212;
+
 static CASES: [Case; 8] = [
     (
         "a word handed to two items and back by one",
@@ -122,30 +125,34 @@ fn is_shown<A: Allocator + Copy>(
     }
 }
 
-/// Refuses each growth in turn, until none is refused; the first whose answer is wrong, if there is one.
-fn first_wrong_growth(alloc: Global, inputs: &[Vec<u8>], case: &Case) -> Option<u64> {
+/// Refuses each growth in turn, until none is refused. Whether some are, and each answer is right.
+fn are_growths_told(alloc: Global, inputs: &[Vec<u8>], case: &Case) -> bool {
     for at in 0..10_000_u64 {
         let heap = Refusing::new(alloc, at);
         let answer = is_shown(&heap, alloc, inputs, case);
         if answer != Ok(true) && !(answer == Err(Memory) && heap.refused()) {
-            return Some(at);
+            return false;
         }
         if !heap.refused() {
-            return if at > 4 { None } else { Some(at) };
+            return at > 4;
         }
     }
-    Some(10_000)
+    false
+}
+
+/// Whether the line of a case is written, and each refused growth is told.
+fn is_shown_or_memory_runs_out(alloc: Global, case: &Case) -> Result<bool, Fault> {
+    let inputs = inputs_of(alloc, case.1)?;
+    let answer = is_shown(alloc, alloc, &inputs, case);
+    Ok(answer == Ok(true) && are_growths_told(alloc, &inputs, case))
 }
 
 #[test]
 fn words_are_shown_or_memory_runs_out(rt: HostRuntime) -> Result<(), Fail> {
     for case in &CASES {
         let name = case.0;
-        let inputs = inputs_of(rt.alloc(), case.1)?;
-        let answer = is_shown(rt.alloc(), rt.alloc(), &inputs, &case);
+        let answer = is_shown_or_memory_runs_out(rt.alloc(), &case);
         assert!(rt; answer == Ok(true), "{name}");
-        let wrong = first_wrong_growth(rt.alloc(), &inputs, &case);
-        assert_eq!(rt; wrong, None, "{name}");
     }
     Ok(())
 }
@@ -168,38 +175,49 @@ fn shown_between(
     show_race(alloc, readers, Word::Global(16), writer)
 }
 
+/// Whether a reader that fails after so many calls is told, and nothing is written.
+fn fails_to_read(alloc: Global, input: &[u8], calls: usize) -> bool {
+    let mut writer = FailingWriter {
+        taken: Vec::new(alloc),
+        room: BACK_LINE.len(),
+        flushes: true,
+    };
+    let answer = shown_between(alloc, input, calls, &mut writer);
+    answer == Err(Fault::Read) && writer.taken.is_empty()
+}
+
+/// Whether a writer that fails after so many bytes, or at its flush after all of them, is told, and has a prefix of the line.
+fn fails_to_write(alloc: Global, input: &[u8], room: usize) -> bool {
+    let line = BACK_LINE.as_bytes();
+    let mut writer = FailingWriter {
+        taken: Vec::new(alloc),
+        room,
+        flushes: room < line.len(),
+    };
+    let answer = shown_between(alloc, input, BACK_BYTES + 1, &mut writer);
+    answer == Err(Fault::Write) && writer.taken.len() == room && line.starts_with(&writer.taken)
+}
+
 #[test]
 fn readers_and_writers_that_fail_are_told(rt: HostRuntime) -> Result<(), Fail> {
     let input = pack_text(rt.alloc(), HANDED_BACK_BY_ONE.as_bytes())?;
-    let (bytes, letters) = (212, BACK_LINE.len());
-    assert_eq!(rt; input.len(), bytes);
-    for calls in 0..bytes + 1 {
-        let mut writer = FailingWriter {
-            taken: Vec::new(rt.alloc()),
-            room: letters,
-            flushes: true,
-        };
-        let answer = shown_between(rt.alloc(), &input, calls, &mut writer);
-        assert_eq!(rt; answer, Err(Fault::Read), "after {calls} calls");
-        assert!(rt; writer.taken.is_empty(), "after {calls} calls");
-    }
-    for room in 0..letters + 1 {
-        let mut writer = FailingWriter {
-            taken: Vec::new(rt.alloc()),
-            room,
-            flushes: room < letters,
-        };
-        let answer = shown_between(rt.alloc(), &input, bytes + 1, &mut writer);
-        assert_eq!(rt; answer, Err(Fault::Write), "after {room} bytes");
+    assert_eq!(rt; input.len(), BACK_BYTES);
+    for calls in 0..BACK_BYTES + 1 {
         assert!(rt;
-            writer.taken.len() == room && BACK_LINE.as_bytes().starts_with(&writer.taken),
+            fails_to_read(rt.alloc(), &input, calls),
+            "after {calls} calls"
+        );
+    }
+    for room in 0..BACK_LINE.len() + 1 {
+        assert!(rt;
+            fails_to_write(rt.alloc(), &input, room),
             "after {room} bytes"
         );
     }
     Ok(())
 }
 
-/// The text of each stream under a name, and the fault that is due.
+/// The text of each stream under a name, how many bytes of each are read at most, and the fault that is due.
 type Refused = (&'static str, &'static [&'static str], usize, Fault);
 
 static REFUSED: [Refused; 4] = [
@@ -224,19 +242,29 @@ static REFUSED: [Refused; 4] = [
     ),
 ];
 
+/// Whether inputs of which so many bytes are read at most are refused with this fault, and nothing is written.
+fn are_refused(
+    alloc: Global,
+    inputs: &[Vec<u8>],
+    most: usize,
+    fault: Fault,
+) -> Result<bool, Memory> {
+    let mut readers = Vec::new(alloc);
+    for input in inputs {
+        let end = input.len().min(most);
+        readers.push(&input[..end])?;
+    }
+    let mut text = Vec::new(alloc);
+    let answer = show_race(alloc, readers, Word::Global(16), &mut text);
+    Ok(answer == Err(fault) && text.is_empty())
+}
+
 #[test]
 fn inputs_that_are_no_launch_are_refused(rt: HostRuntime) -> Result<(), Fail> {
     for (name, texts, most, fault) in &REFUSED {
         let inputs = inputs_of(rt.alloc(), texts)?;
-        let mut readers = Vec::new(rt.alloc());
-        for input in &inputs {
-            let end = input.len().min(*most);
-            readers.push(&input[..end])?;
-        }
-        let mut text = Vec::new(rt.alloc());
-        let answer = show_race(rt.alloc(), readers, Word::Global(16), &mut text);
-        assert_eq!(rt; answer, Err(*fault), "{name}");
-        assert!(rt; text.is_empty(), "{name}");
+        let answer = are_refused(rt.alloc(), &inputs, *most, *fault);
+        assert!(rt; answer == Ok(true), "{name}");
     }
     Ok(())
 }

@@ -141,15 +141,26 @@ fn shown(
     Ok((answer, text))
 }
 
+/// Whether the lines of a case are written, and there is a race where the case says so.
+fn is_shown(alloc: Global, case: &Case) -> Result<bool, Memory> {
+    let (_, stream, sides, most, causes, found, wanted) = *case;
+    let (answer, text) = shown(alloc, stream, &sides, most, causes)?;
+    Ok(answer == Ok(found) && text.as_slice() == wanted.as_bytes())
+}
+
 #[test]
 fn races_are_shown(rt: HostRuntime) -> Result<(), Fail> {
-    let alloc = rt.alloc();
-    for &(name, stream, sides, most, causes, found, wanted) in &CASES {
-        let (answer, text) = shown(alloc, stream, &sides, most, causes)?;
-        assert_eq!(rt; answer, Ok(found), "{name}");
-        assert_eq!(rt; str::from_utf8(&text), Ok(wanted), "{name}");
+    for case in &CASES {
+        let name = case.0;
+        assert!(rt; is_shown(rt.alloc(), &case) == Ok(true), "{name}");
     }
     Ok(())
+}
+
+/// Whether a side file can't be read, and nothing is written.
+fn is_unread(alloc: Global, sides: &SideNames<'static>) -> Result<bool, Memory> {
+    let (answer, text) = shown(alloc, KINDS, sides, None, false)?;
+    Ok(answer == Err(SidesFault::Run(Fault::Read)) && text.is_empty())
 }
 
 #[test]
@@ -158,8 +169,6 @@ fn a_missing_side_file_is_a_read_fault(rt: HostRuntime) -> Result<(), Fail> {
         places: Some("none"),
         buffers: None,
     };
-    let (answer, text) = shown(rt.alloc(), KINDS, &sides, None, false)?;
-    assert_eq!(rt; answer, Err(SidesFault::Run(Fault::Read)));
-    assert!(rt; text.is_empty());
+    assert_eq!(rt; is_unread(rt.alloc(), &sides), Ok(true));
     Ok(())
 }

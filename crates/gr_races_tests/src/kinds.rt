@@ -126,14 +126,20 @@ fn shown<A: Allocator + Copy>(
     Ok((answer, text))
 }
 
+/// Whether the text of a case is written, and there is a race unless the text is its end alone.
+fn is_told(alloc: Global, case: &Case) -> Result<bool, Memory> {
+    let (_, streams, most, wanted) = *case;
+    let streams = packed(alloc, streams)?;
+    let (answer, text) = shown(alloc, alloc, &streams, most)?;
+    let race = !wanted.starts_with("end");
+    Ok(answer == Ok(race) && text.as_slice() == wanted.as_bytes())
+}
+
 #[test]
 fn causes_are_told(rt: HostRuntime) -> Result<(), Fail> {
-    let alloc = rt.alloc();
-    for &(name, streams, most, wanted) in &CASES {
-        let streams = packed(alloc, streams)?;
-        let (answer, text) = shown(alloc, alloc, &streams, most)?;
-        assert_eq!(rt; answer, Ok(!wanted.starts_with("end")), "{name}");
-        assert_eq!(rt; str::from_utf8(&text), Ok(wanted), "{name}");
+    for case in &CASES {
+        let name = case.0;
+        assert!(rt; is_told(rt.alloc(), &case) == Ok(true), "{name}");
     }
     Ok(())
 }

@@ -1,5 +1,6 @@
 //! The races of a launch of 64 work-groups, with side files of many lines.
 
+use gr_model::memory::Memory;
 use gr_races::files::show_races_of_files;
 use gr_sides::files::SideNames;
 use gr_text::packing::pack_text;
@@ -101,11 +102,8 @@ const SIDES: SideNames<'static> = SideNames {
     buffers: Some("buffers"),
 };
 
-#[test]
-fn a_large_launch_is_shown(rt: HostRuntime) -> Result<(), Fail> {
-    let alloc = rt.alloc();
-    let files = files_of(alloc)?;
-    let names = names(alloc)?;
+/// Whether there are races, that of the global word first, and as many as 64 groups have with 200 words each.
+fn is_shown(alloc: Global, files: &Files, names: &[String]) -> Result<bool, Memory> {
     let names = names
         .iter()
         .map(|name| name.as_str())
@@ -115,16 +113,19 @@ fn a_large_launch_is_shown(rt: HostRuntime) -> Result<(), Fail> {
         alloc,
         &SIDES,
         &names,
-        |name| open(&files, name),
+        |name| open(files, name),
         None,
         false,
         &mut text,
     );
+    let begins = text.starts_with(FIRST.as_bytes());
+    Ok(answer == Ok(true) && begins && text.ends_with(b"end kinds 2 races 12801\n"))
+}
+
+#[test]
+fn a_large_launch_is_shown(rt: HostRuntime) -> Result<(), Fail> {
+    let alloc = rt.alloc();
+    let answer = is_shown(alloc, &files_of(alloc)?, &names(alloc)?);
     assert_eq!(rt; answer, Ok(true));
-    assert!(rt; text.starts_with(FIRST.as_bytes()), "the first kind");
-    assert!(rt;
-        text.ends_with(b"end kinds 2 races 12801\n"),
-        "64 groups, 200 words each"
-    );
     Ok(())
 }

@@ -8,7 +8,7 @@ use gr_model::event::{EventId, Word};
 use gr_model::memory::Memory;
 use gr_model::traces::Traces;
 use gr_record::fault::Fault;
-use gr_replay::detect::detect_races;
+use gr_replay::detect::{Detection, detect_races};
 use gr_replay::read_joined;
 use gr_text::packing::pack_text;
 use std::alloc::{Allocator, Global};
@@ -211,8 +211,8 @@ fn are_caused_by<A: Allocator + Copy>(
     traces: &Traces<A>,
     due: &[Cause],
 ) -> Result<bool, Memory> {
-    let found = detect_races(alloc, traces)?;
-    let causes = causes_of(alloc, traces, &found.races)?;
+    let Detection { report: _, races } = detect_races(alloc, traces)?;
+    let causes = causes_of(alloc, traces, &races)?;
     Ok(causes.as_slice() == due)
 }
 
@@ -229,14 +229,24 @@ pub(crate) fn have_causes<A: Allocator + Copy>(
     }
 }
 
+/// Whether a word of these traces has no race where a rule is relaxed.
+fn is_gone_in(
+    alloc: Global,
+    traces: &Traces,
+    word: Word,
+    relaxation: Relaxation,
+) -> Result<bool, Memory> {
+    let relaxed = relaxed(alloc, traces, relaxation)?;
+    Ok(explain(alloc, &relaxed, word)?.is_none())
+}
+
 /// Whether the word has no race where a rule is relaxed.
 pub(crate) fn is_gone(alloc: Global, case: &Case, relaxation: Relaxation) -> Result<bool, Memory> {
     let (_, text, word, _) = *case;
-    let Some(traces) = traces_of(alloc, alloc, text)? else {
-        return Ok(false);
-    };
-    let relaxed = relaxed(alloc, &traces, relaxation)?;
-    Ok(explain(alloc, &relaxed, word)?.is_none())
+    match traces_of(alloc, alloc, text)? {
+        None => Ok(false),
+        Some(traces) => is_gone_in(alloc, &traces, word, relaxation),
+    }
 }
 
 /// What two events on a word are to each other, in these traces and in others.

@@ -40,35 +40,6 @@ fn new_sequencer<A: Allocator + Copy>(alloc: A, shape: &Shape<A>) -> Result<Sequ
     Sequencer::new(alloc, shape)
 }
 
-/// The report of a launch, by a sequencer that has taken nothing of it, and shadows without accesses.
-///
-/// # Errors
-/// `Memory`: out of memory.
-fn report_by<A: Allocator + Copy>(
-    sequencer: &mut Sequencer<A>,
-    shadows: &mut Shadows<A>,
-    traces: &Traces<A>,
-) -> Result<Report<A>, Memory>
-    requires nothing { sequencer.old ≡ nothing traces.now.sizes }
-    requires shadows { AreShadowsOf sequencer.old shadows.old }
-    ensures { IfOk result (λ report. IsReportOf traces.now (whole_of report)) }
-{
-    take_traces(sequencer, shadows, traces)?;
-    report_of(sequencer, shadows)
-}
-
-/// The report of a launch.
-///
-/// # Errors
-/// `Memory` where a list can't be made.
-pub fn detect<A: Allocator + Copy>(alloc: A, traces: &Traces<A>) -> Result<Report<A>, Memory>
-    ensures { IfOk result (λ report. IsReportOf traces.now (whole_of report)) }
-{
-    let mut sequencer = new_sequencer(alloc, traces.shape())?;
-    let mut shadows = Shadows::new(alloc);
-    report_by(&mut sequencer, &mut shadows, traces)
-}
-
 /// What is found of a launch of which all was taken, and all was handled that can be.
 ///
 /// # Errors
@@ -122,4 +93,15 @@ pub fn detect_races<A: Allocator + Copy>(
     let mut sequencer = new_sequencer(alloc, traces.shape())?;
     let mut shadows = Shadows::new(alloc);
     detection_by(alloc, &mut sequencer, &mut shadows, traces)
+}
+
+/// The report of a launch.
+///
+/// # Errors
+/// `Memory` where a list can't be made.
+pub fn detect<A: Allocator + Copy>(alloc: A, traces: &Traces<A>) -> Result<Report<A>, Memory>
+    ensures { IfOk result (λ report. IsReportOf traces.now (whole_of report)) }
+{
+    let Detection { report, races: _ } = detect_races(alloc, traces)?;
+    Ok(report)
 }

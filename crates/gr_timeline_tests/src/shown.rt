@@ -156,16 +156,22 @@ fn first_wrong_growth(alloc: Global, inputs: &[Vec<u8>], asked: Asked) -> Option
     Some(10_000)
 }
 
+/// Whether this text is written, and with each growth refused in turn nothing.
+fn is_shown_or_refused(alloc: Global, inputs: &[Vec<u8>], asked: Asked) -> bool {
+    is_shown(alloc, alloc, inputs, asked) == Ok(true)
+        && first_wrong_growth(alloc, inputs, asked).is_none()
+}
+
 #[test]
 fn histories_are_shown_or_memory_runs_out(rt: HostRuntime) -> Result<(), Fail> {
     for &(name, texts, all_asked) in &CASES {
         let inputs = inputs_of(rt.alloc(), texts)?;
         for asked in all_asked {
-            let (_, wanted, _) = *asked;
-            let answer = is_shown(rt.alloc(), rt.alloc(), &inputs, *asked);
-            assert!(rt; answer == Ok(true), "{name}: {wanted}");
-            let wrong = first_wrong_growth(rt.alloc(), &inputs, *asked);
-            assert_eq!(rt; wrong, None, "{name}: {wanted}");
+            let wanted = asked.1;
+            assert!(rt;
+                is_shown_or_refused(rt.alloc(), &inputs, *asked),
+                "{name}: {wanted}"
+            );
         }
     }
     Ok(())
@@ -189,31 +195,43 @@ fn shown_between(
     show_history(alloc, readers, &NO_SIDES, Word::Global(16), writer)
 }
 
+/// Whether a reader that fails after so many calls is told, and nothing is written.
+fn fails_to_read(alloc: Global, input: &[u8], calls: usize) -> bool {
+    let mut writer = FailingWriter {
+        taken: Vec::new(alloc),
+        room: PASSED_TEXT.len(),
+        flushes: true,
+    };
+    let answer = shown_between(alloc, input, calls, &mut writer);
+    answer == Err(Fault::Read) && writer.taken.is_empty()
+}
+
+/// Whether a writer that takes so many bytes, or all and then no flush, is told, and has a prefix of the text.
+fn fails_to_write(alloc: Global, input: &[u8], room: usize) -> bool {
+    let text = PASSED_TEXT.as_bytes();
+    let mut writer = FailingWriter {
+        taken: Vec::new(alloc),
+        room,
+        flushes: room < text.len(),
+    };
+    let answer = shown_between(alloc, input, input.len() + 1, &mut writer);
+    let is_prefix = writer.taken.len() == room && text.starts_with(&writer.taken);
+    answer == Err(Fault::Write) && is_prefix
+}
+
 #[test]
 fn readers_and_writers_that_fail_are_told(rt: HostRuntime) -> Result<(), Fail> {
     let input = pack_text(rt.alloc(), PASSED.as_bytes())?;
-    let (bytes, letters) = (112, PASSED_TEXT.len());
-    assert_eq!(rt; input.len(), bytes);
-    for calls in 0..bytes + 1 {
-        let mut writer = FailingWriter {
-            taken: Vec::new(rt.alloc()),
-            room: letters,
-            flushes: true,
-        };
-        let answer = shown_between(rt.alloc(), &input, calls, &mut writer);
-        assert_eq!(rt; answer, Err(Fault::Read), "after {calls} calls");
-        assert!(rt; writer.taken.is_empty(), "after {calls} calls");
-    }
-    for room in 0..letters + 1 {
-        let mut writer = FailingWriter {
-            taken: Vec::new(rt.alloc()),
-            room,
-            flushes: room < letters,
-        };
-        let answer = shown_between(rt.alloc(), &input, bytes + 1, &mut writer);
-        assert_eq!(rt; answer, Err(Fault::Write), "after {room} bytes");
+    assert_eq!(rt; input.len(), 112);
+    for calls in 0..input.len() + 1 {
         assert!(rt;
-            writer.taken.len() == room && PASSED_TEXT.as_bytes().starts_with(&writer.taken),
+            fails_to_read(rt.alloc(), &input, calls),
+            "after {calls} calls"
+        );
+    }
+    for room in 0..PASSED_TEXT.len() + 1 {
+        assert!(rt;
+            fails_to_write(rt.alloc(), &input, room),
             "after {room} bytes"
         );
     }
