@@ -1,25 +1,38 @@
 //! What a failing reader, a failing writer and a refused growth leave.
 
 use crate::bytes::*;
-use crate::orders::CASES;
+use crate::orders::cases;
 use gr_model::memory::Memory;
 use gr_record::fault::Fault;
 use gr_replay::replay;
 use refusing::Refusing;
 use refusing::failing::{FailingReader, FailingWriter};
-use std::alloc::{AllocError, Allocator, Global};
+use std::alloc::{Allocator, Global};
 use std::test::Fail;
 
 const TEXT: &str =
     "gpurace 1\ngroups 1 items 2 records 3\nrace global 16\nend races 1 diverge 0 unmatched 0 held 0\n";
 
+/// The pieces of a race.
+const RACE: [&[u8]; 4] = [&HEADER_0_2, &WRITE_0, &READ_1, &END];
+
+/// The pieces of a launch with barriers and names.
+const ORDERED: [&[u8]; 10] = [
+    &HEADER_0_2,
+    &WRITE_0,
+    &STORE_0_20_DEVICE,
+    &BARRIER_0_SITE_1_LOCAL,
+    &LOAD_1_20_DEVICE_FROM_0_0_0,
+    &BARRIER_1_SITE_1_LOCAL,
+    &BARRIER_0_SITE_2_BOTH,
+    &LOAD_1_24_DEVICE_FROM_0_0_0,
+    &READ_1,
+    &END,
+];
+
 /// Item 1's last two records are held: it names a release on another word.
 const ORDERED_TEXT: &str =
     "gpurace 1\ngroups 1 items 2 records 9\ndiverge 0 1 missing\nunmatched 0 1 2 otherword\nend races 0 diverge 1 unmatched 1 held 2\n";
-
-fn race(alloc: Global) -> Result<Vec<u8>, AllocError> {
-    joined(alloc, &[&HEADER_0_2, &WRITE_0, &READ_1, &END])
-}
 
 /// The fault of a reader that fails after so many calls, if it is told of one, and what is written.
 pub(crate) fn after_calls(alloc: Global, bytes: &[u8], calls: usize) -> (Option<Fault>, Vec<u8>) {
@@ -29,19 +42,29 @@ pub(crate) fn after_calls(alloc: Global, bytes: &[u8], calls: usize) -> (Option<
     (fault, text)
 }
 
+/// Whether a reader that fails after so many calls is told, and nothing is written.
+fn fails_to_read(alloc: Global, bytes: &[u8], calls: usize) -> bool {
+    let (fault, text) = after_calls(alloc, bytes, calls);
+    fault == Some(Fault::Read) && text.is_empty()
+}
+
+/// Whether a reader of a race that fails after so many calls has given all before, and the text is written.
+fn is_read(alloc: Global, bytes: &[u8], calls: usize) -> bool {
+    let (fault, text) = after_calls(alloc, bytes, calls);
+    fault.is_none() && text.as_slice() == TEXT.as_bytes()
+}
+
 #[test]
 fn a_reader_that_fails_is_a_read_fault(rt: HostRuntime) -> Result<(), Fail> {
-    let bytes = race(rt.alloc())?;
+    let bytes = joined(rt.alloc(), &RACE)?;
     for calls in 0..73 {
-        let (fault, text) = after_calls(rt.alloc(), &bytes, calls);
         assert!(rt;
-            fault == Some(Fault::Read) && text.is_empty(),
+            fails_to_read(rt.alloc(), &bytes, calls),
             "after {calls} calls"
         );
     }
-    let (fault, text) = after_calls(rt.alloc(), &bytes, 73);
     assert!(rt;
-        fault.is_none() && text.as_slice() == TEXT.as_bytes(),
+        is_read(rt.alloc(), &bytes, 73),
         "a reader that gives its end"
     );
     Ok(())
@@ -59,23 +82,23 @@ fn with_room(alloc: Global, bytes: &[u8], room: usize, flushes: bool) -> (Option
     (fault, writer.taken)
 }
 
+/// Whether a writer that takes so many bytes, or all and then no flush, is told, and has a prefix of the text.
+fn fails_to_write(alloc: Global, bytes: &[u8], room: usize) -> bool {
+    let text = TEXT.as_bytes();
+    let (fault, taken) = with_room(alloc, bytes, room, room < text.len());
+    fault == Some(Fault::Write) && taken.len() == room && text.starts_with(&taken)
+}
+
 #[test]
 fn a_writer_that_fails_has_a_prefix_of_the_text(rt: HostRuntime) -> Result<(), Fail> {
-    let bytes = race(rt.alloc())?;
+    let bytes = joined(rt.alloc(), &RACE)?;
     assert_eq!(rt; TEXT.len(), 93);
-    for room in 0..93 {
-        let (fault, taken) = with_room(rt.alloc(), &bytes, room, true);
-        assert_eq!(rt; fault, Some(Fault::Write), "after {room} bytes");
+    for room in 0..94 {
         assert!(rt;
-            taken.len() == room && TEXT.as_bytes().starts_with(&taken),
+            fails_to_write(rt.alloc(), &bytes, room),
             "after {room} bytes"
         );
     }
-    let (fault, taken) = with_room(rt.alloc(), &bytes, 93, false);
-    assert!(rt;
-        fault == Some(Fault::Write) && taken.as_slice() == TEXT.as_bytes(),
-        "a flush that fails"
-    );
     Ok(())
 }
 
@@ -110,42 +133,31 @@ pub(crate) fn first_wrong_growth(alloc: Global, bytes: &[u8], lines: &str) -> Op
     Some(10_000)
 }
 
-/// A launch with barriers and names.
-fn ordered(alloc: Global) -> Result<Vec<u8>, AllocError> {
-    joined(
-        alloc,
-        &[
-            &HEADER_0_2,
-            &WRITE_0,
-            &STORE_0_20_DEVICE,
-            &BARRIER_0_SITE_1_LOCAL,
-            &LOAD_1_20_DEVICE_FROM_0_0_0,
-            &BARRIER_1_SITE_1_LOCAL,
-            &BARRIER_0_SITE_2_BOTH,
-            &LOAD_1_24_DEVICE_FROM_0_0_0,
-            &READ_1,
-            &END,
-        ],
-    )
+/// Whether each refused growth of a launch of these pieces, whose report is this text, is want of memory.
+fn are_growths_told(alloc: Global, pieces: &[&[u8]], text: &str) -> bool {
+    match joined(alloc, pieces) {
+        Ok(bytes) => first_wrong_growth(alloc, &bytes, text).is_none(),
+        Err(_) => false,
+    }
 }
 
-/// The number of the growth of a launch of these pieces at which the answer is wrong, if there is one.
-fn first_wrong_of(alloc: Global, pieces: &[&[u8]], lines: &str) -> Result<Option<u64>, AllocError> {
-    let bytes = joined(alloc, pieces)?;
-    let text = format!(in alloc; "gpurace 1\n{lines}")?;
-    Ok(first_wrong_growth(alloc, &bytes, &text))
+/// The same of a launch whose report has these lines behind the first.
+pub(crate) fn are_growths_told_of(alloc: Global, pieces: &[&[u8]], lines: &str) -> bool {
+    match format!(in alloc; "gpurace 1\n{lines}") {
+        Ok(text) => are_growths_told(alloc, pieces, &text),
+        Err(_) => false,
+    }
 }
 
 #[test]
 fn each_refused_growth_is_want_of_memory(rt: HostRuntime) -> Result<(), Fail> {
-    let bytes = race(rt.alloc())?;
-    let wrong = first_wrong_growth(rt.alloc(), &bytes, TEXT);
-    assert_eq!(rt; wrong, None, "a race");
-    let bytes = ordered(rt.alloc())?;
-    let wrong = first_wrong_growth(rt.alloc(), &bytes, ORDERED_TEXT);
-    assert_eq!(rt; wrong, None, "barriers and names");
-    for &(name, pieces, lines) in &CASES {
-        assert_eq!(rt; first_wrong_of(rt.alloc(), pieces, lines)?, None, "{name}");
+    assert!(rt; are_growths_told(rt.alloc(), &RACE, TEXT), "a race");
+    assert!(rt;
+        are_growths_told(rt.alloc(), &ORDERED, ORDERED_TEXT),
+        "barriers and names"
+    );
+    for &(name, pieces, lines) in cases() {
+        assert!(rt; are_growths_told_of(rt.alloc(), pieces, lines), "{name}");
     }
     Ok(())
 }

@@ -125,11 +125,23 @@ fn large_launches_are_reported(rt: HostRuntime) -> Result<(), Fail> {
     Ok(())
 }
 
+/// How many groups and records are reported of these traces.
+fn reported_in(alloc: Global, traces: &Traces) -> Option<(u16, u64)> {
+    let report = detect(alloc, traces).ok()?;
+    Some((report.groups, report.records))
+}
+
+/// How many words race in these traces.
+fn races_in(alloc: Global, traces: &Traces) -> Option<usize> {
+    let found = detect_races(alloc, traces).ok()?;
+    Some(found.races.len())
+}
+
 /// How many groups, records and racing words are found in these traces.
 fn found_in(alloc: Global, traces: &Traces) -> Option<(u16, u64, usize)> {
-    let report = detect(alloc, traces).ok()?;
-    let races = detect_races(alloc, traces).ok()?.races.len();
-    Some((report.groups, report.records, races))
+    let (groups, records) = reported_in(alloc, traces)?;
+    let races = races_in(alloc, traces)?;
+    Some((groups, records, races))
 }
 
 /// The same of the launch whose streams stand in these bytes.

@@ -1,7 +1,7 @@
 //! What is written of launches with streams of version 2.
 
 use crate::bytes::*;
-use crate::failures::first_wrong_growth;
+use crate::failures::are_growths_told_of;
 use crate::orders::Case;
 use crate::reports::is_reported;
 use std::test::Fail;
@@ -138,13 +138,7 @@ fn launches_of_version_two_are_reported(rt: HostRuntime) -> Result<(), Fail> {
 #[test]
 fn each_refused_growth_on_version_two_is_out_of_memory(rt: HostRuntime) -> Result<(), Fail> {
     for &(name, pieces, lines) in &CASES {
-        let bytes = joined(rt.alloc(), pieces)?;
-        let text = format!(in rt.alloc(); "gpurace 1\n{lines}")?;
-        assert_eq!(rt;
-            first_wrong_growth(rt.alloc(), &bytes, &text),
-            None,
-            "{name}"
-        );
+        assert!(rt; are_growths_told_of(rt.alloc(), pieces, lines), "{name}");
     }
     Ok(())
 }

@@ -7,7 +7,7 @@ use std::test::Fail;
 /// A row: its name, the pieces of its input, and the lines behind the first, which is the same in all.
 pub(crate) type Case = (&'static str, &'static [&'static [u8]], &'static str);
 
-pub(crate) static CASES: [Case; 16] = [
+static CASES: [Case; 16] = [
     (
         "a release and an acquire of two groups",
         &[
@@ -209,9 +209,14 @@ pub(crate) static CASES: [Case; 16] = [
     ),
 ];
 
+/// Launches with barriers and with acquires that name a release.
+pub(crate) fn cases() -> &'static [Case] {
+    &CASES
+}
+
 #[test]
 fn ordered_launches_are_reported(rt: HostRuntime) -> Result<(), Fail> {
-    for &(name, pieces, lines) in &CASES {
+    for &(name, pieces, lines) in cases() {
         assert!(rt; is_reported(rt.alloc(), pieces, lines)?, "{name}");
     }
     Ok(())

@@ -1,7 +1,7 @@
 //! Launches as texts of their streams, and their reports.
 
 use gr_text::pack;
-use std::alloc::Global;
+use std::alloc::{AllocError, Global};
 use std::test::Fail;
 
 /// A launch: its name, the text of each stream, and the lines of its report behind the first.
@@ -100,7 +100,12 @@ pub(crate) fn report_with(alloc: Global, lines: &str) -> Result<Vec<u8>, Fail> {
 }
 
 /// The text of a stream of plain accesses by item 0 of a group, one to each of these words.
-fn plain_text(alloc: Global, group: u16, kind: &str, words: (u32, u32)) -> Result<String, Fail> {
+fn plain_text(
+    alloc: Global,
+    group: u16,
+    kind: &str,
+    words: (u32, u32),
+) -> Result<String, AllocError> {
     let mut text = format!(in alloc; "group {group} items 1 launch 7\n")?;
     for word in words.0..words.1 {
         text.push_str(&format!(in alloc; "0 {kind} g {word}\n")?)?;
@@ -109,15 +114,20 @@ fn plain_text(alloc: Global, group: u16, kind: &str, words: (u32, u32)) -> Resul
     Ok(text)
 }
 
-/// Writes of the words 0 to 99 by one group and reads of the words 50 to 148 by another: the streams, and the report.
-pub(crate) fn fifty_words(alloc: Global) -> Result<(Vec<Vec<u8>>, Vec<u8>), Fail> {
-    let writes = plain_text(alloc, 0, "w", (0, 100))?;
-    let reads = plain_text(alloc, 1, "r", (50, 149))?;
-    let streams = packed_all(alloc, &[writes.as_str(), reads.as_str()])?;
+/// The lines of the report of races on the words 50 to 99.
+fn fifty_lines(alloc: Global) -> Result<String, AllocError> {
     let mut lines = format!(in alloc; "groups 2 items 2 records 201\n")?;
     for word in 50..100 {
         lines.push_str(&format!(in alloc; "race global {word}\n")?)?;
     }
     lines.push_str("end races 50 diverge 0 unmatched 0 held 0\n")?;
-    Ok((streams, report_with(alloc, &lines)?))
+    Ok(lines)
+}
+
+/// Writes of the words 0 to 99 by one group and reads of the words 50 to 148 by another: the streams, and the report.
+pub(crate) fn fifty_words(alloc: Global) -> Result<(Vec<Vec<u8>>, Vec<u8>), Fail> {
+    let writes = plain_text(alloc, 0, "w", (0, 100))?;
+    let reads = plain_text(alloc, 1, "r", (50, 149))?;
+    let streams = packed_all(alloc, &[writes.as_str(), reads.as_str()])?;
+    Ok((streams, report_with(alloc, &fifty_lines(alloc)?)?))
 }

@@ -16,6 +16,16 @@ pub(crate) type Plan = (u16, u16, u32);
 /// What a run answers, and what it has written.
 pub(crate) type Outcome = (Result<(), Fault>, Vec<u8>);
 
+/// Whether a run was accepted, and has written this report.
+pub(crate) fn is_accepted(outcome: &Outcome, report: &[u8]) -> bool {
+    outcome.0 == Ok(()) && outcome.1.as_slice() == report
+}
+
+/// Whether a run was refused with this fault, and has written nothing.
+pub(crate) fn is_refused(outcome: &Outcome, fault: Fault) -> bool {
+    outcome.0 == Err(fault) && outcome.1.is_empty()
+}
+
 /// The configuration of a plan.
 pub(crate) fn config_of(plan: Plan) -> Result<Config, Fail> {
     let (workers, queues, capacity) = plan;

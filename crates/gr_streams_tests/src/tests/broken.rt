@@ -1,12 +1,15 @@
 //! Streams that are refused: the first fault is told, and nothing is written.
 
 use crate::launches::{RACE, RELEASE, packed, packed_all, report_with};
-use crate::runs::run_bytes;
+use crate::runs::{is_refused, run_bytes};
 use gr_model::shape::ShapeError;
 use gr_record::error::RecordError;
 use gr_record::fault::Fault;
 use std::alloc::Global;
+use std::sync::Wait;
 use std::test::*;
+use std::thread::Threads;
+use std::time::Clock;
 
 /// A change of a stream: whose it is, the byte that changes, and its new value.
 type Change = (usize, usize, u8);
@@ -84,37 +87,80 @@ fn changed(alloc: Global, changes: &[Change]) -> Result<Vec<Vec<u8>>, Fail> {
     Ok(streams)
 }
 
+/// Whether the three streams, changed, are refused with this fault, and nothing is written.
+fn is_refused_changed<R: Threads + Wait + Clock + Copy + Send + 'static>(
+    rt: R,
+    alloc: Global,
+    changes: &[Change],
+    fault: Fault,
+) -> Result<bool, Fail> {
+    let outcome = run_bytes(rt, alloc, changed(alloc, changes)?, (2, 2, 1))?;
+    Ok(is_refused(&outcome, fault))
+}
+
 #[test]
 fn the_first_fault_is_told(rt: HostRuntime) -> Result<(), Fail> {
     for &(name, changes, fault) in &CASES {
-        let streams = changed(rt.alloc(), changes)?;
-        let (answer, text) = run_bytes(rt, rt.alloc(), streams, (2, 2, 1))?;
-        assert!(rt; answer == Err(fault), "{name}");
-        assert!(rt; text.is_empty(), "{name}: nothing is written");
+        assert!(rt;
+            is_refused_changed(rt, rt.alloc(), changes, fault)?,
+            "{name}"
+        );
     }
-    let (answer, text) = run_bytes(rt, rt.alloc(), Vec::new(rt.alloc()), (2, 1, 1))?;
-    assert_eq!(rt; answer, Err(Fault::Shape(ShapeError::NoGroups)));
-    assert!(rt; text.is_empty(), "nothing is written");
+    let outcome = run_bytes(rt, rt.alloc(), Vec::new(rt.alloc()), (2, 1, 1))?;
+    assert!(rt;
+        is_refused(&outcome, Fault::Shape(ShapeError::NoGroups)),
+        "no stream"
+    );
     Ok(())
+}
+
+/// Whether this stream alone is refused for this error, and nothing is written.
+fn is_refused_alone<R: Threads + Wait + Clock + Copy + Send + 'static>(
+    rt: R,
+    alloc: Global,
+    stream: Vec<u8>,
+    error: RecordError,
+) -> Result<bool, Fail> {
+    let outcome = run_bytes(rt, alloc, vec![in alloc; stream]?, (1, 1, 1))?;
+    Ok(is_refused(&outcome, Fault::Stream(0, error)))
+}
+
+/// Whether the first bytes of a stream, so many of them, are refused as too short.
+fn is_too_short<R: Threads + Wait + Clock + Copy + Send + 'static>(
+    rt: R,
+    alloc: Global,
+    text: &str,
+    length: usize,
+) -> Result<bool, Fail> {
+    let mut bytes = packed(alloc, text)?;
+    bytes.truncate(length);
+    is_refused_alone(rt, alloc, bytes, RecordError::Truncated)
+}
+
+/// Whether a stream with a byte behind its end is refused as too long.
+fn is_too_long<R: Threads + Wait + Clock + Copy + Send + 'static>(
+    rt: R,
+    alloc: Global,
+    text: &str,
+) -> Result<bool, Fail> {
+    let mut bytes = packed(alloc, text)?;
+    bytes.push(0)?;
+    is_refused_alone(rt, alloc, bytes, RecordError::AfterEnd)
 }
 
 #[test]
 fn a_stream_that_is_too_short_or_too_long_is_refused(rt: HostRuntime) -> Result<(), Fail> {
     let (_, texts, _) = RACE;
     for length in 0..72 {
-        let mut bytes = packed(rt.alloc(), texts[0])?;
-        bytes.truncate(length);
-        let streams = vec![in rt.alloc(); bytes]?;
-        let (answer, text) = run_bytes(rt, rt.alloc(), streams, (1, 1, 1))?;
-        assert_eq!(rt; answer, Err(Fault::Stream(0, RecordError::Truncated)));
-        assert!(rt; text.is_empty(), "nothing is written");
+        assert!(rt;
+            is_too_short(rt, rt.alloc(), texts[0], length)?,
+            "{length} bytes"
+        );
     }
-    let mut bytes = packed(rt.alloc(), texts[0])?;
-    bytes.push(0)?;
-    let streams = vec![in rt.alloc(); bytes]?;
-    let (answer, text) = run_bytes(rt, rt.alloc(), streams, (1, 1, 1))?;
-    assert_eq!(rt; answer, Err(Fault::Stream(0, RecordError::AfterEnd)));
-    assert!(rt; text.is_empty(), "nothing is written");
+    assert!(rt;
+        is_too_long(rt, rt.alloc(), texts[0])?,
+        "a byte behind the end"
+    );
     Ok(())
 }
 

@@ -2,14 +2,16 @@
 
 use crate::inputs::{Input, Races};
 use crate::launches::{LAUNCHES, RACE, RELEASE, fifty_words, packed, packed_all, report_with};
-use crate::runs::{Plan, config_of, run_bytes};
+use crate::runs::{Plan, config_of, is_accepted, run_bytes};
 use gr_replay::replay;
 use gr_streams::run_streams;
 use gr_text::upgrade;
 use std::alloc::Global;
-use std::sync::Arc;
 use std::sync::atomic::Ordering;
+use std::sync::{Arc, Wait};
 use std::test::*;
+use std::thread::Threads;
+use std::time::Clock;
 
 static PLANS: [Plan; 8] = [
     (1, 1, 1),
@@ -22,11 +24,11 @@ static PLANS: [Plan; 8] = [
     (8, 2, 1024),
 ];
 
-/// The text of the report of `replay` on these streams.
-fn replayed(alloc: Global, streams: &[Vec<u8>]) -> Result<Vec<u8>, Fail> {
+/// The text of the report of `replay` on the streams whose texts these are.
+fn replayed(alloc: Global, texts: &[&str]) -> Result<Vec<u8>, Fail> {
     let mut bytes = Vec::new(alloc);
-    for stream in streams {
-        bytes.extend_from_slice(stream.as_slice())?;
+    for text in texts {
+        bytes.extend_from_slice(&packed(alloc, text)?)?;
     }
     let mut text = Vec::new(alloc);
     match replay(alloc, &mut bytes.as_slice(), &mut text) {
@@ -35,20 +37,37 @@ fn replayed(alloc: Global, streams: &[Vec<u8>]) -> Result<Vec<u8>, Fail> {
     }
 }
 
+/// Whether a run of each plan writes this report.
+fn is_run<R: Threads + Wait + Clock + Copy + Send + 'static>(
+    rt: R,
+    alloc: Global,
+    texts: &[&str],
+    report: &[u8],
+) -> Result<bool, Fail> {
+    for &plan in &PLANS {
+        let outcome = run_bytes(rt, alloc, packed_all(alloc, texts)?, plan)?;
+        if !is_accepted(&outcome, report) {
+            return Ok(false);
+        }
+    }
+    Ok(true)
+}
+
+/// Whether `replay` and a run of each plan write the report with these lines.
+fn is_reported<R: Threads + Wait + Clock + Copy + Send + 'static>(
+    rt: R,
+    alloc: Global,
+    texts: &[&str],
+    lines: &str,
+) -> Result<bool, Fail> {
+    let report = report_with(alloc, lines)?;
+    Ok(replayed(alloc, texts)? == report && is_run(rt, alloc, texts, &report)?)
+}
+
 #[test]
 fn reports_are_those_of_replay(rt: HostRuntime) -> Result<(), Fail> {
     for &(name, texts, lines) in &LAUNCHES {
-        let streams = packed_all(rt.alloc(), texts)?;
-        let wanted = report_with(rt.alloc(), lines)?;
-        assert!(rt;
-            replayed(rt.alloc(), streams.as_slice())? == wanted,
-            "replay: {name}"
-        );
-        for &plan in &PLANS {
-            let (answer, text) = run_bytes(rt, rt.alloc(), packed_all(rt.alloc(), texts)?, plan)?;
-            assert_eq!(rt; answer, Ok(()));
-            assert!(rt; text == wanted, "{name}");
-        }
+        assert!(rt; is_reported(rt, rt.alloc(), texts, lines)?, "{name}");
     }
     Ok(())
 }
@@ -79,19 +98,34 @@ fn versions_may_be_mixed(rt: HostRuntime) -> Result<(), Fail> {
     Ok(())
 }
 
+/// The race's stream, whose end is given only once a race was seen.
+fn gated_inputs(alloc: Global, races: &Arc<Races>) -> Result<Vec<Input>, Fail> {
+    let (_, texts, _) = RACE;
+    let bytes = packed(alloc, texts[0])?;
+    let mut inputs = Vec::new(alloc);
+    inputs.push(Input::gated(bytes, 52, Arc::try_clone(races)?))?;
+    Ok(inputs)
+}
+
+/// Whether a run over them is accepted, and writes the report of the race.
+fn is_gated_race_reported<R: Threads + Wait + Clock + Copy + Send + 'static>(
+    rt: R,
+    alloc: Global,
+    races: &Arc<Races>,
+) -> Result<bool, Fail> {
+    let (_, _, lines) = RACE;
+    let inputs = gated_inputs(alloc, races)?;
+    let theirs = Arc::try_clone(races)?;
+    let config = config_of((1, 1, 4))?;
+    let mut text = Vec::new(alloc);
+    let answer = run_streams(rt, alloc, inputs, config, theirs, &mut text);
+    Ok(answer.is_ok() && text == report_with(alloc, lines)?)
+}
+
 #[test]
 fn a_race_is_seen_before_its_stream_is_read_to_the_end(rt: HostRuntime) -> Result<(), Fail> {
-    let (_, texts, lines) = RACE;
     let races = Arc::new(rt.alloc(), Races::new())?;
-    let bytes = packed(rt.alloc(), texts[0])?;
-    let mut inputs = Vec::new(rt.alloc());
-    inputs.push(Input::gated(bytes, 52, Arc::try_clone(&races)?))?;
-    let theirs = Arc::try_clone(&races)?;
-    let mut text = Vec::new(rt.alloc());
-    let config = config_of((1, 1, 4))?;
-    let answer = run_streams(rt, rt.alloc(), inputs, config, theirs, &mut text);
-    assert!(rt; answer.is_ok(), "accepted");
-    assert!(rt; text == report_with(rt.alloc(), lines)?, "the race");
+    assert!(rt; is_gated_race_reported(rt, rt.alloc(), &races)?, "the race");
     assert_eq!(rt; races.seen.load(Ordering::SeqCst), 1);
     assert_eq!(rt; races.missed.load(Ordering::SeqCst), 0);
     Ok(())
