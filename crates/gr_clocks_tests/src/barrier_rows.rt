@@ -5,10 +5,10 @@ ghost use Rattle.std.specs.Prelude.{◌≡◌, ◌<◌, ◌≤◌, ◌+◌, ◌�
 ghost use Rattle.gr_model.specs.declared.event.ItemId.{ItemId};
 ghost use Rattle.gr_barriers.specs.Arrived.{sizes_of, marks_of};
 
-use crate::growths::is_always;
 use crate::launch::{item, two_items};
 use gr_barriers::instances::{BarrierError, Instances, State};
 use gr_barriers::{Divergence, DivergenceCause};
+use refusing::growths::refuse_each;
 use std::alloc::Allocator;
 
 /// The instances of two items; where a growth is refused they are asked for once more.
@@ -153,5 +153,6 @@ fn arrivals_and_divergences(rt: HostRuntime) {
         ],
         [Err(BarrierError::Ended(0)), Err(BarrierError::UnknownItem)],
     ));
-    is_always(&rt, rt.alloc(), |heap| two_sites_and_an_end(heap), &want);
+    let growths = refuse_each(rt.alloc(), 1, |heap| Ok(two_sites_and_an_end(heap) == want));
+    assert!(rt; growths.is_ok(), "{growths:?}");
 }

@@ -3,12 +3,12 @@
 
 ghost use Rattle.std.specs.Prelude.{◌≡◌, ◌<◌, ◌∷◌, [], IfSome};
 
-use crate::growths::is_always;
 use crate::launch::{item, two_items};
 use gr_clocks::clock::{Clock, ClockError, LARGEST_COUNT};
 use gr_clocks::clocks::Clocks;
 use gr_clocks::snapshot::Snapshot;
 use gr_model::event::{Scope, Space, Word};
+use refusing::growths::refuse_each;
 use std::alloc::Allocator;
 
 /// A clock of two items; where a growth is refused it is asked for once more.
@@ -79,7 +79,8 @@ fn ticks_and_a_join<A: Allocator + Copy>(alloc: A) -> Option<Joined> {
 #[test]
 fn a_clock_ticks_joins_and_covers(rt: HostRuntime) {
     let want = Some(([2, 1], [2, 1], true, false));
-    is_always(&rt, rt.alloc(), |heap| ticks_and_a_join(heap), &want);
+    let growths = refuse_each(rt.alloc(), 1, |heap| Ok(ticks_and_a_join(heap) == want));
+    assert!(rt; growths.is_ok(), "{growths:?}");
 }
 
 /// Ticks an item so often, and tells how often it went well from the start on.
@@ -269,10 +270,10 @@ static SEEN: Option<Seen> = Some((
 
 #[test]
 fn releases_acquires_and_barriers(rt: HostRuntime) {
-    is_always(
-        &rt,
+    let growths = refuse_each(
         rt.alloc(),
-        |heap| release_acquire_and_a_barrier(heap),
-        &SEEN,
+        1,
+        |heap| Ok(release_acquire_and_a_barrier(heap) == SEEN),
     );
+    assert!(rt; growths.is_ok(), "{growths:?}");
 }

@@ -8,7 +8,8 @@ use crate::launch::two_items;
 use gr_clocks::clocks::Clocks;
 use gr_clocks::snapshot::Snapshot;
 use gr_model::event::{ItemId, Scope, Space, Word};
-use refusing::Refusing;
+use gr_model::memory::Memory;
+use refusing::growths::refuse_each;
 use std::alloc::Allocator;
 
 /// The counts of both items of group 0, of the one item of group 1 and of the one item of group 2.
@@ -115,21 +116,14 @@ fn groups_one_after_another<A: Allocator + Copy>(alloc: A) -> Option<[Counts; 4]
     with_two_groups_more(alloc, clocks, &first)
 }
 
+/// Whether the counts are those of the row, or memory ran out.
+fn are_counted<A: Allocator + Copy>(alloc: A) -> Result<bool, Memory> {
+    let counts = groups_one_after_another(alloc).ok_or(Memory)?;
+    Ok(counts == [[3, 1, 0, 0], [3, 1, 0, 0], [2, 0, 1, 2], [2, 0, 0, 2]])
+}
+
 #[test]
 fn groups_come_one_after_another(rt: HostRuntime) {
-    let want = Some([[3, 1, 0, 0], [3, 1, 0, 0], [2, 0, 1, 2], [2, 0, 0, 2]]);
-    for growth in 0..1_000_u64 {
-        let heap = Refusing::new(rt.alloc(), growth);
-        let answer = groups_one_after_another(&heap);
-        let refused = heap.refused();
-        assert!(rt;
-            answer == want || (answer.is_none() && refused),
-            "growth {growth} refused"
-        );
-        if !refused {
-            assert!(rt; growth > 0, "no growth was refused");
-            return;
-        }
-    }
-    panic!(rt; "no end")
+    let growths = refuse_each(rt.alloc(), 1, |heap| are_counted(heap));
+    assert!(rt; growths.is_ok(), "{growths:?}");
 }

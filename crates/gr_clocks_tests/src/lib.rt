@@ -8,8 +8,6 @@ mod clock_rows;
 #[cfg(test)]
 mod group_rows;
 #[cfg(test)]
-mod growths;
-#[cfg(test)]
 mod launch;
 #[cfg(test)]
 mod names_rows;

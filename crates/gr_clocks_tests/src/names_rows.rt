@@ -3,11 +3,11 @@
 ghost use Rattle.std.specs.Prelude.{◌≡◌, ◌<◌, ◌∷◌, [], IfSome, map};
 ghost use Rattle.gr_clocks.specs.ItemClocks.{AreOfOneWord};
 
-use crate::growths::is_always;
 use crate::launch::{item, three_items};
 use gr_clocks::clocks::Clocks;
 use gr_clocks::snapshot::Snapshot;
 use gr_model::event::{Scope, Space, Word};
+use refusing::growths::refuse_each;
 use std::alloc::Allocator;
 
 /// The counts of three items in global memory, then in local memory.
@@ -144,21 +144,21 @@ static LOCAL: Option<[Counts; 3]> = Some([
 #[test]
 fn an_acquire_learns_from_all_releases_of_a_global_word(rt: HostRuntime) {
     let word = Word::Global(20);
-    is_always(
-        &rt,
+    let growths = refuse_each(
         rt.alloc(),
-        |heap| acquires_of_two_releases(heap, word),
-        &GLOBAL,
+        1,
+        |heap| Ok(acquires_of_two_releases(heap, word) == GLOBAL),
     );
+    assert!(rt; growths.is_ok(), "{growths:?}");
 }
 
 #[test]
 fn an_acquire_learns_from_all_releases_of_a_local_word(rt: HostRuntime) {
     let word = Word::Local(0, 20);
-    is_always(
-        &rt,
+    let growths = refuse_each(
         rt.alloc(),
-        |heap| acquires_of_two_releases(heap, word),
-        &LOCAL,
+        1,
+        |heap| Ok(acquires_of_two_releases(heap, word) == LOCAL),
     );
+    assert!(rt; growths.is_ok(), "{growths:?}");
 }

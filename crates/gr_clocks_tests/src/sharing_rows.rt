@@ -2,8 +2,9 @@
 
 use gr_clocks::clock::Clock;
 use gr_model::event::ItemId;
+use gr_model::memory::Memory;
 use gr_model::shape::Shape;
-use refusing::Refusing;
+use refusing::growths::refuse_each;
 use std::alloc::Allocator;
 
 /// The counts of three groups of two items.
@@ -73,21 +74,14 @@ fn ticks_behind_a_copy<A: Allocator + Copy>(alloc: A) -> Option<(Counts, Counts)
     tick_and_copy(&mut first)
 }
 
+/// Whether the counts are those of the row, or memory ran out.
+fn are_counted<A: Allocator + Copy>(alloc: A) -> Result<bool, Memory> {
+    let counts = ticks_behind_a_copy(alloc).ok_or(Memory)?;
+    Ok(counts == ([[1, 0], [0, 3], [0, 0]], [[1, 0], [0, 4], [0, 0]]))
+}
+
 #[test]
 fn a_copy_does_not_count_what_the_other_does(rt: HostRuntime) {
-    let want = Some(([[1, 0], [0, 3], [0, 0]], [[1, 0], [0, 4], [0, 0]]));
-    for growth in 0..1_000_u64 {
-        let heap = Refusing::new(rt.alloc(), growth);
-        let answer = ticks_behind_a_copy(&heap);
-        let refused = heap.refused();
-        assert!(rt;
-            answer == want || (answer.is_none() && refused),
-            "growth {growth} refused"
-        );
-        if !refused {
-            assert!(rt; growth > 0, "no growth was refused");
-            return;
-        }
-    }
-    panic!(rt; "no end")
+    let growths = refuse_each(rt.alloc(), 1, |heap| are_counted(heap));
+    assert!(rt; growths.is_ok(), "{growths:?}");
 }

@@ -1,10 +1,11 @@
 //! The buffers of words, by the lines of a file.
 
 use gr_model::event::Word;
+use gr_model::memory::Memory;
 use gr_places::buffers::{element_of, read_buffers};
 use gr_places::fault::SideFault;
-use refusing::Refusing;
-use std::alloc::{Allocator, Global};
+use refusing::growths::refuse_each;
+use std::alloc::Allocator;
 use std::test::Fail;
 
 /// A file, a word, and its buffer and place there or the fault of the file.
@@ -136,23 +137,20 @@ fn lines_give_buffers(rt: HostRuntime) -> Result<(), Fail> {
     Ok(())
 }
 
-/// Refuses each growth in turn, until none is refused; how many were, or none if an answer was wrong.
-fn growths_refused(alloc: Global) -> Option<u64> {
-    for at in 0..100_u64 {
-        let heap = Refusing::new(alloc, at);
-        let answer = element_in(&heap, FILE, Word::Local(1, 15));
-        if !heap.refused() {
-            return (answer == Ok(Some(("tile", 15)))).then_some(at);
-        }
-        if answer != Err(SideFault::Memory) {
-            return None;
-        }
+/// Whether a word of a buffer has its name and its place there, or memory ran out.
+fn is_found_or_refused<A: Allocator>(alloc: A) -> Result<bool, Memory> {
+    match element_in(alloc, FILE, Word::Local(1, 15)) {
+        Ok(found) => Ok(found == Some(("tile", 15))),
+        Err(SideFault::Memory) => Err(Memory),
+        Err(_) => Ok(false),
     }
-    None
 }
 
 #[test]
-fn each_refused_growth_is_want_of_memory(rt: HostRuntime) -> Result<(), Fail> {
-    assert!(rt; growths_refused(rt.alloc()).is_some_and(|refused| refused > 0));
-    Ok(())
+fn each_refused_growth_is_want_of_memory(rt: HostRuntime) {
+    let growths = refuse_each(rt.alloc(), 1, |heap| is_found_or_refused(heap));
+    assert!(rt;
+        growths.is_ok_and(|growths| growths.told == growths.refused),
+        "{growths:?}"
+    );
 }

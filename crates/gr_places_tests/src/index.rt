@@ -1,11 +1,12 @@
 //! Places and their numbers, by an index of the lines of a file.
 
 use gr_model::event::{EventId, ItemId};
+use gr_model::memory::Memory;
 use gr_places::fault::SideFault;
 use gr_places::index::PlaceIndex;
 use gr_places::places::{Placed, read_places};
-use refusing::Refusing;
-use std::alloc::{Allocator, Global};
+use refusing::growths::refuse_each;
+use std::alloc::Allocator;
 use std::test::Fail;
 
 /// Two texts, each of two lines, and a later line of an event that has one.
@@ -63,23 +64,20 @@ fn an_index_has_places_and_numbers(rt: HostRuntime) -> Result<(), Fail> {
     Ok(())
 }
 
-/// Refuses each growth in turn, until none is refused; how many were, or none if an answer was wrong.
-fn growths_refused(alloc: Global) -> Option<u64> {
-    for at in 0..100_u64 {
-        let heap = Refusing::new(alloc, at);
-        let answer = is_indexed(&heap, &CASES[0]);
-        if !heap.refused() {
-            return (answer == Ok(true)).then_some(at);
-        }
-        if answer != Err(SideFault::Memory) {
-            return None;
-        }
+/// Whether the index has the place and the number of the first case, or memory ran out.
+fn is_indexed_or_refused<A: Allocator + Copy>(alloc: A) -> Result<bool, Memory> {
+    match is_indexed(alloc, &CASES[0]) {
+        Ok(is_right) => Ok(is_right),
+        Err(SideFault::Memory) => Err(Memory),
+        Err(_) => Ok(false),
     }
-    None
 }
 
 #[test]
-fn each_refused_growth_is_want_of_memory(rt: HostRuntime) -> Result<(), Fail> {
-    assert!(rt; growths_refused(rt.alloc()).is_some_and(|refused| refused > 2));
-    Ok(())
+fn each_refused_growth_is_want_of_memory(rt: HostRuntime) {
+    let growths = refuse_each(rt.alloc(), 3, |heap| is_indexed_or_refused(heap));
+    assert!(rt;
+        growths.is_ok_and(|growths| growths.told == growths.refused),
+        "{growths:?}"
+    );
 }

@@ -1,10 +1,11 @@
 //! Where events and barriers stand, by the lines of a file.
 
 use gr_model::event::{EventId, ItemId};
+use gr_model::memory::Memory;
 use gr_places::fault::SideFault;
 use gr_places::places::{Placed, place_of, read_places};
-use refusing::Refusing;
-use std::alloc::{Allocator, Global};
+use refusing::growths::refuse_each;
+use std::alloc::Allocator;
 use std::test::Fail;
 
 /// The group, the item and the index of an event, or a site.
@@ -142,23 +143,20 @@ fn lines_give_places(rt: HostRuntime) -> Result<(), Fail> {
     Ok(())
 }
 
-/// Refuses each growth in turn, until none is refused; how many were, or none if an answer was wrong.
-fn growths_refused(alloc: Global) -> Option<u64> {
-    for at in 0..100_u64 {
-        let heap = Refusing::new(alloc, at);
-        let answer = place_in(&heap, TWO_LINES, Site(1));
-        if !heap.refused() {
-            return (answer == Ok(Some("scan.cl:5000:3"))).then_some(at);
-        }
-        if answer != Err(SideFault::Memory) {
-            return None;
-        }
+/// Whether a site has its place, or memory ran out.
+fn is_found_or_refused<A: Allocator>(alloc: A) -> Result<bool, Memory> {
+    match place_in(alloc, TWO_LINES, Site(1)) {
+        Ok(found) => Ok(found == Some("scan.cl:5000:3")),
+        Err(SideFault::Memory) => Err(Memory),
+        Err(_) => Ok(false),
     }
-    None
 }
 
 #[test]
-fn each_refused_growth_is_want_of_memory(rt: HostRuntime) -> Result<(), Fail> {
-    assert!(rt; growths_refused(rt.alloc()).is_some_and(|refused| refused > 0));
-    Ok(())
+fn each_refused_growth_is_want_of_memory(rt: HostRuntime) {
+    let growths = refuse_each(rt.alloc(), 1, |heap| is_found_or_refused(heap));
+    assert!(rt;
+        growths.is_ok_and(|growths| growths.told == growths.refused),
+        "{growths:?}"
+    );
 }

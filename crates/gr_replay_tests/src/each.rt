@@ -7,8 +7,8 @@ use gr_model::traces::Traces;
 use gr_record::error::RecordError;
 use gr_record::fault::Fault;
 use gr_replay::{read_each, read_joined};
-use refusing::Refusing;
 use refusing::failing::FailingReader;
+use refusing::growths::refuse_each;
 use std::alloc::{AllocError, Allocator, Global};
 use std::test::Fail;
 
@@ -180,37 +180,22 @@ fn a_reader_that_fails_comes_before_a_fault(rt: HostRuntime) -> Result<(), Fail>
     Ok(())
 }
 
-/// How many records the launch has, or that memory ran out.
-fn records_of<A: Allocator + Copy>(alloc: A, inputs: &[Vec<u8>]) -> Result<usize, Memory> {
+/// Whether the launch has two groups and all their records, or memory ran out.
+fn is_read<A: Allocator + Copy>(alloc: A, inputs: &[Vec<u8>]) -> Result<bool, Memory> {
     let readers = readers_of(alloc, inputs)?;
     match read_each(alloc, readers) {
-        Ok(traces) if traces.shape().groups() == 2 => {
-            Ok(traces.list(0).len() + 10 * traces.list(1).len())
-        }
-        Ok(_) => Ok(0),
+        Ok(traces) => Ok(
+            traces.shape().groups() == 2 && traces.list(0).len() == 2 && traces.list(1).len() == 2,
+        ),
         Err(Fault::Memory) => Err(Memory),
-        Err(_) => Ok(0),
+        Err(_) => Ok(false),
     }
-}
-
-/// Refuses each growth in turn, until none is refused; the first whose answer is wrong, if there is one.
-fn first_wrong_growth(alloc: Global, inputs: &[Vec<u8>]) -> Option<u64> {
-    for at in 0..1_000_u64 {
-        let heap = Refusing::new(alloc, at);
-        let answer = records_of(&heap, inputs);
-        if answer != Ok(22) && !(answer == Err(Memory) && heap.refused()) {
-            return Some(at);
-        }
-        if !heap.refused() {
-            return if at > 4 { None } else { Some(at) };
-        }
-    }
-    Some(1_000)
 }
 
 #[test]
 fn each_refused_growth_of_reading_is_want_of_memory(rt: HostRuntime) -> Result<(), Fail> {
     let inputs = inputs_of(rt.alloc(), LAUNCHES[1])?;
-    assert_eq!(rt; first_wrong_growth(rt.alloc(), &inputs), None);
+    let growths = refuse_each(rt.alloc(), 5, |heap| is_read(heap, &inputs));
+    assert!(rt; growths.is_ok(), "{growths:?}");
     Ok(())
 }

@@ -5,8 +5,8 @@ use crate::orders::cases;
 use gr_model::memory::Memory;
 use gr_record::fault::Fault;
 use gr_replay::replay;
-use refusing::Refusing;
 use refusing::failing::{FailingReader, FailingWriter};
+use refusing::growths::refuse_each;
 use std::alloc::{Allocator, Global};
 use std::test::Fail;
 
@@ -118,25 +118,15 @@ fn is_replayed<A: Allocator + Copy>(
     }
 }
 
-/// Refuses each growth in turn, until none is refused; the row where the answer is wrong, if there is one.
-pub(crate) fn first_wrong_growth(alloc: Global, bytes: &[u8], lines: &str) -> Option<u64> {
-    for at in 0..10_000_u64 {
-        let heap = Refusing::new(alloc, at);
-        let answer = is_replayed(&heap, alloc, bytes, lines);
-        if answer != Ok(true) && !(answer == Err(Memory) && heap.refused()) {
-            return Some(at);
-        }
-        if !heap.refused() {
-            return if at > 4 { None } else { Some(at) };
-        }
-    }
-    Some(10_000)
+/// Whether the report of these bytes is this text, and each refused growth is want of memory.
+pub(crate) fn is_replayed_or_refused(alloc: Global, bytes: &[u8], text: &str) -> bool {
+    refuse_each(alloc, 5, |heap| is_replayed(heap, alloc, bytes, text)).is_ok()
 }
 
-/// Whether each refused growth of a launch of these pieces, whose report is this text, is want of memory.
+/// The same of a launch of these pieces.
 fn are_growths_told(alloc: Global, pieces: &[&[u8]], text: &str) -> bool {
     match joined(alloc, pieces) {
-        Ok(bytes) => first_wrong_growth(alloc, &bytes, text).is_none(),
+        Ok(bytes) => is_replayed_or_refused(alloc, &bytes, text),
         Err(_) => false,
     }
 }

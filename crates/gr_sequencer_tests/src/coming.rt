@@ -6,9 +6,10 @@ ghost use Rattle.std.specs.Prelude.{◌≡◌, ◌∷◌, [], IfSome};
 use crate::calls::{is_lawful, shape_of};
 use crate::rows::{ACQUIRE, READ, RELEASE, event_of};
 use gr_model::event::{Event, ItemId, Kind, Name, Space};
+use gr_model::memory::Memory;
 use gr_sequencer::handled::Handled;
 use gr_sequencer::sequencer::Sequencer;
-use refusing::Refusing;
+use refusing::growths::refuse_each;
 use std::alloc::Allocator;
 use std::test::Fail;
 
@@ -173,20 +174,14 @@ fn come<A: Allocator + Copy>(alloc: A) -> Option<([bool; 5], u64)> {
     Some(([acquire, read, other, early, late], held))
 }
 
+/// Whether they come so, or memory runs out.
+fn come_so<A: Allocator + Copy>(alloc: A) -> Result<bool, Memory> {
+    let answers = come(alloc).ok_or(Memory)?;
+    Ok(answers == ([true, true, false, false, true], 0))
+}
+
 #[test]
-fn groups_come_one_after_another(rt: HostRuntime) -> Result<(), Fail> {
-    let want = Some(([true, true, false, false, true], 0));
-    for growth in 0..1_000_u64 {
-        let heap = Refusing::new(rt.alloc(), growth);
-        let answer = come(&heap);
-        assert!(rt;
-            answer == want || (answer.is_none() && heap.refused()),
-            "growth {growth} refused"
-        );
-        if !heap.refused() {
-            assert!(rt; growth > 0, "no growth was refused");
-            return Ok(());
-        }
-    }
-    Err("no end")?
+fn groups_come_one_after_another(rt: HostRuntime) {
+    let growths = refuse_each(rt.alloc(), 1, |heap| come_so(heap));
+    assert!(rt; growths.is_ok(), "{growths:?}");
 }

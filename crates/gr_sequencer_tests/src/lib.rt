@@ -19,6 +19,8 @@ mod together;
 #[cfg(test)]
 mod told;
 #[cfg(test)]
+mod trials;
+#[cfg(test)]
 mod turns;
 #[cfg(test)]
 mod waits;

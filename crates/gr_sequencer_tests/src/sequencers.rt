@@ -1,12 +1,12 @@
 //! The worked rows by the sequencer, each with each growth refused in turn: the steps are made once all records were taken,
 //! or behind each record, or in one call with it where that can be, by `step` or by the calls that it stands for.
 
-use crate::calls::{handle, meet, new, step, take, take_and_handle};
+use crate::calls::{handle, meet, step, take, take_and_handle};
 use crate::rows::{Record, Row, Told, event_of, rows};
 use crate::told::told;
+use crate::trials::{Trial, holds_always};
 use gr_model::event::ItemId;
 use gr_sequencer::sequencer::Sequencer;
-use refusing::Refusing;
 use std::alloc::{Allocator, Global};
 use std::test::Fail;
 
@@ -91,44 +91,34 @@ fn follow<A: Allocator + Copy>(sequencer: &mut Sequencer<A>, row: &Row, way: Way
 }
 
 /// What a sequencer that has taken nothing tells at a row's end.
-fn told_by<A: Allocator + Copy>(sequencer: &mut Sequencer<A>, row: &Row, way: Way) -> Option<Told> {
+fn told_of<A: Allocator + Copy>(sequencer: &mut Sequencer<A>, row: &Row, way: Way) -> Option<Told> {
     follow(sequencer, row, way)?;
     told(sequencer)
 }
 
-/// The same of a new sequencer.
-fn told_of<A: Allocator + Copy>(alloc: A, row: &Row, way: Way) -> Option<Told> {
-    let mut sequencer = new(alloc, row.1)?;
-    told_by(&mut sequencer, row, way)
+/// A row, told by a new sequencer.
+#[derive(Clone, Copy)]
+struct Telling<'a> {
+    row: &'a Row,
+    way: Way,
 }
 
-/// Refuses each growth in turn, until none is refused; the number of one where the row's answer is wrong, if there is one.
-fn first_wrong_growth(alloc: Global, row: &Row, way: Way) -> Option<u64> {
-    for at in 0..1_000_u64 {
-        let heap = Refusing::new(alloc, at);
-        if told_of(&heap, row, way) != Some(row.3) {
-            return Some(at);
-        }
-        if !heap.refused() {
-            return if at > 4 { None } else { Some(at) };
-        }
+impl Trial for Telling<'_> {
+    fn holds<A: Allocator + Copy>(&self, sequencer: &mut Sequencer<A>) -> bool {
+        told_of(sequencer, self.row, self.way) == Some(self.row.3)
     }
-    Some(1_000)
 }
 
-/// The first row where the answer is wrong, the way, and the number of the growth that was refused, if there is one.
-fn first_wrong_row(alloc: Global, rows: &[Row]) -> Option<(&'static str, Way, u64)> {
-    for row in rows {
-        for way in [Way::Last, Way::Behind, Way::Together, Way::ByCalls] {
-            if let Some(growth) = first_wrong_growth(alloc, row, way) {
-                return Some((row.0, way, growth));
-            }
-        }
-    }
-    None
+/// Whether a row is told whichever growth is refused.
+fn is_told_always(alloc: Global, row: &Row, way: Way) -> bool {
+    holds_always(alloc, row.1, &Telling { row, way })
 }
 
 #[test]
 fn rows_are_told_whatever_growth_is_refused(rt: HostRuntime) {
-    assert_eq!(rt; first_wrong_row(rt.alloc(), rows()), None);
+    for row in rows() {
+        for way in [Way::Last, Way::Behind, Way::Together, Way::ByCalls] {
+            assert!(rt; is_told_always(rt.alloc(), row, way), "{}: {way:?}", row.0);
+        }
+    }
 }

@@ -1,13 +1,12 @@
 //! Records that are taken and, where that can be, handled in one call.
 
-use crate::calls::{new, take_and_handle};
+use crate::calls::take_and_handle;
 use crate::rows::{ACQUIRE, BARRIER, END, FIRST_0_0, READ, RELEASE, Record, event_of};
+use crate::trials::{Trial, holds_always};
 use gr_model::event::{EventId, ItemId, Kind, Order, Scope, Space};
 use gr_sequencer::handled::Handled;
 use gr_sequencer::sequencer::Sequencer;
-use refusing::Refusing;
 use std::alloc::Allocator;
-use std::test::Fail;
 
 const RELAXED: Kind = Kind::Load(Scope::Device, Order::Relaxed);
 
@@ -54,35 +53,22 @@ fn is_taken<A: Allocator + Copy>(
     }
 }
 
-/// Whether all records are taken so by a sequencer that has taken none, and those that were not handled are held.
-fn are_taken_by<A: Allocator + Copy>(sequencer: &mut Sequencer<A>) -> bool {
-    for (record, index) in &ROWS {
-        if !is_taken(sequencer, record, *index) {
-            return false;
-        }
-    }
-    sequencer.held() == 6 && sequencer.taken(0) == 8 && sequencer.taken(1) == 3
-}
+/// The records, by a new sequencer.
+struct Together;
 
-/// The same of a new sequencer.
-fn are_taken<A: Allocator + Copy>(alloc: A) -> bool {
-    match new(alloc, &[2, 1]) {
-        None => false,
-        Some(mut sequencer) => are_taken_by(&mut sequencer),
+impl Trial for Together {
+    /// Whether all records are taken so, and those that were not handled are held.
+    fn holds<A: Allocator + Copy>(&self, sequencer: &mut Sequencer<A>) -> bool {
+        for (record, index) in &ROWS {
+            if !is_taken(sequencer, record, *index) {
+                return false;
+            }
+        }
+        sequencer.held() == 6 && sequencer.taken(0) == 8 && sequencer.taken(1) == 3
     }
 }
 
 #[test]
-fn mere_accesses_that_wait_for_nothing_are_handled_with_their_records(
-    rt: HostRuntime,
-) -> Result<(), Fail> {
-    for at in 0..1_000_u64 {
-        let heap = Refusing::new(rt.alloc(), at);
-        assert!(rt; are_taken(&heap), "growth {at}");
-        if !heap.refused() {
-            assert!(rt; at > 4);
-            return Ok(());
-        }
-    }
-    Err("growths without end".into())
+fn mere_accesses_that_wait_for_nothing_are_handled_with_their_records(rt: HostRuntime) {
+    assert!(rt; holds_always(rt.alloc(), &[2, 1], &Together));
 }

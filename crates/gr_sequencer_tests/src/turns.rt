@@ -1,13 +1,12 @@
 //! Barriers that are taken one by one, with all steps made behind each.
 
-use crate::calls::{new, step, take};
+use crate::calls::{step, take};
 use crate::rows::{BARRIER, event_of};
+use crate::trials::{Trial, holds_always};
 use gr_model::event::Space;
 use gr_sequencer::handled::Handled;
 use gr_sequencer::sequencer::Sequencer;
-use refusing::Refusing;
 use std::alloc::Allocator;
-use std::test::Fail;
 
 /// Barriers of one group: their items and sites, in the order in which they are taken.
 type Barriers = [(u16, u32); 4];
@@ -70,7 +69,7 @@ fn steps<A: Allocator + Copy>(sequencer: &mut Sequencer<A>) -> Option<Done> {
 }
 
 /// What is done behind each of the barriers by a sequencer that has taken nothing.
-fn seen_by<A: Allocator + Copy>(
+fn seen<A: Allocator + Copy>(
     sequencer: &mut Sequencer<A>,
     barriers: &Barriers,
 ) -> Option<[Done; 4]> {
@@ -83,36 +82,20 @@ fn seen_by<A: Allocator + Copy>(
     Some(all)
 }
 
-/// The same of a new sequencer.
-fn seen<A: Allocator + Copy>(alloc: A, barriers: &Barriers) -> Option<[Done; 4]> {
-    let mut sequencer = new(alloc, &[4])?;
-    seen_by(&mut sequencer, barriers)
-}
+/// A row, by a new sequencer.
+#[derive(Clone, Copy)]
+struct Turns<'a>(&'a Row);
 
-/// How many growths were refused until none was left, or else at which one something else was done.
-fn refused<A: Allocator + Copy>(alloc: A, row: &Row) -> Result<u64, u64> {
-    let (_, barriers, done) = row;
-    for at in 0..1_000_u64 {
-        let heap = Refusing::new(alloc, at);
-        if seen(&heap, barriers) != Some(*done) {
-            return Err(at);
-        }
-        if !heap.refused() {
-            return Ok(at);
-        }
+impl Trial for Turns<'_> {
+    fn holds<A: Allocator + Copy>(&self, sequencer: &mut Sequencer<A>) -> bool {
+        let (_, barriers, done) = self.0;
+        seen(sequencer, barriers) == Some(*done)
     }
-    Err(1_000)
 }
 
 #[test]
-fn who_goes_on_behind_each_barrier(rt: HostRuntime) -> Result<(), Fail> {
+fn who_goes_on_behind_each_barrier(rt: HostRuntime) {
     for row in &ROWS {
-        let growths = refused(rt.alloc(), row);
-        assert!(rt;
-            growths.is_ok_and(|count| count > 4),
-            "{}: {growths:?}",
-            row.0
-        );
+        assert!(rt; holds_always(rt.alloc(), &[4], &Turns(row)), "{}", row.0);
     }
-    Ok(())
 }

@@ -1,15 +1,14 @@
 //! An acquire waits until the release that it names was handled.
 
-use crate::calls::{handle, new, step, take};
+use crate::calls::{handle, step, take};
 use crate::rows::{ACQUIRE, END, FIRST_0_0, NOTHING, READ, RELEASE, Told, event_of};
 use crate::told::told;
+use crate::trials::{Trial, holds_always};
 use gr_lanes::seq_error::SeqError;
 use gr_model::event::{Event, EventId, ItemId, Space};
 use gr_sequencer::handled::Handled;
 use gr_sequencer::sequencer::Sequencer;
-use refusing::Refusing;
 use std::alloc::Allocator;
-use std::test::Fail;
 
 fn acquire() -> Event {
     event_of(&(1, 0, ACQUIRE, Space::Global, 20, FIRST_0_0))
@@ -88,33 +87,27 @@ fn seen_and_refused<A: Allocator + Copy>(sequencer: &mut Sequencer<A>) -> Option
     Some((seen, [nobody, behind, nowhere]))
 }
 
-fn seen<A: Allocator + Copy>(alloc: A) -> Option<(Seen, Refusals)> {
-    let mut sequencer = new(alloc, &[1, 1])?;
-    seen_and_refused(&mut sequencer)
-}
-
 fn first_of(group: u16) -> Option<EventId> {
     let at = ItemId { group, item: 0 };
     Some(EventId { at, index: 0 })
 }
 
-#[test]
-fn an_acquire_waits_for_its_release(rt: HostRuntime) -> Result<(), Fail> {
-    for at in 0..1_000_u64 {
-        let heap = Refusing::new(rt.alloc(), at);
-        let want = (
-            ([true; 4], [first_of(0), first_of(1)], Some(NOTHING)),
-            [
-                Err(SeqError::UnknownItem),
-                Err(SeqError::AfterEnd(0)),
-                Err(SeqError::UnknownGroup),
-            ],
-        );
-        assert_eq!(rt; seen(&heap), Some(want), "growth {at} refused");
-        if !heap.refused() {
-            assert!(rt; at > 4, "few growths were refused");
-            return Ok(());
-        }
+/// An acquire that is taken before its release, by a new sequencer.
+struct AcquireFirst;
+
+impl Trial for AcquireFirst {
+    fn holds<A: Allocator + Copy>(&self, sequencer: &mut Sequencer<A>) -> bool {
+        let seen = ([true; 4], [first_of(0), first_of(1)], Some(NOTHING));
+        let refusals = [
+            Err(SeqError::UnknownItem),
+            Err(SeqError::AfterEnd(0)),
+            Err(SeqError::UnknownGroup),
+        ];
+        seen_and_refused(sequencer) == Some((seen, refusals))
     }
-    Err("a growth was refused each time")?
+}
+
+#[test]
+fn an_acquire_waits_for_its_release(rt: HostRuntime) {
+    assert!(rt; holds_always(rt.alloc(), &[1, 1], &AcquireFirst));
 }

@@ -1,13 +1,12 @@
 //! One release wakes all who wait for it.
 
-use crate::calls::{new, step, take};
+use crate::calls::{step, take};
 use crate::rows::{ACQUIRE, FIRST_0_0, RELEASE, event_of};
+use crate::trials::{Trial, holds_always};
 use crate::waits::handled;
 use gr_model::event::{EventId, ItemId, Space};
 use gr_sequencer::sequencer::Sequencer;
-use refusing::Refusing;
 use std::alloc::Allocator;
-use std::test::Fail;
 
 /// What the row shows: whether no step was made behind the acquires, the event that the first step behind the release
 /// handled, of which groups the next three steps handled the acquire, and whether no step was made behind them.
@@ -51,25 +50,19 @@ fn one_release<A: Allocator + Copy>(sequencer: &mut Sequencer<A>) -> Option<Seen
     Some((before, first, groups, behind))
 }
 
-fn seen<A: Allocator + Copy>(alloc: A) -> Option<Seen> {
-    let mut sequencer = new(alloc, &[1, 1, 1, 1])?;
-    one_release(&mut sequencer)
+/// One release and three acquires that name it, by a new sequencer.
+struct Woken;
+
+impl Trial for Woken {
+    fn holds<A: Allocator + Copy>(&self, sequencer: &mut Sequencer<A>) -> bool {
+        let at = ItemId { group: 0, item: 0 };
+        let release = EventId { at, index: 0 };
+        let seen = (true, Some(release), [false, true, true, true], true);
+        one_release(sequencer) == Some(seen)
+    }
 }
 
 #[test]
-fn a_release_wakes_all_who_wait_for_it(rt: HostRuntime) -> Result<(), Fail> {
-    let release = EventId {
-        at: ItemId { group: 0, item: 0 },
-        index: 0,
-    };
-    for at in 0..1_000_u64 {
-        let heap = Refusing::new(rt.alloc(), at);
-        let want = (true, Some(release), [false, true, true, true], true);
-        assert_eq!(rt; seen(&heap), Some(want), "growth {at} refused");
-        if !heap.refused() {
-            assert!(rt; at > 4, "few growths were refused");
-            return Ok(());
-        }
-    }
-    Err("a growth was refused each time")?
+fn a_release_wakes_all_who_wait_for_it(rt: HostRuntime) {
+    assert!(rt; holds_always(rt.alloc(), &[1, 1, 1, 1], &Woken));
 }

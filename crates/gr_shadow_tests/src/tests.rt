@@ -12,7 +12,7 @@ use gr_model::shape::Shape;
 use gr_scopes::class::Class;
 use gr_shadow::merge::merge;
 use gr_shadow::shadows::Shadows;
-use refusing::Refusing;
+use refusing::growths::refuse_each;
 use std::alloc::{Allocator, Global};
 use std::process::Abort;
 
@@ -619,24 +619,16 @@ static SEEN: Option<Seen> = Some((
     ],
 ));
 
-/// The answers are the same with this growth refused; whether it was.
-fn is_same_without(rt: &impl Abort, alloc: Global, growth: u64) -> bool {
-    let heap = Refusing::new(alloc, growth);
-    let seen = two_rows_and_a_union(&heap);
+/// Whether the answers and the union are these.
+fn are_seen<A: Allocator + Copy>(alloc: A) -> bool {
     let wanted = SEEN;
-    assert_eq!(rt; seen, wanted, "growth {growth}");
-    heap.refused()
+    two_rows_and_a_union(alloc) == wanted
 }
 
 #[test]
 fn each_refused_growth_leaves_the_hit_words(rt: HostRuntime) {
-    for growth in 0..1_000_u64 {
-        if !is_same_without(&rt, rt.alloc(), growth) {
-            assert!(rt; growth > 0, "no growth was refused");
-            return;
-        }
-    }
-    panic!(rt; "a growth was refused each time")
+    let growths = refuse_each(rt.alloc(), 1, |heap| Ok(are_seen(heap)));
+    assert!(rt; growths.is_ok(), "{growths:?}");
 }
 
 #[test]

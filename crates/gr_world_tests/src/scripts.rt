@@ -7,7 +7,7 @@ use crate::told::{NOTHING, Told, reported};
 use gr_model::event::{ItemId, Word};
 use gr_model::report::{Divergence, DivergenceCause};
 use gr_world::step::StepError;
-use refusing::Refusing;
+use refusing::growths::refuse_each;
 use std::alloc::Global;
 
 const OK: Result<(), StepError> = Ok(());
@@ -347,32 +347,15 @@ fn each_step_is_answered_and_run_counts_the_refused(rt: HostRuntime) {
     assert_eq!(rt; first_wrong_script(rt.alloc(), &scripts()), None);
 }
 
-/// Refuses each growth in turn, until none is refused; the number of one where the script goes otherwise, if there is
-/// one.
-fn first_wrong_growth(alloc: Global, script: &Script) -> Option<u64> {
-    for at in 0..1_000_u64 {
-        let heap = Refusing::new(alloc, at);
-        if went(&heap, script) != Some((None, script.told)) {
-            return Some(at);
-        }
-        if !heap.refused() {
-            return if at > 4 { None } else { Some(at) };
-        }
-    }
-    Some(1_000)
-}
-
-/// The first script that goes otherwise where a growth is refused, and the growth's number, if there is one.
-fn first_wrong_refusal(alloc: Global, scripts: &[Script]) -> Option<(&'static str, u64)> {
-    for script in scripts {
-        if let Some(growth) = first_wrong_growth(alloc, script) {
-            return Some((script.name, growth));
-        }
-    }
-    None
+/// Whether the script goes as it says whichever growth is refused.
+fn goes_always(alloc: Global, script: &Script) -> bool {
+    let told = Some((None, script.told));
+    refuse_each(alloc, 5, |heap| Ok(went(heap, script) == told)).is_ok()
 }
 
 #[test]
 fn each_step_is_answered_whatever_growth_is_refused(rt: HostRuntime) {
-    assert_eq!(rt; first_wrong_refusal(rt.alloc(), &scripts()), None);
+    for script in &scripts() {
+        assert!(rt; goes_always(rt.alloc(), script), "{}", script.name);
+    }
 }

@@ -1,5 +1,6 @@
 //! Readers that fail, and writers that fail.
 
+use std::alloc::Global;
 use std::io::{self, ErrorKind, Read, Write};
 
 /// Gives one byte at a call, and fails at its last call.
@@ -37,6 +38,31 @@ pub struct FailingWriter {
     pub room: usize,
     /// Whether a flush succeeds.
     pub flushes: bool,
+}
+
+impl FailingWriter {
+    /// A writer with room for so many bytes; its flush fails, unless there is room without end.
+    pub fn with_room(alloc: Global, room: usize) -> FailingWriter {
+        FailingWriter {
+            taken: Vec::new(alloc),
+            room,
+            flushes: room == usize::MAX,
+        }
+    }
+
+    /// A writer with room for so many bytes of a text; its flush fails where that is the whole text.
+    pub fn within(alloc: Global, text: &[u8], room: usize) -> FailingWriter {
+        FailingWriter {
+            taken: Vec::new(alloc),
+            room,
+            flushes: room < text.len(),
+        }
+    }
+
+    /// Whether it took so many bytes, the first ones of a text.
+    pub fn has_front(&self, text: &[u8], count: usize) -> bool {
+        self.taken.len() == count && text.starts_with(&self.taken)
+    }
 }
 
 impl Write for FailingWriter {

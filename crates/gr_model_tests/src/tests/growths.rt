@@ -4,9 +4,8 @@ use gr_model::event::Event;
 use gr_model::memory::Memory;
 use gr_model::shape::Shape;
 use gr_model::traces::Traces;
-use refusing::Refusing;
+use refusing::growths::{Growths, refuse_each};
 use std::alloc::Allocator;
-use std::test::Fail;
 
 /// The sizes of one group of two.
 fn sizes_of_two<A: Allocator>(alloc: A) -> Result<Vec<u16, A>, Memory> {
@@ -24,40 +23,31 @@ fn lists_of_one<A: Allocator + Copy>(alloc: A) -> Result<Vec<Vec<Event, A>, A>, 
     Ok(lists)
 }
 
-/// How many items the traces of this shape's copy have, where all growths are granted.
-fn items_of_copy<A: Allocator + Copy>(alloc: A, shape: &Shape<A>) -> Result<u32, Memory> {
+/// Whether the traces of this shape's copy have two items, or memory ran out.
+fn has_copy_two_items<A: Allocator + Copy>(alloc: A, shape: &Shape<A>) -> Result<bool, Memory> {
     let copy = shape.copy()?;
     match Traces::new(copy, lists_of_one(alloc)?) {
-        Ok(traces) => Ok(traces.shape().total()),
-        Err(_) => Ok(0),
+        Ok(traces) => Ok(traces.shape().total() == 2),
+        Err(_) => Ok(false),
     }
 }
 
-/// How many items the traces of one group of two have, where all growths are granted.
-fn items_of_made_traces<A: Allocator + Copy>(alloc: A) -> Result<u32, Memory> {
+/// Whether the traces of one group of two have two items, or memory ran out.
+fn have_traces_two_items<A: Allocator + Copy>(alloc: A) -> Result<bool, Memory> {
     match Shape::new(sizes_of_two(alloc)?) {
-        Ok(shape) => items_of_copy(alloc, &shape),
-        Err(_) => Ok(0),
+        Ok(shape) => has_copy_two_items(alloc, &shape),
+        Err(_) => Ok(false),
     }
 }
 
 #[test]
-fn each_refused_growth_is_out_of_memory(rt: HostRuntime) -> Result<(), Fail> {
-    let mut refusals = 0_u32;
-    for at in 0..1_000_u64 {
-        let heap = Refusing::new(rt.alloc(), at);
-        let answer = items_of_made_traces(&heap);
-        assert!(rt;
-            answer == Ok(2) || (answer == Err(Memory) && heap.refused()),
-            "the growth numbered {at}"
-        );
-        if answer == Err(Memory) {
-            refusals = refusals.saturating_add(1);
-        }
-        if !heap.refused() {
-            assert_eq!(rt; (at, refusals), (4, 4));
-            return Ok(());
-        }
-    }
-    Err("a growth was refused each time")?
+fn each_refused_growth_is_out_of_memory(rt: HostRuntime) {
+    let growths = refuse_each(rt.alloc(), 4, |heap| have_traces_two_items(heap));
+    assert_eq!(rt;
+        growths,
+        Ok(Growths {
+            refused: 4,
+            told: 4
+        })
+    );
 }

@@ -4,9 +4,8 @@ use super::pairs::{PAIRS, RACE};
 use gr_model::memory::Memory;
 use gr_record::fault::Fault;
 use gr_text::{dump, pack, upgrade};
-use refusing::Refusing;
+use refusing::growths::refuse_each;
 use std::alloc::{Allocator, Global};
-use std::process::Abort;
 
 /// What is done with an input.
 #[derive(Clone, Copy)]
@@ -47,48 +46,36 @@ fn is_done<A: Allocator + Copy>(
     }
 }
 
-/// The work is done, or out of memory, whichever growth is refused.
-fn meets_each_growth(
-    rt: &impl Abort,
-    alloc: Global,
-    work: Work,
-    input: &[u8],
-    due: &[u8],
-    name: &str,
-) {
-    for at in 0..1_000_u64 {
-        let heap = Refusing::new(alloc, at);
-        let answer = is_done(&heap, alloc, work, input, due);
-        let refused = heap.refused();
-        assert!(rt;
-            answer == Ok(true) || (answer == Err(Memory) && refused),
-            "{name}: growth {at}"
-        );
-        if !refused {
-            assert!(rt; at > 1 || input.is_empty(), "{name}: growths");
-            return;
-        }
-    }
+/// Whether the work is done, or out of memory, whichever growth is refused.
+fn is_done_or_refused(alloc: Global, work: Work, input: &[u8], due: &[u8]) -> bool {
+    let least = if input.is_empty() { 0 } else { 2 };
+    refuse_each(alloc, least, |heap| is_done(heap, alloc, work, input, due)).is_ok()
 }
 
 #[test]
 fn each_refused_growth_of_packing_is_out_of_memory(rt: HostRuntime) {
     for &(name, text, bytes) in &PAIRS {
-        meets_each_growth(&rt, rt.alloc(), Work::Pack, text.as_bytes(), bytes, name);
+        assert!(rt;
+            is_done_or_refused(rt.alloc(), Work::Pack, text.as_bytes(), bytes),
+            "{name}"
+        );
     }
 }
 
 #[test]
 fn each_refused_growth_of_dumping_is_out_of_memory(rt: HostRuntime) {
     for &(name, text, bytes) in &PAIRS {
-        meets_each_growth(&rt, rt.alloc(), Work::Dump, bytes, text.as_bytes(), name);
+        assert!(rt;
+            is_done_or_refused(rt.alloc(), Work::Dump, bytes, text.as_bytes()),
+            "{name}"
+        );
     }
 }
 
 #[test]
 fn each_refused_growth_of_upgrading_is_out_of_memory(rt: HostRuntime) {
-    let (name, _, bytes) = RACE;
+    let bytes = RACE.2;
     let mut due = Vec::new(rt.alloc());
     assert_eq!(rt; do_work(rt.alloc(), Work::Upgrade, bytes, &mut due), Ok(()));
-    meets_each_growth(&rt, rt.alloc(), Work::Upgrade, bytes, &due, name);
+    assert!(rt; is_done_or_refused(rt.alloc(), Work::Upgrade, bytes, &due));
 }

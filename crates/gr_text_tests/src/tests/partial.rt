@@ -5,8 +5,8 @@ use gr_model::memory::Memory;
 use gr_record::error::RecordError;
 use gr_record::fault::Fault;
 use gr_text::dump_partial;
-use refusing::Refusing;
 use refusing::failing::{FailingReader, FailingWriter};
+use refusing::growths::refuse_each;
 use std::alloc::{AllocError, Allocator, Global};
 use std::test::Fail;
 
@@ -138,18 +138,9 @@ fn tells_two_records<A: Allocator + Copy>(alloc: A, ample: Global) -> Result<boo
 
 #[test]
 fn each_refused_growth_of_dumping_in_part_is_out_of_memory(rt: HostRuntime) {
-    for at in 0..1_000_u64 {
-        let heap = Refusing::new(rt.alloc(), at);
-        let answer = tells_two_records(&heap, rt.alloc());
-        assert!(rt;
-            answer == Ok(true) || (answer == Err(Memory) && heap.refused()),
-            "growth {at}"
-        );
-        if !heap.refused() {
-            assert!(rt; at > 3, "growths");
-            return;
-        }
-    }
+    let alloc = rt.alloc();
+    let growths = refuse_each(alloc, 4, |heap| tells_two_records(heap, alloc));
+    assert!(rt; growths.is_ok(), "{growths:?}");
 }
 
 #[test]

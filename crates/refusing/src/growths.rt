@@ -1,0 +1,48 @@
+//! What is answered where a growth is refused, for each growth in turn.
+
+use crate::Refusing;
+use gr_model::memory::Memory;
+use std::alloc::Global;
+
+/// More growths than any test has.
+const MOST: u64 = 10_000;
+
+/// What became of the growths of a test, each refused in turn.
+#[derive(Clone, Copy, Debug, PartialEq, Eq)]
+pub struct Growths {
+    /// How many there are.
+    pub refused: u64,
+    /// How many of them made the answer want of memory.
+    pub told: u64,
+}
+
+/// Asks for an answer with each growth refused in turn, until none is refused. An answer says whether it is as wanted; want of
+/// memory is right as well where a growth was refused. The error is the number of the first growth with a wrong answer, or
+/// how many growths there are, where these are less than `least`: then too little was tried.
+pub fn refuse_each<F: Fn(&Refusing<Global>) -> Result<bool, Memory>>(
+    alloc: Global,
+    least: u64,
+    answer: F,
+) -> Result<Growths, u64>
+    requires { F.IsAlwaysCallable answer }
+{
+    let mut told = 0_u64;
+    for at in 0..MOST {
+        let heap = Refusing::new(alloc, at);
+        let answered = answer(&heap);
+        let is_refused = heap.refused();
+        match answered {
+            Ok(true) => {}
+            Err(Memory) if is_refused => told = told.saturating_add(1),
+            _ => return Err(at),
+        }
+        if !is_refused {
+            return if at < least {
+                Err(at)
+            } else {
+                Ok(Growths { refused: at, told })
+            };
+        }
+    }
+    Err(MOST)
+}
