@@ -7,8 +7,8 @@ use gr_record::error::RecordError;
 use gr_record::fault::Fault;
 use gr_show::show_race;
 use gr_text::packing::pack_text;
-use refusing::Refusing;
 use refusing::failing::{FailingReader, FailingWriter};
+use refusing::growths::refuse_each;
 use std::alloc::{Allocator, Global};
 use std::test::Fail;
 
@@ -20,6 +20,9 @@ type Case = (
     &'static str,
     bool,
 );
+
+/// A word, its line, and whether it has a race.
+type Asked = (Word, &'static str, bool);
 
 const THREE_WRITES: &str = "group 0 items 3 launch 7\n2 w g 16\n1 w g 16\n0 w g 16\nend\n";
 
@@ -110,9 +113,9 @@ fn is_shown<A: Allocator + Copy>(
     alloc: A,
     ample: Global,
     inputs: &[Vec<u8>],
-    case: &Case,
+    asked: Asked,
 ) -> Result<bool, Memory> {
-    let (_, _, word, line, found) = *case;
+    let (word, line, found) = asked;
     let mut readers = Vec::new(alloc);
     for input in inputs {
         readers.push(input.as_slice())?;
@@ -125,33 +128,19 @@ fn is_shown<A: Allocator + Copy>(
     }
 }
 
-/// Refuses each growth in turn, until none is refused. Whether some are, and each answer is right.
-fn are_growths_told(alloc: Global, inputs: &[Vec<u8>], case: &Case) -> bool {
-    for at in 0..10_000_u64 {
-        let heap = Refusing::new(alloc, at);
-        let answer = is_shown(&heap, alloc, inputs, case);
-        if answer != Ok(true) && !(answer == Err(Memory) && heap.refused()) {
-            return false;
-        }
-        if !heap.refused() {
-            return at > 4;
-        }
-    }
-    false
-}
-
-/// Whether the line of a case is written, and each refused growth is told.
-fn is_shown_or_memory_runs_out(alloc: Global, case: &Case) -> Result<bool, Fault> {
-    let inputs = inputs_of(alloc, case.1)?;
-    let answer = is_shown(alloc, alloc, &inputs, case);
-    Ok(answer == Ok(true) && are_growths_told(alloc, &inputs, case))
+/// Whether the line of a case is written, and each refused growth is want of memory.
+fn is_shown_or_refused(alloc: Global, case: &Case) -> Result<bool, Fault> {
+    let (_, texts, word, line, found) = *case;
+    let inputs = inputs_of(alloc, texts)?;
+    let asked = (word, line, found);
+    Ok(refuse_each(alloc, 5, |heap| is_shown(heap, alloc, &inputs, asked)).is_ok())
 }
 
 #[test]
 fn words_are_shown_or_memory_runs_out(rt: HostRuntime) -> Result<(), Fail> {
     for case in &CASES {
         let name = case.0;
-        let answer = is_shown_or_memory_runs_out(rt.alloc(), &case);
+        let answer = is_shown_or_refused(rt.alloc(), &case);
         assert!(rt; answer == Ok(true), "{name}");
     }
     Ok(())
@@ -177,11 +166,7 @@ fn shown_between(
 
 /// Whether a reader that fails after so many calls is told, and nothing is written.
 fn fails_to_read(alloc: Global, input: &[u8], calls: usize) -> bool {
-    let mut writer = FailingWriter {
-        taken: Vec::new(alloc),
-        room: BACK_LINE.len(),
-        flushes: true,
-    };
+    let mut writer = FailingWriter::with_room(alloc, usize::MAX);
     let answer = shown_between(alloc, input, calls, &mut writer);
     answer == Err(Fault::Read) && writer.taken.is_empty()
 }
@@ -189,13 +174,9 @@ fn fails_to_read(alloc: Global, input: &[u8], calls: usize) -> bool {
 /// Whether a writer that fails after so many bytes, or at its flush after all of them, is told, and has a prefix of the line.
 fn fails_to_write(alloc: Global, input: &[u8], room: usize) -> bool {
     let line = BACK_LINE.as_bytes();
-    let mut writer = FailingWriter {
-        taken: Vec::new(alloc),
-        room,
-        flushes: room < line.len(),
-    };
+    let mut writer = FailingWriter::within(alloc, line, room);
     let answer = shown_between(alloc, input, BACK_BYTES + 1, &mut writer);
-    answer == Err(Fault::Write) && writer.taken.len() == room && line.starts_with(&writer.taken)
+    answer == Err(Fault::Write) && writer.has_front(line, room)
 }
 
 #[test]
