@@ -5,7 +5,7 @@ use gr_races::show_races;
 use gr_record::fault::Fault;
 use gr_sides::sides::Sides;
 use gr_text::packing::pack_text;
-use refusing::Refusing;
+use refusing::growths::refuse_each;
 use std::alloc::{Allocator, Global};
 use std::test::Fail;
 
@@ -144,33 +144,24 @@ fn causes_are_told(rt: HostRuntime) -> Result<(), Fail> {
     Ok(())
 }
 
-/// Refuses each growth in turn, until none is refused; how many were, or none if an answer was wrong.
-fn growths_refused(heap: Global) -> Result<Option<u64>, Memory> {
-    let streams = packed(heap, TWO_CAUSES)?;
-    for at in 0..10_000_u64 {
-        let alloc = Refusing::new(heap, at);
-        let shown = shown(&alloc, heap, &streams, Some(1));
-        let whole = match &shown {
-            Ok((answer, text)) => { *answer == Ok(true) && text.starts_with(FLAGS.as_bytes()) }
-            Err(_) => false,
-        };
-        if !alloc.refused() {
-            return Ok(whole.then_some(at));
-        }
-        let refused = match &shown {
-            Ok((answer, text)) => *answer == Err(Fault::Memory) && text.is_empty(),
-            Err(_) => true,
-        };
-        if !whole && !refused {
-            return Ok(None);
-        }
+/// Whether the text of the first kind alone is written, or memory runs out with nothing written.
+fn is_first_told<A: Allocator + Copy>(
+    alloc: A,
+    heap: Global,
+    streams: &[Vec<u8>],
+) -> Result<bool, Memory> {
+    let (answer, text) = shown(alloc, heap, streams, Some(1))?;
+    match answer {
+        Err(Fault::Memory) if text.is_empty() => Err(Memory),
+        answer => Ok(answer == Ok(true) && text.starts_with(FLAGS.as_bytes())),
     }
-    Ok(None)
 }
 
 #[test]
 fn each_refused_growth_is_want_of_memory(rt: HostRuntime) -> Result<(), Fail> {
-    let refused = growths_refused(rt.alloc())?;
-    assert!(rt; refused.is_some_and(|refused| refused > 20));
+    let alloc = rt.alloc();
+    let streams = packed(alloc, TWO_CAUSES)?;
+    let growths = refuse_each(alloc, 21, |heap| is_first_told(heap, alloc, &streams));
+    assert!(rt; growths.is_ok(), "{growths:?}");
     Ok(())
 }

@@ -6,8 +6,8 @@ use gr_record::fault::Fault;
 use gr_sides::fault::{SidesFault, write_sides_fault};
 use gr_sides::files::SideNames;
 use gr_text::packing::pack_text;
-use refusing::Refusing;
 use refusing::failing::{FailingReader, FailingWriter};
+use refusing::growths::refuse_each;
 use std::alloc::{Allocator, Global};
 use std::io::{self, ErrorKind};
 use std::test::Fail;
@@ -141,11 +141,7 @@ fn shown<A: Allocator + Copy>(
     let Ok(stream) = pack_text(heap, STREAM.as_bytes()) else {
         return Err(Memory);
     };
-    let mut writer = FailingWriter {
-        taken: Vec::new(heap),
-        room,
-        flushes: room == usize::MAX,
-    };
+    let mut writer = FailingWriter::with_room(heap, room);
     let answer = show_races_of_files(
         alloc,
         sides,
@@ -246,12 +242,8 @@ static REFUSALS: [Refusal; 7] = [
 
 /// Whether the line of a fault is a fault of writing where the flush fails, and is written whole before it.
 fn is_refused_unflushed(heap: Global, fault: &SidesFault, line: &str) -> bool {
-    let mut writer = FailingWriter {
-        taken: Vec::new(heap),
-        room: usize::MAX,
-        flushes: false,
-    };
-    write_sides_fault(fault, &mut writer).is_err() && writer.taken.as_slice() == line.as_bytes()
+    let mut writer = FailingWriter::with_room(heap, line.len());
+    write_sides_fault(fault, &mut writer).is_err() && writer.has_front(line.as_bytes(), line.len())
 }
 
 /// Whether the line of a fault is written.
@@ -307,26 +299,18 @@ fn a_failing_writer_has_a_prefix(rt: HostRuntime) -> Result<(), Fail> {
     Ok(())
 }
 
-/// Refuses each growth in turn, until none is refused; how many were, or none if an answer was wrong.
-fn growths_refused(heap: Global) -> Result<Option<u64>, Memory> {
-    for at in 0..10_000_u64 {
-        let alloc = Refusing::new(heap, at);
-        let (answer, text) = shown(&alloc, heap, &BOTH, &["stream"], None, usize::MAX)?;
-        let whole = answer == Ok(true) && text.as_slice() == NOTED.as_bytes();
-        if !alloc.refused() {
-            return Ok(whole.then_some(at));
-        }
-        let refused = answer == Err(SidesFault::Run(Fault::Memory)) && text.is_empty();
-        if !whole && !refused {
-            return Ok(None);
-        }
+/// Whether what is noted is written, or memory runs out with nothing written.
+fn is_noted<A: Allocator + Copy>(alloc: A, heap: Global) -> Result<bool, Memory> {
+    let (answer, text) = shown(alloc, heap, &BOTH, &["stream"], None, usize::MAX)?;
+    match answer {
+        Err(SidesFault::Run(Fault::Memory)) if text.is_empty() => Err(Memory),
+        answer => Ok(answer == Ok(true) && text.as_slice() == NOTED.as_bytes()),
     }
-    Ok(None)
 }
 
 #[test]
-fn each_refused_growth_is_want_of_memory(rt: HostRuntime) -> Result<(), Fail> {
-    let refused = growths_refused(rt.alloc())?;
-    assert!(rt; refused.is_some_and(|refused| refused > 20));
-    Ok(())
+fn each_refused_growth_is_want_of_memory(rt: HostRuntime) {
+    let alloc = rt.alloc();
+    let growths = refuse_each(alloc, 21, |heap| is_noted(heap, alloc));
+    assert!(rt; growths.is_ok(), "{growths:?}");
 }

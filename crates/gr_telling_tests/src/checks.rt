@@ -4,8 +4,8 @@ use gr_check::check_files;
 use gr_model::memory::Memory;
 use gr_record::fault::Fault;
 use gr_text::packing::pack_text;
-use refusing::Refusing;
 use refusing::failing::{FailingReader, FailingWriter};
+use refusing::growths::refuse_each;
 use std::alloc::{Allocator, Global};
 use std::io::{self, ErrorKind};
 use std::test::Fail;
@@ -67,11 +67,7 @@ fn checked_bytes<A: Allocator + Copy>(
     room: usize,
 ) -> (Result<bool, Fault>, Vec<u8>) {
     let (a, b) = stored;
-    let mut writer = FailingWriter {
-        taken: Vec::new(heap),
-        room,
-        flushes: room == usize::MAX,
-    };
+    let mut writer = FailingWriter::with_room(heap, room);
     let answer = check_files(alloc, names, |name| open_stored(name, a, b), &mut writer);
     (answer, writer.taken)
 }
@@ -611,38 +607,39 @@ fn a_failing_writer_has_a_prefix_of_a_refusal(rt: HostRuntime) -> Result<(), Fai
     Ok(())
 }
 
-/// Refuses each growth in turn, until none is refused; how many were, or none if an answer was wrong.
-fn growths_refused(
+/// Whether files are accepted or refused as is due, and this text is written, or memory runs out with nothing written.
+fn is_checked<A: Allocator + Copy>(
+    alloc: A,
     heap: Global,
     files: [File; 2],
     accepted: bool,
     wanted: &str,
-) -> Result<Option<u64>, Memory> {
-    for at in 0..10_000_u64 {
-        let alloc = Refusing::new(heap, at);
-        let (answer, text) = checked(&alloc, heap, files, &["a", "b"], usize::MAX)?;
-        let whole = answer == Ok(accepted) && text.as_slice() == wanted.as_bytes();
-        if !alloc.refused() {
-            return Ok(whole.then_some(at));
-        }
-        let refused = answer == Err(Fault::Memory) && text.is_empty();
-        if !whole && !refused {
-            return Ok(None);
-        }
+) -> Result<bool, Memory> {
+    let (answer, text) = checked(alloc, heap, files, &["a", "b"], usize::MAX)?;
+    match answer {
+        Err(Fault::Memory) if text.is_empty() => Err(Memory),
+        answer => Ok(answer == Ok(accepted) && text.as_slice() == wanted.as_bytes()),
     }
-    Ok(None)
 }
 
 #[test]
-fn each_growth_refused_in_counting_is_want_of_memory(rt: HostRuntime) -> Result<(), Fail> {
-    let refused = growths_refused(rt.alloc(), COUNTED_FILES, true, COUNTED)?;
-    assert!(rt; refused.is_some_and(|refused| refused > 5));
-    Ok(())
+fn each_growth_refused_in_counting_is_want_of_memory(rt: HostRuntime) {
+    let alloc = rt.alloc();
+    let growths = refuse_each(
+        alloc,
+        6,
+        |heap| is_checked(heap, alloc, COUNTED_FILES, true, COUNTED),
+    );
+    assert!(rt; growths.is_ok(), "{growths:?}");
 }
 
 #[test]
-fn each_growth_refused_in_refusing_is_want_of_memory(rt: HostRuntime) -> Result<(), Fail> {
-    let refused = growths_refused(rt.alloc(), REFUSED_FILES, false, REFUSED)?;
-    assert!(rt; refused.is_some_and(|refused| refused > 3));
-    Ok(())
+fn each_growth_refused_in_refusing_is_want_of_memory(rt: HostRuntime) {
+    let alloc = rt.alloc();
+    let growths = refuse_each(
+        alloc,
+        4,
+        |heap| is_checked(heap, alloc, REFUSED_FILES, false, REFUSED),
+    );
+    assert!(rt; growths.is_ok(), "{growths:?}");
 }

@@ -8,8 +8,8 @@ use gr_sides::fault::SidesFault;
 use gr_sides::files::SideNames;
 use gr_text::packing::pack_text;
 use gr_timeline::files::show_history_of_files;
-use refusing::Refusing;
 use refusing::failing::{FailingReader, FailingWriter};
+use refusing::growths::refuse_each;
 use std::alloc::{Allocator, Global};
 use std::io::{self, ErrorKind};
 use std::test::Fail;
@@ -144,11 +144,7 @@ fn shown<A: Allocator + Copy>(
     let Ok(stream) = pack_text(heap, STREAM.as_bytes()) else {
         return Err(Memory);
     };
-    let mut writer = FailingWriter {
-        taken: Vec::new(heap),
-        room,
-        flushes: room == usize::MAX,
-    };
+    let mut writer = FailingWriter::with_room(heap, room);
     let answer = show_history_of_files(
         alloc,
         sides,
@@ -276,27 +272,25 @@ fn a_failing_writer_has_a_prefix_of_what_is_noted(rt: HostRuntime) -> Result<(),
     Ok(())
 }
 
-/// Refuses each growth in turn, until none is refused; how many were, or none if an answer was wrong.
-fn growths_refused(heap: Global) -> Result<Option<u64>, Memory> {
-    let word = Word::Global(16);
-    for at in 0..10_000_u64 {
-        let alloc = Refusing::new(heap, at);
-        let (answer, text) = shown(&alloc, heap, &BOTH, &["stream"], word, usize::MAX)?;
-        let whole = answer == Ok(false) && text.as_slice() == NOTED.as_bytes();
-        if !alloc.refused() {
-            return Ok(whole.then_some(at));
-        }
-        let refused = answer == Err(SidesFault::Run(Fault::Memory)) && text.is_empty();
-        if !whole && !refused {
-            return Ok(None);
-        }
+/// Whether what is noted is written, or memory runs out with nothing written.
+fn is_noted<A: Allocator + Copy>(alloc: A, heap: Global) -> Result<bool, Memory> {
+    let (answer, text) = shown(
+        alloc,
+        heap,
+        &BOTH,
+        &["stream"],
+        Word::Global(16),
+        usize::MAX,
+    )?;
+    match answer {
+        Err(SidesFault::Run(Fault::Memory)) if text.is_empty() => Err(Memory),
+        answer => Ok(answer == Ok(false) && text.as_slice() == NOTED.as_bytes()),
     }
-    Ok(None)
 }
 
 #[test]
-fn each_refused_growth_beside_side_files_is_want_of_memory(rt: HostRuntime) -> Result<(), Fail> {
-    let refused = growths_refused(rt.alloc())?;
-    assert!(rt; refused.is_some_and(|refused| refused > 20));
-    Ok(())
+fn each_refused_growth_beside_side_files_is_want_of_memory(rt: HostRuntime) {
+    let alloc = rt.alloc();
+    let growths = refuse_each(alloc, 21, |heap| is_noted(heap, alloc));
+    assert!(rt; growths.is_ok(), "{growths:?}");
 }

@@ -6,8 +6,8 @@ use gr_record::fault::Fault;
 use gr_sides::sides::Sides;
 use gr_text::packing::pack_text;
 use gr_timeline::show_history;
-use refusing::Refusing;
 use refusing::failing::{FailingReader, FailingWriter};
+use refusing::growths::refuse_each;
 use std::alloc::{Allocator, Global};
 use std::test::Fail;
 
@@ -141,25 +141,9 @@ fn is_shown<A: Allocator + Copy>(
     }
 }
 
-/// Refuses each growth in turn, until none is refused; the first whose answer is wrong, if there is one.
-fn first_wrong_growth(alloc: Global, inputs: &[Vec<u8>], asked: Asked) -> Option<u64> {
-    for at in 0..10_000_u64 {
-        let heap = Refusing::new(alloc, at);
-        let answer = is_shown(&heap, alloc, inputs, asked);
-        if answer != Ok(true) && !(answer == Err(Memory) && heap.refused()) {
-            return Some(at);
-        }
-        if !heap.refused() {
-            return if at > 4 { None } else { Some(at) };
-        }
-    }
-    Some(10_000)
-}
-
 /// Whether this text is written, and with each growth refused in turn nothing.
 fn is_shown_or_refused(alloc: Global, inputs: &[Vec<u8>], asked: Asked) -> bool {
-    is_shown(alloc, alloc, inputs, asked) == Ok(true)
-        && first_wrong_growth(alloc, inputs, asked).is_none()
+    refuse_each(alloc, 5, |heap| is_shown(heap, alloc, inputs, asked)).is_ok()
 }
 
 #[test]
@@ -197,11 +181,7 @@ fn shown_between(
 
 /// Whether a reader that fails after so many calls is told, and nothing is written.
 fn fails_to_read(alloc: Global, input: &[u8], calls: usize) -> bool {
-    let mut writer = FailingWriter {
-        taken: Vec::new(alloc),
-        room: PASSED_TEXT.len(),
-        flushes: true,
-    };
+    let mut writer = FailingWriter::with_room(alloc, usize::MAX);
     let answer = shown_between(alloc, input, calls, &mut writer);
     answer == Err(Fault::Read) && writer.taken.is_empty()
 }
@@ -209,14 +189,9 @@ fn fails_to_read(alloc: Global, input: &[u8], calls: usize) -> bool {
 /// Whether a writer that takes so many bytes, or all and then no flush, is told, and has a prefix of the text.
 fn fails_to_write(alloc: Global, input: &[u8], room: usize) -> bool {
     let text = PASSED_TEXT.as_bytes();
-    let mut writer = FailingWriter {
-        taken: Vec::new(alloc),
-        room,
-        flushes: room < text.len(),
-    };
+    let mut writer = FailingWriter::within(alloc, text, room);
     let answer = shown_between(alloc, input, input.len() + 1, &mut writer);
-    let is_prefix = writer.taken.len() == room && text.starts_with(&writer.taken);
-    answer == Err(Fault::Write) && is_prefix
+    answer == Err(Fault::Write) && writer.has_front(text, room)
 }
 
 #[test]
