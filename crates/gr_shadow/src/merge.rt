@@ -9,7 +9,11 @@ use gr_model::words::order_words;
 use std::alloc::Allocator;
 
 /// The words of one list, and behind them those of another.
-fn both<A: Allocator>(alloc: A, first: &[Word], second: &[Word]) -> Result<Vec<Word, A>, Memory>
+fn words_of_both<A: Allocator>(
+    alloc: A,
+    first: &[Word],
+    second: &[Word],
+) -> Result<Vec<Word, A>, Memory>
     ensures { IfOk result (λ words. words.items ≡ first.now ++ second.now) }
 {
     let mut words = Vec::new(alloc);
@@ -29,7 +33,7 @@ pub fn merge<A: Allocator>(
 ) -> Result<Vec<Word, A>, Memory>
     ensures { IfOk result (λ words. Lists WordBelow (λ w. Contains first.now w ⊎ Contains second.now w) words.items) }
 {
-    let mut words = both(alloc, first, second)?;
+    let mut words = words_of_both(alloc, first, second)?;
     order_words(&mut words);
     Ok(words)
 }
