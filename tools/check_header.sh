@@ -8,7 +8,7 @@
 # GPURACE_PROGRAM names a built gpurace; without it, the one of this tree is taken where it is built.
 set -eu
 tools=$(cd "$(dirname "$0")" && pwd)
-data=$tools/../crates/gr_examples/data
+data=$tools/../examples
 program=${GPURACE_PROGRAM:-$tools/../crates/gr_cli/out/gr_cli}
 work=$(mktemp -d)
 trap 'rm -rf "$work"' EXIT INT TERM

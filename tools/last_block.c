@@ -1,7 +1,7 @@
 /*
  * Writes a trace with gpurace_trace.h: three work-groups of one item, each of which writes a part and counts itself by a
  * read-modify-write that releases. The last one acquires the counter, whose value is of all three releases, and reads the parts.
- * It is the example crates/gr_examples/data/last_block_mended.
+ * It is the example examples/last_block_mended.
  */
 #include "gpurace_trace.h"
 

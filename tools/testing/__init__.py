@@ -1,0 +1,9 @@
+"""What ./test is made of.
+
+command      the command line
+suite        the tests of the folder tests/, and how they are run side by side
+transcript   tests written as commands and what they print
+documents    the transcripts in the documents
+program      what tests written in Python use
+gate         ./test --prove
+"""

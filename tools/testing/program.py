@@ -1,0 +1,53 @@
+"""What tests that are written in Python use: the program, folders, traces."""
+
+import os
+import pathlib
+import shutil
+import struct
+import subprocess
+import tempfile
+import unittest
+
+TOP = pathlib.Path(__file__).resolve().parent.parent.parent
+SECONDS = 120
+
+
+def pack(text):
+    """The bytes of the streams that a text says."""
+    return subprocess.run([os.environ["GPURACE"], "pack"], input=text.encode(), stdout=subprocess.PIPE, check=True).stdout
+
+
+def header(group, items, launch=7):
+    """The bytes of a header of version 1."""
+    return b"GRT1" + struct.pack("<HHI", group, items, launch)
+
+
+def access(item, kind, space, word):
+    """The bytes of a plain read (kind 0) or write (kind 1) of a word of global (space 0) or local (space 1) memory."""
+    return struct.pack("<BBBBHHI", kind, space, 0, 0, item, 0, word) + b"\xff" * 8
+
+
+END = b"\x06" + bytes(11) + b"\xff" * 8
+
+
+class ProgramTest(unittest.TestCase):
+    """A test of the program, in a folder of its own."""
+
+    def setUp(self):
+        self.folder = pathlib.Path(tempfile.mkdtemp(prefix="gpurace-test-"))
+        self.addCleanup(shutil.rmtree, self.folder, ignore_errors=True)
+
+    def gpurace(self, *words, given=b"", **settings):
+        """Runs the program on these words and this standard input."""
+        settings = {"stdout": subprocess.PIPE, "stderr": subprocess.PIPE, "timeout": SECONDS, "cwd": self.folder, **settings}
+        return subprocess.run([os.environ["GPURACE"], *map(str, words)], input=given, check=False, **settings)
+
+    def put(self, name, content):
+        """Writes a file into the test's folder."""
+        path = self.folder / name
+        path.write_bytes(content)
+        return path
+
+    def assert_run(self, ran, output, status, errors=b""):
+        """What a run wrote, its status and what it said on standard error are these."""
+        self.assertEqual((ran.stdout, ran.returncode, ran.stderr), (output, status, errors))
