@@ -1,6 +1,6 @@
 #!/bin/sh
 # The shadows of `gr_shadow` beside the plain body that keeps every access and compares it with each later one
-# (crates/gr_shadow_tests/src/slow.rt): both take the same random lists of accesses, and must give the same answers.
+# (crates/gr_model_tests/src/slow.rt): both take the same random lists of accesses, and must give the same answers.
 #
 #   shadow_lists.sh [LISTS [SECONDS]]    by default 2,000 lists, within 600 seconds; the seed is fixed
 #
@@ -21,7 +21,7 @@ grep -E '^(gr_model|gr_scopes|gr_clocks|gr_shadow)[ :]' "$root/crates.txt" > "$w
 echo 'shadow_lists: gr_model gr_scopes gr_clocks gr_shadow' >> "$work/crates.txt"
 mkdir -p "$work/crates/shadow_lists/src"
 cd "$work/crates/shadow_lists"
-cp "$root/crates/gr_shadow_tests/src/slow.rt" src
+cp "$root/crates/gr_model_tests/src/slow.rt" src
 sed "s/@LISTS@/$lists/" > src/main.rt <<'PROGRAM'
 //! Random lists of accesses, taken by the shadows and by the plain body.
 #![tactic(auto)]

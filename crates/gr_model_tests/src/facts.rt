@@ -1,0 +1,3 @@
+//! What the contracts alone say of some values, of which some wrong body would say otherwise.
+
+mod scopes;
