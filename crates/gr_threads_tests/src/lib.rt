@@ -4,6 +4,8 @@
 #[cfg(test)]
 mod detector;
 #[cfg(test)]
+mod facts;
+#[cfg(test)]
 mod route;
 #[cfg(test)]
 mod streams;

@@ -1,6 +1,6 @@
 //! Tests of the calls of queues and senders.
 
 mod growths;
-mod queues;
+pub(crate) mod queues;
 mod runs;
-mod senders;
+pub(crate) mod senders;

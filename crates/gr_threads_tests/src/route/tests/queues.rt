@@ -122,7 +122,7 @@ fn each_group_has_one_seat(rt: HostRuntime) -> Result<(), Fail> {
 }
 
 /// A plain write of a global word by the only work-item of a launch.
-fn write_by_one(alloc: Global, word: u32) -> Result<Work, Fail>
+pub(crate) fn write_by_one(alloc: Global, word: u32) -> Result<Work, Fail>
     ensures { IfOk result (λ work. IsFalse (is_stop work)) }
 {
     let mut sizes = Vec::new(alloc);

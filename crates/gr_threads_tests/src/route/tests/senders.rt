@@ -29,7 +29,7 @@ fn sender_over(
 }
 
 /// A sender of group 0, of one item, over a queue of its own.
-fn lone_sender(alloc: Global, capacity: u32, records: u32) -> Result<Sender, Fail>
+pub(crate) fn lone_sender(alloc: Global, capacity: u32, records: u32) -> Result<Sender, Fail>
     requires capacity { (0 < capacity) × (capacity ≤ MOST_PLACES) }
     requires records { (0 < records) × (records ≤ MOST_RECORDS) }
     ensures { IfOk result (λ sender. sender.sent ≡ []) }
