@@ -1,5 +1,7 @@
 //! What the contracts alone give for some values, each of which a wrong body would answer otherwise.
 
+ghost use Rattle.std.specs.Prelude.{◌≡◌};
+
 use gr_backlog::backlog::Backlog;
 use gr_model::event::{Event, Kind, Space};
 use gr_model::memory::Memory;
@@ -11,7 +13,9 @@ use std::alloc::Global;
 use std::test::*;
 
 /// A plain write of a global word by item 0.
-fn write(word: u32) -> Event {
+fn write(word: u32) -> Event
+    ensures { result.word ≡ word }
+{
     Event {
         item: 0,
         kind: Kind::Write,
@@ -26,9 +30,22 @@ fn next_of_two_records(alloc: Global, header: Header) -> Result<(), Memory> {
     let mut backlog = Backlog::new(alloc, header);
     backlog.push(&write(7))?;
     backlog.push(&write(8))?;
-    prove!(backlog.next().is_some_and(|event| event.word == 7));
-    prove!(backlog.next().is_some_and(|event| event.word == 8));
-    prove!(backlog.next().is_none());
+    match (backlog.next(), backlog.next()) {
+        (Some(first), Some(second)) => prove!(first.word == 7 && second.word == 8),
+        _ => unreachable!(),
+    }
+    Ok(())
+}
+
+#[test]
+fn a_backlog(rt: HostRuntime) -> Result<(), Fail> {
+    let header = Header {
+        version: Version::One,
+        group: 0,
+        items: 1,
+        launch: 7,
+    };
+    next_of_two_records(rt.alloc(), header)?;
     Ok(())
 }
 
@@ -43,18 +60,6 @@ fn replay_of_a_refused_input(alloc: Global, bytes: &[u8]) -> bool {
             true
         }
     }
-}
-
-#[test]
-fn a_backlog(rt: HostRuntime) -> Result<(), Fail> {
-    let header = Header {
-        version: Version::One,
-        group: 0,
-        items: 1,
-        launch: 7,
-    };
-    next_of_two_records(rt.alloc(), header)?;
-    Ok(())
 }
 
 #[test]
