@@ -5,6 +5,8 @@
 #[cfg(test)]
 mod accounts;
 #[cfg(test)]
+mod facts;
+#[cfg(test)]
 mod growths;
 #[cfg(test)]
 mod large;

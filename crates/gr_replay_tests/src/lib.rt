@@ -8,6 +8,8 @@ mod bytes;
 #[cfg(test)]
 mod each;
 #[cfg(test)]
+mod facts;
+#[cfg(test)]
 mod failures;
 #[cfg(test)]
 mod faults;

@@ -1,0 +1,68 @@
+//! What the contracts alone give for some values, each of which a wrong body would answer otherwise.
+
+ghost use Rattle.std.specs.Prelude.{◌≡◌};
+
+use gr_backlog::backlog::Backlog;
+use gr_model::event::{Event, Kind, Space};
+use gr_model::memory::Memory;
+use gr_model::names::Names;
+use gr_record::fault::Fault;
+use gr_record::header::{Header, Version};
+use gr_replay::replay;
+use std::alloc::Global;
+use std::test::*;
+
+/// A plain write of a global word by item 0.
+fn write(word: u32) -> Event
+    ensures { result.word ≡ word }
+{
+    Event {
+        item: 0,
+        kind: Kind::Write,
+        space: Space::Global,
+        word,
+        names: Names::none(),
+    }
+}
+
+/// Two records that wait come in their order, each once.
+fn next_of_two_records(alloc: Global, header: Header) -> Result<(), Memory> {
+    let mut backlog = Backlog::new(alloc, header);
+    backlog.push(&write(7))?;
+    backlog.push(&write(8))?;
+    match (backlog.next(), backlog.next()) {
+        (Some(first), Some(second)) => prove!(first.word == 7 && second.word == 8),
+        _ => unreachable!(),
+    }
+    Ok(())
+}
+
+#[test]
+fn a_backlog(rt: HostRuntime) -> Result<(), Fail> {
+    let header = Header {
+        version: Version::One,
+        group: 0,
+        items: 1,
+        launch: 7,
+    };
+    next_of_two_records(rt.alloc(), header)?;
+    Ok(())
+}
+
+/// Nothing is written of an input that is refused.
+fn replay_of_a_refused_input(alloc: Global, bytes: &[u8]) -> bool {
+    let mut text = Vec::new(alloc);
+    let mut reader = bytes;
+    match replay(alloc, &mut reader, &mut text) {
+        Ok(_) | Err(Fault::Write) => false,
+        Err(_) => {
+            prove!(text.is_empty());
+            true
+        }
+    }
+}
+
+#[test]
+fn a_refused_input(rt: HostRuntime) {
+    assert!(rt; replay_of_a_refused_input(rt.alloc(), &[0]));
+}

@@ -1,0 +1,11 @@
+//! Runs in threads, from their start to their reports, with what a watch sees of them.
+
+mod counts;
+mod gates;
+mod growths;
+mod notes;
+mod ones;
+mod runs;
+mod senders;
+mod tests;
+mod turns;

@@ -1,0 +1,75 @@
+//! Senders of plain accesses.
+
+ghost use Rattle.std.specs.Prelude.{◌≡◌, IfSome};
+ghost use Rattle.gr_threads_tests.specs.Senders.{IsReceiptOf, IsSameSender};
+
+use gr_model::event::{Event, Kind, Space};
+use gr_model::names::Names;
+use gr_sender::receipt::Receipt;
+use gr_sender::sender::Sender;
+use std::alloc::Allocator;
+use std::sync::Wait;
+use std::thread::{Threads, join};
+use std::time::Clock;
+
+/// A plain access of a global word by an item.
+pub fn plain(item: u16, kind: Kind, word: u32) -> Event {
+    Event {
+        item,
+        kind,
+        space: Space::Global,
+        word,
+        names: Names::none(),
+    }
+}
+
+/// Sends an event, and waits until there is room. Tells whether it was sent.
+pub fn sends<R: Wait + Clock, A: Allocator>(rt: &R, sender: &mut Sender<A>, event: Event) -> bool
+    ensures { IsSameSender sender.old sender.new }
+{
+    sender.send_wait(rt, event).is_ok()
+}
+
+/// Closes a sender that may be open, and gives its receipt.
+pub fn close<R: Wait + Clock, A: Allocator>(rt: &R, sender: Sender<A>, cut: bool) -> Option<Receipt>
+    ensures { IfSome result (IsReceiptOf sender) }
+{
+    let mut sender = sender;
+    sender.close_wait(rt, cut).ok()?;
+    sender.into_receipt().ok()
+}
+
+/// Sends plain accesses of so many global words by item 0, and the end. `None` where the sender refused one of them.
+pub fn send_all<R: Wait + Clock, A: Allocator>(
+    rt: &R,
+    sender: Sender<A>,
+    kind: Kind,
+    first: u32,
+    count: u32,
+) -> Option<Receipt>
+    ensures { IfSome result (IsReceiptOf sender) }
+{
+    let mut sender = sender;
+    for place in 0..count {
+        if !sends(rt, &mut sender, plain(0, kind, first.wrapping_add(place))) {
+            return None;
+        }
+    }
+    close(rt, sender, false)
+}
+
+/// Sends on two threads: writes of the words 0 to 99 by one sender, and reads of the words 50 to 148 by the other.
+pub fn send_both<R: Threads + Wait + Clock + Sync, A: Allocator + Send + Sync>(
+    rt: &R,
+    first: Sender<A>,
+    second: Sender<A>,
+) -> (Option<Receipt>, Option<Receipt>)
+    ensures first { IfSome result.0 (IsReceiptOf first) }
+    ensures second { IfSome result.1 (IsReceiptOf second) }
+{
+    join(
+        rt,
+        || send_all(rt, first, Kind::Write, 0, 100),
+        || send_all(rt, second, Kind::Read, 50, 99),
+    )
+}

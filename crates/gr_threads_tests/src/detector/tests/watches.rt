@@ -1,0 +1,84 @@
+//! What is done while streams are still open, and by whom.
+
+ghost use Rattle.gr_threads_tests.specs.Senders.{IsSameSender};
+
+use crate::detector::gates::{Apart, Races, Turns, came};
+use crate::detector::ones::{Sends, run_one};
+use crate::detector::senders::{plain, sends};
+use gr_model::event::Kind;
+use gr_sender::sender::Sender;
+use std::sync::atomic::{AtomicU64, Ordering};
+use std::sync::{Arc, Wait};
+use std::test::*;
+use std::time::Clock;
+
+impl Sends for Races {
+    /// Sends a write and a read of a word by two items. Tells whether both were sent, and their race was seen.
+    fn send_under<R: Wait + Clock>(&self, rt: &R, sender: &mut Sender) -> bool {
+        sends(rt, sender, plain(0, Kind::Write, 16))
+            && sends(rt, sender, plain(1, Kind::Read, 16))
+            && came(&self.seen, 1)
+    }
+}
+
+#[test]
+fn a_race_is_seen_before_any_stream_ends(rt: HostRuntime) -> Result<(), Fail> {
+    let races = Races {
+        seen: AtomicU64::new(0),
+    };
+    let watch = Arc::new(rt.alloc(), races)?;
+    let went = run_one(rt, rt.alloc(), (&[2], 1, 1, 4), &watch, false)?;
+    assert_eq!(rt; went, (true, Some((3, 1, false))));
+    Ok(())
+}
+
+impl Sends for Apart {
+    /// Sends writes of two words. Tells whether both were sent.
+    fn send_under<R: Wait + Clock>(&self, rt: &R, sender: &mut Sender) -> bool {
+        sends(rt, sender, plain(0, Kind::Write, 16)) && sends(rt, sender, plain(0, Kind::Write, 17))
+    }
+}
+
+#[test]
+fn two_workers_are_at_work_at_once(rt: HostRuntime) -> Result<(), Fail> {
+    let apart = Apart {
+        seconds: AtomicU64::new(0),
+        missed: AtomicU64::new(0),
+    };
+    let watch = Arc::new(rt.alloc(), apart)?;
+    let went = run_one(rt, rt.alloc(), (&[1], 2, 1, 4), &watch, false)?;
+    let seconds = watch.seconds.load(Ordering::SeqCst);
+    let missed = watch.missed.load(Ordering::SeqCst);
+    assert_eq!(rt;
+        (went, seconds, missed),
+        ((true, Some((3, 0, false))), 1, 0)
+    );
+    Ok(())
+}
+
+impl Sends for Turns {
+    /// Sends writes of two words, the second one only after the first was accessed. Tells whether it came to that, and
+    /// both were sent.
+    fn send_under<R: Wait + Clock>(&self, rt: &R, sender: &mut Sender) -> bool {
+        if !sends(rt, sender, plain(0, Kind::Write, 16)) {
+            return false;
+        }
+        self.sent.fetch_add(1, Ordering::SeqCst);
+        came(&self.accesses, 1) && sends(rt, sender, plain(0, Kind::Write, 17))
+    }
+}
+
+#[test]
+fn the_sequencer_and_a_worker_wait_for_what_comes_later(rt: HostRuntime) -> Result<(), Fail> {
+    let turns = Turns {
+        sent: AtomicU64::new(0),
+        takes: AtomicU64::new(0),
+        accesses: AtomicU64::new(0),
+        missed: AtomicU64::new(0),
+    };
+    let watch = Arc::new(rt.alloc(), turns)?;
+    let went = run_one(rt, rt.alloc(), (&[1], 1, 1, 4), &watch, false)?;
+    let missed = watch.missed.load(Ordering::SeqCst);
+    assert_eq!(rt; (went, missed), ((true, Some((3, 0, false))), 0));
+    Ok(())
+}

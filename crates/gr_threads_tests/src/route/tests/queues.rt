@@ -1,0 +1,253 @@
+//! Queues of one place, and a seat for each work-group.
+
+ghost use Rattle.std.specs.Prelude.{◌≡◌, ◌∷◌, ◌++◌, [], OnOk, IfOk, IfSome, IfNone, IsFalse};
+ghost use Rattle.gr_route.specs.WorkRule.{is_stop, is_stopped};
+
+use crate::route::three_senders::write;
+use gr_clocks::access::Access;
+use gr_clocks::clock::Clock;
+use gr_model::event::{Event, ItemId, Sent, Word};
+use gr_model::limits::MOST_GROUPS;
+use gr_model::memory::Memory;
+use gr_model::shape::Shape;
+use gr_route::intake::{Intake, IntakeSeat, TakerSeat};
+use gr_route::work::{GiverSeat, Work, WorkQueue, WorkerSeat};
+use gr_scopes::class::Class;
+use std::alloc::Global;
+use std::sync::Wait;
+use std::test::*;
+
+/// What comes back of the second of two pushes into an empty queue of one place, and what two pops then give; `None` where
+/// the first push is refused.
+fn pushed_and_popped<R: Wait>(
+    rt: &R,
+    queue: &Intake,
+    taker: &mut TakerSeat,
+    seat: &mut IntakeSeat,
+) -> Option<(Option<Event>, [Option<Sent>; 2])>
+    requires queues { (taker.old.queue ≡ queue.now.queue) × (seat.old.queue ≡ queue.now.queue) }
+    requires items { seat.old.items ≡ 2 }
+    requires fresh { seat.old.pushed ≡ [] }
+    ensures { (taker.new.queue ≡ queue.now.queue) × (seat.new.queue ≡ queue.now.queue) }
+{
+    if queue.push(rt, seat, write(7)).is_err() {
+        return None;
+    }
+    let back = match queue.push(rt, seat, write(8)) {
+        Ok(()) => None,
+        Err(full) => Some(full.0),
+    };
+    let first = queue.pop(rt, taker);
+    let second = queue.pop(rt, taker);
+    Some((back, [first, second]))
+}
+
+/// What a queue of one place gives: of a seat the group and the items, what `pushed_and_popped` tells, and whether the group
+/// is refused a seat while it has one and after that was joined back.
+type IntakeAnswers = (
+    (u16, u16),
+    Option<(Option<Event>, [Option<Sent>; 2])>,
+    [bool; 2],
+);
+
+/// What an empty queue of one place gives; `None` where the first split is refused.
+fn split_push_and_join<R: Wait>(
+    rt: &R,
+    queue: &Intake,
+    taker: &mut TakerSeat,
+) -> Option<IntakeAnswers>
+    requires { taker.old.queue ≡ queue.now.queue }
+{
+    let mut seat = queue.split(taker, 5, 2)?;
+    let of = (seat.group(), seat.items());
+    let refused = queue.split(taker, 5, 2).is_none();
+    let seen = pushed_and_popped(rt, queue, taker, &mut seat);
+    queue.join_back(taker, seat);
+    Some((of, seen, [refused, queue.split(taker, 5, 2).is_none()]))
+}
+
+/// What a queue of one place gives; `None` where the first split is refused.
+fn intake_answers<R: Wait>(rt: &R, alloc: Global) -> Result<Option<IntakeAnswers>, Memory> {
+    let (queue, mut taker) = Intake::new(alloc, 1)?;
+    Ok(split_push_and_join(rt, &queue, &mut taker))
+}
+
+#[test]
+fn an_intake_queue_of_one_place(rt: HostRuntime) -> Result<(), Fail> {
+    let first = Sent {
+        group: 5,
+        event: write(7),
+    };
+    let seen = Some((Some(write(8)), [Some(first), None]));
+    let answers = intake_answers(&rt, rt.alloc())?;
+    assert_eq!(rt; answers, Some(((5, 2), seen, [true, true])));
+    Ok(())
+}
+
+/// A seat for each work-group that a launch may have.
+fn split_all(alloc: Global, queue: &Intake, taker: &mut TakerSeat) -> Result<Vec<IntakeSeat>, Fail>
+    requires { taker.old.queue ≡ queue.now.queue }
+    ensures { OnOk result (taker.new.queue ≡ queue.now.queue) }
+{
+    let mut seats = Vec::new(alloc);
+    for group in 0..MOST_GROUPS as u16 {
+        let seat = queue.split(taker, group, 1).ok_or("a group's first split")?;
+        seats.push(seat)?;
+    }
+    Ok(seats)
+}
+
+/// How many seats the groups have of a queue, and whether a second one is refused.
+fn split_all_and_one(
+    alloc: Global,
+    queue: &Intake,
+    taker: &mut TakerSeat,
+) -> Result<(usize, bool), Fail>
+    requires { taker.old.queue ≡ queue.now.queue }
+{
+    let seats = split_all(alloc, queue, taker)?;
+    Ok((seats.len(), queue.split(taker, 5, 1).is_none()))
+}
+
+/// How many seats the groups have of a queue of one place, and whether a second one is refused.
+fn seats_of_one_place(alloc: Global) -> Result<(usize, bool), Fail> {
+    let (queue, mut taker) = Intake::new(alloc, 1)?;
+    split_all_and_one(alloc, &queue, &mut taker)
+}
+
+#[test]
+fn each_group_has_one_seat(rt: HostRuntime) -> Result<(), Fail> {
+    assert_eq!(rt; seats_of_one_place(rt.alloc())?, (64, true));
+    Ok(())
+}
+
+/// A plain write of a global word by the only work-item of a launch.
+pub(crate) fn write_by_one(alloc: Global, word: u32) -> Result<Work, Fail>
+    ensures { IfOk result (λ work. IsFalse (is_stop work)) }
+{
+    let mut sizes = Vec::new(alloc);
+    sizes.push(1)?;
+    let shape = Shape::new(sizes).map_err(|_| "a shape of one item")?;
+    Ok(Work::Access(Access {
+        word: Word::Global(word),
+        item: ItemId { group: 0, item: 0 },
+        index: 0,
+        class: Class::PlainWrite,
+        clock: Clock::new(alloc, &shape)?,
+    }))
+}
+
+/// The word of an access.
+fn word_of(work: &Work) -> Option<Word> {
+    match work {
+        Work::Access(access) => Some(access.word),
+        Work::Stop => None,
+    }
+}
+
+/// Pops, and tells the word of what was popped.
+fn pop_word<R: Wait>(rt: &R, queue: &WorkQueue, worker: &mut WorkerSeat) -> Option<Option<Word>>
+    requires { worker.old.queue ≡ queue.now.queue }
+    ensures { worker.new.queue ≡ queue.now.queue }
+{
+    match queue.pop(rt, worker) {
+        None => None,
+        Some(work) => Some(word_of(&work)),
+    }
+}
+
+/// Pushes work, and tells the word of what comes back; `None` where nothing does.
+fn push_word<R: Wait>(
+    rt: &R,
+    queue: &WorkQueue,
+    giver: &mut GiverSeat,
+    work: Work,
+) -> Option<Option<Word>>
+    requires queue { giver.old.queue ≡ queue.now.queue }
+    requires unstopped { IsFalse (is_stopped giver.old.pushed) }
+    ensures pushed { IfNone result (giver.new ≡ record giver.old { pushed = giver.old.pushed ++ work ∷ [] }) }
+    ensures unchanged { IfSome result (λ _. giver.new ≡ giver.old) }
+{
+    match queue.push(rt, giver, work) {
+        Ok(()) => None,
+        Err(full) => Some(word_of(&full.0)),
+    }
+}
+
+/// Pushes an access and, into the full queue, the word that there are no more, and pops twice; then pushes that word again,
+/// and pops it. Tells the words of what was popped, or `None` where a push was not answered as it is due.
+fn through_one_place<R: Wait>(
+    rt: &R,
+    queue: &WorkQueue,
+    giver: &mut GiverSeat,
+    worker: &mut WorkerSeat,
+    access: Work,
+) -> Option<[Option<Option<Word>>; 3]>
+    requires worker { worker.old.queue ≡ queue.now.queue }
+    requires giver { giver.old ≡ record { queue = queue.now.queue; pushed = [] } }
+    requires access { IsFalse (is_stop access) }
+    ensures worker { worker.new.queue ≡ queue.now.queue }
+    ensures giver { giver.new.queue ≡ queue.now.queue }
+{
+    if push_word(rt, queue, giver, access).is_some() {
+        return None;
+    }
+    if push_word(rt, queue, giver, Work::Stop) != Some(None) {
+        return None;
+    }
+    let first = pop_word(rt, queue, worker);
+    let second = pop_word(rt, queue, worker);
+    if push_word(rt, queue, giver, Work::Stop).is_some() {
+        return None;
+    }
+    let last = pop_word(rt, queue, worker);
+    Some([first, second, last])
+}
+
+/// What a work queue of one place gives: what `through_one_place` tells, and whether a seat is refused while there is one and
+/// after that was joined back.
+type WorkAnswers = (Option<[Option<Option<Word>>; 3]>, [bool; 2]);
+
+/// What an empty queue of one place gives; `None` where the first split is refused.
+fn split_give_and_join<R: Wait>(
+    rt: &R,
+    queue: &WorkQueue,
+    worker: &mut WorkerSeat,
+    access: Work,
+) -> Option<WorkAnswers>
+    requires queue { worker.old.queue ≡ queue.now.queue }
+    requires access { IsFalse (is_stop access) }
+{
+    let mut giver = queue.split(worker)?;
+    let refused = queue.split(worker).is_none();
+    let popped = through_one_place(rt, queue, &mut giver, worker, access);
+    queue.join_back(worker, giver);
+    Some((popped, [refused, queue.split(worker).is_none()]))
+}
+
+/// What an empty queue of one place gives where the access is a write; `None` where the first split is refused.
+fn give_write<R: Wait>(
+    rt: &R,
+    alloc: Global,
+    queue: &WorkQueue,
+    worker: &mut WorkerSeat,
+) -> Result<Option<WorkAnswers>, Fail>
+    requires { worker.old.queue ≡ queue.now.queue }
+{
+    let access = write_by_one(alloc, 7)?;
+    Ok(split_give_and_join(rt, queue, worker, access))
+}
+
+/// What a queue of one place gives; `None` where the first split is refused.
+fn work_answers<R: Wait>(rt: &R, alloc: Global) -> Result<Option<WorkAnswers>, Fail> {
+    let (queue, mut worker) = WorkQueue::new(alloc, 1)?;
+    give_write(rt, alloc, &queue, &mut worker)
+}
+
+#[test]
+fn a_work_queue_of_one_place(rt: HostRuntime) -> Result<(), Fail> {
+    let popped = Some([Some(Some(Word::Global(7))), None, Some(None)]);
+    let answers = work_answers(&rt, rt.alloc())?;
+    assert_eq!(rt; answers, Some((popped, [true, true])));
+    Ok(())
+}

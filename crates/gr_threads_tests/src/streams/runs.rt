@@ -1,0 +1,62 @@
+//! Runs over inputs.
+
+use crate::streams::inputs::Input;
+use gr_model::config::Config;
+use gr_record::fault::Fault;
+use gr_streams::{NoWatch, run_streams};
+use std::alloc::Global;
+use std::sync::{Arc, Wait};
+use std::test::Fail;
+use std::thread::Threads;
+use std::time::Clock;
+
+/// How a run is set up: workers, queues, and the places of each queue.
+pub(crate) type Plan = (u16, u16, u32);
+
+/// What a run answers, and what it has written.
+pub(crate) type Outcome = (Result<(), Fault>, Vec<u8>);
+
+/// Whether a run was accepted, and has written this report.
+pub(crate) fn is_accepted(outcome: &Outcome, report: &[u8]) -> bool {
+    outcome.0 == Ok(()) && outcome.1.as_slice() == report
+}
+
+/// Whether a run was refused with this fault, and has written nothing.
+pub(crate) fn is_refused(outcome: &Outcome, fault: Fault) -> bool {
+    outcome.0 == Err(fault) && outcome.1.is_empty()
+}
+
+/// The configuration of a plan.
+pub(crate) fn config_of(plan: Plan) -> Result<Config, Fail> {
+    let (workers, queues, capacity) = plan;
+    Ok(Config::new(workers, queues, capacity).map_err(|_| "no configuration")?)
+}
+
+/// Runs over inputs, one stream in each.
+pub(crate) fn run_inputs<R: Threads + Wait + Clock + Copy + Send + 'static>(
+    rt: R,
+    alloc: Global,
+    inputs: Vec<Input>,
+    plan: Plan,
+) -> Result<Outcome, Fail> {
+    let watch = Arc::new(alloc, NoWatch)?;
+    let mut text = Vec::new(alloc);
+    match run_streams(rt, alloc, inputs, config_of(plan)?, watch, &mut text) {
+        Ok(_) => Ok((Ok(()), text)),
+        Err(fault) => Ok((Err(fault), text)),
+    }
+}
+
+/// Runs over streams, each of which is given at once.
+pub(crate) fn run_bytes<R: Threads + Wait + Clock + Copy + Send + 'static>(
+    rt: R,
+    alloc: Global,
+    streams: Vec<Vec<u8>>,
+    plan: Plan,
+) -> Result<Outcome, Fail> {
+    let mut inputs = Vec::new(alloc);
+    for stream in streams {
+        inputs.push(Input::whole(stream))?;
+    }
+    run_inputs(rt, alloc, inputs, plan)
+}

@@ -1,0 +1,102 @@
+//! Readers that fail, and writers that fail.
+
+use crate::streams::inputs::Input;
+use crate::streams::launches::{RACE, packed, report_with};
+use crate::streams::outputs::Output;
+use crate::streams::runs::{Outcome, config_of, is_accepted, is_refused, run_inputs};
+use gr_record::fault::Fault;
+use gr_streams::{NoWatch, run_streams};
+use std::alloc::Global;
+use std::sync::{Arc, Wait};
+use std::test::*;
+use std::thread::Threads;
+use std::time::Clock;
+
+/// Runs over the race, whose reader fails after so many calls.
+fn run_calls<R: Threads + Wait + Clock + Copy + Send + 'static>(
+    rt: R,
+    alloc: Global,
+    calls: usize,
+) -> Result<Outcome, Fail> {
+    let (_, texts, _) = RACE;
+    let bytes = packed(alloc, texts[0])?;
+    let inputs = vec![in alloc; Input::failing(bytes, calls)]?;
+    run_inputs(rt, alloc, inputs, (1, 1, 1))
+}
+
+/// Whether all of the race is read in so many calls, and its report is written.
+fn is_read<R: Threads + Wait + Clock + Copy + Send + 'static>(
+    rt: R,
+    alloc: Global,
+    calls: usize,
+) -> Result<bool, Fail> {
+    let (_, _, lines) = RACE;
+    let outcome = run_calls(rt, alloc, calls)?;
+    Ok(is_accepted(&outcome, &report_with(alloc, lines)?))
+}
+
+/// Whether a reader that fails after so many calls is told, and nothing is written.
+fn fails_to_read<R: Threads + Wait + Clock + Copy + Send + 'static>(
+    rt: R,
+    alloc: Global,
+    calls: usize,
+) -> Result<bool, Fail> {
+    let outcome = run_calls(rt, alloc, calls)?;
+    Ok(is_refused(&outcome, Fault::Read))
+}
+
+#[test]
+fn a_reader_that_fails_is_a_read_fault(rt: HostRuntime) -> Result<(), Fail> {
+    for calls in 0..73 {
+        assert!(rt;
+            fails_to_read(rt, rt.alloc(), calls)?,
+            "after {calls} calls"
+        );
+    }
+    assert!(rt; is_read(rt, rt.alloc(), 73)?, "all is read");
+    Ok(())
+}
+
+/// Runs over the race, and gives the fault, if it is told of one.
+fn fault_of<R: Threads + Wait + Clock + Copy + Send + 'static>(
+    rt: R,
+    alloc: Global,
+    output: &mut Output,
+) -> Result<Option<Fault>, Fail> {
+    let (_, texts, _) = RACE;
+    let inputs = vec![in alloc; Input::whole(packed(alloc, texts[0])?)]?;
+    let watch = Arc::new(alloc, NoWatch)?;
+    let config = config_of((1, 1, 1))?;
+    Ok(run_streams(rt, alloc, inputs, config, watch, output).err())
+}
+
+/// Whether a writer that takes so many bytes, and no flush, is told, and has as many bytes of the report.
+fn fails_to_write<R: Threads + Wait + Clock + Copy + Send + 'static>(
+    rt: R,
+    alloc: Global,
+    room: usize,
+    report: &[u8],
+) -> Result<bool, Fail> {
+    let mut output = Output {
+        taken: Vec::new(alloc),
+        room,
+        flushes: false,
+    };
+    let fault = fault_of(rt, alloc, &mut output)?;
+    let is_prefix = output.taken.len() == room && report.starts_with(&output.taken);
+    Ok(fault == Some(Fault::Write) && is_prefix)
+}
+
+#[test]
+fn a_writer_that_fails_is_a_write_fault(rt: HostRuntime) -> Result<(), Fail> {
+    let (_, _, lines) = RACE;
+    let report = report_with(rt.alloc(), lines)?;
+    assert_eq!(rt; report.len(), 93);
+    for room in 0..94 {
+        assert!(rt;
+            fails_to_write(rt, rt.alloc(), room, &report)?,
+            "after {room} bytes"
+        );
+    }
+    Ok(())
+}
