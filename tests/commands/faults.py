@@ -1,0 +1,162 @@
+"""What every command answers where it can't read or write, and that it opens each file once."""
+
+import os
+import subprocess
+import threading
+
+from testing.program import END, ProgramTest, access, header
+
+RACE = header(0, 2) + access(0, 1, 0, 16) + access(1, 0, 0, 16) + END
+CUT_OFF = RACE[:31]
+TEXT = b"group 0 items 2 launch 7\n0 w g 16\n1 r g 16\nend\n"
+READ_FAULT = b"gpurace: read fault\n"
+WRITE_FAULT = b"gpurace: write fault\n"
+
+# commands on standard input, and their status on a race
+INPUTS = {"": 1, "replay": 1, "dump": 0, "dump --partial": 0, "upgrade": 0}
+
+# commands on files, which follow the words, and their status on a race
+FILES = {
+    "explain g 16": 1,
+    "explain --json g 16": 1,
+    "explain --long g 16": 1,
+    "explain --long --json g 16": 1,
+    "races": 1,
+    "races --causes": 1,
+    "races --json": 1,
+    "races --json --causes": 1,
+    "history g 16": 1,
+    "run": 1,
+    "run --json": 1,
+    "check": 0,
+    "check --json": 0,
+    "why-held 0 0 0": 0,
+}
+
+# commands with side files
+SIDES = ("explain --long g 16", "explain --long --json g 16", "races", "races --json", "history g 16")
+
+# words for which help or the version is written
+HELP = ("--help", "-h", "help", "--version", "replay --help", "help run")
+
+
+class FaultTest(ProgramTest):
+    def setUp(self):
+        super().setUp()
+        for name, content in (("race", RACE), ("cut", CUT_OFF), ("places", b"0 0 0 a:1\n"), ("buffers", b"g 12 8 flags\n")):
+            self.put(name, content)
+        (self.folder / "folder").mkdir()
+
+    def all_commands(self):
+        """The words of each command, its standard input, and its status."""
+        yield ["pack"], TEXT, 0
+        for words, status in INPUTS.items():
+            yield words.split(), RACE, status
+        for words, status in FILES.items():
+            yield [*words.split(), "race"], b"", status
+        for words in HELP:
+            yield words.split(), b"", 0
+
+
+class Outputs(FaultTest):
+    def test_each_command_writes_to_standard_output_alone(self):
+        for words, given, status in self.all_commands():
+            with self.subTest(words=words):
+                ran = self.gpurace(*words, given=given)
+                self.assertEqual((ran.returncode, ran.stderr), (status, b""))
+                self.assertNotEqual(ran.stdout, b"")
+
+    def test_a_full_disk_under_each_command(self):
+        for words, given, _ in self.all_commands():
+            with self.subTest(words=words), open("/dev/full", "wb") as full:
+                self.assert_run(self.gpurace(*words, given=given, stdout=full), None, 5, WRITE_FAULT)
+
+    def test_a_closed_pipe_under_each_command(self):
+        for words, given, _ in self.all_commands():
+            with self.subTest(words=words):
+                reader, writer = os.pipe()
+                os.close(reader)
+                self.assert_run(self.gpurace(*words, given=given, stdout=writer), None, 5, WRITE_FAULT)
+                os.close(writer)
+
+    def test_a_full_disk_under_the_text_of_a_refusal(self):
+        for words in (["check", "cut"], ["check", "--json", "cut"]):
+            with self.subTest(words=words), open("/dev/full", "wb") as full:
+                self.assert_run(self.gpurace(*words, stdout=full), None, 5, WRITE_FAULT)
+
+    def test_errors_that_can_not_be_told_keep_their_status(self):
+        for words, given, status in ((["--quiet"], b"", 3), (["explain", "l64", "16", "race"], b"", 3), (["replay"], CUT_OFF, 2)):
+            with self.subTest(words=words), open("/dev/full", "wb") as full:
+                self.assert_run(self.gpurace(*words, given=given, stdout=full, stderr=full), None, status, None)
+
+    def test_help_is_whole(self):
+        ran = self.gpurace("--help")
+        self.assertTrue(ran.stdout.endswith(b"\n  5  reading or writing failed\n"), ran.stdout[-100:])
+
+
+class Inputs(FaultTest):
+    def test_standard_input_that_can_not_be_read(self):
+        for words in ["pack", *INPUTS]:
+            folder = os.open(self.folder, os.O_RDONLY)
+            ran = subprocess.run([os.environ["GPURACE"], *words.split()], stdin=folder, capture_output=True, check=False)
+            os.close(folder)
+            with self.subTest(words=words):
+                self.assert_run(ran, b"", 5, READ_FAULT)
+
+    def test_files_that_are_missing_or_can_not_be_read(self):
+        for words in FILES:
+            for names in (["missing"], ["folder"], ["cut", "missing"], ["race", "missing"], ["folder", "missing"]):
+                with self.subTest(words=words, names=names):
+                    self.assert_run(self.gpurace(*words.split(), *names), b"", 5, READ_FAULT)
+
+    def test_a_file_that_is_refused_before_one_that_can_not_be_read(self):
+        for words in FILES:
+            if not words.startswith(("run", "check")):
+                with self.subTest(words=words):
+                    self.assert_run(self.gpurace(*words.split(), "cut", "folder"), b"", 5, READ_FAULT)
+
+    def test_side_files_that_are_missing_or_can_not_be_read(self):
+        for words in SIDES:
+            for option in ("--places", "--buffers"):
+                for name in ("missing", "folder"):
+                    with self.subTest(words=words, option=option, name=name):
+                        self.assert_run(self.gpurace(*words.split(), option, name, "cut"), b"", 5, READ_FAULT)
+
+    def test_files_are_read_from_standard_input(self):
+        for words, status in FILES.items():
+            with self.subTest(words=words):
+                ran, of_a_file = self.gpurace(*words.split(), "/dev/stdin", given=RACE), self.gpurace(*words.split(), "race")
+                self.assert_run(ran, of_a_file.stdout, status)
+
+
+class Pipes(FaultTest):
+    """Files that are pipes, whose bytes are there once."""
+
+    def put_pipes(self, names):
+        for name in names:
+            os.mkfifo(self.folder / f"{name}.pipe")
+            threading.Thread(target=self.fill, args=[name], daemon=True).start()
+
+    def fill(self, name):
+        """Writes the bytes of a file once into its pipe, and takes the pipe away."""
+        pipe = self.folder / f"{name}.pipe"
+        with open(pipe, "wb") as opened:
+            pipe.unlink()
+            opened.write((self.folder / name).read_bytes())
+
+    def test_each_stream_is_opened_once(self):
+        for words, status in FILES.items():
+            with self.subTest(words=words):
+                self.put_pipes(["race"])
+                ran, of_a_file = self.gpurace(*words.split(), "race.pipe"), self.gpurace(*words.split(), "race")
+                self.assert_run(ran, of_a_file.stdout, status)
+
+    def test_each_side_file_is_opened_once(self):
+        for words in SIDES:
+            with self.subTest(words=words):
+                names = ("places", "buffers", "race")
+                self.put_pipes(names)
+                ran, of_files = (self.gpurace(*words.split(), "--places", f"places{it}", "--buffers", f"buffers{it}", f"race{it}") for it in (".pipe", ""))
+                self.assertIn(b"flags", ran.stdout)
+                self.assertIn(b"a:1", ran.stdout)
+                self.assert_run(ran, of_files.stdout, 1)
