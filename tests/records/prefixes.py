@@ -1,0 +1,46 @@
+"""Streams that break off: each beginning of them is refused, and of `dump --partial` what stands before is written."""
+
+import unittest
+
+from testing.program import ProgramTest, pack
+
+RACE = b"group 0 items 2 launch 7\n0 w g 16\n1 r g 16\nend\n"
+TRUNCATED = b"gpurace: stream 0: truncated\n"
+
+
+class Prefixes(ProgramTest):
+    def assert_refused(self, stream):
+        """Each beginning of a stream, but none of it and all of it, is refused as truncated by each command that reads streams."""
+        for length in range(1, len(stream)):
+            with self.subTest(bytes=length):
+                for command in ("replay", "dump", "upgrade"):
+                    self.assert_run(self.gpurace(command, given=stream[:length]), b"", 2, TRUNCATED)
+                self.assert_run(self.gpurace("run", self.put("stream", stream[:length])), b"", 2, TRUNCATED)
+
+    def test_each_prefix_of_a_race(self):
+        stream = pack(RACE.decode())
+        self.assertEqual(len(stream), 72)
+        self.assert_refused(stream)
+
+    def test_each_prefix_in_version_2(self):
+        stream = pack(RACE.decode().replace("launch 7", "launch 7 v2"))
+        self.assertEqual(len(stream), 144)
+        self.assert_refused(stream)
+
+    def test_a_file_of_nothing_is_no_stream(self):
+        self.assert_run(self.gpurace("run", self.put("stream", b"")), b"", 2, TRUNCATED)
+
+    def test_the_lines_before_the_break_are_dumped_in_part(self):
+        stream = pack(RACE.decode())
+        lines = RACE.splitlines(keepends=True)
+        for length in range(1, len(stream)):
+            with self.subTest(bytes=length):
+                whole = 0 if length < 12 else 1 + (length - 12) // 20
+                told = b"".join(lines[:whole])
+                self.assert_run(self.gpurace("dump", "--partial", given=stream[:length]), told, 2, TRUNCATED)
+                behind = self.gpurace("dump", "--partial", given=stream + stream[:length])
+                self.assert_run(behind, RACE + told, 2, TRUNCATED.replace(b"stream 0", b"stream 1"))
+
+
+if __name__ == "__main__":
+    unittest.main()
