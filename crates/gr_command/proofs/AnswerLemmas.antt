@@ -16,10 +16,10 @@ use Rattle.gr_sides.specs.FaultText.{sides_fault_line}
 use Rattle.gr_sides.specs.declared.fault.SidesFault.TheVariants.{Run}
 use Rattle.gr_record.specs.declared.fault.Fault.{Fault}
 use Rattle.gr_record.specs.declared.fault.Fault.TheVariants.{Write, Memory}
-use Rattle.gr_replay.specs.Replays.{IsReplayFault}
+use Rattle.gr_replay.specs.Replays.{IsExactOfEach, IsReplayFault}
 use Rattle.gr_report.specs.FaultText.{fault_line}
 use Rattle.gr_report.specs.Putting.{AppendsPrefix}
-use Rattle.gr_streams.specs.Streams.{IsExactOfEach, IsRunFault}
+use Rattle.gr_streams.specs.Streams.{IsRunFault}
 use Rattle.gr_text.specs.Texts.{packed}
 use Rattle.gr_text.specs.Dumps.{dumped, upgraded}
 use Rattle.gr_text.specs.Partial.{text_before_fault}

@@ -14,7 +14,7 @@ use Rattle.gr_report.specs.ReportText.{report_text}
 use Rattle.gr_report.specs.FaultText.{fault_line}
 use Rattle.gr_check.specs.Checked.{ChecksPrefix, IsCheckFileFault, IsChecked}
 use Rattle.gr_check_json.specs.Checked.{ChecksJsonPrefix, IsCheckedJson}
-use Rattle.gr_replay.specs.Replays.{IsExact, IsReplayFault, WritesPrefix}
+use Rattle.gr_replay.specs.Replays.{IsExact, IsExactOfEach, IsReplayFault, WritesPrefix}
 use Rattle.gr_input.specs.Faults.{Fails, IsOutside}
 use Rattle.gr_text.specs.Texts.{packed}
 use Rattle.gr_text.specs.Dumps.{dumped, upgraded}
@@ -34,7 +34,7 @@ use Rattle.gr_timeline.specs.Shown.{IsHistoryText}
 use Rattle.gr_json.specs.Reports.{report_json}
 use Rattle.gr_json.specs.Shown.{IsJsonAccount, IsJsonLine}
 use Rattle.gr_report.specs.Putting.{AppendsPrefix}
-use Rattle.gr_streams.specs.Streams.{IsExactOfEach, IsRunFault}
+use Rattle.gr_streams.specs.Streams.{IsRunFault}
 use Rattle.gr_command.specs.declared.status.TheConstants.{NOTHING, USAGE, WANTING}
 use Rattle.gr_command.specs.Outcomes.{IsOutcome, IsTold}
 use Rattle.gr_command.specs.Statuses.{check_status, fault_status, race_status, sides_fault_status, IsReportStatus}

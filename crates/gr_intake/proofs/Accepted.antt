@@ -19,7 +19,6 @@ use Rattle.gr_record.specs.Versions.{record_length}
 use Rattle.gr_record.specs.Fronts.{Records, behind, step, records_of, records_at}
 use Rattle.gr_record.specs.declared.stop.Stop.{Stop}
 use Rattle.gr_record.specs.declared.stop.Stop.TheVariants.{AtEnd, AtFault, Inside}
-use Rattle.gr_record.specs.Laws.{AreBytes}
 use Rattle.gr_record.specs.Reading.{event_at, header_at}
 use Rattle.gr_record.specs.WholeStreams as record_spec
 use Rattle.gr_record.specs.WholeStreams.{whole, up_to, front_header_at, front_records_at}
@@ -29,9 +28,7 @@ use Rattle.gr_record.specs.declared.fault.Fault.TheVariants as faults
 use Rattle.gr_intake.specs.Joined as joined_spec
 use Rattle.gr_intake.specs.Joined.{Flat, at_place, stream_at, joined_at}
 use Rattle.gr_intake.specs.Laws.{AreStreams}
-use Rattle.gr_record.proofs.Found.{read_is_spelled}
-use Rattle.gr_record.proofs.FoundPrefixes.{bytes_take}
-use Rattle.gr_record.proofs.Places.{bytes_drop}
+use Rattle.gr_record.proofs.Found.{read_is_ok}
 
 abbrev all : List Flat → Result (List Flat) Fault
 all x = Ok x
@@ -52,23 +49,22 @@ pub same_done : {X : Type 0} (x y : X) → done x ≡ done y → x ≡ y
 same_done x y e = cc
 
 -- what a list is whose records were read up to its end
-pub record AreRead (items most : ℕ) (events : List Event) (rest : List ℕ) : Type 0 where
+pub record AreRead (items most : ℕ) (events : List Event) : Type 0 where
   pub few : length events ≤ most
   pub good : AreGood items events
   pub ended : IsTrue (is_complete events)
-  pub bytes : AreBytes rest
 
 module _ (items : ℕ) where
-  pub one_end : (most : ℕ) (e : Event) (rest : List ℕ) → AreBytes rest → IsEventOk e items → is_end e ≡ true → AreRead items (suc most) (e ∷ []) rest
-  one_end most e rest fits ok end = record { few = omega arith; good = good; ended = end; bytes = fits }
+  pub one_end : (most : ℕ) (e : Event) → IsEventOk e items → is_end e ≡ true → AreRead items (suc most) (e ∷ [])
+  one_end most e ok end = record { few = omega arith; good = good; ended = end }
     where
       good : AreGood items (e ∷ [])
       good zero x at = let same : e ≡ x = let h : Some e ≡ Some x = at in cc in (subst (λ y. IsEventOk y items) same ok, λ _. refl)
       good (suc p) x at = cc
 
-  pub one_more : (most : ℕ) (e : Event) (es : List Event) (after : List ℕ) → IsEventOk e items → is_end e ≡ false → AreRead items most es after → AreRead items (suc most) (e ∷ es) after
-  one_more most e [] after ok on rest = absurd (true≢false (sym rest.ended))
-  one_more most e (x ∷ xs) after ok on rest = record { few = omega (arith, rest.few); good = good; ended = rest.ended; bytes = rest.bytes }
+  pub one_more : (most : ℕ) (e : Event) (es : List Event) → IsEventOk e items → is_end e ≡ false → AreRead items most es → AreRead items (suc most) (e ∷ es)
+  one_more most e [] ok on rest = absurd (true≢false (sym rest.ended))
+  one_more most e (x ∷ xs) ok on rest = record { few = omega (arith, rest.few); good = good; ended = rest.ended }
     where
       good : AreGood items (e ∷ x ∷ xs)
       good zero y at = let same : e ≡ y = let h : Some e ≡ Some y = at in cc in (subst (λ z. IsEventOk z items) same ok, λ end. absurd (true≢false (sym end ∙ (ap is_end (sym same) ∙ on))))
@@ -91,49 +87,35 @@ module _ (head : Header) where
   abbrev size : ℕ
   size = record_length head.version
 
-  is_ok : (bytes : List ℕ) (e : Event) → AreBytes bytes → size ≤ length bytes → event_at head (take size bytes) ≡ Ok e → IsEventOk e head.items
-  is_ok bytes e fits long h =
-      (read_is_spelled head e (take size bytes) (bytes_take size bytes fits) (omega (arith, length-take size bytes)) h).1.event.ok
+  is_ok : (bytes : List ℕ) (e : Event) → size ≤ length bytes → event_at head (take size bytes) ≡ Ok e → IsEventOk e head.items
+  is_ok bytes e long h = read_is_ok head e (take size bytes) (omega (arith, length-take size bytes)) h
 
-  pub records_read : (most : ℕ) (bytes : List ℕ) → AreBytes bytes → (events : List Event) (rest : List ℕ) → whole (records_of head most bytes) ≡ Ok (events, rest) → AreRead head.items most events rest
+  pub records_read : (most : ℕ) (bytes : List ℕ) (events : List Event) (rest : List ℕ) → whole (records_of head most bytes) ≡ Ok (events, rest) → AreRead head.items most events
   unfolding records_at
-  records_read zero bytes fits events rest h = absurd (no_more head.items (ltb (length bytes) size) bytes events rest h)
-  records_read (suc most) bytes fits events rest h =
-      by_length (ltb (length bytes) size) refl h (λ es k. records_read most (drop size bytes) (bytes_drop size bytes fits) es rest k)
+  records_read zero bytes events rest h = absurd (no_more head.items (ltb (length bytes) size) bytes events rest h)
+  records_read (suc most) bytes events rest h =
+      by_length (ltb (length bytes) size) refl h (λ es k. records_read most (drop size bytes) es rest k)
     where
       next : Records
       next = records_of head most (drop size bytes)
 
-      by_end : (e : Event) (b : Bool) → is_end e ≡ b → IsEventOk e head.items → whole (cond b (record { events = e ∷ []; rest = drop size bytes; stop = AtEnd }) (behind e next)) ≡ Ok (events, rest) → ((es : List Event) → whole next ≡ Ok (es, rest) → AreRead head.items most es rest) → AreRead head.items (suc most) events rest
-      by_end e true end ok h later = let p = same_done {X = List Event × List ℕ} (e ∷ [], drop size bytes) (events, rest) h in subst (λ (x : List Event × List ℕ). AreRead head.items (suc most) x.0 x.1) p (one_end head.items most e (drop size bytes) (bytes_drop size bytes fits) ok end)
+      by_end : (e : Event) (b : Bool) → is_end e ≡ b → IsEventOk e head.items → whole (cond b (record { events = e ∷ []; rest = drop size bytes; stop = AtEnd }) (behind e next)) ≡ Ok (events, rest) → ((es : List Event) → whole next ≡ Ok (es, rest) → AreRead head.items most es) → AreRead head.items (suc most) events
+      by_end e true end ok h later = let p = same_done {X = List Event × List ℕ} (e ∷ [], drop size bytes) (events, rest) h in subst (λ (x : List Event × List ℕ). AreRead head.items (suc most) x.0) p (one_end head.items most e ok end)
       by_end e false on ok h later =
           let p = behind_parts head.items e next events rest h in
-          subst (λ es. AreRead head.items (suc most) es rest) (sym p.0) (one_more head.items most e next.events rest ok on (later next.events p.1))
+          subst (AreRead head.items (suc most)) (sym p.0) (one_more head.items most e next.events ok on (later next.events p.1))
 
-      by_event : (r : Result Event RecordError) → event_at head (take size bytes) ≡ r → size ≤ length bytes → whole (step size r bytes next) ≡ Ok (events, rest) → ((es : List Event) → whole next ≡ Ok (es, rest) → AreRead head.items most es rest) → AreRead head.items (suc most) events rest
+      by_event : (r : Result Event RecordError) → event_at head (take size bytes) ≡ r → size ≤ length bytes → whole (step size r bytes next) ≡ Ok (events, rest) → ((es : List Event) → whole next ≡ Ok (es, rest) → AreRead head.items most es) → AreRead head.items (suc most) events
       by_event (Err d) is long h later = cc
-      by_event (Ok e) is long h later = by_end e (is_end e) refl (is_ok bytes e fits long is) h later
+      by_event (Ok e) is long h later = by_end e (is_end e) refl (is_ok bytes e long is) h later
 
-      by_length : (b : Bool) → ltb (length bytes) size ≡ b → whole (cond b (record { events = []; rest = bytes; stop = Inside }) (step size (event_at head (take size bytes)) bytes next)) ≡ Ok (events, rest) → ((es : List Event) → whole next ≡ Ok (es, rest) → AreRead head.items most es rest) → AreRead head.items (suc most) events rest
+      by_length : (b : Bool) → ltb (length bytes) size ≡ b → whole (cond b (record { events = []; rest = bytes; stop = Inside }) (step size (event_at head (take size bytes)) bytes next)) ≡ Ok (events, rest) → ((es : List Event) → whole next ≡ Ok (es, rest) → AreRead head.items most es) → AreRead head.items (suc most) events
       by_length true e h later = cc
       by_length false e h later = by_event (event_at head (take size bytes)) refl (ltb-false (length bytes) size e) h later
 
-prefix_read : (h : Header) (bytes : List ℕ) → AreBytes bytes → (events : List Event) (rest : List ℕ) → front_records_at h bytes ≡ Ok (events, rest) → AreRead h.items MOST_RECORDS events rest
+prefix_read : (h : Header) (bytes : List ℕ) (events : List Event) (rest : List ℕ) → front_records_at h bytes ≡ Ok (events, rest) → AreRead h.items MOST_RECORDS events
 unfolding front_records_at
-prefix_read h bytes fits events rest e = records_read h MOST_RECORDS bytes fits events rest e
-
--- the bytes after a header are bytes
-header_rest : (bytes : List ℕ) → AreBytes bytes → (h : Header) (rest : List ℕ) → front_header_at bytes ≡ Ok (h, rest) → AreBytes rest
-unfolding front_header_at
-header_rest bytes fits h rest e = by_length (ltb (length bytes) HEADER_LENGTH) e
-  where
-    by_header : (r : Result Header RecordError) → record_spec.◌>>=◌ {Y = Header × List ℕ} r (λ x. Ok (x, drop HEADER_LENGTH bytes)) ≡ Ok (h, rest) → AreBytes rest
-    by_header (Err d) k = cc
-    by_header (Ok x) k = let p = same_done {X = Header × List ℕ} (x, drop HEADER_LENGTH bytes) (h, rest) k in subst (λ (y : Header × List ℕ). AreBytes y.1) p (bytes_drop HEADER_LENGTH bytes fits)
-
-    by_length : (b : Bool) → cond b (Err errors.Truncated) (record_spec.◌>>=◌ {Y = Header × List ℕ} (header_at bytes) (λ x. Ok (x, drop HEADER_LENGTH bytes))) ≡ Ok (h, rest) → AreBytes rest
-    by_length true k = cc
-    by_length false k = by_header (header_at bytes) k
+prefix_read h bytes events rest e = records_read h MOST_RECORDS bytes events rest e
 
 -- ---- several streams
 
@@ -153,19 +135,19 @@ with_one seen f are accepted other same = record {
 }
 
 -- the stream behind these
-module _ (seen : List Flat) (bytes : List ℕ) (fits : AreBytes bytes) (are : AreStreams seen) where
+module _ (seen : List Flat) (bytes : List ℕ) (are : AreStreams seen) where
   abbrev Next : Result (Flat × List ℕ) Fault → Type 0
-  Next r = (f : Flat) (rest : List ℕ) → r ≡ Ok (f, rest) → AreStreams (seen ++ f ∷ []) × AreBytes rest
+  Next r = (f : Flat) (rest : List ℕ) → r ≡ Ok (f, rest) → AreStreams (seen ++ f ∷ [])
 
-  by_records : (h : Header) (middle : List ℕ) → AreBytes middle → list_any (λ s. s.header.group == h.group) seen ≡ false → list_any (λ s. not (s.header.launch == h.launch)) seen ≡ false
+  by_records : (h : Header) (middle : List ℕ) → list_any (λ s. s.header.group == h.group) seen ≡ false → list_any (λ s. not (s.header.launch == h.launch)) seen ≡ false
       → (r : Result (List Event × List ℕ) RecordError) → front_records_at h middle ≡ r
       → Next (joined_spec.◌>>=◌ {Y = Flat × List ℕ} (at_place (length seen) r) (λ x. Ok (record { header = h; events = x.0 }, x.1)))
-  by_records h middle bytes_fit other same (Err d) is f rest k = cc
-  by_records h middle bytes_fit other same (Ok (events, after)) is f rest k =
+  by_records h middle other same (Err d) is f rest k = cc
+  by_records h middle other same (Ok (events, after)) is f rest k =
       let p = same_found (record { header = h; events = events }, after) (f, rest) k in
-      let read = prefix_read h middle bytes_fit events after is in
+      let read = prefix_read h middle events after is in
       let one = with_one seen (record { header = h; events = events }) are (record { few = read.few; good = read.good; ended = read.ended }) other same in
-      (subst (λ (x : Flat × List ℕ). AreStreams (seen ++ x.0 ∷ [])) p one, subst (λ (x : Flat × List ℕ). AreBytes x.1) p read.bytes)
+      subst (λ (x : Flat × List ℕ). AreStreams (seen ++ x.0 ∷ [])) p one
 
   abbrev behind_header : Header × List ℕ → Result (Flat × List ℕ) Fault
   behind_header h =
@@ -173,35 +155,35 @@ module _ (seen : List Flat) (bytes : List ℕ) (fits : AreBytes bytes) (are : Ar
       (cond (list_any (λ s. not (s.header.launch == h.0.launch)) seen) (Err (faults.OtherLaunch (length seen)))
       (joined_spec.◌>>=◌ {Y = Flat × List ℕ} (at_place (length seen) (front_records_at h.0 h.1)) (λ x. Ok (record { header = h.0; events = x.0 }, x.1))))
 
-  by_launch : (h : Header) (middle : List ℕ) → AreBytes middle → list_any (λ s. s.header.group == h.group) seen ≡ false → (b : Bool) → list_any (λ s. not (s.header.launch == h.launch)) seen ≡ b
+  by_launch : (h : Header) (middle : List ℕ) → list_any (λ s. s.header.group == h.group) seen ≡ false → (b : Bool) → list_any (λ s. not (s.header.launch == h.launch)) seen ≡ b
       → Next (cond b (Err (faults.OtherLaunch (length seen))) (joined_spec.◌>>=◌ {Y = Flat × List ℕ} (at_place (length seen) (front_records_at h middle)) (λ x. Ok (record { header = h; events = x.0 }, x.1))))
-  by_launch h middle bytes_fit other true same f rest k = cc
-  by_launch h middle bytes_fit other false same f rest k = by_records h middle bytes_fit other same (front_records_at h middle) refl f rest k
+  by_launch h middle other true same f rest k = cc
+  by_launch h middle other false same f rest k = by_records h middle other same (front_records_at h middle) refl f rest k
 
-  by_group : (h : Header) (middle : List ℕ) → AreBytes middle → (b : Bool) → list_any (λ s. s.header.group == h.group) seen ≡ b
+  by_group : (h : Header) (middle : List ℕ) → (b : Bool) → list_any (λ s. s.header.group == h.group) seen ≡ b
       → Next (cond b (Err (faults.SameGroup (length seen))) (cond (list_any (λ s. not (s.header.launch == h.launch)) seen) (Err (faults.OtherLaunch (length seen))) (joined_spec.◌>>=◌ {Y = Flat × List ℕ} (at_place (length seen) (front_records_at h middle)) (λ x. Ok (record { header = h; events = x.0 }, x.1)))))
-  by_group h middle bytes_fit true other f rest k = cc
-  by_group h middle bytes_fit false other f rest k = by_launch h middle bytes_fit other (list_any (λ s. not (s.header.launch == h.launch)) seen) refl f rest k
+  by_group h middle true other f rest k = cc
+  by_group h middle false other f rest k = by_launch h middle other (list_any (λ s. not (s.header.launch == h.launch)) seen) refl f rest k
 
   by_header : (r : Result (Header × List ℕ) RecordError) → front_header_at bytes ≡ r → Next (joined_spec.◌>>=◌ {Y = Flat × List ℕ} (at_place (length seen) r) behind_header)
   by_header (Err d) is f rest k = cc
-  by_header (Ok (h, middle)) is f rest k = by_group h middle (header_rest bytes fits h middle is) (list_any (λ s. s.header.group == h.group) seen) refl f rest k
+  by_header (Ok (h, middle)) is f rest k = by_group h middle (list_any (λ s. s.header.group == h.group) seen) refl f rest k
 
   pub stream_is_one : Next (stream_at seen bytes)
   unfolding stream_at
   stream_is_one f rest k = by_header (front_header_at bytes) refl f rest k
 
-pub joined_are : (n : ℕ) (seen : List Flat) (bytes : List ℕ) → AreBytes bytes → AreStreams seen → (out : List Flat) → joined_at n seen bytes ≡ Ok out → AreStreams out
+pub joined_are : (n : ℕ) (seen : List Flat) (bytes : List ℕ) → AreStreams seen → (out : List Flat) → joined_at n seen bytes ≡ Ok out → AreStreams out
 unfolding joined_at
-joined_are zero seen bytes fits are out h = subst AreStreams (same_all seen out h) are
-joined_are (suc n) seen bytes fits are out h =
-    by_length (length bytes == 0) h (λ f rest more are_more k. joined_are n (seen ++ f ∷ []) rest more are_more out k)
+joined_are zero seen bytes are out h = subst AreStreams (same_all seen out h) are
+joined_are (suc n) seen bytes are out h =
+    by_length (length bytes == 0) h (λ f rest more k. joined_are n (seen ++ f ∷ []) rest more out k)
   where
-    by_stream : (r : Result (Flat × List ℕ) Fault) → stream_at seen bytes ≡ r → joined_spec.◌>>=◌ {Y = List Flat} r (λ s. joined_at n (seen ++ s.0 ∷ []) s.1) ≡ Ok out → ((f : Flat) (rest : List ℕ) → AreBytes rest → AreStreams (seen ++ f ∷ []) → joined_at n (seen ++ f ∷ []) rest ≡ Ok out → AreStreams out) → AreStreams out
+    by_stream : (r : Result (Flat × List ℕ) Fault) → stream_at seen bytes ≡ r → joined_spec.◌>>=◌ {Y = List Flat} r (λ s. joined_at n (seen ++ s.0 ∷ []) s.1) ≡ Ok out → ((f : Flat) (rest : List ℕ) → AreStreams (seen ++ f ∷ []) → joined_at n (seen ++ f ∷ []) rest ≡ Ok out → AreStreams out) → AreStreams out
     by_stream (Err d) is k later = cc
-    by_stream (Ok (f, rest)) is k later = let one = stream_is_one seen bytes fits are f rest is in later f rest one.1 one.0 k
+    by_stream (Ok (f, rest)) is k later = later f rest (stream_is_one seen bytes are f rest is) k
 
-    by_length : (b : Bool) → cond b (all seen) (joined_spec.◌>>=◌ {Y = List Flat} (stream_at seen bytes) (λ s. joined_at n (seen ++ s.0 ∷ []) s.1)) ≡ Ok out → ((f : Flat) (rest : List ℕ) → AreBytes rest → AreStreams (seen ++ f ∷ []) → joined_at n (seen ++ f ∷ []) rest ≡ Ok out → AreStreams out) → AreStreams out
+    by_length : (b : Bool) → cond b (all seen) (joined_spec.◌>>=◌ {Y = List Flat} (stream_at seen bytes) (λ s. joined_at n (seen ++ s.0 ∷ []) s.1)) ≡ Ok out → ((f : Flat) (rest : List ℕ) → AreStreams (seen ++ f ∷ []) → joined_at n (seen ++ f ∷ []) rest ≡ Ok out → AreStreams out) → AreStreams out
     by_length true k later = subst AreStreams (same_all seen out k) are
     by_length false k later = by_stream (stream_at seen bytes) refl k later
 

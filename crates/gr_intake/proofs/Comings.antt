@@ -168,9 +168,9 @@ can_take_open s g items more e there size goes ok = record {
   item = subst (λ n. e.item < n) (sym size) ok.0;
 }
 
-closed_read : (items : ℕ) (es : List Event) (e : Event) → AreOpen items es → IsEventOk e items → is_end e ≡ true → AreRead items (suc (length es)) (es ++ e ∷ []) []
-closed_read items [] e goes ok end = one_end items 0 e [] (λ i. omega arith) ok end
-closed_read items (x ∷ es) e goes ok end = one_more items (suc (length es)) x (es ++ e ∷ []) [] goes.0.0 goes.0.1 (closed_read items es e goes.1 ok end)
+closed_read : (items : ℕ) (es : List Event) (e : Event) → AreOpen items es → IsEventOk e items → is_end e ≡ true → AreRead items (suc (length es)) (es ++ e ∷ [])
+closed_read items [] e goes ok end = one_end items 0 e ok end
+closed_read items (x ∷ es) e goes ok end = one_more items (suc (length es)) x (es ++ e ∷ []) goes.0.0 goes.0.1 (closed_read items es e goes.1 ok end)
 
 -- a stream has ended
 pub stream_closes : (seen : List Flat) (f : Flat) (e : Event) → AreStreams seen → IsNext seen f → length f.events < MOST_RECORDS → IsEventOk e f.header.items → is_end e ≡ true → AreStreams (seen ++ with_event f e ∷ [])

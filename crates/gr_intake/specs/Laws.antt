@@ -1,7 +1,6 @@
 -- What follows of the streams that stand in bytes.
 use Rattle.std.specs.Prelude.{◌≡◌, ◌≢◌, ℕ, List, All, AllPairs, Ok}
 use Rattle.gr_model.specs.Streams.{IsAccepted}
-use Rattle.gr_record.specs.Laws.{AreBytes}
 use Rattle.gr_intake.specs.Joined.{Flat, joined_of}
 
 -- lists that their groups may have, of groups that differ and of one launch
@@ -11,4 +10,4 @@ pub record AreStreams (seen : List Flat) : Type 0 where
   pub launch : AllPairs (λ f g. f.header.launch ≡ g.header.launch) seen
 
 abbrev pub JoinedAreStreams : Type 0
-JoinedAreStreams = (bytes : List ℕ) (seen : List Flat) → AreBytes bytes → joined_of bytes ≡ Ok seen → AreStreams seen
+JoinedAreStreams = (bytes : List ℕ) (seen : List Flat) → joined_of bytes ≡ Ok seen → AreStreams seen

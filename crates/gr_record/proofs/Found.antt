@@ -1,5 +1,5 @@
 -- What is read is in range, and is spelled so.
-use Rattle.std.proofs.Common.{◌≡◌, ℕ, zero, suc, ◌+◌, ◌*◌, ◌<◌, ◌≤◌, Bool, true, false, cond, List, [], ◌∷◌, length, take, Option, Some, None, Result, Ok, Err, refl, ap, ◌∙◌, arith, inl, inr}
+use Rattle.std.proofs.Common.{◌≡◌, ℕ, zero, suc, ◌+◌, ◌*◌, ◌<◌, ◌≤◌, Bool, true, false, cond, List, [], ◌∷◌, length, take, Option, Some, None, Result, Ok, Err, refl, ap, subst, ◌∙◌, arith, inl, inr}
 use Rattle.std.specs.Prelude.{nat_lt, nat_le, ◌==◌, ◌||◌, ◌&&◌, not, slice_index}
 use Rattle.std.proofs.lemmas.Bool.{eqb-true, ltb-true, leb-true, ltb-false, leb-false, and_parts, cases_Bool, not-true, not-false}
 use Rattle.gr_model.specs.declared.event.Event.{Event}
@@ -44,6 +44,10 @@ named : (b : Bool) (x y : List Name) → cond b (Some x) None ≡ Some y → (b 
 named true x y e = (refl, cc)
 named false x y e = absurd cc
 
+-- what the bytes of a record say
+abbrev said : Header → List ℕ → Event
+said h bytes = record { item = field 4 2 bytes; kind = kind_of bytes; space = space_at bytes; word = field 8 4 bytes; names = names_at h.version bytes }
+
 -- what is known of a record that is read
 record Accepted (h : Header) (bytes : List ℕ) (e : Event) : Type 0 where
   kind : nat_lt 6 (slice_index bytes 0) ≡ false
@@ -51,7 +55,7 @@ record Accepted (h : Header) (bytes : List ℕ) (e : Event) : Type 0 where
   order : not (is_order_ok (kind_of bytes)) ≡ false
   naming : is_naming_ok (kind_of bytes) (names_at h.version bytes) ≡ true
   item : nat_le h.items (field 4 2 bytes) ≡ false
-  same : record { item = field 4 2 bytes; kind = kind_of bytes; space = space_at bytes; word = field 8 4 bytes; names = names_at h.version bytes } ≡ e
+  same : said h bytes ≡ e
 
 accepted : (h : Header) (bytes : List ℕ) (e : Event) → event_at h bytes ≡ Ok e → Accepted h bytes e
 unfolding event_at
@@ -158,6 +162,16 @@ some_fields : (v : Version) → 12 ≤ record_length v
 some_fields One = omega arith
 some_fields Two = omega arith
 
+said_ok : (h : Header) (bytes : List ℕ) (e : Event) → record_length h.version ≤ length bytes → Accepted h bytes e → IsEventOk (said h bytes) h.items
+said_ok h (b0 ∷ b1 ∷ b2 ∷ b3 ∷ b4 ∷ b5 ∷ b6 ∷ b7 ∷ b8 ∷ b9 ∷ b10 ∷ b11 ∷ rest) e len a =
+    let f = fields_ok (b0 ∷ b1 ∷ b2 ∷ b3 ∷ b4 ∷ b5 ∷ b6 ∷ b7 ∷ b8 ∷ b9 ∷ b10 ∷ b11 ∷ rest) a.fields in
+    (leb-false _ _ a.item, naming_found _ _ a.naming, kind_ok b1 b2 b3 b4 b5 b6 b7 b8 b9 b10 b11 rest b0 a.kind f (not-false _ a.order))
+said_ok h _ e len a = let long = some_fields h.version in absurd (omega arith)
+
+-- what is read is a record that the group may have
+pub read_is_ok : (h : Header) (e : Event) (bytes : List ℕ) → record_length h.version ≤ length bytes → event_at h bytes ≡ Ok e → IsEventOk e h.items
+read_is_ok h e bytes len is = let a = accepted h bytes e is in subst (λ (x : Event). IsEventOk x h.items) a.same (said_ok h bytes e len a)
+
 pub read_is_spelled : ReadIsSpelled
 read_is_spelled h e (b0 ∷ b1 ∷ b2 ∷ b3 ∷ b4 ∷ b5 ∷ b6 ∷ b7 ∷ b8 ∷ b9 ∷ b10 ∷ b11 ∷ rest) fits len is =
     let bytes : List ℕ = b0 ∷ b1 ∷ b2 ∷ b3 ∷ b4 ∷ b5 ∷ b6 ∷ b7 ∷ b8 ∷ b9 ∷ b10 ∷ b11 ∷ rest in
@@ -168,10 +182,9 @@ read_is_spelled h e (b0 ∷ b1 ∷ b2 ∷ b3 ∷ b4 ∷ b5 ∷ b6 ∷ b7 ∷ b8 
     let w = four b8 b9 b10 b11 (fits 8) (fits 9) (fits 10) (fits 11) _ refl in
     let z6 : b6 ≡ 0 = eqb-true b6 0 f.six in
     let z7 : b7 ≡ 0 = eqb-true b7 0 f.seven in
-    let ok : IsEventOk _ h.items = (leb-false _ _ a.item, naming_found _ _ a.naming, kind_ok b1 b2 b3 b4 b5 b6 b7 b8 b9 b10 b11 rest b0 a.kind f (not-false _ a.order)) in
     rw (← a.same) (
       n ∙ rw (k, z6, z7, two_low b4 b5 (fits 4) (fits 5), two_high b4 b5 (fits 4) (fits 5), w.0, w.1, w.2, w.3) refl,
-      record { event = record { ok = ok; word = omega (arith, fits 8, fits 9, fits 10, fits 11) }; names = names_few (places h.version) rest },
+      record { event = record { ok = said_ok h bytes e len a; word = omega (arith, fits 8, fits 9, fits 10, fits 11) }; names = names_few (places h.version) rest },
     )
 read_is_spelled h e _ fits len is = let long = some_fields h.version in absurd (omega arith)
 

@@ -51,7 +51,7 @@ module _ (seen : List Stream) (bytes : List ℕ) where
 
 -- ---- the loop over streams
 
-nothing_left : (n : ℕ) (seen : List Flat) (bytes : List ℕ) → (length bytes == 0) ≡ true → joined_at n seen bytes ≡ Ok seen
+pub nothing_left : (n : ℕ) (seen : List Flat) (bytes : List ℕ) → (length bytes == 0) ≡ true → joined_at n seen bytes ≡ Ok seen
 unfolding joined_at
 nothing_left zero seen bytes e = refl
 nothing_left (suc n) seen bytes e = rw e refl

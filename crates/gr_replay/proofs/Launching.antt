@@ -3,8 +3,8 @@ use Rattle.std.proofs.Common.{◌≡◌, ◌≢◌, ◌⊎◌, ℕ, zero, suc, �
 use Rattle.std.proofs.lemmas.Bool.{cases_lt}
 use Rattle.std.proofs.lemmas.Bool.Decides.{Decides-eqb}
 use Rattle.std.proofs.lemmas.List.{get_or-map, length-map}
-use Rattle.std.proofs.lemmas.List.Elements.{All-get_or}
-use Rattle.std.proofs.lemmas.List.Sorted.{IsPermutation-map, IsPermutation-sym, Contains-permutation, All-permutation}
+use Rattle.std.proofs.lemmas.List.Elements.{All-contains}
+use Rattle.std.proofs.lemmas.List.Sorted.{IsPermutation-map, IsPermutation-sym, Contains-permutation}
 use Rattle.std.proofs.lemmas.Map.Keys.{IsDistinct-IsPermutation}
 use Rattle.std.proofs.lemmas.Map.Made.{AllPairs-from_IsDistinct, IsDistinct-from_AllPairs}
 use Rattle.std.proofs.lemmas.Option.{slice_get-get_or, get_or_from_slice_get, slice_get-map}
@@ -94,6 +94,22 @@ module _ (fs : List Flat) (rising : AreRising fs) where
 
 -- ---- the launch
 
+-- the model accepts the lists of a launch of a shape
+pub launch_accepts : (seen : List Flat) (s : Streams) → AreStreams seen → IsLaunchOf seen s → IsShape s.sizes → AreAccepted s
+launch_accepts seen s are launch shape = record {
+  shape = shape;
+  count = launch.count;
+  each = λ g lt.
+      let has = launch.there g lt in
+      let f = has.0 in
+      let at = launch.each f has.1 in
+      let size : slice_index s.sizes f.header.group ≡ f.header.items = get_or_from_slice_get s.sizes f.header.group f.header.items 0 at.0 in
+      let list : get_or s.lists f.header.group [] ≡ f.events = get_or_from_slice_get s.lists f.header.group f.events [] at.1 in
+      let accepted : IsAccepted f.header.items f.events = All-contains (λ x. IsAccepted x.header.items x.events) seen f are.accepted has.1 in
+      subst (λ n. IsAccepted (slice_index s.sizes n) (get_or s.lists n [])) has.2
+      (subst (IsAccepted (slice_index s.sizes f.header.group)) (sym list) (subst (λ n. IsAccepted n f.events) (sym size) accepted));
+}
+
 -- each group's items and records, of streams that are each at the place of its group
 abbrev pub launch_of : List Flat → Streams
 launch_of fs = record { sizes = map (λ f. f.header.items) fs; lists = map (λ f. f.events) fs }
@@ -114,21 +130,6 @@ module _ (seen fs : List Flat) (perm : IsPermutation seen fs) (placed : ArePlace
           subst (λ k. slice_get (map (λ x. x.header.items) fs) k ≡ Some f.header.items) group (slice_get-map (λ x. x.header.items) fs there.0 ∙ ap (option_map (λ x. x.header.items)) at),
           subst (λ k. slice_get (map (λ x. x.events) fs) k ≡ Some f.events) group (slice_get-map (λ x. x.events) fs there.0 ∙ ap (option_map (λ x. x.events)) at),
         );
-  }
-
-  pub launch_accepted : IsShape (map (λ f. f.header.items) fs) → AreStreams seen → AreAccepted (launch_of fs)
-  launch_accepted shape are = record {
-    shape = shape;
-    count = is_launch.count;
-    each = λ g lt.
-        let within : g < length fs = omega (arith, length-map fs (λ (f : Flat). f.header.items)) in
-        let at = there_is fs g within in
-        let f = at.0 in
-        let is = get_or_from_slice_get fs g f f at.1 in
-        let accepted : IsAccepted f.header.items f.events = subst (λ x. IsAccepted x.header.items x.events) is (All-get_or (λ x. IsAccepted x.header.items x.events) fs g f within (All-permutation (λ x. IsAccepted x.header.items x.events) seen fs perm are.accepted)) in
-        let size : slice_index (map (λ x. x.header.items) fs) g ≡ f.header.items = get_or_from_slice_get (map (λ x. x.header.items) fs) g f.header.items 0 (slice_get-map (λ x. x.header.items) fs g ∙ ap (option_map (λ x. x.header.items)) at.1) in
-        let list : get_or (map (λ x. x.events) fs) g [] ≡ f.events = get_or_from_slice_get (map (λ x. x.events) fs) g f.events [] (slice_get-map (λ x. x.events) fs g ∙ ap (option_map (λ x. x.events)) at.1) in
-        subst (λ xs. IsAccepted (slice_index (map (λ x. x.header.items) fs) g) xs) (sym list) (subst (λ n. IsAccepted n f.events) (sym size) accepted);
   }
 
 -- ---- streams as they lie in memory

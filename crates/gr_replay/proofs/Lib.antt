@@ -3,3 +3,7 @@ pub mod Launching
 pub mod Apart
 pub mod Pairing
 mod Inputs
+pub mod OneLaunch
+pub mod Alone
+pub mod JoinedInputs
+pub mod Upgrades

@@ -3,3 +3,4 @@ pub mod InMemory
 pub mod Replays
 pub mod Each
 pub mod Races
+pub mod Laws

@@ -1,4 +1,4 @@
--- What a replay writes of bytes, and why it refuses them.
+-- The report of bytes and of inputs, and why bytes are not replayed.
 -- Source: docs/FORMATS.md, "Faults", and docs/MODEL.md, "The report".
 use Rattle.std.specs.Prelude.{◌≡◌, ◌⊎◌, ℕ, List, Option}
 use Rattle.gr_model.specs.Streams.{AreAccepted, Streams}
@@ -8,11 +8,19 @@ use Rattle.gr_record.specs.declared.fault.Fault.TheVariants as faults
 use Rattle.gr_report.specs.Putting.{AppendsPrefix}
 use Rattle.gr_report.specs.ReportText.{report_text}
 use Rattle.gr_intake.specs.Launch.{Reads, IsReadFault}
+use Rattle.gr_replay.specs.Each.{ReadsEach}
 
 -- the report is exact: the bytes are the streams of a launch, which the model accepts, and it is the report of the definitions on that launch
 pub record IsExact (bytes : List ℕ) (report : WholeReport) : Type 0 where
   pub launch : Streams
   pub spelled : Reads bytes launch
+  pub accepted : AreAccepted launch
+  pub exact : IsReportOf launch report
+
+-- the same of inputs, each of which is one stream
+pub record IsExactOfEach (inputs : List (List ℕ)) (report : WholeReport) : Type 0 where
+  pub launch : Streams
+  pub spelled : ReadsEach inputs launch
   pub accepted : AreAccepted launch
   pub exact : IsReportOf launch report
 

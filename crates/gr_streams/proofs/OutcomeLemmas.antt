@@ -15,11 +15,9 @@ use Rattle.gr_record.specs.declared.stop.Stop.TheVariants.{Inside, AtEnd, AtFaul
 use Rattle.gr_record.specs.declared.layout.TheConstants.{HEADER_LENGTH}
 use Rattle.gr_record.specs.Decoding.{Reading, close, closed, read_from, reading, under}
 use Rattle.gr_record.specs.Fronts.{records_of}
-use Rattle.gr_record.specs.Laws.{AreBytes}
 use Rattle.gr_record.specs.Reading.{header_at}
 use Rattle.gr_record.specs.WholeStreams as record_spec
 use Rattle.gr_record.specs.WholeStreams.{front_header_at, front_records_at, up_to}
-use Rattle.gr_record.proofs.Places.{bytes_drop}
 use Rattle.gr_intake.specs.Joined.{◌>>=◌, at_place}
 use Rattle.gr_intake.proofs.Accepted.{AreRead, records_read}
 use Rattle.gr_streams.specs.Records.{events_at}
@@ -80,11 +78,11 @@ closed_end AtEnd events (b ∷ rest) h = absurd cc
 closed_end (AtFault e) events rest h = absurd cc
 
 -- a stream of this header that was read to its end is one that its group may have
-pub read_to_end : (bytes : List ℕ) (h : Header) → AreBytes bytes → HEADER_LENGTH ≤ length bytes → header_at (take HEADER_LENGTH bytes) ≡ Ok h → (reading MOST_RECORDS bytes).stop ≡ AtEnd → AreRead h.items MOST_RECORDS (reading MOST_RECORDS bytes).events []
+pub read_to_end : (bytes : List ℕ) (h : Header) → HEADER_LENGTH ≤ length bytes → header_at (take HEADER_LENGTH bytes) ≡ Ok h → (reading MOST_RECORDS bytes).stop ≡ AtEnd → AreRead h.items MOST_RECORDS (reading MOST_RECORDS bytes).events
 unfolding read_from
-read_to_end bytes h fits long is end =
+read_to_end bytes h long is end =
     let r = records_of h MOST_RECORDS (drop HEADER_LENGTH bytes) in
     let short : reading MOST_RECORDS bytes ≡ under (header_at (take HEADER_LENGTH bytes)) MOST_RECORDS bytes = rw (le-ltb (length bytes) HEADER_LENGTH long) refl in
     let same : reading MOST_RECORDS bytes ≡ closed (Some h) r = short ∙ ap (λ (x : Result Header RecordError). under x MOST_RECORDS bytes) is in
     let stop : close r.stop r.rest ≡ AtEnd = sym (ap (λ (x : Reading). x.stop) same) ∙ end in
-    subst (λ (x : Reading). AreRead h.items MOST_RECORDS x.events []) (sym same) (records_read h MOST_RECORDS (drop HEADER_LENGTH bytes) (bytes_drop HEADER_LENGTH bytes fits) r.events [] (closed_end r.stop r.events r.rest stop))
+    subst (λ (x : Reading). AreRead h.items MOST_RECORDS x.events) (sym same) (records_read h MOST_RECORDS (drop HEADER_LENGTH bytes) r.events [] (closed_end r.stop r.events r.rest stop))

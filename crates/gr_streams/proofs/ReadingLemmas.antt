@@ -66,7 +66,7 @@ module _ (place : ℕ) (fed : List ℕ) (h : Header) (d : Standing) (s : Sending
       list : IsAccepted s.items events
       list =
           let long : 12 ≤ length fed = omega (arith, length-take 12 fed, headed.1) in
-          let read = read_to_end fed h f.bytes long (headed_at h (take 12 fed) headed) end in
+          let read = read_to_end fed h long (headed_at h (take 12 fed) headed) end in
           subst (λ n. IsAccepted n events) (sym items) (record { few = read.few; good = read.good; ended = read.ended })
 
       by_refused : (b : Bool) → AreSent s.items events s.sent b → pushed ≡ events

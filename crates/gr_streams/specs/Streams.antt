@@ -13,17 +13,10 @@ use Rattle.gr_record.specs.declared.fault.Fault.TheVariants as faults
 use Rattle.gr_input.specs.Faults.{Fails}
 use Rattle.gr_report.specs.Putting.{AppendsPrefix}
 use Rattle.gr_report.specs.ReportText.{report_text}
-use Rattle.gr_replay.specs.Each.{ReadsEach}
+use Rattle.gr_replay.specs.Replays.{IsExactOfEach}
 use Rattle.gr_intake.specs.Launch.{IsLaunchFault, IsLaunchOf}
 use Rattle.gr_streams.specs.Headers.{AreHeadersOf, bares, headers_of, streams_with}
 use Rattle.gr_streams.specs.Records.{lists_of}
-
--- the report is exact: the inputs are the streams of a launch, of a shape, and it is the report of the definitions on that launch
-pub record IsExactOfEach (inputs : List (List ℕ)) (report : WholeReport) : Type 0 where
-  pub launch : Streams
-  pub spelled : ReadsEach inputs launch
-  pub shape : IsShape launch.sizes
-  pub exact : IsReportOf launch report
 
 -- the headers are those of a launch
 abbrev pub AreOfLaunch : List Header → Type 0

@@ -11,7 +11,8 @@ ghost use Rattle.gr_report.specs.Whole.{whole_of};
 ghost use Rattle.gr_streams.specs.Headers.{AreApart, AreHeadersOf};
 ghost use Rattle.gr_streams.specs.Records.{lists_of};
 ghost use Rattle.gr_streams.specs.Sources.{IsHeaded, known_of};
-ghost use Rattle.gr_streams.specs.Streams.{IsExactOfEach, IsReportOn, IsRunFault, IsWantOfMemory, WritesPrefixOfEach};
+ghost use Rattle.gr_replay.specs.Replays.{IsExactOfEach};
+ghost use Rattle.gr_streams.specs.Streams.{IsReportOn, IsRunFault, IsWantOfMemory, WritesPrefixOfEach};
 
 use crate::headers::{Headed, read_headers};
 use crate::joins::{Joined, Room, join_all, room_for, start_all};

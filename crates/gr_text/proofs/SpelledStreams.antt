@@ -60,7 +60,7 @@ module _ (h : Header) (few : h.items ≤ MOST_ITEMS_OF_A_GROUP) where
   unfolding front_records_at
   events_before events rest runs complete le = rw (records_before events MOST_RECORDS rest runs complete le) refl
 
-header_before : (h : Header) (rest : List ℕ) → IsHeader h → front_header_at (header_spelling h ++ rest) ≡ Ok (h, rest)
+pub header_before : (h : Header) (rest : List ℕ) → IsHeader h → front_header_at (header_spelling h ++ rest) ≡ Ok (h, rest)
 unfolding front_header_at
 header_before h rest ok =
     let long : HEADER_LENGTH ≤ length (header_spelling h ++ rest) = omega arith in

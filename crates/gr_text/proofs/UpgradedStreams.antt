@@ -69,7 +69,7 @@ whole_streams_are_upgraded ss whole =
 
 -- ---- once more
 
-twice : (ss : List WholeStream) → map upgraded_stream (map upgraded_stream ss) ≡ map upgraded_stream ss
+pub twice : (ss : List WholeStream) → map upgraded_stream (map upgraded_stream ss) ≡ map upgraded_stream ss
 twice [] = refl
 twice (s ∷ ss) = ap (λ (v : List WholeStream). upgraded_stream s ∷ v) (twice ss)
 

@@ -1,7 +1,6 @@
-use Rattle.std.proofs.Common.{◌≡◌, Err, length, arith, sym, ◌∙◌}
+use Rattle.std.proofs.Common.{◌≡◌, Err, length, sym, ◌∙◌}
 use Rattle.std.proofs.lemmas.List.{length-map}
 use Rattle.std.proofs.lemmas.Result.{err_from_is_err_and}
-use Rattle.gr_record.specs.Laws.{AreBytes}
 use Rattle.gr_record.specs.declared.error.RecordError.TheVariants.{AfterEnd}
 use Rattle.gr_record.specs.declared.fault.Fault.TheVariants as faults
 use Rattle.gr_replay.specs.Each.{only_stream_at}
@@ -21,8 +20,7 @@ returns-then-is_empty-clause-exact c =
 
 pub returns-then-is_empty-clause-good : goal.returns-then-is_empty-clause-good
 returns-then-is_empty-clause-good c = λ are.
-    let fits : AreBytes c.args.bytes.now = λ i. let b = c.type_inv.bytes i in omega arith in
-    (stream_is_one (flats c.args.streams.now) c.args.bytes.now fits are (flat c.in_ok-stream.stream) c.in_ok-stream.rest.now c.in_ok-stream.ensures.exact).0
+    stream_is_one (flats c.args.streams.now) c.args.bytes.now are (flat c.in_ok-stream.stream) c.in_ok-stream.rest.now c.in_ok-stream.ensures.exact
 
 pub returns-else-is_empty-clause-exact : goal.returns-else-is_empty-clause-exact
 returns-else-is_empty-clause-exact c =

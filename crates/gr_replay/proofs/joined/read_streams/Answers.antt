@@ -1,4 +1,4 @@
-use Rattle.std.proofs.Common.{arith, ◌≡◌, ◌++◌, ◌∷◌, [], length, sym, ◌∙◌}
+use Rattle.std.proofs.Common.{◌≡◌, ◌++◌, ◌∷◌, [], length, sym, ◌∙◌}
 use Rattle.std.proofs.lemmas.List.{map_push}
 use Rattle.std.proofs.lemmas.Result.{err_from_is_err_and}
 use Rattle.gr_replay.specs.InMemory.{flat, flats}
@@ -28,8 +28,8 @@ returns-clause-exact g c = is_full (flats c.loop.streams.items) (length c.args.b
 
 pub returns-then-is_empty-clause-good : goal.returns-then-is_empty-clause-good
 returns-then-is_empty-clause-good g c =
-    joined_are (length c.args.bytes.now) [] c.args.bytes.now (λ i. let fits = c.type_inv.bytes i in omega arith) none_are (flats c.loop.streams.items) (ends (flats c.loop.streams.items) (length c.args.bytes.now) c.loop.counter c.loop.rest.now _ c.loop.invariant (sym c.is_empty.ensures ∙ c.if-is_empty.true))
+    joined_are (length c.args.bytes.now) [] c.args.bytes.now none_are (flats c.loop.streams.items) (ends (flats c.loop.streams.items) (length c.args.bytes.now) c.loop.counter c.loop.rest.now _ c.loop.invariant (sym c.is_empty.ensures ∙ c.if-is_empty.true))
 
 pub returns-clause-good : goal.returns-clause-good
 returns-clause-good g c =
-    joined_are (length c.args.bytes.now) [] c.args.bytes.now (λ i. let fits = c.type_inv.bytes i in omega arith) none_are (flats c.loop.streams.items) (is_full (flats c.loop.streams.items) (length c.args.bytes.now) c.loop.counter c.loop.rest.now _ c.loop.invariant c.loop-test.false)
+    joined_are (length c.args.bytes.now) [] c.args.bytes.now none_are (flats c.loop.streams.items) (is_full (flats c.loop.streams.items) (length c.args.bytes.now) c.loop.counter c.loop.rest.now _ c.loop.invariant c.loop-test.false)

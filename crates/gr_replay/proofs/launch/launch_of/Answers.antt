@@ -3,7 +3,7 @@ use Rattle.gr_model.specs.Shapes.{IsShape, IsShapeFault}
 use Rattle.gr_model.specs.Streams.{Streams, AreAccepted}
 use Rattle.gr_replay.specs.InMemory.{flats}
 use Rattle.gr_intake.specs.Launch.{IsLaunchOf}
-use Rattle.gr_replay.proofs.Launching.{launch_of, missing_permutation, launch_is, is_launch, launch_accepted, these}
+use Rattle.gr_replay.proofs.Launching.{launch_of, missing_permutation, launch_is, is_launch, launch_accepts, these}
 use Rattle.gr_replay.proofs.launch.launch_of.Goals as goal
 
 pub returns-in-Some-clause-fault : goal.returns-in-Some-clause-fault
@@ -31,5 +31,5 @@ returns-clause-accepted g c =
     let lists = map (λ s. s.events) c.order_by_group.new.streams.items in
     let is = launch_is c.order_by_group.new.streams.items c.in_ok-sizes.sizes.items lists (rw c.deref-2.ensures.value at c.in_ok-sizes.ensures) refl in
     let shape = subst (λ (s : Streams). IsShape s.sizes) is (c.in-Ok.ensures.accepted.0 refl) in
-    let accepted = subst AreAccepted (sym is) (launch_accepted _ _ c.order_by_group.ensures.same placed shape c.requires) in
+    let accepted = subst AreAccepted (sym is) (launch_accepts _ _ c.requires (is_launch _ _ c.order_by_group.ensures.same placed) shape) in
     subst (λ (sizes : List ℕ). AreAccepted (these sizes lists)) (sym c.in-Ok.ensures.sizes) accepted

@@ -1,4 +1,4 @@
-use Rattle.std.proofs.Common.{◌≡◌, ◌≢◌, ℕ, List, Result, Ok, Err, Option, None, Some, map, inl, inr, subst, sym, ⊎_elim}
+use Rattle.std.proofs.Common.{◌≡◌, ◌≢◌, ℕ, List, [], Result, Ok, Err, Option, None, Some, map, inl, inr, subst, sym, ⊎_elim}
 use Rattle.std.specs.Prelude.{IfErr, IfOk, IfSome, IsErrAnd}
 use Rattle.std.proofs.lemmas.Result.{IfErr-weaker, IfOk-weaker}
 use Rattle.gr_input.specs.Faults.{Fails}
@@ -7,6 +7,9 @@ use Rattle.gr_record.specs.declared.fault.Fault.TheVariants as faults
 use Rattle.gr_record.specs.declared.header.Header.{Header}
 use Rattle.gr_replay.specs.Each.{all_known}
 use Rattle.gr_intake.specs.Launch.{IsLaunchFault}
+use Rattle.gr_intake.proofs.Accepted.{none_are}
+use Rattle.gr_replay.proofs.JoinedInputs.{each_are}
+use Rattle.gr_replay.proofs.Launching.{launch_accepts}
 use Rattle.gr_report.specs.Whole.{whole_of}
 use Rattle.gr_streams.specs.Headers.{AreApart, AreHeadersOf, bares, headers_of, streams_with}
 use Rattle.gr_streams.specs.Sources.{known_of}
@@ -96,10 +99,12 @@ returns-clause-report g c =
     let known = known_all ks (map (known_of g.T.Read.remaining) headed.sources.items) inputs read.known is in
     let headers = at_some (all_known ks) (λ xs. headers_of xs ≡ Ok hs) inputs is read.headers in
     let on = subst (λ (l : List Header). IsReportOn l inputs (whole_of r)) read.sources (h inputs known) in
+    let seen = streams_with hs on.lists in
+    let each = each_read inputs hs on.lists headers on.read in
     record {
       launch = on.launch;
-      spelled = (streams_with hs on.lists, each_read inputs hs on.lists headers on.read, on.spelled);
-      shape = on.shape;
+      spelled = (seen, each, on.spelled);
+      accepted = launch_accepts seen on.launch (each_are inputs [] seen none_are each) on.spelled on.shape;
       exact = on.exact;
     }))
     c.run_sources.ensures.report

@@ -1,0 +1,72 @@
+-- What follows of what is read of bytes and of inputs: the launch, and its report.
+-- Source: docs/FORMATS.md, "Stream" and "Several streams", and docs/MODEL.md, "The report".
+use Rattle.std.specs.Prelude.{◌≡◌, ◌⊎◌, ◌↔◌, ℕ, List, [], ◌∷◌, All, Ok, ⊤}
+use Rattle.std.specs.List.{flat_map}
+use Rattle.gr_model.specs.Reports.{WholeReport}
+use Rattle.gr_model.specs.Streams.{Streams}
+use Rattle.gr_record.specs.Laws.{AreBytes}
+use Rattle.gr_text.specs.Dumps.{upgraded}
+use Rattle.gr_intake.specs.Joined.{Flat}
+use Rattle.gr_intake.specs.Launch.{Reads}
+use Rattle.gr_replay.specs.Each.{ReadsEach, only_stream_at}
+use Rattle.gr_replay.specs.Replays.{IsExact, IsExactOfEach}
+
+-- ---- one launch
+
+-- bytes are the streams of one launch at most, and so are inputs
+abbrev pub BytesAreOneLaunch : Type 0
+BytesAreOneLaunch = (bytes : List ℕ) (s t : Streams) → Reads bytes s → Reads bytes t → s ≡ t
+
+abbrev pub InputsAreOneLaunch : Type 0
+InputsAreOneLaunch = (inputs : List (List ℕ)) (s t : Streams) → ReadsEach inputs s → ReadsEach inputs t → s ≡ t
+
+-- so they have one report at most
+abbrev pub BytesHaveOneReport : Type 0
+BytesHaveOneReport = (bytes : List ℕ) (r q : WholeReport) → IsExact bytes r → IsExact bytes q → r ≡ q
+
+abbrev pub InputsHaveOneReport : Type 0
+InputsHaveOneReport = (inputs : List (List ℕ)) (r q : WholeReport) → IsExactOfEach inputs r → IsExactOfEach inputs q → r ≡ q
+
+-- ---- inputs one after another
+
+-- the bytes are one stream
+abbrev pub IsOneStream : List ℕ → Type 0
+IsOneStream bytes = (f : Flat) × (only_stream_at [] bytes ≡ Ok f)
+
+-- the bytes of the inputs, one after another
+abbrev pub joined : List (List ℕ) → List ℕ
+joined inputs = flat_map (λ bytes. bytes) inputs
+
+-- inputs are streams of a launch exactly where each is one stream, and one after another they are the streams of this launch
+abbrev pub InputsAreJoined : Type 0
+InputsAreJoined = (inputs : List (List ℕ)) (s : Streams) → ReadsEach inputs s ↔ (All IsOneStream inputs × Reads (joined inputs) s)
+
+-- so with their report: where both have one, it is the same
+abbrev pub JoinedReportIsSame : Type 0
+JoinedReportIsSame = (inputs : List (List ℕ)) (r : WholeReport) → IsExactOfEach inputs r ↔ (All IsOneStream inputs × IsExact (joined inputs) r)
+
+abbrev pub JoinedReportIsEqual : Type 0
+JoinedReportIsEqual = (inputs : List (List ℕ)) (r q : WholeReport) → IsExactOfEach inputs r → IsExact (joined inputs) q → r ≡ q
+
+-- ---- the same streams in version 2
+
+-- some inputs were upgraded, and the others are as they were
+abbrev pub AreUpgraded : List (List ℕ) → List (List ℕ) → Type 0
+AreUpgraded [] [] = ⊤
+AreUpgraded (bytes ∷ inputs) (out ∷ outs) = ((out ≡ bytes) ⊎ (AreBytes bytes × (upgraded bytes ≡ Ok out))) × AreUpgraded inputs outs
+AreUpgraded [] (out ∷ outs) = ⊥
+AreUpgraded (bytes ∷ inputs) [] = ⊥
+
+-- bytes and what they are upgraded to are the streams of the same launch, and so are inputs of which some are upgraded
+abbrev pub UpgradedAreOneLaunch : Type 0
+UpgradedAreOneLaunch = (bytes out : List ℕ) (s : Streams) → AreBytes bytes → upgraded bytes ≡ Ok out → Reads bytes s ↔ Reads out s
+
+abbrev pub UpgradedInputsAreOneLaunch : Type 0
+UpgradedInputsAreOneLaunch = (inputs outs : List (List ℕ)) (s : Streams) → AreUpgraded inputs outs → ReadsEach inputs s ↔ ReadsEach outs s
+
+-- so they have the same report
+abbrev pub UpgradedHaveOneReport : Type 0
+UpgradedHaveOneReport = (bytes out : List ℕ) (r : WholeReport) → AreBytes bytes → upgraded bytes ≡ Ok out → IsExact bytes r ↔ IsExact out r
+
+abbrev pub UpgradedInputsHaveOneReport : Type 0
+UpgradedInputsHaveOneReport = (inputs outs : List (List ℕ)) (r : WholeReport) → AreUpgraded inputs outs → IsExactOfEach inputs r ↔ IsExactOfEach outs r
