@@ -18,11 +18,12 @@ use Rattle.gr_route.specs.declared.intake_rule.Joined.{Joined}
 use Rattle.gr_route.specs.declared.intake_rule.IntakeView.{IntakeView}
 use Rattle.gr_model.proofs.Sending.{events_append, events_else, events_here}
 use Rattle.gr_model.proofs.StreamPrefixes.{prefix_prefix, prefix_nil, prefix_push, next_ok, next_unended, next_room}
-use Rattle.gr_route.specs.IntakeRule.{FitsJoined, FitsSeat, FitsTaker, Pops, Pushes, SeatLearns, SeatsAgree, TakerLearns, after_join, after_split, first_view, joined_from, no_sizes, seat_of, spent_view, taker_of}
-use Rattle.gr_route.specs.IntakeSeats.{IsDelivered, IsDelivery, IsNextPopped, Seat, Taker}
+use Rattle.gr_route.specs.IntakeRule.{FitsJoined, FitsSeat, FitsTaker, Pops, Pushes, SeatsAgree, after_join, after_split, first_view, joined_from, no_sizes, seat_of, spent_view, taker_of}
+use Rattle.gr_route.specs.IntakeSeats.{IsBeforeTaker, IsDelivered, IsDelivery, IsNextPopped, Seat, SeatTells, Taker, TakerTells}
+use Rattle.gr_route.specs.Rooms.{AgreesWith}
 use Rattle.gr_route.proofs.PrefixLemmas.{nil_prefix, not_nil}
 use Rattle.gr_route.proofs.GroupLemmas.{by_place, changed, changed_else, changed_here}
-use Rattle.gr_route.proofs.Views.{Each, each_one, each_set, each_snoc, held, none_holds, same_holder}
+use Rattle.gr_route.proofs.Views.{Each, agrees, each_one, each_set, each_snoc, held, none_holds, same_holder, set_there}
 
 abbrev Fits : (ℕ → seat.Option ℕ) → (ℕ → List Event) → (ℕ → ℕ) → ℕ → List Sent → ℕ → IntakeView → Type 0
 Fits holder sent size taker popped pass v = FitsSeat holder sent size pass v × FitsTaker holder sent size taker popped pass v
@@ -88,20 +89,26 @@ pushes n pass g size l e ok unended room items views _ h at =
       refl,
     )
 
-seat_learns : (pass g size : ℕ) (l : List Event) → queue.Learns SeatsAgree pass (seat_of g size l) (SeatLearns (seat_of g size l))
-seat_learns pass g size l items views h at = (events_of g h.popped, ((h.fits pass (seat_of g size l) at).0 refl).1 ∙ sym (h.queued g) ∙ events_append g h.popped items)
+pub seat_tells : SeatTells
+seat_tells s items a =
+    let h = a.3 in
+    record {
+      mine = (events_of s.group h.popped, ((h.fits a.1 (seat_of s.group s.items s.pushed) a.2).0 refl).1 ∙ sym (h.queued s.group) ∙ events_append s.group h.popped items);
+      streams = λ g. (h.size g, h.sent g, h.prefixes g, (events_of g h.popped, sym (h.queued g) ∙ events_append g h.popped items));
+    }
 
 -- ---- a pop
 
-learned : (holder : ℕ → seat.Option ℕ) (sent : ℕ → List Event) (size : ℕ → ℕ) (popped items p : List Sent) (s : List ℕ) (js : List Joined)
-    → ((g : ℕ) → events_of g (popped ++ items) ≡ sent g) → ((g : ℕ) → IsPrefix (size g) (sent g)) → ((g : ℕ) → size g ≡ 0 → (holder g ≡ seat.none) × (sent g ≡ []))
-    → p ≡ popped → ((g : ℕ) → slice_index s g ≡ size g) → All (FitsJoined holder sent size) js → TakerLearns (taker_of p s js) items
-learned holder sent size popped items p s js queued prefixes unseated same sizes back =
-    let e : (g : ℕ) → events_of g (p ++ items) ≡ sent g = λ g. ap (λ k. events_of g (k ++ items)) same ∙ queued g in (
-      (λ g. subst (λ (y : ℕ × List Event). IsPrefix y.0 y.1) (λ i. (sym (sizes g) i, sym (e g) i)) (prefixes g)),
-      (λ g none. e g ∙ (unseated g (sym (sizes g) ∙ none)).1),
-      All-weaker (FitsJoined holder sent size) (λ j. (j.pushed ≡ events_of j.group (p ++ items)) × (j.items ≡ slice_index s j.group)) (λ j t. (t.1 ∙ sym (e j.group), t.2 ∙ sym (sizes j.group))) js back,
-    )
+pub taker_tells : TakerTells
+taker_tells t items a =
+    let h = a.3 in
+    let mine = (h.fits a.1 (taker_of t.popped t.sizes t.joined) a.2).1 refl in
+    let e : (g : ℕ) → events_of g (t.popped ++ items) ≡ h.sent g = λ g. ap (λ k. events_of g (k ++ items)) mine.1 ∙ h.queued g in
+    record {
+      streams = λ g. subst (λ (y : ℕ × List Event). IsPrefix y.0 y.1) (λ i. (sym (mine.2 g) i, sym (e g) i)) (h.prefixes g);
+      unseated = λ g none. e g ∙ (h.unseated g (sym (mine.2 g) ∙ none)).1;
+      joined = All-weaker (FitsJoined h.holder h.sent h.size) (λ j. (j.pushed ≡ events_of j.group (t.popped ++ items)) × (j.items ≡ slice_index t.sizes j.group)) (λ j f. (f.1 ∙ sym (e j.group), f.2 ∙ sym (mine.2 j.group))) t.joined mine.3;
+    }
 
 pops : (pass : ℕ) (p : List Sent) (s : List ℕ) (js : List Joined) → queue.Pops SeatsAgree pass (taker_of p s js) (Pops (taker_of p s js))
 pops pass p s js x items views h at =
@@ -109,27 +116,20 @@ pops pass p s js x items views h at =
     let w : IntakeView = taker_of (p ++ x ∷ []) s js in
     let got : List Sent = h.popped ++ x ∷ [] in
     let queued : (g : ℕ) → events_of g (got ++ items) ≡ h.sent g = λ g. ap (events_of g) (append_assoc h.popped (x ∷ []) items) ∙ h.queued g in
-    let same : p ++ x ∷ [] ≡ got = ap (λ k. k ++ x ∷ []) mine.1 in (
-      w,
-      record {
-        taker = h.taker;
-        holder = h.holder;
-        sent = h.sent;
-        size = h.size;
-        popped = got;
-        queued = queued;
-        prefixes = h.prefixes;
-        unseated = h.unseated;
-        fits = each_set (Fits h.holder h.sent h.size h.taker got) views pass w ((λ q. none_holds q), (λ _. (mine.0, same, mine.2, mine.3)))
-            (λ j u apart there. let old = h.fits j u there in (old.0, (λ q. absurd (apart ((old.1 q).0 ∙ sym mine.0)))));
-      },
-      (refl, (items, learned h.holder h.sent h.size got items (p ++ x ∷ []) s js queued h.prefixes h.unseated same mine.2 mine.3)),
-    )
-
-taker_learns : (pass : ℕ) (p : List Sent) (s : List ℕ) (js : List Joined) → queue.Learns SeatsAgree pass (taker_of p s js) (TakerLearns (taker_of p s js))
-taker_learns pass p s js items views h at =
-    let mine = (h.fits pass (taker_of p s js) at).1 refl in
-    learned h.holder h.sent h.size h.popped items p s js h.queued h.prefixes h.unseated mine.1 mine.2 mine.3
+    let same : p ++ x ∷ [] ≡ got = ap (λ k. k ++ x ∷ []) mine.1 in
+    let now : SeatsAgree items (set views pass w) = record {
+      taker = h.taker;
+      holder = h.holder;
+      sent = h.sent;
+      size = h.size;
+      popped = got;
+      queued = queued;
+      prefixes = h.prefixes;
+      unseated = h.unseated;
+      fits = each_set (Fits h.holder h.sent h.size h.taker got) views pass w ((λ q. none_holds q), (λ _. (mine.0, same, mine.2, mine.3)))
+          (λ j u apart there. let old = h.fits j u there in (old.0, (λ q. absurd (apart ((old.1 q).0 ∙ sym mine.0)))));
+    } in
+    (w, now, (refl, (items, (set views pass w, pass, set_there views pass (taker_of p s js) w at, now))))
 
 -- ---- a split
 
@@ -233,16 +233,13 @@ joins pass p s js other g n l items views h at two at' =
 -- ---- the same at a seat's own view
 
 pub pushes_as : (n pass g items : ℕ) (v : IntakeView) (e : Event) → v ≡ seat_of g items v.pushed → IsEventOk e items → IsFalse (is_complete v.pushed) → length v.pushed < MOST_RECORDS
-    → queue.Pushes SeatsAgree n pass v record { group = g; event = e } (Pushes v record { group = g; event = e }) × queue.Learns SeatsAgree pass v (SeatLearns v)
+    → queue.Pushes SeatsAgree n pass v record { group = g; event = e } (Pushes v record { group = g; event = e }) × queue.Learns SeatsAgree pass v (AgreesWith SeatsAgree v)
 pushes_as n pass g items v e is ok unended room =
     let x : Sent = record { group = g; event = e } in
-    subst (λ (u : IntakeView). queue.Pushes SeatsAgree n pass u x (Pushes u x) × queue.Learns SeatsAgree pass u (SeatLearns u)) (sym is) (pushes n pass g items v.pushed e ok unended room, seat_learns pass g items v.pushed)
+    (subst (λ (u : IntakeView). queue.Pushes SeatsAgree n pass u x (Pushes u x)) (sym is) (pushes n pass g items v.pushed e ok unended room), agrees SeatsAgree pass v)
 
-pub taker_learns_as : (pass : ℕ) (v : IntakeView) (s : List ℕ) → v ≡ taker_of v.popped s v.joined → queue.Learns SeatsAgree pass v (TakerLearns v)
-taker_learns_as pass v s is = subst (λ (u : IntakeView). queue.Learns SeatsAgree pass u (TakerLearns u)) (sym is) (taker_learns pass v.popped s v.joined)
-
-pub pops_as : (pass : ℕ) (v : IntakeView) (s : List ℕ) → v ≡ taker_of v.popped s v.joined → queue.Pops SeatsAgree pass v (Pops v) × queue.Learns SeatsAgree pass v (TakerLearns v)
-pops_as pass v s is = subst (λ (u : IntakeView). queue.Pops SeatsAgree pass u (Pops u) × queue.Learns SeatsAgree pass u (TakerLearns u)) (sym is) (pops pass v.popped s v.joined, taker_learns pass v.popped s v.joined)
+pub pops_as : (pass : ℕ) (v : IntakeView) (s : List ℕ) → v ≡ taker_of v.popped s v.joined → queue.Pops SeatsAgree pass v (Pops v) × queue.Learns SeatsAgree pass v (AgreesWith SeatsAgree v)
+pops_as pass v s is = (subst (λ (u : IntakeView). queue.Pops SeatsAgree pass u (Pops u)) (sym is) (pops pass v.popped s v.joined), agrees SeatsAgree pass v)
 
 pub splits_as : (pass g n : ℕ) (v : IntakeView) (s : List ℕ) → v ≡ taker_of v.popped s v.joined → g < length s → slice_index s g ≡ 0 → 0 < n → queue.Forks SeatsAgree pass v (after_split g n v) (seat_of g n [])
 splits_as pass g n v s is within vacant some_items =
@@ -257,20 +254,22 @@ taker_again v u w s is now = subst (λ (y : IntakeView). y ≡ taker_of y.popped
 
 -- ---- what the taker learns, as its contracts say it
 
-delivery : (q : TableId) (p : List Sent) (s : List ℕ) (js : List Joined) (items : List Sent) → TakerLearns (taker_of p s js) items → IsDelivery record { queue = q; popped = p; sizes = s; joined = js }
-delivery q p s js items t = record {
-  streams = λ g. prefix_prefix (slice_index s g) (events_of g p) (events_of g items) (subst (IsPrefix (slice_index s g)) (events_append g p items) (t.0 g));
-  unseated = λ g none. nil_prefix (events_of g p) (events_of g items) (sym (events_append g p items) ∙ t.1 g none);
-  joined = All-weaker (λ j. (j.pushed ≡ events_of j.group (p ++ items)) × (j.items ≡ slice_index s j.group)) (IsDelivered record { queue = q; popped = p; sizes = s; joined = js })
+delivery : (t : Taker) (items : List Sent) → IsBeforeTaker t items → IsDelivery t
+delivery t items b = record {
+  streams = λ g. prefix_prefix (slice_index t.sizes g) (events_of g t.popped) (events_of g items) (subst (IsPrefix (slice_index t.sizes g)) (events_append g t.popped items) (b.streams g));
+  unseated = λ g none. nil_prefix (events_of g t.popped) (events_of g items) (sym (events_append g t.popped items) ∙ b.unseated g none);
+  joined = All-weaker (λ j. (j.pushed ≡ events_of j.group (t.popped ++ items)) × (j.items ≡ slice_index t.sizes j.group)) (IsDelivered t)
       (λ j e. record {
         items = e.1;
-        stream = subst (λ (y : ℕ × List Event). IsPrefix y.0 y.1) (λ i. (sym e.1 i, sym e.0 i)) (t.0 j.group);
-        prefix = (events_of j.group items, e.0 ∙ events_append j.group p items);
-      }) js t.2;
+        stream = subst (λ (y : ℕ × List Event). IsPrefix y.0 y.1) (λ i. (sym e.1 i, sym e.0 i)) (b.streams j.group);
+        prefix = (events_of j.group items, e.0 ∙ events_append j.group t.popped items);
+      }) t.joined b.joined;
 }
 
-pub delivery_as : (q : TableId) (v : IntakeView) (s : List ℕ) (items : List Sent) → v ≡ taker_of v.popped s v.joined → TakerLearns v items → IsDelivery record { queue = q; popped = v.popped; sizes = s; joined = v.joined }
-delivery_as q v s items is t = delivery q v.popped s v.joined items (subst (λ (u : IntakeView). TakerLearns u items) is t)
+pub delivery_as : (q : TableId) (v : IntakeView) (s : List ℕ) (items : List Sent) → v ≡ taker_of v.popped s v.joined → AgreesWith SeatsAgree v items → IsDelivery record { queue = q; popped = v.popped; sizes = s; joined = v.joined }
+delivery_as q v s items is a =
+    let t : Taker = record { queue = q; popped = v.popped; sizes = s; joined = v.joined } in
+    delivery t items (taker_tells t items (subst (λ (u : IntakeView). AgreesWith SeatsAgree u items) is a))
 
 All-last : {X : Type 0} (P : X → Type 0) (xs : List X) (x : X) → All P (xs ++ x ∷ []) → P x
 All-last P [] x h = All-head P x [] h
@@ -284,15 +283,16 @@ delivered_last t k q v u w g n is now same seen d =
     (subst (λ (y : Joined). IsDelivered t y) (ap joined_from is)
     (All-last (IsDelivered t) v.joined (joined_from u) (subst (All (IsDelivered t)) (same ∙ ap (λ (y : IntakeView). y.joined) now) d.joined)))
 
-next : (q : TableId) (p : List Sent) (s : List ℕ) (js : List Joined) (x : Sent) (items : List Sent) → TakerLearns (taker_of (p ++ x ∷ []) s js) items → IsNextPopped record { queue = q; popped = p; sizes = s; joined = js } x
-next q p s js x items t =
+next : (q : TableId) (p : List Sent) (s : List ℕ) (js : List Joined) (x : Sent) (items : List Sent) → AgreesWith SeatsAgree (taker_of (p ++ x ∷ []) s js) items → IsNextPopped record { queue = q; popped = p; sizes = s; joined = js } x
+next q p s js x items a =
+    let b = taker_tells record { queue = q; popped = p ++ x ∷ []; sizes = s; joined = js } items a in
     let g : ℕ = x.group in
     let size : ℕ = slice_index s g in
     let e : events_of g ((p ++ x ∷ []) ++ items) ≡ events_of g p ++ x.event ∷ events_of g items =
     events_append g (p ++ x ∷ []) items ∙ ap (λ l. l ++ events_of g items) (events_append g p (x ∷ []) ∙ ap (λ l. events_of g p ++ l) (events_here x)) ∙ append_assoc (events_of g p) (x.event ∷ []) (events_of g items) in
-    let all : IsPrefix size (events_of g p ++ x.event ∷ events_of g items) = subst (IsPrefix size) e (t.0 g) in
+    let all : IsPrefix size (events_of g p ++ x.event ∷ events_of g items) = subst (IsPrefix size) e (b.streams g) in
     record {
-      seated = λ none. not_nil (events_of g p) x.event (events_of g items) (sym e ∙ t.1 g none);
+      seated = λ none. not_nil (events_of g p) x.event (events_of g items) (sym e ∙ b.unseated g none);
       good = next_ok size (events_of g p) x.event (events_of g items) all;
       unended = next_unended size (events_of g p) x.event (events_of g items) all;
       room = next_room size (events_of g p) x.event (events_of g items) all;
@@ -302,12 +302,12 @@ next q p s js x items t =
 popped_view : (v w : IntakeView) (s : List ℕ) (x : Sent) → v ≡ taker_of v.popped s v.joined → Pops v x w → w ≡ taker_of (v.popped ++ x ∷ []) s v.joined
 popped_view v w s x is told = told.0 ∙ ap (λ b. taker_of (v.popped ++ x ∷ []) b v.joined) (ap (λ (y : IntakeView). y.sizes) is)
 
-pub popped_next : (q : TableId) (o : Option Sent) (v w : IntakeView) (s : List ℕ) → v ≡ taker_of v.popped s v.joined → MatchOption o ((w ≡ v) × queue.Held 0 (TakerLearns v)) (λ x. Pops v x w)
+pub popped_next : (q : TableId) (o : Option Sent) (v w : IntakeView) (s : List ℕ) → v ≡ taker_of v.popped s v.joined → MatchOption o ((w ≡ v) × queue.Held 0 (AgreesWith SeatsAgree v)) (λ x. Pops v x w)
     → IfSome o (IsNextPopped record { queue = q; popped = v.popped; sizes = s; joined = v.joined })
 popped_next q None v w s is h = tt
-popped_next q (Some x) v w s is h = next q v.popped s v.joined x h.1.0 (subst (λ (y : IntakeView). TakerLearns y h.1.0) (popped_view v w s x is h) h.1.1)
+popped_next q (Some x) v w s is h = next q v.popped s v.joined x h.1.0 (subst (λ (y : IntakeView). AgreesWith SeatsAgree y h.1.0) (popped_view v w s x is h) h.1.1)
 
-pub popped_delivery : (q : TableId) (o : Option Sent) (v w : IntakeView) (s : List ℕ) → v ≡ taker_of v.popped s v.joined → MatchOption o ((w ≡ v) × queue.Held 0 (TakerLearns v)) (λ x. Pops v x w)
+pub popped_delivery : (q : TableId) (o : Option Sent) (v w : IntakeView) (s : List ℕ) → v ≡ taker_of v.popped s v.joined → MatchOption o ((w ≡ v) × queue.Held 0 (AgreesWith SeatsAgree v)) (λ x. Pops v x w)
     → IsDelivery record { queue = q; popped = w.popped; sizes = s; joined = w.joined }
 popped_delivery q None v w s is h = subst (λ (y : IntakeView). IsDelivery record { queue = q; popped = y.popped; sizes = s; joined = y.joined }) (sym h.0) (delivery_as q v s h.1.0 is h.1.2)
 popped_delivery q (Some x) v w s is h =

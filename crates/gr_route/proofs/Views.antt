@@ -2,7 +2,9 @@
 use Rattle.std.proofs.Common.{◌≡◌, ◌≢◌, ℕ, zero, suc, false, true, true≢false, List, [], ◌∷◌, ◌++◌, length, set, sym, refl, ap, ◌∙◌, subst, ⊎_elim}
 use mathlib.Core.Option.{Option, some, none, some-injective, some-ne-none}
 use lib.ListN.{get_elem?}
+use Rattle.crossbeam_queue.specs.Fifo.{Learns}
 use Rattle.crossbeam_queue.proofs.Lists.{at_set, at_snoc}
+use Rattle.gr_route.specs.Rooms.{AgreesWith}
 
 module _ {V : Type 0} where
   abbrev pub Each : (ℕ → V → Type 0) → List V → Type 0
@@ -25,6 +27,16 @@ module _ {V : Type 0} where
   pub each_one : (F : ℕ → V → Type 0) (w : V) → F 0 w → Each F (w ∷ [])
   each_one F w f zero u at = subst (λ y. F 0 y) (some-injective w u at) f
   each_one F w f (suc j) u at = absurd (some-ne-none u (sym at))
+
+-- what is so of a view that was replaced
+pub set_there : {V : Type 0} (views : List V) (pass : ℕ) (v w : V) → get_elem? views pass ≡ some v → get_elem? (set views pass w) pass ≡ some w
+set_there [] pass v w at = absurd (some-ne-none v (sym at))
+set_there (x ∷ xs) zero v w at = refl
+set_there (x ∷ xs) (suc pass) v w at = set_there xs pass v w at
+
+-- a seat learns of what the queue holds that it agrees with what the seat knows
+pub agrees : {T V : Type 0} (holds : List T → List V → Type 0) (pass : ℕ) (v : V) → Learns holds pass v (AgreesWith holds v)
+agrees holds pass v items views h at = (views, pass, at, h)
 
 -- of the number of the pass that holds a seat
 

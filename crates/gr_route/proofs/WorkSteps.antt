@@ -10,10 +10,11 @@ use Rattle.crossbeam_queue.proofs.Lists.{at_set}
 use Rattle.gr_route.specs.declared.work.Work.{Work}
 use Rattle.gr_route.specs.declared.work_rule.WorkView.{WorkView}
 use Rattle.gr_route.specs.Prefixes.{StartsWith}
-use Rattle.gr_route.specs.WorkRule.{FitsGiver, FitsWorker, GiverLearns, Pops, Pushes, SeatsAgree, StopMakesWhole, StopsLast, WorkerLearns, after_join, after_split, first_view, giver_of, is_stop, is_stopped, spent_view, worker_of}
-use Rattle.gr_route.specs.WorkSeats.{Giver, IsDelivery}
+use Rattle.gr_route.specs.Rooms.{AgreesWith}
+use Rattle.gr_route.specs.WorkRule.{FitsGiver, FitsWorker, Pops, Pushes, SeatsAgree, StopMakesWhole, StopsLast, after_join, after_split, first_view, giver_of, is_stop, is_stopped, spent_view, worker_of}
+use Rattle.gr_route.specs.WorkSeats.{Giver, GiverTells, IsBeforeWorker, IsDelivery, Worker, WorkerTells}
 use Rattle.gr_route.proofs.PrefixLemmas.{nil_prefix}
-use Rattle.gr_route.proofs.Views.{Each, each_one, each_set, each_snoc, held, none_holds, same_holder}
+use Rattle.gr_route.proofs.Views.{Each, agrees, each_one, each_set, each_snoc, held, none_holds, same_holder, set_there}
 
 nil_back : {T : Type 0} (xs ys : List T) → xs ++ ys ≡ [] → ys ≡ []
 nil_back [] ys e = e
@@ -97,16 +98,21 @@ module _ {A : Type 0} where
         refl,
       )
 
-  giver_learns : (pass : ℕ) (l : List (Work A)) → queue.Learns SeatsAgree pass (giver_of l) (GiverLearns (giver_of l))
-  giver_learns pass l items views h at = (h.popped, ((h.fits pass (giver_of l) at).0 refl).1 ∙ sym h.queued)
+  pub giver_tells : GiverTells A
+  giver_tells g items a = let h = a.3 in (h.popped, ((h.fits a.1 (giver_of g.pushed) a.2).0 refl).1 ∙ sym h.queued)
 
   -- ---- a pop
 
-  learned : (holder : seat.Option ℕ) (sent popped items p : List (Work A)) (s : Bool) (g : Option (List (Work A))) → popped ++ items ≡ sent → StopsLast sent → p ≡ popped
-      → (s ≡ false → (holder ≡ seat.none) × (sent ≡ []) × (g ≡ None)) → IfSome g (λ all. (holder ≡ seat.none) × (all ≡ sent)) → WorkerLearns (worker_of p s g) items
-  learned holder sent popped items p s g queued stops same none given =
-      let e : p ++ items ≡ sent = ap (λ k. k ++ items) same ∙ queued in
-      (subst StopsLast (sym e) stops, (λ f. e ∙ (none f).1), IfSome_then g given (λ all x. x.1 ∙ sym e))
+  pub worker_tells : WorkerTells A
+  worker_tells w items a =
+      let h = a.3 in
+      let mine = (h.fits a.1 (worker_of w.popped w.split w.given) a.2).1 refl in
+      let e : w.popped ++ items ≡ h.sent = ap (λ k. k ++ items) mine.1 ∙ h.queued in
+      record {
+        stops = subst StopsLast (sym e) h.stops;
+        unsplit = λ f. e ∙ (mine.2 f).1;
+        given = IfSome_then w.given mine.3 (λ all x. x.1 ∙ sym e);
+      }
 
   pops : (pass : ℕ) (p : List (Work A)) (s : Bool) (g : Option (List (Work A))) → queue.Pops SeatsAgree pass (worker_of p s g) (Pops (worker_of p s g))
   pops pass p s g x items views h at =
@@ -114,25 +120,18 @@ module _ {A : Type 0} where
       let w : WorkView A = worker_of (p ++ x ∷ []) s g in
       let got : List (Work A) = h.popped ++ x ∷ [] in
       let queued : got ++ items ≡ h.sent = append_assoc h.popped (x ∷ []) items ∙ h.queued in
-      let same : p ++ x ∷ [] ≡ got = ap (λ k. k ++ x ∷ []) mine.1 in (
-        w,
-        record {
-          worker = h.worker;
-          holder = h.holder;
-          sent = h.sent;
-          popped = got;
-          queued = queued;
-          stops = h.stops;
-          fits = each_set (Fits h.worker h.holder h.sent got) views pass w ((λ e. none_holds e), (λ _. (mine.0, same, mine.2, mine.3)))
-              (λ j u other there. let old = h.fits j u there in (old.0, (λ q. absurd (other ((old.1 q).0 ∙ sym mine.0)))));
-        },
-        (refl, (items, learned h.holder h.sent got items (p ++ x ∷ []) s g queued h.stops same mine.2 mine.3)),
-      )
-
-  worker_learns : (pass : ℕ) (p : List (Work A)) (s : Bool) (g : Option (List (Work A))) → queue.Learns SeatsAgree pass (worker_of p s g) (WorkerLearns (worker_of p s g))
-  worker_learns pass p s g items views h at =
-      let mine = (h.fits pass (worker_of p s g) at).1 refl in
-      learned h.holder h.sent h.popped items p s g h.queued h.stops mine.1 mine.2 mine.3
+      let same : p ++ x ∷ [] ≡ got = ap (λ k. k ++ x ∷ []) mine.1 in
+      let now : SeatsAgree items (set views pass w) = record {
+        worker = h.worker;
+        holder = h.holder;
+        sent = h.sent;
+        popped = got;
+        queued = queued;
+        stops = h.stops;
+        fits = each_set (Fits h.worker h.holder h.sent got) views pass w ((λ e. none_holds e), (λ _. (mine.0, same, mine.2, mine.3)))
+            (λ j u other there. let old = h.fits j u there in (old.0, (λ q. absurd (other ((old.1 q).0 ∙ sym mine.0)))));
+      } in
+      (w, now, (refl, (items, (set views pass w, pass, set_there views pass (worker_of p s g) w at, now))))
 
   -- ---- a split
 
@@ -191,15 +190,11 @@ module _ {A : Type 0} where
 
   -- ---- the same at a seat's own view
 
-  pub pushes_as : (n pass : ℕ) (v : WorkView A) (x : Work A) → v ≡ giver_of v.pushed → IsFalse (is_stopped v.pushed) → queue.Pushes SeatsAgree n pass v x (Pushes v x) × queue.Learns SeatsAgree pass v (GiverLearns v)
-  pushes_as n pass v x is unstopped =
-      subst (λ (u : WorkView A). queue.Pushes SeatsAgree n pass u x (Pushes u x) × queue.Learns SeatsAgree pass u (GiverLearns u)) (sym is) (pushes n pass v.pushed x unstopped, giver_learns pass v.pushed)
+  pub pushes_as : (n pass : ℕ) (v : WorkView A) (x : Work A) → v ≡ giver_of v.pushed → IsFalse (is_stopped v.pushed) → queue.Pushes SeatsAgree n pass v x (Pushes v x) × queue.Learns SeatsAgree pass v (AgreesWith SeatsAgree v)
+  pushes_as n pass v x is unstopped = (subst (λ (u : WorkView A). queue.Pushes SeatsAgree n pass u x (Pushes u x)) (sym is) (pushes n pass v.pushed x unstopped), agrees SeatsAgree pass v)
 
-  pub worker_learns_as : (pass : ℕ) (v : WorkView A) (s : Bool) → v ≡ worker_of v.popped s v.given → queue.Learns SeatsAgree pass v (WorkerLearns v)
-  worker_learns_as pass v s is = subst (λ (u : WorkView A). queue.Learns SeatsAgree pass u (WorkerLearns u)) (sym is) (worker_learns pass v.popped s v.given)
-
-  pub pops_as : (pass : ℕ) (v : WorkView A) (s : Bool) → v ≡ worker_of v.popped s v.given → queue.Pops SeatsAgree pass v (Pops v) × queue.Learns SeatsAgree pass v (WorkerLearns v)
-  pops_as pass v s is = subst (λ (u : WorkView A). queue.Pops SeatsAgree pass u (Pops u) × queue.Learns SeatsAgree pass u (WorkerLearns u)) (sym is) (pops pass v.popped s v.given, worker_learns pass v.popped s v.given)
+  pub pops_as : (pass : ℕ) (v : WorkView A) (s : Bool) → v ≡ worker_of v.popped s v.given → queue.Pops SeatsAgree pass v (Pops v) × queue.Learns SeatsAgree pass v (AgreesWith SeatsAgree v)
+  pops_as pass v s is = (subst (λ (u : WorkView A). queue.Pops SeatsAgree pass u (Pops u)) (sym is) (pops pass v.popped s v.given), agrees SeatsAgree pass v)
 
   pub splits_as : (pass : ℕ) (v : WorkView A) (s : Bool) → s ≡ false → v ≡ worker_of v.popped s v.given → queue.Forks SeatsAgree pass v (after_split v) (giver_of [])
   splits_as pass v s unsplit is = subst (λ (u : WorkView A). queue.Forks SeatsAgree pass u (after_split u) (giver_of [])) (sym (is ∙ ap (λ b. worker_of v.popped b v.given) unsplit)) (splits pass v.popped v.given)
@@ -213,38 +208,46 @@ module _ {A : Type 0} where
 
   -- ---- what the worker learns, as its contracts say it
 
-  delivery : (q : TableId) (p : List (Work A)) (s : Bool) (g : Option (List (Work A))) (items : List (Work A)) → WorkerLearns (worker_of p s g) items → IsDelivery record { queue = q; popped = p; split = s; given = g }
-  delivery q p s g items t = record {
-    stops = stops_prefix p items t.0;
-    unsplit = λ f. nil_prefix p items (t.1 f);
-    prefix = IfSome_then g t.2 (λ all e. ((items, e), subst StopsLast (sym e) t.0));
+  delivery : (w : Worker A) (items : List (Work A)) → IsBeforeWorker w items → IsDelivery w
+  delivery w items b = record {
+    stops = stops_prefix w.popped items b.stops;
+    unsplit = λ f. nil_prefix w.popped items (b.unsplit f);
+    prefix = IfSome_then w.given b.given (λ all e. ((items, e), subst StopsLast (sym e) b.stops));
   }
 
-  pub delivery_as : (q : TableId) (v : WorkView A) (s : Bool) (items : List (Work A)) → v ≡ worker_of v.popped s v.given → WorkerLearns v items → IsDelivery record { queue = q; popped = v.popped; split = s; given = v.given }
-  delivery_as q v s items is t = delivery q v.popped s v.given items (subst (λ (u : WorkView A). WorkerLearns u items) is t)
+  -- what the worker's view says
+  told_as : (q : TableId) (v : WorkView A) (s : Bool) (items : List (Work A)) → v ≡ worker_of v.popped s v.given → AgreesWith SeatsAgree v items → IsBeforeWorker record { queue = q; popped = v.popped; split = s; given = v.given } items
+  told_as q v s items is a = worker_tells record { queue = q; popped = v.popped; split = s; given = v.given } items (subst (λ (u : WorkView A). AgreesWith SeatsAgree u items) is a)
+
+  pub delivery_as : (q : TableId) (v : WorkView A) (s : Bool) (items : List (Work A)) → v ≡ worker_of v.popped s v.given → AgreesWith SeatsAgree v items → IsDelivery record { queue = q; popped = v.popped; split = s; given = v.given }
+  delivery_as q v s items is a = delivery record { queue = q; popped = v.popped; split = s; given = v.given } items (told_as q v s items is a)
 
   popped_view : (v w : WorkView A) (s : Bool) (x : Work A) → v ≡ worker_of v.popped s v.given → Pops v x w → w ≡ worker_of (v.popped ++ x ∷ []) s v.given
   popped_view v w s x is told = told.0 ∙ ap (λ b. worker_of (v.popped ++ x ∷ []) b v.given) (ap (λ (y : WorkView A). y.split) is)
 
-  pub popped_next : (o : Option (Work A)) (v w : WorkView A) → MatchOption o ((w ≡ v) × queue.Held 0 (WorkerLearns v)) (λ x. Pops v x w) → IfSome o (λ _. IsFalse (is_stopped v.popped))
-  popped_next None v w h = tt
-  popped_next (Some x) v w h =
+  pub popped_next : (q : TableId) (o : Option (Work A)) (v w : WorkView A) → MatchOption o ((w ≡ v) × queue.Held 0 (AgreesWith SeatsAgree v)) (λ x. Pops v x w) → IfSome o (λ _. IsFalse (is_stopped v.popped))
+  popped_next q None v w h = tt
+  popped_next q (Some x) v w h =
       let rest = h.1.0 in
-      unstopped_before v.popped x rest (subst StopsLast (ap (λ (y : WorkView A). y.popped ++ rest) h.0 ∙ append_assoc v.popped (x ∷ []) rest) h.1.1.0)
+      let got : Worker A = record { queue = q; popped = v.popped ++ x ∷ []; split = v.split; given = v.given } in
+      let b = worker_tells got rest (subst (λ (u : WorkView A). AgreesWith SeatsAgree u rest) h.0 h.1.1) in
+      unstopped_before v.popped x rest (subst StopsLast (append_assoc v.popped (x ∷ []) rest) b.stops)
 
-  pub popped_delivery : (q : TableId) (o : Option (Work A)) (v w : WorkView A) (s : Bool) → v ≡ worker_of v.popped s v.given → MatchOption o ((w ≡ v) × queue.Held 0 (WorkerLearns v)) (λ x. Pops v x w)
+  pub popped_delivery : (q : TableId) (o : Option (Work A)) (v w : WorkView A) (s : Bool) → v ≡ worker_of v.popped s v.given → MatchOption o ((w ≡ v) × queue.Held 0 (AgreesWith SeatsAgree v)) (λ x. Pops v x w)
       → IsDelivery record { queue = q; popped = w.popped; split = s; given = w.given }
   popped_delivery q None v w s is h = subst (λ (y : WorkView A). IsDelivery record { queue = q; popped = y.popped; split = s; given = y.given }) (sym h.0) (delivery_as q v s h.1.0 is h.1.2)
   popped_delivery q (Some x) v w s is h = delivery_as q w s h.1.0 (subst (λ (y : WorkView A). y ≡ worker_of y.popped s y.given) (sym (popped_view v w s x is h)) refl) h.1.1
 
   -- of the giver that was joined back
-  joined_all : (v u w : WorkView A) (items : List (Work A)) → w ≡ after_join v u → WorkerLearns w items → u.pushed ≡ w.popped ++ items
-  joined_all v u w items now t = subst (λ (o : Option (List (Work A))). IfSome o (λ all. all ≡ w.popped ++ items)) (ap (λ (y : WorkView A). y.given) now) t.2
+  joined_as : (q : TableId) (v u w : WorkView A) (items : List (Work A)) → w ≡ after_join v u → AgreesWith SeatsAgree w items → IsBeforeWorker record { queue = q; popped = w.popped; split = w.split; given = Some u.pushed } items
+  joined_as q v u w items now a =
+      let is = subst (λ (y : WorkView A). y ≡ worker_of y.popped y.split (Some u.pushed)) (sym now) refl in
+      worker_tells record { queue = q; popped = w.popped; split = w.split; given = Some u.pushed } items (subst (λ (y : WorkView A). AgreesWith SeatsAgree y items) is a)
 
-  pub prefix_as : (k : Giver A) (q : TableId) (v u w : WorkView A) (items : List (Work A)) → record { queue = q; pushed = u.pushed } ≡ k → w ≡ after_join v u → WorkerLearns w items → StartsWith k.pushed w.popped
-  prefix_as k q v u w items seen now t = subst (λ (y : Giver A). StartsWith y.pushed w.popped) seen (items, joined_all v u w items now t)
+  pub prefix_as : (k : Giver A) (q : TableId) (v u w : WorkView A) (items : List (Work A)) → record { queue = q; pushed = u.pushed } ≡ k → w ≡ after_join v u → AgreesWith SeatsAgree w items → StartsWith k.pushed w.popped
+  prefix_as k q v u w items seen now a = subst (λ (y : Giver A). StartsWith y.pushed w.popped) seen (items, (joined_as q v u w items now a).given)
 
-  pub whole_as : (k : Giver A) (q : TableId) (v u w : WorkView A) (items : List (Work A)) → record { queue = q; pushed = u.pushed } ≡ k → w ≡ after_join v u → WorkerLearns w items → IsTrue (is_stopped w.popped) → w.popped ≡ k.pushed
-  whole_as k q v u w items seen now t stopped =
-      let all = joined_all v u w items now t in
-      stop_makes_whole u.pushed w.popped (subst StopsLast (sym all) t.0) (items, all) stopped ∙ ap (λ (y : Giver A). y.pushed) seen
+  pub whole_as : (k : Giver A) (q : TableId) (v u w : WorkView A) (items : List (Work A)) → record { queue = q; pushed = u.pushed } ≡ k → w ≡ after_join v u → AgreesWith SeatsAgree w items → IsTrue (is_stopped w.popped) → w.popped ≡ k.pushed
+  whole_as k q v u w items seen now a stopped =
+      let b = joined_as q v u w items now a in
+      stop_makes_whole u.pushed w.popped (subst StopsLast (sym b.given) b.stops) (items, b.given) stopped ∙ ap (λ (y : Giver A). y.pushed) seen

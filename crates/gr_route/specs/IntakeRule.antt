@@ -10,7 +10,7 @@ use Rattle.gr_model.specs.declared.limits.TheConstants.{MOST_GROUPS}
 use Rattle.gr_model.specs.Streams.{IsPrefix, events_of}
 use Rattle.gr_route.specs.declared.intake_rule.Joined.{Joined}
 use Rattle.gr_route.specs.declared.intake_rule.IntakeView.{IntakeView}
-use Rattle.gr_route.specs.Prefixes.{EndsWith}
+use Rattle.gr_route.specs.Rooms.{AgreesWith}
 
 -- ---- the views
 
@@ -76,17 +76,6 @@ pub record SeatsAgree (items : List Sent) (views : List IntakeView) : Type 0 whe
 abbrev pub Pushes : IntakeView → Sent → IntakeView → Type 0
 Pushes v x w = w ≡ seat_of v.group v.items (v.pushed ++ x.event ∷ [])
 
--- of the seat's group, the queue holds the end of what the seat pushed
-abbrev pub SeatLearns : IntakeView → List Sent → Type 0
-SeatLearns v items = EndsWith v.pushed (events_of v.group items)
-
--- what was popped and what is queued make the prefix of a stream, of each group; of one without a seat, nothing; of one whose seat was joined back, all that it pushed
-abbrev pub TakerLearns : IntakeView → List Sent → Type 0
-TakerLearns v items =
-    ((g : ℕ) → IsPrefix (slice_index v.sizes g) (events_of g (v.popped ++ items)))
-    × ((g : ℕ) → slice_index v.sizes g ≡ 0 → events_of g (v.popped ++ items) ≡ [])
-    × All (λ j. (j.pushed ≡ events_of j.group (v.popped ++ items)) × (j.items ≡ slice_index v.sizes j.group)) v.joined
-
--- a pop adds to what the taker popped
+-- a pop adds to what the taker popped, and what the queue then holds agrees with that
 abbrev pub Pops : IntakeView → Sent → IntakeView → Type 0
-Pops v x w = (w ≡ taker_of (v.popped ++ x ∷ []) v.sizes v.joined) × ((items : List Sent) × TakerLearns w items)
+Pops v x w = (w ≡ taker_of (v.popped ++ x ∷ []) v.sizes v.joined) × ((items : List Sent) × AgreesWith SeatsAgree w items)

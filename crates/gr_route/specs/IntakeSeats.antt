@@ -11,8 +11,9 @@ use Rattle.gr_model.specs.Events.{IsEventOk}
 use Rattle.gr_model.specs.Streams.{IsPrefix, events_of, is_complete}
 use Rattle.gr_route.specs.declared.intake_rule.IntakeView.{IntakeView}
 use Rattle.gr_route.specs.declared.intake_rule.Joined.{Joined}
-use Rattle.gr_route.specs.Prefixes.{StartsWith}
-use Rattle.gr_route.specs.IntakeRule.{seat_of, taker_of}
+use Rattle.gr_route.specs.Prefixes.{EndsWith, StartsWith}
+use Rattle.gr_route.specs.Rooms.{AgreesWith}
+use Rattle.gr_route.specs.IntakeRule.{SeatsAgree, seat_of, taker_of}
 
 -- the queue that the seat is of, its group, the group's number of items, and the events that it pushed
 pub record Seat : Type 0 where
@@ -51,9 +52,25 @@ pub record IsNextPopped (t : Taker) (s : Sent) : Type 0 where
   pub unended : IsFalse (is_complete (popped_of t s.group))
   pub room : length (popped_of t s.group) < MOST_RECORDS
 
--- what the taker knows of the events that the queue holds: of a group whose seat was joined back they are all that was pushed and not popped
-abbrev pub IsQueued : Taker → List Sent → Type 0
-IsQueued t items = All (λ j. j.pushed ≡ events_of j.group (t.popped ++ items)) t.joined
+-- ---- what agrees with a seat
+
+-- what the queue holds agrees with what a seat that pushes knows, and with what the seat that pops knows
+abbrev pub AgreesWithSeat : Seat → List Sent → Type 0
+AgreesWithSeat s = AgreesWith SeatsAgree (seat_of s.group s.items s.pushed)
+
+abbrev pub AgreesWithTaker : Taker → List Sent → Type 0
+AgreesWithTaker t = AgreesWith SeatsAgree (taker_of t.popped t.sizes t.joined)
+
+-- of the seat's group the queue holds the end of what the seat pushed, and of each group the end of the prefix of a stream
+pub record IsBehindSeat (s : Seat) (items : List Sent) : Type 0 where
+  pub mine : EndsWith s.pushed (events_of s.group items)
+  pub streams : (g : ℕ) → (size : ℕ) × (sent : List Event) × IsPrefix size sent × EndsWith sent (events_of g items)
+
+-- what was popped, followed by what the queue holds, is of each group the prefix of a stream, of one that has had no seat nothing, and of one whose seat was joined back all that it pushed
+pub record IsBeforeTaker (t : Taker) (items : List Sent) : Type 0 where
+  pub streams : (g : ℕ) → IsPrefix (slice_index t.sizes g) (events_of g (t.popped ++ items))
+  pub unseated : (g : ℕ) → slice_index t.sizes g ≡ 0 → events_of g (t.popped ++ items) ≡ []
+  pub joined : All (λ j. (j.pushed ≡ events_of j.group (t.popped ++ items)) × (j.items ≡ slice_index t.sizes j.group)) t.joined
 
 -- ---- what the seats keep: no place of the queue is taken and not given back, and the pass knows what the fields say
 
@@ -65,3 +82,12 @@ pub record IsSeatPass (pass : Pass Sent IntakeView) (group items : ℕ) : Type 0
 pub record IsTakerPass (pass : Pass Sent IntakeView) (sizes : List ℕ) : Type 0 where
   pub idle : pass.me.1 ≡ []
   pub known : view pass ≡ taker_of (view pass).popped sizes (view pass).joined
+
+-- ---- laws
+
+-- what agrees with a seat
+abbrev pub SeatTells : Type 0
+SeatTells = (s : Seat) (items : List Sent) → AgreesWithSeat s items → IsBehindSeat s items
+
+abbrev pub TakerTells : Type 0
+TakerTells = (t : Taker) (items : List Sent) → AgreesWithTaker t items → IsBeforeTaker t items

@@ -6,7 +6,8 @@ use lib.ListN.{get_elem?}
 use Rattle.gr_route.specs.declared.work.Work.{Work}
 use Rattle.gr_route.specs.declared.work.Work.TheVariants.{Access, Stop}
 use Rattle.gr_route.specs.declared.work_rule.WorkView.{WorkView}
-use Rattle.gr_route.specs.Prefixes.{EndsWith, StartsWith}
+use Rattle.gr_route.specs.Prefixes.{StartsWith}
+use Rattle.gr_route.specs.Rooms.{AgreesWith}
 
 module _ {A : Type 0} where
   -- whether it is the word that there are no more
@@ -78,20 +79,9 @@ module _ {A : Type 0} where
   abbrev pub Pushes : WorkView A → Work A → WorkView A → Type 0
   Pushes v x w = w ≡ giver_of (v.pushed ++ x ∷ [])
 
-  -- the queue holds the end of what the giver pushed
-  abbrev pub GiverLearns : WorkView A → List (Work A) → Type 0
-  GiverLearns v items = EndsWith v.pushed items
-
-  -- what was popped and what is queued has the word that there are no more last; it is nothing where there was no giver, and all that the giver pushed, where its seat was joined back
-  abbrev pub WorkerLearns : WorkView A → List (Work A) → Type 0
-  WorkerLearns v items =
-      StopsLast (v.popped ++ items)
-      × (v.split ≡ false → v.popped ++ items ≡ [])
-      × IfSome v.given (λ all. all ≡ v.popped ++ items)
-
-  -- a pop adds to what the worker popped
+  -- a pop adds to what the worker popped, and what the queue then holds agrees with that
   abbrev pub Pops : WorkView A → Work A → WorkView A → Type 0
-  Pops v x w = (w ≡ worker_of (v.popped ++ x ∷ []) v.split v.given) × ((items : List (Work A)) × WorkerLearns w items)
+  Pops v x w = (w ≡ worker_of (v.popped ++ x ∷ []) v.split v.given) × ((items : List (Work A)) × AgreesWith SeatsAgree w items)
 
 -- ---- laws
 

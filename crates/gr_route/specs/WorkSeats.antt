@@ -5,8 +5,9 @@ use Rattle.atomic_table.specs.Seated.{TableId}
 use Rattle.crossbeam_queue.specs.Passes.{Pass, view}
 use Rattle.gr_route.specs.declared.work.Work.{Work}
 use Rattle.gr_route.specs.declared.work_rule.WorkView.{WorkView}
-use Rattle.gr_route.specs.Prefixes.{StartsWith}
-use Rattle.gr_route.specs.WorkRule.{StopsLast, giver_of, worker_of}
+use Rattle.gr_route.specs.Prefixes.{EndsWith, StartsWith}
+use Rattle.gr_route.specs.Rooms.{AgreesWith}
+use Rattle.gr_route.specs.WorkRule.{SeatsAgree, StopsLast, giver_of, worker_of}
 
 -- the queue that the seat is of, and what it pushed
 pub record Giver (A : Type 0) : Type 0 where
@@ -27,10 +28,20 @@ module _ {A : Type 0} where
     pub unsplit : w.split ≡ false → w.popped ≡ []
     pub prefix : IfSome w.given (λ all. StartsWith all w.popped × StopsLast all)
 
-  -- what the worker knows of the work that the queue holds: there is none where there was no giver, and where its seat was joined back it is all that was pushed and not popped
-  pub record IsQueued (w : Worker A) (items : List (Work A)) : Type 0 where
-    pub unsplit : w.split ≡ false → items ≡ []
-    pub rest : IfSome w.given (λ all. all ≡ w.popped ++ items)
+  -- ---- what agrees with a seat
+
+  -- what the queue holds agrees with what the giver's seat knows, and with what the worker's seat knows
+  abbrev pub AgreesWithGiver : Giver A → List (Work A) → Type 0
+  AgreesWithGiver g = AgreesWith SeatsAgree (giver_of g.pushed)
+
+  abbrev pub AgreesWithWorker : Worker A → List (Work A) → Type 0
+  AgreesWithWorker w = AgreesWith SeatsAgree (worker_of w.popped w.split w.given)
+
+  -- what was popped, followed by what the queue holds, has the word that there are no more last; it is nothing where there was no giver, and all that the giver pushed, where its seat was joined back
+  pub record IsBeforeWorker (w : Worker A) (items : List (Work A)) : Type 0 where
+    pub stops : StopsLast (w.popped ++ items)
+    pub unsplit : w.split ≡ false → w.popped ++ items ≡ []
+    pub given : IfSome w.given (λ all. all ≡ w.popped ++ items)
 
   -- ---- what the seats keep: no place of the queue is taken and not given back, and the pass knows what the fields say
 
@@ -41,3 +52,12 @@ module _ {A : Type 0} where
   pub record IsWorkerPass (pass : Pass (Work A) (WorkView A)) (split : Bool) : Type 0 where
     pub idle : pass.me.1 ≡ []
     pub known : view pass ≡ worker_of (view pass).popped split (view pass).given
+
+-- ---- laws
+
+-- what agrees with a seat: the queue holds the end of what the giver pushed
+abbrev pub GiverTells : Type 0 → Type 0
+GiverTells A = (g : Giver A) (items : List (Work A)) → AgreesWithGiver g items → EndsWith g.pushed items
+
+abbrev pub WorkerTells : Type 0 → Type 0
+WorkerTells A = (w : Worker A) (items : List (Work A)) → AgreesWithWorker w items → IsBeforeWorker w items

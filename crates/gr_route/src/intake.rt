@@ -2,17 +2,16 @@
 //! pops the events of all groups. (An "event" here is any record, the end too.)
 //!
 //! Invariant: of each group, what was popped, followed by what is queued, is what its seat pushed (docs/QUEUES.md, "The
-//! intake queue"). What a seat knows is in its pass, a value without bytes, which the queue's rule keeps true. That the
-//! queue was full or empty at a moment of a call is not proved (docs/QUEUES.md, "Proved, tested, neither").
+//! intake queue"). What a seat knows is in its pass, a value without bytes, which the queue's rule keeps true. Contracts
+//! don't see what the queue holds: docs/QUEUES.md, "Full and empty", has what `Full` and `None` say of it.
 
 ghost use Rattle.std.specs.Prelude.{◌≡◌, ◌≢◌, ◌<◌, ◌≤◌, [], ◌∷◌, ◌++◌, length, slice_index, slice_set, IfOk, IfErr, OnOk, IfSome, IfNone, IsTrue, IsFalse};
 ghost use Rattle.crossbeam_queue.specs.Fifo.{Forks, Held};
 ghost use Rattle.crossbeam_queue.specs.Passes.{view as known, IsSamePass, IsPassOf};
 ghost use Rattle.gr_model.specs.Events.{IsEventOk};
-ghost use Rattle.gr_model.specs.Streams.{events_of, is_complete};
-ghost use Rattle.gr_route.specs.Prefixes.{EndsWith};
+ghost use Rattle.gr_model.specs.Streams.{is_complete};
 ghost use Rattle.gr_route.specs.IntakeRule.{SeatsAgree, after_split, no_sizes, seat_of};
-ghost use Rattle.gr_route.specs.IntakeSeats.{IsDelivered, IsDelivery, IsNextPopped, IsQueued, popped_of};
+ghost use Rattle.gr_route.specs.IntakeSeats.{AgreesWithSeat, AgreesWithTaker, IsDelivered, IsDelivery, IsNextPopped, popped_of};
 
 use crate::intake_rule::{
     IntakeRule, IntakeView, JoinStep, NamesGroup, PopStep, PushStep, SplitStep,
@@ -192,7 +191,7 @@ impl<A: Allocator> Intake<A> {
         ensures ok { OnOk result (seat.new ≡ record seat.old { pushed = seat.old.pushed ++ event ∷ [] }) }
 
         ensures unchanged { IfErr result (λ back. (back.0 ≡ event) × (seat.new ≡ seat.old)) }
-        ensures full { IfErr result (λ _. Held self.now.places (λ items. EndsWith seat.old.pushed (events_of seat.old.group items))) }
+        ensures full { IfErr result (λ _. Held self.now.places (AgreesWithSeat seat.old)) }
     {
         let sent = Sent {
             group: seat.group,
@@ -214,7 +213,7 @@ impl<A: Allocator> Intake<A> {
         ensures next { IfSome result (IsNextPopped taker.old) }
 
         ensures unchanged { IfNone result (taker.new ≡ taker.old) }
-        ensures empty { IfNone result (Held 0 (IsQueued taker.old)) }
+        ensures empty { IfNone result (Held 0 (AgreesWithTaker taker.old)) }
 
         ensures delivery { IsDelivery taker.new }
     {

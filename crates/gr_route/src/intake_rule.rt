@@ -97,9 +97,10 @@ impl Outcome<Sent, IntakeView> for PushStep {
 }
 
 impl Lesson<Sent, IntakeView> for PushStep {
-    ghost use Rattle.gr_route.specs.IntakeRule.{SeatLearns};
+    ghost use Rattle.gr_route.specs.IntakeRule.{SeatsAgree};
+    ghost use Rattle.gr_route.specs.Rooms.{AgreesWith};
 
-    ghost fact = { SeatLearns };
+    ghost fact = { AgreesWith SeatsAgree };
 }
 
 /// A step of the rule, for proofs alone: an event is popped, or there is none.
@@ -112,7 +113,8 @@ impl Outcome<Sent, IntakeView> for PopStep {
 }
 
 impl Lesson<Sent, IntakeView> for PopStep {
-    ghost use Rattle.gr_route.specs.IntakeRule.{TakerLearns};
+    ghost use Rattle.gr_route.specs.IntakeRule.{SeatsAgree};
+    ghost use Rattle.gr_route.specs.Rooms.{AgreesWith};
 
-    ghost fact = { TakerLearns };
+    ghost fact = { AgreesWith SeatsAgree };
 }

@@ -1,7 +1,9 @@
 //! Laws of what the queues hand over. Each is the contract of a function that does nothing.
 
 ghost use Rattle.gr_route.specs.Prefixes.{EndMakesWhole, EndMakesAccepted};
+ghost use Rattle.gr_route.specs.IntakeSeats.{SeatTells, TakerTells};
 ghost use Rattle.gr_route.specs.WorkRule.{StopMakesWhole};
+ghost use Rattle.gr_route.specs.WorkSeats.{GiverTells, WorkerTells};
 
 use std::alloc::Allocator;
 
@@ -15,4 +17,16 @@ pub fn end_makes_whole()
 /// What was popped of a work queue is all that was pushed once it has `Stop`.
 pub fn stop_makes_whole<A: Allocator>()
     ensures { StopMakesWhole A }
+{}
+
+/// What an intake queue holds, where it agrees with a seat that pushes or with the one that pops.
+pub fn intake_seats_tell()
+    ensures seat { SeatTells }
+    ensures taker { TakerTells }
+{}
+
+/// What a work queue holds, where it agrees with the seat that pushes or with the one that pops.
+pub fn work_seats_tell<A: Allocator>()
+    ensures giver { GiverTells A }
+    ensures worker { WorkerTells A }
 {}

@@ -1,14 +1,14 @@
 //! The queue from the sequencer to one worker. One seat pushes accesses, and at last `Stop`; one seat pops them.
 //!
 //! Invariant: what was popped, followed by what is queued, is what the giver pushed (docs/QUEUES.md, "The work queue").
-//! What a seat knows is in its pass, a value without bytes, which the queue's rule keeps true. That the queue was full
-//! or empty at a moment of a call is not proved (docs/QUEUES.md, "Proved, tested, neither").
+//! What a seat knows is in its pass, a value without bytes, which the queue's rule keeps true. Contracts don't see what
+//! the queue holds: docs/QUEUES.md, "Full and empty", has what `Full` and `None` say of it.
 
 ghost use Rattle.std.specs.Prelude.{◌≡◌, ◌<◌, ◌≤◌, true, false, [], ◌∷◌, ◌++◌, None, Some, IfOk, IfErr, OnOk, IfSome, IfNone, IsTrue, IsFalse};
 ghost use Rattle.crossbeam_queue.specs.Fifo.{Held};
-ghost use Rattle.gr_route.specs.Prefixes.{EndsWith, StartsWith};
+ghost use Rattle.gr_route.specs.Prefixes.{StartsWith};
 ghost use Rattle.gr_route.specs.WorkRule.{is_stopped};
-ghost use Rattle.gr_route.specs.WorkSeats.{IsDelivery, IsQueued};
+ghost use Rattle.gr_route.specs.WorkSeats.{AgreesWithGiver, AgreesWithWorker, IsDelivery};
 
 use crate::room::Full;
 use crate::work_rule::{JoinStep, PopStep, PushStep, SplitStep, WorkRule, WorkView};
@@ -137,7 +137,7 @@ impl<A: Allocator> WorkQueue<A> {
         ensures ok { OnOk result (giver.new ≡ record giver.old { pushed = giver.old.pushed ++ work ∷ [] }) }
 
         ensures unchanged { IfErr result (λ back. (back.0 ≡ work) × (giver.new ≡ giver.old)) }
-        ensures full { IfErr result (λ _. Held self.now.places (EndsWith giver.old.pushed)) }
+        ensures full { IfErr result (λ _. Held self.now.places (AgreesWithGiver giver.old)) }
     {
         match self.queue.push_as::<PushStep, R>(rt, &mut giver.pass, work) {
             Ok(()) => Ok(()),
@@ -155,7 +155,7 @@ impl<A: Allocator> WorkQueue<A> {
         ensures next { IfSome result (λ _. IsFalse (is_stopped worker.old.popped)) }
 
         ensures unchanged { IfNone result (worker.new ≡ worker.old) }
-        ensures empty { IfNone result (Held 0 (IsQueued worker.old)) }
+        ensures empty { IfNone result (Held 0 (AgreesWithWorker worker.old)) }
 
         ensures delivery { IsDelivery worker.new }
     {

@@ -69,9 +69,10 @@ impl<A: Allocator> Outcome<Work<A>, WorkView<A>> for PushStep {
 }
 
 impl<A: Allocator> Lesson<Work<A>, WorkView<A>> for PushStep {
-    ghost use Rattle.gr_route.specs.WorkRule.{GiverLearns};
+    ghost use Rattle.gr_route.specs.Rooms.{AgreesWith};
+    ghost use Rattle.gr_route.specs.WorkRule.{SeatsAgree};
 
-    ghost fact = { GiverLearns };
+    ghost fact = { AgreesWith SeatsAgree };
 }
 
 /// A step of the rule, for proofs alone: work is popped, or there is none.
@@ -84,7 +85,8 @@ impl<A: Allocator> Outcome<Work<A>, WorkView<A>> for PopStep {
 }
 
 impl<A: Allocator> Lesson<Work<A>, WorkView<A>> for PopStep {
-    ghost use Rattle.gr_route.specs.WorkRule.{WorkerLearns};
+    ghost use Rattle.gr_route.specs.Rooms.{AgreesWith};
+    ghost use Rattle.gr_route.specs.WorkRule.{SeatsAgree};
 
-    ghost fact = { WorkerLearns };
+    ghost fact = { AgreesWith SeatsAgree };
 }

@@ -4,8 +4,8 @@ use Rattle.std.specs.Prelude.{◌≡◌, ◌<◌, ◌≤◌, ◌+◌, ℕ, Bool,
 use Rattle.crossbeam_queue.specs.Fifo.{Held}
 use Rattle.gr_model.specs.declared.event.Event.{Event}
 use Rattle.gr_model.specs.Events.{IsEventOk, end_of, is_end}
-use Rattle.gr_model.specs.Streams.{events_of, is_complete}
-use Rattle.gr_route.specs.Prefixes.{EndsWith}
+use Rattle.gr_model.specs.Streams.{is_complete}
+use Rattle.gr_route.specs.IntakeSeats.{AgreesWithSeat}
 use Rattle.gr_sender.specs.declared.sender.SendError.{SendError}
 use Rattle.gr_sender.specs.declared.sender.SendError.TheVariants.{Closed, UnknownItem, BadEvent, StreamFull, Full}
 use Rattle.gr_sender.specs.Senders.{Sending}
@@ -20,9 +20,9 @@ pub record MaySend (s : Sending) (e : Event) : Type 0 where
   pub sendable : IsSendable e s.items
   pub room : length s.sent + 1 < s.records
 
--- at some moment of the call the queue was full, and of the group it held the last of what was sent
+-- at some moment of the call the queue held as many events as it has places, and these agree with what the sender's seat knows
 abbrev pub WasFull : Sending → Type 0
-WasFull s = Held s.queue.places (λ items. EndsWith s.sent (events_of s.group items))
+WasFull s = Held s.queue.places (AgreesWithSeat record { queue = s.queue.queue; group = s.group; items = s.items; pushed = s.sent })
 
 -- why an event was refused: each cause stands where none before it does
 abbrev pub IsSendRefusal : Sending → Event → SendError → Type 0

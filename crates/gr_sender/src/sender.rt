@@ -3,7 +3,7 @@
 //! Invariant: the seat is the group's, in the sender's queue; the count is the length of what it pushed, and the sender
 //! is closed exactly where that ends in an end; one of the records that the stream may have is kept for the end.
 //!
-//! That the queue was full at a moment of a call is not proved (docs/QUEUES.md, "Proved, tested, neither").
+//! Contracts don't see what the queue holds: docs/QUEUES.md, "Full and empty", has what `Full` says of it.
 
 ghost use Rattle.std.specs.Prelude.{◌≡◌, ◌+◌, ◌<◌, ◌≤◌, [], ◌∷◌, ◌++◌, length, IfOk, IfErr, OnOk, OnErr, MatchOption, IsTrue, IsFalse};
 ghost use Rattle.std.specs.Arc.{arc_value};

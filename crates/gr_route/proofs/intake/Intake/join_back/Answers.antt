@@ -1,16 +1,18 @@
 use Rattle.std.proofs.Common.{sym, subst, ◌∙◌, refl}
 use Rattle.crossbeam_queue.specs.Passes.{view as known}
 use Rattle.gr_route.specs.declared.intake_rule.IntakeView.{IntakeView}
-use Rattle.gr_route.specs.IntakeRule.{TakerLearns}
+use Rattle.gr_route.specs.IntakeRule.{SeatsAgree}
+use Rattle.gr_route.specs.Rooms.{AgreesWith}
 use Rattle.gr_route.proofs.PrefixLemmas.{end_makes_whole}
-use Rattle.gr_route.proofs.IntakeSteps.{joins_as, taker_learns_as, taker_again, delivery_as, delivered_last}
+use Rattle.gr_route.proofs.IntakeSteps.{joins_as, taker_again, delivery_as, delivered_last}
+use Rattle.gr_route.proofs.Views.{agrees}
 use Rattle.gr_route.proofs.intake.Intake.join_back.Goals as goal
 
 pub absorb-requires-clause-rule : goal.absorb-requires-clause-rule
 absorb-requires-clause-rule g c = joins_as _ _ _ _ _ _ _ c.taker.invariant.known c.seat.invariant.known
 
 pub learn_as-requires-clause-rule : goal.learn_as-requires-clause-rule
-learn_as-requires-clause-rule g c = taker_learns_as _ _ _ (taker_again (known c.taker.inside.pass) (known c.seat.inside.pass) _ _ c.taker.invariant.known c.absorb.ensures.rule)
+learn_as-requires-clause-rule g c = agrees SeatsAgree _ _
 
 pub returns-clause-delivery : goal.returns-clause-delivery
 returns-clause-delivery g c =
@@ -18,7 +20,7 @@ returns-clause-delivery g c =
     let same = c.learn_as.ensures.queue.1 in
     delivery_as _ (known c.learn_as.new.pass) _ told.0
     (taker_again (known c.taker.inside.pass) (known c.seat.inside.pass) _ _ c.taker.invariant.known (same ∙ c.absorb.ensures.rule))
-    (subst (λ (v : IntakeView). TakerLearns v told.0) (sym same) told.1)
+    (subst (λ (v : IntakeView). AgreesWith SeatsAgree v told.0) (sym same) told.1)
 
 pub returns-clause-delivered : goal.returns-clause-delivered
 returns-clause-delivered g c =

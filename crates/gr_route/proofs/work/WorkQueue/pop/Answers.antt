@@ -1,19 +1,19 @@
-use Rattle.std.proofs.Common.{◌≡◌, ◌∙◌, ◌++◌, ◌∷◌, [], List, Option, Some, None, Bool, ap, sym, subst, refl, IsFalse}
+use Rattle.std.proofs.Common.{◌≡◌, ◌∙◌, ◌++◌, ◌∷◌, [], Option, Some, None, Bool, ap, sym, subst, IsFalse}
 use Rattle.std.specs.Prelude.{IfNone, IfSome, MatchOption}
 use Rattle.atomic_table.specs.Seated.{TableId}
 use Rattle.crossbeam_queue.specs.Fifo.{Held}
 use Rattle.crossbeam_queue.specs.Passes.{view as known}
 use Rattle.gr_route.specs.declared.work.Work.{Work}
 use Rattle.gr_route.specs.declared.work_rule.WorkView.{WorkView}
-use Rattle.gr_route.specs.Rooms.{Room}
-use Rattle.gr_route.specs.WorkRule.{Pops, WorkerLearns, is_stopped, worker_of}
-use Rattle.gr_route.specs.WorkSeats.{IsQueued, Worker}
+use Rattle.gr_route.specs.Rooms.{AgreesWith, Room}
+use Rattle.gr_route.specs.WorkRule.{Pops, SeatsAgree, is_stopped, worker_of}
+use Rattle.gr_route.specs.WorkSeats.{AgreesWithWorker, Worker}
 use Rattle.gr_route.proofs.WorkSteps.{pops_as, popped_next, popped_delivery}
 use Rattle.gr_route.proofs.work.WorkQueue.pop.Goals as goal
 
 -- what a pop tells
 abbrev Told : {A : Type 0} → Option (Work A) → WorkView A → WorkView A → Type 0
-Told o v w = MatchOption o ((w ≡ v) × Held 0 (WorkerLearns v)) (λ x. Pops v x w)
+Told o v w = MatchOption o ((w ≡ v) × Held 0 (AgreesWith SeatsAgree v)) (λ x. Pops v x w)
 
 known_then : {A : Type 0} (o : Option (Work A)) (v w : WorkView A) (s : Bool) → v ≡ worker_of v.popped s v.given → Told o v w → w ≡ worker_of w.popped s w.given
 known_then {A} None v w s is h = subst (λ (y : WorkView A). y ≡ worker_of y.popped s y.given) (sym h.0) is
@@ -35,13 +35,9 @@ none_then {A} None v w s p q same h =
     λ i. record { queue = same i; popped = popped i; split = s; given = given i }
 none_then (Some x) v w s p q same h = tt
 
-nil_back : {T : Type 0} (xs ys : List T) → xs ++ ys ≡ [] → ys ≡ []
-nil_back [] ys e = e
-nil_back (x ∷ xs) ys e = absurd (cc)
-
 empty_then : {A : Type 0} (o : Option (Work A)) (v w : WorkView A) (s : Bool) (q : TableId) → v ≡ worker_of v.popped s v.given → Told o v w
-    → IfNone o (Held 0 (IsQueued {A = A} (record { queue = q; popped = v.popped; split = s; given = v.given })))
-empty_then {A} None v w s q is h = (h.1.0, h.1.1, record { unsplit = λ f. nil_back v.popped h.1.0 (h.1.2.1 (ap (λ (y : WorkView A). y.split) is ∙ f)); rest = h.1.2.2 })
+    → IfNone o (Held 0 (AgreesWithWorker {A = A} (record { queue = q; popped = v.popped; split = s; given = v.given })))
+empty_then {A} None v w s q is h = (h.1.0, h.1.1, subst (λ (u : WorkView A). AgreesWith SeatsAgree u h.1.0) is h.1.2)
 empty_then (Some x) v w s q is h = tt
 
 pub pop_as-requires : goal.pop_as-requires
@@ -67,10 +63,10 @@ returns g c =
     record {
       some = subst (λ (t : Worker g.row.A.Denot). IfSome c.pop_as.result (λ x. now ≡ record { queue = t.queue; popped = t.popped ++ x ∷ []; split = t.split; given = t.given })) c.worker.view_is
           (some_then c.pop_as.result (known was) (known pass) split pass.table_id was.table_id queue told);
-      next = subst (λ (t : Worker g.row.A.Denot). IfSome c.pop_as.result (λ _. IsFalse (is_stopped t.popped))) c.worker.view_is (popped_next _ _ _ told);
+      next = subst (λ (t : Worker g.row.A.Denot). IfSome c.pop_as.result (λ _. IsFalse (is_stopped t.popped))) c.worker.view_is (popped_next was.table_id _ _ _ told);
       unchanged = subst (λ (t : Worker g.row.A.Denot). IfNone c.pop_as.result (now ≡ t)) c.worker.view_is
           (none_then c.pop_as.result (known was) (known pass) split pass.table_id was.table_id queue told);
-      empty = subst (λ (t : Worker g.row.A.Denot). IfNone c.pop_as.result (Held 0 (IsQueued {A = g.row.A.Denot} t))) c.worker.view_is
+      empty = subst (λ (t : Worker g.row.A.Denot). IfNone c.pop_as.result (Held 0 (AgreesWithWorker {A = g.row.A.Denot} t))) c.worker.view_is
           (empty_then c.pop_as.result (known was) (known pass) split was.table_id c.worker.invariant.known told);
       delivery = popped_delivery _ _ _ _ _ c.worker.invariant.known told;
     }

@@ -1,8 +1,7 @@
-use Rattle.std.proofs.Common.{◌≡◌, ◌∙◌, [], true, false, ap, sym, subst, refl}
-use Rattle.crossbeam_queue.specs.Passes.{view as known}
+use Rattle.std.proofs.Common.{◌≡◌, ◌∙◌, true, ap, sym, subst, refl}
 use Rattle.gr_route.specs.Rooms.{Room}
 use Rattle.gr_route.specs.declared.work_rule.WorkView.{WorkView}
-use Rattle.gr_route.specs.WorkRule.{after_split, giver_of, worker_of}
+use Rattle.gr_route.specs.WorkRule.{giver_of, worker_of}
 use Rattle.gr_route.specs.WorkSeats.{Worker}
 use Rattle.gr_route.proofs.WorkSteps.{splits_as}
 use Rattle.gr_route.proofs.work.WorkQueue.split.Goals as goal
