@@ -47,6 +47,7 @@ Settings read() {
     made.kernel = variable("GPURACE_KERNEL");
     made.launch = variable("GPURACE_LAUNCH").empty() ? -1 : long(number("GPURACE_LAUNCH", 0));
     read_window(made);
+    made.build_options = variable("GPURACE_BUILD_OPTIONS");
     made.builtins = variable("GPURACE_BUILTINS", "/usr/share/pocl");
     made.clang = variable("GPURACE_CLANG", "clang-15");
     made.link = variable("GPURACE_LLVM_LINK", "llvm-link-15");

@@ -42,19 +42,27 @@ cl_program CL_API_CALL create_with_binary(cl_context, cl_uint count, const cl_de
     return nullptr;
 }
 
+// The program's options, and the user's behind them.
+std::string all_options(const char *options) {
+    const std::string more = settings().build_options;
+    return std::string(options ? options : "") + (more.empty() ? "" : " " + more);
+}
+
 cl_int CL_API_CALL build_program(cl_program program, cl_uint count, const cl_device_id *devices, const char *options, BuildNotice notify, void *data) {
-    const cl_int error = driver.clBuildProgram(program, count, devices, options, nullptr, nullptr);
-    if (error == CL_SUCCESS) registry().build_program(program, options);
+    const std::string all = all_options(options);
+    const cl_int error = driver.clBuildProgram(program, count, devices, all.c_str(), nullptr, nullptr);
+    if (error == CL_SUCCESS) registry().build_program(program, all);
     if (notify) notify(program, data);
     return notify && error == CL_BUILD_PROGRAM_FAILURE ? CL_SUCCESS : error;
 }
 
 cl_int CL_API_CALL compile_program(cl_program program, cl_uint count, const cl_device_id *devices, const char *options, cl_uint header_count,
                                    const cl_program *headers, const char **names, BuildNotice notify, void *data) {
-    const cl_int error = driver.clCompileProgram(program, count, devices, options, header_count, headers, names, nullptr, nullptr);
+    const std::string all = all_options(options);
+    const cl_int error = driver.clCompileProgram(program, count, devices, all.c_str(), header_count, headers, names, nullptr, nullptr);
     std::vector<std::pair<std::string, cl_program>> given;
     for (cl_uint at = 0; at < header_count; at++) given.push_back({names[at], headers[at]});
-    if (error == CL_SUCCESS) registry().compile(program, options, given);
+    if (error == CL_SUCCESS) registry().compile(program, all, given);
     if (notify) notify(program, data);
     return notify && error == CL_COMPILE_PROGRAM_FAILURE ? CL_SUCCESS : error;
 }

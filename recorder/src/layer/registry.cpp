@@ -17,12 +17,12 @@ void Registry::add_without_text(cl_program program, const std::string &reason) {
     programs_[program] = {{}, nullptr, reason};
 }
 
-void Registry::compile(cl_program program, const char *options, const std::vector<std::pair<std::string, cl_program>> &headers) {
+void Registry::compile(cl_program program, const std::string &options, const std::vector<std::pair<std::string, cl_program>> &headers) {
     const std::lock_guard<std::mutex> held(lock_);
     const auto found = programs_.find(program);
     if (found == programs_.end() || found->second.units.size() != 1) return;
     Unit &unit = found->second.units[0];
-    unit.options = options ? options : "";
+    unit.options = options;
     unit.headers.clear();
     for (const auto &[name, header] : headers) {
         const auto text = programs_.find(header);
@@ -30,13 +30,13 @@ void Registry::compile(cl_program program, const char *options, const std::vecto
     }
 }
 
-void Registry::build_program(cl_program program, const char *options) {
+void Registry::build_program(cl_program program, const std::string &options) {
     std::vector<Unit> units;
     {
         const std::lock_guard<std::mutex> held(lock_);
         const auto found = programs_.find(program);
         if (found == programs_.end() || found->second.units.empty()) return;
-        for (Unit &unit : found->second.units) unit.options = options ? options : "";
+        for (Unit &unit : found->second.units) unit.options = options;
         units = found->second.units;
     }
     build_units(program, units);

@@ -27,9 +27,9 @@ class Registry {
 public:
     void add_source(cl_program program, std::string text);
     void add_without_text(cl_program program, const std::string &reason);
-    void compile(cl_program program, const char *options, const std::vector<std::pair<std::string, cl_program>> &headers);
+    void compile(cl_program program, const std::string &options, const std::vector<std::pair<std::string, cl_program>> &headers);
     // Builds a program from its own text, or from those that were compiled.
-    void build_program(cl_program program, const char *options);
+    void build_program(cl_program program, const std::string &options);
     // A program of several, or a library, which is a part of programs that are linked later.
     void link(cl_program made, const std::vector<cl_program> &parts);
     void add_library(cl_program made, const std::vector<cl_program> &parts);
