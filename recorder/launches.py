@@ -1,0 +1,182 @@
+"""Recorded launches: what their folders say, what gpurace finds in them, and what becomes of those whose program died."""
+import collections
+import glob
+import os
+import struct
+import subprocess
+import sys
+
+sys.path.insert(0, os.path.join(os.path.dirname(os.path.realpath(__file__)), "..", "tools", "recorder"))
+from findings import findings  # noqa: E402
+
+FOUND, INCOMPLETE = 1, 2
+HEADER = struct.Struct("<4sHHI")
+RECORD_BYTES = {b"GRT1": 20, b"GRT2": 44}
+SMALL = 1 << 22  # bytes of streams that are given to gpurace in one piece
+MOST_PLACES = 3  # of one kind that are told
+
+
+def count(number, what):
+    ending = "" if number == 1 else "es" if what.endswith("ch") else "s"
+    return f"{number} {what}{ending}"
+
+
+def info_of(folder, name="info.txt"):
+    """The lines of the file by their first words; a folder without info.txt is not whole."""
+    path = os.path.join(folder, name)
+    info = collections.defaultdict(list)
+    with open(path, errors="replace") if os.path.exists(path) else open(os.devnull) as lines:
+        for line in lines:
+            key, _, value = line.rstrip("\n").partition(" ")
+            info[key].append(value)
+    return info
+
+
+def streams_of(folder):
+    return sorted(glob.glob(os.path.join(glob.escape(folder), "*.gpurace")))
+
+
+class Launch:
+    """A launch that gpurace has judged: its status, and the lines that say what was found."""
+
+    def __init__(self, program, folder, is_kept, is_window_wanted):
+        self.info = info_of(folder)
+        self.folder, self.is_kept = folder, is_kept
+        self.number = self.info["launch"][0] if self.info["launch"] else "?"
+        self.kernel = self.info["kernel"][0] if self.info["kernel"] else ""
+        self.told, self.report = [], []
+        if not self.kernel or self.info["not-recorded"]:
+            self.status, self.found = INCOMPLETE, "not recorded: " + (self.info["not-recorded"] or ["the folder is not whole"])[0]
+            self.size = ""
+            return
+        self.judge(program, is_window_wanted)
+
+    def judge(self, program, is_window_wanted):
+        status, self.report, self.told = replayed(program, self.folder)
+        self.told = out_of_bounds(self.info, self.folder) + self.told
+        self.status = FOUND if self.info["out-of-bounds"] and status == 0 else status if status in (0, FOUND) else INCOMPLETE
+        self.found = {0: "nothing found", FOUND: "FOUND"}.get(self.status, "the trace was refused")
+        if status == FOUND and self.info["fence"]:
+            self.found = "FOUND, which is doubtful since it has fences"
+        if self.status == 0 and (self.info["cut"] or (self.info["window"] and not is_window_wanted)):
+            self.status, self.found = INCOMPLETE, "nothing found in what was recorded"
+        x, y, z = map(int, self.info["local"][0].split())
+        groups = len(streams_of(self.folder))
+        self.size = f" ({count(groups, 'group')} of {count(x * y * z, 'work-item')}, {self.info['records'][0]} records)"
+        self.told += [f"note: {loss}" for loss in losses(self.info)]
+
+    def lines(self, told_of):
+        """What is said of the launch. What was told of an earlier launch is not told again."""
+        head = f"launch {self.number}, {self.kernel}" if self.kernel else os.path.basename(self.folder)
+        yield f"{head}: {self.found}{self.size}"
+        if self.status == FOUND and self.report:
+            yield f"    {self.report[-1][4:]}" + (f", in {self.folder}" if self.is_kept else "")
+        first = told_of.setdefault((self.kernel, *self.told), self.number)
+        for line in self.told if first == self.number else [f"the same as in launch {first}"] if self.told else []:
+            yield f"    {line}"
+
+
+def replayed(program, folder):
+    """As `findings`, but that streams in which nothing is found are never in memory as a whole."""
+    files = streams_of(folder)
+    if sum(map(os.path.getsize, files)) > SMALL:
+        with subprocess.Popen(["cat", *files], stdout=subprocess.PIPE) as joined:
+            if subprocess.run([program, "replay"], stdin=joined.stdout, capture_output=True).returncode == 0:
+                return 0, [], []
+    return findings(program, folder)
+
+
+def out_of_bounds(info, folder):
+    """Accesses out of all buffers, each place once: what it does, and where the first one went."""
+    told = []
+    for line in info["out-of-bounds"]:
+        number, place, how, size, group, item, where = line.split(" ", 6)
+        told.append(f"out of bounds at {place}: {how} of {count(int(size), 'byte')} by group {group}, item {item}, {where}"
+                    + (f"; {count(int(number), 'time')}" if number != "1" else ""))
+        text = source_line(folder, place)
+        told += [f"    {text}"] if text else []
+    return told
+
+
+def source_line(folder, place):
+    file, _, at = place.partition(":")
+    path, line = os.path.join(folder, file), at.split(":")[0]
+    if "/" in file or not line.isdigit() or not os.path.exists(path):
+        return ""
+    with open(path, errors="replace") as text:
+        lines = text.read().split("\n")
+    return lines[int(line) - 1].strip()[:160] if 0 < int(line) <= len(lines) else ""
+
+
+def losses(info):
+    """What the report on the launch does not speak of."""
+    for key, text in (("fence", "fences not recorded, so that an order that they give is not seen"),
+                      ("image", "accesses of images, which are not judged")):
+        places = [line.split(" ", 1) for line in info[key]]
+        if places:
+            where = ", ".join(place for _, place in places[:MOST_PLACES]) + (", .." if len(places) > MOST_PLACES else "")
+            yield f"{text}: {sum(int(number) for number, _ in places)}, at {where}"
+    if info["names-outside-window"] and info["names-outside-window"][0] != "0":
+        yield f"hand-overs from groups outside the window, not recorded: {info['names-outside-window'][0]}"
+    for text in info["note"]:
+        yield f"not recorded: {text}"
+    if info["places-cut"]:
+        yield f"some places are not known: {info['places-cut'][0]}"
+    if info["window"]:
+        first, number = map(int, info["window"][0].split())
+        yield f"the report is of groups {first} to {first + number - 1} of {info['groups'][0]} (as 0 to {number - 1})"
+
+
+def end_streams(folder):
+    """Makes a launch whole whose program died: its streams end as cut behind their last whole record. False where that can't be done."""
+    begun = info_of(folder, "begun.txt")
+    if not begun["kernel"]:
+        return False
+    groups = int(begun["groups"][0])
+    kept = int(begun["window"][0].split()[1]) if begun["window"] else groups
+    x, y, z = map(int, begun["local"][0].split())
+    items, launch = x * y * z + (1 if begun["copying-item"] else 0), int(begun["launch"][0])
+    try:
+        records = sum(end_stream(os.path.join(folder, f"group{group:02}.gpurace"), group, items, launch) for group in range(kept))
+        end_lines(os.path.join(folder, "places"))
+        with open(os.path.join(folder, "begun.txt")) as text:
+            lines = text.read()
+        with open(os.path.join(folder, "info.txt"), "w") as out:
+            out.write(lines + f"items {kept * items}\nrecords {records}\n" + "".join(f"cut {group}\n" for group in range(kept)))
+    except OSError as error:
+        print(f"gpurace-record: {folder}: {error.strerror}", file=sys.stderr)
+        return False
+    os.remove(os.path.join(folder, "begun.txt"))
+    return True
+
+
+def end_stream(path, group, items, launch):
+    """Ends a stream that has no end, and answers how many records it has."""
+    with open(path, "r+b" if os.path.exists(path) else "w+b") as stream:
+        head = stream.read(HEADER.size)
+        if len(head) < HEADER.size or head[:4] not in RECORD_BYTES:
+            head = HEADER.pack(b"GRT1", group, items, launch)
+            stream.truncate(0)
+            stream.seek(0)
+            stream.write(head)
+        size = RECORD_BYTES[head[:4]]
+        records = (stream.seek(0, os.SEEK_END) - HEADER.size) // size
+        if records:
+            stream.seek(HEADER.size + (records - 1) * size)
+            if stream.read(1) == b"\6":
+                return records
+        stream.truncate(HEADER.size + records * size)
+        stream.seek(0, os.SEEK_END)
+        stream.write(bytes([6, 1]) + bytes(10) + b"\xff" * (size - 12))
+        return records + 1
+
+
+def end_lines(path):
+    """Cuts a file of lines behind its last whole one."""
+    if not os.path.exists(path):
+        return
+    with open(path, "r+b") as lines:
+        size = lines.seek(0, os.SEEK_END)
+        lines.seek(max(0, size - 65536))
+        last = lines.read().rfind(b"\n")
+        lines.truncate(max(0, size - 65536) + last + 1)

@@ -1,0 +1,311 @@
+#include "build.h"
+
+#include <cstring>
+#include <dlfcn.h>
+#include <fcntl.h>
+#include <filesystem>
+#include <fstream>
+#include <spawn.h>
+#include <sstream>
+#include <sys/stat.h>
+#include <sys/wait.h>
+#include <unistd.h>
+
+extern char **environ;
+
+namespace gpurace {
+namespace {
+
+using Words = std::vector<std::string>;
+namespace files = std::filesystem;
+
+// The words of build options: double quotes and backslashes as a shell has them.
+Words words_of(const std::string &text) {
+    Words words;
+    std::string word;
+    bool is_quoted = false, has_word = false;
+    for (size_t at = 0; at < text.size(); at++) {
+        const char letter = text[at];
+        if (letter == '"') is_quoted = !is_quoted, has_word = true;
+        else if (letter == '\\' && at + 1 < text.size()) word += text[++at], has_word = true;
+        else if (!std::isspace(static_cast<unsigned char>(letter)) || is_quoted) word += letter, has_word = true;
+        else if (has_word) words.push_back(word), word.clear(), has_word = false;
+    }
+    if (has_word) words.push_back(word);
+    return words;
+}
+
+// Runs a tool, and answers whether it succeeded. What it says goes into a file.
+bool run(const Words &words, const std::string &log) {
+    std::vector<char *> pointers, variables;
+    for (const std::string &word : words) pointers.push_back(const_cast<char *>(word.c_str()));
+    pointers.push_back(nullptr);
+    for (char **each = environ; *each; each++) // the tools are no part of what is recorded
+        if (std::strncmp(*each, "LD_PRELOAD=", 11) && std::strncmp(*each, "OPENCL_LAYERS=", 14)) variables.push_back(*each);
+    variables.push_back(nullptr);
+    posix_spawn_file_actions_t actions;
+    posix_spawn_file_actions_init(&actions);
+    posix_spawn_file_actions_addopen(&actions, 1, log.c_str(), O_WRONLY | O_CREAT | O_APPEND, 0666);
+    posix_spawn_file_actions_adddup2(&actions, 1, 2);
+    pid_t child;
+    const int error = posix_spawnp(&child, pointers[0], &actions, nullptr, pointers.data(), variables.data());
+    posix_spawn_file_actions_destroy(&actions);
+    if (error) return std::ofstream(log, std::ios::app) << words[0] << ": " << std::strerror(error) << '\n', false;
+    int status = 0;
+    while (waitpid(child, &status, 0) < 0) {
+        if (errno == EINTR) continue;
+        return true; // the program waits for all its children itself; a file that is missing shows a failure
+    }
+    return status == 0;
+}
+
+// The processor that is compiled for, and the name of pocl's builtins for it.
+struct Processor { const char *name, *builtins; };
+Processor processor() {
+    __builtin_cpu_init();
+    if (__builtin_cpu_supports("avx512vl") && __builtin_cpu_supports("avx512dq") && __builtin_cpu_supports("avx512bw")) return {"skylake-avx512", "avx512"};
+    if (__builtin_cpu_supports("avx2") && __builtin_cpu_supports("fma")) return {"haswell", "avx2"};
+    return {"x86-64", "sse2"};
+}
+std::string builtins() { return settings().builtins + "/kernel-x86_64-pc-linux-gnu-" + processor().builtins + ".bc"; }
+
+// What the compiler may use: the device's extensions and features, and no others.
+std::string extensions_of(cl_device_id device) {
+    std::string list = "-cl-ext=-all";
+    std::istringstream names(text_of(device, CL_DEVICE_EXTENSIONS));
+    for (std::string name; names >> name;)
+        if (name.rfind("cl_khr_", 0) == 0) list += ",+" + name;
+    size_t size = 0;
+    if (driver.clGetDeviceInfo(device, CL_DEVICE_OPENCL_C_FEATURES, 0, nullptr, &size) != CL_SUCCESS) return list;
+    std::vector<cl_name_version> features(size / sizeof(cl_name_version));
+    driver.clGetDeviceInfo(device, CL_DEVICE_OPENCL_C_FEATURES, size, features.data(), nullptr);
+    for (const cl_name_version &feature : features) list += ",+" + std::string(feature.name);
+    return list;
+}
+
+bool starts(const std::string &word, const char *with) { return word.rfind(with, 0) == 0; }
+
+// The options of a unit, as the driver's own compile has them.
+Words unit_options(const Unit &unit) {
+    Words given = words_of(unit.options), options;
+    bool has_standard = false, contracts = false;
+    for (size_t at = 0; at < given.size(); at++) {
+        const std::string &word = given[at];
+        if (word == "-x" || word == "-s") { at++; continue; }
+        if (starts(word, "-spir-std") || word == "-create-library" || word == "-enable-link-options" || starts(word, "-cl-nv")) continue;
+        has_standard = has_standard || starts(word, "-cl-std=");
+        contracts = contracts || word == "-cl-mad-enable" || word == "-cl-fast-relaxed-math" || word == "-cl-unsafe-math-optimizations";
+        if (word == "-cl-fast-relaxed-math") options.push_back("-D__FAST_RELAXED_MATH__=1");
+        options.push_back(word);
+    }
+    if (!has_standard) options.push_back("-cl-std=CL1.2");
+    if (!contracts) options.push_back("-ffp-contract=off");
+    return options;
+}
+
+Words compiler_options(cl_device_id device) {
+    const std::string headers = settings().builtins + "/include/";
+    const std::string version = text_of(device, CL_DEVICE_VERSION); // OpenCL 3.0 ..
+    const std::string number = version.size() > 9 && version[7] >= '1' ? std::string{version[7], version[9], '0'} : "120";
+    Words words = {"-x", "cl", "-target", "x86_64-pc-linux-gnu", std::string("-march=") + processor().name, "-Xclang", "-ffake-address-space-map",
+                   "-Xclang", "-no-opaque-pointers", "-Xclang", extensions_of(device), "-D__OPENCL_VERSION__=" + number, "-D__ENDIAN_LITTLE__=1",
+                   "-D__IMAGE_SUPPORT__=1", "-DPOCL_DEVICE_ADDRESS_BITS=64", "-D__USE_CLANG_OPENCL_C_H", "-Dinline=", "-Dcl_khr_int64",
+                   "-DCL_DEVICE_MAX_GLOBAL_VARIABLE_SIZE=" + std::to_string(info_of<size_t>(device, CL_DEVICE_MAX_GLOBAL_VARIABLE_SIZE))};
+    for (const char *header : {"pocl_types.h", "_builtin_renames.h", "opencl-c-base.h", "opencl-c.h", "_clang_opencl.h"})
+        words.insert(words.end(), {"-include", headers + header});
+    // each access of the text is one of the code: no pass has merged or moved any
+    words.insert(words.end(), {"-fno-builtin", "-fno-discard-value-names", "-g", "-w", "-emit-llvm", "-c", "-O1", "-Xclang", "-disable-llvm-passes"});
+    return words;
+}
+
+class Hash { // of two words, by FNV-1a
+public:
+    void add(const std::string &text) {
+        for (const char letter : text + '\1') {
+            first_ = (first_ ^ uint8_t(letter)) * 0x100000001b3ull;
+            second_ = (second_ ^ uint8_t(letter)) * 0x100000001b3ull + 0x9e37;
+        }
+    }
+    std::string text() const {
+        char digits[33];
+        std::snprintf(digits, sizeof digits, "%016llx%016llx", static_cast<unsigned long long>(first_), static_cast<unsigned long long>(second_));
+        return digits;
+    }
+
+private:
+    uint64_t first_ = 0xcbf29ce484222325ull, second_ = 0x84222325cbf29ce4ull;
+};
+
+// The state of a file that a build depends on.
+std::string state_of(const std::string &path) {
+    struct stat state {};
+    if (stat(path.c_str(), &state) != 0) return path + " missing";
+    return path + " " + std::to_string(state.st_mtim.tv_sec) + "." + std::to_string(state.st_mtim.tv_nsec) + " " + std::to_string(state.st_size);
+}
+
+class Build {
+public:
+    Build(const std::vector<Unit> &units, cl_device_id device) : units_(units), options_(compiler_options(device)) {
+        Hash hash;
+        for (const Unit &unit : units) {
+            hash.add(unit.source), hash.add(unit.options);
+            for (const Source &header : unit.headers) hash.add(header.name), hash.add(header.text);
+        }
+        for (const std::string &word : options_) hash.add(word);
+        char here[4096];
+        hash.add(getcwd(here, sizeof here) ? here : ""); // where included files are looked for
+        hash.add(state_of(own_path())), hash.add(state_of(own_folder() + "/instrument-kernels")), hash.add(state_of(builtins()));
+        if (!settings().kept_builds.empty()) kept_ = settings().kept_builds + "/" + hash.text();
+    }
+
+    std::shared_ptr<Program> program(std::string &error) {
+        if (is_kept()) {
+            if (auto program = load(kept_)) return program;
+        }
+        std::string folder = files::temp_directory_path().string() + "/gpurace-build-XXXXXX";
+        if (!mkdtemp(folder.data())) return error = "there is no room for its code", nullptr;
+        file_ = folder + "/kernel";
+        std::shared_ptr<Program> program;
+        if (compile(folder)) {
+            keep();
+            program = load(file_);
+        }
+        if (!program) error = failure();
+        if (!settings().keeps_code) files::remove_all(folder);
+        return program;
+    }
+
+private:
+    const std::vector<Unit> &units_;
+    Words options_;
+    std::string kept_, file_;
+
+    static std::string name_of(size_t unit) { return unit == 0 ? "kernel.cl" : "kernel-" + std::to_string(unit + 1) + ".cl"; }
+
+    bool compile(const std::string &folder) {
+        const std::string log = file_ + ".log", whole = file_ + ".bc";
+        Words parts;
+        for (size_t at = 0; at < units_.size(); at++) {
+            parts.push_back(folder + "/unit" + std::to_string(at) + ".bc");
+            if (!compile_unit(folder, at, parts.back(), log)) return false;
+        }
+        if (parts.size() == 1) files::rename(parts[0], whole);
+        else {
+            Words link = {settings().link, "-opaque-pointers=0", "-o", whole};
+            link.insert(link.end(), parts.begin(), parts.end());
+            if (!run(link, log)) return false;
+        }
+        return run({own_folder() + "/instrument-kernels", whole, builtins(), file_ + ".out.bc", file_ + ".sites"}, log) &&
+               run({settings().clang, "-O2", "-w", std::string("-march=") + processor().name, "-fPIC", "-fstack-usage", "-c", file_ + ".out.bc", "-o", file_ + ".o"}, log) &&
+               run({"ld", "-shared", file_ + ".o", own_path(), "-lm", "-o", file_ + ".so"}, log) && files::exists(file_ + ".so");
+    }
+
+    bool compile_unit(const std::string &folder, size_t at, const std::string &out, const std::string &log) {
+        const std::string text = folder + "/" + name_of(at), headers = folder + "/headers" + std::to_string(at);
+        std::ofstream(text, std::ios::binary) << units_[at].source;
+        for (const Source &header : units_[at].headers) {
+            const files::path path = headers + "/" + header.name;
+            files::create_directories(path.parent_path());
+            std::ofstream(path, std::ios::binary) << header.text;
+        }
+        Words words = {settings().clang};
+        words.insert(words.end(), options_.begin(), options_.end());
+        const Words own = unit_options(units_[at]);
+        words.insert(words.end(), own.begin(), own.end());
+        words.insert(words.end(), {"-fdebug-prefix-map=" + folder + "/=", "-I", headers, "-MD", "-MF", out + ".d", text, "-o", out});
+        return run(words, log);
+    }
+
+    // What a kept build depends on: the files that its texts include, pocl's apart.
+    std::string included() const {
+        std::string lines;
+        for (size_t at = 0; at < units_.size(); at++) {
+            std::ifstream in(files::path(file_).parent_path() / ("unit" + std::to_string(at) + ".bc.d"));
+            for (std::string word; in >> word;) {
+                const bool is_ours = starts(word, (files::path(file_).parent_path().string() + "/").c_str()) || starts(word, settings().builtins.c_str());
+                if (word != "\\" && word.back() != ':' && !is_ours) lines += state_of(word) + "\n";
+            }
+        }
+        return lines;
+    }
+    bool is_kept() const {
+        std::ifstream in(kept_ + ".needs");
+        if (kept_.empty() || !in) return false;
+        for (std::string line; std::getline(in, line);)
+            if (state_of(line.substr(0, line.find(' '))) != line) return false;
+        return true;
+    }
+    // `.needs` comes last, so that a build without it is not whole.
+    void keep() const {
+        if (kept_.empty()) return;
+        std::error_code error;
+        files::create_directories(settings().kept_builds, error);
+        const std::string own = "." + std::to_string(getpid());
+        std::ofstream(file_ + ".needs") << included();
+        for (const char *end : {".so", ".sites", ".su", ".needs"}) {
+            files::copy_file(file_ + end, kept_ + end + own, files::copy_options::overwrite_existing, error);
+            if (!error) files::rename(kept_ + end + own, kept_ + end, error);
+            if (error) return files::remove(kept_ + end + own, error), void();
+        }
+    }
+
+    std::shared_ptr<Program> load(const std::string &file) const {
+        auto made = std::make_shared<Program>();
+        if (!read_sites(file + ".sites", *made)) return nullptr;
+        for (size_t at = 0; at < units_.size(); at++) made->sources.push_back({name_of(at), units_[at].source});
+        made->frame_bytes = frame_bytes(file + ".su");
+        void *code = open_code(file + ".so", made->has_variables);
+        if (!code) return nullptr;
+        for (auto &[name, kernel] : made->kernels) {
+            kernel.run = reinterpret_cast<void (*)(void *, void **)>(dlsym(code, ("gr_run_" + name).c_str()));
+            if (!kernel.run) return nullptr;
+            for (Entry &entry : kernel.entries)
+                if (entry.argument < 0 && entry.space == GLOBAL) entry.address = reinterpret_cast<uint64_t>(dlsym(code, entry.name.c_str()));
+        }
+        return made;
+    }
+    // The loader takes one file for one library: a program with variables of its own needs a copy.
+    static void *open_code(const std::string &path, bool is_copied) {
+        if (!is_copied) return dlopen(path.c_str(), RTLD_NOW | RTLD_LOCAL);
+        std::string copy = files::temp_directory_path().string() + "/gpurace-code-XXXXXX";
+        const int file = mkstemp(copy.data());
+        if (file < 0) return nullptr;
+        close(file);
+        std::error_code error;
+        files::copy_file(path, copy, files::copy_options::overwrite_existing, error);
+        void *code = error ? nullptr : dlopen(copy.c_str(), RTLD_NOW | RTLD_LOCAL);
+        files::remove(copy, error);
+        return code;
+    }
+    // Calls do not recur in OpenCL C, so no stack has more than all frames together.
+    static uint64_t frame_bytes(const std::string &path) {
+        std::ifstream in(path);
+        uint64_t sum = 0;
+        for (std::string line; std::getline(in, line);) {
+            const size_t tab = line.find('\t');
+            if (tab != std::string::npos) sum += std::strtoull(line.c_str() + tab + 1, nullptr, 10) + 16;
+        }
+        return sum;
+    }
+
+    std::string failure() const {
+        std::ifstream in(file_ + ".log");
+        std::string line, first = "its instrumented code could not be loaded";
+        if (const char *text = dlerror()) first += std::string(": ") + text;
+        for (; std::getline(in, line);)
+            if (line.find("error") != std::string::npos || line.find(": ") != std::string::npos) return line;
+        return first;
+    }
+};
+
+} // namespace
+
+std::shared_ptr<Program> build(const std::vector<Unit> &units, cl_device_id device, std::string &error) {
+    try {
+        return Build(units, device).program(error);
+    } catch (const std::exception &fault) { // of files
+        return error = fault.what(), nullptr;
+    }
+}
+
+} // namespace gpurace

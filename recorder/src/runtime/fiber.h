@@ -1,0 +1,37 @@
+// Fibers: each work-item has a stack of its own, and goes on from where it rested when its thread switches to it.
+#ifndef GPURACE_FIBER_H
+#define GPURACE_FIBER_H
+
+#include <cstddef>
+#include <cstdint>
+#include <vector>
+
+// Keeps what a call keeps, notes in *own where this stack goes on, and goes on with another.
+extern "C" void gr_switch(void **own, void *other);
+
+namespace gpurace {
+
+// A new fiber on the stack that ends at `top`: the first switch to what this answers calls main(argument), which must not return.
+void *make_fiber(uint8_t *top, void (*main)(void *), void *argument);
+
+constexpr size_t PAGE = 4096;
+
+// Memory of the groups of one thread, used again when they have ended.
+class Pool {
+public:
+    ~Pool();
+    // Zeros; null where there is no room.
+    uint8_t *take(size_t bytes);
+    // `count` stacks of `bytes` each, one behind the other. At the low end of each stands a page that can't be accessed, as long as the
+    // process has not too many of them.
+    uint8_t *take_stacks(size_t count, size_t bytes);
+    void give(uint8_t *memory, size_t bytes);
+    void give_stacks(uint8_t *stacks, size_t count, size_t bytes);
+
+private:
+    struct Block { uint8_t *memory; size_t count, bytes; };
+    std::vector<Block> free_, free_stacks_;
+};
+
+} // namespace gpurace
+#endif

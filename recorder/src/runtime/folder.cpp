@@ -1,0 +1,104 @@
+#include "folder.h"
+
+#include <cerrno>
+#include <cstring>
+#include <fstream>
+#include <sstream>
+#include <sys/stat.h>
+
+namespace gpurace {
+namespace {
+
+std::string sizes(const uint64_t (&size)[3]) {
+    return std::to_string(size[0]) + " " + std::to_string(size[1]) + " " + std::to_string(size[2]);
+}
+
+bool write_file(const std::string &path, const std::string &text) {
+    std::ofstream out(path, std::ios::binary);
+    return out.write(text.data(), std::streamsize(text.size())).flush().good();
+}
+
+bool make_folders(const std::string &path) {
+    const std::string parent = path.substr(0, path.rfind('/'));
+    return (mkdir(parent.c_str(), 0777) == 0 || errno == EEXIST) && mkdir(path.c_str(), 0777) == 0;
+}
+
+// The lines of info.txt that are known from the start.
+std::string shape_of(const Request &request) {
+    const Range &range = request.range;
+    std::ostringstream text;
+    text << "kernel " << request.kernel->name << "\nlaunch " << request.number << "\nglobal " << sizes(range.global) << "\nlocal "
+         << sizes(range.local) << "\ngroups " << range.group_count() << '\n';
+    if (request.kept < range.group_count()) text << "window " << request.first << ' ' << request.kept << '\n';
+    if (request.kernel->has_copies)
+        for (uint64_t group = 0; group < request.kept; group++) text << "copying-item " << group << ' ' << range.items_of_group() << '\n';
+    return text.str();
+}
+
+std::string buffers_of(const Launch &launch) {
+    std::ostringstream text;
+    const auto line = [&](const std::string &memory, const Span &span) {
+        text << memory << ' ' << span.first_word << ' ' << span.words() << ' ' << span.traced_name() << '\n';
+    };
+    for (const Span &span : launch.spans) line("g", span);
+    const std::vector<Span> locals = spans_of(launch.request.entries, lay_out_locals(launch.request.entries, 1 << 12).addresses, LOCAL);
+    for (uint64_t group = 0; group < launch.request.kept; group++)
+        for (const Span &span : locals) line("l " + std::to_string(group), span);
+    return text.str();
+}
+
+std::string sites_of(const Launch &launch) {
+    std::string text;
+    for (size_t site = 0; site < launch.request.program->sites.size(); site++)
+        if (launch.sites[site].kind == BARRIER) text += std::to_string(site) + " " + launch.sites[site].place + "\n";
+    return text;
+}
+
+// Each place with something that is not judged, and how often.
+void write_losses(std::ostream &out, Launch &launch) {
+    const std::lock_guard<std::mutex> held(launch.losses.lock);
+    for (size_t site = 0; site < launch.losses.of_site.size(); site++) {
+        const uint64_t count = launch.losses.of_site[site];
+        const Site &at = launch.sites[site];
+        if (count == 0) continue;
+        if (at.kind == FENCE || at.kind == IMAGE) {
+            out << (at.kind == FENCE ? "fence " : "image ") << count << ' ' << at.place << '\n';
+            continue;
+        }
+        const Outside &first = launch.losses.outside[uint32_t(site)];
+        const char *how = at.kind == READ ? "read" : at.kind == WRITE ? "write" : "atomic";
+        out << "out-of-bounds " << count << ' ' << at.place << ' ' << how << ' ' << at.bytes << ' ' << first.group << ' ' << first.item << ' ' << first.where << '\n';
+    }
+    out << "names-outside-window " << launch.losses.names_outside << "\nrepeated-not-recorded " << launch.losses.repeated
+        << "\nacquire-loads-added " << launch.losses.added << '\n';
+}
+
+} // namespace
+
+bool begin_folder(Launch &launch, std::string &error) {
+    const Request &request = launch.request;
+    bool is_written = make_folders(request.folder) && write_file(request.folder + "/begun.txt", shape_of(request)) &&
+                      write_file(request.folder + "/buffers", buffers_of(launch)) && launch.places.open(request.folder + "/places");
+    for (const Source &source : request.program->sources) is_written = is_written && write_file(request.folder + "/" + source.name, source.text);
+    const std::string sites = sites_of(launch);
+    is_written = is_written && launch.places.append(sites.data(), sites.size());
+    if (!is_written) error = request.folder + " could not be written: " + std::strerror(errno);
+    return is_written;
+}
+
+void end_folder(Launch &launch, double seconds) {
+    const Request &request = launch.request;
+    std::ostringstream info;
+    info << shape_of(request) << "items " << request.kept * (request.range.items_of_group() + request.kernel->has_copies) << "\nrecords "
+         << launch.records << '\n';
+    for (uint64_t group = 0; group < request.kept; group++)
+        if (launch.is_cut[group]) info << "cut " << group << '\n';
+    if (launch.places.error()) info << "places-cut " << std::strerror(launch.places.error()) << '\n';
+    for (const std::string &note : request.program->notes) info << "note " << note << '\n';
+    write_losses(info, launch);
+    info << "kernel-seconds " << seconds << '\n';
+    if (write_file(request.folder + "/info.part", info.str()) && std::rename((request.folder + "/info.part").c_str(), (request.folder + "/info.txt").c_str()) == 0)
+        std::remove((request.folder + "/begun.txt").c_str());
+}
+
+} // namespace gpurace

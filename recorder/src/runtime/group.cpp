@@ -1,0 +1,203 @@
+#include "group.h"
+
+#include <cstring>
+
+namespace gpurace {
+namespace {
+
+constexpr uint32_t SHORT_TURN = 24, LONG_TURN = 2048; // calls of the runtime, at most
+constexpr uint32_t MOST_STILL = 16;                   // sweeps, after which a group may be one that waits
+constexpr size_t PLACES_ROOM = 1 << 16, PLACE_NUMBERS = 40;
+
+char *append(char *at, uint32_t number) {
+    char digits[10];
+    int count = 0;
+    do digits[count++] = char('0' + number % 10);
+    while (number /= 10);
+    while (count) *at++ = digits[--count];
+    *at++ = ' ';
+    return at;
+}
+
+// The main function of an item's fiber.
+void run_item(void *state) {
+    Item &item = *static_cast<Item *>(state);
+    const Group &group = *item.group;
+    group.launch->request.kernel->run(&item, const_cast<void **>(group.arguments.data()));
+    settle(item);
+    item.state = ENDED;
+    item.rest();
+}
+
+} // namespace
+
+Scratch &Item::own_scratch() {
+    if (!scratch) scratch = new Scratch;
+    return *scratch;
+}
+
+void Item::rest() { gr_switch(&stack, group->scheduler); }
+
+void settle(Item &item) {
+    if (!item.scratch || item.scratch->pending.bytes == 0) return;
+    PendingStore &pending = item.scratch->pending;
+    if (pending.ends_sequences) item.group->launch->sequences.write(pending.address, pending.from, pending.bytes);
+    else std::memcpy(reinterpret_cast<void *>(pending.address), pending.from, pending.bytes);
+    pending.bytes = 0;
+}
+
+void Group::put(uint32_t item, uint32_t &index, const Site &site, uint64_t head, uint32_t word, const Name *names, size_t count) {
+    if (stream.is_full()) { // who acquires from what is lost must not be recorded either
+        launch->is_over = true;
+        is_cut = true;
+        return;
+    }
+    stream.put(head, word, names, count);
+    const uint32_t number = index++;
+    if (places.empty() || (head & 0xff) >= BARRIER) return;
+    if (places_used + PLACE_NUMBERS + site.place.size() > places.size()) flush_places();
+    char *at = append(append(append(places.data() + places_used, window), item), number);
+    std::memcpy(at, site.place.data(), site.place.size());
+    at += site.place.size();
+    *at++ = '\n';
+    places_used = size_t(at - places.data());
+}
+
+void Group::flush_places() {
+    launch->places.append(places.data(), places_used);
+    places_used = 0;
+}
+
+std::unique_ptr<Group> Group::begin(Launch &launch, uint64_t number, Pool &pool, Random &random) {
+    auto group = std::make_unique<Group>();
+    const Request &request = launch.request;
+    group->launch = &launch;
+    group->number = number;
+    group->random = &random;
+    group->window = uint32_t(number - request.first);
+    group->is_recorded = number >= request.first && number - request.first < request.kept;
+    group->place_memory(pool);
+    if (!group->memory) return nullptr;
+    group->begin_items(pool);
+    if (!group->stacks) return nullptr;
+    if (group->is_recorded) group->open_stream();
+    return group;
+}
+
+void Group::place_memory(Pool &pool) {
+    const Request &request = launch->request;
+    memory = pool.take(launch->locals.bytes);
+    if (!memory) return;
+    const LocalLayout layout = lay_out_locals(request.entries, reinterpret_cast<uint64_t>(memory));
+    local_pointers.resize(request.arguments.size());
+    for (const auto &value : request.arguments) arguments.push_back(const_cast<char *>(value.data()));
+    spans = spans_of(request.entries, layout.addresses, LOCAL);
+    entry_spans = launch->entry_spans;
+    for (size_t at = 0; at < request.entries.size(); at++) {
+        const Entry &entry = request.entries[at];
+        if (entry.space != LOCAL) continue;
+        entry_spans[at] = find_span(spans, layout.addresses[at], 1);
+        if (entry.argument < 0) {
+            locals.push_back(reinterpret_cast<uint8_t *>(layout.addresses[at]));
+        } else {
+            local_pointers[size_t(entry.argument)] = layout.addresses[at];
+            arguments[size_t(entry.argument)] = &local_pointers[size_t(entry.argument)];
+        }
+    }
+}
+
+void Group::open_stream() {
+    char name[32];
+    std::snprintf(name, sizeof name, "/group%02u.gpurace", window);
+    const uint32_t streamed = uint32_t(items.size()) + launch->request.kernel->has_copies;
+    if (!stream.open(launch->request.folder + name, window, streamed, launch->request.number, launch->has_names, launch->written))
+        launch->is_over = true;
+    if (launch->request.writes_places) places.resize(PLACES_ROOM);
+}
+
+void Group::begin_items(Pool &pool) {
+    const Range &range = launch->request.range;
+    const uint64_t at[3] = {number % range.groups[0], number / range.groups[0] % range.groups[1], number / range.groups[0] / range.groups[1]};
+    uint64_t size[3], count = 1;
+    for (int axis = 0; axis < 3; axis++) { // a last group may be smaller
+        size[axis] = std::min(range.local[axis], range.global[axis] - at[axis] * range.local[axis]);
+        count *= size[axis];
+    }
+    stacks = pool.take_stacks(range.items_of_group(), launch->stack_bytes);
+    if (!stacks) return;
+    items.resize(count);
+    for (uint64_t each = 0; each < count; each++) {
+        order.push_back(uint16_t(each));
+        begin_item(items[each], each, at, size);
+        // neighbouring stacks begin at different places of their pages, or all would share a few sets of the cache
+        items[each].stack = make_fiber(stacks + launch->stack_bytes * (each + 1) - 64 * (each % 32), run_item, &items[each]);
+    }
+}
+
+void Group::begin_item(Item &item, uint64_t each, const uint64_t at[3], const uint64_t size[3]) {
+    const Range &range = launch->request.range;
+    const uint64_t local[3] = {each % size[0], each / size[0] % size[1], each / size[0] / size[1]};
+    std::memset(&item, 0, sizeof item);
+    for (int axis = 0; axis < 3; axis++) {
+        const uint64_t values[] = {local[axis], at[axis], range.groups[axis], size[axis], range.local[axis], range.global[axis], range.offset[axis],
+                                   range.offset[axis] + at[axis] * range.local[axis] + local[axis]};
+        for (int row = 0; row < LINEAR; row++) item.numbers[row][axis] = values[row];
+    }
+    for (const int row : {NUM_GROUPS, LOCAL_SIZE, ENQUEUED_LOCAL_SIZE, GLOBAL_SIZE}) item.numbers[row][3] = 1; // of no dimension
+    uint64_t linear = 0;
+    for (int axis = 2; axis >= 0; axis--) linear = linear * range.global[axis] + at[axis] * range.local[axis] + local[axis];
+    item.numbers[LINEAR][WORK_DIM] = range.dimensions;
+    item.numbers[LINEAR][LOCAL_LINEAR_ID] = each;
+    item.numbers[LINEAR][GLOBAL_LINEAR_ID] = linear;
+    item.locals = locals.data();
+    item.group = this;
+    item.number = uint16_t(each);
+    item.state = RUNS;
+    item.last_site = UINT32_MAX;
+}
+
+// Where all items stand at barriers or have ended, they go on: a divergent barrier is what items do.
+bool Group::sweep() {
+    for (size_t at = order.size(); at > 1; at--) std::swap(order[at - 1], order[random->below(uint32_t(at))]);
+    size_t ended = 0, standing = 0;
+    bool is_moved = false, is_idle = true;
+    const uint32_t most = random->below(4) == 0 ? SHORT_TURN : LONG_TURN;
+    for (const uint16_t number : order) {
+        Item &item = items[number];
+        if (item.state == RUNS) {
+            item.turn = 1 + random->below(most);
+            item.is_idle = false;
+            gr_switch(&scheduler, item.stack);
+            is_moved = is_moved || item.state != RUNS;
+            is_idle = is_idle && (item.is_idle || item.state != RUNS);
+        }
+        ended += item.state == ENDED;
+        standing += item.state == STANDS;
+    }
+    if (ended == items.size()) return true;
+    if (ended + standing == items.size()) {
+        for (Item &item : items)
+            if (item.state == STANDS) item.state = RUNS;
+    }
+    still = is_moved ? 0 : still + 1;
+    is_waiting = !is_moved && (is_idle || still >= MOST_STILL);
+    if (still >= MOST_STILL) still = 0;
+    return false;
+}
+
+void Group::close_files(bool cut) {
+    if (!is_recorded) return;
+    stream.close(cut || is_cut);
+    flush_places();
+    launch->records += stream.records();
+    launch->is_cut[window] = cut || is_cut || stream.error() != 0;
+}
+
+void Group::end(Pool &pool) {
+    close_files(false);
+    for (Item &item : items) delete item.scratch;
+    pool.give(memory, launch->locals.bytes);
+    pool.give_stacks(stacks, launch->request.range.items_of_group(), launch->stack_bytes);
+}
+
+} // namespace gpurace

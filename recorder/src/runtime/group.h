@@ -1,0 +1,117 @@
+// A work-group that runs, and its work-items.
+#ifndef GPURACE_GROUP_H
+#define GPURACE_GROUP_H
+
+#include "fiber.h"
+#include "launch.h"
+
+namespace gpurace {
+
+class Random { // xorshift64*
+public:
+    explicit Random(uint64_t seed) : state_(seed * 0x9e3779b97f4a7c15ull + 0x2545f4914f6cdd1dull) {
+        for (int at = 0; at < 4; at++) next();
+    }
+    uint32_t below(uint32_t count) { return uint32_t(uint64_t(next()) * count >> 32); }
+
+private:
+    uint64_t state_;
+    uint32_t next() {
+        state_ ^= state_ >> 12, state_ ^= state_ << 25, state_ ^= state_ >> 27;
+        return uint32_t(state_ * 0x2545f4914f6cdd1dull >> 32);
+    }
+};
+
+enum ItemState : uint8_t { RUNS, STANDS, ENDED };
+
+// A store that is done by the runtime at the item's next call, from memory of the item.
+struct PendingStore {
+    uint64_t address = 0, bytes = 0;
+    const uint8_t *from = nullptr;
+    bool ends_sequences = false;
+};
+
+struct Scratch {
+    std::vector<uint8_t> loaded, stored; // what a load takes and a store gives that is not whole in a buffer
+    PendingStore pending;
+    Names last_names;                    // of the last atomic
+};
+
+struct Group;
+struct Item {
+    uint64_t numbers[ROWS][DIMENSIONS];  // what get_local_id and the others answer
+    uint8_t **locals;                    // where the group's local variables are
+    Group *group;
+    void *stack;                         // where it goes on
+    uint32_t turn;                       // calls of the runtime that are left until it rests
+    uint32_t records, releases;
+    uint32_t repeats;                    // how often the last access was done, with nothing between
+    uint32_t last_site, last_records;
+    const void *last_address;
+    uint16_t number;
+    ItemState state;
+    bool is_idle;                        // it rests since what it does changes nothing
+    uint32_t left;                       // of its turn, where a pending store interrupts that
+    Scratch *scratch;
+
+    Scratch &own_scratch();
+    void rest(); // lets others run
+};
+static_assert(offsetof(Item, numbers) == 0 && offsetof(Item, locals) == LOCALS_OFFSET, "the instrumented code knows these places");
+
+struct Group {
+    Launch *launch;
+    uint64_t number;
+    uint32_t window;                          // its number in the trace
+    bool is_recorded, is_cut = false, is_waiting = false;
+    uint32_t still = 0;                       // sweeps since an item has come to a barrier or its end
+    void *scheduler = nullptr;                // where its thread goes on
+    Random *random;
+    std::vector<Item> items;
+    std::vector<uint16_t> order;              // in which its items have their turns
+    std::vector<Span> spans;                  // of local memory
+    std::vector<const Span *> entry_spans;    // by entry, of both memories
+    std::vector<uint8_t *> locals;
+    std::vector<void *> arguments;
+    std::vector<uint64_t> local_pointers;
+    uint8_t *memory = nullptr, *stacks = nullptr;
+    Stream stream;
+    std::vector<char> places;
+    size_t places_used = 0;
+    uint32_t copier_records = 0;
+
+    // Null where there is no room.
+    static std::unique_ptr<Group> begin(Launch &launch, uint64_t number, Pool &pool, Random &random);
+    // Gives each item that can run a turn; answers whether the group has ended.
+    bool sweep();
+    void end(Pool &pool);
+    void close_files(bool is_cut);
+
+    // Whether a record is to be written now.
+    bool records_now() {
+        if (!is_recorded) return false;
+        if (!launch->is_over.load(std::memory_order_relaxed)) return true;
+        is_cut = true;
+        return false;
+    }
+    // A record of an item, whose number among the item's is `index`.
+    void put(uint32_t item, uint32_t &index, const Site &site, uint64_t head, uint32_t word, const Name *names = nullptr, size_t count = 0);
+    void flush_places();
+
+private:
+    void place_memory(Pool &pool);
+    void open_stream();
+    void begin_items(Pool &pool);
+    void begin_item(Item &item, uint64_t number, const uint64_t at[3], const uint64_t size[3]);
+};
+
+// The head of a record: its kind, space, scope and order. A barrier has flags as its space.
+inline uint64_t head_of(uint32_t item, uint8_t kind, uint8_t space, uint8_t scope = NO_SCOPE, uint8_t order = PLAIN) {
+    return kind | uint64_t(space) << 8 | uint64_t(scope) << 16 | uint64_t(order) << 24 | uint64_t(item) << 32;
+}
+
+// Does the pending store of an item, if it has one.
+void settle(Item &item);
+
+} // namespace gpurace
+#endif

@@ -1,0 +1,383 @@
+// What the instrumented code calls. Each call has the state of the work-item that makes it.
+#include "group.h"
+#include "printing.h"
+
+#include <cstring>
+
+namespace gpurace {
+namespace {
+
+constexpr uint32_t IDLE_READS = 16;      // of one place, with nothing between, after which an item lets others run
+constexpr uint32_t MOST_READS = 64;      // of them that are recorded
+constexpr uint32_t IDLE_ATOMICS = 2;
+constexpr size_t NAMES_OF_RECORD = 4;
+
+Item &item_of(void *state) { return *static_cast<Item *>(state); }
+
+// The item has used up its turn, or has a store to be done.
+void end_turn(Item &item) {
+    const bool is_interrupted = item.scratch && item.scratch->pending.bytes > 0;
+    settle(item);
+    item.turn = is_interrupted ? item.left : 0;
+    if (item.turn == 0) item.rest();
+}
+
+// The span of an access, and its memory. A pointer that the code knows to belong to a buffer is looked for there first.
+const Span *span_of(const Group &group, const Site &site, uint64_t address, uint64_t bytes, int &space) {
+    space = site.space;
+    if (site.entry >= 0) {
+        const Span *span = group.entry_spans[size_t(site.entry)];
+        if (span && span->holds(address, bytes)) return span;
+    }
+    if (site.space != LOCAL)
+        if (const Span *span = find_span(group.launch->spans, address, bytes)) return space = GLOBAL, span;
+    if (site.space != GLOBAL)
+        if (const Span *span = find_span(group.spans, address, bytes)) return space = LOCAL, span;
+    return nullptr;
+}
+
+std::string count_of(uint64_t bytes) { return std::to_string(bytes) + (bytes == 1 ? " byte" : " bytes"); }
+
+// Where an address is in relation to the buffer that the code names, or else to the nearest one.
+std::string place_of(const Group &group, const Site &site, uint64_t address) {
+    const auto distance = [&](const Span &span) { return address < span.address ? span.address - address : address - span.address; };
+    const Span *near = site.entry >= 0 ? group.entry_spans[size_t(site.entry)] : nullptr;
+    if (!near && site.entry >= 0) return "in " + group.launch->request.entries[size_t(site.entry)].name + ", which has no memory";
+    for (const Span &span : site.space == LOCAL ? group.spans : group.launch->spans)
+        if (site.entry < 0 && (!near || distance(span) < distance(*near))) near = &span;
+    if (!near) return "in no buffer";
+    const std::string size = " of " + near->name + ", which has " + count_of(near->bytes);
+    if (address < near->address) return count_of(near->address - address) + " before the start" + size;
+    const uint64_t end = near->address + near->bytes;
+    return address < end ? "partly behind the end" + size : count_of(address - end) + " behind the end" + size;
+}
+
+void note_outside(Group &group, uint32_t item, uint32_t number, const Site &site, uint64_t address) {
+    Launch &launch = *group.launch;
+    if (launch.losses.of_site[number].fetch_add(1, std::memory_order_relaxed) != 0) return;
+    const std::lock_guard<std::mutex> held(launch.losses.lock);
+    launch.losses.outside[number] = {group.number, item, place_of(group, site, address)};
+}
+
+// What the record of an access of an item needs.
+struct Accessor {
+    Group &group;
+    uint32_t item;
+    uint32_t &records;
+
+    void put(const Site &site, int kind, int space, const Span &span, uint64_t address, uint64_t bytes) {
+        if (!group.records_now()) return;
+        const uint64_t head = head_of(item, uint8_t(kind), uint8_t(space));
+        for (uint64_t word = span.word_of(address), last = span.word_of(address + bytes - 1); word <= last; word++)
+            group.put(item, records, site, head, uint32_t(word));
+    }
+};
+
+// The part of an access that is inside of a buffer.
+struct Inside {
+    const Span *span = nullptr;
+    uint64_t from = 0, to = 0;
+};
+Inside inside_of(const std::vector<Span> &spans, uint64_t address, uint64_t bytes) {
+    for (const Span &span : spans) {
+        const uint64_t from = std::max(address, span.address), to = std::min(address + bytes, span.address + span.bytes);
+        if (from < to) return {&span, from, to};
+    }
+    return {};
+}
+
+// An access that is not whole in a buffer: it has its inside part, a load has zeros for the rest, and the rest of a store is dropped.
+uint8_t *access_outside(Item &item, Accessor accessor, uint32_t number, const Site &site, int kind, uint64_t address) {
+    Group &group = accessor.group;
+    note_outside(group, accessor.item, number, site, address);
+    const Inside inside = inside_of(site.space == LOCAL ? group.spans : group.launch->spans, address, site.bytes);
+    if (inside.span) accessor.put(site, kind, site.space == LOCAL ? LOCAL : GLOBAL, *inside.span, inside.from, inside.to - inside.from);
+    else if (kind == READ) return group.launch->zeros.data();
+    Scratch &scratch = item.own_scratch();
+    if (kind == READ) {
+        scratch.loaded.assign(site.bytes, 0);
+        std::memcpy(scratch.loaded.data() + (inside.from - address), reinterpret_cast<const void *>(inside.from), inside.to - inside.from);
+        return scratch.loaded.data();
+    }
+    scratch.stored.resize(std::max<size_t>(site.bytes, scratch.stored.size()));
+    if (inside.span)
+        scratch.pending = {inside.from, inside.to - inside.from, scratch.stored.data() + (inside.from - address), inside.span->has_atomics};
+    return scratch.stored.data();
+}
+
+// The item stores into memory of its own, and the runtime copies that at the item's next call.
+uint8_t *defer_store(Item &item, uint64_t address, uint64_t bytes) {
+    Scratch &scratch = item.own_scratch();
+    scratch.stored.resize(std::max<size_t>(bytes, scratch.stored.size()));
+    scratch.pending = {address, bytes, scratch.stored.data(), true};
+    return scratch.stored.data();
+}
+
+void interrupt_turn(Item &item) {
+    if (!item.scratch || item.scratch->pending.bytes == 0) return;
+    item.left = item.turn;
+    item.turn = 1;
+}
+
+// Whether the item repeats its last access with nothing between; one that does so often lets others run.
+bool is_repeated(Item &item, uint32_t number, const void *pointer) {
+    const bool is_again = item.last_site == number && item.last_address == pointer && item.last_records == item.records;
+    item.last_site = number, item.last_address = pointer;
+    item.repeats = is_again ? item.repeats + 1 : 0;
+    return is_again;
+}
+void rest_if_idle(Item &item, uint32_t most) {
+    if (item.repeats < most) return;
+    item.is_idle = true;
+    item.rest();
+}
+
+uint8_t *read_again(Item &item) { // the access is recorded already
+    item.group->launch->losses.repeated.fetch_add(1, std::memory_order_relaxed);
+    return static_cast<uint8_t *>(const_cast<void *>(item.last_address));
+}
+
+// One more item of the group does the copies.
+uint8_t *access_of_copy(Item &item, uint32_t number, uint8_t *pointer) {
+    Group &group = *item.group;
+    const Site &site = group.launch->sites[number];
+    int space;
+    const uint64_t address = reinterpret_cast<uint64_t>(pointer);
+    Accessor copier{group, uint32_t(group.items.size()), group.copier_records};
+    const Span *span = span_of(group, site, address, site.bytes, space);
+    if (!span) return access_outside(item, copier, number, site, site.kind, address);
+    copier.put(site, site.kind, space, *span, address, site.bytes);
+    return site.kind == WRITE && span->has_atomics && group.launch->has_names ? defer_store(item, address, site.bytes) : pointer;
+}
+
+} // namespace
+} // namespace gpurace
+
+using namespace gpurace;
+
+extern "C" {
+#define HOOK __attribute__((visibility("default")))
+
+// Records a plain access, and answers the address that it is to use.
+HOOK void *gr_access(void *state, uint32_t number, void *pointer) {
+    Item &item = item_of(state);
+    if (--item.turn == 0) end_turn(item);
+    Group &group = *item.group;
+    const Site &site = group.launch->sites[number];
+    const uint64_t address = reinterpret_cast<uint64_t>(pointer);
+    int space;
+    const Span *span = span_of(group, site, address, site.bytes, space);
+    if (!span) {
+        if (site.space == GENERIC) return pointer; // private memory
+        uint8_t *allowed = access_outside(item, {group, item.number, item.records}, number, site, site.kind, address);
+        interrupt_turn(item);
+        return allowed;
+    }
+    if (site.kind != READ) {
+        item.last_site = number;
+    } else if (is_repeated(item, number, pointer)) {
+        rest_if_idle(item, IDLE_READS);
+        if (item.repeats > MOST_READS) return read_again(item);
+    }
+    Accessor{group, item.number, item.records}.put(site, site.kind, space, *span, address, site.bytes);
+    item.last_records = item.records;
+    if (site.kind != WRITE || !span->has_atomics || !group.launch->has_names) return pointer;
+    uint8_t *allowed = defer_store(item, address, site.bytes);
+    interrupt_turn(item);
+    return allowed;
+}
+
+HOOK void gr_barrier(void *state, uint32_t number, uint32_t flags) {
+    Item &item = item_of(state);
+    Group &group = *item.group;
+    settle(item);
+    const uint8_t traced = uint8_t((flags & 1) << 1 | (flags >> 1 & 1)); // a trace has global memory first
+    if (group.records_now()) {
+        const Site &site = group.launch->sites[number];
+        group.put(item.number, item.records, site, head_of(item.number, BARRIER, traced), number);
+        const uint32_t copier = uint32_t(group.items.size());
+        if (item.number == 0 && group.launch->request.kernel->has_copies)
+            group.put(copier, group.copier_records, site, head_of(copier, BARRIER, traced), number);
+    }
+    item.last_site = UINT32_MAX;
+    item.state = STANDS;
+    item.rest();
+}
+
+HOOK void gr_copy(void *state, uint32_t reads, uint32_t writes, uint8_t *to, uint8_t *from, uint64_t count, uint64_t to_stride, uint64_t from_stride) {
+    Item &item = item_of(state);
+    settle(item);
+    if (item.number != 0) return;
+    const uint64_t bytes = item.group->launch->sites[reads].bytes;
+    for (uint64_t at = 0; at < count; at++) {
+        const uint8_t *source = access_of_copy(item, reads, from + at * from_stride * bytes);
+        std::memcpy(access_of_copy(item, writes, to + at * to_stride * bytes), source, bytes);
+        settle(item);
+    }
+}
+
+// A fence, or an access of an image.
+HOOK void gr_count(void *state, uint32_t number) {
+    Item &item = item_of(state);
+    settle(item);
+    item.group->launch->losses.of_site[number].fetch_add(1, std::memory_order_relaxed);
+    if (item.turn <= 1) item.rest();
+    else item.turn--;
+}
+
+HOOK void *gr_print(void *state) {
+    settle(item_of(state));
+    return take_print_buffer();
+}
+HOOK void gr_printed(void *) { give_print_buffer(); }
+}
+
+namespace gpurace {
+namespace {
+
+template <class Type, class Bits> Bits arithmetic(int operation, Bits old_bits, Bits value_bits) {
+    Type old, value;
+    std::memcpy(&old, &old_bits, sizeof old);
+    std::memcpy(&value, &value_bits, sizeof value);
+    const Type made = operation == OP_ADD ? Type(old + value) : operation == OP_SUBTRACT ? Type(old - value)
+                      : operation == OP_MINIMUM ? std::min(old, value) : std::max(old, value);
+    Bits bits;
+    std::memcpy(&bits, &made, sizeof bits);
+    return bits;
+}
+
+uint32_t typed(int operation, char type, uint32_t old, uint32_t value) {
+    return type == 'f' ? arithmetic<float>(operation, old, value) : type == 'i' ? arithmetic<int32_t>(operation, old, value)
+                                                                               : arithmetic<uint32_t>(operation, old, value);
+}
+uint64_t typed(int operation, char type, uint64_t old, uint64_t value) {
+    return type == 'd' ? arithmetic<double>(operation, old, value) : type == 'l' ? arithmetic<int64_t>(operation, old, value)
+                                                                                : arithmetic<uint64_t>(operation, old, value);
+}
+
+// What an operation makes of a word.
+template <class Bits> Bits made_of(int operation, char type, Bits old, Bits value) {
+    switch (operation) {
+    case OP_COMPARE: case OP_STORE: case OP_EXCHANGE: return value;
+    case OP_AND: return old & value;
+    case OP_OR: return old | value;
+    case OP_XOR: return old ^ value;
+    default: return typed(operation, type, old, value);
+    }
+}
+
+struct Done {
+    uint64_t old;
+    bool is_changed, has_failed; // a compare-exchange fails
+};
+
+template <class Bits> Done perform(uint32_t what, void *pointer, Bits value, Bits compare) {
+    const int operation = what & 255;
+    Bits *word = static_cast<Bits *>(pointer), old = __atomic_load_n(word, __ATOMIC_SEQ_CST), made;
+    do {
+        if (operation == OP_LOAD) return {old, false, false};
+        if (operation == OP_COMPARE && old != compare) return {old, false, true};
+        made = made_of(operation, char(what >> 8), old, value);
+    } while (!__atomic_compare_exchange_n(word, &old, made, false, __ATOMIC_SEQ_CST, __ATOMIC_SEQ_CST));
+    return {old, old != made, false};
+}
+
+// memory_order_relaxed is 0, acquire 2, release 3, acq_rel 4, seq_cst 5.
+uint8_t order_of(uint32_t order, int kind) {
+    const bool takes = kind != STORE && (order == 2 || order >= 4), gives = kind != LOAD && order >= 3;
+    return takes ? (gives ? BOTH : ACQUIRE) : gives ? RELEASE : RELAXED;
+}
+
+struct AtomicRecord {
+    int kind, space;
+    uint8_t order, scope;
+    Names names;
+};
+
+void put_atomic(Item &item, const Site &site, const Span &span, uint64_t address, AtomicRecord &record) {
+    Group &group = *item.group;
+    Names &names = record.names;
+    std::sort(names.begin(), names.end());
+    const uint64_t first = span.word_of(address), last = span.word_of(address + site.bytes - 1);
+    const uint64_t head = head_of(item.number, uint8_t(record.kind), uint8_t(record.space), record.scope, record.order);
+    const uint64_t load = head_of(item.number, LOAD, uint8_t(record.space), record.scope, ACQUIRE);
+    for (uint64_t word = first; word <= last; word++) { // a release of several words is several records
+        size_t at = 0;
+        for (; names.size() - at > NAMES_OF_RECORD; at += NAMES_OF_RECORD) {
+            group.put(item.number, item.records, site, load, uint32_t(word), &names[at], NAMES_OF_RECORD);
+            group.launch->losses.added.fetch_add(1, std::memory_order_relaxed);
+        }
+        group.put(item.number, item.records, site, head, uint32_t(word), names.data() + at, names.size() - at);
+        for (Name &name : names) name.number++;
+    }
+    if (releases(record.order)) item.releases += uint32_t(last - first + 1);
+}
+
+// Takes the names that can't be recorded out.
+void drop_unrecorded(Launch &launch, Names &names) {
+    const auto kept = std::remove_if(names.begin(), names.end(), [](const Name &name) { return name.group == NOT_RECORDED; });
+    launch.losses.names_outside.fetch_add(uint64_t(names.end() - kept), std::memory_order_relaxed);
+    names.erase(kept, names.end());
+}
+
+bool are_same(const Names &one, const Names &other) {
+    return one.size() == other.size() && std::equal(one.begin(), one.end(), other.begin(), [](const Name &a, const Name &b) { return a.is_same(b); });
+}
+
+// An item that spins says nothing new: it took no new name, changed nothing, and did nothing else meanwhile.
+bool is_news(Item &item, bool is_again, const AtomicRecord &record) {
+    Names &last = item.own_scratch().last_names;
+    if (is_again && !releases(record.order) && are_same(last, record.names)) {
+        item.group->launch->losses.repeated.fetch_add(1, std::memory_order_relaxed);
+        return false;
+    }
+    last = record.names;
+    return true;
+}
+
+template <class Body> auto with_stripe(Launch &launch, uint64_t address, bool is_named, Body body) {
+    Stripe &stripe = launch.sequences.stripe_of(address);
+    if (!is_named) return body(stripe);
+    const Held held(stripe);
+    return body(stripe);
+}
+
+} // namespace
+} // namespace gpurace
+
+// Does an atomic operation and records it; answers what the word had. `how` has the order, the order on failure and the scope.
+extern "C" HOOK uint64_t gr_atomic(void *state, uint32_t number, uint32_t what, void *pointer, uint64_t value, uint64_t compare, uint32_t how) {
+    Item &item = item_of(state);
+    if (--item.turn == 0) end_turn(item);
+    settle(item);
+    Group &group = *item.group;
+    Launch &launch = *group.launch;
+    const Site &site = launch.sites[number];
+    const uint64_t address = reinterpret_cast<uint64_t>(pointer);
+    AtomicRecord record{};
+    const Span *span = span_of(group, site, address, site.bytes, record.space);
+    if (!span && site.space != GENERIC) return note_outside(group, item.number, number, site, address), 0;
+    record.scope = record.space == LOCAL || (how >> 16 & 255) == 1 ? GROUP_SCOPE : DEVICE_SCOPE;
+    const bool is_named = launch.has_names && span;
+    bool is_recorded = false;
+    const Done done = with_stripe(launch, address, is_named, [&](Stripe &stripe) {
+        is_recorded = span && group.records_now(); // behind the lock: who acquires from a release that is lost is not recorded
+        const Done made = site.bytes == 8 ? perform<uint64_t>(what, pointer, value, compare) : perform<uint32_t>(what, pointer, uint32_t(value), uint32_t(compare));
+        record.kind = site.kind != COMPARE_EXCHANGE ? site.kind : made.has_failed ? LOAD : MODIFY;
+        record.order = order_of(made.has_failed ? how >> 8 & 255 : how & 255, record.kind);
+        if (!is_named) return made;
+        if (acquires(record.order) && is_recorded) record.names = ReleaseSequences::heads_of(stripe, address);
+        const Name own{is_recorded ? group.window : NOT_RECORDED, item.number, record.scope, item.releases};
+        if (record.kind != LOAD) ReleaseSequences::modify(stripe, address, own, record.kind == STORE, record.order);
+        return made;
+    });
+    const bool is_again = is_repeated(item, number, pointer) && !done.is_changed;
+    if (!is_again) item.repeats = 0;
+    if (is_recorded) {
+        drop_unrecorded(launch, record.names);
+        if (is_news(item, is_again, record)) put_atomic(item, site, *span, address, record);
+    }
+    item.last_records = item.records;
+    rest_if_idle(item, IDLE_ATOMICS);
+    return done.old;
+}

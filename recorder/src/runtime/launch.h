@@ -1,0 +1,100 @@
+// A launch of a kernel that runs on the host's threads, and is recorded meanwhile.
+#ifndef GPURACE_LAUNCH_H
+#define GPURACE_LAUNCH_H
+
+#include "memory.h"
+#include "stream.h"
+
+namespace gpurace {
+
+struct Range {
+    uint64_t global[3] = {1, 1, 1}, local[3] = {1, 1, 1}, groups[3] = {1, 1, 1}, offset[3] = {0, 0, 0};
+    uint32_t dimensions = 1;
+    uint64_t group_count() const { return groups[0] * groups[1] * groups[2]; }
+    uint64_t items_of_group() const { return local[0] * local[1] * local[2]; }
+};
+
+// What is to be run, and how it is to be recorded.
+struct Request {
+    const Program *program = nullptr;
+    const Kernel *kernel = nullptr;
+    std::vector<Entry> entries;                  // with the sizes of this launch, and the addresses of global memory
+    std::vector<std::vector<char>> arguments;    // the values; of local memory 8 bytes of room
+    Range range;
+    uint32_t number = 0;                         // of the launch
+    uint64_t first = 0, kept = 0;                // the groups that are recorded: `kept` of them from `first` on
+    std::string folder;
+    bool writes_places = true;
+    unsigned threads = 1;
+    uint64_t seed = 0;                           // of the order of items and groups
+    bool is_seeded = false;                      // by the user, so that all runs on one thread
+    uint64_t most_records = UINT64_MAX;
+    double timeout = 0;                          // in seconds; 0 is none
+};
+
+struct Result {
+    uint64_t records = 0;
+    double seconds = 0;        // of the kernel
+    bool is_stopped = false;   // it was ended before its end, by Ctrl-C or since its time was over
+    bool is_timed_out = false;
+    std::string error;         // why the kernel could not be run at all
+};
+
+// The first access of a site out of all buffers; a site may have more of them.
+struct Outside {
+    uint64_t group = 0;
+    uint32_t item = 0;
+    std::string where; // in relation to a buffer
+};
+
+struct Losses { // what the report on the launch does not speak of, or says in another way
+    std::vector<std::atomic<uint64_t>> of_site;  // fences, images, accesses out of bounds
+    std::map<uint32_t, Outside> outside;         // by site
+    std::mutex lock;
+    std::atomic<uint64_t> repeated{0}, added{0}, names_outside{0};
+    explicit Losses(size_t sites) : of_site(sites) {}
+};
+
+class Launch {
+public:
+    explicit Launch(const Request &request);
+    Result run();
+
+    const Request &request;
+    const Site *const sites;
+    const bool has_names;
+    std::vector<Span> spans;                // of global memory
+    std::vector<const Span *> entry_spans;  // by entry; null for those of local memory, or of no bytes
+    LocalLayout locals;
+    ReleaseSequences sequences;
+    Places places;
+    Losses losses;
+    std::vector<uint8_t> zeros;             // what a load out of every buffer takes
+    std::atomic<uint64_t> next_group{0};    // that no thread has begun
+    std::atomic<uint64_t> written{0};       // records
+    std::atomic<bool> is_over{false};       // no more is recorded
+    std::atomic<bool> is_stopped{false};    // nothing more is run
+    std::atomic<bool> is_timed_out{false}, has_failed{false};
+    std::atomic<uint64_t> records{0};
+    std::vector<char> is_cut;               // of each recorded group
+    size_t stack_bytes;
+
+    // Ends the groups of all threads as cut, when these don't do it themselves.
+    void abandon();
+    void fail(const std::string &error);
+    // The `number`th group to begin.
+    uint64_t group_at(uint64_t number) const;
+
+private:
+    friend class Worker;
+    std::vector<class Worker *> workers_;
+    std::mutex lock_;
+    std::string error_;
+
+    void run_workers();
+};
+
+double seconds_now();
+
+} // namespace gpurace
+#endif

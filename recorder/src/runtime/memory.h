@@ -1,0 +1,45 @@
+// The buffers of a launch as spans of memory, and their words in the trace.
+#ifndef GPURACE_MEMORY_H
+#define GPURACE_MEMORY_H
+
+#include "program.h"
+
+namespace gpurace {
+
+struct Span {
+    uint64_t address = 0, bytes = 0;
+    uint64_t first_word = 0;
+    uint32_t grain = 4, shift = 2; // the bytes of a word, and their logarithm
+    bool has_atomics = false;
+    std::string name;
+
+    bool holds(uint64_t at, uint64_t count) const {
+        const uint64_t offset = at - address;
+        return offset < bytes && count <= bytes - offset;
+    }
+    uint64_t word_of(uint64_t at) const { return first_word + ((at - address) >> shift); }
+    uint64_t words() const { return (bytes + grain - 1) >> shift; }
+    std::string traced_name() const { return name + (grain == 4 ? "" : grain == 2 ? ".half" : ".byte"); }
+};
+
+// The spans of the entries of one space, whose addresses stand beside them. Entries that overlap are one span. Spans never share a
+// word, and stand apart by some.
+std::vector<Span> spans_of(const std::vector<Entry> &entries, const std::vector<uint64_t> &addresses, int space);
+
+// The span that has this access, or null.
+inline const Span *find_span(const std::vector<Span> &spans, uint64_t address, uint64_t bytes) {
+    for (const Span &span : spans)
+        if (span.holds(address, bytes)) return &span;
+    return nullptr;
+}
+
+// Where the group's local memory has each entry, if it begins at `start`: 0 for entries of global memory. Behind them stands a gap, so
+// that an access that goes astray meets no other entry at once.
+struct LocalLayout {
+    std::vector<uint64_t> addresses;
+    uint64_t bytes = 0;
+};
+LocalLayout lay_out_locals(const std::vector<Entry> &entries, uint64_t start);
+
+} // namespace gpurace
+#endif

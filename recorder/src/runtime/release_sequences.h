@@ -1,0 +1,81 @@
+// The releases to whose release sequences the value of each atomic word belongs: what an acquire of the word names. The change of a
+// value and that of its names are one step, under the lock of the word's stripe.
+#ifndef GPURACE_RELEASE_SEQUENCES_H
+#define GPURACE_RELEASE_SEQUENCES_H
+
+#include <algorithm>
+#include <atomic>
+#include <cstdint>
+#include <memory>
+#include <sched.h>
+#include <unordered_map>
+#include <vector>
+
+namespace gpurace {
+
+enum Order : uint8_t { PLAIN = 0, RELAXED = 1, ACQUIRE, RELEASE, BOTH };
+enum Scope : uint8_t { NO_SCOPE = 0, GROUP_SCOPE = 1, DEVICE_SCOPE };
+
+inline bool acquires(int order) { return order == ACQUIRE || order == BOTH; }
+inline bool releases(int order) { return order == RELEASE || order == BOTH; }
+
+// A release: the group, the item, and its number among the item's releases. A release of a group that is not recorded is known by
+// its group alone, and can't be named.
+struct Name {
+    uint32_t group, item, scope, number;
+
+    bool is_same(const Name &other) const { return group == other.group && item == other.item && number == other.number; }
+    bool operator<(const Name &other) const {
+        if (group != other.group) return group < other.group;
+        return item != other.item ? item < other.item : number < other.number;
+    }
+};
+constexpr uint32_t NOT_RECORDED = UINT32_MAX;
+
+using Names = std::vector<Name>;
+
+struct alignas(64) Stripe {
+    std::atomic<uint32_t> lock{0};
+    std::unordered_map<uint64_t, Names> heads; // by address
+
+    void take() {
+        for (unsigned tries = 0; lock.exchange(1, std::memory_order_acquire); tries++)
+            if (tries > 200) sched_yield();
+    }
+    void give() { lock.store(0, std::memory_order_release); }
+};
+
+class Held { // a stripe while it is locked
+public:
+    explicit Held(Stripe &stripe) : stripe_(stripe) { stripe_.take(); }
+    ~Held() { stripe_.give(); }
+    Held(const Held &) = delete;
+
+private:
+    Stripe &stripe_;
+};
+
+class ReleaseSequences {
+public:
+    static constexpr uint64_t LINE = 64; // the bytes that belong to one stripe together
+
+    Stripe &stripe_of(uint64_t address) {
+        return stripes_[((address / LINE) * 0x9e3779b97f4a7c15ull >> 40) % STRIPES];
+    }
+    // The names that the word's value has; the stripe is locked.
+    static Names heads_of(const Stripe &stripe, uint64_t address) {
+        const auto found = stripe.heads.find(address);
+        return found == stripe.heads.end() ? Names() : found->second;
+    }
+    // An atomic operation has changed the word; the stripe is locked. A plain write is not: see `write`.
+    static void modify(Stripe &stripe, uint64_t address, const Name &own, bool is_store, int order);
+    // Copies bytes to where a plain write goes, and ends the sequences of all that it covers when it is done.
+    void write(uint64_t address, const uint8_t *from, uint64_t bytes);
+
+private:
+    static constexpr uint64_t STRIPES = 4096;
+    std::unique_ptr<Stripe[]> stripes_{new Stripe[STRIPES]};
+};
+
+} // namespace gpurace
+#endif

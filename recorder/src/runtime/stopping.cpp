@@ -1,0 +1,106 @@
+#include "stopping.h"
+
+#include "folder.h"
+
+#include <chrono>
+#include <condition_variable>
+#include <cstdio>
+#include <pthread.h>
+#include <thread>
+#include <unistd.h>
+
+namespace gpurace {
+namespace {
+
+constexpr double GRACE = 1.0; // seconds in which threads are to see that the launch is stopped
+
+volatile sig_atomic_t was_interrupted = 0;
+void note_interrupt(int) { was_interrupted = 1; }
+
+// The thread that watches: one for the process, since launches may be many and short.
+struct Watcher {
+    std::mutex lock;
+    std::condition_variable begins;
+    Launch *launch = nullptr;
+    double end = 0;
+    uint64_t number = 0; // of launches that were watched
+    bool has_thread = false;
+
+    void watch();
+    void write_and_end(Launch &stopped);
+};
+Watcher &watcher() {
+    static auto &made = *new Watcher;
+    return made;
+}
+
+// The launch's threads do not come back from their kernel: they call the runtime no more, so that what they have can be written.
+void Watcher::write_and_end(Launch &stopped) {
+    stopped.abandon();
+    if (stopped.request.kept > 0) end_folder(stopped, 0);
+    std::fflush(nullptr);
+    if (was_interrupted) {
+        std::signal(SIGINT, SIG_DFL);
+        kill(getpid(), SIGINT);
+    }
+    _exit(TIMED_OUT);
+}
+
+void Watcher::watch() {
+    std::unique_lock<std::mutex> held(lock);
+    double stopped_at = 0;
+    for (uint64_t seen = 0;;) {
+        if (!launch) {
+            begins.wait(held, [&] { return launch != nullptr; });
+        }
+        if (seen != number) seen = number, stopped_at = 0;
+        const double now = seconds_now();
+        if (!stopped_at && (was_interrupted || (end > 0 && now > end))) {
+            launch->is_timed_out = !was_interrupted;
+            launch->is_stopped = launch->is_over = true;
+            stopped_at = now;
+        }
+        if (stopped_at && now > stopped_at + GRACE) write_and_end(*launch);
+        begins.wait_for(held, std::chrono::milliseconds(20));
+    }
+}
+
+void forget_thread() { // it is not there in a process that was forked
+    new (&watcher()) Watcher;
+}
+
+} // namespace
+
+Watched::Watched(Launch &launch) {
+    Watcher &own = watcher();
+    struct sigaction interrupt {};
+    interrupt.sa_handler = note_interrupt;
+    sigemptyset(&interrupt.sa_mask);
+    was_interrupted = 0;
+    sigaction(SIGINT, &interrupt, &before_);
+    const std::lock_guard<std::mutex> held(own.lock);
+    if (!own.has_thread) {
+        own.has_thread = true;
+        pthread_atfork(nullptr, nullptr, forget_thread);
+        std::thread([] {
+            sigset_t all; // signals are the program's own threads'
+            sigfillset(&all);
+            pthread_sigmask(SIG_BLOCK, &all, nullptr);
+            watcher().watch();
+        }).detach();
+    }
+    own.launch = &launch;
+    own.number++;
+    own.end = launch.request.timeout > 0 ? seconds_now() + launch.request.timeout : 0;
+    own.begins.notify_one();
+}
+
+Watched::~Watched() {
+    Watcher &own = watcher();
+    const std::lock_guard<std::mutex> held(own.lock);
+    own.launch = nullptr;
+    sigaction(SIGINT, &before_, nullptr);
+    if (was_interrupted) kill(getpid(), SIGINT); // now the program's own way
+}
+
+} // namespace gpurace

@@ -1,0 +1,109 @@
+#include "stream.h"
+
+#include "../sites.h"
+
+#include <cerrno>
+#include <cstring>
+#include <fcntl.h>
+#include <unistd.h>
+
+namespace gpurace {
+namespace {
+
+// Writes all of it, and answers 0 or what went wrong.
+int write_all(int file, const char *bytes, size_t count) {
+    while (count > 0) {
+        const ssize_t done = write(file, bytes, count);
+        if (done < 0 && errno == EINTR) continue;
+        if (done <= 0) return done < 0 ? errno : ENOSPC;
+        bytes += done;
+        count -= size_t(done);
+    }
+    return 0;
+}
+
+} // namespace
+
+Places::~Places() {
+    if (file_ >= 0) ::close(file_);
+}
+
+bool Places::open(const std::string &path) {
+    file_ = ::open(path.c_str(), O_WRONLY | O_CREAT | O_TRUNC | O_APPEND | O_CLOEXEC, 0666);
+    if (file_ < 0) error_ = errno;
+    return file_ >= 0;
+}
+
+bool Places::append(const char *text, size_t bytes) {
+    const std::lock_guard<std::mutex> held(lock_);
+    if (error_ || bytes == 0) return error_ == 0;
+    error_ = write_all(file_, text, bytes);
+    if (error_ && ftruncate(file_, off_t(bytes_)) != 0) error_ = errno;
+    bytes_ += error_ ? 0 : bytes;
+    return error_ == 0;
+}
+
+Stream::~Stream() {
+    if (file_ >= 0) ::close(file_);
+}
+
+bool Stream::open(const std::string &path, uint32_t group, uint32_t items, uint32_t launch, bool has_names, std::atomic<uint64_t> &counted) {
+    file_ = ::open(path.c_str(), O_WRONLY | O_CREAT | O_TRUNC | O_CLOEXEC, 0666);
+    if (file_ < 0) return error_ = errno, false;
+    counted_ = &counted;
+    record_bytes_ = has_names ? 44 : 20;
+    bytes_.reset(new char[ROOM]);
+    const uint16_t shape[] = {uint16_t(group), uint16_t(items)};
+    std::memcpy(bytes_.get(), has_names ? "GRT2" : "GRT1", 4);
+    std::memcpy(bytes_.get() + 4, shape, 4);
+    std::memcpy(bytes_.get() + 8, &launch, 4);
+    used_ = HEADER_BYTES;
+    return true;
+}
+
+void Stream::put(uint64_t head, uint32_t word, const Name *names, size_t count) {
+    if (used_ + record_bytes_ > ROOM) flush();
+    char *record = bytes_.get() + used_;
+    std::memcpy(record, &head, 8);
+    std::memcpy(record + 8, &word, 4);
+    std::memset(record + 12, 0xff, 8);
+    if (record_bytes_ > 20) std::memset(record + 20, 0xff, 24);
+    for (size_t at = 0; at < count; at++) {
+        const uint16_t who[] = {uint16_t(names[at].group), uint16_t(names[at].item)};
+        std::memcpy(record + 12 + 8 * at, who, 4);
+        std::memcpy(record + 16 + 8 * at, &names[at].number, 4);
+    }
+    used_ += record_bytes_;
+    records_++, untold_++;
+}
+
+void Stream::flush() {
+    if (!error_) error_ = write_all(file_, bytes_.get(), used_);
+    if (!error_) written_ += used_;
+    counted_->fetch_add(untold_, std::memory_order_relaxed);
+    used_ = untold_ = 0;
+}
+
+void Stream::close(bool is_cut) {
+    if (file_ < 0) return;
+    put(END | uint64_t(is_cut) << 8, 0, nullptr, 0);
+    flush();
+    if (error_) end_early();
+    ::close(file_);
+    file_ = -1;
+}
+
+// The last whole record that the disk has becomes the end; its room is there already.
+void Stream::end_early() {
+    const uint64_t records = written_ < HEADER_BYTES ? 0 : (written_ - HEADER_BYTES) / record_bytes_;
+    records_ = uint32_t(records);
+    if (records == 0) return;
+    char end[44];
+    std::memset(end, 0xff, sizeof end);
+    std::memset(end, 0, 12);
+    end[0] = END, end[1] = 1;
+    const uint64_t bytes = HEADER_BYTES + records * record_bytes_;
+    if (ftruncate(file_, off_t(bytes)) != 0 || pwrite(file_, end, record_bytes_, off_t(bytes - record_bytes_)) != ssize_t(record_bytes_)) records_ = 0;
+}
+
+} // namespace gpurace
