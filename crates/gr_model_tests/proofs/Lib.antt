@@ -1,1 +1,2 @@
 pub mod ExampleLemmas
+pub mod States

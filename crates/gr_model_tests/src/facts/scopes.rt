@@ -1,12 +1,16 @@
 //! Facts of scopes, classes and conflicts.
 
+ghost use Rattle.std.specs.Prelude.{◌≡◌, []};
+
 use gr_model::event::{Event, Kind, Order, Scope, Space};
 use gr_model::names::Names;
 use gr_scopes::access::{conflicts, inclusive, pairs_with};
 use gr_scopes::class::{Class, class_of, exempt};
 
-/// An atomic store with release order, or load with acquire order, of an item of the first place.
-fn atomic(kind: Kind, space: Space) -> Event {
+/// An atomic access to word 4 of a memory.
+fn atomic(kind: Kind, space: Space) -> Event
+    ensures { result ≡ record { item = 0; kind = kind; space = space; word = 4; names = [] } }
+{
     Event {
         item: 0,
         kind,
@@ -40,4 +44,20 @@ fn inclusive_of_group_and_device() {
     let store = Kind::Store(Scope::Group, Order::Release);
     let load = Kind::Load(Scope::Device, Order::Acquire);
     prove!(!inclusive(&store, 0, &load, 0));
+}
+
+/// Words of local memory of two groups are two.
+#[test]
+fn pairs_with_of_two_words() {
+    let release = atomic(Kind::Store(Scope::Device, Order::Release), Space::Local);
+    let acquire = atomic(Kind::Load(Scope::Device, Order::Acquire), Space::Local);
+    prove!(!pairs_with(&release, 0, &acquire, 1));
+}
+
+/// A release of work-group scope and an acquire of device scope do not pair, though they are of one group.
+#[test]
+fn pairs_with_of_two_scopes() {
+    let release = atomic(Kind::Store(Scope::Group, Order::Release), Space::Global);
+    let acquire = atomic(Kind::Load(Scope::Device, Order::Acquire), Space::Global);
+    prove!(!pairs_with(&release, 0, &acquire, 0));
 }

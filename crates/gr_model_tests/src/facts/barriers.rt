@@ -1,0 +1,44 @@
+//! Facts of barrier instances.
+
+ghost use Rattle.std.specs.Prelude.{◌≡◌, ◌∷◌, [], IfOk, map};
+ghost use Rattle.gr_barriers.specs.Arrived.{fresh_group};
+
+use gr_barriers::instances::{BarrierError, Instances, State};
+use gr_model::event::ItemId;
+use gr_model::memory::Memory;
+use gr_model::shape::Shape;
+use std::alloc::Allocator;
+
+/// The first item of the group.
+const FIRST: ItemId = ItemId { group: 0, item: 0 };
+
+/// The barriers of a group of two items, none of which has come to one.
+fn new_instances<A: Allocator + Copy>(alloc: A) -> Result<Instances<A>, Memory>
+    ensures { IfOk result (λ v. v ≡ map fresh_group (2 ∷ [])) }
+{
+    let sizes = vec![in alloc; 2]?;
+    match Shape::new(sizes) {
+        Ok(shape) => Instances::new(alloc, &shape),
+        Err(_) => Err(Memory),
+    }
+}
+
+/// No barrier comes behind the end of its group.
+#[test]
+fn arrive_behind_the_end(rt: HostRuntime) -> Result<(), BarrierError> {
+    let mut instances = new_instances(rt.alloc())?;
+    instances.end_group(0)?;
+    let answer = instances.arrive(FIRST, 7, true, false);
+    prove!(answer == Err(BarrierError::Ended(0)));
+    Ok(())
+}
+
+/// While its group goes on no instance lacks an item for good.
+#[test]
+fn state_of_an_instance_that_waits(rt: HostRuntime) -> Result<(), BarrierError> {
+    let mut instances = new_instances(rt.alloc())?;
+    instances.arrive(FIRST, 7, true, false)?;
+    let state = instances.state(0, 0);
+    prove!(state != Some(State::Divergent));
+    Ok(())
+}

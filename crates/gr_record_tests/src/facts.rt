@@ -1,0 +1,157 @@
+//! What the contracts alone say of some values, of which some wrong body would say otherwise.
+
+ghost use Rattle.std.specs.Prelude.{Some, ◌∷◌, []};
+ghost use Rattle.gr_model.specs.Events.{IsEventOk};
+ghost use Rattle.gr_lines.specs.LineText.{IsLine};
+
+use gr_input::read_all;
+use gr_lines::line::Line;
+use gr_lines::line_text::line_text;
+use gr_model::event::{Event, ItemId, Kind, Name, Order, Scope, Space, Word};
+use gr_model::memory::Memory;
+use gr_model::names::Names;
+use gr_places::places::{PlaceLine, Placed, place_of};
+use gr_record::decoder::Decoder;
+use gr_record::encoding::encode_event;
+use gr_record::error::RecordError;
+use gr_record::header::{Header, Version};
+use gr_record::reading::{naming, read_event};
+use gr_report::report::Report;
+use gr_report::rows::Rows;
+use gr_report::write;
+use gr_text::forming::{Form, formed_bytes};
+use std::io::{self, ErrorKind, Read};
+
+/// The name of the first release of the first item.
+const NAME: Name = Name {
+    at: ItemId { group: 0, item: 0 },
+    release: 0,
+};
+
+/// The flag of global memory is the first.
+#[test]
+fn encode_event_of_a_barrier() {
+    let barrier = Event {
+        item: 0,
+        kind: Kind::Barrier {
+            global: true,
+            local: false,
+        },
+        space: Space::Global,
+        word: 0,
+        names: Names::none(),
+    };
+    let mut bytes = [0; 20];
+    encode_event(&barrier, &mut bytes);
+    prove!(bytes[1] == 1);
+}
+
+/// Byte 6 of a record is 0.
+#[test]
+#[tactic(auto, unfolding(gr_record::specs::Reading::event_at, gr_record::specs::Reading::bad_field_from))]
+fn read_event_of_a_record_with_byte_6() {
+    let header = Header {
+        version: Version::One,
+        group: 0,
+        items: 1,
+        launch: 0,
+    };
+    let write = [
+        1, 0, 0, 0, 0, 0, 1, 0, 4, 0, 0, 0, 255, 255, 255, 255, 255, 255, 255, 255,
+    ];
+    prove!(read_event(header, &write).is_err());
+}
+
+/// A stream has an end.
+#[test]
+fn finish_of_nothing() {
+    prove!(Decoder::new().finish().is_err());
+}
+
+/// A relaxed load has no names.
+#[test]
+fn naming_of_a_relaxed_load() {
+    prove!(naming(Kind::Load(Scope::Device, Order::Relaxed), &[NAME]).is_none());
+}
+
+/// The line of an acquire has its names.
+#[test]
+fn line_text_of_an_acquire(rt: HostRuntime) -> Result<(), Memory> {
+    if let Some(names) = Names::new(&[NAME]) {
+        let load = Event {
+            item: 0,
+            kind: Kind::Load(Scope::Device, Order::Acquire),
+            space: Space::Global,
+            word: 4,
+            names,
+        };
+        let text = line_text(rt.alloc(), &Line::Event(load))?;
+        prove!(text.len() == 24);
+    }
+    Ok(())
+}
+
+/// The first line of a site tells its place.
+#[test]
+fn place_of_a_site_with_two_lines() {
+    let first = PlaceLine {
+        of: Placed::Site(3),
+        text: "a",
+    };
+    let second = PlaceLine {
+        of: Placed::Site(3),
+        text: "bb",
+    };
+    let place = place_of(&[first, second], Placed::Site(3));
+    prove!(matches!(place, Some(text) if text.len() == 1));
+}
+
+/// Has a byte left, and fails at each read.
+#[derive(Drop)]
+struct Broken;
+
+impl Read for Broken {
+    ghost remaining = { λ _. Some (7 ∷ []) };
+
+    fn read(&mut self, _buf: &mut [u8]) -> io::Result<usize> {
+        Err(io::Error::from(ErrorKind::BrokenPipe))
+    }
+}
+
+/// A failed read is not the end.
+#[test]
+fn read_all_of_a_reader_that_fails(rt: HostRuntime) {
+    prove!(read_all(rt.alloc(), &mut Broken).is_err());
+}
+
+/// A stream of version 1 with an acquire that names a release, in version 2.
+#[test]
+fn formed_bytes_of_an_acquire(rt: HostRuntime) {
+    let stream = [
+        71, 82, 84, 49, 0, 0, 1, 0, 0, 0, 0, 0, 2, 0, 2, 2, 0, 0, 0, 0, 4, 0, 0, 0, 0, 0, 0, 0, 0,
+        0, 0, 0, 6, 0, 0, 0, 0, 0, 0, 0, 0, 0, 0, 0, 255, 255, 255, 255, 255, 255, 255, 255,
+    ];
+    if let Ok(long) = formed_bytes(rt.alloc(), Form::Long, &stream) {
+        prove!(long.get(24) == Some(&0));
+    }
+}
+
+/// A race on a global word is called so.
+#[test]
+fn write_of_a_global_race(rt: HostRuntime) -> io::Result<()> {
+    let report = Report {
+        races: Rows::of(vec![in rt.alloc(); Word::Global(4)]?),
+        divergences: Rows::of(Vec::new(rt.alloc())),
+        unmatched: Rows::of(Vec::new(rt.alloc())),
+        cut: Rows::of(Vec::new(rt.alloc())),
+        held: 0,
+        groups: 1,
+        items: 2,
+        records: 3,
+    };
+    let mut text = Vec::new(rt.alloc());
+    if write(&report, &mut text).is_ok() {
+        prove!(text.len() == 92);
+    }
+    Ok(())
+}
