@@ -1,1 +1,2 @@
+pub mod FactLemmas
 pub mod RunLemmas

@@ -14,6 +14,7 @@ ghost use Rattle.gr_shadow.specs.Clashes.{ClockedAccess, clashes};
 use gr_clocks::access::Access;
 use gr_clocks::clock::Clock as VectorClock;
 use gr_model::event::{ItemId, Word};
+use gr_model::memory::Memory;
 use gr_model::shape::Shape;
 use gr_route::work::{GiverSeat, Work, WorkQueue, WorkerSeat};
 use gr_scopes::class::Class;
@@ -65,6 +66,7 @@ fn give<R: Wait>(
 }
 
 /// Two writes of a word of which neither counts the other are a hit.
+#[tactic(auto, using(crate::proofs::FactLemmas::some_hit))]
 fn settle_of_two_writes<R: Wait + Clock>(
     rt: &R,
     alloc: Global,
@@ -81,9 +83,13 @@ fn settle_of_two_writes<R: Wait + Clock>(
     let giver = give(rt, &queue, &mut seat, first, second)?;
     let watch = Arc::new(alloc, NoWatch).ok()?;
     let end = work(rt, alloc, Worker::new(0, queue, seat), &watch);
-    let words = end.settle(giver).ok()?;
-    prove!(!words.is_empty());
-    Some(())
+    match end.settle(giver) {
+        Ok(words) => {
+            prove!(!words.is_empty());
+            Some(())
+        }
+        Err(Memory) => None,
+    }
 }
 
 /// A worker with a queue of its own that is given two writes.
