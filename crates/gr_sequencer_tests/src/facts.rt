@@ -1,6 +1,6 @@
 //! What the contracts alone say, each of which a wrong body would answer otherwise. A fact tells whether it was reached.
 
-ghost use Rattle.std.specs.Prelude.{◌≡◌, ◌∷◌, [], IfOk, length, map};
+ghost use Rattle.std.specs.Prelude.{IfOk, length, map};
 ghost use Rattle.gr_model.specs.Shapes.{HasItem};
 ghost use Rattle.gr_lanes.specs.Remembered.{IsWhole};
 
@@ -11,13 +11,13 @@ use gr_findings::instances::cause;
 use gr_lanes::instance::{barrier, has_mark_of, is_divergent};
 use gr_lanes::lanes::Lanes;
 use gr_lanes::seq_error::SeqError;
-use gr_model::event::{Event, ItemId, Kind, Name, Space};
+use gr_model::event::{Event, ItemId, Name, Space};
 use gr_model::growing::GrowingShape;
 use gr_model::memory::Memory;
-use gr_model::names::Names;
 use gr_model::report::{Divergence, DivergenceCause};
 use gr_model::shape::Shape;
 use gr_order::order::Order;
+use gr_order::steps::Ready;
 use gr_sequencer::handled::Handled;
 use gr_sequencer::sequencer::Sequencer;
 use gr_windows::windows::Windows;
@@ -150,11 +150,11 @@ fn next_behind_the_last_release<A: Allocator>(order: &Order<A>, item: ItemId) {
 
 /// Where a step is ready the order is not at its end.
 fn is_at_end_before_a_step<A: Allocator>(order: &Order<A>) -> bool {
-    if order.ready().is_none() {
-        return false;
+    if let Some(Ready::Item(_)) = order.ready() {
+        prove!(!order.is_at_end());
+        return true;
     }
-    prove!(!order.is_at_end());
-    true
+    false
 }
 
 /// Where an instance meets, as many events are handled as the group has items.
@@ -173,11 +173,11 @@ fn meet_of_all<A: Allocator>(order: &mut Order<A>) -> bool {
 
 /// What is ready for the order is ready for the agenda.
 fn ready_of_both<A: Allocator>(agenda: &mut Agenda<A>) -> bool {
-    if agenda.order().ready().is_none() {
-        return false;
+    if let Some(Ready::Item(_)) = agenda.order().ready() {
+        prove!(agenda.ready().is_some());
+        return true;
     }
-    prove!(agenda.ready().is_some());
-    true
+    false
 }
 
 /// A group of which nothing was taken has not ended.
