@@ -7,6 +7,8 @@ mod calls;
 #[cfg(test)]
 mod coming;
 #[cfg(test)]
+mod facts;
+#[cfg(test)]
 mod forgetting;
 #[cfg(test)]
 mod lanes;

@@ -5,6 +5,8 @@
 #[cfg(test)]
 mod calls;
 #[cfg(test)]
+mod facts;
+#[cfg(test)]
 mod records;
 #[cfg(test)]
 mod rows;

@@ -1,0 +1,368 @@
+//! What the contracts alone say, each of which a wrong body would answer otherwise. A fact tells whether it was reached.
+
+ghost use Rattle.std.specs.Prelude.{IfOk, length, map};
+ghost use Rattle.gr_model.specs.Shapes.{HasItem};
+ghost use Rattle.gr_lanes.specs.Remembered.{IsWhole};
+
+use crate::calls::{is_lawful, new, shape_of, take};
+use crate::rows::{ACQUIRE, BARRIER, END, READ, RELEASE, Record, event_of};
+use gr_agenda::agenda::Agenda;
+use gr_findings::instances::cause;
+use gr_lanes::instance::{barrier, has_mark_of, is_divergent};
+use gr_lanes::lanes::Lanes;
+use gr_lanes::seq_error::SeqError;
+use gr_model::event::{Event, ItemId, Name, Space};
+use gr_model::growing::GrowingShape;
+use gr_model::memory::Memory;
+use gr_model::report::{Divergence, DivergenceCause};
+use gr_model::shape::Shape;
+use gr_order::order::Order;
+use gr_order::steps::Ready;
+use gr_sequencer::handled::Handled;
+use gr_sequencer::sequencer::Sequencer;
+use gr_windows::windows::Windows;
+use refusing::Refusing;
+use std::alloc::{Allocator, Global};
+
+const FIRST: ItemId = ItemId { group: 0, item: 0 };
+
+const SECOND: ItemId = ItemId { group: 0, item: 1 };
+
+/// Records of the first group, on one word or site.
+const READS: Record = (0, 0, READ, Space::Global, 4, &[]);
+
+const RELEASES: Record = (0, 0, RELEASE, Space::Global, 4, &[]);
+
+const ENDS: Record = (0, 0, END, Space::Global, 0, &[]);
+
+const COMES: Record = (0, 0, BARRIER, Space::Global, 4, &[]);
+
+const COMES_ELSEWHERE: Record = (0, 1, BARRIER, Space::Global, 8, &[]);
+
+/// The first two releases of the first item.
+const TWO_NAMES: &[Name] = &[
+    Name {
+        at: FIRST,
+        release: 0,
+    },
+    Name {
+        at: FIRST,
+        release: 1,
+    },
+];
+
+const ACQUIRES: Record = (0, 1, ACQUIRE, Space::Global, 4, TWO_NAMES);
+
+/// The first event of an item goes, and so the second is its first.
+fn pop_first_of_two<A: Allocator>(windows: &mut Windows<A>, item: ItemId)
+    requires { HasItem (map length windows.old) item }
+{
+    let second = windows.waiting(item, 1);
+    windows.pop_first(item);
+    prove!(windows.waiting(item, 0) == second);
+}
+
+/// Behind a group's end no record is taken.
+fn refusal_behind_the_end<A: Allocator>(lanes: &Lanes<A>, event: &Event) -> bool {
+    if !lanes.is_complete(0) {
+        return false;
+    }
+    prove!(lanes.refusal(0, event).is_some());
+    true
+}
+
+/// One instance is forgotten.
+fn forget_of_one<A: Allocator>(lanes: &mut Lanes<A>) -> bool
+    requires { IsWhole lanes.old }
+{
+    if lanes.shape().groups() == 1
+        && lanes.shape().items(0) == 1
+        && barrier(lanes, FIRST, 0).is_some()
+    {
+        lanes.forget(0);
+        prove!(lanes.forgotten(0) == 1);
+        return true;
+    }
+    false
+}
+
+/// A divergent instance that is forgotten is kept.
+fn decide_of_one<A: Allocator>(lanes: &mut Lanes<A>) -> bool
+    requires { IsWhole lanes.old }
+{
+    let divergence = Divergence {
+        group: 0,
+        instance: 0,
+        cause: DivergenceCause::Site,
+    };
+    if lanes.shape().groups() == 1
+        && lanes.shape().items(0) == 1
+        && barrier(lanes, FIRST, 0).is_some()
+        && lanes.decide(divergence).is_ok()
+    {
+        prove!(lanes.decided(0).len() == 1);
+        return true;
+    }
+    false
+}
+
+/// Two who came with two marks make their instance divergent.
+fn is_divergent_of_two_marks<A: Allocator>(lanes: &Lanes<A>) -> bool {
+    if lanes.shape().groups() != 1 || lanes.shape().items(0) != 2 || lanes.forgotten(0) != 0 {
+        return false;
+    }
+    if let Some(first) = barrier(lanes, FIRST, 0)
+        && let Some(second) = barrier(lanes, SECOND, 0)
+        && !has_mark_of(&first, &second)
+    {
+        prove!(is_divergent(lanes, 0, 0, &first));
+        return true;
+    }
+    false
+}
+
+/// While a group goes on nobody is missing.
+fn cause_while_the_group_goes_on<A: Allocator>(lanes: &Lanes<A>) -> bool {
+    if lanes.shape().groups() == 0
+        || lanes.shape().items(0) == 0
+        || lanes.forgotten(0) != 0
+        || lanes.is_complete(0)
+    {
+        return false;
+    }
+    if let Some(first) = barrier(lanes, FIRST, 0) {
+        prove!(cause(lanes, 0, 0, &first) != Some(DivergenceCause::Missing));
+        return true;
+    }
+    false
+}
+
+/// An event is not handled before a release that it names, here the last.
+fn next_behind_the_last_release<A: Allocator>(order: &Order<A>, item: ItemId) {
+    if let Some(event) = order.next(item)
+        && let Some(taken) = order.event_at(event)
+        && let Some(name) = taken.names.as_slice().last()
+        && let Some(index) = order.lanes().release_at(*name)
+    {
+        prove!(order.frontier().covers(name.at, index));
+    }
+}
+
+/// Where a step is ready the order is not at its end.
+fn is_at_end_before_a_step<A: Allocator>(order: &Order<A>) -> bool {
+    if let Some(Ready::Item(_)) = order.ready() {
+        prove!(!order.is_at_end());
+        return true;
+    }
+    false
+}
+
+/// Where an instance meets, as many events are handled as the group has items.
+fn meet_of_all<A: Allocator>(order: &mut Order<A>) -> bool {
+    if order.lanes().shape().groups() == 0 {
+        return false;
+    }
+    let items = order.lanes().shape().items(0);
+    let before = order.held();
+    if order.meet(0).is_err() {
+        return false;
+    }
+    prove!(before.wrapping_sub(order.held()) == u64::from(items));
+    true
+}
+
+/// What is ready for the order is ready for the agenda.
+fn ready_of_both<A: Allocator>(agenda: &mut Agenda<A>) -> bool {
+    if let Some(Ready::Item(_)) = agenda.order().ready() {
+        prove!(agenda.ready().is_some());
+        return true;
+    }
+    false
+}
+
+/// A group of which nothing was taken has not ended.
+fn at_end_of_nothing<A: Allocator>(sequencer: &Sequencer<A>) -> bool {
+    if sequencer.shape().groups() == 0 || sequencer.taken(0) != 0 {
+        return false;
+    }
+    prove!(!sequencer.at_end());
+    true
+}
+
+/// The clock of an access counts it.
+fn step_of_an_access<A: Allocator + Clone>(sequencer: &mut Sequencer<A>) -> bool {
+    if let Ok(Some(Handled::One {
+        event,
+        access: Some(access),
+    })) = sequencer.step()
+    {
+        prove!(access.clock.covers(event.at, event.index));
+        return true;
+    }
+    false
+}
+
+/// Where no step is left no instance meets.
+fn step_before_a_meeting<A: Allocator + Clone>(sequencer: &mut Sequencer<A>) {
+    if let Ok(None) = sequencer.step() {
+        let met = sequencer.meet(0);
+        prove!(met.is_err());
+    }
+}
+
+#[test]
+fn windows_forget_the_first(rt: HostRuntime) -> Result<(), Memory> {
+    let shape = match Shape::new(vec![in rt.alloc(); 1; 1]?) {
+        Ok(shape) => GrowingShape::of(shape),
+        Err(_) => return Err(Memory),
+    };
+    let mut windows = Windows::new(rt.alloc(), &shape)?;
+    windows.push(FIRST, &event_of(&READS))?;
+    windows.push(FIRST, &event_of(&RELEASES))?;
+    pop_first_of_two(&mut windows, FIRST);
+    Ok(())
+}
+
+/// Lanes of one group of so many items, of which two records were taken.
+fn lanes_of(
+    alloc: Global,
+    items: u16,
+    first: &Record,
+    second: &Record,
+) -> Result<Lanes, SeqError>
+    ensures { IfOk result (λ l. IsWhole l) }
+{
+    let (first, second) = (event_of(first), event_of(second));
+    let Ok(shape) = Shape::new(vec![in alloc; items; 1]?) else {
+        return Err(SeqError::Memory);
+    };
+    let mut lanes = Lanes::new(alloc, shape)?;
+    if !is_lawful(&first) || !is_lawful(&second) {
+        return Err(SeqError::Memory);
+    }
+    lanes.take(0, first)?;
+    lanes.take(0, second)?;
+    Ok(lanes)
+}
+
+#[test]
+fn lanes_refuse_what_comes_behind_the_end(rt: HostRuntime) -> Result<(), SeqError> {
+    let lanes = lanes_of(rt.alloc(), 1, &READS, &ENDS)?;
+    assert!(rt; refusal_behind_the_end(&lanes, &event_of(&READS)));
+    Ok(())
+}
+
+#[test]
+fn lanes_forget_one_instance(rt: HostRuntime) -> Result<(), SeqError> {
+    let mut lanes = lanes_of(rt.alloc(), 1, &COMES, &COMES)?;
+    assert!(rt; forget_of_one(&mut lanes));
+    Ok(())
+}
+
+#[test]
+fn lanes_keep_a_divergence(rt: HostRuntime) -> Result<(), SeqError> {
+    let mut lanes = lanes_of(rt.alloc(), 1, &COMES, &COMES)?;
+    assert!(rt; decide_of_one(&mut lanes));
+    Ok(())
+}
+
+#[test]
+fn lanes_tell_two_marks(rt: HostRuntime) -> Result<(), SeqError> {
+    let lanes = lanes_of(rt.alloc(), 2, &COMES, &COMES_ELSEWHERE)?;
+    assert!(rt; is_divergent_of_two_marks(&lanes));
+    Ok(())
+}
+
+#[test]
+fn nobody_is_missing_while_a_group_goes_on(rt: HostRuntime) -> Result<(), SeqError> {
+    let lanes = lanes_of(rt.alloc(), 3, &COMES, &COMES_ELSEWHERE)?;
+    assert!(rt; cause_while_the_group_goes_on(&lanes));
+    Ok(())
+}
+
+/// An order of one group of so many items, of which these records were taken.
+fn order_of(alloc: Global, items: u16, records: &[Record]) -> Option<Order> {
+    let shape = shape_of(alloc, &[items]).ok()?;
+    let mut order = Order::new(alloc, shape).ok()?;
+    for record in records {
+        let event = event_of(record);
+        if !is_lawful(&event) || order.taken(0) >= 16_777_216 {
+            return None;
+        }
+        order.take(0, event).ok()?;
+    }
+    Some(order)
+}
+
+#[test]
+fn an_order_waits_for_the_last_release(rt: HostRuntime) {
+    let mut order = order_of(rt.alloc(), 2, &[RELEASES, RELEASES, ACQUIRES]);
+    assert!(rt; order.is_some());
+    if let Some(order) = &mut order {
+        next_behind_the_last_release(order, SECOND);
+        assert!(rt; order.handle(FIRST).is_ok());
+        next_behind_the_last_release(order, SECOND);
+    }
+}
+
+#[test]
+fn an_order_goes_on_while_a_step_is_ready(rt: HostRuntime) {
+    let order = order_of(rt.alloc(), 1, &[READS, ENDS]);
+    assert!(rt; order.is_some_and(|order| is_at_end_before_a_step(&order)));
+}
+
+#[test]
+fn all_of_a_group_meet(rt: HostRuntime) {
+    let order = order_of(rt.alloc(), 1, &[COMES]);
+    assert!(rt; order.is_some_and(|order| { let mut order = order; meet_of_all(&mut order) }));
+}
+
+/// Whether an agenda finds the one step that there is, or `None` where memory was too short for the agenda.
+fn finds_its_step<A: Allocator + Copy>(alloc: A) -> Option<bool> {
+    let shape = shape_of(alloc, &[1]).ok()?;
+    let mut agenda = Agenda::new(alloc, shape).ok()?;
+    let event = event_of(&READS);
+    if !is_lawful(&event) || agenda.order().taken(0) >= 16_777_216 {
+        return None;
+    }
+    agenda.take(0, event).ok()?;
+    Some(ready_of_both(&mut agenda))
+}
+
+#[test]
+fn an_agenda_finds_its_step_though_memory_is_short(rt: HostRuntime) {
+    for at in 0..100_u64 {
+        let heap = Refusing::new(rt.alloc(), at);
+        let found = finds_its_step(&heap);
+        assert!(rt; found != Some(false), "at {at}");
+        assert!(rt; at < 99 || !heap.refused() && found.is_some());
+    }
+}
+
+#[test]
+fn a_sequencer_is_not_at_its_end_before_its_groups(rt: HostRuntime) {
+    let sequencer = new(rt.alloc(), &[1]);
+    assert!(rt; sequencer.is_some_and(|sequencer| at_end_of_nothing(&sequencer)));
+}
+
+/// A sequencer of one group of one item, of which this record was taken.
+fn sequencer_of(alloc: Global, record: &Record) -> Option<Sequencer> {
+    let mut sequencer = new(alloc, &[1])?;
+    take(&mut sequencer, 0, event_of(record))?.ok()?;
+    Some(sequencer)
+}
+
+#[test]
+fn a_release_is_counted_by_its_clock(rt: HostRuntime) {
+    let mut sequencer = sequencer_of(rt.alloc(), &RELEASES);
+    assert!(rt; sequencer.as_mut().is_some_and(|sequencer| step_of_an_access(sequencer)));
+}
+
+#[test]
+fn an_instance_meets_before_no_step_is_left(rt: HostRuntime) {
+    let mut sequencer = sequencer_of(rt.alloc(), &COMES);
+    assert!(rt; sequencer.is_some());
+    if let Some(sequencer) = &mut sequencer {
+        step_before_a_meeting(sequencer);
+    }
+}
