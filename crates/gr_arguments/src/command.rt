@@ -475,7 +475,7 @@ pub(crate) fn command<'a>(alloc: Global) -> Result<Command<'a>, AllocError>
     let command = Command::new(alloc, "gpurace")
         .bin_name("gpurace")?
         .no_binary_name(true)
-        .version("0.1.0")
+        .version("0.2.0")
         .about(ABOUT)
         .long_about(LONG_ABOUT)
         .after_help(AFTER_HELP);

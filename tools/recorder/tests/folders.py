@@ -48,12 +48,17 @@ end
 
 
 CASES = {
+    # the accesses to tile[8] have places, those to tile[9] have none: two kinds
     "a barrier is missing": Case([tile(0), tile(1)], SIDES, 1, """\
-race on tile[8..9] of 2 groups (4 words); on tile[8] of group 0:
+race on tile[8] of 2 groups (2 words); on tile[8] of group 0:
     kernel.cl:5:20: read by group 0, item 0
         tile[l] += tile[l + 8];
     kernel.cl:3:13: write by group 0, item 1
         tile[l] = input[l];
+    no barrier stands between the two; one with CLK_LOCAL_MEM_FENCE would order them
+race on tile[9] of 2 groups (2 words); on tile[9] of group 0:
+    unknown: read by group 0, item 0
+    unknown: write by group 0, item 1
     no barrier stands between the two; one with CLK_LOCAL_MEM_FENCE would order them
 """),
     "no places, no buffers": Case([tile(0)], {}, 1, """\
@@ -82,37 +87,38 @@ race on output[0]
         tile[l] = input[l];
     the two are one place of the source: let one work-item do it, use an atomic, or, in a loop, a barrier with CLK_GLOBAL_MEM_FENCE
 """),
-    # words of two buffers and of none are of one kind; two accesses are shown for each
+    # words of a buffer and of none, with one place of two, are of one kind, and two accesses are shown for each; both accesses to output[0]
+    # have a place, so it is of another
     "two groups": Case(
         ["group 0 items 1 launch 7\n0 w g 5\n0 w g 128\n0 w g 200\nend\n",
          "group 1 items 1 launch 7 v2\n0 w g 200\n0 w g 128\n0 w g 5\nend\n"], SIDES, 1, """\
-race on input[5], output[0], global word 200 (3 words); on input[5]:
+race on input[5], global word 200 (2 words); on input[5]:
     kernel.cl:3:13: write by group 0, item 0
         tile[l] = input[l];
     unknown: write by group 1, item 0
-    the two are of different work-groups, which no barrier orders
-and on output[0]:
-    kernel.cl:5:20: write by group 0, item 0
-        tile[l] += tile[l + 8];
-    kernel.cl:5:20: write by group 1, item 0
-        tile[l] += tile[l + 8];
     the two are of different work-groups, which no barrier orders
 and on global word 200:
     unknown: write by group 0, item 0
     kernel.cl:3:13: write by group 1, item 0
         tile[l] = input[l];
     the two are of different work-groups, which no barrier orders
+race on output[0]
+    kernel.cl:5:20: write by group 0, item 0
+        tile[l] += tile[l + 8];
+    kernel.cl:5:20: write by group 1, item 0
+        tile[l] += tile[l + 8];
+    the two are of different work-groups, which no barrier orders
 """),
     # words 0 and 4 race at the same two places, and word 2 at others
-    "two places of one kind": Case(
+    "two pairs of places": Case(
         ["group 0 items 4 launch 7\n0 w g 0\n1 r g 0\n0 w g 2\n1 r g 2\n0 w g 4\n1 r g 4\nend\n"],
         {"buffers": "g 0 8 input\n", "places": "0 0 0 a.cl:1:1\n0 1 0 a.cl:2:1\n0 0 1 a.cl:3:1\n0 1 1 a.cl:4:1\n"
                                                "0 0 2 a.cl:1:1\n0 1 2 a.cl:2:1\n"}, 1, """\
-race on input[0], input[2], input[4] (3 words); on input[0]:
+race on input[0], input[4] (2 words); on input[0]:
     a.cl:1:1: write by group 0, item 0
     a.cl:2:1: read by group 0, item 1
     no barrier stands between the two; one with CLK_GLOBAL_MEM_FENCE would order them
-and on input[2]:
+race on input[2]
     a.cl:3:1: write by group 0, item 0
     a.cl:4:1: read by group 0, item 1
     no barrier stands between the two; one with CLK_GLOBAL_MEM_FENCE would order them

@@ -1,0 +1,106 @@
+"""The program in release/, and the script that runs it."""
+
+import os
+import pathlib
+import shutil
+import subprocess
+import tempfile
+import unittest
+
+from testing.program import TOP, pack
+
+
+def copy_of_repository(to):
+    """A repository with the program that is tested as its release, and as what rt ci built."""
+    for name in ("gpurace", "crates.txt", "HANDLES"):
+        shutil.copy2(TOP / name, to / name)
+    shutil.copytree(TOP / "tools", to / "tools")
+    shutil.copytree(TOP / "crates", to / "crates", ignore=shutil.ignore_patterns("out", "proofs", "specs", "wrong", "must-fail"))
+    built = to / "crates" / "gr_cli" / "out" / "gr_cli"
+    built.parent.mkdir()
+    shutil.copyfile(os.environ["GPURACE"], built)
+    built.chmod(0o755)
+    return built
+
+
+class Release(unittest.TestCase):
+    def setUp(self):
+        self.top = pathlib.Path(tempfile.mkdtemp(prefix="gpurace-test-"))
+        self.addCleanup(shutil.rmtree, self.top, ignore_errors=True)
+        self.built = copy_of_repository(self.top)
+        self.source = self.top / "crates" / "gr_model" / "src" / "lib.rt"
+        self.assertEqual(self.release("take").returncode, 0)
+
+    def release(self, *words):
+        return subprocess.run([self.top / "tools" / "release", *words], stdout=subprocess.PIPE, stderr=subprocess.PIPE, check=False)
+
+    def script(self, *words, **settings):
+        settings = {"input": b"", "stdout": subprocess.PIPE, "stderr": subprocess.PIPE, "check": False, **settings}
+        return subprocess.run([self.top / "gpurace", *words], **settings)
+
+    def change_a_byte(self):
+        kept = self.top / "release" / "gpurace"
+        content = bytearray(kept.read_bytes())
+        content[-1] ^= 1
+        kept.write_bytes(content)
+
+    def test_what_was_taken_is_accepted(self):
+        self.assertEqual(self.release("check", "--strict").returncode, 0)
+
+    def test_a_changed_byte_is_refused(self):
+        self.change_a_byte()
+        self.assertEqual(self.release("check").returncode, 1)
+        self.assertEqual(self.release("check", "--strict").returncode, 1)
+
+    def test_a_changed_source_is_named_and_strictly_refused(self):
+        self.source.write_text(self.source.read_text() + "\n")
+        self.assertIn(b"crates/gr_model/src/lib.rt", self.release("check").stderr)
+        self.assertEqual(self.release("check").returncode, 0)
+        self.assertEqual(self.release("check", "--strict").returncode, 1)
+
+    def test_an_added_source_is_strictly_refused(self):
+        (self.source.parent / "more.rt").write_text("")
+        self.assertEqual(self.release("check", "--strict").returncode, 1)
+
+    def test_a_missing_release_is_refused(self):
+        (self.top / "release" / "SOURCES").unlink()
+        self.assertEqual(self.release("check").returncode, 1)
+
+    def test_the_script_runs_what_was_built_while_no_source_is_newer(self):
+        self.assertEqual(self.script("--which").stdout, b"%s\n" % bytes(self.built))
+        later = self.built.stat().st_mtime + 10
+        os.utime(self.source, (later, later))
+        self.assertEqual(self.script("--which").stdout, b"%s\n" % bytes(self.top / "release" / "gpurace"))
+
+    def test_the_script_runs_the_release_of_a_new_clone_and_says_nothing(self):
+        self.built.unlink()
+        race = pack("group 0 items 2 launch 7\n0 w g 16\n1 r g 16\nend\n")
+        ran = self.script("replay", input=race)
+        self.assertEqual((ran.returncode, ran.stderr), (1, b""))
+        self.assertIn(b"race global 16\n", ran.stdout)
+
+    def test_the_script_says_what_a_program_that_does_not_run_wants(self):
+        self.built.unlink()
+        (self.top / "release" / "gpurace").write_bytes(b"\x7fELF of another machine")
+        ran = self.script("replay")
+        self.assertEqual((ran.returncode, ran.stdout), (70, b""))
+        self.assertIn(b"glibc 2.34", ran.stderr)
+
+    def test_the_script_says_that_there_is_no_program(self):
+        self.built.unlink()
+        (self.top / "release" / "gpurace").unlink()
+        self.assertEqual(self.script("replay").returncode, 70)
+
+    def test_the_script_installs_the_program(self):
+        self.assertEqual(self.script("--install", self.top / "somewhere" / "bin").returncode, 0)
+        installed = self.top / "somewhere" / "bin" / "gpurace"
+        ran = subprocess.run([installed, "--version"], stdout=subprocess.PIPE, check=True)
+        self.assertTrue(ran.stdout.startswith(b"gpurace "))
+
+    def test_the_script_wants_a_folder_to_install_to(self):
+        self.assertEqual(self.script("--install").returncode, 3)
+
+    def test_the_script_says_what_a_build_wants(self):
+        ran = self.script("--build", env={"PATH": "/usr/bin:/bin"})
+        self.assertEqual(ran.returncode, 70)
+        self.assertIn(b"the Rattle kit's rt is not on the path", ran.stderr)
