@@ -1,6 +1,7 @@
 """What every command answers where it can't read or write, and that it opens each file once."""
 
 import os
+import resource
 import subprocess
 import threading
 
@@ -127,6 +128,25 @@ class Inputs(FaultTest):
             with self.subTest(words=words):
                 ran, of_a_file = self.gpurace(*words.split(), "/dev/stdin", given=RACE), self.gpurace(*words.split(), "race")
                 self.assert_run(ran, of_a_file.stdout, status)
+
+
+class Memory(FaultTest):
+    """Launches that are larger than the memory that the program may have."""
+
+    most = 64 << 20
+
+    def limit(self):
+        resource.setrlimit(resource.RLIMIT_AS, (self.most, self.most))
+
+    def test_files_that_are_too_large_for_the_memory(self):
+        if self.gpurace("--version", preexec_fn=self.limit).returncode:
+            self.skipTest("a program that is built with checks wants more memory")
+        self.put("large", header(0, 1) + access(0, 0, 0, 16) * (self.most // 20) + END)
+        for words in FILES:
+            if not words.startswith("run"):
+                with self.subTest(words=words):
+                    ran = self.gpurace(*words.split(), "large", preexec_fn=self.limit)
+                    self.assert_run(ran, b"", 4, b"gpurace: out of memory\n")
 
 
 class Pipes(FaultTest):

@@ -1,15 +1,18 @@
-//! Tests alone: runs of the program over values: its words, what it writes, and its status.
+//! Tests of the commands that tell of a launch in files, in what files can't do: growths that are refused, readers and writers that
+//! fail at each of their calls, and values that no file has. All else is in the folder `tests`.
 #![tactic(auto)]
 
 #[cfg(test)]
-mod broken;
+mod answers;
 #[cfg(test)]
-mod runs;
+mod beyond;
 #[cfg(test)]
-mod statuses;
+mod facts;
 #[cfg(test)]
-mod stored;
+mod failing;
 #[cfg(test)]
-mod transcript;
+mod growths;
 #[cfg(test)]
-mod words;
+mod launches;
+#[cfg(test)]
+mod lines;

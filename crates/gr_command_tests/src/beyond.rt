@@ -1,0 +1,117 @@
+//! What no words of a command line and no files give.
+
+use gr_check::check_files;
+use gr_check_json::check_files_json;
+use gr_command::execute::execute;
+use gr_command::status::status_of;
+use gr_model::shape::ShapeError;
+use gr_record::error::RecordError;
+use gr_record::fault::Fault;
+use gr_sides::fault::{SidesFault, write_sides_fault};
+use refusing::failing::FailingWriter;
+use std::alloc::Global;
+use std::io::{self, ErrorKind};
+use std::sync::Wait;
+use std::test::Fail;
+use std::thread::Threads;
+use std::time::Clock;
+
+static STATUSES: [(Fault, u8); 5] = [
+    (Fault::Stream(0, RecordError::Memory), 4),
+    (Fault::Shape(ShapeError::TooManyItems), 2),
+    (Fault::LongStream(2), 2),
+    (Fault::Memory, 4),
+    (Fault::Threads, 4),
+];
+
+#[test]
+fn a_fault_has_its_status(rt: HostRuntime) {
+    for (fault, status) in &STATUSES {
+        assert_eq!(rt; status_of(fault), *status, "{fault:?}");
+    }
+}
+
+/// Opens no file for want of memory.
+fn open_none(_: &str) -> io::Result<&'static [u8]> {
+    Err(io::Error::from(ErrorKind::OutOfMemory))
+}
+
+/// The status of words where no file can be opened for want of memory, and whether that alone is told.
+fn told_without_memory<H: Threads + Wait + Clock + Copy + Send + 'static>(
+    rt: H,
+    alloc: Global,
+    words: &[&str],
+) -> (u8, bool) {
+    let mut input: &[u8] = b"";
+    let mut output = Vec::new(alloc);
+    let mut errors = Vec::new(alloc);
+    let status = execute(
+        rt,
+        alloc,
+        words,
+        &mut input,
+        open_none,
+        &mut output,
+        &mut errors,
+    );
+    let is_told = errors.as_slice() == b"gpurace: out of memory\n".as_slice();
+    (status, is_told && output.is_empty())
+}
+
+#[test]
+fn a_file_that_wants_memory_to_be_opened_is_told(rt: HostRuntime) {
+    let explain = ["explain", "g", "16", "wanting"];
+    assert_eq!(rt; told_without_memory(rt, rt.alloc(), &explain), (4, true));
+    assert_eq!(rt;
+        told_without_memory(rt, rt.alloc(), &["run", "wanting"]),
+        (4, true)
+    );
+}
+
+/// Faults of side files, and their lines.
+static LINES: [(SidesFault, &str); 3] = [
+    (SidesFault::Places(2), "gpurace: places: line 2: bad line\n"),
+    (
+        SidesFault::Buffers(1),
+        "gpurace: buffers: line 1: bad line\n",
+    ),
+    (SidesFault::Run(Fault::Read), "gpurace: read fault\n"),
+];
+
+/// Whether a line that is written whole and can't be flushed is not told as written.
+fn fails_unflushed(alloc: Global, fault: &SidesFault, line: &[u8]) -> bool {
+    let mut writer = FailingWriter::with_room(alloc, line.len());
+    write_sides_fault(fault, &mut writer).is_err() && writer.has_front(line, line.len())
+}
+
+#[test]
+fn lines_of_faults_are_flushed(rt: HostRuntime) {
+    for (fault, line) in &LINES {
+        assert!(rt;
+            fails_unflushed(rt.alloc(), fault, line.as_bytes()),
+            "{line}"
+        );
+    }
+}
+
+const CHECKED: &str = "gpurace: shape: no groups\nwrong: there is no stream\n\
+right: there is one stream at least; often the program before failed\n";
+
+const CHECKED_JSON: &str = "{\"accepted\":false,\"place\":null,\
+\"right\":\"there is one stream at least; often the program before failed\",\
+\"type\":\"check\",\"wrong\":\"there is no stream\"}\n";
+
+#[test]
+fn a_check_of_no_file_is_refused(rt: HostRuntime) -> Result<(), Fail> {
+    let alloc = rt.alloc();
+    let mut text = Vec::new(alloc);
+    let answer = check_files(alloc, &[], open_none, &mut text);
+    assert_eq!(rt; (answer, str::from_utf8(&text)), (Ok(false), Ok(CHECKED)));
+    let mut json = Vec::new(alloc);
+    let answer = check_files_json(alloc, &[], open_none, &mut json);
+    assert_eq!(rt;
+        (answer, str::from_utf8(&json)),
+        (Ok(false), Ok(CHECKED_JSON))
+    );
+    Ok(())
+}

@@ -1,0 +1,86 @@
+//! Each growth is refused in turn: then memory runs out and nothing is written, or what is due is answered and written.
+
+use crate::answers::{ALL, Asked, answered};
+use crate::launches::{LAUNCHES, Launch, NOTED, streams_of};
+use gr_model::memory::Memory;
+use gr_record::fault::Fault;
+use gr_sides::fault::SidesFault;
+use refusing::failing::FailingWriter;
+use refusing::growths::refuse_each;
+use std::alloc::{Allocator, Global};
+use std::test::Fail;
+
+/// What is answered, and what is written.
+type Answer = (Result<bool, SidesFault>, Vec<u8>);
+
+fn answer_of<A: Allocator + Copy>(
+    alloc: A,
+    ample: Global,
+    streams: &[Vec<u8>],
+    asked: Asked,
+) -> Answer {
+    let mut writer = FailingWriter::with_room(ample, usize::MAX);
+    let answer = answered(alloc, streams, ("none", 0), asked, &mut writer);
+    (answer, writer.taken)
+}
+
+/// Whether the answer is the one that is due, or memory runs out with nothing written.
+fn is_due<A: Allocator + Copy>(
+    alloc: A,
+    ample: Global,
+    streams: &[Vec<u8>],
+    asked: Asked,
+    due: &Answer,
+) -> Result<bool, Memory> {
+    let (answer, text) = answer_of(alloc, ample, streams, asked);
+    match answer {
+        Err(SidesFault::Run(Fault::Memory)) if text.is_empty() => Err(Memory),
+        answer => Ok(answer == due.0 && text.as_slice() == due.1.as_slice()),
+    }
+}
+
+/// Whether each growth of an answer is refused, at least so many, and each time the answer is due.
+fn are_growths_told(ample: Global, streams: &[Vec<u8>], asked: Asked, least: u64) -> bool {
+    let due = answer_of(ample, ample, streams, asked);
+    let growths = refuse_each(
+        ample,
+        least,
+        |heap| is_due(heap, ample, streams, asked, &due),
+    );
+    growths.is_ok_and(|growths| growths.told >= 1)
+}
+
+/// How many growths there are at least where side files are read, too.
+fn least_of(asked: Asked) -> u64 {
+    match asked {
+        Asked::Pair(_) | Asked::WhyHeld(_, _) => 5,
+        Asked::Check => 4,
+        Asked::Account(_) | Asked::Races(_) | Asked::History(_) => 21,
+    }
+}
+
+#[test]
+fn each_refused_growth_beside_side_files_is_want_of_memory(rt: HostRuntime) -> Result<(), Fail> {
+    let streams = streams_of(rt.alloc(), &NOTED)?;
+    for asked in &ALL {
+        let told = are_growths_told(rt.alloc(), &streams, *asked, least_of(*asked));
+        assert!(rt; told, "{asked:?}");
+    }
+    Ok(())
+}
+
+/// Whether each growth in each answer about a launch is told.
+fn are_all_told(alloc: Global, streams: &[Vec<u8>]) -> bool {
+    ALL.iter()
+        .all(|asked| are_growths_told(alloc, streams, *asked, 2))
+}
+
+#[test]
+fn each_refused_growth_is_want_of_memory(rt: HostRuntime) -> Result<(), Fail> {
+    for launch in &LAUNCHES {
+        let streams = streams_of(rt.alloc(), launch)?;
+        let name = launch.0;
+        assert!(rt; are_all_told(rt.alloc(), &streams), "{name}");
+    }
+    Ok(())
+}
