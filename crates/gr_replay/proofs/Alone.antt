@@ -21,14 +21,19 @@ use Rattle.gr_record.specs.WholeStreams as record_spec
 use Rattle.gr_record.specs.WholeStreams.{front_header_at, front_records_at, up_to, whole}
 use Rattle.gr_record.proofs.Growing.{grown, records_grow}
 use Rattle.gr_intake.specs.Joined.{Flat, ◌>>=◌, at_place, stream_at}
+use Rattle.gr_intake.proofs.Accepted.{found, same_found}
 use Rattle.gr_intake.proofs.Behind.{front_of_unit}
 use Rattle.gr_replay.specs.Each.{only_stream_at}
 
--- the bytes are this stream
-pub record IsStreamOf (bytes : List ℕ) (f : Flat) : Type 0 where
+-- the bytes begin with this stream, and these are left behind it
+pub record BeginsWith (bytes : List ℕ) (f : Flat) (rest : List ℕ) : Type 0 where
   pub behind : List ℕ
   pub header : front_header_at bytes ≡ Ok (f.header, behind)
-  pub records : front_records_at f.header behind ≡ Ok (f.events, [])
+  pub records : front_records_at f.header behind ≡ Ok (f.events, rest)
+
+-- the bytes are this stream
+abbrev pub IsStreamOf : List ℕ → Flat → Type 0
+IsStreamOf bytes f = BeginsWith bytes f []
 
 abbrev done : {X : Type 0} → X → Result X RecordError
 done x = Ok x
@@ -127,17 +132,29 @@ module _ (seen : List Flat) where
   same_stream : (x y : Flat) → stream x ≡ stream y → x ≡ y
   same_stream x y e = cc
 
-  module _ (bytes : List ℕ) (f : Flat) where
-    by_rest : (h : Header) (behind : List ℕ) → front_header_at bytes ≡ Ok (h, behind) → (events : List Event) (rest : List ℕ) → front_records_at h behind ≡ Ok (events, rest) → (b : Bool) → (length rest == 0) ≡ b → cond b (stream (record { header = h; events = events })) (Err (faults.Stream (length seen) errors.AfterEnd)) ≡ stream f → IsStreamOf bytes f
-    by_rest h behind header events rest records true none k =
-        subst (IsStreamOf bytes) (same_stream (record { header = h; events = events }) f k) (record { behind = behind; header = header; records = records ∙ ap (λ (v : List ℕ). done (events, v)) (nil_from_length rest (eqb-true (length rest) 0 none)) })
-    by_rest h behind header events rest records false none k = absurd cc
+  -- what is read as the only stream of the bytes is read as their first
+  pub only_read : (bytes : List ℕ) (f : Flat) → only_stream_at seen bytes ≡ Ok f → stream_at seen bytes ≡ Ok (f, [])
+  unfolding only_stream_at
+  only_read bytes f is = by_stream (stream_at seen bytes) is
+    where
+      by_rest : (g : Flat) (rest : List ℕ) (b : Bool) → (length rest == 0) ≡ b → cond b (stream g) (Err (faults.Stream (length seen) errors.AfterEnd)) ≡ stream f → found (g, rest) ≡ found (f, [])
+      by_rest g rest true none k =
+          let same = same_stream g f k in
+          let empty = nil_from_length rest (eqb-true (length rest) 0 none) in
+          λ i. found (same i, empty i)
+      by_rest g rest false none k = absurd cc
 
-    by_records : (h : Header) (behind : List ℕ) → front_header_at bytes ≡ Ok (h, behind) → (r : Result (List Event × List ℕ) RecordError) → front_records_at h behind ≡ r → ((at_place (length seen) r >>= kept h) >>= only) ≡ Ok f → IsStreamOf bytes f
+      by_stream : (r : Result (Flat × List ℕ) Fault) → (r >>= only) ≡ Ok f → r ≡ Ok (f, [])
+      by_stream (Err e) k = absurd cc
+      by_stream (Ok (g, rest)) k = by_rest g rest (length rest == 0) refl k
+
+  module _ (bytes : List ℕ) (f : Flat) (rest : List ℕ) where
+    by_records : (h : Header) (behind : List ℕ) → front_header_at bytes ≡ Ok (h, behind) → (r : Result (List Event × List ℕ) RecordError) → front_records_at h behind ≡ r → (at_place (length seen) r >>= kept h) ≡ Ok (f, rest) → BeginsWith bytes f rest
     by_records h behind header (Err e) records k = absurd cc
-    by_records h behind header (Ok (events, rest)) records k = by_rest h behind header events rest records (length rest == 0) refl k
+    by_records h behind header (Ok x) records k =
+        subst (λ (y : Flat × List ℕ). BeginsWith bytes y.0 y.1) (same_found (record { header = h; events = x.0 }, x.1) (f, rest) k) (record { behind = behind; header = header; records = records })
 
-    by_seen : (h : Header) (behind : List ℕ) → front_header_at bytes ≡ Ok (h, behind) → (a b : Bool) → (cond a (Err (faults.SameGroup (length seen))) (cond b (Err (faults.OtherLaunch (length seen))) (at_place (length seen) (front_records_at h behind) >>= kept h)) >>= only) ≡ Ok f → IsStreamOf bytes f
+    by_seen : (h : Header) (behind : List ℕ) → front_header_at bytes ≡ Ok (h, behind) → (a b : Bool) → cond a (Err (faults.SameGroup (length seen))) (cond b (Err (faults.OtherLaunch (length seen))) (at_place (length seen) (front_records_at h behind) >>= kept h)) ≡ Ok (f, rest) → BeginsWith bytes f rest
     by_seen h behind header true b k = absurd cc
     by_seen h behind header false true k = absurd cc
     by_seen h behind header false false k = by_records h behind header (front_records_at h behind) refl k
@@ -148,17 +165,15 @@ module _ (seen : List Flat) where
         (cond (list_any (λ s. not (s.header.launch == h.0.launch)) seen) (Err (faults.OtherLaunch (length seen)))
         (at_place (length seen) (front_records_at h.0 h.1) >>= kept h.0))
 
-    by_header : (r : Result (Header × List ℕ) RecordError) → front_header_at bytes ≡ r → ((at_place (length seen) r >>= behind_header) >>= only) ≡ Ok f → IsStreamOf bytes f
+    by_header : (r : Result (Header × List ℕ) RecordError) → front_header_at bytes ≡ r → (at_place (length seen) r >>= behind_header) ≡ Ok (f, rest) → BeginsWith bytes f rest
     by_header (Err e) header k = absurd cc
     by_header (Ok (h, behind)) header k = by_seen h behind header (list_any (λ s. s.header.group == h.group) seen) (list_any (λ s. not (s.header.launch == h.launch)) seen) k
 
-    -- what is read as the one stream of the bytes is that
-    pub only_is : only_stream_at seen bytes ≡ Ok f → IsStreamOf bytes f
-    unfolding only_stream_at stream_at
-    only_is is = by_header (front_header_at bytes) refl is
+    -- the bytes begin with the stream that is read
+    pub stream_begins : stream_at seen bytes ≡ Ok (f, rest) → BeginsWith bytes f rest
+    unfolding stream_at
+    stream_begins is = by_header (front_header_at bytes) refl is
 
--- and what is read of the bytes is the stream, and nothing behind it
-pub only_read : (seen : List Flat) (bytes : List ℕ) (f : Flat) → only_stream_at seen bytes ≡ Ok f → stream_at seen bytes ≡ Ok (f, [])
-only_read seen bytes f one =
-    let is = only_is seen bytes f one in
-    ap (stream_at seen) (sym (append-nil bytes)) ∙ (stream_on seen bytes [] f is ∙ ap (λ (r : Result Flat Fault). r >>= followed seen []) (sym (only_on seen bytes f is) ∙ one))
+  -- and are it, where it is the only one
+  pub only_is : (bytes : List ℕ) (f : Flat) → only_stream_at seen bytes ≡ Ok f → IsStreamOf bytes f
+  only_is bytes f is = stream_begins bytes f [] (only_read bytes f is)

@@ -57,7 +57,7 @@ joined_checked (suc n) (bytes ∷ inputs) (f ∷ fs) seen are le =
 pub all_of : (inputs : List (List ℕ)) (fs : List Flat) → AreStreamsOf inputs fs → joined_of (joined inputs) ≡ all_checked [] fs
 all_of inputs fs are = joined_checked (length (joined inputs)) inputs fs [] are (omega arith)
 
-same_of : (inputs : List (List ℕ)) (fs : List Flat) → AreStreamsOf inputs fs → joined_of (joined inputs) ≡ each_of inputs
+pub same_of : (inputs : List (List ℕ)) (fs : List Flat) → AreStreamsOf inputs fs → joined_of (joined inputs) ≡ each_of inputs
 same_of inputs fs are = all_of inputs fs are ∙ sym (each_checked inputs fs [] are)
 
 -- ---- inputs that are read are one stream each
@@ -81,7 +81,7 @@ each_are (bytes ∷ inputs) seen out are is = by_stream (only_stream_at seen byt
     by_stream (Err e) one k later = absurd cc
     by_stream (Ok f) one k later = later f (stream_is_one seen bytes are f [] (only_read seen bytes f one)) k
 
-all_one : (inputs : List (List ℕ)) (fs : List Flat) → AreStreamsOf inputs fs → All IsOneStream inputs
+pub all_one : (inputs : List (List ℕ)) (fs : List Flat) → AreStreamsOf inputs fs → All IsOneStream inputs
 all_one [] fs are = λ k d lt. absurd (omega (arith, lt))
 all_one (bytes ∷ inputs) [] are = absurd are
 all_one (bytes ∷ inputs) (f ∷ fs) are = by_place (all_one inputs fs are.1)
@@ -90,7 +90,7 @@ all_one (bytes ∷ inputs) (f ∷ fs) are = by_place (all_one inputs fs are.1)
     by_place later zero d lt = (f, only_on [] bytes f are.0)
     by_place later (suc k) d lt = later k d (omega (arith, lt))
 
-one_all : (inputs : List (List ℕ)) → All IsOneStream inputs → (fs : List Flat) × AreStreamsOf inputs fs
+pub one_all : (inputs : List (List ℕ)) → All IsOneStream inputs → (fs : List Flat) × AreStreamsOf inputs fs
 one_all [] all = ([], tt)
 one_all (bytes ∷ inputs) all =
     let one : IsOneStream bytes = all zero bytes (omega arith) in

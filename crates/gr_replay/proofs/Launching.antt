@@ -56,7 +56,7 @@ rising_from f xs up apart =
 
 -- ---- the first gap
 
-contains_at : (fs : List Flat) (p : ℕ) (d : Flat) → p < length fs → Contains fs (get_or fs p d)
+pub contains_at : (fs : List Flat) (p : ℕ) (d : Flat) → p < length fs → Contains fs (get_or fs p d)
 contains_at fs p d lt = (p, lt, get_or_from_slice_get fs p (get_or fs p d) (get_or fs p d) (slice_get-get_or fs p d lt))
 
 pub same_at : (fs : List Flat) (p : ℕ) (d e : Flat) → p < length fs → get_or fs p d ≡ get_or fs p e

@@ -6,4 +6,6 @@ mod Inputs
 pub mod OneLaunch
 pub mod Alone
 pub mod JoinedInputs
+pub mod AnyOrder
 pub mod Upgrades
+pub mod Parted

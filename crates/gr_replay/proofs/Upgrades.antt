@@ -103,13 +103,13 @@ alike r q fs gs one other same s (seen, is, launch) =
 
 -- ---- whole streams
 
-abbrev flat_of : WholeStream → Flat
+abbrev pub flat_of : WholeStream → Flat
 flat_of s = record { header = s.header; events = s.events }
 
-abbrev spelled : WholeStream → List ℕ
+abbrev pub spelled : WholeStream → List ℕ
 spelled s = stream_spelling s.header s.events
 
-whole_is : (s : WholeStream) → IsWhole s → IsStreamOf (spelled s) (flat_of s)
+pub whole_is : (s : WholeStream) → IsWhole s → IsStreamOf (spelled s) (flat_of s)
 whole_is s whole =
     let prefix = whole.prefix in
     let events = events_spelling s.header.version s.events in

@@ -2,6 +2,7 @@
 -- Source: docs/FORMATS.md, "Stream" and "Several streams", and docs/MODEL.md, "The report".
 use Rattle.std.specs.Prelude.{◌≡◌, ◌⊎◌, ◌↔◌, ℕ, List, [], ◌∷◌, All, Ok, ⊤}
 use Rattle.std.specs.List.{flat_map}
+use Rattle.std.specs.List.Sorted.{IsPermutation}
 use Rattle.gr_model.specs.Reports.{WholeReport}
 use Rattle.gr_model.specs.Streams.{Streams}
 use Rattle.gr_record.specs.Laws.{AreBytes}
@@ -41,12 +42,27 @@ joined inputs = flat_map (λ bytes. bytes) inputs
 abbrev pub InputsAreJoined : Type 0
 InputsAreJoined = (inputs : List (List ℕ)) (s : Streams) → ReadsEach inputs s ↔ (All IsOneStream inputs × Reads (joined inputs) s)
 
--- so with their report: where both have one, it is the same
+-- and bytes that are the streams of a launch are such inputs, one after another
+abbrev pub BytesAreInputs : Type 0
+BytesAreInputs = (bytes : List ℕ) (s : Streams) → AreBytes bytes → Reads bytes s → (inputs : List (List ℕ)) × (bytes ≡ joined inputs) × ReadsEach inputs s
+
+-- so inputs have a report exactly where each is one stream and their bytes, one after another, have it
 abbrev pub JoinedReportIsSame : Type 0
 JoinedReportIsSame = (inputs : List (List ℕ)) (r : WholeReport) → IsExactOfEach inputs r ↔ (All IsOneStream inputs × IsExact (joined inputs) r)
 
+-- and two reports, of the inputs and of these bytes, are equal
 abbrev pub JoinedReportIsEqual : Type 0
 JoinedReportIsEqual = (inputs : List (List ℕ)) (r q : WholeReport) → IsExactOfEach inputs r → IsExact (joined inputs) q → r ≡ q
+
+-- ---- inputs in another order
+
+-- inputs are the streams of a launch in whatever order
+abbrev pub InputsInAnyOrder : Type 0
+InputsInAnyOrder = (inputs others : List (List ℕ)) (s : Streams) → IsPermutation inputs others → ReadsEach inputs s → ReadsEach others s
+
+-- and have its report
+abbrev pub ReportInAnyOrder : Type 0
+ReportInAnyOrder = (inputs others : List (List ℕ)) (r : WholeReport) → IsPermutation inputs others → IsExactOfEach inputs r → IsExactOfEach others r
 
 -- ---- the same streams in version 2
 

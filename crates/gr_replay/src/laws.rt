@@ -2,7 +2,7 @@
 //! nothing.
 
 ghost use Rattle.gr_intake.specs.Laws.{JoinedAreStreams};
-ghost use Rattle.gr_replay.specs.Laws.{BytesAreOneLaunch, BytesHaveOneReport, InputsAreJoined, InputsAreOneLaunch, InputsHaveOneReport, JoinedReportIsEqual, JoinedReportIsSame, UpgradedAreOneLaunch, UpgradedHaveOneReport, UpgradedInputsAreOneLaunch, UpgradedInputsHaveOneReport};
+ghost use Rattle.gr_replay.specs.Laws.{BytesAreInputs, BytesAreOneLaunch, BytesHaveOneReport, InputsAreJoined, InputsAreOneLaunch, InputsHaveOneReport, InputsInAnyOrder, JoinedReportIsEqual, JoinedReportIsSame, ReportInAnyOrder, UpgradedAreOneLaunch, UpgradedHaveOneReport, UpgradedInputsAreOneLaunch, UpgradedInputsHaveOneReport};
 
 /// Streams that are read are complete lists that their groups may have, of groups that differ and of one launch.
 pub fn joined_are_streams()
@@ -18,11 +18,18 @@ pub fn one_launch_is_read()
 {}
 
 /// Inputs are streams of a launch exactly where each is one stream, and one after another they are the streams of this
-/// launch. So what `run_streams` reports of inputs and what `replay` reports of them one after another are equal.
+/// launch; and all bytes of a launch are such inputs. So what `run_streams` reports of inputs and what `replay` reports of them one after another are equal.
 pub fn inputs_are_joined()
     ensures launch { InputsAreJoined }
+    ensures bytes { BytesAreInputs }
     ensures report { JoinedReportIsSame }
     ensures equal { JoinedReportIsEqual }
+{}
+
+/// Inputs are the streams of a launch in whatever order, and have its report.
+pub fn inputs_come_in_any_order()
+    ensures launch { InputsInAnyOrder }
+    ensures report { ReportInAnyOrder }
 {}
 
 /// Bytes and what they are upgraded to are the streams of the same launch, and have the same report. So it is with inputs of

@@ -1,0 +1,128 @@
+-- Inputs are the streams of a launch in whatever order.
+use Rattle.std.proofs.Common.{◌≡◌, ◌≢◌, ℕ, Bool, true, false, cond, List, [], ◌∷◌, ◌++◌, length, map, get_or, All, AllPairs, Contains, IsPermutation, Result, Ok, Err, refl, sym, ap, ◌∙◌, subst, arith, inl, inr, append-nil, append_assoc, eq-eqb, ne_eqb}
+use Rattle.std.specs.Prelude.{not, ◌==◌}
+use Rattle.std.specs.List.{list_any}
+use Rattle.std.proofs.lemmas.Bool.{cases_lt}
+use Rattle.std.proofs.lemmas.List.{get_or_append_left, length-append}
+use Rattle.std.proofs.lemmas.List.Folds.{list_any_none}
+use Rattle.std.proofs.lemmas.List.Sorted.{All-permutation, Contains-permutation, IsPermutation-map, IsPermutation-sym}
+use Rattle.std.proofs.Math.Seq.{get_or-append_seam}
+use Rattle.gr_model.specs.Streams.{Streams}
+use Rattle.gr_record.specs.declared.fault.Fault.{Fault}
+use Rattle.gr_record.specs.declared.fault.Fault.TheVariants as faults
+use Rattle.gr_record.specs.declared.header.Version.TheVariants.{One}
+use Rattle.gr_intake.specs.Joined.{Flat, ◌>>=◌}
+use Rattle.gr_intake.specs.Launch.{AreApart, IsLaunchOf}
+use Rattle.gr_intake.proofs.Accepted.{none_are}
+use Rattle.gr_replay.specs.Each.{only_stream_at}
+use Rattle.gr_replay.specs.Laws.{InputsInAnyOrder, IsOneStream, ReportInAnyOrder}
+use Rattle.gr_replay.proofs.Alone.{checked, only_on}
+use Rattle.gr_replay.proofs.JoinedInputs.{AreStreamsOf, all_checked, all_one, each_are, each_checked, each_is, one_all}
+use Rattle.gr_replay.proofs.Launching.{apart_permutation, contains_at, same_at}
+use Rattle.gr_replay.proofs.OneLaunch.{read, same_read}
+
+-- ---- streams in another order
+
+-- each two are of one launch
+abbrev AreOfOne : List Flat → Type 0
+AreOfOne fs = AllPairs (λ f g. f.header.launch ≡ g.header.launch) fs
+
+abbrev launch : Flat → ℕ
+launch f = f.header.launch
+
+one_at : (fs : List Flat) → AreOfOne fs → (x y : Flat) → Contains fs x → Contains fs y → launch x ≡ launch y
+one_at fs one x y (p, lt, is) (q, gt, also) =
+    let there : get_or fs q x ≡ y = same_at fs q x y gt ∙ also in
+    elim (cases_lt p q) [
+      | inl before ↦ ap launch (sym is) ∙ (one p q x before gt ∙ ap launch there)
+      | inr from ↦
+          elim (cases_lt q p) [
+            | inl behind ↦ ap launch (sym is) ∙ (sym (one q p x behind lt) ∙ ap launch there)
+            | inr to ↦ let same : p ≡ q = omega (arith, from, to) in ap launch (sym is ∙ (ap (λ n. get_or fs n x) same ∙ there))
+          ]
+    ]
+
+module _ (fs gs : List Flat) (moved : IsPermutation fs gs) where
+  back : (f : Flat) → Contains gs f → Contains fs f
+  back f in_gs = Contains-permutation gs fs f (IsPermutation-sym fs gs moved) in_gs
+
+  one_permutation : AreOfOne fs → AreOfOne gs
+  one_permutation one = λ i j d before within.
+      one_at fs one (get_or gs i d) (get_or gs j d) (back (get_or gs i d) (contains_at gs i d (omega (arith, before, within)))) (back (get_or gs j d) (contains_at gs j d within))
+
+  launch_permutation : (s : Streams) → IsLaunchOf fs s → IsLaunchOf gs s
+  launch_permutation s is = record {
+    count = is.count;
+    there = λ g lt. let has = is.there g lt in (has.0, Contains-permutation fs gs has.0 moved has.1, has.2);
+    each = λ f in_gs. is.each f (back f in_gs);
+  }
+
+-- ---- what is checked, and when nothing is refused
+
+checked_is : (seen : List Flat) (f g : Flat) → checked seen f ≡ Ok g → g ≡ f
+checked_is seen f g is = by_both (list_any (λ s. s.header.group == f.header.group) seen) (list_any (λ s. not (s.header.launch == f.header.launch)) seen) is
+  where
+    by_both : (a b : Bool) → cond a (Err (faults.SameGroup (length seen))) (cond b (Err (faults.OtherLaunch (length seen))) (Ok f)) ≡ Ok g → g ≡ f
+    by_both true b k = absurd cc
+    by_both false true k = absurd cc
+    by_both false false k = cc
+
+all_are : (fs seen out : List Flat) → all_checked seen fs ≡ Ok out → out ≡ seen ++ fs
+all_are [] seen out is = sym (same_read seen out is) ∙ sym (append-nil seen)
+all_are (f ∷ fs) seen out is = by_checked (checked seen f) refl is (λ g later. all_are fs (seen ++ g ∷ []) out later)
+  where
+    by_checked : (r : Result Flat Fault) → checked seen f ≡ r → (r >>= λ g. all_checked (seen ++ g ∷ []) fs) ≡ Ok out → ((g : Flat) → all_checked (seen ++ g ∷ []) fs ≡ Ok out → out ≡ (seen ++ g ∷ []) ++ fs) → out ≡ seen ++ f ∷ fs
+    by_checked (Err e) one k later = absurd cc
+    by_checked (Ok g) one k later = later g k ∙ (append_assoc seen (g ∷ []) fs ∙ ap (λ (x : Flat). seen ++ x ∷ fs) (checked_is seen f g one))
+
+before_it : (R : Flat → Flat → Type 0) (seen : List Flat) (f : Flat) (fs : List Flat) → AllPairs R (seen ++ f ∷ fs) → All (λ s. R s f) seen
+before_it R seen f fs pairs k d lt =
+    let pair = pairs k (length seen) d lt (omega (arith, length-append seen (f ∷ fs))) in
+    subst (λ (x : Flat). R x f) (get_or_append_left seen (f ∷ fs) d k lt) (subst (R (get_or (seen ++ f ∷ fs) k d)) (get_or-append_seam seen f fs d) pair)
+
+checked_one : (seen : List Flat) (f : Flat) → All (λ s. s.header.group ≢ f.header.group) seen → All (λ s. launch s ≡ launch f) seen → checked seen f ≡ Ok f
+checked_one seen f other same =
+    let groups = list_any_none (λ s. s.header.group == f.header.group) seen (λ k d lt. ne_eqb _ _ (other k d lt)) in
+    let launches = list_any_none (λ s. not (s.header.launch == f.header.launch)) seen (λ k d lt. ap not (eq-eqb _ _ (same k d lt))) in
+    rw (groups, launches) refl
+
+none_refused : (fs seen : List Flat) → AreApart (seen ++ fs) → AreOfOne (seen ++ fs) → all_checked seen fs ≡ Ok (seen ++ fs)
+none_refused [] seen apart one = ap read (sym (append-nil seen))
+none_refused (f ∷ fs) seen apart one =
+    let regroup = append_assoc seen (f ∷ []) fs in
+    let first = checked_one seen f (before_it (λ a b. a.header.group ≢ b.header.group) seen f fs apart) (before_it (λ a b. launch a ≡ launch b) seen f fs one) in
+    let rest = none_refused fs (seen ++ f ∷ []) (subst AreApart (sym regroup) apart) (subst AreOfOne (sym regroup) one) in
+    rw first (subst (λ (l : List Flat). all_checked (seen ++ f ∷ []) fs ≡ Ok l) regroup rest)
+
+-- ---- inputs in another order
+
+abbrev stream_in : Result Flat Fault → Flat
+stream_in (Ok f) = f
+stream_in (Err e) = record { header = record { version = One; group = 0; items = 0; launch = 0 }; events = [] }
+
+abbrev stream_of : List ℕ → Flat
+stream_of bytes = stream_in (only_stream_at [] bytes)
+
+streams_are : (inputs : List (List ℕ)) (fs : List Flat) → AreStreamsOf inputs fs → map stream_of inputs ≡ fs
+streams_are [] [] are = refl
+streams_are [] (f ∷ fs) are = absurd are
+streams_are (bytes ∷ inputs) [] are = absurd are
+streams_are (bytes ∷ inputs) (f ∷ fs) are =
+    let first : stream_of bytes ≡ f = ap stream_in (only_on [] bytes f are.0) in
+    let rest = streams_are inputs fs are.1 in
+    λ i. first i ∷ rest i
+
+pub inputs_in_any_order : InputsInAnyOrder
+inputs_in_any_order inputs others s order (seen, is, of) =
+    let a = each_is inputs [] seen is in
+    let fs = a.0 in
+    let b = one_all others (All-permutation IsOneStream inputs others order (all_one inputs fs a.1)) in
+    let gs = b.0 in
+    let moved : IsPermutation fs gs = subst (λ (l : List Flat). IsPermutation l gs) (streams_are inputs fs a.1) (subst (IsPermutation (map stream_of inputs)) (streams_are others gs b.1) (IsPermutation-map stream_of inputs others order)) in
+    let are = each_are inputs [] seen none_are is in
+    let same : seen ≡ fs = all_are fs [] seen (sym (each_checked inputs fs [] a.1) ∙ is) in
+    let all = none_refused gs [] (apart_permutation fs gs moved (subst AreApart same are.groups)) (one_permutation fs gs moved (subst AreOfOne same are.launch)) in
+    (gs, each_checked others gs [] b.1 ∙ all, launch_permutation fs gs moved s (subst (λ (l : List Flat). IsLaunchOf l s) same of))
+
+pub report_in_any_order : ReportInAnyOrder
+report_in_any_order inputs others r order e = record { launch = e.launch; spelled = inputs_in_any_order inputs others e.launch order e.spelled; accepted = e.accepted; exact = e.exact }
