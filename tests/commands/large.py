@@ -220,32 +220,41 @@ class Groups(ProgramTest):
 
 
 class Histories(ProgramTest):
-    def test_2000_accesses_of_two_items(self):
-        """The items take turns at writing a word, and nothing orders them."""
+    """Histories of a word whose accesses nothing orders but that some are of one item."""
+
+    def assert_history(self, files, kind, record_of, count, end, status):
+        """Each access is behind just those of its item that stand above it. `record_of` has the number of an access's record."""
+        ran = self.gpurace("history", "g", "16", *files)
+        *lines, last = ran.stdout.decode().splitlines()
+        self.assertEqual((len(lines), last, ran.returncode, ran.stderr), (count, end, status, b""))
+        above = {}
+        for number, line in enumerate(lines):
+            group, item, index = (int(it) for it in line.split()[1:4])
+            names = above.setdefault((group, item), [])
+            self.assertEqual(index, len(names))
+            behind = "none" if not names else "all" if len(names) == number else ", ".join(names)
+            record = record_of(item, index)
+            self.assertEqual(line, f"access {group} {item} {index} {kind} record {record} phase 0 behind {behind}")
+            names.append(f"{group} {item} {index}")
+
+    def test_2000_writes_of_two_items(self):
+        """The items take turns."""
         self.put("turns", header(0, 2) + b"".join(access(number % 2, WRITE, GLOBAL, 16) for number in range(2_000)) + END)
-        ran = self.gpurace("history", "g", "16", "turns")
-        lines = ran.stdout.decode().splitlines()
-        self.assertEqual((lines.pop(), ran.returncode, ran.stderr), ("end accesses 2000 held 0 races yes", 1, b""))
-        self.assert_histories(lines)
+        end = "end accesses 2000 held 0 races yes"
+        self.assert_history(["turns"], "write", lambda item, index: 2 * index + item, 2_000, end, 1)
 
-    def assert_histories(self, lines):
-        """Each access is behind just those of its item that stand above it, and each item's stand in their order."""
-        above, all_above = {0: [], 1: []}, 0
-        for line in lines:
-            item, index = (int(it) for it in line.split()[2:4])
-            self.assertEqual(index, len(above[item]))
-            names = ", ".join(above[item]) or "none"
-            behind = "all" if above[item] and len(above[item]) == all_above else names
-            self.assertEqual(line, f"access 0 {item} {index} write record {2 * index + item} phase 0 behind {behind}")
-            above[item].append(f"0 {item} {index}")
-            all_above += 1
-        self.assertEqual({item: len(names) for item, names in above.items()}, {0: 1_000, 1: 1_000})
+    def test_20000_reads_of_5000_items(self):
+        """Each item of 20 groups reads the word four times."""
+        reads = b"".join(access(item, READ, GLOBAL, 16) * 4 for item in range(250))
+        files = [self.put(f"group{group}", header(group, 250) + reads + END).name for group in range(20)]
+        end = "end accesses 20000 held 0 races no"
+        self.assert_history(files, "read", lambda item, index: 4 * item + index, 20_000, end, 0)
 
-    def test_100000_accesses_of_one_item(self):
-        self.put("writes", header(0, 1) + access(0, WRITE, GLOBAL, 16) * 100_000 + END)
-        behind = ["none"] + ["all"] * 99_999
+    def test_2000_accesses_of_one_item(self):
+        self.put("writes", header(0, 1) + access(0, WRITE, GLOBAL, 16) * 2_000 + END)
+        behind = ["none"] + ["all"] * 1_999
         wanted = "".join(f"access 0 0 {index} write record {index} phase 0 behind {it}\n" for index, it in enumerate(behind))
-        self.assert_run(self.gpurace("history", "g", "16", "writes"), f"{wanted}end accesses 100000 held 0 races no\n".encode(), 0)
+        self.assert_run(self.gpurace("history", "g", "16", "writes"), f"{wanted}end accesses 2000 held 0 races no\n".encode(), 0)
 
 
 class Chains(ProgramTest):
