@@ -6,7 +6,6 @@ from testing.program import END, ProgramTest, access, header
 MEBIBYTES_64 = 1 << 26
 FIRST = 4_000_000_000
 RECORDS = 4_000_000
-MOST_RECORDS = 16_777_216
 
 
 class LargeStreams(ProgramTest):

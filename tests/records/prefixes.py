@@ -1,6 +1,4 @@
-"""Streams that break off: each beginning of them is refused, and of `dump --partial` what stands before is written."""
-
-import unittest
+"""Streams that break off: each beginning of them is refused, and `dump --partial` writes what stands before the break."""
 
 from testing.program import ProgramTest, pack
 
@@ -9,23 +7,23 @@ TRUNCATED = b"gpurace: stream 0: truncated\n"
 
 
 class Prefixes(ProgramTest):
-    def assert_refused(self, stream):
-        """Each beginning of a stream, but none of it and all of it, is refused as truncated by each command that reads streams."""
+    def assert_refused(self, stream, commands):
+        """Each beginning of a stream, but none of it and all of it, is refused as truncated by these commands and by `run`."""
         for length in range(1, len(stream)):
             with self.subTest(bytes=length):
-                for command in ("replay", "dump", "upgrade"):
+                for command in commands:
                     self.assert_run(self.gpurace(command, given=stream[:length]), b"", 2, TRUNCATED)
                 self.assert_run(self.gpurace("run", self.put("stream", stream[:length])), b"", 2, TRUNCATED)
 
     def test_each_prefix_of_a_race(self):
         stream = pack(RACE.decode())
         self.assertEqual(len(stream), 72)
-        self.assert_refused(stream)
+        self.assert_refused(stream, ("replay", "dump", "upgrade"))
 
     def test_each_prefix_in_version_2(self):
         stream = pack(RACE.decode().replace("launch 7", "launch 7 v2"))
         self.assertEqual(len(stream), 144)
-        self.assert_refused(stream)
+        self.assert_refused(stream, ("replay",))
 
     def test_a_file_of_nothing_is_no_stream(self):
         self.assert_run(self.gpurace("run", self.put("stream", b"")), b"", 2, TRUNCATED)
@@ -40,7 +38,3 @@ class Prefixes(ProgramTest):
                 self.assert_run(self.gpurace("dump", "--partial", given=stream[:length]), told, 2, TRUNCATED)
                 behind = self.gpurace("dump", "--partial", given=stream + stream[:length])
                 self.assert_run(behind, RACE + told, 2, TRUNCATED.replace(b"stream 0", b"stream 1"))
-
-
-if __name__ == "__main__":
-    unittest.main()

@@ -1,6 +1,6 @@
-//! Streams that come from a reader each: which launch they are, and which fault is told of those that are refused.
+//! Streams that come from a reader each: which launch they are, and readers and growths that fail.
 
-use crate::bytes::*;
+use crate::launches::packed;
 use gr_model::memory::Memory;
 use gr_model::shape::ShapeError;
 use gr_model::traces::Traces;
@@ -12,68 +12,23 @@ use refusing::growths::refuse_each;
 use std::alloc::{AllocError, Allocator, Global};
 use std::test::Fail;
 
-/// A row: its name, the pieces of each input, and the fault that is due.
-type Case = (&'static str, &'static [&'static [&'static [u8]]], Fault);
+#[test]
+fn no_reader_is_no_launch(rt: HostRuntime) {
+    let readers: Vec<&[u8]> = Vec::new(rt.alloc());
+    let answer = read_each(rt.alloc(), readers);
+    assert!(rt; answer.err() == Some(Fault::Shape(ShapeError::NoGroups)));
+}
 
-static CASES: [Case; 11] = [
-    ("no reader", &[], Fault::Shape(ShapeError::NoGroups)),
-    (
-        "an input of nothing",
-        &[&[]],
-        Fault::Stream(0, RecordError::Truncated),
-    ),
-    (
-        "no end",
-        &[&[&HEADER_0_1, &END], &[&HEADER_1_1, &READ_0]],
-        Fault::Stream(1, RecordError::Truncated),
-    ),
-    (
-        "a byte behind the end",
-        &[&[&HEADER_0_2, &WRITE_0, &READ_1, &END, &[0]]],
-        Fault::Stream(0, RecordError::AfterEnd),
-    ),
-    (
-        "two streams in one input",
-        &[&[&HEADER_0_1, &END, &HEADER_1_1, &END]],
-        Fault::Stream(0, RecordError::AfterEnd),
-    ),
-    (
-        "a byte behind the end before the next input's header",
-        &[&[&HEADER_0_1, &END, &[0]], &[&HEADER_0_2, &END]],
-        Fault::Stream(0, RecordError::AfterEnd),
-    ),
-    (
-        "one group twice",
-        &[&[&HEADER_0_1, &END], &[&HEADER_0_2, &END]],
-        Fault::SameGroup(1),
-    ),
-    (
-        "two launches, before a bad record",
-        &[&[&HEADER_0_1, &END], &[&HEADER_1_1_LAUNCH_8, &BAD_KIND]],
-        Fault::OtherLaunch(1),
-    ),
-    (
-        "a bad record before the next input's header",
-        &[&[&HEADER_0_1, &BAD_KIND, &END], &[&HEADER_0_1, &END]],
-        Fault::Stream(0, RecordError::BadKind),
-    ),
-    (
-        "an item that the group lacks",
-        &[&[&HEADER_0_1, &END], &[&HEADER_1_1, &READ_1, &END]],
-        Fault::Stream(1, RecordError::UnknownItem),
-    ),
-    (
-        "a group that is missing",
-        &[&[&HEADER_2_1, &END], &[&HEADER_0_1, &END]],
-        Fault::MissingGroup(1),
-    ),
-];
+/// A barrier and an acquire that names a release, a stream each.
+const BARRIER: &str = "group 0 items 1 launch 7\n0 bar 1 gl\nend\n";
 
-/// The bytes of each input.
-fn inputs_of(alloc: Global, inputs: &[&[&[u8]]]) -> Result<Vec<Vec<u8>>, AllocError> {
+const ACQUIRE: &str = "group 1 items 1 launch 7\n0 ld g 20 dev acq < 0 0 0\nend cut\n";
+
+/// The bytes of each stream.
+fn inputs_of(alloc: Global, texts: &[&str]) -> Result<Vec<Vec<u8>>, Fail> {
     let mut all = Vec::new(alloc);
-    for pieces in inputs {
-        all.push(joined(alloc, pieces)?)?;
+    for text in texts {
+        all.push(packed(alloc, text)?)?;
     }
     Ok(all)
 }
@@ -90,29 +45,6 @@ fn readers_of<'a, A: Allocator>(
     Ok(readers)
 }
 
-#[test]
-fn the_first_fault_of_the_inputs_is_told(rt: HostRuntime) -> Result<(), Fail> {
-    for &(name, inputs, fault) in &CASES {
-        let inputs = inputs_of(rt.alloc(), inputs)?;
-        let readers = readers_of(rt.alloc(), inputs.as_slice())?;
-        let answer = read_each(rt.alloc(), readers);
-        assert!(rt; answer.err() == Some(fault), "{name}");
-    }
-    Ok(())
-}
-
-/// A barrier and an acquire that names a release, in the order of their groups and in the other.
-const LAUNCHES: [&[&[&[u8]]]; 2] = [
-    &[
-        &[&HEADER_0_1, &BARRIER_0_SITE_1_BOTH, &END],
-        &[&HEADER_1_1, &LOAD_0_20_DEVICE_FROM_0_0_0, &END_CUT],
-    ],
-    &[
-        &[&HEADER_1_1, &LOAD_0_20_DEVICE_FROM_0_0_0, &END_CUT],
-        &[&HEADER_0_1, &BARRIER_0_SITE_1_BOTH, &END],
-    ],
-];
-
 /// Whether these are two groups of two records each, and those of the other.
 fn are_same(traces: &Traces, due: &Traces) -> bool {
     let groups = traces.shape().groups() == 2 && due.shape().groups() == 2;
@@ -123,52 +55,52 @@ fn are_same(traces: &Traces, due: &Traces) -> bool {
         && traces.list(1) == due.list(1)
 }
 
-/// Whether inputs give these traces.
-fn give(alloc: Global, inputs: &[Vec<u8>], due: &Traces) -> Option<bool> {
-    let readers = readers_of(alloc, inputs).ok()?;
-    let traces = read_each(alloc, readers).ok()?;
-    Some(are_same(&traces, due))
-}
-
-/// Whether inputs give what the same streams give joined.
-fn give_what_is_joined(alloc: Global, inputs: &[Vec<u8>], whole: &[u8]) -> Option<bool> {
-    let mut reader = whole;
-    let due = read_joined(alloc, &mut reader).ok()?;
-    give(alloc, inputs, &due)
+/// Whether streams give what the whole gives, from a reader each and joined.
+fn give(alloc: Global, texts: &[&str; 2], due: &Traces) -> Result<bool, Fail> {
+    let inputs = inputs_of(alloc, texts)?;
+    let readers = readers_of(alloc, &inputs)?;
+    let each = read_each(alloc, readers).map_err(|_| "refused")?;
+    let joined = format!(in alloc; "{}{}", texts[0], texts[1])?;
+    let bytes = packed(alloc, &joined)?;
+    let joined = read_joined(alloc, &mut bytes.as_slice()).map_err(|_| "refused")?;
+    Ok(are_same(&each, due) && are_same(&joined, due))
 }
 
 #[test]
-fn inputs_give_what_they_give_joined(rt: HostRuntime) -> Result<(), Fail> {
-    let whole = joined(
-        rt.alloc(),
-        &[
-            &HEADER_0_1,
-            &BARRIER_0_SITE_1_BOTH,
-            &END,
-            &HEADER_1_1,
-            &LOAD_0_20_DEVICE_FROM_0_0_0,
-            &END_CUT,
-        ],
-    )?;
-    for inputs in LAUNCHES {
-        let inputs = inputs_of(rt.alloc(), inputs)?;
-        assert_eq!(rt;
-            give_what_is_joined(rt.alloc(), &inputs, &whole),
-            Some(true)
-        );
-    }
+fn streams_give_one_launch_in_either_order(rt: HostRuntime) -> Result<(), Fail> {
+    let inputs = inputs_of(rt.alloc(), &[BARRIER, ACQUIRE])?;
+    let readers = readers_of(rt.alloc(), &inputs)?;
+    let due = read_each(rt.alloc(), readers).map_err(|_| "refused")?;
+    assert!(rt; give(rt.alloc(), &[BARRIER, ACQUIRE], &due)?, "in order");
+    assert!(rt;
+        give(rt.alloc(), &[ACQUIRE, BARRIER], &due)?,
+        "the second group first"
+    );
     Ok(())
 }
+
+/// A record of no kind, and an end: neither begins with a magic.
+const NO_HEADERS: [[u8; 20]; 2] = [
+    [
+        7, 0, 0, 0, 0, 0, 0, 0, 16, 0, 0, 0, 255, 255, 255, 255, 255, 255, 255, 255,
+    ],
+    [
+        6, 0, 0, 0, 0, 0, 0, 0, 0, 0, 0, 0, 255, 255, 255, 255, 255, 255, 255, 255,
+    ],
+];
 
 #[test]
 fn a_reader_that_fails_comes_before_a_fault(rt: HostRuntime) -> Result<(), Fail> {
     for calls in 0..33 {
         let mut readers = Vec::new(rt.alloc());
         readers.push(FailingReader {
-            bytes: &BAD_KIND,
+            bytes: &NO_HEADERS[0],
             calls: 21,
         })?;
-        readers.push(FailingReader { bytes: &END, calls })?;
+        readers.push(FailingReader {
+            bytes: &NO_HEADERS[1],
+            calls,
+        })?;
         let answer = read_each(rt.alloc(), readers);
         let due = if calls < 21 {
             Fault::Read
@@ -194,7 +126,7 @@ fn is_read<A: Allocator + Copy>(alloc: A, inputs: &[Vec<u8>]) -> Result<bool, Me
 
 #[test]
 fn each_refused_growth_of_reading_is_want_of_memory(rt: HostRuntime) -> Result<(), Fail> {
-    let inputs = inputs_of(rt.alloc(), LAUNCHES[1])?;
+    let inputs = inputs_of(rt.alloc(), &[ACQUIRE, BARRIER])?;
     let growths = refuse_each(rt.alloc(), 5, |heap| is_read(heap, &inputs));
     assert!(rt; growths.is_ok(), "{growths:?}");
     Ok(())

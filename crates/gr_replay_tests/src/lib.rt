@@ -1,10 +1,6 @@
-//! Tests of `gr_replay`: whole inputs by their bytes, readers and writers that fail, and growths that are refused.
+//! Tests alone, of `gr_replay`: growths that are refused, readers and writers that fail, and what is read of streams.
 #![tactic(auto)]
 
-#[cfg(test)]
-mod barriers;
-#[cfg(test)]
-mod bytes;
 #[cfg(test)]
 mod each;
 #[cfg(test)]
@@ -12,14 +8,10 @@ mod facts;
 #[cfg(test)]
 mod failures;
 #[cfg(test)]
-mod faults;
+mod growths;
 #[cfg(test)]
 mod large;
 #[cfg(test)]
-mod long;
-#[cfg(test)]
-mod orders;
-#[cfg(test)]
-mod reports;
+mod launches;
 #[cfg(test)]
 mod waiting;

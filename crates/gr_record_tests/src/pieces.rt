@@ -2,7 +2,6 @@
 
 ghost use Rattle.std.specs.Prelude.{◌≤◌};
 
-use super::vectors::HEADER;
 use gr_record::decoder::Decoder;
 use gr_record::error::RecordError;
 use gr_record::part::Part;
@@ -10,7 +9,7 @@ use std::alloc::Global;
 use std::test::Fail;
 
 /// `group 0 items 2 launch 7`, `0 w g 16`, `1 r g 16`, `end`
-static STREAM: [u8; 72] = [
+pub(crate) static STREAM: [u8; 72] = [
     0x47, 0x52, 0x54, 0x31, 0, 0, 2, 0, 7, 0, 0, 0, //
     1, 0, 0, 0, 0, 0, 0, 0, 16, 0, 0, 0, 255, 255, 255, 255, 255, 255, 255, 255, //
     0, 0, 0, 0, 1, 0, 0, 0, 16, 0, 0, 0, 255, 255, 255, 255, 255, 255, 255, 255, //
@@ -105,16 +104,6 @@ fn single_bytes_give_what_the_whole_gives(rt: HostRuntime) -> Result<(), Fail> {
     Ok(())
 }
 
-#[test]
-fn a_stream_that_breaks_off_is_truncated(rt: HostRuntime) -> Result<(), Fail> {
-    let mut parts: Vec<Part> = Vec::new(rt.alloc());
-    let mut decoder = Decoder::new();
-    decoder.feed(&STREAM[..31], &mut parts)?;
-    assert!(rt; decoder.finish() == Err(RecordError::Truncated));
-    assert_eq!(rt; parts.len(), 1);
-    Ok(())
-}
-
 /// The answers to the stream and to nothing more of a decoder that takes so many records, and whether these are the parts then.
 fn limited(alloc: Global, records: u32, wanted: &[Part]) -> ([Result<(), RecordError>; 2], bool)
     requires some { 1 ≤ records }
@@ -156,9 +145,22 @@ fn it_says_how_many_bytes_are_missing(rt: HostRuntime) {
     let mut decoder = Decoder::new();
     assert_eq!(rt; decoder.wants(), 12);
     let missing = [
-        missing_behind(&mut decoder, &HEADER[..3], &mut parts),
-        missing_behind(&mut decoder, &HEADER[3..], &mut parts),
+        missing_behind(&mut decoder, &STREAM[..3], &mut parts),
+        missing_behind(&mut decoder, &STREAM[3..12], &mut parts),
         missing_behind(&mut decoder, &STREAM[12..], &mut parts),
     ];
     assert_eq!(rt; missing, [Ok(9), Ok(20), Ok(0)]);
+}
+
+/// `group 0 items 3 launch 7 v2`
+static LONG_HEADER: [u8; 12] = [0x47, 0x52, 0x54, 0x32, 0, 0, 3, 0, 7, 0, 0, 0];
+
+#[test]
+fn a_record_of_version_2_has_44_bytes(rt: HostRuntime) {
+    let mut parts = Vec::new(rt.alloc());
+    let mut decoder = Decoder::new();
+    assert_eq!(rt;
+        missing_behind(&mut decoder, &LONG_HEADER, &mut parts),
+        Ok(44)
+    );
 }

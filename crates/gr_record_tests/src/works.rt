@@ -1,0 +1,114 @@
+//! Texts of streams, what is done with them, and what then is due.
+
+use gr_record::error::RecordError;
+use gr_record::fault::Fault;
+use gr_text::{dump, dump_partial, pack, upgrade};
+use std::alloc::{AllocError, Allocator, Global};
+use std::io::{Read, Write};
+use std::test::Fail;
+
+/// What is done with an input.
+#[derive(Clone, Copy, Debug, PartialEq, Eq)]
+pub(crate) enum Work {
+    Pack,
+    Dump,
+    DumpPartial,
+    Upgrade,
+}
+
+/// Does the work on an input.
+pub(crate) fn do_work<A: Allocator + Copy, R: Read, W: Write>(
+    alloc: A,
+    work: Work,
+    reader: &mut R,
+    writer: &mut W,
+) -> Result<(), Fault> {
+    match work {
+        Work::Pack => pack(alloc, reader, writer),
+        Work::Dump => dump(alloc, reader, writer),
+        Work::DumpPartial => dump_partial(alloc, reader, writer),
+        Work::Upgrade => upgrade(alloc, reader, writer),
+    }
+}
+
+/// Work on an input, its answer, and what it writes.
+#[derive(Drop)]
+pub(crate) struct Case {
+    pub(crate) work: Work,
+    pub(crate) input: Vec<u8>,
+    pub(crate) answer: Result<(), Fault>,
+    pub(crate) output: Vec<u8>,
+}
+
+/// A text of streams, and the same in version 2.
+type Text = (&'static str, &'static str);
+
+/// A race, and texts with each kind of record.
+pub(crate) static TEXTS: [Text; 5] = [
+    (
+        "group 0 items 2 launch 7\n0 w g 16\n1 r g 16\nend\n",
+        "group 0 items 2 launch 7 v2\n0 w g 16\n1 r g 16\nend\n",
+    ),
+    (
+        "group 0 items 1 launch 7\n0 w g 16\n0 st g 20 dev rel\nend\n\
+         group 1 items 1 launch 7\n0 ld g 20 dev acq < 0 0 0\n0 r g 16\nend\n",
+        "group 0 items 1 launch 7 v2\n0 w g 16\n0 st g 20 dev rel\nend\n\
+         group 1 items 1 launch 7 v2\n0 ld g 20 dev acq < 0 0 0\n0 r g 16\nend\n",
+    ),
+    (
+        "group 0 items 256 launch 7\n0 w g 16\n1 r g 16\n3 st g 16 dev rel\n4 ld g 16 dev acq < 0 3 0\n\
+         255 rmw l 4294967295 grp both < 63 255 16777215\n0 bar 7 gl\nend cut\n",
+        "group 0 items 256 launch 7 v2\n0 w g 16\n1 r g 16\n3 st g 16 dev rel\n4 ld g 16 dev acq < 0 3 0\n\
+         255 rmw l 4294967295 grp both < 63 255 16777215\n0 bar 7 gl\nend cut\n",
+    ),
+    (
+        "group 0 items 3 launch 7 v2\n2 ld g 20 dev acq < 0 0 0 < 0 1 0\nend\n",
+        "group 0 items 3 launch 7 v2\n2 ld g 20 dev acq < 0 0 0 < 0 1 0\nend\n",
+    ),
+    ("", ""),
+];
+
+/// The bytes of the streams of a text.
+fn packed(alloc: Global, text: &str) -> Result<Vec<u8>, Fail> {
+    let mut bytes = Vec::new(alloc);
+    pack(alloc, &mut text.as_bytes(), &mut bytes).map_err(|_| "not packed")?;
+    Ok(bytes)
+}
+
+/// Work that goes well.
+fn done(alloc: Global, work: Work, input: &[u8], output: &[u8]) -> Result<Case, AllocError> {
+    Ok(Case {
+        work,
+        input: input.to_vec(alloc)?,
+        answer: Ok(()),
+        output: output.to_vec(alloc)?,
+    })
+}
+
+/// Bytes that break off behind the second record, dumped in part.
+fn broken(alloc: Global) -> Result<Case, Fail> {
+    let text = "group 0 items 2 launch 7\n0 w g 16\n1 r g 16\n";
+    let whole = format!(in alloc; "{text}end\n")?;
+    let mut input = packed(alloc, &whole)?;
+    input.truncate(52);
+    Ok(Case {
+        work: Work::DumpPartial,
+        input,
+        answer: Err(Fault::Stream(0, RecordError::Truncated)),
+        output: text.as_bytes().to_vec(alloc)?,
+    })
+}
+
+/// Each work on each of these texts, and one that ends with a fault.
+pub(crate) fn cases(alloc: Global, texts: &[Text]) -> Result<Vec<Case>, Fail> {
+    let mut cases = vec![in alloc; broken(alloc)?]?;
+    for &(text, long) in texts {
+        let (bytes, long) = (packed(alloc, text)?, packed(alloc, long)?);
+        let text = text.as_bytes();
+        cases.push(done(alloc, Work::Pack, text, &bytes)?)?;
+        cases.push(done(alloc, Work::Dump, &bytes, text)?)?;
+        cases.push(done(alloc, Work::DumpPartial, &bytes, text)?)?;
+        cases.push(done(alloc, Work::Upgrade, &bytes, &long)?)?;
+    }
+    Ok(cases)
+}
