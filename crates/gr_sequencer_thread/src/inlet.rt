@@ -5,6 +5,7 @@ ghost use Rattle.std.specs.Arc.{arc_value};
 ghost use Rattle.gr_model.specs.Streams.{is_complete};
 ghost use Rattle.gr_route.specs.IntakeRule.{no_sizes};
 ghost use Rattle.gr_route.specs.IntakeSeats.{IsNextPopped, popped_of};
+ghost use Rattle.gr_route.specs.Prefixes.{StartsWith};
 
 use gr_model::event::Sent;
 use gr_model::limits::{MOST_GROUPS, MOST_ITEMS_OF_A_GROUP, MOST_PLACES, MOST_RECORDS};
@@ -79,10 +80,12 @@ impl<A: Allocator> Inlet<A> {
         self.queue.pop(rt, &mut self.seat)
     }
 
-    /// Takes a work-group's seat back. What was popped of the group is all that the seat pushed, where its end was popped.
+    /// Takes a work-group's seat back. What was popped of the group is a prefix of what the seat pushed, and all of it where
+    /// its end was popped.
     pub fn join_back(&mut self, seat: IntakeSeat)
         requires { seat.queue ≡ self.old.queue }
         ensures same { (self.new.queue ≡ self.old.queue) × (self.new.popped ≡ self.old.popped) }
+        ensures prefix { StartsWith seat.pushed (popped_of self.old seat.group) }
         ensures whole { IsTrue (is_complete (popped_of self.old seat.group)) → popped_of self.old seat.group ≡ seat.pushed }
     {
         self.queue.join_back(&mut self.seat, seat);
