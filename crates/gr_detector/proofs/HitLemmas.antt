@@ -9,13 +9,12 @@ use Rattle.gr_model.specs.Configs.{IsConfig, Settings, worker_number}
 use Rattle.gr_model.specs.Reports.{AreRaces, Lists, WordBelow}
 use Rattle.gr_model.proofs.HitLaws.{IsHit-filter}
 use Rattle.gr_steps.proofs.EventRecords.{filter-there}
-use Rattle.gr_hits.proofs.Clashing.{whole_hits_are_races}
+use Rattle.gr_hits.proofs.Clashing.{lists_as, whole_hits_are_races}
 use Rattle.gr_order.specs.Sequences.{Sequence}
 use Rattle.gr_route.specs.IntakeSeats.{Taker}
 use Rattle.gr_route.specs.WorkSeats.{Giver}
 use Rattle.gr_shadow.specs.Clashes.{ClockedAccess, IsHitIn, clashes}
 use Rattle.gr_threads.specs.Given.{accesses_in}
-use Rattle.gr_world.proofs.RestLemmas.{lists_as}
 use Rattle.gr_sequencer_thread.specs.Feeds.{IsFeedWhole, accesses_for, given_of}
 use Rattle.gr_sequencer_thread.proofs.StepLemmas.{worker_below}
 use Rattle.gr_detector.specs.Settling.{IsHitAmong}

@@ -8,6 +8,7 @@ use Rattle.gr_model.proofs.Descent.{lawful_is_grounded}
 use Rattle.gr_model.proofs.HitsAreRaces.{hit_is_race, race_is_hit}
 use Rattle.gr_model.specs.Hits.{ClashesAt, SomePair}
 use Rattle.gr_model.specs.Races.{RacesInOrder, IsRacy}
+use Rattle.gr_model.specs.Reports.{Lists}
 use Rattle.gr_model.specs.Streams.{Streams, word_at}
 use Rattle.gr_model.proofs.Pairs.{PairIn, PairIn-from_some, SomeOf, SomePair-from_in}
 use Rattle.gr_clocks.specs.ClockedAccess.{ClockedAccess, bare}
@@ -79,3 +80,10 @@ whole_hits_are_races s order accesses w whole are =
       λ h. let r = same.0 h in (r.0, r.1, lawful_is_grounded s order r.0 whole.lawful r.2, lawful_is_grounded s order r.1 whole.lawful r.3, r.4),
       λ r. same.1 (r.0, r.1, whole.whole r.0 r.2, whole.whole r.1 r.3, r.4),
     )
+
+-- a list of the values of which P holds lists those of which Q does, where both say the same
+pub lists_as : {X : Type 0} {Below : X → X → Type 0} {P Q : X → Type 0} (xs : List X) → Lists Below P xs → ((x : X) → P x ↔ Q x) → Lists Below Q xs
+lists_as xs lists same = record {
+  ascending = lists.ascending;
+  exact = λ x. (λ has. (same x).0 ((lists.exact x).0 has), λ holds. (lists.exact x).1 ((same x).1 holds));
+}

@@ -13,7 +13,7 @@ use Rattle.gr_model.specs.Streams.{Streams, word_at}
 use Rattle.gr_clocks.specs.declared.access.Access.{Access as AnyAccess}
 use Rattle.gr_clocks.specs.ClockedAccess.{bare}
 use Rattle.gr_closure.specs.Accesses.{IsAccess, IsAccessOf}
-use Rattle.gr_hits.specs.Accesses.{AreAccesses}
+use Rattle.gr_hits.specs.Accesses.{AreAccesses, in_flight_list}
 use Rattle.gr_hits.proofs.Adding.{bare_access, handled_adds, met_add_none, others_add_none}
 use Rattle.gr_order.specs.Sequences.{HandlesEvent, MeetsInstance, Sequence}
 use Rattle.gr_route.specs.declared.work.Work.{Work}
@@ -23,7 +23,6 @@ use Rattle.gr_route.specs.WorkSeats.{Giver}
 use Rattle.gr_shadow.specs.Clashes.{ClockedAccess, clocked}
 use Rattle.gr_threads.specs.Given.{accesses_in}
 use Rattle.gr_threads.proofs.Givens.{access_given, access_stops_not}
-use Rattle.gr_world.specs.Worlds.{in_flight_list}
 use Rattle.gr_sequencer_thread.specs.Feeds.{AreOpen, ArePassedOn, accesses_for, given_of}
 
 -- ---- the sequencer's steps

@@ -6,7 +6,7 @@ use Rattle.gr_model.specs.declared.event.Sent.{Sent}
 use Rattle.gr_model.specs.declared.limits.TheConstants.{MOST_RECORDS}
 use Rattle.gr_model.specs.Configs.{IsConfig, Settings, worker_number}
 use Rattle.gr_model.specs.Streams.{AreComplete, Streams, list_of}
-use Rattle.gr_hits.specs.Accesses.{AreAccesses}
+use Rattle.gr_hits.specs.Accesses.{AreAccesses, in_flight_list}
 use Rattle.gr_lanes.specs.Takes.{CanTake, IsEventButItem}
 use Rattle.gr_order.specs.Sequences.{IsDone, IsSequence, Sequence, nothing}
 use Rattle.gr_route.specs.IntakeSeats.{Taker, popped_of}
@@ -14,7 +14,6 @@ use Rattle.gr_route.specs.WorkRule.{is_stopped}
 use Rattle.gr_route.specs.WorkSeats.{Giver}
 use Rattle.gr_shadow.specs.Clashes.{ClockedAccess}
 use Rattle.gr_threads.specs.Given.{accesses_in}
-use Rattle.gr_world.specs.Worlds.{in_flight_list}
 
 -- how the run is set up; what was taken, and what of it was handled, in which order; the seats that pop, by queue; the seats that push, by worker; the access that was handled and pushed to no worker yet; whether memory ran out
 pub record Feed (A : Type 0) : Type 0 where

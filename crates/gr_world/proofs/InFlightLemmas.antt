@@ -16,7 +16,7 @@ use Rattle.gr_model.specs.Shapes.{HasItem}
 use Rattle.gr_clocks.specs.declared.access.Access.{Access}
 use Rattle.gr_closure.specs.Accesses.{IsAccess, IsAccessOf}
 use Rattle.gr_clocks.specs.ClockedAccess.{bare}
-use Rattle.gr_hits.specs.Accesses.{AreAccesses}
+use Rattle.gr_hits.specs.Accesses.{AreAccesses, in_flight_list}
 use Rattle.gr_hits.proofs.Adding.{bare_access, handled_adds, met_add_none, others_add_none}
 use Rattle.gr_order.specs.Sequences.{HandlesEvent, IsSequence, MeetsInstance, Sequence}
 use Rattle.gr_order.specs.Answers.{IsHandleFault, IsMeetFault}
@@ -29,7 +29,7 @@ use Rattle.gr_world.specs.declared.step.StepError.TheVariants.{Memory}
 use Rattle.gr_world.specs.Errors.{Becomes}
 use Rattle.gr_world.specs.Queues.{HasRoom, Work, no_work, queueing, receiving}
 use Rattle.gr_world.specs.Steps.{IsStepRefusal, IsWorldStep, IsInFlightFull, IsInFlightOf}
-use Rattle.gr_world.specs.Worlds.{IsPassedOn, IsWorld, World, accesses_for, going_on, intake_at, passing, queue_of, in_flight_list, work_at, worker_of, working}
+use Rattle.gr_world.specs.Worlds.{IsPassedOn, IsWorld, World, accesses_for, going_on, intake_at, passing, queue_of, work_at, worker_of, working}
 
 -- ---- the sequencer's steps
 

@@ -11,14 +11,15 @@ use Rattle.gr_model.proofs.HitLaws.{IsHit-filter}
 use Rattle.gr_model.specs.Reports.{AreRaces, Lists, WordBelow}
 use Rattle.gr_model.specs.Streams.{AreComplete, Streams, events_of, list_of}
 use Rattle.gr_steps.specs.Steps.{IsAtRest}
-use Rattle.gr_hits.proofs.Clashing.{whole_hits_are_races}
+use Rattle.gr_hits.specs.Accesses.{in_flight_list}
+use Rattle.gr_hits.proofs.Clashing.{lists_as, whole_hits_are_races}
 use Rattle.gr_order.specs.Sequences.{IsDone}
 use Rattle.gr_world.proofs.ReceivedHits.{hit_goes}
 use Rattle.gr_world.proofs.InFlightLemmas.{word_below}
 use Rattle.gr_shadow.specs.Clashes.{ClockedAccess, IsHitIn, clashes}
 use Rattle.gr_world.specs.Queues.{Bounded, Work, no_work}
 use Rattle.gr_world.specs.Resting.{AreEmpty, AreIdle, IsHitAtWork}
-use Rattle.gr_world.specs.Worlds.{IsWorld, IsWorldAtRest, World, accesses_for, intake_at, no_queue, in_flight_list, work_at}
+use Rattle.gr_world.specs.Worlds.{IsWorld, IsWorldAtRest, World, accesses_for, intake_at, no_queue, work_at}
 
 -- ---- queues that hold nothing
 
@@ -64,12 +65,6 @@ taken_closed w world rest = subst AreComplete (sym (drained_is_sent w world rest
 
 abbrev pub IsHitBelow : List Work → ℕ → Word → Type 0
 IsHitBelow workers n v = (k : ℕ) × (k < n) × IsHitIn (get_or workers k (no_work 0)).received v
-
-pub lists_as : {X : Type 0} {Below : X → X → Type 0} {P Q : X → Type 0} (xs : List X) → Lists Below P xs → ((x : X) → P x ↔ Q x) → Lists Below Q xs
-lists_as xs lists same = record {
-  ascending = lists.ascending;
-  exact = λ x. (λ has. (same x).0 ((lists.exact x).0 has), λ holds. (lists.exact x).1 ((same x).1 holds));
-}
 
 pub none_below : (workers : List Work) → Lists WordBelow (IsHitBelow workers 0) []
 none_below workers = record { ascending = λ i j d lt below. absurd (omega (arith, below)); exact = λ v. (λ has. absurd (let lt = has.1 in omega (arith, lt)), λ hit. absurd (let lt = hit.1 in omega (arith, lt))) }

@@ -11,7 +11,7 @@ use Rattle.gr_steps.specs.Steps.{IsAtRest}
 use Rattle.gr_lanes.specs.Takes.{nothing_taken, with_record}
 use Rattle.gr_order.specs.Sequences.{IsSequence, Sequence, nothing, taking}
 use Rattle.gr_shadow.specs.Clashes.{ClockedAccess}
-use Rattle.gr_hits.specs.Accesses.{AreAccesses}
+use Rattle.gr_hits.specs.Accesses.{AreAccesses, in_flight_list}
 use Rattle.gr_world.specs.Queues.{Bounded, Work, empty_queue, leaving, no_work, pushed, queueing, receiving}
 
 pub record World : Type 0 where
@@ -121,11 +121,6 @@ working w k x rest =
 -- of these accesses those that go to a worker
 abbrev pub accesses_for : World → ℕ → List ClockedAccess → List ClockedAccess
 accesses_for w k accesses = filter (λ x. worker_of w x == k) accesses
-
--- the access on its way, as a list
-abbrev pub in_flight_list : Option ClockedAccess → List ClockedAccess
-in_flight_list None = []
-in_flight_list (Some x) = x ∷ []
 
 -- what was taken of a group, followed by what is queued of it, is what was sent; and each queue has records of its groups alone
 pub record AreDelivered (w : World) : Type 0 where
