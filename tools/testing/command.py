@@ -7,7 +7,7 @@ import pathlib
 import subprocess
 import sys
 
-from testing import gate, suite
+from testing import gate, suite, transcript
 
 
 def arguments(document):
@@ -41,10 +41,8 @@ def say_failure(outcome):
     print("".join(f"    {line}\n" for line in outcome.why.splitlines()), end="", flush=True)
 
 
-def tested(words, top, program):
-    """Runs the tests, and counts what came of them."""
-    os.environ["GPURACE"] = str(program)
-    found = suite.groups(top, program)
+def tested(words, found):
+    """Runs the tests that are named, and counts what came of them."""
     most = sum(suite.is_named(name, words.names) for it in found for name in it.names)
     counts, why_skipped = collections.Counter(), collections.Counter()
     for outcome in suite.outcomes(found, words.names):
@@ -68,11 +66,16 @@ def main(document, top):
             return ended(counts)
         words.program = gate.PROGRAM
     program = program_of(words, top)
+    try:
+        found = suite.groups(top, program)
+    except transcript.Unreadable as error:
+        print(f"failed: {error}")
+        return ended(counts + collections.Counter(failed=1))
     if words.list:
-        print("".join(f"{name}\n" for it in suite.groups(top, program) for name in it.names), end="")
+        print("".join(f"{name}\n" for it in found for name in it.names), end="")
         return 0
-    counts += tested(words, top, program)
-    return ended(counts)
+    os.environ["GPURACE"] = str(program)
+    return ended(counts + tested(words, found))
 
 
 def ended(counts):
