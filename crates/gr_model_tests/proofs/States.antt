@@ -119,25 +119,25 @@ item n = record { group = 0; item = n }
 
 -- one of two items has come, and its group goes on
 one_waits : (complete : Bool) (size : ℕ) (arrived : Arrivals) (a : Mark) → complete ≡ false → size ≡ 2 → arrived 0 ≡ Some a → arrived 1 ≡ None → ¬ IsDivergentOf complete size arrived
-one_waits complete size arrived a open two came missing (inl (zero, zero, b, c, (wi, ib), (wj, jc), differ)) = differ cc
-one_waits complete size arrived a open two came missing (inl (suc zero, j, b, c, (wi, ib), at_j, differ)) = cc
-one_waits complete size arrived a open two came missing (inl (suc (suc i), j, b, c, (wi, ib), at_j, differ)) = absurd (omega (arith, wi, two))
-one_waits complete size arrived a open two came missing (inl (zero, suc zero, b, c, at_i, (wj, jc), differ)) = cc
-one_waits complete size arrived a open two came missing (inl (zero, suc (suc j), b, c, at_i, (wj, jc), differ)) = absurd (omega (arith, wj, two))
-one_waits complete size arrived a open two came missing (inr (ended, rest)) = cc
+one_waits complete size arrived a goes_on two came missing (inl (zero, zero, b, c, (wi, ib), (wj, jc), differ)) = differ cc
+one_waits complete size arrived a goes_on two came missing (inl (suc zero, j, b, c, (wi, ib), at_j, differ)) = cc
+one_waits complete size arrived a goes_on two came missing (inl (suc (suc i), j, b, c, (wi, ib), at_j, differ)) = absurd (omega (arith, wi, two))
+one_waits complete size arrived a goes_on two came missing (inl (zero, suc zero, b, c, at_i, (wj, jc), differ)) = cc
+one_waits complete size arrived a goes_on two came missing (inl (zero, suc (suc j), b, c, at_i, (wj, jc), differ)) = absurd (omega (arith, wj, two))
+one_waits complete size arrived a goes_on two came missing (inr (ended, rest)) = cc
 
 pub waits : (v old : List GroupMarks) (a : Mark) → old ≡ map fresh_group (2 ∷ []) → Arrives old (item 0) a v → ¬ IsDivergentOf (group_of v 0).ended (length (group_of v 0).marks) (brought (group_of v 0) 0)
 waits [] old a is arrives =
-    let sizes : [] ≡ 2 ∷ [] = arrives.sizes ∙ ap sizes_of is in
-    absurd cc
+    let sizes : length (sizes_of []) ≡ 1 = ap (λ (sizes : List ℕ). length sizes) (arrives.sizes ∙ ap sizes_of is) in
+    absurd (omega (arith, sizes))
 waits (t ∷ rest) old a is arrives =
     let sizes : sizes_of (t ∷ rest) ≡ 2 ∷ [] = arrives.sizes ∙ ap sizes_of is in
     let two : length t.marks ≡ 2 = cc in
-    let open : t.ended ≡ false = arrives.ended 0 ∙ ap (λ (u : List GroupMarks). (group_of u 0).ended) is in
+    let goes_on : t.ended ≡ false = arrives.ended 0 ∙ ap (λ (u : List GroupMarks). (group_of u 0).ended) is in
     let came : brought t 0 0 ≡ Some a = ap (λ (marks : List Mark). slice_get marks 0) (arrives.item ∙ ap (λ (u : List GroupMarks). marks_of u (item 0) ++ a ∷ []) is) in
     let other : item 1 ≢ item 0 = λ e. omega (arith, ap (λ (i : ItemId). i.item) e) in
     let missing : brought t 0 1 ≡ None = ap (λ (marks : List Mark). slice_get marks 0) (arrives.others (item 1) other ∙ ap (λ (u : List GroupMarks). marks_of u (item 1)) is) in
-    one_waits t.ended (length t.marks) (brought t 0) a open two came missing
+    one_waits t.ended (length t.marks) (brought t 0) a goes_on two came missing
 
 module _ (v old : List GroupMarks) (is : old ≡ map fresh_group (2 ∷ [])) (ends : Ends old 0 v) where
   pub none_came : length (marks_of v (item 0)) ≡ 0
