@@ -54,12 +54,19 @@ const TWO_NAMES: &[Name] = &[
 const ACQUIRES: Record = (0, 1, ACQUIRE, Space::Global, 4, TWO_NAMES);
 
 /// The first event of an item goes, and so the second is its first.
-fn pop_first_of_two<A: Allocator>(windows: &mut Windows<A>, item: ItemId)
+fn pop_first_of_two<A: Allocator>(windows: &mut Windows<A>, item: ItemId) -> bool
     requires { HasItem (map length windows.old) item }
 {
     let second = windows.waiting(item, 1);
     windows.pop_first(item);
-    prove!(windows.waiting(item, 0) == second);
+    let first = windows.waiting(item, 0);
+    if let Some(second) = second
+        && let Some(first) = first
+    {
+        prove!(first.word == second.word);
+        return true;
+    }
+    false
 }
 
 /// Behind a group's end no record is taken.
@@ -218,8 +225,8 @@ fn windows_forget_the_first(rt: HostRuntime) -> Result<(), Memory> {
     };
     let mut windows = Windows::new(rt.alloc(), &shape)?;
     windows.push(FIRST, &event_of(&READS))?;
-    windows.push(FIRST, &event_of(&RELEASES))?;
-    pop_first_of_two(&mut windows, FIRST);
+    windows.push(FIRST, &event_of(&COMES_ELSEWHERE))?;
+    assert!(rt; pop_first_of_two(&mut windows, FIRST));
     Ok(())
 }
 
