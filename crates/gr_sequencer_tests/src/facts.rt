@@ -198,10 +198,14 @@ fn at_end_of_nothing<A: Allocator>(sequencer: &Sequencer<A>) -> bool {
 
 /// The clock of an access counts it.
 fn step_of_an_access<A: Allocator + Clone>(sequencer: &mut Sequencer<A>) -> bool {
-    if let Ok(Some(Handled::One {
-        event,
-        access: Some(access),
-    })) = sequencer.step()
+    if let Ok(
+        Some(
+            Handled::One {
+                event,
+                access: Some(access),
+            },
+        ),
+    ) = sequencer.step()
     {
         prove!(access.clock.covers(event.at, event.index));
         return true;
@@ -231,12 +235,7 @@ fn windows_forget_the_first(rt: HostRuntime) -> Result<(), Memory> {
 }
 
 /// Lanes of one group of so many items, of which two records were taken.
-fn lanes_of(
-    alloc: Global,
-    items: u16,
-    first: &Record,
-    second: &Record,
-) -> Result<Lanes, SeqError>
+fn lanes_of(alloc: Global, items: u16, first: &Record, second: &Record) -> Result<Lanes, SeqError>
     ensures { IfOk result (λ l. IsWhole l) }
 {
     let (first, second) = (event_of(first), event_of(second));
@@ -321,7 +320,12 @@ fn an_order_goes_on_while_a_step_is_ready(rt: HostRuntime) {
 #[test]
 fn all_of_a_group_meet(rt: HostRuntime) {
     let order = order_of(rt.alloc(), 1, &[COMES]);
-    assert!(rt; order.is_some_and(|order| { let mut order = order; meet_of_all(&mut order) }));
+    assert!(rt;
+        order.is_some_and(|order| {
+            let mut order = order;
+            meet_of_all(&mut order)
+        })
+    );
 }
 
 /// Whether an agenda finds the one step that there is, or `None` where memory was too short for the agenda.
@@ -362,7 +366,11 @@ fn sequencer_of(alloc: Global, record: &Record) -> Option<Sequencer> {
 #[test]
 fn a_release_is_counted_by_its_clock(rt: HostRuntime) {
     let mut sequencer = sequencer_of(rt.alloc(), &RELEASES);
-    assert!(rt; sequencer.as_mut().is_some_and(|sequencer| step_of_an_access(sequencer)));
+    assert!(rt;
+        sequencer
+            .as_mut()
+            .is_some_and(|sequencer| step_of_an_access(sequencer))
+    );
 }
 
 #[test]

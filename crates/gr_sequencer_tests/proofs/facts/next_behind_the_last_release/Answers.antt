@@ -31,6 +31,6 @@ prove-unreachable-requires g c =
     let last : Contains c.as_slice.result.now name = element c.as_slice.result.now _ name (sym c.last.ensures.value ∙ ap option_copied c.in-Some-last.is) in
     let place : release_place s name ≡ Some c.in-Some-release_at.index = sym (ap (λ (t : Streams). release_place t name) c.lanes.ensures.taken) ∙ (sym c.release_at.ensures ∙ c.in-Some-release_at.is) in
     let lt = counted s c.args.order.now.handled c.frontier.result.now c.in-Some.event c.in-Some-event_at.taken name c.in-Some-release_at.index c.in-Some.ensures.next.1
-        at (subst (λ l. Contains l name) c.as_slice.ensures.names last) place c.frontier.ensures.first in
+    at (subst (λ l. Contains l name) c.as_slice.ensures.names last) place c.frontier.ensures.first in
     let is = c.covers.ensures.1 lt in
     search rules
