@@ -1,16 +1,18 @@
 -- Words that are hit in what a worker is given.
-use Rattle.std.proofs.Common.{◌≡◌, ◌<◌, List, [], ◌∷◌, length, refl, arith}
+use Rattle.std.proofs.Common.{◌≡◌, ◌<◌, List, [], ◌∷◌, length, refl, subst, arith}
 use Rattle.gr_model.specs.declared.event.Word.{Word}
 use Rattle.gr_model.specs.Hits.{ClashesAt}
 use Rattle.gr_model.specs.Reports.{Lists, WordBelow}
 use Rattle.gr_clocks.specs.declared.access.Access.{Access as AnyAccess}
+use Rattle.gr_route.specs.declared.work.Work.{Work}
 use Rattle.gr_route.specs.declared.work.Work.TheVariants.{Access, Stop}
 use Rattle.gr_shadow.specs.Clashes.{ClockedAccess, IsHitIn, clashes, clocked}
 use Rattle.gr_threads.specs.Given.{accesses_in}
 
 -- where two accesses are given of which the later one clashes with the earlier one, some word is
-pub some_hit : {A : Type 0} (first second : AnyAccess A) (w : Word) (words : List Word) → ClashesAt (λ (x : ClockedAccess). x.word) clashes w (clocked first) (clocked second) → Lists WordBelow (IsHitIn (accesses_in (Access first ∷ Access second ∷ Stop ∷ []))) words → 0 < length words
-some_hit first second w words clash lists =
-    let has = (lists.exact w).1 (0, 1, clocked first, clocked second, omega arith, refl, refl, clash) in
+pub some_hit : {A : Type 0} (first second : AnyAccess A) (w : Word) (pushed : List (Work A)) (words : List Word) → pushed ≡ Access first ∷ Access second ∷ Stop ∷ [] → ClashesAt (λ (x : ClockedAccess). x.word) clashes w (clocked first) (clocked second) → Lists WordBelow (IsHitIn (accesses_in pushed)) words → 0 < length words
+some_hit first second w pushed words are clash lists =
+    let given = subst (λ p. Lists WordBelow (IsHitIn (accesses_in p)) words) are lists in
+    let has = (given.exact w).1 (0, 1, clocked first, clocked second, omega arith, refl, refl, clash) in
     let lt = has.1 in
     omega (arith, lt)

@@ -66,7 +66,6 @@ fn give<R: Wait>(
 }
 
 /// Two writes of a word of which neither counts the other are a hit.
-#[tactic(auto, using(crate::proofs::FactLemmas::some_hit))]
 fn settle_of_two_writes<R: Wait + Clock>(
     rt: &R,
     alloc: Global,
