@@ -8,7 +8,7 @@ use Rattle.gr_route.specs.IntakeSeats.{Seat}
 use Rattle.gr_sequencer_thread.specs.Ends.{End, IsEnd, IsFound}
 use Rattle.gr_sequencer_thread.specs.Feeds.{given_of}
 use Rattle.gr_detector.specs.Runs.{IsEachOnce, sent_by}
-use Rattle.gr_detector.specs.Settling.{ArePoppedWhole, IsHitAmong, pops_of}
+use Rattle.gr_detector.specs.Settling.{ArePopped, IsHitAmong, pops_of}
 use Rattle.gr_detector.proofs.HitLemmas.{races_are}
 use Rattle.gr_detector.proofs.SentLemmas.{taken_is_sent}
 
@@ -26,7 +26,7 @@ with_words w races =
       records = w.records;
     }
 
-pub finished : {A : Type 0} (e : End A) → IsEnd e → (w : WholeReport) → e.report ≡ Some w → (races : List Word) → Lists WordBelow (IsHitAmong (given_of e.givers)) races → (receipts : List Seat) → IsEachOnce (length e.sizes) receipts → ArePoppedWhole (pops_of e.takers) receipts → IsReportOf (sent_by e.sizes receipts) (with_words w races)
+pub finished : {A : Type 0} (e : End A) → IsEnd e → (w : WholeReport) → e.report ≡ Some w → (races : List Word) → Lists WordBelow (IsHitAmong (given_of e.givers)) races → (receipts : List Seat) → IsEachOnce (length e.sizes) receipts → ArePopped (pops_of e.takers) receipts → IsReportOf (sent_by e.sizes receipts) (with_words w races)
 finished e is w there races hits receipts once told =
     let found : IsFound e.config e.sizes e.takers e.givers w = subst (λ (o : Option WholeReport). IfSome o (IsFound e.config e.sizes e.takers e.givers)) there is.found in
     let each : IsEachOnce (length found.sequence.taken.sizes) receipts = subst (λ (sizes : List ℕ). IsEachOnce (length sizes) receipts) (sym found.sizes_are) once in

@@ -15,14 +15,14 @@ use Rattle.gr_order.specs.Sequences.{IsSequence, Sequence}
 use Rattle.gr_route.specs.IntakeSeats.{Seat, Taker, popped_of}
 use Rattle.gr_sequencer_thread.specs.Feeds.{AreTaken}
 use Rattle.gr_detector.specs.Runs.{IsEachOnce, IsOfRun, Run, sent_by, sent_of}
-use Rattle.gr_detector.specs.Settling.{AreHere, ArePoppedWhole, popped_at, pops_of}
+use Rattle.gr_detector.specs.Settling.{AreHere, ArePopped, popped_at, pops_of}
 
 -- of a group that is there once, what was popped is what its receipt has
-sent_is : (pops : List (List Sent)) (g : ℕ) (receipts : List Seat) → IsTrue (is_complete (popped_at pops g)) → ArePoppedWhole pops receipts → length (filter (λ (r : Seat). r.group == g) receipts) ≡ 1 → popped_at pops g ≡ sent_of g receipts
+sent_is : (pops : List (List Sent)) (g : ℕ) (receipts : List Seat) → IsTrue (is_complete (popped_at pops g)) → ArePopped pops receipts → length (filter (λ (r : Seat). r.group == g) receipts) ≡ 1 → popped_at pops g ≡ sent_of g receipts
 sent_is pops g [] whole told once = absurd (omega (arith, once))
 sent_is pops g (r ∷ receipts) whole told once = ⊎_elim
     (λ (same : r.group ≡ g).
-    subst (λ n. IsTrue (is_complete (popped_at pops n)) → popped_at pops n ≡ r.pushed) same told.0 whole
+    subst (λ n. IsTrue (is_complete (popped_at pops n)) → popped_at pops n ≡ r.pushed) same told.0.whole whole
     ∙ sym (ap (λ b. cond b r.pushed (sent_of g receipts)) (eq-eqb r.group g same)))
     (λ apart.
     let rest : length (filter (λ (s : Seat). s.group == g) receipts) ≡ 1 = sym (ap (λ b. length (cond b (r ∷ filter (λ (s : Seat). s.group == g) receipts) (filter (λ (s : Seat). s.group == g) receipts))) (ne_eqb r.group g apart)) ∙ once in
@@ -43,7 +43,7 @@ module _ (config : Settings) (is : IsConfig config) (seq : Sequence) (sequence :
       popped_here takers (g % config.queues) g (omega (arith, below, queues)) (list_of seq.taken g) (taken g)
       ∙ ap (λ n. events_of g (get_or (pops_of takers) (g % n) [])) (sym pops_count)
 
-  pub taken_is_sent : (receipts : List Seat) → IsEachOnce (length seq.taken.sizes) receipts → ArePoppedWhole (pops_of takers) receipts → seq.taken ≡ sent_by seq.taken.sizes receipts
+  pub taken_is_sent : (receipts : List Seat) → IsEachOnce (length seq.taken.sizes) receipts → ArePopped (pops_of takers) receipts → seq.taken ≡ sent_by seq.taken.sizes receipts
   taken_is_sent receipts once told =
       let n = length seq.taken.sizes in
       let lists : seq.taken.lists ≡ map (λ g. sent_of g receipts) (range_with_len 0 n) = ext_get_or [] seq.taken.lists (map (λ g. sent_of g receipts) (range_with_len 0 n))

@@ -45,7 +45,7 @@ worker_queues workers = map (λ w. w.queue) workers
 abbrev pub AreReceiptsOf : Run → List Seat → Type 0
 AreReceiptsOf run receipts = All (λ r. IsOfRun run r.group r.queue) receipts
 
--- each of so many groups is there once
+-- each of so many groups has exactly one receipt among these
 abbrev pub IsEachOnce : ℕ → List Seat → Type 0
 IsEachOnce groups receipts = (g : ℕ) → g < groups → length (filter (λ r. r.group == g) receipts) ≡ 1
 

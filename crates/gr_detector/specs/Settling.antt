@@ -7,6 +7,7 @@ use Rattle.gr_model.specs.declared.event.Sent.{Sent}
 use Rattle.gr_model.specs.declared.event.Word.{Word}
 use Rattle.gr_model.specs.Streams.{events_of, is_complete}
 use Rattle.gr_route.specs.IntakeSeats.{Seat, Taker}
+use Rattle.gr_route.specs.Prefixes.{StartsWith}
 use Rattle.gr_shadow.specs.Clashes.{ClockedAccess, IsHitIn}
 
 -- what was popped of each queue
@@ -22,13 +23,14 @@ abbrev pub AreHere : List TableId → List Seat → Type 0
 AreHere intakes [] = ⊤
 AreHere intakes (r ∷ receipts) = (slice_get intakes (r.group % length intakes) ≡ Some r.queue) × AreHere intakes receipts
 
--- of each receipt's group, what was popped is all that was pushed, where it is complete
-abbrev pub IsPoppedWhole : List (List Sent) → Seat → Type 0
-IsPoppedWhole pops r = IsTrue (is_complete (popped_at pops r.group)) → popped_at pops r.group ≡ r.pushed
+-- of each receipt's group, what was popped is a prefix of what was pushed, and all of it where it is complete
+pub record IsPopped (pops : List (List Sent)) (r : Seat) : Type 0 where
+  pub prefix : StartsWith r.pushed (popped_at pops r.group)
+  pub whole : IsTrue (is_complete (popped_at pops r.group)) → popped_at pops r.group ≡ r.pushed
 
-abbrev pub ArePoppedWhole : List (List Sent) → List Seat → Type 0
-ArePoppedWhole pops [] = ⊤
-ArePoppedWhole pops (r ∷ receipts) = IsPoppedWhole pops r × ArePoppedWhole pops receipts
+abbrev pub ArePopped : List (List Sent) → List Seat → Type 0
+ArePopped pops [] = ⊤
+ArePopped pops (r ∷ receipts) = IsPopped pops r × ArePopped pops receipts
 
 -- a word is hit in the accesses that some worker was given
 abbrev pub IsHitAmong : List (List ClockedAccess) → Word → Type 0

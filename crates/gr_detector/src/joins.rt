@@ -6,7 +6,7 @@ ghost use Rattle.gr_report.specs.Whole.{whole_of};
 ghost use Rattle.gr_shadow.specs.Clashes.{ClockedAccess, IsHitIn};
 ghost use Rattle.gr_sequencer_thread.specs.Feeds.{given_of, intakes_of, works_of};
 ghost use Rattle.gr_detector.specs.Runs.{IsEachOnce, worker_queues};
-ghost use Rattle.gr_detector.specs.Settling.{AreHere, ArePoppedWhole, IsHitAmong, pops_of};
+ghost use Rattle.gr_detector.specs.Settling.{AreHere, ArePopped, IsHitAmong, pops_of};
 
 use gr_model::event::Word;
 use gr_model::memory::Memory;
@@ -42,11 +42,12 @@ pub(crate) fn has_each_once(receipts: &[Receipt], groups: u16) -> bool
     true
 }
 
-/// Joins back the seats of all receipts, each to the seat that popped its events.
+/// Joins back the seats of all receipts, each to the seat that popped its events. Of each receipt's group, what was popped is
+/// a prefix of what was sent, whether memory ran out or not.
 pub(crate) fn join_intakes<A: Allocator>(inlets: &mut [Inlet<A>], receipts: Vec<Receipt, A>)
     requires some { 0 < length inlets.old }
     requires here { AreHere (intakes_of inlets.old) receipts.items }
-    ensures { ArePoppedWhole (pops_of inlets.old) receipts.items }
+    ensures { ArePopped (pops_of inlets.old) receipts.items }
 {
     for receipt in receipts {
         let queue = usize::from(receipt.group()) % inlets.len();

@@ -6,7 +6,7 @@ ghost use Rattle.std.specs.Prelude.{◌≡◌, IfErr, IfOk, length};
 ghost use Rattle.gr_model.specs.Reports.{IsReportOf};
 ghost use Rattle.gr_report.specs.Whole.{whole_of};
 ghost use Rattle.gr_detector.specs.Refusals.{IsHandedBack};
-ghost use Rattle.gr_detector.specs.Runs.{AreReceiptsOf, IsRunning, run_of, sent_by};
+ghost use Rattle.gr_detector.specs.Runs.{AreReceiptsOf, IsEachOnce, IsRunning, run_of, sent_by};
 
 use crate::error::FinishError;
 use crate::joins::{has_each_once, join_intakes, settle_all, with_races};
@@ -74,6 +74,7 @@ impl<A: Allocator + Copy> Running<A> {
         receipts: Vec<Receipt, A>,
     ) -> Result<Report<A>, FinishError<A>>
         requires { AreReceiptsOf self receipts.items }
+        ensures once { IfOk result (λ _. IsEachOnce (length self.sizes) receipts.items) }
         ensures report { IfOk result (λ report. IsReportOf (sent_by self.sizes receipts.items) (whole_of report)) }
         ensures refused { IfErr result (IsHandedBack self receipts.items) }
     {

@@ -7,8 +7,9 @@ use Rattle.gr_model.specs.declared.event.Event.{Event}
 use Rattle.gr_model.specs.declared.event.Sent.{Sent}
 use Rattle.gr_model.specs.Streams.{events_of, is_complete}
 use Rattle.gr_route.specs.IntakeSeats.{Seat, Taker, popped_of}
+use Rattle.gr_route.specs.Prefixes.{StartsWith}
 use Rattle.gr_sequencer_thread.specs.Feeds.{intakes_of}
-use Rattle.gr_detector.specs.Settling.{AreHere, ArePoppedWhole, IsPoppedWhole, popped_at, pops_of}
+use Rattle.gr_detector.specs.Settling.{AreHere, ArePopped, IsPopped, popped_at, pops_of}
 use Rattle.gr_detector.proofs.SetupLemmas.{queue_at}
 use Rattle.gr_detector.proofs.joins.join_intakes.Goals as goal
 
@@ -39,17 +40,21 @@ loop-receipt-preserved g c =
     ∙ (ap (λ n. events_of r.group (get_or (pops_of inlets) (n % length inlets) [])) (sym group)
     ∙ (ap (events_of r.group) (get_or-map (λ (t : Taker). t.popped) inlets q item [] lt)
     ∙ ap (λ (s : Seat). popped_of (get_or inlets q item) s.group) (sym seat)))) in
-    let mine : IsPoppedWhole (pops_of init) r = λ whole. popped ∙ (c.join_back.ensures.whole (subst (λ (l : List Event). IsTrue (is_complete l)) popped whole) ∙ ap (λ (s : Seat). s.pushed) seat) in (
+    let pushed = ap (λ (s : Seat). s.pushed) seat in
+    let mine : IsPopped (pops_of init) r = record {
+      prefix = subst (λ (l : List Event). StartsWith r.pushed l) (sym popped) (subst (λ (l : List Event). StartsWith l (popped_of (get_or inlets q item) c.into_seat.result.group)) pushed c.join_back.ensures.prefix);
+      whole = λ whole. popped ∙ (c.join_back.ensures.whole (subst (λ (l : List Event). IsTrue (is_complete l)) popped whole) ∙ pushed);
+    } in (
       map-set_same (λ (t : Taker). t.queue) _ _ _ _ c.join_back.ensures.same.0 ∙ inv.0,
       map-set_same (λ (t : Taker). t.popped) _ _ _ _ c.join_back.ensures.same.1 ∙ inv.1,
       here.1,
-      λ rest. inv.3 (subst (ArePoppedWhole (pops_of init)) (sym items) (mine, rest)),
+      λ rest. inv.3 (subst (ArePopped (pops_of init)) (sym items) (mine, rest)),
     )
 
 pub loop-receipt-init : goal.loop-receipt-init
 loop-receipt-init g c =
     let gives = c.into_iter-receipt-iterator.ensures.into_iter_gives.0 in
-    (refl, refl, subst (AreHere (intakes_of c.args.inlets.now)) (sym gives) c.requires.here, λ whole. subst (ArePoppedWhole (pops_of c.args.inlets.now)) gives whole)
+    (refl, refl, subst (AreHere (intakes_of c.args.inlets.now)) (sym gives) c.requires.here, λ whole. subst (ArePopped (pops_of c.args.inlets.now)) gives whole)
 
 pub loop-receipt-smaller : goal.loop-receipt-smaller
 loop-receipt-smaller g c = omega (arith, c.in-Some.ensures.steps.1)
@@ -58,7 +63,7 @@ pub returns : goal.returns
 returns g c =
     let left = c.loop-receipt.receipt-iterator in
     let over : into_iter_items left ≡ [] = nothing_left (into_iter_items left) (sym left.rest.ok.0 ∙ c.in-None.ensures.steps.0) in
-    c.loop-receipt.invariant.3 (subst (ArePoppedWhole (pops_of c.args.inlets.now)) (sym over) tt)
+    c.loop-receipt.invariant.3 (subst (ArePopped (pops_of c.args.inlets.now)) (sym over) tt)
 
 pub join_back-requires : goal.join_back-requires
 join_back-requires g c =

@@ -1,11 +1,11 @@
 use Rattle.std.proofs.Common.{◌≡◌}
 use Rattle.std.specs.Vec.Iter.{into_iter_items}
 use Rattle.gr_sequencer_thread.specs.Feeds.{intakes_of}
-use Rattle.gr_detector.specs.Settling.{AreHere, ArePoppedWhole, pops_of}
+use Rattle.gr_detector.specs.Settling.{AreHere, ArePopped, pops_of}
 use Rattle.gr_detector.proofs.joins.join_intakes.Given as goal
 
 abbrev pub invariant-loop-receipt : goal.invariant-loop-receipt
 invariant-loop-receipt g l =
     (intakes_of l.inlets ≡ intakes_of l.fn.inlets) × (pops_of l.inlets ≡ pops_of l.fn.inlets)
     × AreHere (intakes_of l.fn.inlets) (into_iter_items l.receipt-iterator)
-    × (ArePoppedWhole (pops_of l.fn.inlets) (into_iter_items l.receipt-iterator) → ArePoppedWhole (pops_of l.fn.inlets) l.fn.receipts.items)
+    × (ArePopped (pops_of l.fn.inlets) (into_iter_items l.receipt-iterator) → ArePopped (pops_of l.fn.inlets) l.fn.receipts.items)

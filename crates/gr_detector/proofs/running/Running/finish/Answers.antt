@@ -11,7 +11,7 @@ use Rattle.gr_route.specs.WorkSeats.{Giver}
 use Rattle.gr_sequencer_thread.specs.Ends.{End, IsEnd, Line}
 use Rattle.gr_sequencer_thread.specs.Feeds.{given_of, intakes_of}
 use Rattle.gr_detector.specs.Runs.{IsEachOnce, Run, sent_by}
-use Rattle.gr_detector.specs.Settling.{ArePoppedWhole, IsHitAmong, pops_of}
+use Rattle.gr_detector.specs.Settling.{ArePopped, IsHitAmong, pops_of}
 use Rattle.gr_detector.proofs.FinishLemmas.{finished, with_words}
 use Rattle.gr_detector.proofs.SentLemmas.{are_here}
 use Rattle.gr_detector.proofs.running.Running.finish.Goals as goal
@@ -38,7 +38,7 @@ returns-in-Some-Ok-clause-report g c =
     let takers : c.deref_mut.result.now ≡ end.takers = c.deref_mut.ensures.value ∙ sym (ap (λ (e : End g.row.A.Denot). e.takers) c.into_parts-inlets.ensures.parts) in
     let hits = subst (λ (gs : List (Giver g.row.A.Denot)). Lists WordBelow (IsHitAmong (given_of gs)) c.in-Some-Ok.races.items) givers
     (IfOk-at_ok (λ v. Lists WordBelow (IsHitAmong (given_of parts.outlets.items)) v.items) c.in-Some-Ok.is-1 c.settle_all-races.ensures) in
-    let told = subst (λ (ts : List Taker). ArePoppedWhole (pops_of ts) receipts) takers c.join_intakes.ensures in
+    let told = subst (λ (ts : List Taker). ArePopped (pops_of ts) receipts) takers c.join_intakes.ensures in
     let line : end.sizes ≡ c.self.inside.sequencer.sizes = ap (λ (l : Line). l.sizes) c.join.ensures in
     let sizes : end.sizes ≡ c.args.self.sizes = line ∙ ap (λ (r : Run). r.sizes) c.self.view_is in
     let groups : c.self.inside.groups ≡ length end.sizes = c.self.invariant.0 ∙ ap length (sym line) in
