@@ -161,16 +161,6 @@ kernel void copies_wrong(global const int *in, global int *out) {
     out[get_global_id(0)] = tile[63 - get_local_id(0)];
     wait_group_events(1, &copy);
 }
-kernel void orders(global atomic_int *flag, global int *data, int order, int scope) { // no constants
-    if (get_local_id(0) != 0) return;
-    if (get_group_id(0) == 0) {
-        data[0] = 42;
-        atomic_store_explicit(flag, 1, order ? memory_order_release : memory_order_relaxed, scope ? memory_scope_device : memory_scope_work_group);
-    } else {
-        while (atomic_load_explicit(flag, order ? memory_order_acquire : memory_order_relaxed, scope ? memory_scope_device : memory_scope_work_group) != 1) ;
-        data[get_group_id(0)] = data[0];
-    }
-}
 kernel void divergent(global int *out) {
     local int tile[64];
     const int l = get_local_id(0);
@@ -203,13 +193,6 @@ kernel void fenced(global int *data) {
     data[get_global_id(0)] = 1;
     mem_fence(CLK_GLOBAL_MEM_FENCE);
 }
-kernel void numbers(global int *out) {
-    const size_t i = get_global_linear_id();
-    out[4 * i] = get_global_id(0) * 100 + get_global_id(1) * 10 + get_global_id(2);
-    out[4 * i + 1] = get_local_id(0) + 10 * get_group_id(1) + 100 * get_num_groups(0);
-    out[4 * i + 2] = get_local_linear_id() + 1000 * get_work_dim();
-    out[4 * i + 3] = get_global_offset(0) + 10 * get_local_size(1) + 100 * get_global_size(2) + 1000 * get_global_size(3);
-}
 local_helper
 kernel void calls(global int *out) { helper(out, get_global_id(0)); }
 kernel void called(global int *out, int extra) { out[get_global_id(0)] = extra; }
@@ -223,13 +206,32 @@ kernel void result_pointer(global const float *in, global float *whole) {
     float part = fract(in[get_global_id(0)], &whole[get_global_id(0) / 2]);
     if (part > 2) whole[0] = part;
 }
+""".replace("local_helper", "void helper(global int *out, int at) { out[at] = at; barrier(CLK_GLOBAL_MEM_FENCE); out[at] += out[at / 64 * 64 + 63 - at % 64]; }")
+LATER = """
+kernel void orders(global atomic_int *flag, global int *data, int order, int scope) { // no constants
+    if (get_local_id(0) != 0) return;
+    if (get_group_id(0) == 0) {
+        data[0] = 42;
+        atomic_store_explicit(flag, 1, order ? memory_order_release : memory_order_relaxed, scope ? memory_scope_device : memory_scope_work_group);
+    } else {
+        while (atomic_load_explicit(flag, order ? memory_order_acquire : memory_order_relaxed, scope ? memory_scope_device : memory_scope_work_group) != 1) ;
+        data[get_group_id(0)] = data[0];
+    }
+}
+kernel void numbers(global int *out) {
+    const size_t i = get_global_linear_id();
+    out[4 * i] = get_global_id(0) * 100 + get_global_id(1) * 10 + get_global_id(2);
+    out[4 * i + 1] = get_local_id(0) + 10 * get_group_id(1) + 100 * get_num_groups(0);
+    out[4 * i + 2] = get_local_linear_id() + 1000 * get_work_dim();
+    out[4 * i + 3] = get_global_offset(0) + 10 * get_local_size(1) + 100 * get_global_size(2) + 1000 * get_global_size(3);
+}
 kernel void plain_ends(global atomic_int *word, global int *data) { // a plain write ends a release sequence
     if (get_global_id(0) != 0) return;
     atomic_store_explicit(word, 1, memory_order_release, memory_scope_device);
     *(global int *)word = 2;
     data[0] = atomic_load_explicit(word, memory_order_acquire, memory_scope_device);
 }
-""".replace("local_helper", "void helper(global int *out, int at) { out[at] = at; barrier(CLK_GLOBAL_MEM_FENCE); out[at] += out[at / 64 * 64 + 63 - at % 64]; }")
+"""
 
 
 def both(name, text, right, wrong):
@@ -251,7 +253,8 @@ TEXTS = (
            {"relaxed": {"order": RELAXED, "scope": DEVICE}, "scope": {"order": "memory_order_acq_rel", "scope": GROUP}})
     + both("ring", RING, {"order": RELEASES}, {"relaxed": {"order": RELAXED}})
     + both("look_back", LOOK_BACK, {"order": RELEASES}, {"relaxed": {"order": RELAXED}}))
-TEXT = "".join(text for _, text in TEXTS) + OTHERS
+TEXT = "".join(text for _, text in TEXTS) + OTHERS + LATER
+OF_OPENCL12 = "".join(text for name, text in TEXTS if name.split("_")[0] in ("matmul", "tree", "histogram")) + OTHERS
 ALL = GROUPS * ITEMS
 
 
@@ -344,8 +347,10 @@ def kind_of(values):
 
 
 def main(wanted):
-    device = Device()
-    program = device.build(TEXT, "-cl-std=CL3.0")
+    """Launches all, or those that are wanted; `--opencl12` before these compiles the text that OpenCL C 1.2 has."""
+    device, is_old = Device(), wanted[:1] == ["--opencl12"]
+    wanted = wanted[1:] if is_old else wanted
+    program = device.build(OF_OPENCL12) if is_old else device.build(TEXT, "-cl-std=CL3.0")
     for case in cases():
         if wanted and case.kernel not in wanted:
             continue

@@ -4,7 +4,9 @@ import ctypes
 
 POINTER = ctypes.c_void_p
 ALL_DEVICES, COPY_HOST_PTR, BUILD_LOG = 0xFFFFFFFF, 1 << 5, 0x1183
-LOADER = ctypes.CDLL("libOpenCL.so.1")
+LOADER = ctypes.CDLL(None)  # what is loaded already: the simulator loads itself into the program
+if not hasattr(LOADER, "clGetPlatformIDs"):
+    LOADER = ctypes.CDLL("libOpenCL.so.1")
 for _name in ("clCreateContext", "clCreateCommandQueue", "clCreateProgramWithSource", "clCreateKernel", "clCreateBuffer", "clCreateUserEvent",
               "clLinkProgram", "clSVMAlloc", "clCreateProgramWithBinary"):
     getattr(LOADER, _name).restype = POINTER

@@ -1,0 +1,62 @@
+"""Whether two recordings of a kernel have the same records of each work-item, at the same places of the source. Names of releases are not
+compared, since they depend on the run."""
+import glob
+import os
+import struct
+
+GRAINS = {"": 4, "half": 2, "byte": 1}
+SIZES, BARRIER = {b"GRT1": 20, b"GRT2": 44}, 5
+
+
+def buffers_of(folder):
+    """Of each buffer its group or None, first word, words, name and grain."""
+    for line in open(os.path.join(folder, "buffers")):
+        words = line.rstrip("\n").split(" ", 3 if line[0] == "g" else 4)
+        group = None if words[0] == "g" else int(words.pop(1))
+        name, _, grain = words[3].rpartition(".")
+        if grain not in GRAINS or not name:
+            name, grain = words[3], ""
+        yield group, int(words[1]), int(words[2]), name, GRAINS[grain]
+
+
+def places_of(folder):
+    places = {}
+    for line in open(os.path.join(folder, "places")):
+        words = line.rstrip("\n").split(" ", 3)
+        key = tuple(map(int, words[:3])) if len(words) == 4 else int(words[0])
+        places[key] = words[-1]
+    return places
+
+
+def recording(folder):
+    """Of each item its records, each as what it does, where in which buffer, and its place in the source."""
+    buffers, places, items = list(buffers_of(folder)), places_of(folder), {}
+
+    def where(memory, group, word):
+        for of, first, words, name, grain in buffers:
+            if (of is None) == (memory == 0) and of in (None, group) and first <= word < first + words:
+                return name, (word - first) * grain
+        return "nowhere", word
+
+    for name in glob.glob(os.path.join(folder, "group*.gpurace")):
+        with open(name, "rb") as stream:
+            data = stream.read()
+        size, group = SIZES[data[:4]], struct.unpack_from("<H", data, 4)[0]
+        for at in range(12, len(data) - size, size):
+            kind, memory, scope, order, item, _, word = struct.unpack_from("<BBBBHHI", data, at)
+            records = items.setdefault((group, item), [])
+            is_barrier = kind == BARRIER
+            place = places.get(word if is_barrier else (group, item, len(records)))
+            records.append((kind, memory, scope, order, None if is_barrier else where(memory, group, word), place))
+    return items
+
+
+def differences(first, second):
+    """Lines on the items whose records differ, the first of them in full."""
+    one, other = recording(first), recording(second)
+    differing = [key for key in sorted(one.keys() | other.keys()) if one.get(key, []) != other.get(key, [])]
+    if not differing:
+        return []
+    a, b = one.get(differing[0], []), other.get(differing[0], [])
+    at = next((n for n, pair in enumerate(zip(a, b)) if pair[0] != pair[1]), min(len(a), len(b)))
+    return [f"{len(differing)} of {len(one)} items differ; item {differing[0]}, record {at}: {a[at:at + 1]} and {b[at:at + 1]}"]
