@@ -8,8 +8,8 @@ use Rattle.gr_sequencer_tests.proofs.facts.ready_of_both.Goals as goal
 
 -- where no step is answered, none is left
 done_of : (q : Sequence) (answer : Option Ready) → MatchOption answer (IsDone q) (λ r. CanMake q r) → is_some answer ≡ false → IsDone q
-done_of q None done no = done
-done_of q (Some r) can no = absurd (true≢false no)
+done_of q None done is = done
+done_of q (Some r) can is = absurd (true≢false is)
 
 pub prove-unreachable-requires : goal.prove-unreachable-requires
 prove-unreachable-requires g c =
