@@ -111,7 +111,7 @@ Words compiler_options(cl_device_id device) {
                    "-Xclang", "-no-opaque-pointers", "-Xclang", extensions_of(device), "-D__OPENCL_VERSION__=" + number, "-D__ENDIAN_LITTLE__=1",
                    "-D__IMAGE_SUPPORT__=1", "-DPOCL_DEVICE_ADDRESS_BITS=64", "-D__USE_CLANG_OPENCL_C_H", "-Dinline=", "-Dcl_khr_int64",
                    "-DCL_DEVICE_MAX_GLOBAL_VARIABLE_SIZE=" + std::to_string(info_of<size_t>(device, CL_DEVICE_MAX_GLOBAL_VARIABLE_SIZE))};
-    for (const char *header : {"pocl_types.h", "_builtin_renames.h", "opencl-c-base.h", "opencl-c.h", "_clang_opencl.h"})
+    for (const char *header : {"_builtin_renames.h", "opencl-c-base.h", "opencl-c.h", "_clang_opencl.h"})
         words.insert(words.end(), {"-include", headers + header});
     // each access of the text is one of the code: no pass has merged or moved any
     words.insert(words.end(), {"-fno-builtin", "-fno-discard-value-names", "-g", "-w", "-emit-llvm", "-c", "-O1", "-Xclang", "-disable-llvm-passes"});
@@ -141,6 +141,12 @@ std::string state_of(const std::string &path) {
     struct stat state {};
     if (stat(path.c_str(), &state) != 0) return path + " missing";
     return path + " " + std::to_string(state.st_mtim.tv_sec) + "." + std::to_string(state.st_mtim.tv_nsec) + " " + std::to_string(state.st_size);
+}
+
+// pocl's own types, but for one that clang has itself in OpenCL C 2.0.
+std::string types_header() {
+    return "#if __OPENCL_C_VERSION__ == 200\n#define reserve_id_t pocl_reserve_id_t\n#endif\n#include \"" + settings().builtins +
+           "/include/pocl_types.h\"\n#undef reserve_id_t\n";
 }
 
 class Build {
@@ -208,7 +214,8 @@ private:
             files::create_directories(path.parent_path());
             std::ofstream(path, std::ios::binary) << header.text;
         }
-        Words words = {settings().clang};
+        std::ofstream(folder + "/types.h") << types_header();
+        Words words = {settings().clang, "-include", folder + "/types.h"};
         words.insert(words.end(), options_.begin(), options_.end());
         const Words own = unit_options(units_[at]);
         words.insert(words.end(), own.begin(), own.end());
