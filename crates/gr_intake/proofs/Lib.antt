@@ -8,4 +8,4 @@ pub mod Judged
 pub mod Comings
 mod Turns
 mod Rounds
-mod Behind
+pub mod Behind
