@@ -1,5 +1,5 @@
 -- What was taken is what was sent, where all ends were popped.
-use Rattle.std.proofs.Common.{◌≡◌, ◌==◌, ℕ, suc, ◌+◌, ◌<◌, ◌≤◌, ◌%◌, true, false, cond, IsTrue, List, [], ◌∷◌, ◌++◌, length, map, get_or, Some, slice_get, refl, sym, ap, ◌∙◌, subst, ⊎_elim, arith, eq-eqb, ne_eqb}
+use Rattle.std.proofs.Common.{◌≡◌, ◌==◌, ℕ, suc, ◌<◌, ◌%◌, cond, IsTrue, List, [], ◌∷◌, length, map, get_or, slice_get, sym, ap, ◌∙◌, subst, ⊎_elim, arith, eq-eqb, ne_eqb}
 use Rattle.std.specs.Prelude.{All, filter}
 use Rattle.std.specs.List.{range_with_len}
 use Rattle.std.proofs.Math.Nat.{mod-lt}
@@ -10,7 +10,7 @@ use Rattle.atomic_table.specs.Seated.{TableId}
 use Rattle.gr_model.specs.declared.event.Event.{Event}
 use Rattle.gr_model.specs.declared.event.Sent.{Sent}
 use Rattle.gr_model.specs.Configs.{IsConfig, Settings}
-use Rattle.gr_model.specs.Streams.{AreComplete, Streams, events_of, is_complete, list_of}
+use Rattle.gr_model.specs.Streams.{AreComplete, events_of, is_complete, list_of}
 use Rattle.gr_order.specs.Sequences.{IsSequence, Sequence}
 use Rattle.gr_route.specs.IntakeSeats.{Seat, Taker, popped_of}
 use Rattle.gr_sequencer_thread.specs.Feeds.{AreTaken}

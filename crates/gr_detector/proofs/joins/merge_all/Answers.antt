@@ -1,7 +1,7 @@
-use Rattle.std.proofs.Common.{List, subst, sym}
+use Rattle.std.proofs.Common.{subst, sym}
 use Rattle.std.proofs.lemmas.Result.{IfOk-at_ok}
 use Rattle.gr_model.specs.Reports.{Lists, WordBelow}
-use Rattle.gr_shadow.specs.Clashes.{ClockedAccess, IsHitIn}
+use Rattle.gr_shadow.specs.Clashes.{IsHitIn}
 use Rattle.gr_detector.specs.Settling.{IsHitAmong}
 use Rattle.gr_detector.proofs.HitLemmas.{merged}
 use Rattle.gr_detector.proofs.joins.merge_all.Goals as goal

@@ -1,4 +1,4 @@
-use Rattle.std.proofs.Common.{◌≡◌, ◌∙◌, ◌<◌, ◌%◌, ◌+◌, ◌++◌, ◌∷◌, [], ℕ, List, Some, rules, arith, refl, ap, sym, subst, length, get_or, set, slice_get}
+use Rattle.std.proofs.Common.{◌≡◌, ◌∙◌, ◌<◌, ◌%◌, ◌+◌, ◌++◌, ◌∷◌, [], Some, rules, arith, refl, ap, sym, subst, length, get_or, set}
 use Rattle.std.proofs.Math.Nat.{mod-lt}
 use Rattle.std.proofs.Math.Seq.{map-set_same}
 use Rattle.std.proofs.lemmas.List.{length-append, length-map}
@@ -6,7 +6,7 @@ use Rattle.gr_model.specs.declared.limits.TheConstants.{MOST_GROUPS, MOST_RECORD
 use Rattle.gr_route.specs.IntakeSeats.{Taker}
 use Rattle.gr_sender.specs.Senders.{Sending}
 use Rattle.gr_sequencer_thread.specs.Feeds.{intakes_of}
-use Rattle.gr_detector.specs.Setups.{AreOpenBelow, AreSeatedBelow, IsOpenSender}
+use Rattle.gr_detector.specs.Setups.{AreOpenBelow, AreSeatedBelow}
 use Rattle.gr_detector.proofs.SetupLemmas.{each_set, none_seated, open_more, queue_at, seat_more, seating}
 use Rattle.gr_detector.proofs.setup.senders_of.Goals as goal
 

@@ -1,4 +1,4 @@
-use Rattle.std.proofs.Common.{◌≡◌, ◌∙◌, ◌++◌, ◌∷◌, [], List, rules, arith, ap, sym, subst, length}
+use Rattle.std.proofs.Common.{◌≡◌, ◌∙◌, ◌++◌, ◌∷◌, [], List, arith, ap, sym, subst, length}
 use Rattle.std.proofs.lemmas.List.{length-append, map-append}
 use Rattle.atomic_table.specs.Seated.{TableId}
 use Rattle.gr_route.specs.WorkSeats.{Giver, Worker}

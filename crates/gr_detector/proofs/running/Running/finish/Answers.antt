@@ -1,14 +1,13 @@
-use Rattle.std.proofs.Common.{◌≡◌, ◌∙◌, ℕ, List, Option, Some, refl, ap, sym, subst, length}
+use Rattle.std.proofs.Common.{◌≡◌, ◌∙◌, ℕ, List, Some, refl, ap, sym, subst, length}
 use Rattle.std.specs.Option.{option_map}
 use Rattle.std.proofs.lemmas.List.{length-map}
 use Rattle.std.proofs.lemmas.Result.{IfOk-at_ok}
 use Rattle.gr_model.specs.Configs.{Settings}
 use Rattle.gr_model.specs.Reports.{IsReportOf, Lists, WholeReport, WordBelow}
-use Rattle.gr_model.specs.Streams.{Streams}
 use Rattle.gr_report.specs.Whole.{whole_of}
 use Rattle.gr_route.specs.IntakeSeats.{Seat, Taker}
 use Rattle.gr_route.specs.WorkSeats.{Giver}
-use Rattle.gr_sequencer_thread.specs.Ends.{End, IsEnd, Line}
+use Rattle.gr_sequencer_thread.specs.Ends.{End, Line}
 use Rattle.gr_sequencer_thread.specs.Feeds.{given_of, intakes_of}
 use Rattle.gr_detector.specs.Runs.{IsEachOnce, Run, sent_by}
 use Rattle.gr_detector.specs.Settling.{ArePopped, IsHitAmong, pops_of}
