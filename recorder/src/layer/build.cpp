@@ -69,24 +69,30 @@ Processor processor() {
 }
 std::string builtins() { return settings().builtins + "/kernel-x86_64-pc-linux-gnu-" + processor().builtins + ".bc"; }
 
+Words features_of(cl_device_id device) {
+    size_t size = 0;
+    if (driver.clGetDeviceInfo(device, CL_DEVICE_OPENCL_C_FEATURES, 0, nullptr, &size) != CL_SUCCESS) return {};
+    std::vector<cl_name_version> features(size / sizeof(cl_name_version));
+    driver.clGetDeviceInfo(device, CL_DEVICE_OPENCL_C_FEATURES, size, features.data(), nullptr);
+    Words names;
+    for (const cl_name_version &feature : features) names.push_back(feature.name);
+    return names;
+}
+
 // What the compiler may use: the device's extensions and features, and no others.
 std::string extensions_of(cl_device_id device) {
     std::string list = "-cl-ext=-all";
     std::istringstream names(text_of(device, CL_DEVICE_EXTENSIONS));
     for (std::string name; names >> name;)
         if (name.rfind("cl_khr_", 0) == 0) list += ",+" + name;
-    size_t size = 0;
-    if (driver.clGetDeviceInfo(device, CL_DEVICE_OPENCL_C_FEATURES, 0, nullptr, &size) != CL_SUCCESS) return list;
-    std::vector<cl_name_version> features(size / sizeof(cl_name_version));
-    driver.clGetDeviceInfo(device, CL_DEVICE_OPENCL_C_FEATURES, size, features.data(), nullptr);
-    for (const cl_name_version &feature : features) list += ",+" + std::string(feature.name);
+    for (const std::string &feature : features_of(device)) list += ",+" + feature;
     return list;
 }
 
 bool starts(const std::string &word, const char *with) { return word.rfind(with, 0) == 0; }
 
 // The options of a unit, as the driver's own compile has them.
-Words unit_options(const Unit &unit) {
+Words unit_options(const Unit &unit, const Words &features) {
     Words given = words_of(unit.options), options;
     bool has_standard = false, contracts = false;
     for (size_t at = 0; at < given.size(); at++) {
@@ -96,6 +102,8 @@ Words unit_options(const Unit &unit) {
         has_standard = has_standard || starts(word, "-cl-std=");
         contracts = contracts || word == "-cl-mad-enable" || word == "-cl-fast-relaxed-math" || word == "-cl-unsafe-math-optimizations";
         if (word == "-cl-fast-relaxed-math") options.push_back("-D__FAST_RELAXED_MATH__=1");
+        if (word == "-cl-std=CL3.0") // of some features the headers alone have the macros
+            for (const std::string &feature : features) options.push_back("-D" + feature + "=1");
         options.push_back(word);
     }
     if (!has_standard) options.push_back("-cl-std=CL1.2");
@@ -151,7 +159,7 @@ std::string types_header() {
 
 class Build {
 public:
-    Build(const std::vector<Unit> &units, cl_device_id device) : units_(units), options_(compiler_options(device)) {
+    Build(const std::vector<Unit> &units, cl_device_id device) : units_(units), options_(compiler_options(device)), features_(features_of(device)) {
         Hash hash;
         for (const Unit &unit : units) {
             hash.add(unit.source), hash.add(unit.options);
@@ -183,7 +191,7 @@ public:
 
 private:
     const std::vector<Unit> &units_;
-    Words options_;
+    Words options_, features_;
     std::string kept_, file_;
 
     static std::string name_of(size_t unit) { return unit == 0 ? "kernel.cl" : "kernel-" + std::to_string(unit + 1) + ".cl"; }
@@ -217,7 +225,7 @@ private:
         std::ofstream(folder + "/types.h") << types_header();
         Words words = {settings().clang, "-include", folder + "/types.h"};
         words.insert(words.end(), options_.begin(), options_.end());
-        const Words own = unit_options(units_[at]);
+        const Words own = unit_options(units_[at], features_);
         words.insert(words.end(), own.begin(), own.end());
         words.insert(words.end(), {"-fdebug-prefix-map=" + folder + "/=", "-I", headers, "-MD", "-MF", out + ".d", text, "-o", out});
         return run(words, log);

@@ -158,6 +158,7 @@ void Group::begin_item(Item &item, uint64_t each, const uint64_t at[3], const ui
 
 // Where all items stand at barriers or have ended, they go on: a divergent barrier is what items do.
 bool Group::sweep() {
+    if (launch->written > launch->request.most_records) launch->is_over = true;
     for (size_t at = order.size(); at > 1; at--) std::swap(order[at - 1], order[random->below(uint32_t(at))]);
     size_t ended = 0, standing = 0;
     bool is_moved = false, is_idle = true;

@@ -75,6 +75,7 @@ Result Launch::run() {
     Result result;
     if (request.kept > 0 && !begin_folder(*this, result.error)) return result;
     const double start = seconds_now();
+    result.has_run = true;
     run_workers();
     result.seconds = seconds_now() - start;
     result.records = records;

@@ -37,6 +37,7 @@ struct Result {
     double seconds = 0;        // of the kernel
     bool is_stopped = false;   // it was ended before its end, by Ctrl-C or since its time was over
     bool is_timed_out = false;
+    bool has_run = false;
     std::string error;         // why the kernel could not be run at all
 };
 
