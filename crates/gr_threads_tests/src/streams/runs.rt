@@ -46,17 +46,3 @@ pub(crate) fn run_inputs<R: Threads + Wait + Clock + Copy + Send + 'static>(
         Err(fault) => Ok((Err(fault), text)),
     }
 }
-
-/// Runs over streams, each of which is given at once.
-pub(crate) fn run_bytes<R: Threads + Wait + Clock + Copy + Send + 'static>(
-    rt: R,
-    alloc: Global,
-    streams: Vec<Vec<u8>>,
-    plan: Plan,
-) -> Result<Outcome, Fail> {
-    let mut inputs = Vec::new(alloc);
-    for stream in streams {
-        inputs.push(Input::whole(stream))?;
-    }
-    run_inputs(rt, alloc, inputs, plan)
-}

@@ -1,6 +1,5 @@
 //! Launches whose streams come from a reader each.
 
-mod broken;
 mod ends;
 mod growths;
 mod large;

@@ -1,9 +1,10 @@
-//! Readers that fail, and writers that fail.
+//! Readers that fail, writers that fail, and no reader at all.
 
 use crate::streams::inputs::Input;
 use crate::streams::launches::{RACE, packed, report_with};
 use crate::streams::outputs::Output;
 use crate::streams::runs::{Outcome, config_of, is_accepted, is_refused, run_inputs};
+use gr_model::shape::ShapeError;
 use gr_record::fault::Fault;
 use gr_streams::{NoWatch, run_streams};
 use std::alloc::Global;
@@ -98,5 +99,15 @@ fn a_writer_that_fails_is_a_write_fault(rt: HostRuntime) -> Result<(), Fail> {
             "after {room} bytes"
         );
     }
+    Ok(())
+}
+
+#[test]
+fn no_stream_is_no_launch(rt: HostRuntime) -> Result<(), Fail> {
+    let outcome = run_inputs(rt, rt.alloc(), Vec::new(rt.alloc()), (2, 1, 1))?;
+    assert!(rt;
+        is_refused(&outcome, Fault::Shape(ShapeError::NoGroups)),
+        "no stream"
+    );
     Ok(())
 }
