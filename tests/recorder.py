@@ -1,4 +1,4 @@
-"""The recorder: what it says of launches that were written by hand, and of kernels that it records on the simulator."""
+"""The recorder: what it says of launches that were written by hand, and of kernels that it records natively and on the simulator."""
 
 import os
 import shutil
@@ -9,23 +9,31 @@ import unittest
 from testing.program import TOP
 
 RECORDER = TOP / "tools" / "recorder"
-NEEDED = ("oclgrind", "oclgrind-kernel", "llvm-config-14", "c++", "cc", "make")
+SIMULATOR = ("oclgrind", "oclgrind-kernel", "llvm-config-14", "c++", "cc", "make")
+NATIVE = ("clang-15", "llvm-config-15", "c++", "make")
 
 
 class Recorder(unittest.TestCase):
     def assert_passes(self, *words):
         environ = {**os.environ, "GPURACE_PROGRAM": os.environ["GPURACE"]}
-        ran = subprocess.run(words, env=environ, stdout=subprocess.PIPE, stderr=subprocess.STDOUT, timeout=240, check=False)
+        ran = subprocess.run(words, env=environ, stdout=subprocess.PIPE, stderr=subprocess.STDOUT, timeout=600, check=False)
         self.assertEqual(ran.returncode, 0, ran.stdout.decode(errors="replace"))
         return ran.stdout.decode(errors="replace")
+
+    def want(self, commands):
+        missing = [it for it in commands if not shutil.which(it)]
+        if missing:
+            self.skipTest(f"this recorder wants {', '.join(missing)}")
 
     def test_what_is_said_of_launches_written_by_hand(self):
         self.assert_passes(sys.executable, RECORDER / "tests" / "folders.py", os.environ["GPURACE"])
 
     def test_kernels_on_the_simulator(self):
-        missing = [it for it in NEEDED if not shutil.which(it)]
-        if missing:
-            self.skipTest(f"the simulator's recorder wants {', '.join(missing)}")
+        self.want(SIMULATOR)
         said = self.assert_passes("sh", RECORDER / "check.sh")
         if "SKIPPED" in said:
             self.skipTest(said.strip())
+
+    def test_kernels_on_the_host(self):
+        self.want(NATIVE)
+        self.assert_passes(sys.executable, TOP / "recorder" / "tests" / "run")
