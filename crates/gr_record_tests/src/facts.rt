@@ -64,6 +64,7 @@ fn read_event_of_a_record_with_byte_6() {
 
 /// A stream has an end.
 #[test]
+#[tactic(auto, unfolding(gr_record::specs::Decoding::read_from))]
 fn finish_of_nothing() {
     prove!(Decoder::new().finish().is_err());
 }
