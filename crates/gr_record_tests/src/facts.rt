@@ -2,13 +2,9 @@
 
 ghost use Rattle.std.specs.Prelude.{Some, ◌∷◌, []};
 ghost use Rattle.gr_model.specs.Events.{IsEventOk};
-ghost use Rattle.gr_lines.specs.LineText.{IsLine};
 
 use gr_input::read_all;
-use gr_lines::line::Line;
-use gr_lines::line_text::line_text;
-use gr_model::event::{Event, ItemId, Kind, Name, Order, Scope, Space, Word};
-use gr_model::memory::Memory;
+use gr_model::event::{Event, ItemId, Kind, Name, Order, Scope, Space};
 use gr_model::names::Names;
 use gr_places::places::{PlaceLine, Placed, place_of};
 use gr_record::decoder::Decoder;
@@ -16,10 +12,6 @@ use gr_record::encoding::encode_event;
 use gr_record::error::RecordError;
 use gr_record::header::{Header, Version};
 use gr_record::reading::{naming, read_event};
-use gr_report::report::Report;
-use gr_report::rows::Rows;
-use gr_report::write;
-use gr_text::forming::{Form, formed_bytes};
 use std::io::{self, ErrorKind, Read};
 
 /// The name of the first release of the first item.
@@ -64,6 +56,7 @@ fn read_event_of_a_record_with_byte_6() {
 
 /// A stream has an end.
 #[test]
+#[tactic(auto, unfolding(gr_record::specs::Decoding::read_from))]
 fn finish_of_nothing() {
     prove!(Decoder::new().finish().is_err());
 }
@@ -72,23 +65,6 @@ fn finish_of_nothing() {
 #[test]
 fn naming_of_a_relaxed_load() {
     prove!(naming(Kind::Load(Scope::Device, Order::Relaxed), &[NAME]).is_none());
-}
-
-/// The line of an acquire has its names.
-#[test]
-fn line_text_of_an_acquire(rt: HostRuntime) -> Result<(), Memory> {
-    if let Some(names) = Names::new(&[NAME]) {
-        let load = Event {
-            item: 0,
-            kind: Kind::Load(Scope::Device, Order::Acquire),
-            space: Space::Global,
-            word: 4,
-            names,
-        };
-        let text = line_text(rt.alloc(), &Line::Event(load))?;
-        prove!(text.len() == 24);
-    }
-    Ok(())
 }
 
 /// The first line of a site tells its place.
@@ -122,36 +98,4 @@ impl Read for Broken {
 #[test]
 fn read_all_of_a_reader_that_fails(rt: HostRuntime) {
     prove!(read_all(rt.alloc(), &mut Broken).is_err());
-}
-
-/// A stream of version 1 with an acquire that names a release, in version 2.
-#[test]
-fn formed_bytes_of_an_acquire(rt: HostRuntime) {
-    let stream = [
-        71, 82, 84, 49, 0, 0, 1, 0, 0, 0, 0, 0, 2, 0, 2, 2, 0, 0, 0, 0, 4, 0, 0, 0, 0, 0, 0, 0, 0,
-        0, 0, 0, 6, 0, 0, 0, 0, 0, 0, 0, 0, 0, 0, 0, 255, 255, 255, 255, 255, 255, 255, 255,
-    ];
-    if let Ok(long) = formed_bytes(rt.alloc(), Form::Long, &stream) {
-        prove!(long.get(24) == Some(&0));
-    }
-}
-
-/// A race on a global word is called so.
-#[test]
-fn write_of_a_global_race(rt: HostRuntime) -> io::Result<()> {
-    let report = Report {
-        races: Rows::of(vec![in rt.alloc(); Word::Global(4)]?),
-        divergences: Rows::of(Vec::new(rt.alloc())),
-        unmatched: Rows::of(Vec::new(rt.alloc())),
-        cut: Rows::of(Vec::new(rt.alloc())),
-        held: 0,
-        groups: 1,
-        items: 2,
-        records: 3,
-    };
-    let mut text = Vec::new(rt.alloc());
-    if write(&report, &mut text).is_ok() {
-        prove!(text.len() == 92);
-    }
-    Ok(())
 }
