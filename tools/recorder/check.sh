@@ -44,7 +44,7 @@ expect() {
         shift
     done
     shift
-    if "$here/../gpurace-record" "$@" > "$work/said" 2>&1; then got=0; else got=$?; fi
+    if "$here/../gpurace-record" --simulator "$@" > "$work/said" 2>&1; then got=0; else got=$?; fi
     [ "$got" = "$status" ] || fail "$name: status $got, and not $status"
     while IFS= read -r line; do
         grep -q -e "$line" "$work/said" || fail "$name: nowhere '$line'"
