@@ -4,7 +4,7 @@ ghost use Rattle.std.specs.Prelude.{Some, ◌∷◌, []};
 ghost use Rattle.gr_model.specs.Events.{IsEventOk};
 
 use gr_input::read_all;
-use gr_model::event::{Event, ItemId, Kind, Name, Order, Scope, Space};
+use gr_model::event::{Event, ItemId, Kind, Name, Order, Scope, Space, Word};
 use gr_model::names::Names;
 use gr_places::places::{PlaceLine, Placed, place_of};
 use gr_record::decoder::Decoder;
@@ -12,6 +12,9 @@ use gr_record::encoding::encode_event;
 use gr_record::error::RecordError;
 use gr_record::header::{Header, Version};
 use gr_record::reading::{naming, read_event};
+use gr_report::report::Report;
+use gr_report::rows::Rows;
+use gr_report::write;
 use std::io::{self, ErrorKind, Read};
 
 /// The name of the first release of the first item.
@@ -98,4 +101,24 @@ impl Read for Broken {
 #[test]
 fn read_all_of_a_reader_that_fails(rt: HostRuntime) {
     prove!(read_all(rt.alloc(), &mut Broken).is_err());
+}
+
+/// A race on a global word is called so.
+#[test]
+fn write_of_a_global_race(rt: HostRuntime) -> io::Result<()> {
+    let report = Report {
+        races: Rows::of(vec![in rt.alloc(); Word::Global(4)]?),
+        divergences: Rows::of(Vec::new(rt.alloc())),
+        unmatched: Rows::of(Vec::new(rt.alloc())),
+        cut: Rows::of(Vec::new(rt.alloc())),
+        held: 0,
+        groups: 1,
+        items: 2,
+        records: 3,
+    };
+    let mut text = Vec::new(rt.alloc());
+    if let Ok(()) = write(&report, &mut text) {
+        prove!(text.len() == 92);
+    }
+    Ok(())
 }
