@@ -66,8 +66,9 @@ void Launch::run_workers() {
     }
     const Watched watched(*this);
     std::vector<std::thread> threads;
-    for (unsigned at = 1; at < count; at++) threads.emplace_back([&, at] { workers[at]->run(); });
-    workers[0]->run();
+    workers[0]->run([&] {
+        for (unsigned at = 1; at < count; at++) threads.emplace_back([&, at] { workers[at]->run(); });
+    });
     for (std::thread &thread : threads) thread.join();
 }
 

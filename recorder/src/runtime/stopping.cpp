@@ -3,7 +3,6 @@
 #include "folder.h"
 
 #include <chrono>
-#include <condition_variable>
 #include <cstdio>
 #include <pthread.h>
 #include <thread>
@@ -20,7 +19,6 @@ void note_interrupt(int) { was_interrupted = 1; }
 // The thread that watches: one for the process, since launches may be many and short.
 struct Watcher {
     std::mutex lock;
-    std::condition_variable begins;
     Launch *launch = nullptr;
     double end = 0;
     uint64_t number = 0; // of launches that were watched
@@ -50,9 +48,10 @@ void Watcher::watch() {
     std::unique_lock<std::mutex> held(lock);
     double stopped_at = 0;
     for (uint64_t seen = 0;;) {
-        if (!launch) {
-            begins.wait(held, [&] { return launch != nullptr; });
-        }
+        held.unlock(); // it looks from time to time: to wake it for each launch would cost small ones more than they do
+        std::this_thread::sleep_for(std::chrono::milliseconds(20));
+        held.lock();
+        if (!launch) continue;
         if (seen != number) seen = number, stopped_at = 0;
         const double now = seconds_now();
         if (!stopped_at && (was_interrupted || (end > 0 && now > end))) {
@@ -61,7 +60,6 @@ void Watcher::watch() {
             stopped_at = now;
         }
         if (stopped_at && now > stopped_at + GRACE) write_and_end(*launch);
-        begins.wait_for(held, std::chrono::milliseconds(20));
     }
 }
 
@@ -92,7 +90,6 @@ Watched::Watched(Launch &launch) {
     own.launch = &launch;
     own.number++;
     own.end = launch.request.timeout > 0 ? seconds_now() + launch.request.timeout : 0;
-    own.begins.notify_one();
 }
 
 Watched::~Watched() {

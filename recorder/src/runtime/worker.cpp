@@ -1,6 +1,9 @@
 #include "worker.h"
 
 namespace gpurace {
+namespace {
+constexpr double SMALL_LAUNCH = 0.0003; // seconds
+}
 
 // Whether there was one to begin.
 bool Worker::begin_group() {
@@ -30,12 +33,16 @@ bool Worker::run_resident() {
     return goes_on;
 }
 
-void Worker::run() {
+void Worker::run(std::function<void()> begin_helpers) {
+    const double start = seconds_now();
     const size_t usual = launch_.request.threads == 1 ? 2 : 1; // so that items of different groups meet
     while (!launch_.is_stopped) {
         while (resident_.size() < usual && begin_group()) {}
         if (resident_.empty()) return;
         if (!run_resident() && !begin_group()) sched_yield();
+        if (!begin_helpers || seconds_now() < start + SMALL_LAUNCH) continue;
+        begin_helpers();
+        begin_helpers = nullptr;
     }
     close_files();
 }

@@ -5,12 +5,15 @@
 
 #include "group.h"
 
+#include <functional>
+
 namespace gpurace {
 
 class Worker {
 public:
     Worker(Launch &launch, uint64_t seed) : launch_(launch), random_(seed) {}
-    void run();
+    // `begin_helpers` is called once, when the launch has taken some time: threads would cost a small one more than they do for it.
+    void run(std::function<void()> begin_helpers = nullptr);
     void close_files(); // of the groups that have not ended
 
 private:
