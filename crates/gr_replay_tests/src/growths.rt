@@ -36,15 +36,21 @@ fn launch_refused(alloc: Global, launch: Launch) -> Result<Result<Growths, u64>,
     Ok(replay_refused(alloc, &bytes, due.as_bytes()))
 }
 
+/// The same of launches of one kind.
+fn all_refused(rt: HostRuntime, kind: &[Launch]) -> Result<(), Fail> {
+    for &launch in kind {
+        let growths = launch_refused(rt.alloc(), launch)?;
+        assert!(rt; growths.is_ok(), "{}: {growths:?}", launch.0);
+    }
+    Ok(())
+}
+
 #[test]
 fn each_refused_growth_is_want_of_memory(rt: HostRuntime) -> Result<(), Fail> {
     let growths = launch_refused(rt.alloc(), RACE)?;
     assert!(rt; growths.is_ok(), "a race: {growths:?}");
     for kind in launches() {
-        for &launch in kind {
-            let growths = launch_refused(rt.alloc(), launch)?;
-            assert!(rt; growths.is_ok(), "{}: {growths:?}", launch.0);
-        }
+        all_refused(rt, kind)?;
     }
     Ok(())
 }
