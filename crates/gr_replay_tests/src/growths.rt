@@ -6,6 +6,7 @@ use gr_record::fault::Fault;
 use gr_replay::replay;
 use refusing::growths::{Growths, refuse_each};
 use std::alloc::{Allocator, Global};
+use std::process::Abort;
 use std::test::Fail;
 
 /// Whether this text is written, or memory runs out with nothing written.
@@ -37,9 +38,9 @@ fn launch_refused(alloc: Global, launch: Launch) -> Result<Result<Growths, u64>,
 }
 
 /// The same of launches of one kind.
-fn all_refused(rt: HostRuntime, kind: &[Launch]) -> Result<(), Fail> {
+fn all_refused<H: Abort + Copy>(rt: H, alloc: Global, kind: &[Launch]) -> Result<(), Fail> {
     for &launch in kind {
-        let growths = launch_refused(rt.alloc(), launch)?;
+        let growths = launch_refused(alloc, launch)?;
         assert!(rt; growths.is_ok(), "{}: {growths:?}", launch.0);
     }
     Ok(())
@@ -50,7 +51,7 @@ fn each_refused_growth_is_want_of_memory(rt: HostRuntime) -> Result<(), Fail> {
     let growths = launch_refused(rt.alloc(), RACE)?;
     assert!(rt; growths.is_ok(), "a race: {growths:?}");
     for kind in launches() {
-        all_refused(rt, kind)?;
+        all_refused(rt, rt.alloc(), kind)?;
     }
     Ok(())
 }
