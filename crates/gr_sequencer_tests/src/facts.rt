@@ -213,14 +213,6 @@ fn step_of_an_access<A: Allocator + Clone>(sequencer: &mut Sequencer<A>) -> bool
     false
 }
 
-/// Where no step is left no instance meets.
-fn step_before_a_meeting<A: Allocator + Clone>(sequencer: &mut Sequencer<A>) {
-    if let Ok(None) = sequencer.step() {
-        let met = sequencer.meet(0);
-        prove!(met.is_err());
-    }
-}
-
 #[test]
 fn windows_forget_the_first(rt: HostRuntime) -> Result<(), Memory> {
     let shape = match Shape::new(vec![in rt.alloc(); 1; 1]?) {
@@ -371,13 +363,4 @@ fn a_release_is_counted_by_its_clock(rt: HostRuntime) {
             .as_mut()
             .is_some_and(|sequencer| step_of_an_access(sequencer))
     );
-}
-
-#[test]
-fn an_instance_meets_before_no_step_is_left(rt: HostRuntime) {
-    let mut sequencer = sequencer_of(rt.alloc(), &COMES);
-    assert!(rt; sequencer.is_some());
-    if let Some(sequencer) = &mut sequencer {
-        step_before_a_meeting(sequencer);
-    }
 }
