@@ -132,7 +132,7 @@ class SideFiles(ProgramTest):
     def setUp(self):
         super().setUp()
         self.put("race", header(0, 2) + access(0, WRITE, GLOBAL, 16) + access(1, READ, GLOBAL, 16) + END)
-        places = [f"0 255 {index} kernel.cl:{index}:1" for index in range(160_000)] + ["0 1 0 kernel.cl:9:3"]
+        places = [f"0 255 {index} kernel.cl:{index}:1" for index in range(180_000)] + ["0 1 0 kernel.cl:9:3"]
         buffers = [f"g {1_000 + word} 1 buffer{word}" for word in range(220_000)] + ["g 12 8 flags"]
         for name, lines in (("places", places), ("buffers", buffers)):
             text = "".join(f"{line}\n" for line in lines).encode()

@@ -1,43 +1,14 @@
 //! What the contracts alone say, each of which a wrong body would answer otherwise. A fact tells whether it was reached.
 
-use crate::calls::{new, shape_of};
+use crate::calls::new;
 use crate::records::WRITE_16;
-use gr_clocks::access::Access;
-use gr_clocks::clock::Clock;
-use gr_model::event::{ItemId, Word};
+use gr_model::event::ItemId;
 use gr_model::memory::Memory;
-use gr_scopes::class::Class;
-use gr_shadow::shadows::Shadows;
 use gr_world::step::Step;
-use gr_world::worker::Worker;
 use gr_world::world::World;
 use std::alloc::{Allocator, Global};
 
 const FIRST: ItemId = ItemId { group: 0, item: 0 };
-
-const SECOND: ItemId = ItemId { group: 0, item: 1 };
-
-/// Where shadows are hit by two accesses, a worker that received them has a racy word.
-fn receive_of_two<A: Allocator + Copy>(
-    alloc: A,
-    first: Access<A>,
-    second: Access<A>,
-) -> Result<bool, Memory> {
-    let mut shadows = Shadows::new(alloc);
-    let _none = shadows.apply(&first)?;
-    if shadows.apply(&second)?.is_none() {
-        return Ok(false);
-    }
-    let mut worker = Worker::new(alloc, 2)?;
-    worker.push(first);
-    worker.push(second);
-    if !worker.receive()? || !worker.receive()? {
-        return Ok(false);
-    }
-    let racy = worker.racy()?;
-    prove!(!racy.is_empty());
-    Ok(true)
-}
 
 /// A world is not at rest while an access is on its way.
 fn at_rest_before_a_pass<A: Allocator + Copy>(world: &mut World<A>) -> bool {
@@ -57,28 +28,6 @@ fn step_of_two_passes<A: Allocator + Copy>(world: &mut World<A>) -> bool {
     let again = world.step(Step::Pass);
     prove!(again.is_err());
     true
-}
-
-/// A write to one word, whose clock counts nothing else.
-fn write_of(alloc: Global, item: ItemId) -> Option<Access> {
-    let shape = shape_of(alloc, &[2]).ok()?;
-    let mut clock = Clock::new(alloc, &shape).ok()?;
-    clock.tick(item).ok()?;
-    Some(Access {
-        word: Word::Global(4),
-        item,
-        index: 0,
-        class: Class::PlainWrite,
-        clock,
-    })
-}
-
-#[test]
-fn a_worker_sees_what_it_received(rt: HostRuntime) -> Result<(), Memory> {
-    let first = write_of(rt.alloc(), FIRST).ok_or(Memory)?;
-    let second = write_of(rt.alloc(), SECOND).ok_or(Memory)?;
-    assert!(rt; receive_of_two(rt.alloc(), first, second)?);
-    Ok(())
 }
 
 /// A world whose only event was handled, an access that is on its way.

@@ -1,14 +1,11 @@
 //! Queues.
 
-ghost use Rattle.std.specs.Prelude.{◌≡◌, [], IsFalse};
-ghost use Rattle.gr_route.specs.WorkRule.{is_stop};
+ghost use Rattle.std.specs.Prelude.{◌≡◌, []};
 
-use crate::route::tests::queues::write_by_one;
 use crate::route::three_senders::write;
 use gr_model::event::Sent;
 use gr_model::memory::Memory;
 use gr_route::intake::{Intake, TakerSeat};
-use gr_route::work::{Work, WorkQueue, WorkerSeat};
 use std::alloc::Global;
 use std::sync::Wait;
 use std::test::*;
@@ -36,37 +33,5 @@ fn pop_of_an_intake_queue<R: Wait>(rt: &R, alloc: Global) -> Result<Option<()>, 
 #[test]
 fn an_intake_queue(rt: HostRuntime) -> Result<(), Fail> {
     assert_eq!(rt; pop_of_an_intake_queue(&rt, rt.alloc())?, Some(()));
-    Ok(())
-}
-
-/// An access that was pushed is popped, and once alone.
-fn pops_of_one_access<R: Wait>(
-    rt: &R,
-    queue: &WorkQueue,
-    worker: &mut WorkerSeat,
-    access: Work,
-) -> Option<()>
-    requires queue { worker.old.queue ≡ queue.now.queue }
-    requires fresh { worker.old.popped ≡ [] }
-    requires access { IsFalse (is_stop access) }
-{
-    let mut giver = queue.split(worker)?;
-    queue.push(rt, &mut giver, access).ok()?;
-    queue.join_back(worker, giver);
-    prove!(queue.pop(rt, worker).is_some());
-    prove!(queue.pop(rt, worker).is_none());
-    Some(())
-}
-
-/// Pops the accesses of a queue of its own.
-fn pops_of_a_work_queue<R: Wait>(rt: &R, alloc: Global) -> Result<Option<()>, Fail> {
-    let access = write_by_one(alloc, 7)?;
-    let (queue, mut worker) = WorkQueue::new(alloc, 2)?;
-    Ok(pops_of_one_access(rt, &queue, &mut worker, access))
-}
-
-#[test]
-fn a_work_queue(rt: HostRuntime) -> Result<(), Fail> {
-    assert_eq!(rt; pops_of_a_work_queue(&rt, rt.alloc())?, Some(()));
     Ok(())
 }
