@@ -8,7 +8,7 @@ use Rattle.gr_record.specs.declared.fault.Fault.{Fault}
 use Rattle.gr_record.specs.declared.fault.Fault.TheVariants as faults
 use Rattle.gr_report.specs.Putting.{AppendsPrefix}
 use Rattle.gr_replay.specs.Each.{IsEachFault, ReadsEach}
-use Rattle.gr_show.specs.Opening.{HoldsOfFiles, IsOpeningFault}
+use Rattle.gr_sides.specs.Files.{HoldsOfFiles, IsOpeningFault}
 use Rattle.gr_check.specs.CheckText.{counts_text, refusal_text}
 
 -- where a launch has this text, and inputs that are refused, from files of these names, have this one

@@ -4,12 +4,12 @@ ghost use Rattle.std.specs.Prelude.{◌≡◌, ◌≢◌, IfErr, IfOk, map};
 ghost use Rattle.std.specs.Fn.{FnReturnsAt};
 ghost use Rattle.std.specs.Io.KnownBytes.{Keeps};
 ghost use Rattle.gr_record.specs.declared.fault.Fault.TheVariants as faults;
-ghost use Rattle.gr_show.specs.Opening.{HoldsOfFiles};
+ghost use Rattle.gr_sides.specs.Files.{HoldsOfFiles};
 ghost use Rattle.gr_check.specs.Checked.{ChecksPrefix, IsCheckFileFault, IsChecked};
 
 use crate::checking::check;
 use gr_record::fault::Fault;
-use gr_show::files::open_all;
+use gr_sides::opening::open_all;
 use std::alloc::Allocator;
 use std::io::{self, Read, Write};
 

@@ -13,7 +13,7 @@ ghost use Rattle.gr_check_json.specs.Refusals.{refusal_json};
 use crate::counts::counts_json;
 use crate::refusals::refusal_json;
 use gr_check::checking::{is_outside, launch_of};
-use gr_json::lines::write_text;
+use gr_frame::writing::write_text;
 use gr_model::traces::Traces;
 use gr_record::fault::Fault;
 use gr_replay::each::read_inputs;

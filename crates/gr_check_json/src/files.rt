@@ -4,13 +4,13 @@ ghost use Rattle.std.specs.Prelude.{◌≡◌, ◌≢◌, IfErr, IfOk, map};
 ghost use Rattle.std.specs.Fn.{FnReturnsAt};
 ghost use Rattle.std.specs.Io.KnownBytes.{Keeps};
 ghost use Rattle.gr_record.specs.declared.fault.Fault.TheVariants as faults;
-ghost use Rattle.gr_show.specs.Opening.{HoldsOfFiles};
+ghost use Rattle.gr_sides.specs.Files.{HoldsOfFiles};
 ghost use Rattle.gr_check.specs.Checked.{IsCheckFileFault};
 ghost use Rattle.gr_check_json.specs.Checked.{ChecksJsonPrefix, IsCheckedJson};
 
 use crate::checking::check_json;
 use gr_record::fault::Fault;
-use gr_show::files::open_all;
+use gr_sides::opening::open_all;
 use std::alloc::Global;
 use std::io::{self, Read, Write};
 

@@ -5,7 +5,7 @@ use Rattle.std.specs.Io.KnownBytes.{Appends, Keeps}
 use Rattle.clap.specs.Words.{IsAmong, Kinds}
 use Rattle.clap.specs.declared.error.kind.ErrorKind.{ErrorKind}
 use Rattle.clap.specs.declared.error.kind.ErrorKind.TheVariants.{OutOfMemory}
-use Rattle.gr_arguments.specs.Asked.{Asked, AskedForm, AskedWord, check, explain, history, in_long, in_short, perform, races, run, why_held}
+use Rattle.gr_arguments.specs.Asked.{Asked, check, explain, history, perform, races, run, why_held}
 use Rattle.gr_arguments.specs.Commands.{AreHelp, AreWrong, IsHelp, IsWrongUsage}
 use Rattle.gr_arguments.specs.declared.request.Task.{Task}
 use Rattle.gr_arguments.specs.declared.request.Task.TheVariants.{Replay, Pack, Dump, Upgrade}
@@ -24,7 +24,7 @@ use Rattle.gr_text.specs.Texts.{packed}
 use Rattle.gr_text.specs.Dumps.{dumped, upgraded}
 use Rattle.gr_text.specs.Partial.{text_before_fault}
 use Rattle.gr_text.specs.Writes.{Writes}
-use Rattle.gr_command.specs.Answers.{IsAnswerOf, IsDisplayIn, IsDone, IsFaultTold, IsPartialDump, IsUsageTold, text_of}
+use Rattle.gr_command.specs.Answers.{IsAnswerOf, IsDone, IsFaultTold, IsPartialDump, IsUsageTold, text_of}
 use Rattle.gr_command.specs.Statuses.{fault_status, sides_fault_status}
 use Rattle.gr_command.specs.Outcomes.{IsOutcome, IsTold}
 use Rattle.gr_command.specs.declared.status.TheConstants.{NOTHING, USAGE, WANTING, FAILED}
@@ -92,13 +92,9 @@ module _ {T X : Type 0} (remaining : T → Option (List ℕ)) (Gives : List ℕ 
   no_memory_to_read : IsUsageTold old new status
   no_memory_to_read = (inr told.ends, told.untouched (λ e. cc))
 
-  no_memory_to_show : (form : AskedForm) (a : AskedWord) → IsDisplayIn remaining Gives old new old_errors new_errors status form a
-  no_memory_to_show in_short a = inr (Memory, record { why = inl (inl refl); told = told; prefix = λ h. absurd cc })
-  no_memory_to_show (in_long places buffers) a = inr (Run Memory, record { why = inl (inl refl); told = no_memory_with_sides; prefix = λ h. absurd (memory_is_no_writing h) })
-
   pub no_memory_to_do : (a : Asked) → IsDone remaining Gives input old new old_errors new_errors status a
   no_memory_to_do (perform t) = no_memory_to_perform t
-  no_memory_to_do (explain (Ok a)) = no_memory_to_show a.form a
+  no_memory_to_do (explain (Ok a)) = inr (Run Memory, record { why = inl (inl refl); told = no_memory_with_sides; prefix = λ h. absurd (memory_is_no_writing h) })
   no_memory_to_do (races (Some a)) = inr (Run Memory, record { why = inl (inl refl); told = no_memory_with_sides; prefix = λ h. absurd (memory_is_no_writing h) })
   no_memory_to_do (history (Some a)) = inr (Run Memory, record { why = inl (inl refl); told = no_memory_with_sides; prefix = λ h. absurd (memory_is_no_writing h) })
   no_memory_to_do (run (Some a)) = inr (Memory, record { why = inl (inl refl); told = told; prefix = λ h. absurd cc })

@@ -26,8 +26,9 @@ use Rattle.gr_sides.specs.Opening.{HoldsOfAllFiles, IsSidesFault, Pair}
 use Rattle.gr_races.specs.Shown.{HasRace, IsRacesText}
 use Rattle.gr_sides.specs.Sides.{SidesSaid}
 use Rattle.gr_races_json.specs.Shown.{IsRacesJson}
-use Rattle.gr_show.specs.Opening.{HoldsOfFiles, IsFileFault, IsOpeningFault}
-use Rattle.gr_show.specs.Shown.{IsLine, IsRacyIn, IsShown, ShowsPrefix}
+use Rattle.gr_sides.specs.Files.{HoldsOfFiles, IsOpeningFault}
+use Rattle.gr_frame.specs.Told.{IsShown, ShowsPrefix}
+use Rattle.gr_show.specs.Shown.{IsLine, IsRacyIn}
 use Rattle.gr_long.specs.Shown.{IsAccountText}
 use Rattle.gr_held.specs.Shown.{IsHeldIn, IsWhyText}
 use Rattle.gr_timeline.specs.Shown.{IsHistoryText}
@@ -95,6 +96,11 @@ abbrev pub IsAccountTextOf : Bool → SidesSaid → Word → Streams → List �
 IsAccountTextOf false = IsAccountText
 IsAccountTextOf true = IsJsonAccount
 
+-- that of the form that is asked for
+abbrev pub IsWordTextOf : AskedForm → Bool → SidesSaid → Word → Streams → List ℕ → Type 0
+IsWordTextOf in_short json said = IsLineOf json
+IsWordTextOf (in_long places buffers) json said = IsAccountTextOf json said
+
 -- the text of the races of a launch, or the same as JSON
 abbrev pub IsRacesTextOf : Bool → SidesSaid → Option ℕ → Bool → Streams → List ℕ → Type 0
 IsRacesTextOf false = IsRacesText
@@ -119,6 +125,11 @@ text_of true = report_json
 abbrev pub sides_of : Option (List ℕ) → Option (List ℕ) → Pair (List ℕ)
 sides_of places buffers = record { places = places; buffers = buffers }
 
+-- those of a form
+abbrev pub sides_asked : AskedForm → Pair (List ℕ)
+sides_asked in_short = sides_of None None
+sides_asked (in_long places buffers) = sides_of places buffers
+
 -- the report of a run in threads over the files of these names
 module _ {T X : Type 0} (remaining : T → Option (List ℕ)) (Gives : List ℕ → Result T X → Type 0) (names : List (List ℕ)) where
   -- it is the report of the bytes of the files, where these are known
@@ -135,22 +146,6 @@ module _ {T X : Type 0} (remaining : T → Option (List ℕ)) (Gives : List ℕ 
       HoldsOfFiles remaining Gives names (λ known. IfSome known (λ inputs. (r : WholeReport) × IsExactOfEach inputs r × AppendsPrefix old new (text_of json r)))
 
 module _ {T X : Type 0} (remaining : T → Option (List ℕ)) (Gives : List ℕ → Result T X → Type 0) (old new : Option (List ℕ)) where
-  -- the line of the word is written whole, and it is said whether the word is racy
-  abbrev pub IsShownOfFiles : AskedWord → Bool → Type 0
-  IsShownOfFiles a found = HoldsOfFiles remaining Gives a.files (λ known. IsShown (IsLineOf a.json a.word) (IsRacyIn a.word) known found old new)
-
-  -- a prefix of the line was written
-  abbrev pub ShowsPrefixOfFiles : AskedWord → Type 0
-  ShowsPrefixOfFiles a = HoldsOfFiles remaining Gives a.files (λ known. ShowsPrefix (IsLineOf a.json a.word) known old new)
-
-  -- the same of the long form, with side files of these names
-  module _ (sides : Pair (List ℕ)) where
-    abbrev pub IsAccountOfFiles : AskedWord → Bool → Type 0
-    IsAccountOfFiles a found = HoldsOfAllFiles remaining Gives sides a.files (λ known said. IsShown (IsAccountTextOf a.json said a.word) (IsRacyIn a.word) known found old new)
-
-    abbrev pub AccountsPrefixOfFiles : AskedWord → Type 0
-    AccountsPrefixOfFiles a = HoldsOfAllFiles remaining Gives sides a.files (λ known said. ShowsPrefix (IsAccountTextOf a.json said a.word) known old new)
-
   -- the text of the check is written whole, and it is said whether the files are accepted
   abbrev pub IsCheckedOfFiles : AskedCheck → Bool → Type 0
   IsCheckedOfFiles a accepted = HoldsOfFiles remaining Gives a.files (λ known. IsCheckedAs a.json a.files known accepted old new)
@@ -169,18 +164,9 @@ module _ {T X : Type 0} (remaining : T → Option (List ℕ)) (Gives : List ℕ 
         (λ found ended. ended ≡ race_status found) (IsSidesFault remaining Gives sides files)
         (HoldsOfAllFiles remaining Gives sides files (λ known said. ShowsPrefix (IsTextOf said) known old new))
 
-    -- the text of the word in this form, and whether it is racy; or why there is none
-    abbrev pub IsDisplayIn : AskedForm → AskedWord → Type 0
-    IsDisplayIn in_short a =
-        IsOutcome fault_line fault_status Write old new old_errors new_errors status
-        (IsShownOfFiles a) (λ found ended. ended ≡ race_status found) (IsFileFault remaining Gives a.files) (ShowsPrefixOfFiles a)
-    IsDisplayIn (in_long places buffers) a =
-        IsOutcome sides_fault_line sides_fault_status (Run Write) old new old_errors new_errors status
-        (IsAccountOfFiles (sides_of places buffers) a) (λ found ended. ended ≡ race_status found)
-        (IsSidesFault remaining Gives (sides_of places buffers) a.files) (AccountsPrefixOfFiles (sides_of places buffers) a)
-
-    abbrev pub IsDisplay : AskedWord → Type 0
-    IsDisplay a = IsDisplayIn a.form a
+    -- what is told of the word, and whether it is racy; or why nothing is
+    abbrev pub IsExplainOutcome : AskedWord → Type 0
+    IsExplainOutcome a = IsAnswered (sides_asked a.form) a.files (λ said. IsWordTextOf a.form a.json said a.word) (IsRacyIn a.word)
 
     -- the text of the races, and whether there is one; or why there is none
     abbrev pub IsRacesOutcome : AskedRaces → Type 0
@@ -217,7 +203,7 @@ IsUsageTold old new status = ((status ≡ USAGE) ⊎ (status ≡ WANTING)) × Ke
 module _ {T X : Type 0} (remaining : T → Option (List ℕ)) (Gives : List ℕ → Result T X → Type 0) (input old new old_errors new_errors : Option (List ℕ)) (status : ℕ) where
   abbrev pub IsDone : Asked → Type 0
   IsDone (perform t) = IsAnswerOf input old new old_errors new_errors status t
-  IsDone (explain (Ok a)) = IsDisplay remaining Gives old new old_errors new_errors status a
+  IsDone (explain (Ok a)) = IsExplainOutcome remaining Gives old new old_errors new_errors status a
   IsDone (races (Some a)) = IsRacesOutcome remaining Gives old new old_errors new_errors status a
   IsDone (history (Some a)) = IsHistoryOutcome remaining Gives old new old_errors new_errors status a
   IsDone (run (Some a)) = IsRunAnswer remaining Gives old new old_errors new_errors status a

@@ -9,13 +9,13 @@ ghost use Rattle.gr_report.specs.Putting.{AppendsPrefix};
 ghost use Rattle.gr_report.specs.Whole.{whole_of};
 ghost use Rattle.gr_sides.specs.Opening.{side_names};
 ghost use Rattle.gr_sides.specs.FaultText.{sides_fault_line};
-ghost use Rattle.gr_arguments.specs.Asked.{Asked, AsksTo, asked_of, check_of, event_of, history_of, races_of, run_of, word_of};
+ghost use Rattle.gr_arguments.specs.Asked.{Asked, AsksTo, asked_of, check_of, event_of, form_of, history_of, races_of, run_of, word_of};
 ghost use Rattle.gr_arguments.specs.Commands.{AreHelp, AreWrong, IsHelp, IsWrongUsage, faults};
-ghost use Rattle.gr_command.specs.Answers.{IsAnswerOf, IsAnswered, IsCheckOutcome, IsDisplay, IsDone, IsFaultTold, IsHistoryOutcome, IsRacesOutcome, IsRunAnswer, IsWhyHeldOutcome};
+ghost use Rattle.gr_command.specs.Answers.{IsAnswerOf, IsAnswered, IsCheckOutcome, IsDone, IsExplainOutcome, IsFaultTold, IsHistoryOutcome, IsRacesOutcome, IsRunAnswer, IsWhyHeldOutcome, sides_asked};
 ghost use Rattle.gr_command.specs.Statuses.{check_status, fault_status, race_status, sides_fault_status, IsReportStatus};
 
+use crate::checking::write_check;
 use crate::running::run_files;
-use crate::showing::{show_account, show_check, show_word};
 use crate::status::{
     FAILED, NOTHING, USAGE, WANTING, status_of, status_of_check, status_of_race, status_of_report,
     status_of_sides_fault,
@@ -30,12 +30,15 @@ use gr_arguments::request_of;
 use gr_frame::question::Question;
 use gr_frame::tell_files;
 use gr_held::question::HeldEvent;
+use gr_json::question::{LeastRaceJson, LongRaceJson};
+use gr_long::question::LongRace;
 use gr_races::question::Races;
 use gr_races_json::question::RacesJson;
 use gr_record::fault::Fault;
 use gr_replay::replay;
 use gr_report::report::Report;
 use gr_report::write_fault;
+use gr_show::question::LeastRace;
 use gr_sides::fault::{SidesFault, write_sides_fault};
 use gr_sides::files::SideNames;
 use gr_text::{dump, dump_partial, pack, upgrade};
@@ -158,19 +161,6 @@ fn perform<R: Read, W: Write, E: Write>(
     }
 }
 
-/// Tells of a word or an event that was to be shown and could not, and gives the status of what came of it.
-fn conclude_showing<E: Write>(outcome: Result<bool, Fault>, errors: &mut E) -> u8
-    ensures race { IfOk outcome (λ found. result ≡ race_status found) }
-    ensures silent { OnOk outcome (Keeps (E.contents errors.old) (E.contents errors.new)) }
-    ensures fault { IfErr outcome (λ fault. result ≡ fault_status fault) }
-    ensures told { IfErr outcome (λ fault. AppendsPrefix (E.contents errors.old) (E.contents errors.new) (fault_line fault)) }
-{
-    match outcome {
-        Ok(found) => status_of_race(found),
-        Err(fault) => fail(&fault, errors),
-    }
-}
-
 /// Tells of a fault of a launch with side files on standard error, and gives its status. That standard error fails is passed
 /// over.
 fn fail_with_sides<E: Write>(fault: &SidesFault, errors: &mut E) -> u8
@@ -191,27 +181,6 @@ fn conclude_telling<E: Write>(outcome: Result<bool, SidesFault>, errors: &mut E)
     match outcome {
         Ok(found) => status_of_race(found),
         Err(fault) => fail_with_sides(&fault, errors),
-    }
-}
-
-/// Shows a word of the launch whose streams are in files, and gives the exit status.
-fn explain<T: Read + Drop, O: Fn(&str) -> io::Result<T>, W: Write, E: Write>(
-    alloc: Global,
-    arguments: &ExplainArguments<'_>,
-    opener: O,
-    writer: &mut W,
-    errors: &mut E,
-) -> u8
-    requires { O.IsAlwaysCallable opener }
-    ensures { IsDisplay T.remaining (FnReturnsAt O.Fn opener) (W.contents writer.old) (W.contents writer.new) (E.contents errors.old) (E.contents errors.new) result (word_of arguments.now) }
-{
-    match arguments.form {
-        Form::Short => conclude_showing(show_word(alloc, arguments, opener, writer), errors),
-        Form::Long { places, buffers } => {
-            let sides = SideNames { places, buffers };
-            let outcome = show_account(alloc, &sides, arguments, opener, writer);
-            conclude_telling(outcome, errors)
-        }
     }
 }
 
@@ -236,6 +205,55 @@ where
 {
     let outcome = tell_files(alloc, question, sides, files, opener, writer);
     conclude_telling(outcome, errors)
+}
+
+/// The side files that a form of `explain` has.
+fn sides_of<'a>(form: Form<'a>) -> SideNames<'a>
+    ensures { side_names result.now ≡ sides_asked (form_of form.now) }
+{
+    match form {
+        Form::Short => SideNames {
+            places: None,
+            buffers: None,
+        },
+        Form::Long { places, buffers } => SideNames { places, buffers },
+    }
+}
+
+/// Tells of the least racing pair of a word of the launch whose streams are in files, and gives the exit status.
+fn explain<T: Read + Drop, O: Fn(&str) -> io::Result<T>, W: Write, E: Write>(
+    alloc: Global,
+    arguments: &ExplainArguments<'_>,
+    opener: O,
+    writer: &mut W,
+    errors: &mut E,
+) -> u8
+    requires { O.IsAlwaysCallable opener }
+    ensures { IsExplainOutcome T.remaining (FnReturnsAt O.Fn opener) (W.contents writer.old) (W.contents writer.new) (E.contents errors.old) (E.contents errors.new) result (word_of arguments.now) }
+{
+    let sides = sides_of(arguments.form);
+    let files = arguments.files.as_slice();
+    let word = arguments.word;
+    match arguments.form {
+        Form::Short => {
+            if arguments.json {
+                let question = LeastRaceJson { word };
+                tell(alloc, &question, &sides, files, opener, writer, errors)
+            } else {
+                let question = LeastRace { word };
+                tell(alloc, &question, &sides, files, opener, writer, errors)
+            }
+        }
+        Form::Long { .. } => {
+            if arguments.json {
+                let question = LongRaceJson { word };
+                tell(alloc, &question, &sides, files, opener, writer, errors)
+            } else {
+                let question = LongRace { word };
+                tell(alloc, &question, &sides, files, opener, writer, errors)
+            }
+        }
+    }
 }
 
 /// Tells of the races of the launch whose streams are in files, and gives the exit status.
@@ -334,7 +352,7 @@ fn check<T: Read + Drop, O: Fn(&str) -> io::Result<T>, W: Write, E: Write>(
     requires { O.IsAlwaysCallable opener }
     ensures { IsCheckOutcome T.remaining (FnReturnsAt O.Fn opener) (W.contents writer.old) (W.contents writer.new) (E.contents errors.old) (E.contents errors.new) result (check_of arguments.now) }
 {
-    conclude_check(show_check(alloc, arguments, opener, writer), errors)
+    conclude_check(write_check(alloc, arguments, opener, writer), errors)
 }
 
 /// Runs the launch whose streams are in files, and gives the exit status.

@@ -3,7 +3,7 @@
 //! Reader, writers, files and threads are handed in, so that tests run the program in memory.
 #![tactic(auto)]
 
+mod checking;
 pub mod execute;
 mod running;
-mod showing;
 pub mod status;

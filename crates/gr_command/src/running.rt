@@ -11,7 +11,7 @@ use gr_arguments::request::RunArguments;
 use gr_json::write_report_json;
 use gr_record::fault::Fault;
 use gr_report::report::Report;
-use gr_show::files::open_all;
+use gr_sides::opening::open_all;
 use gr_streams::{NoWatch, detect_streams, run_streams};
 use std::alloc::Global;
 use std::io::{self, Read, Write};

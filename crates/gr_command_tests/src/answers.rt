@@ -6,13 +6,10 @@ use gr_check_json::check_files_json;
 use gr_frame::question::Question;
 use gr_frame::tell_files;
 use gr_held::question::HeldEvent;
-use gr_json::files::show_account_json_of_files;
-use gr_json::show_race_json;
-use gr_long::files::show_account_of_files;
+use gr_long::question::LongRace;
 use gr_model::event::{EventId, ItemId, Word};
 use gr_races::question::Races;
-use gr_show::files::open_all;
-use gr_show::show_race;
+use gr_show::question::LeastRace;
 use gr_sides::fault::SidesFault;
 use gr_timeline::question::WordHistory;
 use refusing::failing::FailingWriter;
@@ -80,14 +77,8 @@ pub(crate) fn answered<A: Allocator + Copy>(
     writer: &mut FailingWriter,
 ) -> Result<bool, SidesFault> {
     match asked {
-        Asked::Pair(word) => {
-            let readers = open_all(alloc, files.names(), |name: &str| files.open(name))?;
-            Ok(show_race(alloc, readers, word, writer)?)
-        }
-        Asked::Account(word) => {
-            let opener = |name: &str| files.open(name);
-            show_account_of_files(alloc, &files.sides, files.names(), opener, word, writer)
-        }
+        Asked::Pair(word) => told(alloc, files, &LeastRace { word }, writer),
+        Asked::Account(word) => told(alloc, files, &LongRace { word }, writer),
         Asked::Races(causes) => told(alloc, files, &all_races(causes), writer),
         Asked::WhyHeld(item, index) => told(alloc, files, &held_event(item, index), writer),
         Asked::History(word) => told(alloc, files, &WordHistory { word }, writer),
@@ -98,23 +89,12 @@ pub(crate) fn answered<A: Allocator + Copy>(
     }
 }
 
-/// Answers as JSON, or as text where the frame writes what is JSON too.
-pub(crate) fn answered_as_json(
+/// Checks, and answers as JSON.
+pub(crate) fn checked_as_json(
     alloc: Global,
     files: Files<'_>,
-    asked: Asked,
     writer: &mut FailingWriter,
 ) -> Result<bool, SidesFault> {
     let opener = |name: &str| files.open(name);
-    match asked {
-        Asked::Pair(word) => {
-            let readers = open_all(alloc, files.names(), opener)?;
-            Ok(show_race_json(alloc, readers, word, writer)?)
-        }
-        Asked::Account(word) => {
-            show_account_json_of_files(alloc, &files.sides, files.names(), opener, word, writer)
-        }
-        Asked::Check => Ok(check_files_json(alloc, files.names(), opener, writer)?),
-        _ => answered(alloc, files, asked, writer),
-    }
+    Ok(check_files_json(alloc, files.names(), opener, writer)?)
 }

@@ -1,23 +1,18 @@
 //! Readers and writers that fail, at each of their calls.
 
-use crate::answers::{Asked, answered, answered_as_json};
+use crate::answers::{Asked, answered, checked_as_json};
 use crate::launches::{Files, NOTED, bytes_of, streams_of};
-use gr_model::event::Word;
 use gr_record::fault::Fault;
 use gr_sides::fault::SidesFault;
 use refusing::failing::FailingWriter;
 use std::alloc::Global;
 use std::test::Fail;
 
-/// What is asked, and whether the answer is JSON: one question for all that the frame answers, and the others.
+/// What is asked, and whether the answer is JSON: a question, for all that one frame answers, and checks.
 type Question = (Asked, bool);
 
-static QUESTIONS: [Question; 7] = [
+static QUESTIONS: [Question; 3] = [
     (Asked::Races(true), false),
-    (Asked::Pair(Word::Global(16)), false),
-    (Asked::Pair(Word::Global(16)), true),
-    (Asked::Account(Word::Global(16)), false),
-    (Asked::Account(Word::Global(16)), true),
     (Asked::Check, false),
     (Asked::Check, true),
 ];
@@ -29,7 +24,7 @@ fn answer(
     writer: &mut FailingWriter,
 ) -> Result<bool, SidesFault> {
     match question {
-        (asked, true) => answered_as_json(alloc, files, asked, writer),
+        (_, true) => checked_as_json(alloc, files, writer),
         (asked, false) => answered(alloc, files, asked, writer),
     }
 }
@@ -53,7 +48,7 @@ fn fails_at_each_read(alloc: Global, streams: &[Vec<u8>], name: &str, question: 
 /// The files that are read for an answer.
 fn files_of(question: Question) -> &'static [&'static str] {
     match question.0 {
-        Asked::Check | Asked::Pair(_) => &["0"],
+        Asked::Check => &["0"],
         _ => &["places", "buffers", "0"],
     }
 }

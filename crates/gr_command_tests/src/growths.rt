@@ -49,7 +49,6 @@ fn are_growths_told(ample: Global, files: Files<'_>, asked: Asked, least: u64) -
 /// How many growths there are at least where side files are read, too.
 fn least_of(asked: Asked) -> u64 {
     match asked {
-        Asked::Pair(_) => 5,
         Asked::Check => 4,
         _ => 21,
     }

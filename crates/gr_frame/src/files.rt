@@ -4,9 +4,8 @@ ghost use Rattle.std.specs.Prelude.{◌≡◌, ◌≢◌, IfErr, IfOk, map};
 ghost use Rattle.std.specs.Fn.{FnReturnsAt};
 ghost use Rattle.std.specs.Io.KnownBytes.{Keeps};
 ghost use Rattle.gr_record.specs.declared.fault.Fault.TheVariants as faults;
-ghost use Rattle.gr_show.specs.Shown.{IsShown, ShowsPrefix};
 ghost use Rattle.gr_sides.specs.Opening.{HoldsOfAllFiles, IsSidesFault, side_names};
-ghost use Rattle.gr_frame.specs.Told.{IsTold};
+ghost use Rattle.gr_frame.specs.Told.{IsShown, IsTold, ShowsPrefix};
 ghost use Rattle.gr_sides.specs.declared.fault.SidesFault.TheVariants.{Run as ARun};
 
 use crate::question::{Answer, Question};

@@ -4,6 +4,7 @@
 pub mod files;
 pub mod question;
 mod streams;
-mod writing;
+pub mod writing;
 
 pub use files::tell_files;
+pub use streams::tell_streams;

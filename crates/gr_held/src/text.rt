@@ -3,7 +3,6 @@
 ghost use Rattle.std.specs.Prelude.{◌++◌, codes};
 ghost use Rattle.std.specs.List.{flat_map};
 ghost use Rattle.gr_report.specs.Putting.{Puts};
-ghost use Rattle.gr_show.specs.Explanations.{event_text};
 ghost use Rattle.gr_held.specs.Why.{answer_of};
 ghost use Rattle.gr_held.specs.WhyText.{event_line, link_line, name_text, reason_text, why_text};
 
@@ -11,16 +10,9 @@ use crate::reason::{Link, Reason};
 use crate::why::WhyHeld;
 use gr_model::event::{EventId, Name};
 use gr_report::putting::{WriteFault, put, put_field};
+use gr_show::explanation::put_event;
 use std::alloc::Allocator;
 use std::io::Write;
-
-fn put_event<W: Write>(writer: &mut W, before: &[u8], event: EventId) -> Result<(), WriteFault>
-    ensures { Puts (W.contents writer.old) (W.contents writer.new) result (event_text before.now event) }
-{
-    put_field(writer, before, event.at.group)?;
-    put_field(writer, b" ", event.at.item)?;
-    put_field(writer, b" ", event.index)
-}
 
 fn put_name<W: Write>(writer: &mut W, before: &[u8], name: Name) -> Result<(), WriteFault>
     ensures { Puts (W.contents writer.old) (W.contents writer.new) result (name_text before.now name) }

@@ -4,12 +4,10 @@
 pub mod account;
 mod between;
 mod details;
-pub mod files;
 pub mod lines;
+pub mod question;
 pub mod race;
 pub mod report;
-pub mod show;
 pub mod words;
 
-pub use files::show_account_json_of_files;
-pub use show::{show_account_json, show_race_json, write_report_json};
+pub use report::write_report_json;

@@ -1,17 +1,13 @@
 //! Texts of lines.
 
-ghost use Rattle.std.specs.Prelude.{◌≡◌, ◌++◌, false, IfOk, OnErr, OnOk};
-ghost use Rattle.std.specs.Io.KnownBytes.{Appends};
+ghost use Rattle.std.specs.Prelude.{◌≡◌, ◌++◌, false, IfOk, OnOk};
 ghost use Rattle.serde_json.specs.View.{view};
 ghost use Rattle.serde_json.specs.Written.{has_float};
-ghost use Rattle.gr_report.specs.Putting.{AppendsPrefix};
 ghost use Rattle.gr_json.specs.Lines.{json_line};
 
 use gr_model::memory::Memory;
-use gr_report::putting::{WriteFault, finish, put};
 use serde_json::Value;
 use std::alloc::Global;
-use std::io::Write;
 
 /// Adds a value to a text, as a line of JSON.
 ///
@@ -38,16 +34,4 @@ pub(crate) fn line_of(alloc: Global, value: &Value) -> Result<Vec<u8>, Memory>
     let mut text = Vec::new(alloc);
     push_value(alloc, &mut text, value)?;
     Ok(text)
-}
-
-/// Writes a text, and flushes.
-///
-/// # Errors
-/// `WriteFault` if the writer fails, which has then taken a prefix of the text.
-pub fn write_text<W: Write>(writer: &mut W, text: &[u8]) -> Result<(), WriteFault>
-    ensures whole { OnOk result (Appends (W.contents writer.old) (W.contents writer.new) text.now) }
-    ensures prefix { OnErr result (AppendsPrefix (W.contents writer.old) (W.contents writer.new) text.now) }
-{
-    put(writer, text)?;
-    finish(writer)
 }

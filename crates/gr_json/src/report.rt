@@ -1,8 +1,11 @@
 //! The report of a launch as JSON: a line each for how large the launch is, each finding, and the end.
 
-ghost use Rattle.std.specs.Prelude.{◌≡◌, ◌++◌, IfOk, OnOk};
+ghost use Rattle.std.specs.Prelude.{◌≡◌, ◌≢◌, ◌⊎◌, ◌++◌, IfErr, IfOk, OnOk};
+ghost use Rattle.std.specs.Io.KnownBytes.{Appends, Keeps};
 ghost use Rattle.std.specs.List.{flat_map};
 ghost use Rattle.serde_json.specs.View.{members_view, view};
+ghost use Rattle.gr_record.specs.declared.fault.Fault.TheVariants as faults;
+ghost use Rattle.gr_report.specs.Putting.{AppendsPrefix};
 ghost use Rattle.gr_report.specs.Whole.{whole_of};
 ghost use Rattle.gr_json.specs.Lines.{json_line};
 ghost use Rattle.gr_json.specs.Reports as spec;
@@ -10,12 +13,15 @@ ghost use Rattle.gr_json.specs.Reports as spec;
 use crate::lines::push_value;
 use crate::race::put_race;
 use crate::words::event_value;
+use gr_frame::writing::write_text;
 use gr_model::event::Word;
 use gr_model::memory::Memory;
 use gr_model::report::{AcquireCause, Divergence, DivergenceCause, Unmatched};
+use gr_record::fault::Fault;
 use gr_report::report::Report;
 use serde_json::{Map, Value, json, put};
 use std::alloc::{AllocError, Allocator, Global};
+use std::io::Write;
 
 /// Adds how large the launch is.
 ///
@@ -266,4 +272,26 @@ pub fn report_json<A: Allocator>(alloc: Global, report: &Report<A>) -> Result<Ve
     push_unmatched(alloc, &mut text, report.unmatched.as_slice())?;
     push_end(alloc, &mut text, report)?;
     Ok(text)
+}
+
+/// Writes a report as lines of JSON, and flushes.
+///
+/// # Errors
+/// `Memory` where memory runs out; nothing is then written. `Write` where the writer fails, which then has a prefix of the
+/// lines.
+pub fn write_report_json<A: Allocator, W: Write>(
+    alloc: Global,
+    report: &Report<A>,
+    writer: &mut W,
+) -> Result<(), Fault>
+    ensures whole { OnOk result (Appends (W.contents writer.old) (W.contents writer.new) (spec.report_json (whole_of report.now))) }
+    ensures fault { IfErr result (λ f. (f ≡ faults.Memory) ⊎ (f ≡ faults.Write)) }
+    ensures untouched { IfErr result (λ f. f ≢ faults.Write → Keeps (W.contents writer.old) (W.contents writer.new)) }
+    ensures prefix { IfErr result (λ f. f ≡ faults.Write → AppendsPrefix (W.contents writer.old) (W.contents writer.new) (spec.report_json (whole_of report.now))) }
+{
+    let text = report_json(alloc, report)?;
+    match write_text(writer, &text) {
+        Ok(()) => Ok(()),
+        Err(_) => Err(Fault::Write),
+    }
 }

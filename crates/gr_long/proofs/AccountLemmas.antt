@@ -1,5 +1,5 @@
 -- A word has an account just where it is racy, and its text is the same by an index of places.
-use Rattle.std.proofs.Common.{◌≡◌, ◌⊎◌, ◌↔◌, ℕ, IfSome, IsTrue, List, Option, None, Some, ap, inl, inr, is_some, refl, subst, sym, true≢false}
+use Rattle.std.proofs.Common.{◌≡◌, ◌↔◌, ℕ, IsTrue, List, Option, None, Some, ap, is_some, refl, sym, true≢false}
 use Rattle.std.specs.Prelude.{option_map}
 use Rattle.gr_model.specs.declared.event.Word.{Word}
 use Rattle.gr_model.specs.Races.{IsRacy}
@@ -8,9 +8,6 @@ use Rattle.gr_model.specs.Waits.{IsGrounded}
 use Rattle.gr_places.specs.PlaceIndexes.{Indexed, Indexes, place_at}
 use Rattle.gr_places.specs.SideLines.{ElementSaid, PlaceSaid, place_of}
 use Rattle.gr_places.specs.declared.places.Placed.{Placed}
-use Rattle.gr_record.specs.declared.fault.Fault.{Fault}
-use Rattle.gr_record.specs.declared.fault.Fault.TheVariants as faults
-use Rattle.gr_show.specs.Shown.{IsShowFault}
 use Rattle.gr_long.specs.declared.account.Account.{Account}
 use Rattle.gr_long.specs.Accounts.{AccountSaid, IsAccountOf, account_said}
 use Rattle.gr_long.specs.AccountText.{account_text}
@@ -25,13 +22,3 @@ places_same index lines has = λ i p. has.places p i
 
 pub account_text_same : (buffer : Option ElementSaid) (index : Indexed) (lines : List PlaceSaid) → Indexes index lines → (w : Word) (account : Option AccountSaid) → account_text buffer (place_at index) w account ≡ account_text buffer (place_of lines) w account
 account_text_same buffer index lines has w account = ap (λ (place : Placed → Option (List ℕ)). account_text buffer place w account) (places_same index lines has)
-
--- what holds of all inputs holds of those that are known
-pub of_any : (known : Option (List (List ℕ))) (P : List (List ℕ) → Type 0) → ((inputs : List (List ℕ)) → P inputs) → IfSome known P
-of_any None P p = tt
-of_any (Some inputs) P p = p inputs
-
--- that memory ran out, and that the writer failed, are faults whatever the inputs are
-pub outside_fault : (known : Option (List (List ℕ))) (f : Fault) → (f ≡ faults.Memory) ⊎ (f ≡ faults.Write) → IfSome known (λ inputs. IsShowFault inputs f)
-outside_fault known f (inl memory) = of_any known (λ inputs. IsShowFault inputs f) (λ inputs. subst (IsShowFault inputs) (sym memory) (inl (inl tt)))
-outside_fault known f (inr write) = of_any known (λ inputs. IsShowFault inputs f) (λ inputs. inr write)

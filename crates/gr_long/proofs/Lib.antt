@@ -1,4 +1,3 @@
 pub mod AccountLemmas
 pub mod BetweenLemmas
 pub mod DetailLemmas
-pub mod LaterLemmas

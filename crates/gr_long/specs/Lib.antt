@@ -3,4 +3,3 @@ pub mod Between
 pub mod Accounts
 pub mod AccountText
 pub mod Shown
-pub mod Files

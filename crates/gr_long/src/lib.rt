@@ -8,8 +8,5 @@
 pub mod account;
 pub mod between;
 pub mod details;
-pub mod files;
-mod show;
+pub mod question;
 pub mod text;
-
-pub use show::show_account;

@@ -1,14 +1,12 @@
 //! The text of the long form of `explain`, with what side files say.
 
-ghost use Rattle.std.specs.Prelude.{◌≡◌, OnErr, OnOk, option_map};
-ghost use Rattle.std.specs.Io.KnownBytes.{Appends};
+ghost use Rattle.std.specs.Prelude.{◌≡◌, option_map};
 ghost use Rattle.std.specs.List.{flat_map};
 ghost use Rattle.std.specs.Option.{option_copied};
 ghost use Rattle.gr_places.specs.PlaceIndexes.{place_at};
 ghost use Rattle.gr_places.specs.SideLines.{element_of};
-ghost use Rattle.gr_report.specs.Putting.{AppendsPrefix, Puts};
+ghost use Rattle.gr_report.specs.Putting.{Puts};
 ghost use Rattle.gr_sides.specs.Sides.{sides_said};
-ghost use Rattle.gr_show.specs.Explanations.{event_text};
 ghost use Rattle.gr_long.specs.AccountText as spec;
 ghost use Rattle.gr_long.specs.Accounts.{account_said};
 ghost use Rattle.gr_long.specs.Between.{between_said};
@@ -20,8 +18,8 @@ use gr_causes::text::cause_line;
 use gr_model::event::{EventId, Kind, Order, Scope, Word};
 use gr_places::index::PlaceIndex;
 use gr_places::places::Placed;
-use gr_report::putting::{WriteFault, finish, put, put_field};
-use gr_show::explanation::put_explanation;
+use gr_report::putting::{WriteFault, put, put_field};
+use gr_show::explanation::{put_event, put_explanation};
 use gr_sides::sides::{Sides, put_buffer, put_text};
 use std::alloc::Allocator;
 use std::io::Write;
@@ -156,14 +154,6 @@ fn put_crossings<A: Allocator, W: Write>(
     Ok(())
 }
 
-fn put_event<W: Write>(writer: &mut W, before: &[u8], event: EventId) -> Result<(), WriteFault>
-    ensures { Puts (W.contents writer.old) (W.contents writer.new) result (event_text before.now event) }
-{
-    put_field(writer, before, event.at.group)?;
-    put_field(writer, b" ", event.at.item)?;
-    put_field(writer, b" ", event.index)
-}
-
 fn put_half<A: Allocator, W: Write>(
     writer: &mut W,
     places: &PlaceIndex<'_, A>,
@@ -229,7 +219,13 @@ fn put_race<A: Allocator, W: Write>(
     put(writer, cause_line(word, account.cause))
 }
 
-fn put_account<A: Allocator, W: Write>(
+/// Writes the line of a word and its least racing pair, or of a word that has none, and below it what the two accesses
+/// are, what stands between them and the cause of their race, with the word's buffer and, where this index has the places,
+/// those of these events and of barriers. It takes no memory.
+///
+/// # Errors
+/// `WriteFault` where the writer fails; what it took is then a prefix of the text.
+pub(crate) fn put_account<A: Allocator, W: Write>(
     writer: &mut W,
     sides: &Sides<'_>,
     places: &PlaceIndex<'_, A>,
@@ -246,24 +242,4 @@ fn put_account<A: Allocator, W: Write>(
             put_race(writer, places, word, account)
         }
     }
-}
-
-/// Writes the line of a word and its least racing pair, or of a word that has none, and below it what the two accesses
-/// are, what stands between them and the cause of their race, with the word's buffer and, where this index has the places,
-/// those of these events and of barriers, and flushes. It takes no memory.
-///
-/// # Errors
-/// `WriteFault` where the writer fails; what it took is then a prefix of the text.
-pub(crate) fn write_account<A: Allocator, W: Write>(
-    writer: &mut W,
-    sides: &Sides<'_>,
-    places: &PlaceIndex<'_, A>,
-    word: Word,
-    account: Option<&Account<A>>,
-) -> Result<(), WriteFault>
-    ensures whole { OnOk result (Appends (W.contents writer.old) (W.contents writer.new) (spec.account_text (element_of (sides_said sides.now).buffers word) (place_at places.now) word (option_map account_said (option_copied account.entry)))) }
-    ensures prefix { OnErr result (AppendsPrefix (W.contents writer.old) (W.contents writer.new) (spec.account_text (element_of (sides_said sides.now).buffers word) (place_at places.now) word (option_map account_said (option_copied account.entry)))) }
-{
-    put_account(writer, sides, places, word, account)?;
-    finish(writer)
 }

@@ -1,2 +1,1 @@
-pub mod OpeningLemmas
 pub mod ShownLemmas

@@ -1,12 +1,11 @@
 //! The line that tells of a word's least racing pair, or that it has none.
 
-ghost use Rattle.std.specs.Prelude.{◌++◌, OnErr, OnOk, codes};
-ghost use Rattle.std.specs.Io.KnownBytes.{Appends};
-ghost use Rattle.gr_report.specs.Putting.{AppendsPrefix, Puts};
+ghost use Rattle.std.specs.Prelude.{◌++◌, codes};
+ghost use Rattle.gr_report.specs.Putting.{Puts};
 ghost use Rattle.gr_show.specs.Explanations.{answer_text, event_text, explanation_line, pair_text, word_text};
 
 use gr_model::event::{EventId, Word};
-use gr_report::putting::{WriteFault, finish, put, put_field};
+use gr_report::putting::{WriteFault, put, put_field};
 use std::io::Write;
 
 /// Writes the memory and the number of a word.
@@ -25,7 +24,11 @@ pub fn put_word<W: Write>(writer: &mut W, word: Word) -> Result<(), WriteFault>
     }
 }
 
-fn put_event<W: Write>(writer: &mut W, before: &[u8], event: EventId) -> Result<(), WriteFault>
+/// Writes these bytes, and an event after them.
+///
+/// # Errors
+/// `WriteFault` if the writer fails.
+pub fn put_event<W: Write>(writer: &mut W, before: &[u8], event: EventId) -> Result<(), WriteFault>
     ensures { Puts (W.contents writer.old) (W.contents writer.new) result (event_text before.now event) }
 {
     put_field(writer, before, event.at.group)?;
@@ -84,20 +87,4 @@ pub fn put_explanation<W: Write>(
 {
     put_answer(writer, word, pair)?;
     put(writer, b"\n")
-}
-
-/// Writes the line of a word and its least racing pair, or of a word that has none, and flushes. It takes no memory.
-///
-/// # Errors
-/// `WriteFault` where the writer fails; what it took is then a prefix of the line.
-pub fn write_explanation<W: Write>(
-    writer: &mut W,
-    word: Word,
-    pair: Option<(EventId, EventId)>,
-) -> Result<(), WriteFault>
-    ensures whole { OnOk result (Appends (W.contents writer.old) (W.contents writer.new) (explanation_line word pair)) }
-    ensures prefix { OnErr result (AppendsPrefix (W.contents writer.old) (W.contents writer.new) (explanation_line word pair)) }
-{
-    put_explanation(writer, word, pair)?;
-    finish(writer)
 }

@@ -4,7 +4,7 @@
 #![tactic(auto)]
 
 pub mod explanation;
-pub mod files;
+pub mod question;
 mod show;
 
 pub use show::show_race;

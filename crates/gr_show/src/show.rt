@@ -4,13 +4,15 @@ ghost use Rattle.std.specs.Prelude.{◌≡◌, ◌≢◌, IfErr, IfOk, IfSome, m
 ghost use Rattle.std.specs.Io.KnownBytes.{Keeps};
 ghost use Rattle.gr_record.specs.declared.fault.Fault.TheVariants as faults;
 ghost use Rattle.gr_replay.specs.Each.{all_known};
-ghost use Rattle.gr_show.specs.Shown.{IsLine, IsRacyIn, IsShowFault, IsShown, ShowsPrefix};
+ghost use Rattle.gr_sides.specs.Files.{IsShowFault};
+ghost use Rattle.gr_frame.specs.Told.{IsShown, ShowsPrefix};
+ghost use Rattle.gr_show.specs.Shown.{IsLine, IsRacyIn};
 
-use crate::explanation::write_explanation;
-use gr_explain::explain::explain;
+use crate::question::LeastRace;
+use gr_frame::tell_streams;
 use gr_model::event::Word;
 use gr_record::fault::Fault;
-use gr_replay::read_each;
+use gr_sides::sides::Sides;
 use std::alloc::Allocator;
 use std::io::{Read, Write};
 
@@ -34,10 +36,9 @@ pub fn show_race<A: Allocator + Copy, T: Read + Drop, W: Write>(
     ensures prefix { IfErr result (λ f. f ≡ faults.Write → ShowsPrefix (IsLine word) (all_known (map T.remaining readers.items)) (W.contents writer.old) (W.contents writer.new)) }
     ensures threads { IfErr result (λ f. f ≢ faults.Threads) }
 {
-    let traces = read_each(alloc, readers)?;
-    let pair = explain(alloc, &traces, word)?;
-    match write_explanation(writer, word, pair) {
-        Ok(()) => Ok(pair.is_some()),
-        Err(_) => Err(Fault::Write),
-    }
+    let sides = Sides {
+        places: &[],
+        buffers: &[],
+    };
+    tell_streams(alloc, &LeastRace { word }, readers, &sides, writer)
 }

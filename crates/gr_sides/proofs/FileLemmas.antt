@@ -11,8 +11,7 @@ use Rattle.gr_sides.specs.declared.fault.SidesFault.{SidesFault}
 use Rattle.gr_sides.specs.declared.fault.SidesFault.TheVariants.{Buffers, Places, Run}
 use Rattle.gr_sides.specs.Opening.{AreAllOpened, HoldsOfAllFiles, IsSidesFault, Pair, RefusesBuffers, RefusesPlaces, Say, known_of, listed}
 use Rattle.gr_sides.specs.Sides.{SidesSaid}
-use Rattle.gr_show.specs.Opening.{AreOpened, IsOpeningFault}
-use Rattle.gr_show.specs.Shown.{IsShowFault}
+use Rattle.gr_sides.specs.Files.{AreOpened, IsOpeningFault, IsShowFault}
 
 pub same_fault : (f h : Fault) → Run f ≡ Run h → f ≡ h
 same_fault f h is = cc

@@ -1,2 +1,3 @@
+pub mod OpeningLemmas
 pub mod FileLemmas
 pub mod PutLemmas

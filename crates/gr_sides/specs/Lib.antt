@@ -1,3 +1,4 @@
 pub mod Sides
 pub mod FaultText
+pub mod Files
 pub mod Opening

@@ -10,8 +10,7 @@ use Rattle.gr_sides.specs.declared.fault.SidesFault.{SidesFault}
 use Rattle.gr_sides.specs.declared.fault.SidesFault.TheVariants.{Buffers, Places, Run}
 use Rattle.gr_sides.specs.declared.files.SideNames.{SideNames}
 use Rattle.gr_sides.specs.Sides.{SidesSaid}
-use Rattle.gr_show.specs.Opening.{AreOpened, IsOpeningFault}
-use Rattle.gr_show.specs.Shown.{IsShowFault}
+use Rattle.gr_sides.specs.Files.{AreOpened, IsOpeningFault, IsShowFault}
 
 -- of places and of buffers, each where there is one
 pub record Pair (X : Type 0) : Type 0 where

@@ -6,16 +6,16 @@ ghost use Rattle.std.specs.Option.{is_some};
 ghost use Rattle.gr_input.specs.Faults.{IsOutside};
 ghost use Rattle.gr_places.specs.SideLines.{buffer_line, buffers_in, place_line, places_in};
 ghost use Rattle.gr_sides.specs.Opening as spec;
-ghost use Rattle.gr_show.specs.Opening.{IsOpeningFault};
+ghost use Rattle.gr_sides.specs.Files.{IsOpeningFault};
 
 use crate::fault::SidesFault;
+use crate::opening::open_all;
 use gr_input::read_all;
 use gr_model::memory::Memory;
 use gr_places::buffers::{BufferLine, read_buffers};
 use gr_places::fault::SideFault;
 use gr_places::places::{PlaceLine, read_places};
 use gr_record::fault::Fault;
-use gr_show::files::open_all;
 use std::alloc::Allocator;
 use std::io::{self, Read};
 

@@ -5,4 +5,5 @@
 
 pub mod fault;
 pub mod files;
+pub mod opening;
 pub mod sides;

@@ -19,17 +19,10 @@ use gr_model::event::{EventId, Word};
 use gr_places::index::PlaceIndex;
 use gr_places::places::Placed;
 use gr_report::putting::{WriteFault, put, put_field};
+use gr_show::explanation::put_event;
 use gr_sides::sides::{Sides, put_buffer, put_text};
 use std::alloc::Allocator;
 use std::io::Write;
-
-fn put_event<W: Write>(writer: &mut W, before: &[u8], event: EventId) -> Result<(), WriteFault>
-    ensures { Puts (W.contents writer.old) (W.contents writer.new) result (event_text before.now event) }
-{
-    put_field(writer, before, event.at.group)?;
-    put_field(writer, b" ", event.at.item)?;
-    put_field(writer, b" ", event.index)
-}
 
 fn put_events<W: Write>(writer: &mut W, before: &[u8], events: &[EventId]) -> Result<(), WriteFault>
     ensures { Puts (W.contents writer.old) (W.contents writer.new) result (flat_map (event_text before.now) events.now) }
