@@ -129,7 +129,7 @@ fn is_divergent_of_two_marks<A: Allocator>(lanes: &Lanes<A>) -> bool {
         && let Some(second) = barrier(lanes, SECOND, 0)
         && !has_mark_of(&first, &second)
     {
-        prove!(is_divergent(lanes, 0, 0, &first));
+        prove!(is_divergent(lanes, 0, 0));
         return true;
     }
     false
@@ -137,18 +137,11 @@ fn is_divergent_of_two_marks<A: Allocator>(lanes: &Lanes<A>) -> bool {
 
 /// While a group goes on nobody is missing.
 fn cause_while_the_group_goes_on<A: Allocator>(lanes: &Lanes<A>) -> bool {
-    if lanes.shape().groups() == 0
-        || lanes.shape().items(0) == 0
-        || lanes.forgotten(0) != 0
-        || lanes.is_complete(0)
-    {
+    if lanes.shape().groups() == 0 || lanes.forgotten(0) != 0 || lanes.is_complete(0) {
         return false;
     }
-    if let Some(first) = barrier(lanes, FIRST, 0) {
-        prove!(cause(lanes, 0, 0, &first) != Some(DivergenceCause::Missing));
-        return true;
-    }
-    false
+    prove!(cause(lanes, 0, 0) != Some(DivergenceCause::Missing));
+    true
 }
 
 /// An event is not handled before a release that it names, here the last.
