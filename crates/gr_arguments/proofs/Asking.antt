@@ -10,8 +10,8 @@ use Rattle.gr_model.specs.declared.config.ConfigError.{ConfigError}
 use Rattle.gr_model.specs.declared.event.EventId.{EventId}
 use Rattle.gr_model.specs.declared.event.Word.{Word}
 use Rattle.gr_model.specs.Configs.{IsConfig, Settings}
-use Rattle.gr_arguments.specs.declared.request.NoQuestion.{NoQuestion}
-use Rattle.gr_arguments.specs.declared.request.NoQuestion.TheVariants.{NoWord, SidesAlone}
+use Rattle.gr_arguments.specs.declared.request.ExplainMisuse.{ExplainMisuse}
+use Rattle.gr_arguments.specs.declared.request.ExplainMisuse.TheVariants.{NoWord, SidesAlone}
 use Rattle.gr_arguments.specs.Asked.{AskedCheck, AskedEvent, AskedForm, AskedHistory, AskedRaces, AskedRun, AskedWord, IsAskedCheck, IsAskedEvent, IsAskedForm, IsAskedHistory, IsAskedRaces, IsAskedRun, IsAskedWord, IsExplained, IsMost, IsNumberOr, IsSetUp, IsTheOne, NamesWord, has_flag, in_long, in_short}
 use Rattle.gr_arguments.specs.Naming.{IsNumber, Names, NamesEvent}
 use Rattle.gr_arguments.proofs.NamingLemmas.{events_one, names_one}
@@ -98,7 +98,7 @@ one_word rows a b h k =
     let files : a.files ≡ b.files = sym h.at_files ∙ k.at_files in
     λ i. record { form = form i; json = json i; word = word i; files = files i }
 
-pub one_explained : (rows : List Row) (r s : Result AskedWord NoQuestion) → IsExplained rows r → IsExplained rows s → r ≡ s
+pub one_explained : (rows : List Row) (r s : Result AskedWord ExplainMisuse) → IsExplained rows r → IsExplained rows s → r ≡ s
 one_explained rows (Ok a) (Ok b) h k = ap Ok (one_word rows a b h k)
 one_explained rows (Ok a) (Err SidesAlone) h k = absurd (k a.form h.form)
 one_explained rows (Ok a) (Err NoWord) h k = absurd (k.1 a.word h.named)

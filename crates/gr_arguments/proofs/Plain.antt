@@ -14,7 +14,7 @@ use Rattle.std.proofs.lemmas.Bool.Decides.{Decides-eqb}
 use Rattle.std.proofs.lemmas.Str.Parse.{digit_from_value}
 use Rattle.gr_model.specs.declared.event.Word.{Word}
 use Rattle.gr_model.specs.declared.event.Word.TheVariants.{Global, Local}
-use Rattle.gr_arguments.specs.declared.request.NoQuestion.TheVariants.{NoWord}
+use Rattle.gr_arguments.specs.declared.request.ExplainMisuse.TheVariants.{NoWord}
 use Rattle.gr_arguments.specs.Naming.{IsNumber, Names as NamesWord}
 use Rattle.gr_arguments.specs.Asked.{Asked, AsksTo, IsAskedBy, in_long, in_short}
 use Rattle.gr_arguments.specs.Asked as asked

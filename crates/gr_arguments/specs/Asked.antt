@@ -9,14 +9,14 @@ use Rattle.gr_model.specs.Configs.{IsConfig, Settings}
 use Rattle.gr_arguments.specs.Naming.{IsNumber, Names, NamesEvent}
 use Rattle.gr_arguments.specs.declared.request.Form.{Form}
 use Rattle.gr_arguments.specs.declared.request.Form.TheVariants.{Long, Short}
-use Rattle.gr_arguments.specs.declared.request.Inquiry.{Inquiry}
-use Rattle.gr_arguments.specs.declared.request.Inspection.{Inspection}
-use Rattle.gr_arguments.specs.declared.request.Listing.{Listing}
-use Rattle.gr_arguments.specs.declared.request.NoQuestion.{NoQuestion}
-use Rattle.gr_arguments.specs.declared.request.NoQuestion.TheVariants.{NoWord, SidesAlone}
-use Rattle.gr_arguments.specs.declared.request.Plan.{Plan}
-use Rattle.gr_arguments.specs.declared.request.Question.{Question}
-use Rattle.gr_arguments.specs.declared.request.Recall.{Recall}
+use Rattle.gr_arguments.specs.declared.request.WhyHeldArguments.{WhyHeldArguments}
+use Rattle.gr_arguments.specs.declared.request.CheckArguments.{CheckArguments}
+use Rattle.gr_arguments.specs.declared.request.RacesArguments.{RacesArguments}
+use Rattle.gr_arguments.specs.declared.request.ExplainMisuse.{ExplainMisuse}
+use Rattle.gr_arguments.specs.declared.request.ExplainMisuse.TheVariants.{NoWord, SidesAlone}
+use Rattle.gr_arguments.specs.declared.request.RunArguments.{RunArguments}
+use Rattle.gr_arguments.specs.declared.request.ExplainArguments.{ExplainArguments}
+use Rattle.gr_arguments.specs.declared.request.HistoryArguments.{HistoryArguments}
 use Rattle.gr_arguments.specs.declared.request.Request.{Request}
 use Rattle.gr_arguments.specs.declared.request.Request.TheVariants as request
 use Rattle.gr_arguments.specs.declared.request.Task.{Task}
@@ -73,7 +73,7 @@ pub record IsAskedWord (rows : List Row) (a : AskedWord) : Type 0 where
   pub at_files : files_of rows ≡ a.files
 
 -- they ask for this, or this is why they ask for nothing: they have no form, or else name no word of memory
-abbrev pub IsExplained : List Row → Result AskedWord NoQuestion → Type 0
+abbrev pub IsExplained : List Row → Result AskedWord ExplainMisuse → Type 0
 IsExplained rows (Ok a) = IsAskedWord rows a
 IsExplained rows (Err SidesAlone) = (f : AskedForm) → ¬ IsAskedForm rows f
 IsExplained rows (Err NoWord) = ((f : AskedForm) × IsAskedForm rows f) × ((w : Word) → ¬ NamesWord rows w)
@@ -180,7 +180,7 @@ pub data Asked : Type 0 where
   -- a task over standard input
   perform : Task → Asked
   -- one word; or why the values name none
-  explain : Result AskedWord NoQuestion → Asked
+  explain : Result AskedWord ExplainMisuse → Asked
   -- all races; none where the number of kinds is no number
   races : Option AskedRaces → Asked
   -- all accesses to one word; none where the values name no word of memory
@@ -217,26 +217,26 @@ abbrev pub form_of : Form → AskedForm
 form_of Short = in_short
 form_of (Long places buffers) = in_long (option_map (λ s. s.now) places) (option_map (λ s. s.now) buffers)
 
-abbrev pub word_of : Question → AskedWord
+abbrev pub word_of : ExplainArguments → AskedWord
 word_of q = record { form = form_of q.form; json = q.json; word = q.word; files = map (λ s. s.now) q.files.items }
 
-abbrev pub explained_of : Result Question NoQuestion → Result AskedWord NoQuestion
+abbrev pub explained_of : Result ExplainArguments ExplainMisuse → Result AskedWord ExplainMisuse
 explained_of (Ok q) = Ok (word_of q)
 explained_of (Err why) = Err why
 
-abbrev pub races_of : Listing → AskedRaces
+abbrev pub races_of : RacesArguments → AskedRaces
 races_of l = record { most = l.most; places = option_map (λ s. s.now) l.places; buffers = option_map (λ s. s.now) l.buffers; causes = l.causes; json = l.json; files = map (λ s. s.now) l.files.items }
 
-abbrev pub history_of : Recall → AskedHistory
+abbrev pub history_of : HistoryArguments → AskedHistory
 history_of r = record { places = option_map (λ s. s.now) r.places; buffers = option_map (λ s. s.now) r.buffers; word = r.word; files = map (λ s. s.now) r.files.items }
 
-abbrev pub check_of : Inspection → AskedCheck
+abbrev pub check_of : CheckArguments → AskedCheck
 check_of i = record { json = i.json; files = map (λ s. s.now) i.files.items }
 
-abbrev pub run_of : Plan → AskedRun
+abbrev pub run_of : RunArguments → AskedRun
 run_of p = record { config = p.config; json = p.json; files = map (λ s. s.now) p.files.items }
 
-abbrev pub event_of : Inquiry → AskedEvent
+abbrev pub event_of : WhyHeldArguments → AskedEvent
 event_of i = record { event = i.event; files = map (λ s. s.now) i.files.items }
 
 -- what a request stands for

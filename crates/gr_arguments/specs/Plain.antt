@@ -2,7 +2,7 @@
 use Rattle.std.specs.Prelude.{◌≡◌, ◌==◌, false, true, List, [], ◌∷◌, None, Ok, Err, ⊤, codes}
 use Rattle.clap.specs.Walk.{Text}
 use Rattle.gr_model.specs.declared.event.Word.{Word}
-use Rattle.gr_arguments.specs.declared.request.NoQuestion.TheVariants.{NoWord}
+use Rattle.gr_arguments.specs.declared.request.ExplainMisuse.TheVariants.{NoWord}
 use Rattle.gr_arguments.specs.declared.request.Task.{Task}
 use Rattle.gr_arguments.specs.declared.request.Task.TheVariants.{Dump, Replay}
 use Rattle.gr_arguments.specs.Asked.{Asked, AsksTo, explain, in_long, in_short, perform}

@@ -8,9 +8,7 @@ ghost use Rattle.gr_arguments.specs.Commands.{faults, meant, name_met, values_me
 ghost use Rattle.gr_arguments.specs.Names.{text_of};
 
 use crate::command::command;
-use crate::values::{
-    dump_of, inquiry_of, inspection_of, listing_of, plan_of, question_of, recall_of,
-};
+use crate::values::{check_of, dump_of, explain_of, history_of, races_of, run_of, why_held_of};
 use clap::{ArgMatches, Error};
 use gr_model::config::Config;
 use gr_model::event::{EventId, Word};
@@ -44,18 +42,18 @@ pub enum Form<'a> {
     },
 }
 
-/// Why words that were taken name no question.
+/// Why words that were taken are no arguments of `explain`.
 #[derive(Clone, Copy, Debug, PartialEq, Eq)]
-pub enum NoQuestion {
+pub enum ExplainMisuse {
     /// They name side files, and do not ask for the long form.
     SidesAlone,
     /// They name no word of memory.
     NoWord,
 }
 
-/// A word of a launch, whose streams are in these files, one each, and in which form it is to be told.
+/// The arguments of `explain`: a word of a launch, whose streams are in these files, one each, and in which form it is told.
 #[derive(Drop)]
-pub struct Question<'a> {
+pub struct ExplainArguments<'a> {
     /// The form.
     pub form: Form<'a>,
     /// Whether it is to be told as JSON.
@@ -66,9 +64,9 @@ pub struct Question<'a> {
     pub files: Vec<&'a str>,
 }
 
-/// The races of a launch, whose streams are in these files, one each, and what side files say of them.
+/// The arguments of `races`: a launch, whose streams are in these files, one each, and what is told of its races.
 #[derive(Drop)]
-pub struct Listing<'a> {
+pub struct RacesArguments<'a> {
     /// Of how many kinds to tell at most; of all if there is no number.
     pub most: Option<u32>,
     /// The name of the file of places.
@@ -83,10 +81,10 @@ pub struct Listing<'a> {
     pub files: Vec<&'a str>,
 }
 
-/// A word of a launch, whose streams are in these files, one each, and all of whose accesses are to be told, with what side
-/// files say of them.
+/// The arguments of `history`: a word of a launch, whose streams are in these files, one each, and the side files that tell of
+/// its accesses.
 #[derive(Drop)]
-pub struct Recall<'a> {
+pub struct HistoryArguments<'a> {
     /// The name of the file of places.
     pub places: Option<&'a str>,
     /// The name of the file of buffers.
@@ -97,18 +95,18 @@ pub struct Recall<'a> {
     pub files: Vec<&'a str>,
 }
 
-/// Files that may be those of a launch's streams, one each.
+/// The arguments of `check`: files that may be those of a launch's streams, one each.
 #[derive(Drop)]
-pub struct Inspection<'a> {
+pub struct CheckArguments<'a> {
     /// Whether what is found is to be JSON.
     pub json: bool,
     /// The names of the files.
     pub files: Vec<&'a str>,
 }
 
-/// How a launch is run in threads, whose streams are in these files, one each.
+/// The arguments of `run`: how a launch is run in threads, whose streams are in these files, one each.
 #[derive(Drop)]
-pub struct Plan<'a> {
+pub struct RunArguments<'a> {
     /// Workers, queues, and the places of a queue.
     pub config: Config,
     /// Whether the report is to be JSON.
@@ -117,9 +115,9 @@ pub struct Plan<'a> {
     pub files: Vec<&'a str>,
 }
 
-/// An event of a launch, whose streams are in these files, one each.
+/// The arguments of `why-held`: an event of a launch, whose streams are in these files, one each.
 #[derive(Drop)]
-pub struct Inquiry<'a> {
+pub struct WhyHeldArguments<'a> {
     /// The event.
     pub event: EventId,
     /// The names of the files.
@@ -132,17 +130,17 @@ pub enum Request<'a> {
     /// A task over standard input.
     Perform(Task),
     /// The least racing pair of a word; or why the words name none.
-    Explain(Result<Question<'a>, NoQuestion>),
+    Explain(Result<ExplainArguments<'a>, ExplainMisuse>),
     /// The races of a launch by their kinds; `None` where how many is no number.
-    Races(Option<Listing<'a>>),
+    Races(Option<RacesArguments<'a>>),
     /// All accesses to a word; `None` where the words name no word of memory.
-    History(Option<Recall<'a>>),
+    History(Option<HistoryArguments<'a>>),
     /// The report of a launch, by a run in threads; `None` where the words set up none.
-    Run(Option<Plan<'a>>),
+    Run(Option<RunArguments<'a>>),
     /// Which record of which of these files is at fault, or how many records of each kind there are.
-    Check(Inspection<'a>),
+    Check(CheckArguments<'a>),
     /// Why an event is held; `None` where the words name no event.
-    WhyHeld(Option<Inquiry<'a>>),
+    WhyHeld(Option<WhyHeldArguments<'a>>),
 }
 
 /// A command of the program.
@@ -191,12 +189,12 @@ fn request_by<'a>(
         Name::Pack => Ok(Request::Perform(Task::Pack)),
         Name::Dump => Ok(Request::Perform(dump_of(values))),
         Name::Upgrade => Ok(Request::Perform(Task::Upgrade)),
-        Name::Explain => Ok(Request::Explain(question_of(alloc, values)?)),
-        Name::Races => Ok(Request::Races(listing_of(alloc, values)?)),
-        Name::History => Ok(Request::History(recall_of(alloc, values)?)),
-        Name::Run => Ok(Request::Run(plan_of(alloc, values)?)),
-        Name::Check => Ok(Request::Check(inspection_of(alloc, values)?)),
-        Name::WhyHeld => Ok(Request::WhyHeld(inquiry_of(alloc, values)?)),
+        Name::Explain => Ok(Request::Explain(explain_of(alloc, values)?)),
+        Name::Races => Ok(Request::Races(races_of(alloc, values)?)),
+        Name::History => Ok(Request::History(history_of(alloc, values)?)),
+        Name::Run => Ok(Request::Run(run_of(alloc, values)?)),
+        Name::Check => Ok(Request::Check(check_of(alloc, values)?)),
+        Name::WhyHeld => Ok(Request::WhyHeld(why_held_of(alloc, values)?)),
     }
 }
 

@@ -5,10 +5,12 @@ ghost use Rattle.clap.specs.Walk.{rows_of};
 ghost use Rattle.clap.specs.Words.{found_of};
 ghost use Rattle.gr_model.specs.Configs.{Settings};
 ghost use Rattle.gr_arguments.specs.declared.request.Task.TheVariants.{Dump};
-ghost use Rattle.gr_arguments.specs.Asked.{IsAskedCheck, IsAskedEvent, IsAskedForm, IsAskedHistory, IsAskedRaces, IsAskedRun, IsExplained, IsMost, IsNumberOr, IsSetUp, IsTheOne, NamesWord, check_of, event_of, explained_of, files_of as named_files, form_of as asked_form, has_flag, history_of, races_of, run_of};
+ghost use Rattle.gr_arguments.specs.Asked as asked;
+ghost use Rattle.gr_arguments.specs.Asked.{IsAskedCheck, IsAskedEvent, IsAskedForm, IsAskedHistory, IsAskedRaces, IsAskedRun, IsExplained, IsMost, IsNumberOr, IsSetUp, IsTheOne, NamesWord, has_flag};
 
 use crate::request::{
-    Form, Inquiry, Inspection, Listing, NoQuestion, Plan, Question, Recall, Task,
+    CheckArguments, ExplainArguments, ExplainMisuse, Form, HistoryArguments, RacesArguments,
+    RunArguments, Task, WhyHeldArguments,
 };
 use crate::words::{event_named, number_of, word_named};
 use clap::ArgMatches;
@@ -41,7 +43,7 @@ pub(crate) fn dump_of(values: &ArgMatches<'_>) -> Task
 
 /// The files that the values name.
 fn files_of<'a>(alloc: Global, values: &ArgMatches<'a>) -> Result<Vec<&'a str>, AllocError>
-    ensures { IfOk result (λ v. map (λ s. s.now) v.items ≡ named_files (rows_of (found_of values.now))) }
+    ensures { IfOk result (λ v. map (λ s. s.now) v.items ≡ asked.files_of (rows_of (found_of values.now))) }
 {
     match values.get_strs("FILE") {
         None => Ok(Vec::new(alloc)),
@@ -64,7 +66,7 @@ fn word_of(values: &ArgMatches<'_>) -> Option<Word>
 
 /// The form that the values of the command `explain` ask for; none where they name side files without the long form.
 fn form_of<'a>(values: &ArgMatches<'a>) -> Option<Form<'a>>
-    ensures { IsTheOne (IsAskedForm (rows_of (found_of values.now))) (option_map asked_form result) }
+    ensures { IsTheOne (IsAskedForm (rows_of (found_of values.now))) (option_map asked.form_of result) }
 {
     let places = values.get_str("places");
     let buffers = values.get_str("buffers");
@@ -77,22 +79,22 @@ fn form_of<'a>(values: &ArgMatches<'a>) -> Option<Form<'a>>
     }
 }
 
-/// The question that the values of the command `explain` ask, or why they ask none.
-pub(crate) fn question_of<'a>(
+/// The arguments that the values of the command `explain` are, or why they are none.
+pub(crate) fn explain_of<'a>(
     alloc: Global,
     values: &ArgMatches<'a>,
-) -> Result<Result<Question<'a>, NoQuestion>, AllocError>
-    ensures { IfOk result (λ r. IsExplained (rows_of (found_of values.now)) (explained_of r)) }
+) -> Result<Result<ExplainArguments<'a>, ExplainMisuse>, AllocError>
+    ensures { IfOk result (λ r. IsExplained (rows_of (found_of values.now)) (asked.explained_of r)) }
 {
     let Some(form) = form_of(values) else {
-        return Ok(Err(NoQuestion::SidesAlone));
+        return Ok(Err(ExplainMisuse::SidesAlone));
     };
     let Some(word) = word_of(values) else {
-        return Ok(Err(NoQuestion::NoWord));
+        return Ok(Err(ExplainMisuse::NoWord));
     };
     let json = asks_for(values, "json");
     let files = files_of(alloc, values)?;
-    Ok(Ok(Question {
+    Ok(Ok(ExplainArguments {
         form,
         json,
         word,
@@ -114,12 +116,12 @@ fn most_of(values: &ArgMatches<'_>) -> Result<Option<u32>, NoNumber>
     }
 }
 
-/// The listing that the values of the command `races` ask for.
-pub(crate) fn listing_of<'a>(
+/// The arguments that the values of the command `races` are; none where the number of kinds is no number.
+pub(crate) fn races_of<'a>(
     alloc: Global,
     values: &ArgMatches<'a>,
-) -> Result<Option<Listing<'a>>, AllocError>
-    ensures { IfOk result (λ o. IsTheOne (IsAskedRaces (rows_of (found_of values.now))) (option_map races_of o)) }
+) -> Result<Option<RacesArguments<'a>>, AllocError>
+    ensures { IfOk result (λ o. IsTheOne (IsAskedRaces (rows_of (found_of values.now))) (option_map asked.races_of o)) }
 {
     let Ok(most) = most_of(values) else {
         return Ok(None);
@@ -129,7 +131,7 @@ pub(crate) fn listing_of<'a>(
     let causes = asks_for(values, "causes");
     let json = asks_for(values, "json");
     let files = files_of(alloc, values)?;
-    Ok(Some(Listing {
+    Ok(Some(RacesArguments {
         most,
         places,
         buffers,
@@ -139,12 +141,12 @@ pub(crate) fn listing_of<'a>(
     }))
 }
 
-/// What the values of the command `history` ask to recall.
-pub(crate) fn recall_of<'a>(
+/// The arguments that the values of the command `history` are; none where they name no word of memory.
+pub(crate) fn history_of<'a>(
     alloc: Global,
     values: &ArgMatches<'a>,
-) -> Result<Option<Recall<'a>>, AllocError>
-    ensures { IfOk result (λ o. IsTheOne (IsAskedHistory (rows_of (found_of values.now))) (option_map history_of o)) }
+) -> Result<Option<HistoryArguments<'a>>, AllocError>
+    ensures { IfOk result (λ o. IsTheOne (IsAskedHistory (rows_of (found_of values.now))) (option_map asked.history_of o)) }
 {
     let Some(word) = word_of(values) else {
         return Ok(None);
@@ -152,7 +154,7 @@ pub(crate) fn recall_of<'a>(
     let places = values.get_str("places");
     let buffers = values.get_str("buffers");
     let files = files_of(alloc, values)?;
-    Ok(Some(Recall {
+    Ok(Some(HistoryArguments {
         places,
         buffers,
         word,
@@ -160,16 +162,16 @@ pub(crate) fn recall_of<'a>(
     }))
 }
 
-/// What the values of the command `check` ask to inspect.
-pub(crate) fn inspection_of<'a>(
+/// The arguments that the values of the command `check` are.
+pub(crate) fn check_of<'a>(
     alloc: Global,
     values: &ArgMatches<'a>,
-) -> Result<Inspection<'a>, AllocError>
-    ensures { IfOk result (λ i. IsAskedCheck (rows_of (found_of values.now)) (check_of i)) }
+) -> Result<CheckArguments<'a>, AllocError>
+    ensures { IfOk result (λ a. IsAskedCheck (rows_of (found_of values.now)) (asked.check_of a)) }
 {
     let json = asks_for(values, "json");
     let files = files_of(alloc, values)?;
-    Ok(Inspection { json, files })
+    Ok(CheckArguments { json, files })
 }
 
 /// The number below 2^32 behind an option, or `default` where the option is not there.
@@ -192,31 +194,31 @@ fn config_of(values: &ArgMatches<'_>) -> Option<Config>
     Config::new(workers, queues, capacity).ok()
 }
 
-/// The run that the values of the command `run` ask for.
-pub(crate) fn plan_of<'a>(
+/// The arguments that the values of the command `run` are; none where they set up no run.
+pub(crate) fn run_of<'a>(
     alloc: Global,
     values: &ArgMatches<'a>,
-) -> Result<Option<Plan<'a>>, AllocError>
-    ensures { IfOk result (λ o. IsTheOne (IsAskedRun (rows_of (found_of values.now))) (option_map run_of o)) }
+) -> Result<Option<RunArguments<'a>>, AllocError>
+    ensures { IfOk result (λ o. IsTheOne (IsAskedRun (rows_of (found_of values.now))) (option_map asked.run_of o)) }
 {
     let Some(config) = config_of(values) else {
         return Ok(None);
     };
     let json = asks_for(values, "json");
     let files = files_of(alloc, values)?;
-    Ok(Some(Plan {
+    Ok(Some(RunArguments {
         config,
         json,
         files,
     }))
 }
 
-/// The inquiry that the values of the command `why-held` make.
-pub(crate) fn inquiry_of<'a>(
+/// The arguments that the values of the command `why-held` are; none where they name no event.
+pub(crate) fn why_held_of<'a>(
     alloc: Global,
     values: &ArgMatches<'a>,
-) -> Result<Option<Inquiry<'a>>, AllocError>
-    ensures { IfOk result (λ o. IsTheOne (IsAskedEvent (rows_of (found_of values.now))) (option_map event_of o)) }
+) -> Result<Option<WhyHeldArguments<'a>>, AllocError>
+    ensures { IfOk result (λ o. IsTheOne (IsAskedEvent (rows_of (found_of values.now))) (option_map asked.event_of o)) }
 {
     let Some(group) = values.get_str("GROUP") else {
         return Ok(None);
@@ -231,5 +233,5 @@ pub(crate) fn inquiry_of<'a>(
         return Ok(None);
     };
     let files = files_of(alloc, values)?;
-    Ok(Some(Inquiry { event, files }))
+    Ok(Some(WhyHeldArguments { event, files }))
 }

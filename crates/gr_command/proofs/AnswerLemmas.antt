@@ -103,7 +103,7 @@ module _ {T X : Type 0} (remaining : T → Option (List ℕ)) (Gives : List ℕ 
   no_memory_to_do (history (Some a)) = inr (Run Memory, record { why = inl (inl refl); told = no_memory_with_sides; prefix = λ h. absurd (memory_is_no_writing h) })
   no_memory_to_do (run (Some a)) = inr (Memory, record { why = inl (inl refl); told = told; prefix = λ h. absurd cc })
   no_memory_to_do (check a) = inr (Memory, record { why = inl (inl refl); told = told; prefix = λ h. absurd cc })
-  no_memory_to_do (why_held (Some a)) = inr (Memory, record { why = inl (inl refl); told = told; prefix = λ h. absurd cc })
+  no_memory_to_do (why_held (Some a)) = inr (Run Memory, record { why = inl (inl refl); told = no_memory_with_sides; prefix = λ h. absurd (memory_is_no_writing h) })
   no_memory_to_do (explain (Err why)) = no_memory_to_read
   no_memory_to_do (races None) = no_memory_to_read
   no_memory_to_do (history None) = no_memory_to_read

@@ -151,14 +151,6 @@ module _ {T X : Type 0} (remaining : T → Option (List ℕ)) (Gives : List ℕ 
     abbrev pub AccountsPrefixOfFiles : AskedWord → Type 0
     AccountsPrefixOfFiles a = HoldsOfAllFiles remaining Gives sides a.files (λ known said. ShowsPrefix (IsAccountTextOf a.json said a.word) known old new)
 
-  -- the text of the races is written whole, and it is said whether there is one
-  abbrev pub IsListedOfFiles : AskedRaces → Bool → Type 0
-  IsListedOfFiles a found = HoldsOfAllFiles remaining Gives (sides_of a.places a.buffers) a.files (λ known said. IsShown (IsRacesTextOf a.json said a.most a.causes) HasRace known found old new)
-
-  -- a prefix of the text was written
-  abbrev pub ListsPrefixOfFiles : AskedRaces → Type 0
-  ListsPrefixOfFiles a = HoldsOfAllFiles remaining Gives (sides_of a.places a.buffers) a.files (λ known said. ShowsPrefix (IsRacesTextOf a.json said a.most a.causes) known old new)
-
   -- the text of the check is written whole, and it is said whether the files are accepted
   abbrev pub IsCheckedOfFiles : AskedCheck → Bool → Type 0
   IsCheckedOfFiles a accepted = HoldsOfFiles remaining Gives a.files (λ known. IsCheckedAs a.json a.files known accepted old new)
@@ -167,23 +159,16 @@ module _ {T X : Type 0} (remaining : T → Option (List ℕ)) (Gives : List ℕ 
   abbrev pub ChecksPrefixOfFiles : AskedCheck → Type 0
   ChecksPrefixOfFiles a = HoldsOfFiles remaining Gives a.files (λ known. ChecksPrefixAs a.json a.files known old new)
 
-  -- the accesses to the word are written whole, and it is said whether it is racy
-  abbrev pub IsRecalledOfFiles : AskedHistory → Bool → Type 0
-  IsRecalledOfFiles a found = HoldsOfAllFiles remaining Gives (sides_of a.places a.buffers) a.files (λ known said. IsShown (IsHistoryText said a.word) (IsRacyIn a.word) known found old new)
-
-  -- a prefix of them was written
-  abbrev pub RecallsPrefixOfFiles : AskedHistory → Type 0
-  RecallsPrefixOfFiles a = HoldsOfAllFiles remaining Gives (sides_of a.places a.buffers) a.files (λ known said. ShowsPrefix (IsHistoryText said a.word) known old new)
-
-  -- why an event is held is written whole, and it is said whether it is
-  abbrev pub IsToldOfFiles : AskedEvent → Bool → Type 0
-  IsToldOfFiles a held = HoldsOfFiles remaining Gives a.files (λ known. IsShown (IsWhyText a.event) (IsHeldIn a.event) known held old new)
-
-  -- a prefix of it was written
-  abbrev pub TellsPrefixOfFiles : AskedEvent → Type 0
-  TellsPrefixOfFiles a = HoldsOfFiles remaining Gives a.files (λ known. ShowsPrefix (IsWhyText a.event) known old new)
-
   module _ (old_errors new_errors : Option (List ℕ)) (status : ℕ) where
+    -- a text that answers a question, with side files of these names and streams in files of these names, is written whole, and the
+    -- status says whether what the question looks for is found; or why there is none
+    abbrev pub IsAnswered : Pair (List ℕ) → List (List ℕ) → (SidesSaid → Streams → List ℕ → Type 0) → (Streams → Type 0) → Type 0
+    IsAnswered sides files IsTextOf IsFoundIn =
+        IsOutcome sides_fault_line sides_fault_status (Run Write) old new old_errors new_errors status
+        (λ found. HoldsOfAllFiles remaining Gives sides files (λ known said. IsShown (IsTextOf said) IsFoundIn known found old new))
+        (λ found ended. ended ≡ race_status found) (IsSidesFault remaining Gives sides files)
+        (HoldsOfAllFiles remaining Gives sides files (λ known said. ShowsPrefix (IsTextOf said) known old new))
+
     -- the text of the word in this form, and whether it is racy; or why there is none
     abbrev pub IsDisplayIn : AskedForm → AskedWord → Type 0
     IsDisplayIn in_short a =
@@ -198,10 +183,8 @@ module _ {T X : Type 0} (remaining : T → Option (List ℕ)) (Gives : List ℕ 
     IsDisplay a = IsDisplayIn a.form a
 
     -- the text of the races, and whether there is one; or why there is none
-    abbrev pub IsRacesDisplay : AskedRaces → Type 0
-    IsRacesDisplay a =
-        IsOutcome sides_fault_line sides_fault_status (Run Write) old new old_errors new_errors status
-        (IsListedOfFiles a) (λ found ended. ended ≡ race_status found) (IsSidesFault remaining Gives (sides_of a.places a.buffers) a.files) (ListsPrefixOfFiles a)
+    abbrev pub IsRacesOutcome : AskedRaces → Type 0
+    IsRacesOutcome a = IsAnswered (sides_of a.places a.buffers) a.files (λ said. IsRacesTextOf a.json said a.most a.causes) HasRace
 
     -- the text of a check, and whether the files are accepted; or why there is none
     abbrev pub IsCheckOutcome : AskedCheck → Type 0
@@ -211,15 +194,11 @@ module _ {T X : Type 0} (remaining : T → Option (List ℕ)) (Gives : List ℕ 
 
     -- all accesses to a word, and whether it is racy; or why there are none
     abbrev pub IsHistoryOutcome : AskedHistory → Type 0
-    IsHistoryOutcome a =
-        IsOutcome sides_fault_line sides_fault_status (Run Write) old new old_errors new_errors status
-        (IsRecalledOfFiles a) (λ found ended. ended ≡ race_status found) (IsSidesFault remaining Gives (sides_of a.places a.buffers) a.files) (RecallsPrefixOfFiles a)
+    IsHistoryOutcome a = IsAnswered (sides_of a.places a.buffers) a.files (λ said. IsHistoryText said a.word) (IsRacyIn a.word)
 
     -- why an event is held, and whether it is; or why nothing is told
-    abbrev pub IsHeldOutcome : AskedEvent → Type 0
-    IsHeldOutcome a =
-        IsOutcome fault_line fault_status Write old new old_errors new_errors status
-        (IsToldOfFiles a) (λ held ended. ended ≡ race_status held) (IsFileFault remaining Gives a.files) (TellsPrefixOfFiles a)
+    abbrev pub IsWhyHeldOutcome : AskedEvent → Type 0
+    IsWhyHeldOutcome a = IsAnswered (sides_of None None) a.files (λ said. IsWhyText a.event) (IsHeldIn a.event)
 
     -- the report of a run in threads, and its whole text or JSON; or why there is none
     abbrev pub IsRunAnswer : AskedRun → Type 0
@@ -239,11 +218,11 @@ module _ {T X : Type 0} (remaining : T → Option (List ℕ)) (Gives : List ℕ 
   abbrev pub IsDone : Asked → Type 0
   IsDone (perform t) = IsAnswerOf input old new old_errors new_errors status t
   IsDone (explain (Ok a)) = IsDisplay remaining Gives old new old_errors new_errors status a
-  IsDone (races (Some a)) = IsRacesDisplay remaining Gives old new old_errors new_errors status a
+  IsDone (races (Some a)) = IsRacesOutcome remaining Gives old new old_errors new_errors status a
   IsDone (history (Some a)) = IsHistoryOutcome remaining Gives old new old_errors new_errors status a
   IsDone (run (Some a)) = IsRunAnswer remaining Gives old new old_errors new_errors status a
   IsDone (check a) = IsCheckOutcome remaining Gives old new old_errors new_errors status a
-  IsDone (why_held (Some a)) = IsHeldOutcome remaining Gives old new old_errors new_errors status a
+  IsDone (why_held (Some a)) = IsWhyHeldOutcome remaining Gives old new old_errors new_errors status a
   IsDone (explain (Err why)) = IsUsageTold old new status
   IsDone (races None) = IsUsageTold old new status
   IsDone (history None) = IsUsageTold old new status

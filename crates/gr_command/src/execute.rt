@@ -7,16 +7,15 @@ ghost use Rattle.clap.specs.Words.{kind_of};
 ghost use Rattle.gr_report.specs.FaultText.{fault_line};
 ghost use Rattle.gr_report.specs.Putting.{AppendsPrefix};
 ghost use Rattle.gr_report.specs.Whole.{whole_of};
+ghost use Rattle.gr_sides.specs.Opening.{side_names};
 ghost use Rattle.gr_sides.specs.FaultText.{sides_fault_line};
 ghost use Rattle.gr_arguments.specs.Asked.{Asked, AsksTo, asked_of, check_of, event_of, history_of, races_of, run_of, word_of};
 ghost use Rattle.gr_arguments.specs.Commands.{AreHelp, AreWrong, IsHelp, IsWrongUsage, faults};
-ghost use Rattle.gr_command.specs.Answers.{IsAnswerOf, IsCheckOutcome, IsDisplay, IsDone, IsFaultTold, IsHeldOutcome, IsHistoryOutcome, IsRacesDisplay, IsRunAnswer};
+ghost use Rattle.gr_command.specs.Answers.{IsAnswerOf, IsAnswered, IsCheckOutcome, IsDisplay, IsDone, IsFaultTold, IsHistoryOutcome, IsRacesOutcome, IsRunAnswer, IsWhyHeldOutcome};
 ghost use Rattle.gr_command.specs.Statuses.{check_status, fault_status, race_status, sides_fault_status, IsReportStatus};
 
 use crate::running::run_files;
-use crate::showing::{
-    show_account, show_check, show_listing, show_word, tell_history, tell_why_held,
-};
+use crate::showing::{show_account, show_check, show_word};
 use crate::status::{
     FAILED, NOTHING, USAGE, WANTING, status_of, status_of_check, status_of_race, status_of_report,
     status_of_sides_fault,
@@ -24,9 +23,15 @@ use crate::status::{
 use clap::Error;
 use clap::error::ErrorKind;
 use gr_arguments::request::{
-    Form, Inquiry, Inspection, Listing, NoQuestion, Plan, Question, Recall, Request, Task,
+    CheckArguments, ExplainArguments, ExplainMisuse, Form, HistoryArguments, RacesArguments,
+    Request, RunArguments, Task, WhyHeldArguments,
 };
 use gr_arguments::request_of;
+use gr_frame::question::Question;
+use gr_frame::tell_files;
+use gr_held::question::HeldEvent;
+use gr_races::question::Races;
+use gr_races_json::question::RacesJson;
 use gr_record::fault::Fault;
 use gr_replay::replay;
 use gr_report::report::Report;
@@ -34,6 +39,7 @@ use gr_report::write_fault;
 use gr_sides::fault::{SidesFault, write_sides_fault};
 use gr_sides::files::SideNames;
 use gr_text::{dump, dump_partial, pack, upgrade};
+use gr_timeline::question::WordHistory;
 use std::alloc::Global;
 use std::convert::AsStr;
 use std::io::{self, Read, Write};
@@ -175,8 +181,8 @@ fn fail_with_sides<E: Write>(fault: &SidesFault, errors: &mut E) -> u8
     status_of_sides_fault(fault)
 }
 
-/// Tells of what was to be shown with side files and could not, and gives the status of what came of it.
-fn conclude_with_sides<E: Write>(outcome: Result<bool, SidesFault>, errors: &mut E) -> u8
+/// Tells of a question that could not be answered, and gives the status of what came of it.
+fn conclude_telling<E: Write>(outcome: Result<bool, SidesFault>, errors: &mut E) -> u8
     ensures race { IfOk outcome (λ found. result ≡ race_status found) }
     ensures silent { OnOk outcome (Keeps (E.contents errors.old) (E.contents errors.new)) }
     ensures fault { IfErr outcome (λ fault. result ≡ sides_fault_status fault) }
@@ -189,38 +195,119 @@ fn conclude_with_sides<E: Write>(outcome: Result<bool, SidesFault>, errors: &mut
 }
 
 /// Shows a word of the launch whose streams are in files, and gives the exit status.
-fn show<T: Read + Drop, O: Fn(&str) -> io::Result<T>, W: Write, E: Write>(
+fn explain<T: Read + Drop, O: Fn(&str) -> io::Result<T>, W: Write, E: Write>(
     alloc: Global,
-    question: &Question<'_>,
+    arguments: &ExplainArguments<'_>,
     opener: O,
     writer: &mut W,
     errors: &mut E,
 ) -> u8
     requires { O.IsAlwaysCallable opener }
-    ensures { IsDisplay T.remaining (FnReturnsAt O.Fn opener) (W.contents writer.old) (W.contents writer.new) (E.contents errors.old) (E.contents errors.new) result (word_of question.now) }
+    ensures { IsDisplay T.remaining (FnReturnsAt O.Fn opener) (W.contents writer.old) (W.contents writer.new) (E.contents errors.old) (E.contents errors.new) result (word_of arguments.now) }
 {
-    match question.form {
-        Form::Short => conclude_showing(show_word(alloc, question, opener, writer), errors),
+    match arguments.form {
+        Form::Short => conclude_showing(show_word(alloc, arguments, opener, writer), errors),
         Form::Long { places, buffers } => {
             let sides = SideNames { places, buffers };
-            let outcome = show_account(alloc, &sides, question, opener, writer);
-            conclude_with_sides(outcome, errors)
+            let outcome = show_account(alloc, &sides, arguments, opener, writer);
+            conclude_telling(outcome, errors)
         }
     }
 }
 
-/// Shows the races of the launch whose streams are in files, and gives the exit status.
-fn list<T: Read + Drop, O: Fn(&str) -> io::Result<T>, W: Write, E: Write>(
+/// Writes the answer to a question about the launch whose streams are in files, and gives the exit status.
+fn tell<Q, T, O, W, E>(
     alloc: Global,
-    listing: &Listing<'_>,
+    question: &Q,
+    sides: &SideNames<'_>,
+    files: &[&str],
+    opener: O,
+    writer: &mut W,
+    errors: &mut E,
+) -> u8
+where
+    Q: Question<Global>,
+    T: Read + Drop,
+    O: Fn(&str) -> io::Result<T>,
+    W: Write,
+    E: Write,
+    requires { O.IsAlwaysCallable opener }
+    ensures { IsAnswered T.remaining (FnReturnsAt O.Fn opener) (W.contents writer.old) (W.contents writer.new) (E.contents errors.old) (E.contents errors.new) result (side_names sides.now) (map (λ s. s.now) files.now) (Q.is_text question.now) (Q.is_found question.now) }
+{
+    let outcome = tell_files(alloc, question, sides, files, opener, writer);
+    conclude_telling(outcome, errors)
+}
+
+/// Tells of the races of the launch whose streams are in files, and gives the exit status.
+fn races<T: Read + Drop, O: Fn(&str) -> io::Result<T>, W: Write, E: Write>(
+    alloc: Global,
+    arguments: &RacesArguments<'_>,
     opener: O,
     writer: &mut W,
     errors: &mut E,
 ) -> u8
     requires { O.IsAlwaysCallable opener }
-    ensures { IsRacesDisplay T.remaining (FnReturnsAt O.Fn opener) (W.contents writer.old) (W.contents writer.new) (E.contents errors.old) (E.contents errors.new) result (races_of listing.now) }
+    ensures { IsRacesOutcome T.remaining (FnReturnsAt O.Fn opener) (W.contents writer.old) (W.contents writer.new) (E.contents errors.old) (E.contents errors.new) result (races_of arguments.now) }
 {
-    conclude_with_sides(show_listing(alloc, listing, opener, writer), errors)
+    let sides = SideNames {
+        places: arguments.places,
+        buffers: arguments.buffers,
+    };
+    let files = arguments.files.as_slice();
+    let races = Races {
+        most: arguments.most,
+        causes: arguments.causes,
+    };
+    if arguments.json {
+        let question = RacesJson { races };
+        tell(alloc, &question, &sides, files, opener, writer, errors)
+    } else {
+        tell(alloc, &races, &sides, files, opener, writer, errors)
+    }
+}
+
+/// Tells why an event of the launch whose streams are in files is held, and gives the exit status.
+fn why_held<T: Read + Drop, O: Fn(&str) -> io::Result<T>, W: Write, E: Write>(
+    alloc: Global,
+    arguments: &WhyHeldArguments<'_>,
+    opener: O,
+    writer: &mut W,
+    errors: &mut E,
+) -> u8
+    requires { O.IsAlwaysCallable opener }
+    ensures { IsWhyHeldOutcome T.remaining (FnReturnsAt O.Fn opener) (W.contents writer.old) (W.contents writer.new) (E.contents errors.old) (E.contents errors.new) result (event_of arguments.now) }
+{
+    let sides = SideNames {
+        places: None,
+        buffers: None,
+    };
+    let question = HeldEvent {
+        event: arguments.event,
+    };
+    let files = arguments.files.as_slice();
+    tell(alloc, &question, &sides, files, opener, writer, errors)
+}
+
+/// Tells of all accesses to a word of the launch whose streams are in files, and gives the exit status.
+fn history<T: Read + Drop, O: Fn(&str) -> io::Result<T>, W: Write, E: Write>(
+    alloc: Global,
+    arguments: &HistoryArguments<'_>,
+    opener: O,
+    writer: &mut W,
+    errors: &mut E,
+) -> u8
+    requires { O.IsAlwaysCallable opener }
+    ensures { IsHistoryOutcome T.remaining (FnReturnsAt O.Fn opener) (W.contents writer.old) (W.contents writer.new) (E.contents errors.old) (E.contents errors.new) result (history_of arguments.now) }
+{
+    let sides = SideNames {
+        places: arguments.places,
+        buffers: arguments.buffers,
+    };
+    let question = WordHistory {
+        word: arguments.word,
+    };
+    let files = arguments.files.as_slice();
+    tell(alloc, &question, &sides, files, opener, writer, errors)
 }
 
 /// Tells of a check that failed, and gives the status of what came of it.
@@ -239,50 +326,22 @@ fn conclude_check<E: Write>(outcome: Result<bool, Fault>, errors: &mut E) -> u8
 /// Checks files, and gives the exit status.
 fn check<T: Read + Drop, O: Fn(&str) -> io::Result<T>, W: Write, E: Write>(
     alloc: Global,
-    inspection: &Inspection<'_>,
+    arguments: &CheckArguments<'_>,
     opener: O,
     writer: &mut W,
     errors: &mut E,
 ) -> u8
     requires { O.IsAlwaysCallable opener }
-    ensures { IsCheckOutcome T.remaining (FnReturnsAt O.Fn opener) (W.contents writer.old) (W.contents writer.new) (E.contents errors.old) (E.contents errors.new) result (check_of inspection.now) }
+    ensures { IsCheckOutcome T.remaining (FnReturnsAt O.Fn opener) (W.contents writer.old) (W.contents writer.new) (E.contents errors.old) (E.contents errors.new) result (check_of arguments.now) }
 {
-    conclude_check(show_check(alloc, inspection, opener, writer), errors)
-}
-
-/// Tells why an event of the launch whose streams are in files is held, and gives the exit status.
-fn inquire<T: Read + Drop, O: Fn(&str) -> io::Result<T>, W: Write, E: Write>(
-    alloc: Global,
-    inquiry: &Inquiry<'_>,
-    opener: O,
-    writer: &mut W,
-    errors: &mut E,
-) -> u8
-    requires { O.IsAlwaysCallable opener }
-    ensures { IsHeldOutcome T.remaining (FnReturnsAt O.Fn opener) (W.contents writer.old) (W.contents writer.new) (E.contents errors.old) (E.contents errors.new) result (event_of inquiry.now) }
-{
-    conclude_showing(tell_why_held(alloc, inquiry, opener, writer), errors)
-}
-
-/// Tells of all accesses to a word of the launch whose streams are in files, and gives the exit status.
-fn recall<T: Read + Drop, O: Fn(&str) -> io::Result<T>, W: Write, E: Write>(
-    alloc: Global,
-    recall: &Recall<'_>,
-    opener: O,
-    writer: &mut W,
-    errors: &mut E,
-) -> u8
-    requires { O.IsAlwaysCallable opener }
-    ensures { IsHistoryOutcome T.remaining (FnReturnsAt O.Fn opener) (W.contents writer.old) (W.contents writer.new) (E.contents errors.old) (E.contents errors.new) result (history_of recall.now) }
-{
-    conclude_with_sides(tell_history(alloc, recall, opener, writer), errors)
+    conclude_check(show_check(alloc, arguments, opener, writer), errors)
 }
 
 /// Runs the launch whose streams are in files, and gives the exit status.
 fn run<H, T, O, W, E>(
     rt: H,
     alloc: Global,
-    plan: &Plan<'_>,
+    arguments: &RunArguments<'_>,
     opener: O,
     writer: &mut W,
     errors: &mut E,
@@ -294,9 +353,9 @@ where
     W: Write,
     E: Write,
     requires { O.IsAlwaysCallable opener }
-    ensures { IsRunAnswer T.remaining (FnReturnsAt O.Fn opener) (W.contents writer.old) (W.contents writer.new) (E.contents errors.old) (E.contents errors.new) result (run_of plan.now) }
+    ensures { IsRunAnswer T.remaining (FnReturnsAt O.Fn opener) (W.contents writer.old) (W.contents writer.new) (E.contents errors.old) (E.contents errors.new) result (run_of arguments.now) }
 {
-    conclude(run_files(rt, alloc, plan, opener, writer), errors)
+    conclude(run_files(rt, alloc, arguments, opener, writer), errors)
 }
 
 /// Tells that the words of a command are wrong, though they were taken.
@@ -330,14 +389,14 @@ where
 {
     match request {
         Request::Perform(task) => perform(alloc, task, reader, writer, errors),
-        Request::Explain(Ok(question)) => show(alloc, &question, opener, writer, errors),
-        Request::Races(Some(listing)) => list(alloc, &listing, opener, writer, errors),
-        Request::History(Some(word)) => recall(alloc, &word, opener, writer, errors),
-        Request::Run(Some(plan)) => run(rt, alloc, &plan, opener, writer, errors),
-        Request::Check(inspection) => check(alloc, &inspection, opener, writer, errors),
-        Request::WhyHeld(Some(inquiry)) => inquire(alloc, &inquiry, opener, writer, errors),
-        Request::Explain(Err(NoQuestion::SidesAlone)) => explain_misuse(SIDES_ALONE, errors),
-        Request::Explain(Err(NoQuestion::NoWord)) => explain_misuse(MISNAMED, errors),
+        Request::Explain(Ok(arguments)) => explain(alloc, &arguments, opener, writer, errors),
+        Request::Races(Some(arguments)) => races(alloc, &arguments, opener, writer, errors),
+        Request::History(Some(arguments)) => history(alloc, &arguments, opener, writer, errors),
+        Request::WhyHeld(Some(arguments)) => why_held(alloc, &arguments, opener, writer, errors),
+        Request::Run(Some(arguments)) => run(rt, alloc, &arguments, opener, writer, errors),
+        Request::Check(arguments) => check(alloc, &arguments, opener, writer, errors),
+        Request::Explain(Err(ExplainMisuse::SidesAlone)) => explain_misuse(SIDES_ALONE, errors),
+        Request::Explain(Err(ExplainMisuse::NoWord)) => explain_misuse(MISNAMED, errors),
         Request::Races(None) => explain_misuse(MISCOUNTED, errors),
         Request::History(None) => explain_misuse(UNNAMED, errors),
         Request::Run(None) => explain_misuse(MISCONFIGURED, errors),

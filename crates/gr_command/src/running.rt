@@ -7,7 +7,7 @@ ghost use Rattle.gr_record.specs.declared.fault.Fault.TheVariants as faults;
 ghost use Rattle.gr_report.specs.Whole.{whole_of};
 ghost use Rattle.gr_command.specs.Answers.{IsFaultOfFiles, IsReportOfFiles, WritesPrefixOfFiles, text_of};
 
-use gr_arguments::request::Plan;
+use gr_arguments::request::RunArguments;
 use gr_json::write_report_json;
 use gr_record::fault::Fault;
 use gr_report::report::Report;
@@ -19,7 +19,7 @@ use std::sync::{Arc, Wait};
 use std::thread::Threads;
 use std::time::Clock;
 
-/// Opens the files of a plan, reads the streams of a launch, one from each, in threads, and writes the text of its report,
+/// Opens the files, reads the streams of a launch, one from each, in threads, and writes the text of its report,
 /// or its JSON, and nothing else.
 ///
 /// # Errors
@@ -27,7 +27,7 @@ use std::time::Clock;
 pub fn run_files<H, T, O, W>(
     rt: H,
     alloc: Global,
-    plan: &Plan<'_>,
+    arguments: &RunArguments<'_>,
     opener: O,
     writer: &mut W,
 ) -> Result<Report, Fault>
@@ -37,20 +37,20 @@ where
     O: Fn(&str) -> io::Result<T>,
     W: Write,
     requires { O.IsAlwaysCallable opener }
-    ensures report { IfOk result (λ r. IsReportOfFiles T.remaining (FnReturnsAt O.Fn opener) (map (λ s. s.now) plan.now.files.items) (whole_of r)) }
-    ensures text { IfOk result (λ r. Appends (W.contents writer.old) (W.contents writer.new) (text_of plan.now.json (whole_of r))) }
-    ensures fault { IfErr result (λ f. IsFaultOfFiles T.remaining (FnReturnsAt O.Fn opener) (map (λ s. s.now) plan.now.files.items) f) }
+    ensures report { IfOk result (λ r. IsReportOfFiles T.remaining (FnReturnsAt O.Fn opener) (map (λ s. s.now) arguments.now.files.items) (whole_of r)) }
+    ensures text { IfOk result (λ r. Appends (W.contents writer.old) (W.contents writer.new) (text_of arguments.now.json (whole_of r))) }
+    ensures fault { IfErr result (λ f. IsFaultOfFiles T.remaining (FnReturnsAt O.Fn opener) (map (λ s. s.now) arguments.now.files.items) f) }
     ensures untouched { IfErr result (λ f. f ≢ faults.Write → Keeps (W.contents writer.old) (W.contents writer.new)) }
-    ensures prefix { IfErr result (λ f. f ≡ faults.Write → WritesPrefixOfFiles T.remaining (FnReturnsAt O.Fn opener) (map (λ s. s.now) plan.now.files.items) plan.now.json (W.contents writer.old) (W.contents writer.new)) }
+    ensures prefix { IfErr result (λ f. f ≡ faults.Write → WritesPrefixOfFiles T.remaining (FnReturnsAt O.Fn opener) (map (λ s. s.now) arguments.now.files.items) arguments.now.json (W.contents writer.old) (W.contents writer.new)) }
 {
-    let files = open_all(alloc, plan.files.as_slice(), opener)?;
+    let files = open_all(alloc, arguments.files.as_slice(), opener)?;
     let Ok(watch) = Arc::new(alloc, NoWatch) else {
         return Err(Fault::Memory);
     };
-    if !plan.json {
-        return run_streams(rt, alloc, files, plan.config, watch, writer);
+    if !arguments.json {
+        return run_streams(rt, alloc, files, arguments.config, watch, writer);
     }
-    let report = detect_streams(rt, alloc, files, plan.config, watch)?;
+    let report = detect_streams(rt, alloc, files, arguments.config, watch)?;
     match write_report_json(alloc, &report, writer) {
         Ok(()) => Ok(report),
         Err(fault) => Err(fault),

@@ -1,20 +1,20 @@
 //! What the commands answer and write.
 
-use crate::launches::{NAMES, open};
+use crate::launches::Files;
 use gr_check::check_files;
 use gr_check_json::check_files_json;
-use gr_held::show_why_held;
+use gr_frame::question::Question;
+use gr_frame::tell_files;
+use gr_held::question::HeldEvent;
 use gr_json::files::show_account_json_of_files;
 use gr_json::show_race_json;
 use gr_long::files::show_account_of_files;
 use gr_model::event::{EventId, ItemId, Word};
-use gr_races::files::show_races_of_files;
-use gr_races_json::show_races_json_of_files;
+use gr_races::question::Races;
 use gr_show::files::open_all;
 use gr_show::show_race;
 use gr_sides::fault::SidesFault;
-use gr_sides::files::SideNames;
-use gr_timeline::files::show_history_of_files;
+use gr_timeline::question::WordHistory;
 use refusing::failing::FailingWriter;
 use std::alloc::{Allocator, Global};
 
@@ -46,71 +46,75 @@ pub(crate) static ALL: [Asked; 9] = [
     Asked::History(Word::Global(16)),
 ];
 
-const SIDES: SideNames<'static> = SideNames {
-    places: Some("places"),
-    buffers: Some("buffers"),
-};
-
-/// The event of group 0 that is asked about.
-fn event_of(item: u16, index: u32) -> EventId {
-    EventId {
-        at: ItemId { group: 0, item },
-        index,
+/// The question for an event of group 0.
+fn held_event(item: u16, index: u32) -> HeldEvent {
+    HeldEvent {
+        event: EventId {
+            at: ItemId { group: 0, item },
+            index,
+        },
     }
 }
 
-/// Answers as text, where one file fails behind so many calls.
+/// The question for all kinds of races.
+fn all_races(causes: bool) -> Races {
+    Races { most: None, causes }
+}
+
+/// Answers a question as the frame does.
+fn told<A: Allocator + Copy, Q: Question<A>>(
+    alloc: A,
+    files: Files<'_>,
+    question: &Q,
+    writer: &mut FailingWriter,
+) -> Result<bool, SidesFault> {
+    let opener = |name: &str| files.open(name);
+    tell_files(alloc, question, &files.sides, files.names(), opener, writer)
+}
+
+/// Answers as text.
 pub(crate) fn answered<A: Allocator + Copy>(
     alloc: A,
-    streams: &[Vec<u8>],
-    failing: (&str, usize),
+    files: Files<'_>,
     asked: Asked,
     writer: &mut FailingWriter,
 ) -> Result<bool, SidesFault> {
-    let names = &NAMES[..streams.len().min(2)];
-    let opener = |name: &str| open(streams, failing, name);
     match asked {
         Asked::Pair(word) => {
-            let files = open_all(alloc, names, opener)?;
-            Ok(show_race(alloc, files, word, writer)?)
+            let readers = open_all(alloc, files.names(), |name: &str| files.open(name))?;
+            Ok(show_race(alloc, readers, word, writer)?)
         }
-        Asked::WhyHeld(item, index) => {
-            let files = open_all(alloc, names, opener)?;
-            Ok(show_why_held(alloc, files, event_of(item, index), writer)?)
+        Asked::Account(word) => {
+            let opener = |name: &str| files.open(name);
+            show_account_of_files(alloc, &files.sides, files.names(), opener, word, writer)
         }
-        Asked::Account(word) => show_account_of_files(alloc, &SIDES, names, opener, word, writer),
-        Asked::Races(causes) => {
-            show_races_of_files(alloc, &SIDES, names, opener, None, causes, writer)
+        Asked::Races(causes) => told(alloc, files, &all_races(causes), writer),
+        Asked::WhyHeld(item, index) => told(alloc, files, &held_event(item, index), writer),
+        Asked::History(word) => told(alloc, files, &WordHistory { word }, writer),
+        Asked::Check => {
+            let opener = |name: &str| files.open(name);
+            Ok(check_files(alloc, files.names(), opener, writer)?)
         }
-        Asked::Check => Ok(check_files(alloc, names, opener, writer)?),
-        Asked::History(word) => show_history_of_files(alloc, &SIDES, names, opener, word, writer),
     }
 }
 
-/// Answers as JSON, or as text where there is no such JSON.
+/// Answers as JSON, or as text where the frame writes what is JSON too.
 pub(crate) fn answered_as_json(
     alloc: Global,
-    streams: &[Vec<u8>],
-    failing: (&str, usize),
+    files: Files<'_>,
     asked: Asked,
     writer: &mut FailingWriter,
 ) -> Result<bool, SidesFault> {
-    let names = &NAMES[..streams.len().min(2)];
-    let opener = |name: &str| open(streams, failing, name);
+    let opener = |name: &str| files.open(name);
     match asked {
         Asked::Pair(word) => {
-            let files = open_all(alloc, names, opener)?;
-            Ok(show_race_json(alloc, files, word, writer)?)
+            let readers = open_all(alloc, files.names(), opener)?;
+            Ok(show_race_json(alloc, readers, word, writer)?)
         }
         Asked::Account(word) => {
-            show_account_json_of_files(alloc, &SIDES, names, opener, word, writer)
+            show_account_json_of_files(alloc, &files.sides, files.names(), opener, word, writer)
         }
-        Asked::Races(causes) => {
-            show_races_json_of_files(alloc, &SIDES, names, opener, None, causes, writer)
-        }
-        Asked::Check => Ok(check_files_json(alloc, names, opener, writer)?),
-        Asked::WhyHeld(_, _) | Asked::History(_) => {
-            answered(alloc, streams, failing, asked, writer)
-        }
+        Asked::Check => Ok(check_files_json(alloc, files.names(), opener, writer)?),
+        _ => answered(alloc, files, asked, writer),
     }
 }

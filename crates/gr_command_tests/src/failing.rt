@@ -1,77 +1,77 @@
 //! Readers and writers that fail, at each of their calls.
 
-use crate::answers::{ALL, Asked, answered, answered_as_json};
-use crate::launches::{NOTED, bytes_of, streams_of};
+use crate::answers::{Asked, answered, answered_as_json};
+use crate::launches::{Files, NOTED, bytes_of, streams_of};
+use gr_model::event::Word;
 use gr_record::fault::Fault;
 use gr_sides::fault::SidesFault;
 use refusing::failing::FailingWriter;
 use std::alloc::Global;
 use std::test::Fail;
 
-/// Answers as JSON or as text.
+/// What is asked, and whether the answer is JSON: one question for all that the frame answers, and the others.
+type Question = (Asked, bool);
+
+static QUESTIONS: [Question; 7] = [
+    (Asked::Races(true), false),
+    (Asked::Pair(Word::Global(16)), false),
+    (Asked::Pair(Word::Global(16)), true),
+    (Asked::Account(Word::Global(16)), false),
+    (Asked::Account(Word::Global(16)), true),
+    (Asked::Check, false),
+    (Asked::Check, true),
+];
+
 fn answer(
     alloc: Global,
-    streams: &[Vec<u8>],
-    failing: (&str, usize),
-    question: (Asked, bool),
+    files: Files<'_>,
+    question: Question,
     writer: &mut FailingWriter,
 ) -> Result<bool, SidesFault> {
-    let (asked, json) = question;
-    if json {
-        answered_as_json(alloc, streams, failing, asked, writer)
-    } else {
-        answered(alloc, streams, failing, asked, writer)
+    match question {
+        (asked, true) => answered_as_json(alloc, files, asked, writer),
+        (asked, false) => answered(alloc, files, asked, writer),
     }
 }
 
-/// Whether a file that fails behind so many calls is told, and nothing is written.
-fn fails_to_read(
-    alloc: Global,
-    streams: &[Vec<u8>],
-    failing: (&str, usize),
-    question: (Asked, bool),
-) -> bool {
+/// Whether a file that fails is told, and nothing is written.
+fn fails_to_read(alloc: Global, files: Files<'_>, question: Question) -> bool {
     let mut writer = FailingWriter::with_room(alloc, usize::MAX);
-    let answered = answer(alloc, streams, failing, question, &mut writer);
+    let answered = answer(alloc, files, question, &mut writer);
     answered == Err(SidesFault::Run(Fault::Read)) && writer.taken.is_empty()
 }
 
 /// Whether a file that fails is told, behind however many calls.
-fn fails_at_each_read(
-    alloc: Global,
-    streams: &[Vec<u8>],
-    name: &str,
-    question: (Asked, bool),
-) -> bool {
+fn fails_at_each_read(alloc: Global, streams: &[Vec<u8>], name: &str, question: Question) -> bool {
     let Some(bytes) = bytes_of(streams, name) else {
         return false;
     };
-    (0..bytes.len() + 1).all(|calls| fails_to_read(alloc, streams, (name, calls), question))
+    let files = Files::with_sides(streams);
+    (0..bytes.len() + 1).all(|calls| fails_to_read(alloc, files.failing(name, calls), question))
 }
 
 /// The files that are read for an answer.
-fn files_of(asked: Asked) -> &'static [&'static str] {
-    match asked {
-        Asked::Pair(_) | Asked::Check | Asked::WhyHeld(_, _) => &["0"],
-        Asked::Account(_) | Asked::Races(_) | Asked::History(_) => &["places", "buffers", "0"],
+fn files_of(question: Question) -> &'static [&'static str] {
+    match question.0 {
+        Asked::Check | Asked::Pair(_) => &["0"],
+        _ => &["places", "buffers", "0"],
     }
 }
 
 /// Whether each file that is read for an answer, and fails, is told.
-fn fails_in_each_file(alloc: Global, streams: &[Vec<u8>], asked: Asked) -> bool {
-    files_of(asked).iter().all(|name| {
-        fails_at_each_read(alloc, streams, name, (asked, false))
-            && fails_to_read(alloc, streams, (name, 0), (asked, true))
-    })
+fn fails_in_each_file(alloc: Global, streams: &[Vec<u8>], question: Question) -> bool {
+    files_of(question)
+        .iter()
+        .all(|name| fails_at_each_read(alloc, streams, name, question))
 }
 
 #[test]
 fn readers_that_fail_are_told(rt: HostRuntime) -> Result<(), Fail> {
     let streams = streams_of(rt.alloc(), &NOTED)?;
-    for asked in &ALL {
+    for question in &QUESTIONS {
         assert!(rt;
-            fails_in_each_file(rt.alloc(), &streams, *asked),
-            "{asked:?}"
+            fails_in_each_file(rt.alloc(), &streams, *question),
+            "{question:?}"
         );
     }
     Ok(())
@@ -81,19 +81,19 @@ fn readers_that_fail_are_told(rt: HostRuntime) -> Result<(), Fail> {
 fn fails_to_write(
     alloc: Global,
     streams: &[Vec<u8>],
-    question: (Asked, bool),
+    question: Question,
     text: &[u8],
     room: usize,
 ) -> bool {
     let mut writer = FailingWriter::within(alloc, text, room);
-    let answered = answer(alloc, streams, ("none", 0), question, &mut writer);
+    let answered = answer(alloc, Files::with_sides(streams), question, &mut writer);
     answered == Err(SidesFault::Run(Fault::Write)) && writer.has_front(text, room)
 }
 
 /// Whether a writer that fails is told, behind however many bytes.
-fn fails_at_each_write(alloc: Global, streams: &[Vec<u8>], question: (Asked, bool)) -> bool {
+fn fails_at_each_write(alloc: Global, streams: &[Vec<u8>], question: Question) -> bool {
     let mut writer = FailingWriter::with_room(alloc, usize::MAX);
-    let answered = answer(alloc, streams, ("none", 0), question, &mut writer);
+    let answered = answer(alloc, Files::with_sides(streams), question, &mut writer);
     let text = writer.taken;
     let fails = |room| fails_to_write(alloc, streams, question, &text, room);
     answered.is_ok() && !text.is_empty() && (0..text.len() + 1).all(fails)
@@ -102,10 +102,11 @@ fn fails_at_each_write(alloc: Global, streams: &[Vec<u8>], question: (Asked, boo
 #[test]
 fn writers_that_fail_have_a_prefix(rt: HostRuntime) -> Result<(), Fail> {
     let streams = streams_of(rt.alloc(), &NOTED)?;
-    for asked in &ALL {
-        let as_text = fails_at_each_write(rt.alloc(), &streams, (*asked, false));
-        let as_json = fails_at_each_write(rt.alloc(), &streams, (*asked, true));
-        assert!(rt; as_text && as_json, "{asked:?}");
+    for question in &QUESTIONS {
+        assert!(rt;
+            fails_at_each_write(rt.alloc(), &streams, *question),
+            "{question:?}"
+        );
     }
     Ok(())
 }

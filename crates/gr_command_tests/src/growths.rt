@@ -1,7 +1,7 @@
 //! Each growth is refused in turn: then memory runs out and nothing is written, or what is due is answered and written.
 
 use crate::answers::{ALL, Asked, answered};
-use crate::launches::{LAUNCHES, Launch, NOTED, streams_of};
+use crate::launches::{Files, LAUNCHES, Launch, NOTED, streams_of};
 use gr_model::memory::Memory;
 use gr_record::fault::Fault;
 use gr_sides::fault::SidesFault;
@@ -16,11 +16,11 @@ type Answer = (Result<bool, SidesFault>, Vec<u8>);
 fn answer_of<A: Allocator + Copy>(
     alloc: A,
     ample: Global,
-    streams: &[Vec<u8>],
+    files: Files<'_>,
     asked: Asked,
 ) -> Answer {
     let mut writer = FailingWriter::with_room(ample, usize::MAX);
-    let answer = answered(alloc, streams, ("none", 0), asked, &mut writer);
+    let answer = answered(alloc, files, asked, &mut writer);
     (answer, writer.taken)
 }
 
@@ -28,11 +28,11 @@ fn answer_of<A: Allocator + Copy>(
 fn is_due<A: Allocator + Copy>(
     alloc: A,
     ample: Global,
-    streams: &[Vec<u8>],
+    files: Files<'_>,
     asked: Asked,
     due: &Answer,
 ) -> Result<bool, Memory> {
-    let (answer, text) = answer_of(alloc, ample, streams, asked);
+    let (answer, text) = answer_of(alloc, ample, files, asked);
     match answer {
         Err(SidesFault::Run(Fault::Memory)) if text.is_empty() => Err(Memory),
         answer => Ok(answer == due.0 && text.as_slice() == due.1.as_slice()),
@@ -40,39 +40,36 @@ fn is_due<A: Allocator + Copy>(
 }
 
 /// Whether each growth of an answer is refused, at least so many, and each time the answer is due.
-fn are_growths_told(ample: Global, streams: &[Vec<u8>], asked: Asked, least: u64) -> bool {
-    let due = answer_of(ample, ample, streams, asked);
-    let growths = refuse_each(
-        ample,
-        least,
-        |heap| is_due(heap, ample, streams, asked, &due),
-    );
+fn are_growths_told(ample: Global, files: Files<'_>, asked: Asked, least: u64) -> bool {
+    let due = answer_of(ample, ample, files, asked);
+    let growths = refuse_each(ample, least, |heap| is_due(heap, ample, files, asked, &due));
     growths.is_ok_and(|growths| growths.told >= 1)
 }
 
 /// How many growths there are at least where side files are read, too.
 fn least_of(asked: Asked) -> u64 {
     match asked {
-        Asked::Pair(_) | Asked::WhyHeld(_, _) => 5,
+        Asked::Pair(_) => 5,
         Asked::Check => 4,
-        Asked::Account(_) | Asked::Races(_) | Asked::History(_) => 21,
+        _ => 21,
     }
 }
 
 #[test]
 fn each_refused_growth_beside_side_files_is_want_of_memory(rt: HostRuntime) -> Result<(), Fail> {
     let streams = streams_of(rt.alloc(), &NOTED)?;
+    let files = Files::with_sides(&streams);
     for asked in &ALL {
-        let told = are_growths_told(rt.alloc(), &streams, *asked, least_of(*asked));
+        let told = are_growths_told(rt.alloc(), files, *asked, least_of(*asked));
         assert!(rt; told, "{asked:?}");
     }
     Ok(())
 }
 
 /// Whether each growth in each answer about a launch is told.
-fn are_all_told(alloc: Global, streams: &[Vec<u8>]) -> bool {
+fn are_all_told(alloc: Global, files: Files<'_>) -> bool {
     ALL.iter()
-        .all(|asked| are_growths_told(alloc, streams, *asked, 2))
+        .all(|asked| are_growths_told(alloc, files, *asked, 2))
 }
 
 #[test]
@@ -80,7 +77,7 @@ fn each_refused_growth_is_want_of_memory(rt: HostRuntime) -> Result<(), Fail> {
     for launch in &LAUNCHES {
         let streams = streams_of(rt.alloc(), launch)?;
         let name = launch.0;
-        assert!(rt; are_all_told(rt.alloc(), &streams), "{name}");
+        assert!(rt; are_all_told(rt.alloc(), Files::of(&streams)), "{name}");
     }
     Ok(())
 }

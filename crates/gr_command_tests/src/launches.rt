@@ -1,5 +1,6 @@
 //! Launches in files.
 
+use gr_sides::files::SideNames;
 use gr_text::packing::pack_text;
 use refusing::failing::FailingReader;
 use std::alloc::{AllocError, Global};
@@ -93,9 +94,6 @@ pub(crate) static LAUNCHES: [Launch; 10] = [
     ("a header alone", &["GRT1\0\0\x02\0\x07\0\0\0"]),
 ];
 
-/// The names of the streams' files.
-pub(crate) const NAMES: [&str; 2] = ["0", "1"];
-
 /// The bytes of a launch's streams.
 pub(crate) fn streams_of(alloc: Global, launch: &Launch) -> Result<Vec<Vec<u8>>, AllocError> {
     let mut streams = Vec::new(alloc);
@@ -121,19 +119,66 @@ pub(crate) fn bytes_of<'a>(streams: &'a [Vec<u8>], name: &str) -> Option<&'a [u8
     }
 }
 
-/// Opens a file by its name, a byte of which is read at each call. The file `failing` fails behind so many calls.
-pub(crate) fn open<'a>(
-    streams: &'a [Vec<u8>],
-    failing: (&str, usize),
-    name: &str,
-) -> io::Result<FailingReader<'a>> {
-    let calls = if name == failing.0 {
-        failing.1
-    } else {
-        usize::MAX
-    };
-    match bytes_of(streams, name) {
-        Some(bytes) => Ok(FailingReader { bytes, calls }),
-        None => Err(io::Error::from(ErrorKind::NotFound)),
+/// The names of the streams' files.
+static NAMES: [&str; 2] = ["0", "1"];
+
+/// The files of a launch, of which one fails behind so many calls.
+#[derive(Clone, Copy)]
+pub(crate) struct Files<'a> {
+    pub(crate) streams: &'a [Vec<u8>],
+    pub(crate) sides: SideNames<'a>,
+    pub(crate) failing: (&'a str, usize),
+}
+
+impl<'a> Files<'a> {
+    /// The files of these streams alone, none of which fails.
+    pub(crate) fn of(streams: &'a [Vec<u8>]) -> Files<'a> {
+        Files {
+            streams,
+            sides: SideNames {
+                places: None,
+                buffers: None,
+            },
+            failing: ("none", 0),
+        }
+    }
+
+    /// The files of these streams, of places and of buffers, none of which fails.
+    pub(crate) fn with_sides(streams: &'a [Vec<u8>]) -> Files<'a> {
+        Files {
+            streams,
+            sides: SideNames {
+                places: Some("places"),
+                buffers: Some("buffers"),
+            },
+            failing: ("none", 0),
+        }
+    }
+
+    /// The same files, of which that of this name fails behind so many calls.
+    pub(crate) fn failing(self, name: &'a str, calls: usize) -> Files<'a> {
+        Files {
+            streams: self.streams,
+            sides: self.sides,
+            failing: (name, calls),
+        }
+    }
+
+    /// The names of the streams' files.
+    pub(crate) fn names(&self) -> &'static [&'static str] {
+        &NAMES[..self.streams.len().min(2)]
+    }
+
+    /// Opens a file by its name, a byte of which is read at each call.
+    pub(crate) fn open(&self, name: &str) -> io::Result<FailingReader<'a>> {
+        let calls = if name == self.failing.0 {
+            self.failing.1
+        } else {
+            usize::MAX
+        };
+        match bytes_of(self.streams, name) {
+            Some(bytes) => Ok(FailingReader { bytes, calls }),
+            None => Err(io::Error::from(ErrorKind::NotFound)),
+        }
     }
 }

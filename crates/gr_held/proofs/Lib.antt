@@ -1,6 +1,5 @@
 pub mod HeldLemmas
 pub mod ChainLemmas
-pub mod ShownLemmas
 pub mod WalkLemmas
 pub mod JudgedLemmas
 pub mod WhyLemmas

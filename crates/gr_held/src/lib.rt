@@ -8,12 +8,10 @@
 mod arrivals;
 mod judged;
 mod names;
+pub mod question;
 pub mod reason;
 mod reasons;
-mod show;
 mod taking;
 mod text;
 mod walk;
 pub mod why;
-
-pub use show::show_why_held;

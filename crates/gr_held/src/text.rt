@@ -1,9 +1,8 @@
 //! The text of why an event is held.
 
-ghost use Rattle.std.specs.Prelude.{◌++◌, OnErr, OnOk, codes};
-ghost use Rattle.std.specs.Io.KnownBytes.{Appends};
+ghost use Rattle.std.specs.Prelude.{◌++◌, codes};
 ghost use Rattle.std.specs.List.{flat_map};
-ghost use Rattle.gr_report.specs.Putting.{AppendsPrefix, Puts};
+ghost use Rattle.gr_report.specs.Putting.{Puts};
 ghost use Rattle.gr_show.specs.Explanations.{event_text};
 ghost use Rattle.gr_held.specs.Why.{answer_of};
 ghost use Rattle.gr_held.specs.WhyText.{event_line, link_line, name_text, reason_text, why_text};
@@ -11,7 +10,7 @@ ghost use Rattle.gr_held.specs.WhyText.{event_line, link_line, name_text, reason
 use crate::reason::{Link, Reason};
 use crate::why::WhyHeld;
 use gr_model::event::{EventId, Name};
-use gr_report::putting::{WriteFault, finish, put, put_field};
+use gr_report::putting::{WriteFault, put, put_field};
 use std::alloc::Allocator;
 use std::io::Write;
 
@@ -68,7 +67,11 @@ fn put_event_line<W: Write>(writer: &mut W, before: &[u8], event: EventId) -> Re
     put(writer, b"\n")
 }
 
-fn put_why<A: Allocator, W: Write>(
+/// Writes why an event is held, or that it is not. It takes no memory.
+///
+/// # Errors
+/// `WriteFault` where the writer fails; what it took is then a prefix of the text.
+pub(crate) fn put_why<A: Allocator, W: Write>(
     writer: &mut W,
     event: EventId,
     why: &WhyHeld<A>,
@@ -80,20 +83,4 @@ fn put_why<A: Allocator, W: Write>(
         WhyHeld::Judged => put_event_line(writer, b"judged ", event),
         WhyHeld::Held(links) => put_links(writer, links),
     }
-}
-
-/// Writes why an event is held, or that it is not, and flushes. It takes no memory.
-///
-/// # Errors
-/// `WriteFault` where the writer fails; what it took is then a prefix of the text.
-pub(crate) fn write_why<A: Allocator, W: Write>(
-    writer: &mut W,
-    event: EventId,
-    why: &WhyHeld<A>,
-) -> Result<(), WriteFault>
-    ensures whole { OnOk result (Appends (W.contents writer.old) (W.contents writer.new) (why_text event (answer_of why.now))) }
-    ensures prefix { OnErr result (AppendsPrefix (W.contents writer.old) (W.contents writer.new) (why_text event (answer_of why.now))) }
-{
-    put_why(writer, event, why)?;
-    finish(writer)
 }

@@ -1,5 +1,4 @@
 pub mod KindLemmas
 pub mod ListingLemmas
 pub mod RunLemmas
-pub mod ShownLemmas
 pub mod TellingLemmas

@@ -5,5 +5,4 @@ pub mod Notes
 pub mod Telling
 pub mod RacesText
 pub mod Shown
-pub mod Opening
 pub mod Laws

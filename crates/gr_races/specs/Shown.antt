@@ -1,7 +1,6 @@
 -- What is shown of the races of a launch.
 -- Source: docs/FORMATS.md, "Races".
-use Rattle.std.specs.Prelude.{◌≡◌, ◌↔◌, ℕ, Bool, IsTrue, List, Option, length}
-use Rattle.std.specs.Io.KnownBytes.{Appends}
+use Rattle.std.specs.Prelude.{◌≡◌, ℕ, Bool, List, Option, length}
 use Rattle.gr_model.specs.declared.event.Word.{Word}
 use Rattle.gr_model.specs.declared.race.Race.{Race}
 use Rattle.gr_model.specs.RacePairs.{ArePairedRaces}
@@ -11,13 +10,11 @@ use Rattle.gr_model.specs.Waits.{IsGrounded}
 use Rattle.gr_causes.specs.declared.cause.Cause.{Cause}
 use Rattle.gr_places.specs.SideLines.{place_number}
 use Rattle.gr_places.specs.declared.places.Placed.{Placed}
-use Rattle.gr_report.specs.Putting.{AppendsPrefix}
 use Rattle.gr_races.specs.Kinds.{all_kinded}
 use Rattle.gr_races.specs.Listing.{Entry, entries}
 use Rattle.gr_races.specs.RacesText.{races_text}
 use Rattle.gr_sides.specs.Sides.{SidesSaid}
 use Rattle.gr_races.specs.Telling.{AreTold, with_causes}
-use Rattle.gr_show.specs.Shown.{IsShown, ShowsPrefix}
 
 -- the racy words of a launch where places have these numbers, each with a racing pair, kind by kind, with causes where they
 -- are asked for, and how many there are
@@ -45,24 +42,3 @@ IsRacesText sides most = IsTextOfRaces sides (races_text sides most)
 -- a word is racy
 abbrev pub HasRace : Streams → Type 0
 HasRace s = (w : Word) × IsRacy s (IsGrounded s) w
-
--- that text of a launch is written whole, and it is said whether a word is racy
-pub record ShowsRacesOf (s : Streams) (sides : SidesSaid) (most : Option ℕ) (causes : Bool) (found : Bool) (old new : Option (List ℕ)) : Type 0 where
-  pub text : List ℕ
-  pub exact : IsRacesText sides most causes s text
-  pub written : Appends old new text
-  pub said : IsTrue found ↔ HasRace s
-
--- a prefix of that text of a launch was written
-pub record ShowsRacesPrefixOf (s : Streams) (sides : SidesSaid) (most : Option ℕ) (causes : Bool) (old new : Option (List ℕ)) : Type 0 where
-  pub text : List ℕ
-  pub exact : IsRacesText sides most causes s text
-  pub prefix : AppendsPrefix old new text
-
--- that text is written whole, and it is said whether a word is racy
-abbrev pub AreRacesShown : Option (List (List ℕ)) → SidesSaid → Option ℕ → Bool → Bool → Option (List ℕ) → Option (List ℕ) → Type 0
-AreRacesShown known sides most causes found old new = IsShown (IsRacesText sides most causes) HasRace known found old new
-
--- a prefix of that text was written
-abbrev pub ShowsRacesPrefix : Option (List (List ℕ)) → SidesSaid → Option ℕ → Bool → Option (List ℕ) → Option (List ℕ) → Type 0
-ShowsRacesPrefix known sides most causes old new = ShowsPrefix (IsRacesText sides most causes) known old new

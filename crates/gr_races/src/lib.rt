@@ -4,14 +4,12 @@
 //! The text is docs/FORMATS.md, "Races".
 #![tactic(auto)]
 
+pub mod by_kind;
 pub mod causes;
-pub mod files;
 pub mod kinds;
 pub mod laws;
 pub mod listing;
 mod notes;
+pub mod question;
 pub mod runs;
-pub mod show;
 pub mod text;
-
-pub use show::show_races;

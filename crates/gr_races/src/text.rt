@@ -1,9 +1,8 @@
 //! The text of races.
 
-ghost use Rattle.std.specs.Prelude.{◌≡◌, map, OnErr, OnOk};
+ghost use Rattle.std.specs.Prelude.{◌≡◌, map};
 ghost use Rattle.std.specs.List.{flat_map};
-ghost use Rattle.std.specs.Io.KnownBytes.{Appends};
-ghost use Rattle.gr_report.specs.Putting.{AppendsPrefix, Puts};
+ghost use Rattle.gr_report.specs.Putting.{Puts};
 ghost use Rattle.gr_races.specs.Listing.{entry_of};
 ghost use Rattle.gr_races.specs.RacesText as spec;
 ghost use Rattle.gr_sides.specs.Sides.{sides_said};
@@ -16,7 +15,7 @@ use gr_causes::cause::Cause;
 use gr_causes::text::cause_line;
 use gr_model::event::Space;
 use gr_model::race::Race;
-use gr_report::putting::{WriteFault, finish, put, put_field};
+use gr_report::putting::{WriteFault, put, put_field};
 use gr_show::explanation::{put_pair, put_word};
 use gr_sides::sides::Sides;
 use std::alloc::Allocator;
@@ -163,7 +162,12 @@ pub fn at_most<A: Allocator>(entries: &[KindEntry<A>], most: Option<u32>) -> &[K
     }
 }
 
-fn put_races<A: Allocator, W: Write>(
+/// Writes the races of a launch kind by kind, of at most so many kinds, with what side files say of them and the cause
+/// of each kind that has one, and an end that counts all of them. It takes no memory.
+///
+/// # Errors
+/// `WriteFault` if the writer fails, which has then taken a prefix of the text.
+pub(crate) fn put_races<A: Allocator, W: Write>(
     writer: &mut W,
     sides: &Sides<'_>,
     entries: &[KindEntry<A>],
@@ -174,23 +178,4 @@ fn put_races<A: Allocator, W: Write>(
 {
     put_entries(writer, sides, at_most(entries, most))?;
     put_end(writer, entries.len(), races)
-}
-
-/// Writes the races of a launch kind by kind, of at most so many kinds, with what side files say of them and the cause
-/// of each kind that has one, and an end that counts all of them, and flushes. It takes no memory.
-///
-/// # Errors
-/// `WriteFault` if the writer fails, which has then taken a prefix of the text.
-pub(crate) fn write_races<A: Allocator, W: Write>(
-    writer: &mut W,
-    sides: &Sides<'_>,
-    entries: &[KindEntry<A>],
-    most: Option<u32>,
-    races: usize,
-) -> Result<(), WriteFault>
-    ensures whole { OnOk result (Appends (W.contents writer.old) (W.contents writer.new) (spec.races_text (sides_said sides.now) most (map entry_of entries.now) races)) }
-    ensures prefix { OnErr result (AppendsPrefix (W.contents writer.old) (W.contents writer.new) (spec.races_text (sides_said sides.now) most (map entry_of entries.now) races)) }
-{
-    put_races(writer, sides, entries, most, races)?;
-    finish(writer)
 }

@@ -4,12 +4,8 @@
 #![tactic(auto)]
 
 mod causes;
-mod files;
 mod kinds;
 pub mod laws;
 mod pairs;
+pub mod question;
 mod races;
-mod show;
-
-pub use files::show_races_json_of_files;
-pub use show::show_races_json;

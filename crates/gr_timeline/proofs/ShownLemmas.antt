@@ -1,6 +1,5 @@
 -- What is shown of a history.
-use Rattle.std.proofs.Common.{◌≡◌, ◌⊎◌, ◌↔◌, ◌∙◌, ℕ, ◌+◌, Bool, length, true, codes, Contains, List, ◌++◌, None, Option, Some, ap, ap₂, inl, inr, option_map, slice_get, subst, sym}
-use Rattle.std.specs.Prelude.{IfSome}
+use Rattle.std.proofs.Common.{◌≡◌, ◌↔◌, ◌∙◌, ℕ, ◌+◌, Bool, length, true, codes, Contains, List, ◌++◌, Option, Some, ap, ap₂, option_map, slice_get, sym}
 use Rattle.std.specs.List.{IsDistinct, list_any}
 use Rattle.std.specs.Map.{keys_of}
 use Rattle.std.proofs.lemmas.List.{length-map}
@@ -23,9 +22,6 @@ use Rattle.gr_accesses.specs.Accesses.{AreAccesses, IsOn, details_at}
 use Rattle.gr_places.specs.PlaceIndexes.{Indexed, Indexes, place_at}
 use Rattle.gr_places.specs.SideLines.{ElementSaid, PlaceSaid, place_of}
 use Rattle.gr_places.specs.declared.places.Placed.TheVariants.{Event}
-use Rattle.gr_record.specs.declared.fault.Fault.{Fault}
-use Rattle.gr_record.specs.declared.fault.Fault.TheVariants as faults
-use Rattle.gr_show.specs.Shown.{IsShowFault}
 use Rattle.gr_sides.specs.Sides.{buffer_lines}
 use Rattle.gr_accesses.specs.Held.{AreHeld}
 use Rattle.gr_accesses.proofs.GroupLemmas.{known_is_told}
@@ -76,13 +72,3 @@ module _ (words : List Word) (w : Word) where
     λ found. Contains-from_any same_from_equal w words (sym turned ∙ found),
     λ there. turned ∙ list_any-from_Contains equal.laws-law w words there,
   )
-
--- what holds of all inputs holds of those that are known
-of_any : (known : Option (List (List ℕ))) (P : List (List ℕ) → Type 0) → ((inputs : List (List ℕ)) → P inputs) → IfSome known P
-of_any None P p = tt
-of_any (Some inputs) P p = p inputs
-
--- that memory ran out, and that the writer failed, are faults whatever the inputs are
-pub outside_fault : (known : Option (List (List ℕ))) (f : Fault) → (f ≡ faults.Memory) ⊎ (f ≡ faults.Write) → IfSome known (λ inputs. IsShowFault inputs f)
-outside_fault known f (inl memory) = of_any known (λ inputs. IsShowFault inputs f) (λ inputs. subst (IsShowFault inputs) (sym memory) (inl (inl tt)))
-outside_fault known f (inr write) = of_any known (λ inputs. IsShowFault inputs f) (λ inputs. inr write)

@@ -1,7 +1,6 @@
 -- What is shown of a word of a launch: its history.
 -- Source: docs/FORMATS.md, "The text of history".
-use Rattle.std.specs.Prelude.{◌≡◌, ◌↔◌, ℕ, Bool, IsTrue, List, Option}
-use Rattle.std.specs.Io.KnownBytes.{Appends}
+use Rattle.std.specs.Prelude.{◌≡◌, ◌↔◌, ℕ, Bool, IsTrue, List}
 use Rattle.gr_model.specs.declared.event.Word.{Word}
 use Rattle.gr_model.specs.Streams.{Streams}
 use Rattle.gr_show.specs.Shown.{IsRacyIn}
@@ -9,7 +8,6 @@ use Rattle.gr_long.specs.Details.{details_of}
 use Rattle.gr_accesses.specs.Held.{IsHeldCount}
 use Rattle.gr_places.specs.declared.places.Placed.TheVariants.{Event}
 use Rattle.gr_places.specs.SideLines.{element_of, place_of}
-use Rattle.gr_report.specs.Putting.{AppendsPrefix}
 use Rattle.gr_sides.specs.Sides.{SidesSaid}
 use Rattle.gr_timeline.specs.Histories.{IsHistory, Line}
 use Rattle.gr_timeline.specs.HistoryText.{history_text}
@@ -24,16 +22,3 @@ pub record IsHistoryText (sides : SidesSaid) (w : Word) (s : Streams) (text : Li
   pub racy : Bool
   pub said : IsTrue racy ↔ IsRacyIn w s
   pub is : text ≡ history_text (element_of sides.buffers w) (λ e. place_of sides.places (Event e)) (details_of s) lines held racy
-
--- that text of a launch is written whole, and it is said whether the word is racy
-pub record ShowsHistoryOf (s : Streams) (sides : SidesSaid) (w : Word) (racy : Bool) (old new : Option (List ℕ)) : Type 0 where
-  pub text : List ℕ
-  pub exact : IsHistoryText sides w s text
-  pub written : Appends old new text
-  pub said : IsTrue racy ↔ IsRacyIn w s
-
--- a prefix of that text of a launch was written
-pub record ShowsHistoryPrefixOf (s : Streams) (sides : SidesSaid) (w : Word) (old new : Option (List ℕ)) : Type 0 where
-  pub text : List ℕ
-  pub exact : IsHistoryText sides w s text
-  pub prefix : AppendsPrefix old new text

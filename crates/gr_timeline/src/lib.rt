@@ -5,11 +5,8 @@
 #![tactic(auto)]
 
 pub mod entry;
-pub mod files;
 mod handling;
 pub mod history;
-mod show;
+pub mod question;
 mod text;
 mod told;
-
-pub use show::show_history;

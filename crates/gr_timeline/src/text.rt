@@ -1,9 +1,7 @@
 //! The text of the history of a word.
 
-ghost use Rattle.std.specs.Prelude.{OnErr, OnOk};
-ghost use Rattle.std.specs.Io.KnownBytes.{Appends};
 ghost use Rattle.std.specs.List.{flat_map};
-ghost use Rattle.gr_report.specs.Putting.{AppendsPrefix, Puts};
+ghost use Rattle.gr_report.specs.Putting.{Puts};
 ghost use Rattle.gr_show.specs.Explanations.{event_text};
 ghost use Rattle.gr_accesses.specs.Accesses.{details_at};
 ghost use Rattle.gr_places.specs.PlaceIndexes.{place_at};
@@ -20,7 +18,7 @@ use gr_long::text::put_told;
 use gr_model::event::{EventId, Word};
 use gr_places::index::PlaceIndex;
 use gr_places::places::Placed;
-use gr_report::putting::{WriteFault, finish, put, put_field};
+use gr_report::putting::{WriteFault, put, put_field};
 use gr_sides::sides::{Sides, put_buffer, put_text};
 use std::alloc::Allocator;
 use std::io::Write;
@@ -141,7 +139,12 @@ fn put_end<W: Write>(
     put_racy(writer, racy)
 }
 
-fn put_history<A: Allocator, W: Write>(
+/// Writes the history of a word with its buffer and, where this index has the places, those of its accesses. It takes no
+/// memory.
+///
+/// # Errors
+/// `WriteFault` where the writer fails; what it took is then a prefix of the text.
+pub(crate) fn put_history<A: Allocator, W: Write>(
     writer: &mut W,
     sides: &Sides<'_>,
     places: &PlaceIndex<'_, A>,
@@ -153,23 +156,4 @@ fn put_history<A: Allocator, W: Write>(
     put_buffer(writer, sides, word)?;
     put_entries(writer, places, &told.known, &told.entries)?;
     put_end(writer, told.entries.len(), told.held, told.racy)
-}
-
-/// Writes the history of a word with its buffer and, where this index has the places, those of its accesses, and flushes. It
-/// takes no memory.
-///
-/// # Errors
-/// `WriteFault` where the writer fails; what it took is then a prefix of the text.
-pub(crate) fn write_history<A: Allocator, W: Write>(
-    writer: &mut W,
-    sides: &Sides<'_>,
-    places: &PlaceIndex<'_, A>,
-    word: Word,
-    told: &Told<A>,
-) -> Result<(), WriteFault>
-    ensures whole { OnOk result (Appends (W.contents writer.old) (W.contents writer.new) (spec.history_text (element_of (sides_said sides.now).buffers word) (λ e. place_at places.now (AnEvent e)) (details_at told.now.known.entries) (lines_of told.now.entries.items) told.now.held told.now.racy)) }
-    ensures prefix { OnErr result (AppendsPrefix (W.contents writer.old) (W.contents writer.new) (spec.history_text (element_of (sides_said sides.now).buffers word) (λ e. place_at places.now (AnEvent e)) (details_at told.now.known.entries) (lines_of told.now.entries.items) told.now.held told.now.racy)) }
-{
-    put_history(writer, sides, places, word, told)?;
-    finish(writer)
 }

@@ -6,14 +6,14 @@ use Rattle.gr_report.specs.Whole.{whole_of}
 use Rattle.gr_command.proofs.AnswerLemmas.{of_any, of_report, run_fault}
 use Rattle.gr_command.proofs.running.run_files.Goals as goal
 
-pub returns-then-not-plan-clause-report : goal.returns-then-not-plan-clause-report
-returns-then-not-plan-clause-report g c =
+pub returns-then-not-arguments-clause-report : goal.returns-then-not-arguments-clause-report
+returns-then-not-arguments-clause-report g c =
     rw (← c.as_slice.ensures.value)
     (IfOk-weaker c.run_streams.result _ _ (λ r exact. (c.in_ok-files.files.items, c.in_ok-files.ensures.opened, exact)) c.run_streams.ensures.report)
 
-pub returns-then-not-plan-clause-prefix : goal.returns-then-not-plan-clause-prefix
-returns-then-not-plan-clause-prefix g c =
-    rw (c.if-not-plan.true, ← c.as_slice.ensures.value)
+pub returns-then-not-arguments-clause-prefix : goal.returns-then-not-arguments-clause-prefix
+returns-then-not-arguments-clause-prefix g c =
+    rw (c.if-not-arguments.true, ← c.as_slice.ensures.value)
     (IfErr-weaker c.run_streams.result _ _ (λ f prefix writing. (c.in_ok-files.files.items, c.in_ok-files.ensures.opened, prefix writing)) c.run_streams.ensures.prefix)
 
 pub returns-in-Err-clause-fault : goal.returns-in-Err-clause-fault
@@ -23,7 +23,7 @@ returns-in-Err-clause-fault g c =
 
 pub returns-in-Err-clause-prefix : goal.returns-in-Err-clause-prefix
 returns-in-Err-clause-prefix g c = λ writing.
-    rw (c.if-not-plan.false, ← c.as_slice.ensures.value)
+    rw (c.if-not-arguments.false, ← c.as_slice.ensures.value)
     (c.in_ok-files.files.items, c.in_ok-files.ensures.opened, of_report true _ _ _ (whole_of c.in_ok-report.report) c.in_ok-report.ensures.report (c.in-Err.ensures.prefix writing))
 
 pub returns-in_err-files-clause-report : goal.returns-in_err-files-clause-report
@@ -76,18 +76,18 @@ returns-in_err-report-clause-fault g c =
     let p = err_from_is_err_and c.from_residual-in_err-report.result c.from_residual-in_err-report.ensures.1 in
     rw (p.1, p.2, ← c.as_slice.ensures.value) (inr (c.in_ok-files.files.items, c.in_ok-files.ensures.opened, c.in_err-report.ensures.fault))
 
-pub returns-then-not-plan-clause-fault : goal.returns-then-not-plan-clause-fault
-returns-then-not-plan-clause-fault g c =
+pub returns-then-not-arguments-clause-fault : goal.returns-then-not-arguments-clause-fault
+returns-then-not-arguments-clause-fault g c =
     rw (← c.as_slice.ensures.value)
     (IfErr-weaker c.run_streams.result _ _ (λ f fault. inr (c.in_ok-files.files.items, c.in_ok-files.ensures.opened, fault)) c.run_streams.ensures.fault)
 
-pub returns-then-not-plan-clause-untouched : goal.returns-then-not-plan-clause-untouched
-returns-then-not-plan-clause-untouched g c =
+pub returns-then-not-arguments-clause-untouched : goal.returns-then-not-arguments-clause-untouched
+returns-then-not-arguments-clause-untouched g c =
     c.run_streams.ensures.untouched
 
-pub returns-then-not-plan-clause-text : goal.returns-then-not-plan-clause-text
-returns-then-not-plan-clause-text g c =
-    rw (c.if-not-plan.true) c.run_streams.ensures.text
+pub returns-then-not-arguments-clause-text : goal.returns-then-not-arguments-clause-text
+returns-then-not-arguments-clause-text g c =
+    rw (c.if-not-arguments.true) c.run_streams.ensures.text
 
 pub returns-in-Err-clause-untouched : goal.returns-in-Err-clause-untouched
 returns-in-Err-clause-untouched g c =
@@ -99,7 +99,7 @@ returns-in-Ok-write_report_json-clause-report g c =
 
 pub returns-in-Ok-write_report_json-clause-text : goal.returns-in-Ok-write_report_json-clause-text
 returns-in-Ok-write_report_json-clause-text g c =
-    rw (c.if-not-plan.false) c.in-Ok-write_report_json.ensures.whole
+    rw (c.if-not-arguments.false) c.in-Ok-write_report_json.ensures.whole
 
 pub returns-in_default-clause-fault : goal.returns-in_default-clause-fault
 returns-in_default-clause-fault g c =
