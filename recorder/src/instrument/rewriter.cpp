@@ -4,14 +4,12 @@
 
 #include "llvm/IR/DebugInfoMetadata.h"
 #include "llvm/IR/InstIterator.h"
-#include "llvm/IR/IntrinsicInst.h"
+#include "llvm/IR/ReplaceConstant.h"
 
 using namespace llvm;
 
 namespace gpurace {
 namespace {
-
-constexpr unsigned PRINT_ROOM = (1 << 22) - 8; // as in runtime/hooks.cpp
 
 Type *bytes_type(LLVMContext &context) { return Type::getInt8PtrTy(context); }
 
@@ -52,30 +50,13 @@ bool is_used_in(const Function &function, const User &user) {
     return any_of(user.users(), [&](const User *further) { return is_used_in(function, *further); });
 }
 
-bool mentions(const Value *value, const GlobalVariable *variable) {
-    auto *expression = dyn_cast<ConstantExpr>(value);
-    return value == variable || (expression && any_of(expression->operands(), [&](const Use &use) { return mentions(use.get(), variable); }));
-}
-
-// A constant that mentions a variable, as instructions that have another value in its place.
-Value *with_other(Value *value, GlobalVariable *variable, Value *other, Instruction *before) {
-    if (value == variable) return other;
-    if (!mentions(value, variable)) return value;
-    Instruction *made = cast<ConstantExpr>(value)->getAsInstruction(before);
-    for (Use &use : made->operands()) use.set(with_other(use.get(), variable, other, made));
-    return made;
-}
-
+// Has a function use another value in the place of a variable.
 void replace_in(Function &function, GlobalVariable *variable, Value *other) {
-    std::vector<Use *> uses;
-    for (Instruction &instruction : instructions(function))
-        for (Use &use : instruction.operands())
-            if (!isa<DbgInfoIntrinsic>(instruction) && mentions(use.get(), variable)) uses.push_back(&use);
-    for (Use *use : uses) {
-        auto *before = cast<Instruction>(use->getUser());
-        if (auto *phi = dyn_cast<PHINode>(before)) before = phi->getIncomingBlock(*use)->getTerminator();
-        use->set(with_other(use->get(), variable, other, before));
-    }
+    const SmallVector<User *> users(variable->users());
+    for (User *user : users)
+        if (auto *expression = dyn_cast<ConstantExpr>(user))
+            for (Instruction &instruction : instructions(function)) convertConstantExprsToInstructions(&instruction, expression);
+    variable->replaceUsesWithIf(other, [&](const Use &use) { return is_used_in(function, *use.getUser()); });
 }
 
 } // namespace
@@ -343,7 +324,7 @@ void Rewriter::put_prints() {
         Type *bytes = builder.getInt8PtrTy();
         Value *buffer = call_runtime(builder, "gr_print", bytes, {});
         auto *type = FunctionType::get(builder.getInt32Ty(), {bytes, bytes, builder.getInt32Ty(), bytes}, true);
-        std::vector<Value *> values = {builder.CreateConstGEP1_32(builder.getInt8Ty(), buffer, 8), buffer, builder.getInt32(PRINT_ROOM)};
+        std::vector<Value *> values = {builder.CreateConstGEP1_32(builder.getInt8Ty(), buffer, 8), buffer, builder.getInt32(PRINT_ROOM - 8)};
         for (Value *value : call->args()) values.push_back(value);
         values[3] = plain(builder, values[3]);
         Value *result = builder.CreateCall(module_.getOrInsertFunction("__pocl_printf", type), values);

@@ -67,6 +67,13 @@ Processor processor() {
     if (__builtin_cpu_supports("avx2") && __builtin_cpu_supports("fma")) return {"haswell", "avx2"};
     return {"x86-64", "sse2"};
 }
+// The file of this library, in whose folder the instrumenting pass is.
+files::path own_path() {
+    Dl_info info;
+    dladdr(reinterpret_cast<void *>(&own_path), &info);
+    return info.dli_fname;
+}
+std::string instrumenter() { return own_path().parent_path() / "instrument-kernels"; }
 std::string builtins() { return settings().builtins + "/kernel-x86_64-pc-linux-gnu-" + processor().builtins + ".bc"; }
 
 Words features_of(cl_device_id device) {
@@ -126,24 +133,6 @@ Words compiler_options(cl_device_id device) {
     return words;
 }
 
-class Hash { // of two words, by FNV-1a
-public:
-    void add(const std::string &text) {
-        for (const char letter : text + '\1') {
-            first_ = (first_ ^ uint8_t(letter)) * 0x100000001b3ull;
-            second_ = (second_ ^ uint8_t(letter)) * 0x100000001b3ull + 0x9e37;
-        }
-    }
-    std::string text() const {
-        char digits[33];
-        std::snprintf(digits, sizeof digits, "%016llx%016llx", static_cast<unsigned long long>(first_), static_cast<unsigned long long>(second_));
-        return digits;
-    }
-
-private:
-    uint64_t first_ = 0xcbf29ce484222325ull, second_ = 0x84222325cbf29ce4ull;
-};
-
 // The state of a file that a build depends on.
 std::string state_of(const std::string &path) {
     struct stat state {};
@@ -160,16 +149,19 @@ std::string types_header() {
 class Build {
 public:
     Build(const std::vector<Unit> &units, cl_device_id device) : units_(units), options_(compiler_options(device)), features_(features_of(device)) {
-        Hash hash;
+        std::ostringstream text;
         for (const Unit &unit : units) {
-            hash.add(unit.source), hash.add(unit.options);
-            for (const Source &header : unit.headers) hash.add(header.name), hash.add(header.text);
+            text << unit.source << '\1' << unit.options << '\1';
+            for (const Source &header : unit.headers) text << header.name << '\1' << header.text << '\1';
         }
-        for (const std::string &word : options_) hash.add(word);
-        char here[4096];
-        hash.add(getcwd(here, sizeof here) ? here : ""); // where included files are looked for
-        hash.add(state_of(own_path())), hash.add(state_of(own_folder() + "/instrument-kernels")), hash.add(state_of(builtins()));
-        if (!settings().kept_builds.empty()) kept_ = settings().kept_builds + "/" + hash.text();
+        for (const std::string &word : options_) text << word << '\1';
+        std::error_code ignored;
+        text << files::current_path(ignored); // where included files are looked for
+        for (const std::string &file : {own_path().string(), instrumenter(), builtins()}) text << state_of(file);
+        const std::hash<std::string> hash;
+        char name[34];
+        std::snprintf(name, sizeof name, "/%016zx%016zx", hash(text.str()), hash("second " + text.str()));
+        if (!settings().kept_builds.empty()) kept_ = settings().kept_builds + name;
     }
 
     std::shared_ptr<Program> program(std::string &error) {
@@ -209,7 +201,7 @@ private:
             link.insert(link.end(), parts.begin(), parts.end());
             if (!run(link, log)) return false;
         }
-        return run({own_folder() + "/instrument-kernels", whole, builtins(), file_ + ".out.bc", file_ + ".sites"}, log) &&
+        return run({instrumenter(), whole, builtins(), file_ + ".out.bc", file_ + ".sites"}, log) &&
                run({settings().clang, "-O2", "-w", std::string("-march=") + processor().name, "-fPIC", "-fstack-usage", "-c", file_ + ".out.bc", "-o", file_ + ".o"}, log) &&
                run({"ld", "-shared", file_ + ".o", own_path(), "-lm", "-o", file_ + ".so"}, log) && files::exists(file_ + ".so");
     }

@@ -92,7 +92,7 @@ size_t Mapping::place_buffer(std::vector<char> &value) {
 
 // All that the pointer's allocation has.
 size_t Mapping::place_pointer(std::vector<char> &value, Entry *entry) {
-    const auto [start, bytes] = registry().shared_at(value_of<char *>(value));
+    const auto [start, bytes] = shared_at(value_of<char *>(value));
     if (entry) entry->address = reinterpret_cast<uint64_t>(start ? start : value_of<char *>(value));
     return bytes;
 }
@@ -100,7 +100,7 @@ size_t Mapping::place_pointer(std::vector<char> &value, Entry *entry) {
 // Shared memory that a kernel reaches through pointers in memory.
 void Mapping::add_shared(const Launchable &launched, Request &request) {
     for (char *pointer : launched.more_pointers) {
-        const auto [start, bytes] = registry().shared_at(pointer);
+        const auto [start, bytes] = shared_at(pointer);
         if (!start) continue;
         Entry entry;
         entry.bytes = bytes;

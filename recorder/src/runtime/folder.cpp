@@ -1,4 +1,4 @@
-#include "folder.h"
+#include "launch.h"
 
 #include <cerrno>
 #include <cstring>

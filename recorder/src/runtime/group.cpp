@@ -86,8 +86,9 @@ std::unique_ptr<Group> Group::begin(Launch &launch, uint64_t number, Pool &pool,
 
 void Group::place_memory(Pool &pool) {
     const Request &request = launch->request;
-    memory = pool.take(launch->locals.bytes);
+    memory = pool.take(1, launch->locals.bytes, false);
     if (!memory) return;
+    std::memset(memory, 0, launch->locals.bytes);
     const LocalLayout layout = lay_out_locals(request.entries, reinterpret_cast<uint64_t>(memory));
     local_pointers.resize(request.arguments.size());
     for (const auto &value : request.arguments) arguments.push_back(const_cast<char *>(value.data()));
@@ -112,7 +113,7 @@ void Group::open_stream() {
     const uint32_t streamed = uint32_t(items.size()) + launch->request.kernel->has_copies;
     if (!stream.open(launch->request.folder + name, window, streamed, launch->request.number, launch->has_names, launch->written))
         launch->is_over = true;
-    if (launch->request.writes_places) places.resize(PLACES_ROOM);
+    if (settings().writes_places) places.resize(PLACES_ROOM);
 }
 
 void Group::begin_items(Pool &pool) {
@@ -123,7 +124,7 @@ void Group::begin_items(Pool &pool) {
         size[axis] = std::min(range.local[axis], range.global[axis] - at[axis] * range.local[axis]);
         count *= size[axis];
     }
-    stacks = pool.take_stacks(range.items_of_group(), launch->stack_bytes);
+    stacks = pool.take(range.items_of_group(), launch->stack_bytes, true);
     if (!stacks) return;
     items.resize(count);
     for (uint64_t each = 0; each < count; each++) {
@@ -158,7 +159,7 @@ void Group::begin_item(Item &item, uint64_t each, const uint64_t at[3], const ui
 
 // Where all items stand at barriers or have ended, they go on: a divergent barrier is what items do.
 bool Group::sweep() {
-    if (launch->written > launch->request.most_records) launch->is_over = true;
+    if (launch->written > settings().most_records) launch->is_over = true;
     for (size_t at = order.size(); at > 1; at--) std::swap(order[at - 1], order[random->below(uint32_t(at))]);
     size_t ended = 0, standing = 0;
     bool is_moved = false, is_idle = true;
@@ -197,8 +198,8 @@ void Group::close_files(bool cut) {
 void Group::end(Pool &pool) {
     close_files(false);
     for (Item &item : items) delete item.scratch;
-    pool.give(memory, launch->locals.bytes);
-    pool.give_stacks(stacks, launch->request.range.items_of_group(), launch->stack_bytes);
+    pool.give_back(memory);
+    pool.give_back(stacks);
 }
 
 } // namespace gpurace

@@ -1,7 +1,7 @@
 // What the instrumented code calls. Each call has the state of the work-item that makes it.
 #include "group.h"
-#include "printing.h"
 
+#include <cstdio>
 #include <cstring>
 
 namespace gpurace {
@@ -11,6 +11,9 @@ constexpr uint32_t IDLE_READS = 16;      // of one place, with nothing between, 
 constexpr uint32_t MOST_READS = 64;      // of them that are recorded
 constexpr uint32_t IDLE_ATOMICS = 2;
 constexpr size_t NAMES_OF_RECORD = 4;
+
+char printed[PRINT_ROOM]; // by all work-items, one after another
+std::mutex printing;
 
 Item &item_of(void *state) { return *static_cast<Item *>(state); }
 
@@ -227,12 +230,23 @@ HOOK void gr_count(void *state, uint32_t number) {
 
 HOOK void *gr_print(void *state) {
     settle(item_of(state));
-    return take_print_buffer();
+    printing.lock();
+    return printed;
 }
-HOOK void gr_printed(void *) { give_print_buffer(); }
+HOOK void gr_printed(void *) { printing.unlock(); }
 }
 
 namespace gpurace {
+
+void write_prints() {
+    uint32_t length;
+    std::memcpy(&length, printed, sizeof length);
+    if (length == 0) return;
+    std::fwrite(printed + 8, 1, length, stdout);
+    std::fflush(stdout);
+    std::memset(printed, 0, 8);
+}
+
 namespace {
 
 template <class Type, class Bits> Bits arithmetic(int operation, Bits old_bits, Bits value_bits) {

@@ -1,11 +1,7 @@
-#include "folder.h"
-#include "printing.h"
-#include "stopping.h"
-#include "worker.h"
+#include "group.h"
 
 #include <chrono>
 #include <numeric>
-#include <thread>
 
 namespace gpurace {
 namespace {
@@ -25,7 +21,7 @@ std::vector<uint64_t> addresses_of(const std::vector<Entry> &entries) {
 double seconds_now() { return std::chrono::duration<double>(std::chrono::steady_clock::now().time_since_epoch()).count(); }
 
 Launch::Launch(const Request &given)
-    : request(given), sites(given.program->sites.data()), has_names(given.kernel->has_names),
+    : request(given), seed(settings().seed + given.number * 1000003ull), sites(given.program->sites.data()), has_names(given.kernel->has_names),
       spans(spans_of(given.entries, addresses_of(given.entries), GLOBAL)), locals(lay_out_locals(given.entries, 0)), losses(given.program->sites.size()),
       is_cut(given.kept, true), stack_bytes(PAGE + (RUNTIME_BYTES + given.program->frame_bytes + PAGE - 1) / PAGE * PAGE) {
     uint32_t most = 0;
@@ -44,32 +40,12 @@ void Launch::fail(const std::string &error) {
 
 // Groups begin in their order, since some kernels count on that; a seed has neighbours change places.
 uint64_t Launch::group_at(uint64_t number) const {
-    if (!request.is_seeded) return number;
+    if (!settings().is_seeded) return number;
     const uint64_t block = number / SHUFFLED * SHUFFLED, count = std::min(SHUFFLED, request.range.group_count() - block);
-    Random random(request.seed + block);
+    Random random(seed + block);
     uint64_t step = 1 + random.below(uint32_t(count));
     while (std::gcd(step, count) != 1) step++;
     return block + (random.below(uint32_t(count)) + (number - block) * step) % count;
-}
-
-void Launch::abandon() {
-    for (Worker *worker : workers_) worker->close_files();
-}
-
-void Launch::run_workers() {
-    const uint64_t groups = request.range.group_count();
-    const unsigned count = unsigned(std::max<uint64_t>(1, std::min<uint64_t>(request.threads, groups)));
-    std::vector<std::unique_ptr<Worker>> workers;
-    for (unsigned at = 0; at < count; at++) {
-        workers.push_back(std::make_unique<Worker>(*this, request.seed + at));
-        workers_.push_back(workers.back().get());
-    }
-    const Watched watched(*this);
-    std::vector<std::thread> threads;
-    workers[0]->run([&] {
-        for (unsigned at = 1; at < count; at++) threads.emplace_back([&, at] { workers[at]->run(); });
-    });
-    for (std::thread &thread : threads) thread.join();
 }
 
 Result Launch::run() {

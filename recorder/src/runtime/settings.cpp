@@ -1,15 +1,11 @@
-#include "driver.h"
+#include "settings.h"
 
 #include <cstdio>
 #include <cstdlib>
-#include <dlfcn.h>
 #include <random>
 #include <thread>
 
 namespace gpurace {
-
-_cl_icd_dispatch driver;
-
 namespace {
 
 std::string variable(const char *name, const std::string &otherwise = "") {
@@ -76,25 +72,6 @@ const Settings &settings() {
 
 void say(const std::string &text) {
     if (!settings().is_quiet) std::fprintf(stderr, "gpurace-recorder: %s\n", text.c_str());
-}
-
-std::string own_path() {
-    Dl_info info;
-    dladdr(reinterpret_cast<void *>(&own_path), &info);
-    return info.dli_fname;
-}
-
-std::string own_folder() {
-    const std::string path = own_path();
-    return path.substr(0, path.rfind('/'));
-}
-
-std::string text_of(cl_device_id device, cl_device_info what) {
-    size_t size = 0;
-    if (driver.clGetDeviceInfo(device, what, 0, nullptr, &size) != CL_SUCCESS || size == 0) return "";
-    std::string text(size, 0);
-    driver.clGetDeviceInfo(device, what, size, text.data(), nullptr);
-    return text.c_str();
 }
 
 } // namespace gpurace

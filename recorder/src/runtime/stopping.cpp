@@ -1,6 +1,4 @@
-#include "stopping.h"
-
-#include "folder.h"
+#include "launch.h"
 
 #include <chrono>
 #include <cstdio>
@@ -89,7 +87,7 @@ Watched::Watched(Launch &launch) {
     }
     own.launch = &launch;
     own.number++;
-    own.end = launch.request.timeout > 0 ? seconds_now() + launch.request.timeout : 0;
+    own.end = settings().timeout > 0 ? seconds_now() + settings().timeout : 0;
 }
 
 Watched::~Watched() {

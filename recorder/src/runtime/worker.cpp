@@ -1,9 +1,31 @@
-#include "worker.h"
+#include "group.h"
+
+#include <functional>
+#include <thread>
 
 namespace gpurace {
 namespace {
 constexpr double SMALL_LAUNCH = 0.0003; // seconds
 }
+
+// A thread of a launch: it begins groups and runs them. Where all of its groups wait for what others do, it begins another one, so that
+// groups that wait for each other go on whatever their number.
+class Worker {
+public:
+    Worker(Launch &launch, uint64_t seed) : launch_(launch), random_(seed) {}
+    // `begin_helpers` is called once, when the launch has taken some time: threads would cost a small one more than they do for it.
+    void run(std::function<void()> begin_helpers = nullptr);
+    void close_files(); // of the groups that have not ended
+
+private:
+    Launch &launch_;
+    Random random_;
+    Pool pool_;
+    std::vector<std::unique_ptr<Group>> resident_;
+
+    bool begin_group();
+    bool run_resident();
+};
 
 // Whether there was one to begin.
 bool Worker::begin_group() {
@@ -35,7 +57,7 @@ bool Worker::run_resident() {
 
 void Worker::run(std::function<void()> begin_helpers) {
     const double start = seconds_now();
-    const size_t usual = launch_.request.threads == 1 ? 2 : 1; // so that items of different groups meet
+    const size_t usual = settings().threads == 1 ? 2 : 1; // so that items of different groups meet
     while (!launch_.is_stopped) {
         while (resident_.size() < usual && begin_group()) {}
         if (resident_.empty()) return;
@@ -49,6 +71,26 @@ void Worker::run(std::function<void()> begin_helpers) {
 
 void Worker::close_files() {
     for (const auto &group : resident_) group->close_files(true);
+}
+
+void Launch::abandon() {
+    for (Worker *worker : workers_) worker->close_files();
+}
+
+void Launch::run_workers() {
+    const uint64_t groups = request.range.group_count();
+    const unsigned count = unsigned(std::max<uint64_t>(1, std::min<uint64_t>(settings().threads, groups)));
+    std::vector<std::unique_ptr<Worker>> workers;
+    for (unsigned at = 0; at < count; at++) {
+        workers.push_back(std::make_unique<Worker>(*this, seed + at));
+        workers_.push_back(workers.back().get());
+    }
+    const Watched watched(*this);
+    std::vector<std::thread> threads;
+    workers[0]->run([&] {
+        for (unsigned at = 1; at < count; at++) threads.emplace_back([&, at] { workers[at]->run(); });
+    });
+    for (std::thread &thread : threads) thread.join();
 }
 
 } // namespace gpurace
