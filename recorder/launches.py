@@ -7,7 +7,7 @@ import subprocess
 import sys
 
 sys.path.insert(0, os.path.join(os.path.dirname(os.path.realpath(__file__)), "..", "tools", "recorder"))
-from findings import findings  # noqa: E402
+from findings import findings, source_line  # noqa: E402
 
 FOUND, INCOMPLETE = 1, 2
 HEADER = struct.Struct("<4sHHI")
@@ -98,26 +98,21 @@ def out_of_bounds(info, folder):
     return told
 
 
-def source_line(folder, place):
-    file, _, at = place.partition(":")
-    path, line = os.path.join(folder, file), at.split(":")[0]
-    if "/" in file or not line.isdigit() or not os.path.exists(path):
-        return ""
-    with open(path, errors="replace") as text:
-        lines = text.read().split("\n")
-    return lines[int(line) - 1].strip()[:160] if 0 < int(line) <= len(lines) else ""
-
-
 def losses(info):
     """What the report on the launch does not speak of."""
+    for key, text in (("fences-not-recorded", "fences not recorded, so that an order that they give is not seen"),
+                      ("out-of-bounds-not-recorded", "accesses out of bounds, not recorded"),
+                      ("orders-not-known", "atomics whose order is not known, taken as relaxed"),
+                      ("names-outside-window", "hand-overs from groups outside the window, not recorded")):
+        number, _, place = info[key][0].partition(" ") if info[key] else ("0", "", "")
+        if number != "0":
+            yield f"{text}: {number}" + (f", the first at {place}" if place else "")
     for key, text in (("fence", "fences not recorded, so that an order that they give is not seen"),
                       ("image", "accesses of images, which are not judged")):
         places = [line.split(" ", 1) for line in info[key]]
         if places:
             where = ", ".join(place for _, place in places[:MOST_PLACES]) + (", .." if len(places) > MOST_PLACES else "")
             yield f"{text}: {sum(int(number) for number, _ in places)}, at {where}"
-    if info["names-outside-window"] and info["names-outside-window"][0] != "0":
-        yield f"hand-overs from groups outside the window, not recorded: {info['names-outside-window'][0]}"
     for text in info["note"]:
         yield f"not recorded: {text}"
     if info["places-cut"]:

@@ -203,11 +203,15 @@ CallInst *Rewriter::call_runtime(IRBuilder<> &builder, StringRef name, Type *res
     return builder.CreateCall(module_.getOrInsertFunction(name, FunctionType::get(result, types, false)), values);
 }
 
-std::vector<CallInst *> Rewriter::calls_of(function_ref<bool(StringRef)> is_wanted) {
-    std::vector<CallInst *> calls;
-    for (Instruction &instruction : instructions(*function_))
-        if (auto *call = dyn_cast<CallInst>(&instruction); call && is_wanted(name_of(*call))) calls.push_back(call);
-    return calls;
+// Puts what `make` makes in the place of the calls that are wanted.
+void Rewriter::replace_calls(function_ref<bool(StringRef)> is_wanted, function_ref<Value *(IRBuilder<> &, CallInst &)> make) {
+    for (Instruction &instruction : make_early_inc_range(instructions(*function_))) {
+        auto *call = dyn_cast<CallInst>(&instruction);
+        if (!call || !is_wanted(name_of(*call))) continue;
+        IRBuilder<> builder(call);
+        call->replaceAllUsesWith(make(builder, *call));
+        call->eraseFromParent();
+    }
 }
 
 // The instruction uses the address that the runtime answers.
@@ -299,48 +303,42 @@ void Rewriter::put_count(CallInst &call, SiteKind kind) {
 
 // get_local_id(..) and the others are words of the item's state.
 void Rewriter::put_numbers() {
-    for (CallInst *call : calls_of([](StringRef name) { return number_row_of(name) >= 0; })) {
-        IRBuilder<> builder(call);
-        const StringRef name = name_of(*call);
-        Value *index = builder.getInt64(uint64_t(number_row_of(name)) * DIMENSIONS);
-        if (call->arg_size() == 1) {
-            Value *dimension = builder.CreateZExtOrTrunc(call->getArgOperand(0), builder.getInt64Ty()), *last = builder.getInt64(DIMENSIONS - 1);
-            index = builder.CreateAdd(index, builder.CreateSelect(builder.CreateICmpULT(dimension, last), dimension, last));
-        } else {
-            const unsigned word = name == "get_work_dim" ? WORK_DIM : name == "get_local_linear_id" ? LOCAL_LINEAR_ID : GLOBAL_LINEAR_ID;
-            index = builder.getInt64(LINEAR * DIMENSIONS + word);
+    const auto is_number = [](StringRef name) { return number_row_of(name) >= 0; };
+    replace_calls(is_number, [&](IRBuilder<> &builder, CallInst &call) {
+        const StringRef name = name_of(call);
+        const unsigned word = name == "get_work_dim" ? WORK_DIM : name == "get_local_linear_id" ? LOCAL_LINEAR_ID : GLOBAL_LINEAR_ID;
+        Value *column = builder.getInt64(word);
+        if (call.arg_size() == 1) {
+            Value *dimension = builder.CreateZExtOrTrunc(call.getArgOperand(0), builder.getInt64Ty());
+            Value *last = builder.getInt64(DIMENSIONS - 1);
+            column = builder.CreateSelect(builder.CreateICmpULT(dimension, last), dimension, last);
         }
+        Value *index = builder.CreateAdd(builder.getInt64(uint64_t(number_row_of(name)) * DIMENSIONS), column);
         Value *words = builder.CreateBitCast(item_, builder.getInt64Ty()->getPointerTo());
         Value *value = builder.CreateLoad(builder.getInt64Ty(), builder.CreateGEP(builder.getInt64Ty(), words, index));
-        call->replaceAllUsesWith(builder.CreateZExtOrTrunc(value, call->getType()));
-        call->eraseFromParent();
-    }
+        return builder.CreateZExtOrTrunc(value, call.getType());
+    });
 }
 
 // A printf is what pocl's own passes make of it: a function that writes into a buffer.
 void Rewriter::put_prints() {
-    for (CallInst *call : calls_of([](StringRef name) { return name == "printf"; })) {
-        IRBuilder<> builder(call);
+    replace_calls([](StringRef name) { return name == "printf"; }, [&](IRBuilder<> &builder, CallInst &call) {
         Type *bytes = builder.getInt8PtrTy();
         Value *buffer = call_runtime(builder, "gr_print", bytes, {});
         auto *type = FunctionType::get(builder.getInt32Ty(), {bytes, bytes, builder.getInt32Ty(), bytes}, true);
         std::vector<Value *> values = {builder.CreateConstGEP1_32(builder.getInt8Ty(), buffer, 8), buffer, builder.getInt32(PRINT_ROOM - 8)};
-        for (Value *value : call->args()) values.push_back(value);
+        values.insert(values.end(), call.arg_begin(), call.arg_end());
         values[3] = plain(builder, values[3]);
         Value *result = builder.CreateCall(module_.getOrInsertFunction("__pocl_printf", type), values);
         call_runtime(builder, "gr_printed", builder.getVoidTy(), {});
-        call->replaceAllUsesWith(result);
-        call->eraseFromParent();
-    }
+        return result;
+    });
 }
 
 // A sampler is its CLK_.. bits.
 void Rewriter::put_samplers() {
-    for (CallInst *call : calls_of([](StringRef name) { return name == "__translate_sampler_initializer"; })) {
-        IRBuilder<> builder(call);
-        call->replaceAllUsesWith(builder.CreateIntToPtr(call->getArgOperand(0), call->getType()));
-        call->eraseFromParent();
-    }
+    replace_calls([](StringRef name) { return name == "__translate_sampler_initializer"; },
+                  [](IRBuilder<> &builder, CallInst &call) { return builder.CreateIntToPtr(call.getArgOperand(0), call.getType()); });
 }
 
 } // namespace gpurace

@@ -49,7 +49,8 @@ private:
 
     unsigned site(const llvm::Instruction &at, SiteKind kind, const llvm::Value *pointer, uint64_t bytes);
     llvm::CallInst *call_runtime(llvm::IRBuilder<> &builder, llvm::StringRef name, llvm::Type *result, std::vector<llvm::Value *> values);
-    std::vector<llvm::CallInst *> calls_of(llvm::function_ref<bool(llvm::StringRef)> is_wanted);
+    void replace_calls(llvm::function_ref<bool(llvm::StringRef)> is_wanted,
+                       llvm::function_ref<llvm::Value *(llvm::IRBuilder<> &, llvm::CallInst &)> make);
 };
 
 } // namespace gpurace

@@ -1,4 +1,4 @@
-#include "build.h"
+#include "registry.h"
 
 #include <cstring>
 #include <dlfcn.h>
@@ -189,20 +189,14 @@ private:
     static std::string name_of(size_t unit) { return unit == 0 ? "kernel.cl" : "kernel-" + std::to_string(unit + 1) + ".cl"; }
 
     bool compile(const std::string &folder) {
-        const std::string log = file_ + ".log", whole = file_ + ".bc";
-        Words parts;
+        const std::string log = file_ + ".log", march = std::string("-march=") + processor().name;
+        Words instrument = {instrumenter(), builtins(), file_ + ".out.bc", file_ + ".sites"};
         for (size_t at = 0; at < units_.size(); at++) {
-            parts.push_back(folder + "/unit" + std::to_string(at) + ".bc");
-            if (!compile_unit(folder, at, parts.back(), log)) return false;
+            instrument.push_back(folder + "/unit" + std::to_string(at) + ".bc");
+            if (!compile_unit(folder, at, instrument.back(), log)) return false;
         }
-        if (parts.size() == 1) files::rename(parts[0], whole);
-        else {
-            Words link = {settings().link, "-opaque-pointers=0", "-o", whole};
-            link.insert(link.end(), parts.begin(), parts.end());
-            if (!run(link, log)) return false;
-        }
-        return run({instrumenter(), whole, builtins(), file_ + ".out.bc", file_ + ".sites"}, log) &&
-               run({settings().clang, "-O2", "-w", std::string("-march=") + processor().name, "-fPIC", "-fstack-usage", "-c", file_ + ".out.bc", "-o", file_ + ".o"}, log) &&
+        return run(instrument, log) &&
+               run({settings().clang, "-O2", "-w", march, "-fPIC", "-fstack-usage", "-c", file_ + ".out.bc", "-o", file_ + ".o"}, log) &&
                run({"ld", "-shared", file_ + ".o", own_path(), "-lm", "-o", file_ + ".so"}, log) && files::exists(file_ + ".so");
     }
 

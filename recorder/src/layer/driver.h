@@ -10,6 +10,10 @@ namespace gpurace {
 
 extern _cl_icd_dispatch driver; // the calls that the program's own go on to
 
+// Give a layer's calls that make programs, kernels and shared memory, and those that launch kernels, their own parts.
+void take_over_handles(_cl_icd_dispatch &layer);
+void take_over_launches(_cl_icd_dispatch &layer);
+
 std::string text_of(cl_device_id device, cl_device_info what);
 
 template <class Value> Value info_of(cl_device_id device, cl_device_info what) {

@@ -1,8 +1,6 @@
 // A layer of the OpenCL loader (OPENCL_LAYERS): the calls of the program that it has an own part in. All others go to the driver, and
 // so do the program's handles.
 #include "driver.h"
-#include "launches.h"
-#include "registry.h"
 
 #include <algorithm>
 #include <cstring>
@@ -35,26 +33,6 @@ cl_mem CL_API_CALL create_sub_buffer(cl_mem buffer, cl_mem_flags flags, cl_buffe
 }
 cl_mem CL_API_CALL create_image(cl_context context, cl_mem_flags flags, const cl_image_format *format, const cl_image_desc *shape, void *host, cl_int *error) {
     return driver.clCreateImage(context, mappable(flags), format, shape, host, error);
-}
-
-cl_event CL_API_CALL create_user_event(cl_context context, cl_int *error) {
-    const cl_event event = driver.clCreateUserEvent(context, error);
-    if (event) count_user_event(event);
-    return event;
-}
-cl_int CL_API_CALL set_user_event(cl_event event, cl_int status) {
-    const cl_int error = driver.clSetUserEventStatus(event, status);
-    forget_user_event(event);
-    return error;
-}
-
-cl_int CL_API_CALL enqueue_range(cl_command_queue queue, cl_kernel kernel, cl_uint dimensions, const size_t *offset, const size_t *global, const size_t *local,
-                                 cl_uint count, const cl_event *before, cl_event *event) {
-    return enqueue({queue, kernel, dimensions, offset, global, local, count, before, event});
-}
-cl_int CL_API_CALL enqueue_task(cl_command_queue queue, cl_kernel kernel, cl_uint count, const cl_event *before, cl_event *event) {
-    const size_t one = 1;
-    return enqueue({queue, kernel, 1, nullptr, &one, &one, count, before, event});
 }
 
 // The device says that its groups are of the size that a trace has room for. Programs choose other kernels for a GPU: where it is
@@ -99,13 +77,10 @@ SEEN CL_API_ENTRY cl_int CL_API_CALL clInitLayer(cl_uint count, const cl_icd_dis
     settings(); // a wrong one is said before the program does anything
     layer = driver;
     take_over_handles(layer);
+    take_over_launches(layer);
     layer.clCreateBuffer = create_buffer;
     layer.clCreateSubBuffer = create_sub_buffer;
     layer.clCreateImage = create_image;
-    layer.clCreateUserEvent = create_user_event;
-    layer.clSetUserEventStatus = set_user_event;
-    layer.clEnqueueNDRangeKernel = enqueue_range;
-    layer.clEnqueueTask = enqueue_task;
     layer.clGetDeviceInfo = device_info;
     layer.clGetKernelWorkGroupInfo = group_info;
     *made_count = sizeof layer / sizeof(void *);

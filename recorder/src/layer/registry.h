@@ -2,12 +2,22 @@
 #ifndef GPURACE_REGISTRY_H
 #define GPURACE_REGISTRY_H
 
-#include "build.h"
+#include "../runtime/program.h"
+#include "driver.h"
 
-#include <map>
+#include <memory>
 #include <set>
 
 namespace gpurace {
+
+// A text that is compiled by itself, as clBuildProgram and clCompileProgram do.
+struct Unit {
+    std::string source, options;
+    std::vector<Source> headers; // those that clCompileProgram was given
+};
+// Compiles the text of a program for the host, instrumented, and loads it. What was built is kept, by the hash of all that went into
+// it. Null where it could not be built; `error` then says why.
+std::shared_ptr<Program> build(const std::vector<Unit> &units, cl_device_id device, std::string &error);
 
 // A kernel and the arguments that it has. Without an instrumented program it runs on the driver, for `reason`.
 struct Launchable {
@@ -26,9 +36,6 @@ std::string name_of(cl_kernel kernel);
 
 // The allocation of shared virtual memory that a pointer points into: its start and its bytes, or zeros.
 std::pair<char *, size_t> shared_at(char *pointer);
-
-// Has the calls of a layer that make programs, kernels and shared memory note them.
-void take_over_handles(_cl_icd_dispatch &layer);
 
 } // namespace gpurace
 #endif

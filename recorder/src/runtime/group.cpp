@@ -1,5 +1,6 @@
 #include "group.h"
 
+#include <charconv>
 #include <cstring>
 
 namespace gpurace {
@@ -10,11 +11,7 @@ constexpr uint32_t MOST_STILL = 16;                   // sweeps, after which a g
 constexpr size_t PLACES_ROOM = 1 << 16, PLACE_NUMBERS = 40;
 
 char *append(char *at, uint32_t number) {
-    char digits[10];
-    int count = 0;
-    do digits[count++] = char('0' + number % 10);
-    while (number /= 10);
-    while (count) *at++ = digits[--count];
+    at = std::to_chars(at, at + 10, number).ptr;
     *at++ = ' ';
     return at;
 }

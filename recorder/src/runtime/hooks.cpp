@@ -249,34 +249,30 @@ void write_prints() {
 
 namespace {
 
-template <class Type, class Bits> Bits arithmetic(int operation, Bits old_bits, Bits value_bits) {
+template <class Type> uint64_t computed(int operation, uint64_t old_bits, uint64_t value_bits) {
     Type old, value;
     std::memcpy(&old, &old_bits, sizeof old);
     std::memcpy(&value, &value_bits, sizeof value);
     const Type made = operation == OP_ADD ? Type(old + value) : operation == OP_SUBTRACT ? Type(old - value)
                       : operation == OP_MINIMUM ? std::min(old, value) : std::max(old, value);
-    Bits bits;
-    std::memcpy(&bits, &made, sizeof bits);
+    uint64_t bits = 0;
+    std::memcpy(&bits, &made, sizeof made);
     return bits;
 }
 
-uint32_t typed(int operation, char type, uint32_t old, uint32_t value) {
-    return type == 'f' ? arithmetic<float>(operation, old, value) : type == 'i' ? arithmetic<int32_t>(operation, old, value)
-                                                                               : arithmetic<uint32_t>(operation, old, value);
-}
-uint64_t typed(int operation, char type, uint64_t old, uint64_t value) {
-    return type == 'd' ? arithmetic<double>(operation, old, value) : type == 'l' ? arithmetic<int64_t>(operation, old, value)
-                                                                                : arithmetic<uint64_t>(operation, old, value);
-}
-
-// What an operation makes of a word.
-template <class Bits> Bits made_of(int operation, char type, Bits old, Bits value) {
-    switch (operation) {
-    case OP_COMPARE: case OP_STORE: case OP_EXCHANGE: return value;
-    case OP_AND: return old & value;
-    case OP_OR: return old | value;
-    case OP_XOR: return old ^ value;
-    default: return typed(operation, type, old, value);
+// What an operation makes of a word, whose type is known by its letter.
+uint64_t made_of(int operation, char type, uint64_t old, uint64_t value) {
+    if (operation == OP_AND) return old & value;
+    if (operation == OP_OR) return old | value;
+    if (operation == OP_XOR) return old ^ value;
+    if (operation == OP_COMPARE || operation == OP_STORE || operation == OP_EXCHANGE) return value;
+    switch (type) {
+    case 'f': return computed<float>(operation, old, value);
+    case 'd': return computed<double>(operation, old, value);
+    case 'i': return computed<int32_t>(operation, old, value);
+    case 'l': return computed<int64_t>(operation, old, value);
+    case 'm': return computed<uint64_t>(operation, old, value);
+    default: return computed<uint32_t>(operation, old, value);
     }
 }
 
@@ -291,7 +287,7 @@ template <class Bits> Done perform(uint32_t what, void *pointer, Bits value, Bit
     do {
         if (operation == OP_LOAD) return {old, false, false};
         if (operation == OP_COMPARE && old != compare) return {old, false, true};
-        made = made_of(operation, char(what >> 8), old, value);
+        made = Bits(made_of(operation, char(what >> 8), old, value));
     } while (!__atomic_compare_exchange_n(word, &old, made, false, __ATOMIC_SEQ_CST, __ATOMIC_SEQ_CST));
     return {old, old != made, false};
 }

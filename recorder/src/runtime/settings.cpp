@@ -46,7 +46,6 @@ Settings read() {
     made.build_options = variable("GPURACE_BUILD_OPTIONS");
     made.builtins = variable("GPURACE_BUILTINS", "/usr/share/pocl");
     made.clang = variable("GPURACE_CLANG", "clang-15");
-    made.link = variable("GPURACE_LLVM_LINK", "llvm-link-15");
     made.kept_builds = variable("GPURACE_KEPT_BUILDS");
     made.most_items = number("GPURACE_ITEMS", made.most_items);
     made.most_records = number("GPURACE_MOST_RECORDS", made.most_records);

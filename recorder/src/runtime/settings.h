@@ -8,7 +8,7 @@
 namespace gpurace {
 
 struct Settings {
-    std::string out, kernel, build_options, builtins, clang, link, kept_builds;
+    std::string out, kernel, build_options, builtins, clang, kept_builds;
     long launch = -1;
     uint64_t first = 0, count = 64, most_items = 256, most_records = UINT64_MAX, seed = 0, most_pending = 1ull << 30;
     unsigned threads = 1;
