@@ -52,7 +52,8 @@ std::string place_of(const Group &group, const Site &site, uint64_t address) {
     const std::string size = " of " + near->name + ", which has " + count_of(near->bytes);
     if (address < near->address) return count_of(near->address - address) + " before the start" + size;
     const uint64_t end = near->address + near->bytes;
-    return address < end ? "partly behind the end" + size : count_of(address - end) + " behind the end" + size;
+    if (address < end) return "partly behind the end" + size;
+    return (address > end ? count_of(address - end) : "right") + " behind the end" + size;
 }
 
 void note_outside(Group &group, uint32_t item, uint32_t number, const Site &site, uint64_t address) {
