@@ -39,7 +39,7 @@ def streams_of(folder):
 class Launch:
     """A launch that gpurace has judged: its status, and the lines that say what was found."""
 
-    def __init__(self, program, folder, is_kept, is_window_wanted):
+    def __init__(self, program, folder, is_kept, is_window_wanted, piped=None):
         self.info = info_of(folder)
         self.folder, self.is_kept = folder, is_kept
         self.number = self.info["launch"][0] if self.info["launch"] else "?"
@@ -49,10 +49,10 @@ class Launch:
             self.status, self.found = INCOMPLETE, "not recorded: " + (self.info["not-recorded"] or ["the folder is not whole"])[0]
             self.size = ""
             return
-        self.judge(program, is_window_wanted)
+        self.judge(program, is_window_wanted, piped)
 
-    def judge(self, program, is_window_wanted):
-        status, self.report, self.told = replayed(program, self.folder)
+    def judge(self, program, is_window_wanted, piped):
+        status, self.report, self.told = self.read_pipes(program, piped) if piped else replayed(program, self.folder)
         self.told = out_of_bounds(self.info, self.folder) + self.told
         self.status = FOUND if self.info["out-of-bounds"] and status == 0 else status if status in (0, FOUND) else INCOMPLETE
         self.found = {0: "nothing found", FOUND: "FOUND"}.get(self.status, "the trace was refused")
@@ -65,6 +65,19 @@ class Launch:
         self.size = f" ({count(groups, 'group')} of {count(x * y * z, 'work-item')}, {self.info['records'][0]} records)"
         self.told += [f"note: {loss}" for loss in losses(self.info)]
 
+    def read_pipes(self, program, piped):
+        """As `replayed`, of a launch that was judged while it was recorded. What is found is told by what stands in files."""
+        status, report = piped.finish()
+        end_files(self.folder, self.info)
+        if status == 0:
+            return status, report, []
+        in_files = replayed(program, self.folder)
+        if status != FOUND:  # not all has come
+            self.info["cut"].append("")
+            return in_files
+        told = [line for line in in_files[2] if not line.startswith("records of ")] or report[2:2 + MOST_PLACES]
+        return status, report, told + ["note: its first records are told of, since it has more than are kept; --keep DIR keeps all"]
+
     def lines(self, told_of):
         """What is said of the launch. What was told of an earlier launch is not told again."""
         head = f"launch {self.number}, {self.kernel}" if self.kernel else os.path.basename(self.folder)
@@ -74,6 +87,36 @@ class Launch:
         first = told_of.setdefault((self.kernel, *self.told), self.number)
         for line in self.told if first == self.number else [f"the same as in launch {first}"] if self.told else []:
             yield f"    {line}"
+
+
+class Piped:
+    """gpurace reads the streams of a launch while it is recorded: of each group its file, and then what comes through its pipe."""
+
+    def __init__(self, program, folder):
+        self.folder, streams = folder, streams_of(folder)
+        streams += [pipe[:-5] for pipe in self.pipes() if pipe[:-5] not in streams]
+        reads = [subprocess.Popen(["cat", *filter(os.path.exists, (stream, stream + ".pipe"))], stdout=subprocess.PIPE,
+                                  stderr=subprocess.DEVNULL, start_new_session=True) for stream in streams]  # Ctrl-C is not theirs
+        files = [read.stdout.fileno() for read in reads]
+        words = [program, "run", "--capacity", "65536", "--queues", "4", *(f"/dev/fd/{file}" for file in files)]
+        self.run = subprocess.Popen(words, pass_fds=files, stdout=subprocess.PIPE, stderr=subprocess.DEVNULL, start_new_session=True)
+        self.reads = reads
+        for read in reads:
+            read.stdout.close()
+
+    def pipes(self):
+        return sorted(glob.glob(os.path.join(glob.escape(self.folder), "*.pipe")))
+
+    def finish(self):
+        """The launch is over: the status and the lines of its report. Pipes that nobody has written to end, too."""
+        for pipe in self.pipes():
+            file = os.open(pipe, os.O_RDWR | os.O_NONBLOCK)  # who waits for a writer has had one
+            os.unlink(pipe)
+            os.close(file)
+        report = self.run.communicate()[0].decode().splitlines()
+        for read in self.reads:
+            read.wait()
+        return self.run.returncode, report
 
 
 def replayed(program, folder):
@@ -127,12 +170,8 @@ def end_streams(folder):
     begun = info_of(folder, "begun.txt")
     if not begun["kernel"]:
         return False
-    groups = int(begun["groups"][0])
-    kept = int(begun["window"][0].split()[1]) if begun["window"] else groups
-    x, y, z = map(int, begun["local"][0].split())
-    items, launch = x * y * z + (1 if begun["copying-item"] else 0), int(begun["launch"][0])
     try:
-        records = sum(end_stream(os.path.join(folder, f"group{group:02}.gpurace"), group, items, launch) for group in range(kept))
+        kept, items, records = end_files(folder, begun)
         end_lines(os.path.join(folder, "places"))
         with open(os.path.join(folder, "begun.txt")) as text:
             lines = text.read()
@@ -143,6 +182,15 @@ def end_streams(folder):
         return False
     os.remove(os.path.join(folder, "begun.txt"))
     return True
+
+
+def end_files(folder, info):
+    """Ends the streams that have no end; answers how many groups and items of each there are, and how many records."""
+    groups = int(info["groups"][0])
+    kept = int(info["window"][0].split()[1]) if info["window"] else groups
+    x, y, z = map(int, info["local"][0].split())
+    items, launch = x * y * z + (1 if info["copying-item"] else 0), int(info["launch"][0])
+    return kept, items, sum(end_stream(os.path.join(folder, f"group{group:02}.gpurace"), group, items, launch) for group in range(kept))
 
 
 def end_stream(path, group, items, launch):

@@ -2,9 +2,8 @@
 //
 // usage: instrument-kernels BUILTINS.bc OUT.bc SITES KERNELS.bc..
 //
-// Several modules are linked. rewriter.h says what stands in SITES.
+// Several modules are linked. rewriter.cpp says what stands in SITES.
 #include "module.h"
-#include "rewriter.h"
 
 #include "llvm/Bitcode/BitcodeWriter.h"
 #include "llvm/IR/Verifier.h"
@@ -38,7 +37,7 @@ int main(int count, char **words) {
     for (Function &function : *module)
         if (gpurace::is_kernel(function)) kernels.push_back(&function);
     unsigned next_site = 0;
-    for (Function *kernel : kernels) gpurace::Rewriter(*kernel, sites, next_site).rewrite();
+    for (Function *kernel : kernels) gpurace::instrument_kernel(*kernel, sites, next_site);
     gpurace::strip(*module);
     if (verifyModule(*module, &errs())) return FAILED;
     const std::unique_ptr<Module> linked = gpurace::link_for_host(*module, words[1], host_context);

@@ -1,6 +1,6 @@
 #include "module.h"
 
-#include "builtins.h"
+#include "accesses.h"
 
 #include "llvm/AsmParser/Parser.h"
 #include "llvm/IR/DebugInfo.h"

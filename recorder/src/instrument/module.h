@@ -3,6 +3,7 @@
 #define GPURACE_MODULE_H
 
 #include "llvm/IR/Module.h"
+#include "llvm/Support/raw_ostream.h"
 
 #include <memory>
 
@@ -14,6 +15,9 @@ inline bool is_kernel(const llvm::Function &function) {
 
 // The functions that the host calls are named so, with the kernel's name behind it.
 constexpr const char RUN_PREFIX[] = "gr_run_";
+
+// Instruments a kernel, and writes what the numbers of its sites mean (rewriter.cpp).
+void instrument_kernel(llvm::Function &kernel, llvm::raw_ostream &sites, unsigned &next_site);
 
 // Inlines all calls of a module's own functions, and promotes private variables. A kernel that another one calls is then there
 // twice: as what is launched, and within the other.

@@ -1,6 +1,6 @@
 // A layer of the OpenCL loader (OPENCL_LAYERS): the calls of the program that it has an own part in. All others go to the driver, and
 // so do the program's handles.
-#include "driver.h"
+#include "layer.h"
 
 #include <algorithm>
 #include <cstring>

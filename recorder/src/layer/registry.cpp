@@ -1,4 +1,4 @@
-#include "registry.h"
+#include "layer.h"
 
 #include <cstring>
 #include <mutex>

@@ -44,12 +44,12 @@ void settle(Item &item) {
 }
 
 void Group::put(uint32_t item, uint32_t &index, const Site &site, uint64_t head, uint32_t word, const Name *names, size_t count) {
-    if (stream.is_full()) { // who acquires from what is lost must not be recorded either
+    if (stream->is_full()) { // who acquires from what is lost must not be recorded either
         launch->is_over = true;
         is_cut = true;
         return;
     }
-    stream.put(head, word, names, count);
+    stream->put(head, word, names, count);
     const uint32_t number = index++;
     if (places.empty() || (head & 0xff) >= BARRIER) return;
     if (places_used + PLACE_NUMBERS + site.place.size() > places.size()) flush_places();
@@ -61,7 +61,7 @@ void Group::put(uint32_t item, uint32_t &index, const Site &site, uint64_t head,
 }
 
 void Group::flush_places() {
-    launch->places.append(places.data(), places_used);
+    if (!launch->pipes.are_open) launch->places.append(places.data(), places_used);
     places_used = 0;
 }
 
@@ -105,11 +105,9 @@ void Group::place_memory(Pool &pool) {
 }
 
 void Group::open_stream() {
-    char name[32];
-    std::snprintf(name, sizeof name, "/group%02u.gpurace", window);
     const uint32_t streamed = uint32_t(items.size()) + launch->request.kernel->has_copies;
-    if (!stream.open(launch->request.folder + name, window, streamed, launch->request.number, launch->has_names, launch->written))
-        launch->is_over = true;
+    stream.emplace(stream_path(launch->request.folder, window), window, launch->pipes);
+    if (!stream->open(streamed, launch->request.number, launch->has_names, launch->written)) launch->is_over = true;
     if (settings().writes_places) places.resize(PLACES_ROOM);
 }
 
@@ -157,6 +155,7 @@ void Group::begin_item(Item &item, uint64_t each, const uint64_t at[3], const ui
 // Where all items stand at barriers or have ended, they go on: a divergent barrier is what items do.
 bool Group::sweep() {
     if (launch->written > settings().most_records) launch->is_over = true;
+    if (launch->written > settings().most_pending && !launch->pipes.are_open) launch->pipes.open(launch->request.folder);
     for (size_t at = order.size(); at > 1; at--) std::swap(order[at - 1], order[random->below(uint32_t(at))]);
     size_t ended = 0, standing = 0;
     bool is_moved = false, is_idle = true;
@@ -186,10 +185,10 @@ bool Group::sweep() {
 
 void Group::close_files(bool cut) {
     if (!is_recorded) return;
-    stream.close(cut || is_cut);
+    stream->close(cut || is_cut);
     flush_places();
-    launch->records += stream.records();
-    launch->is_cut[window] = cut || is_cut || stream.error() != 0;
+    launch->records += stream->records();
+    launch->is_cut[window] = cut || is_cut || stream->error() != 0;
 }
 
 void Group::end(Pool &pool) {

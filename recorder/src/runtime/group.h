@@ -5,6 +5,8 @@
 #include "fiber.h"
 #include "launch.h"
 
+#include <optional>
+
 namespace gpurace {
 
 class Random { // xorshift64*
@@ -75,7 +77,7 @@ struct Group {
     std::vector<void *> arguments;
     std::vector<uint64_t> local_pointers;
     uint8_t *memory = nullptr, *stacks = nullptr;
-    Stream stream;
+    std::optional<Stream> stream;             // of a group that is recorded
     std::vector<char> places;
     size_t places_used = 0;
     uint32_t copier_records = 0;

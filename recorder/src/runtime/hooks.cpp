@@ -331,26 +331,15 @@ void drop_unrecorded(Launch &launch, Names &names) {
     names.erase(kept, names.end());
 }
 
-bool are_same(const Names &one, const Names &other) {
-    return one.size() == other.size() && std::equal(one.begin(), one.end(), other.begin(), [](const Name &a, const Name &b) { return a.is_same(b); });
-}
-
 // An item that spins says nothing new: it took no new name, changed nothing, and did nothing else meanwhile.
 bool is_news(Item &item, bool is_again, const AtomicRecord &record) {
     Names &last = item.own_scratch().last_names;
-    if (is_again && !releases(record.order) && are_same(last, record.names)) {
+    if (is_again && !releases(record.order) && last == record.names) {
         item.group->launch->losses.repeated.fetch_add(1, std::memory_order_relaxed);
         return false;
     }
     last = record.names;
     return true;
-}
-
-template <class Body> auto with_stripe(Launch &launch, uint64_t address, bool is_named, Body body) {
-    Stripe &stripe = launch.sequences.stripe_of(address);
-    if (!is_named) return body(stripe);
-    const Held held(stripe);
-    return body(stripe);
 }
 
 } // namespace
@@ -370,18 +359,20 @@ extern "C" HOOK uint64_t gr_atomic(void *state, uint32_t number, uint32_t what, 
     if (!span && site.space != GENERIC) return note_outside(group, item.number, number, site, address), 0;
     record.scope = record.space == LOCAL || (how >> 16 & 255) == 1 ? GROUP_SCOPE : DEVICE_SCOPE;
     const bool is_named = launch.has_names && span;
-    bool is_recorded = false;
-    const Done done = with_stripe(launch, address, is_named, [&](Stripe &stripe) {
-        is_recorded = span && group.records_now(); // behind the lock: who acquires from a release that is lost is not recorded
-        const Done made = site.bytes == 8 ? perform<uint64_t>(what, pointer, value, compare) : perform<uint32_t>(what, pointer, uint32_t(value), uint32_t(compare));
-        record.kind = site.kind != COMPARE_EXCHANGE ? site.kind : made.has_failed ? LOAD : MODIFY;
-        record.order = order_of(made.has_failed ? how >> 8 & 255 : how & 255, record.kind);
-        if (!is_named) return made;
+    Stripe &stripe = launch.sequences.stripe_of(address);
+    std::unique_lock<Stripe> held(stripe, std::defer_lock);
+    if (is_named) held.lock();
+    const bool is_recorded = span && group.records_now(); // behind the lock: who acquires from a release that is lost is not recorded
+    const Done done = site.bytes == 8 ? perform<uint64_t>(what, pointer, value, compare)
+                                      : perform<uint32_t>(what, pointer, uint32_t(value), uint32_t(compare));
+    record.kind = site.kind != COMPARE_EXCHANGE ? site.kind : done.has_failed ? LOAD : MODIFY;
+    record.order = order_of(done.has_failed ? how >> 8 & 255 : how & 255, record.kind);
+    if (is_named) {
         if (acquires(record.order) && is_recorded) record.names = ReleaseSequences::heads_of(stripe, address);
         const Name own{is_recorded ? group.window : NOT_RECORDED, item.number, record.scope, item.releases};
         if (record.kind != LOAD) ReleaseSequences::modify(stripe, address, own, record.kind == STORE, record.order);
-        return made;
-    });
+        held.unlock();
+    }
     const bool is_again = is_repeated(item, number, pointer) && !done.is_changed;
     if (!is_again) item.repeats = 0;
     if (is_recorded) {

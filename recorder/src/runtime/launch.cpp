@@ -22,7 +22,7 @@ double seconds_now() { return std::chrono::duration<double>(std::chrono::steady_
 
 Launch::Launch(const Request &given)
     : request(given), seed(settings().seed + given.number * 1000003ull), sites(given.program->sites.data()), has_names(given.kernel->has_names),
-      spans(spans_of(given.entries, addresses_of(given.entries), GLOBAL)), locals(lay_out_locals(given.entries, 0)), losses(given.program->sites.size()),
+      spans(spans_of(given.entries, addresses_of(given.entries), GLOBAL)), locals(lay_out_locals(given.entries, 0)), pipes(given.kept), losses(given.program->sites.size()),
       is_cut(given.kept, true), stack_bytes(PAGE + (RUNTIME_BYTES + given.program->frame_bytes + PAGE - 1) / PAGE * PAGE) {
     uint32_t most = 0;
     for (const Site &site : given.program->sites) most = std::max(most, site.bytes);

@@ -67,6 +67,7 @@ public:
     LocalLayout locals;
     ReleaseSequences sequences;
     Places places;
+    Pipes pipes;
     Losses losses;
     std::vector<uint8_t> zeros;             // what a load out of every buffer takes
     std::atomic<uint64_t> next_group{0};    // that no thread has begun

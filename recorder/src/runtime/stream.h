@@ -5,11 +5,25 @@
 #include "release_sequences.h"
 
 #include <mutex>
+#include <shared_mutex>
 #include <string>
 
 namespace gpurace {
 
 constexpr uint32_t MOST_RECORDS = 16777216; // of a stream, its end included
+
+std::string stream_path(const std::string &folder, uint64_t group);
+
+// Where a launch has written as much into files as may stand there before it is judged, its streams go on through pipes, which the
+// judge reads meanwhile: NAME.pipe beside NAME, for each stream that has not ended. It begins when it sees the file piped.txt.
+struct Pipes {
+    explicit Pipes(uint64_t streams) : has_ended(streams) {}
+    void open(const std::string &folder);
+
+    std::shared_mutex lock; // held alone while the pipes are made, and shared while a stream is written to its file
+    std::vector<char> has_ended;
+    std::atomic<bool> are_open{false};
+};
 
 // The side file `places`, to which the groups append by turns. Where the disk is full it ends behind a whole line.
 class Places {
@@ -29,8 +43,9 @@ private:
 class Stream {
 public:
     ~Stream();
+    Stream(std::string path, uint32_t group, Pipes &pipes) : path_(std::move(path)), group_(group), pipes_(pipes) {}
     // `counted` is told of records as they are written.
-    bool open(const std::string &path, uint32_t group, uint32_t items, uint32_t launch, bool has_names, std::atomic<uint64_t> &counted);
+    bool open(uint32_t items, uint32_t launch, bool has_names, std::atomic<uint64_t> &counted);
     void put(uint64_t head, uint32_t word, const Name *names, size_t count);
     void close(bool is_cut);
     uint32_t records() const { return records_; }
@@ -40,6 +55,10 @@ public:
 
 private:
     static constexpr size_t ROOM = 1 << 17, HEADER_BYTES = 12;
+    const std::string path_;
+    const uint32_t group_;
+    Pipes &pipes_;
+    bool is_piped_ = false;
     int file_ = -1, error_ = 0;
     uint32_t records_ = 0, record_bytes_ = 20, untold_ = 0;
     uint64_t written_ = 0;
@@ -47,7 +66,8 @@ private:
     size_t used_ = 0;
     std::atomic<uint64_t> *counted_ = nullptr;
 
-    void flush();
+    void flush(bool is_last);
+    int write_out(bool is_last);
     void end_early();
 };
 

@@ -1,14 +1,29 @@
-// What the layer knows of the program's handles: the texts of its programs, its kernels with their arguments, its shared memory.
-#ifndef GPURACE_REGISTRY_H
-#define GPURACE_REGISTRY_H
+// What the parts of the layer know of each other: the driver below it; the texts of the program's programs, its kernels with their
+// arguments, and its shared memory.
+#ifndef GPURACE_LAYER_H
+#define GPURACE_LAYER_H
 
-#include "../runtime/program.h"
-#include "driver.h"
+#include "../runtime/launch.h"
 
-#include <memory>
+#include <CL/cl_layer.h>
+
 #include <set>
 
 namespace gpurace {
+
+extern _cl_icd_dispatch driver; // the calls that the program's own go on to
+
+// Give a layer's calls that make programs, kernels and shared memory, and those that launch kernels, their own parts.
+void take_over_handles(_cl_icd_dispatch &layer);
+void take_over_launches(_cl_icd_dispatch &layer);
+
+std::string text_of(cl_device_id device, cl_device_info what);
+
+template <class Value> Value info_of(cl_device_id device, cl_device_info what) {
+    Value value{};
+    driver.clGetDeviceInfo(device, what, sizeof value, &value, nullptr);
+    return value;
+}
 
 // A text that is compiled by itself, as clBuildProgram and clCompileProgram do.
 struct Unit {
@@ -36,6 +51,10 @@ std::string name_of(cl_kernel kernel);
 
 // The allocation of shared virtual memory that a pointer points into: its start and its bytes, or zeros.
 std::pair<char *, size_t> shared_at(char *pointer);
+
+// Gives the request its arguments and the places of its buffers, which are mapped until the last copy of what this answers is gone. Null
+// where one can't be mapped; `reason` then says why.
+std::shared_ptr<void> map_arguments(cl_context context, cl_device_id device, const Launchable &launched, Request &request, std::string &reason);
 
 } // namespace gpurace
 #endif
