@@ -101,20 +101,18 @@ bool starts(const std::string &word, const char *with) { return word.rfind(with,
 // The options of a unit, as the driver's own compile has them.
 Words unit_options(const Unit &unit, const Words &features) {
     Words given = words_of(unit.options), options;
-    bool has_standard = false, contracts = false;
+    bool has_standard = false;
     for (size_t at = 0; at < given.size(); at++) {
         const std::string &word = given[at];
         if (word == "-x" || word == "-s") { at++; continue; }
         if (starts(word, "-spir-std") || word == "-create-library" || word == "-enable-link-options" || starts(word, "-cl-nv")) continue;
         has_standard = has_standard || starts(word, "-cl-std=");
-        contracts = contracts || word == "-cl-mad-enable" || word == "-cl-fast-relaxed-math" || word == "-cl-unsafe-math-optimizations";
         if (word == "-cl-fast-relaxed-math") options.push_back("-D__FAST_RELAXED_MATH__=1");
         if (word == "-cl-std=CL3.0") // of some features the headers alone have the macros
             for (const std::string &feature : features) options.push_back("-D" + feature + "=1");
         options.push_back(word);
     }
     if (!has_standard) options.push_back("-cl-std=CL1.2");
-    if (!contracts) options.push_back("-ffp-contract=off");
     return options;
 }
 
