@@ -28,11 +28,6 @@ void run_item(void *state) {
 
 } // namespace
 
-Scratch &Item::own_scratch() {
-    if (!scratch) scratch = new Scratch;
-    return *scratch;
-}
-
 void Item::rest() { gr_switch(&stack, group->scheduler); }
 
 void settle(Item &item) {

@@ -56,7 +56,7 @@ struct Item {
     uint32_t left;                       // of its turn, where a pending store interrupts that
     Scratch *scratch;
 
-    Scratch &own_scratch();
+    Scratch &own_scratch() { return *(scratch ? scratch : scratch = new Scratch); }
     void rest(); // lets others run
 };
 static_assert(offsetof(Item, numbers) == 0 && offsetof(Item, locals) == LOCALS_OFFSET, "the instrumented code knows these places");

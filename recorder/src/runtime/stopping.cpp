@@ -61,10 +61,6 @@ void Watcher::watch() {
     }
 }
 
-void forget_thread() { // it is not there in a process that was forked
-    new (&watcher()) Watcher;
-}
-
 } // namespace
 
 Watched::Watched(Launch &launch) {
@@ -77,7 +73,7 @@ Watched::Watched(Launch &launch) {
     const std::lock_guard<std::mutex> held(own.lock);
     if (!own.has_thread) {
         own.has_thread = true;
-        pthread_atfork(nullptr, nullptr, forget_thread);
+        pthread_atfork(nullptr, nullptr, [] { new (&watcher()) Watcher; }); // the thread is not there in a process that was forked
         std::thread([] {
             sigset_t all; // signals are the program's own threads'
             sigfillset(&all);

@@ -49,7 +49,6 @@ public:
     void put(uint64_t head, uint32_t word, const Name *names, size_t count);
     void close(bool is_cut);
     uint32_t records() const { return records_; }
-    uint32_t record_bytes() const { return record_bytes_; }
     bool is_full() const { return records_ >= MOST_RECORDS - 1; }
     int error() const { return error_; }
 
