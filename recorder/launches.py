@@ -1,4 +1,5 @@
 """Recorded launches: what their folders say, what gpurace finds in them, and what becomes of those whose program died."""
+import atexit
 import collections
 import glob
 import os
@@ -101,6 +102,7 @@ class Piped:
         words = [program, "run", "--capacity", "65536", "--queues", "4", *(f"/dev/fd/{file}" for file in files)]
         self.run = subprocess.Popen(words, pass_fds=files, stdout=subprocess.PIPE, stderr=subprocess.DEVNULL, start_new_session=True)
         self.reads = reads
+        atexit.register(lambda: [process.kill() for process in (self.run, *reads)])
         for read in reads:
             read.stdout.close()
 

@@ -3,7 +3,7 @@
 // usage: instrument-kernels BUILTINS.bc OUT.bc SITES KERNELS.bc..
 //
 // Several modules are linked. rewriter.cpp says what stands in SITES.
-#include "module.h"
+#include "instrument.h"
 
 #include "llvm/Bitcode/BitcodeWriter.h"
 #include "llvm/IR/Verifier.h"

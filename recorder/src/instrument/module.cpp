@@ -1,6 +1,4 @@
-#include "module.h"
-
-#include "accesses.h"
+#include "instrument.h"
 
 #include "llvm/AsmParser/Parser.h"
 #include "llvm/IR/DebugInfo.h"

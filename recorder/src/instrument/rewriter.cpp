@@ -6,8 +6,7 @@
 //   argument NUMBER KIND                    B buffer, C constant buffer, L local memory, I image, S sampler, V value
 //   entry NUMBER ARGUMENT SPACE BYTES GRAIN ATOMIC NAME   a buffer that is an argument, or a variable (ARGUMENT is -1)
 //   note TEXT                               what is not recorded
-#include "accesses.h"
-#include "module.h"
+#include "instrument.h"
 
 #include "llvm/IR/DebugInfoMetadata.h"
 #include "llvm/IR/IRBuilder.h"

@@ -123,7 +123,7 @@ Words compiler_options(cl_device_id device) {
     Words words = {"-x", "cl", "-target", "x86_64-pc-linux-gnu", std::string("-march=") + processor().name, "-Xclang", "-ffake-address-space-map",
                    "-Xclang", "-no-opaque-pointers", "-Xclang", extensions_of(device), "-D__OPENCL_VERSION__=" + number, "-D__ENDIAN_LITTLE__=1",
                    "-D__IMAGE_SUPPORT__=1", "-DPOCL_DEVICE_ADDRESS_BITS=64", "-D__USE_CLANG_OPENCL_C_H", "-Dinline=", "-Dcl_khr_int64",
-                   "-DCL_DEVICE_MAX_GLOBAL_VARIABLE_SIZE=" + std::to_string(info_of<size_t>(device, CL_DEVICE_MAX_GLOBAL_VARIABLE_SIZE))};
+                   "-DCL_DEVICE_MAX_GLOBAL_VARIABLE_SIZE=" + std::to_string(info_of<size_t>(driver.clGetDeviceInfo, device, CL_DEVICE_MAX_GLOBAL_VARIABLE_SIZE))};
     for (const char *header : {"_builtin_renames.h", "opencl-c-base.h", "opencl-c.h", "_clang_opencl.h"})
         words.insert(words.end(), {"-include", headers + header});
     // each access of the text is one of the code: no pass has merged or moved any

@@ -19,9 +19,10 @@ void take_over_launches(_cl_icd_dispatch &layer);
 
 std::string text_of(cl_device_id device, cl_device_info what);
 
-template <class Value> Value info_of(cl_device_id device, cl_device_info what) {
+// What one of the calls clGet..Info says; zeros where it fails.
+template <class Value, class Get, class Handle> Value info_of(Get get, Handle handle, cl_uint what) {
     Value value{};
-    driver.clGetDeviceInfo(device, what, sizeof value, &value, nullptr);
+    get(handle, what, sizeof value, &value, nullptr);
     return value;
 }
 

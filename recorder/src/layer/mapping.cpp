@@ -35,11 +35,7 @@ int channels_of(cl_channel_order order) {
     }
 }
 
-template <class Value> Value image_info(cl_mem image, cl_image_info what) {
-    Value value{};
-    driver.clGetImageInfo(image, what, sizeof value, &value, nullptr);
-    return value;
-}
+int32_t image_size(cl_mem image, cl_image_info what) { return int32_t(info_of<size_t>(driver.clGetImageInfo, image, what)); }
 
 // The arguments of a launch as the host's memory: buffers and images are mapped while it runs.
 class Mapping {
@@ -87,8 +83,7 @@ private:
         const auto buffer = value.size() == sizeof(cl_mem) ? value_of<cl_mem>(value) : nullptr;
         set_value(value, static_cast<void *>(nullptr));
         if (!buffer) return 0;
-        size_t bytes = 0;
-        driver.clGetMemObjectInfo(buffer, CL_MEM_SIZE, sizeof bytes, &bytes, nullptr);
+        const auto bytes = info_of<size_t>(driver.clGetMemObjectInfo, buffer, CL_MEM_SIZE);
         cl_int error = queue_ ? CL_SUCCESS : CL_INVALID_COMMAND_QUEUE;
         void *&memory = mapped_[buffer];
         if (queue_ && !memory) memory = driver.clEnqueueMapBuffer(queue_, buffer, CL_TRUE, CL_MAP_READ | CL_MAP_WRITE, 0, bytes, 0, nullptr, nullptr, &error);
@@ -124,8 +119,7 @@ private:
     }
 
     void *map_image(cl_mem image, Image &made) {
-        cl_mem_object_type type = 0;
-        driver.clGetMemObjectInfo(image, CL_MEM_TYPE, sizeof type, &type, nullptr);
+        const auto type = info_of<cl_mem_object_type>(driver.clGetMemObjectInfo, image, CL_MEM_TYPE);
         const size_t array = size_t(made.array_size), one = 1;
         const bool is_line = type == CL_MEM_OBJECT_IMAGE1D_ARRAY;
         const size_t origin[3] = {0, 0, 0};
@@ -143,11 +137,11 @@ private:
         const auto image = value_of<cl_mem>(value);
         std::unique_ptr<Image> &made = images_[image];
         if (made) return set_value(value, static_cast<const void *>(made.get())); // it is two arguments
-        const auto format = image_info<cl_image_format>(image, CL_IMAGE_FORMAT);
-        made.reset(new Image{nullptr, int32_t(image_info<size_t>(image, CL_IMAGE_WIDTH)), int32_t(image_info<size_t>(image, CL_IMAGE_HEIGHT)),
-                 int32_t(image_info<size_t>(image, CL_IMAGE_DEPTH)), int32_t(image_info<size_t>(image, CL_IMAGE_ARRAY_SIZE)), 0, 0, 0, 0,
+        const auto format = info_of<cl_image_format>(driver.clGetImageInfo, image, CL_IMAGE_FORMAT);
+        made.reset(new Image{nullptr, image_size(image, CL_IMAGE_WIDTH), image_size(image, CL_IMAGE_HEIGHT),
+                 image_size(image, CL_IMAGE_DEPTH), image_size(image, CL_IMAGE_ARRAY_SIZE), 0, 0, 0, 0,
                  int32_t(format.image_channel_order), int32_t(format.image_channel_data_type), channels_of(format.image_channel_order),
-                 int32_t(image_info<size_t>(image, CL_IMAGE_ELEMENT_SIZE))});
+                 image_size(image, CL_IMAGE_ELEMENT_SIZE)});
         void *memory = map_image(image, *made);
         if (memory) mapped_[image] = memory;
         made->data = memory;
@@ -157,12 +151,9 @@ private:
     // The CLK_.. bits of the builtins.
     void place_sampler(std::vector<char> &value) {
         const auto sampler = value_of<cl_sampler>(value);
-        cl_bool is_normal = 0;
-        cl_addressing_mode mode = 0;
-        cl_filter_mode filter = 0;
-        driver.clGetSamplerInfo(sampler, CL_SAMPLER_NORMALIZED_COORDS, sizeof is_normal, &is_normal, nullptr);
-        driver.clGetSamplerInfo(sampler, CL_SAMPLER_ADDRESSING_MODE, sizeof mode, &mode, nullptr);
-        driver.clGetSamplerInfo(sampler, CL_SAMPLER_FILTER_MODE, sizeof filter, &filter, nullptr);
+        const bool is_normal = info_of<cl_bool>(driver.clGetSamplerInfo, sampler, CL_SAMPLER_NORMALIZED_COORDS);
+        const auto mode = info_of<cl_addressing_mode>(driver.clGetSamplerInfo, sampler, CL_SAMPLER_ADDRESSING_MODE);
+        const auto filter = info_of<cl_filter_mode>(driver.clGetSamplerInfo, sampler, CL_SAMPLER_FILTER_MODE);
         set_value(value, uint64_t((is_normal ? 1 : 0) | (mode - CL_ADDRESS_NONE) * 2 | (filter == CL_FILTER_LINEAR ? 0x20 : 0x10)));
     }
 };

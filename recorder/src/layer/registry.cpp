@@ -157,8 +157,7 @@ cl_kernel CL_API_CALL clone_kernel(cl_kernel of, cl_int *error) {
 }
 
 cl_int CL_API_CALL release_kernel(cl_kernel kernel) {
-    cl_uint count = 0;
-    driver.clGetKernelInfo(kernel, CL_KERNEL_REFERENCE_COUNT, sizeof count, &count, nullptr);
+    const auto count = info_of<cl_uint>(driver.clGetKernelInfo, kernel, CL_KERNEL_REFERENCE_COUNT);
     const std::lock_guard<std::mutex> held(lock);
     if (count == 1) kernels.erase(kernel);
     return driver.clReleaseKernel(kernel);

@@ -100,20 +100,16 @@ void Group::place_memory(Pool &pool) {
 }
 
 void Group::open_stream() {
-    const uint32_t streamed = uint32_t(items.size()) + launch->request.kernel->has_copies;
     stream.emplace(stream_path(launch->request.folder, window), window, launch->pipes);
-    if (!stream->open(streamed, launch->request.number, launch->has_names, launch->written)) launch->is_over = true;
+    if (!stream->open(launch->has_names, launch->written)) launch->is_over = true;
     if (settings().writes_places) places.resize(PLACES_ROOM);
 }
 
 void Group::begin_items(Pool &pool) {
     const Range &range = launch->request.range;
-    const uint64_t at[3] = {number % range.groups[0], number / range.groups[0] % range.groups[1], number / range.groups[0] / range.groups[1]};
-    uint64_t size[3], count = 1;
-    for (int axis = 0; axis < 3; axis++) { // a last group may be smaller
-        size[axis] = std::min(range.local[axis], range.global[axis] - at[axis] * range.local[axis]);
-        count *= size[axis];
-    }
+    uint64_t at[3], size[3];
+    for (int axis = 0; axis < 3; axis++) at[axis] = range.place_of(number, axis), size[axis] = range.size_of(number, axis);
+    const uint64_t count = size[0] * size[1] * size[2];
     stacks = pool.take(range.items_of_group(), launch->stack_bytes, true);
     if (!stacks) return;
     items.resize(count);

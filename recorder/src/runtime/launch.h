@@ -15,6 +15,13 @@ struct Range {
     uint32_t dimensions = 1;
     uint64_t group_count() const { return groups[0] * groups[1] * groups[2]; }
     uint64_t items_of_group() const { return local[0] * local[1] * local[2]; }
+    uint64_t place_of(uint64_t group, int axis) const {
+        return axis == 0 ? group % groups[0] : axis == 1 ? group / groups[0] % groups[1] : group / groups[0] / groups[1];
+    }
+    // The items of a group along an axis: a last group may be smaller.
+    uint64_t size_of(uint64_t group, int axis) const {
+        return std::min(local[axis], global[axis] - place_of(group, axis) * local[axis]);
+    }
 };
 
 // What is to be run, and how it is to be recorded.

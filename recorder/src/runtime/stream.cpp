@@ -8,6 +8,7 @@
 #include <cstring>
 #include <ctime>
 #include <fcntl.h>
+#include <fstream>
 #include <sys/stat.h>
 #include <unistd.h>
 
@@ -55,12 +56,21 @@ std::string stream_path(const std::string &folder, uint64_t group) {
     return folder + (group < 10 ? "/group0" : "/group") + std::to_string(group) + ".gpurace";
 }
 
+std::string stream_header(uint32_t group, uint64_t items, uint32_t launch, bool has_names) {
+    const uint16_t shape[] = {uint16_t(group), uint16_t(items)};
+    std::string header(has_names ? "GRT2" : "GRT1");
+    return header.append(reinterpret_cast<const char *>(shape), 4).append(reinterpret_cast<const char *>(&launch), 4);
+}
+
 void Pipes::open(const std::string &folder) {
     const std::unique_lock<std::shared_mutex> held(lock);
     if (are_open.exchange(true)) return;
-    for (size_t group = 0; group < has_ended.size(); group++)
-        if (!has_ended[group]) mkfifo((stream_path(folder, group) + ".pipe").c_str(), 0666);
-    ::close(::open((folder + "/piped.txt").c_str(), O_WRONLY | O_CREAT | O_CLOEXEC, 0666));
+    for (size_t group = 0; group < states.size(); group++) {
+        const std::string path = stream_path(folder, group);
+        if (states[group] == TO_BEGIN) std::ofstream(path, std::ios::binary) << headers[group];
+        if (states[group] != ENDED) mkfifo((path + ".pipe").c_str(), 0666);
+    }
+    std::ofstream(folder + "/piped.txt") << '\n';
 }
 
 Places::~Places() {
@@ -86,18 +96,17 @@ Stream::~Stream() {
     if (file_ >= 0) ::close(file_);
 }
 
-bool Stream::open(uint32_t items, uint32_t launch, bool has_names, std::atomic<uint64_t> &counted) {
-    file_ = ::open(path_.c_str(), O_WRONLY | O_CREAT | O_TRUNC | O_CLOEXEC, 0666);
-    if (file_ < 0) return error_ = errno, false;
+bool Stream::open(bool has_names, std::atomic<uint64_t> &counted) {
     counted_ = &counted;
     record_bytes_ = has_names ? 44 : 20;
     bytes_.reset(new char[ROOM]);
-    const uint16_t shape[] = {uint16_t(group_), uint16_t(items)};
-    std::memcpy(bytes_.get(), has_names ? "GRT2" : "GRT1", 4);
-    std::memcpy(bytes_.get() + 4, shape, 4);
-    std::memcpy(bytes_.get() + 8, &launch, 4);
-    used_ = HEADER_BYTES;
-    return true;
+    const std::shared_lock<std::shared_mutex> held(pipes_.lock);
+    if (pipes_.are_open) return true; // its header stands there
+    pipes_.states[group_] = Pipes::BEGUN;
+    file_ = ::open(path_.c_str(), O_WRONLY | O_CREAT | O_TRUNC | O_CLOEXEC, 0666);
+    error_ = file_ < 0 ? errno : write_all(file_, pipes_.headers[group_].data(), HEADER_BYTES);
+    written_ = error_ ? 0 : HEADER_BYTES;
+    return error_ == 0;
 }
 
 void Stream::put(uint64_t head, uint32_t word, const Name *names, size_t count) {
@@ -119,12 +128,12 @@ void Stream::put(uint64_t head, uint32_t word, const Name *names, size_t count) 
 int Stream::write_out(bool is_last) {
     if (!is_piped_) {
         const std::shared_lock<std::shared_mutex> held(pipes_.lock);
-        pipes_.has_ended[group_] = is_last && !pipes_.are_open;
+        if (!pipes_.are_open && is_last) pipes_.states[group_] = Pipes::ENDED;
         if (!pipes_.are_open) return write_all(file_, bytes_.get(), used_);
     }
     if (!is_piped_) {
         is_piped_ = true;
-        ::close(file_);
+        if (file_ >= 0) ::close(file_);
         file_ = open_pipe(path_ + ".pipe");
     }
     return file_ < 0 ? EPIPE : write_to_pipe(file_, bytes_.get(), used_);
@@ -138,11 +147,12 @@ void Stream::flush(bool is_last) {
 }
 
 void Stream::close(bool is_cut) {
-    if (file_ < 0) return;
+    if (!bytes_) return;
     put(END | uint64_t(is_cut) << 8, 0, nullptr, 0);
     flush(true);
     if (error_ && !is_piped_) end_early();
-    ::close(file_);
+    bytes_.reset();
+    if (file_ >= 0) ::close(file_);
     file_ = -1;
 }
 

@@ -15,15 +15,20 @@ constexpr uint32_t MOST_RECORDS = 16777216; // of a stream, its end included
 std::string stream_path(const std::string &folder, uint64_t group);
 
 // Where a launch has written as much into files as may stand there before it is judged, its streams go on through pipes, which the
-// judge reads meanwhile: NAME.pipe beside NAME, for each stream that has not ended. It begins when it sees the file piped.txt.
+// judge reads meanwhile: NAME.pipe beside NAME, for each stream that has not ended. It begins when it sees the file piped.txt, and
+// wants the headers of all streams first: one that no group has begun has its header as a file.
 struct Pipes {
-    explicit Pipes(uint64_t streams) : has_ended(streams) {}
+    enum State : char { TO_BEGIN, BEGUN, ENDED };
+    explicit Pipes(std::vector<std::string> headers) : states(headers.size(), TO_BEGIN), headers(std::move(headers)) {}
     void open(const std::string &folder);
 
     std::shared_mutex lock; // held alone while the pipes are made, and shared while a stream is written to its file
-    std::vector<char> has_ended;
+    std::vector<State> states;
+    const std::vector<std::string> headers;
     std::atomic<bool> are_open{false};
 };
+
+std::string stream_header(uint32_t group, uint64_t items, uint32_t launch, bool has_names);
 
 // The side file `places`, to which the groups append by turns. Where the disk is full it ends behind a whole line.
 class Places {
@@ -45,7 +50,7 @@ public:
     ~Stream();
     Stream(std::string path, uint32_t group, Pipes &pipes) : path_(std::move(path)), group_(group), pipes_(pipes) {}
     // `counted` is told of records as they are written.
-    bool open(uint32_t items, uint32_t launch, bool has_names, std::atomic<uint64_t> &counted);
+    bool open(bool has_names, std::atomic<uint64_t> &counted);
     void put(uint64_t head, uint32_t word, const Name *names, size_t count);
     void close(bool is_cut);
     uint32_t records() const { return records_; }
@@ -61,7 +66,7 @@ private:
     int file_ = -1, error_ = 0;
     uint32_t records_ = 0, record_bytes_ = 20, untold_ = 0;
     uint64_t written_ = 0;
-    std::unique_ptr<char[]> bytes_;
+    std::unique_ptr<char[]> bytes_; // null where it is not open
     size_t used_ = 0;
     std::atomic<uint64_t> *counted_ = nullptr;
 

@@ -1,18 +1,18 @@
-// What a kernel does to memory, found in its code before anything of it is changed; and what the calls mean that it has, of OpenCL's
-// builtins.
-#ifndef GPURACE_ACCESSES_H
-#define GPURACE_ACCESSES_H
+// What the parts of the pass know of each other: what a kernel does to memory, found in its code before anything of it is changed; what
+// OpenCL's builtins mean; and what is done to a module as a whole.
+#ifndef GPURACE_INSTRUMENT_H
+#define GPURACE_INSTRUMENT_H
 
 #include "../sites.h"
 
-#include "llvm/IR/DataLayout.h"
 #include "llvm/IR/Instructions.h"
+#include "llvm/IR/Module.h"
+#include "llvm/Support/raw_ostream.h"
 
 #include <map>
+#include <memory>
 #include <optional>
 #include <set>
-#include <string>
-#include <vector>
 
 namespace gpurace {
 
@@ -109,6 +109,26 @@ private:
 // Of a vector of which some components are assigned, clang loads and stores all. The text writes those alone: each such store becomes
 // stores of the components that it changes.
 void narrow_stores(llvm::Function &function);
+
+inline bool is_kernel(const llvm::Function &function) {
+    return !function.isDeclaration() && function.getCallingConv() == llvm::CallingConv::SPIR_KERNEL;
+}
+
+// The functions that the host calls are named so, with the kernel's name behind it.
+constexpr const char RUN_PREFIX[] = "gr_run_";
+
+// Instruments a kernel, and writes what the numbers of its sites mean (rewriter.cpp).
+void instrument_kernel(llvm::Function &kernel, llvm::raw_ostream &sites, unsigned &next_site);
+
+// Inlines all calls of a module's own functions, and promotes private variables. A kernel that another one calls is then there
+// twice: as what is launched, and within the other.
+void inline_calls(llvm::Module &module);
+
+// Drops what no longer holds behind instrumentation: debug information and statements on aliases.
+void strip(llvm::Module &module);
+
+// The module with one address space, as the processor has it, linked with the builtins that it uses; null where it failed, which is said.
+std::unique_ptr<llvm::Module> link_for_host(llvm::Module &module, const char *builtins, llvm::LLVMContext &context);
 
 } // namespace gpurace
 #endif
