@@ -1,4 +1,5 @@
 """Recorded launches: what their folders say, what gpurace finds in them, and what becomes of those whose program died."""
+import atexit
 import collections
 import glob
 import os
@@ -7,7 +8,7 @@ import subprocess
 import sys
 
 sys.path.insert(0, os.path.join(os.path.dirname(os.path.realpath(__file__)), "..", "tools", "recorder"))
-from findings import findings  # noqa: E402
+from findings import findings, source_line  # noqa: E402
 
 FOUND, INCOMPLETE = 1, 2
 HEADER = struct.Struct("<4sHHI")
@@ -39,7 +40,7 @@ def streams_of(folder):
 class Launch:
     """A launch that gpurace has judged: its status, and the lines that say what was found."""
 
-    def __init__(self, program, folder, is_kept, is_window_wanted):
+    def __init__(self, program, folder, is_kept, is_window_wanted, piped=None):
         self.info = info_of(folder)
         self.folder, self.is_kept = folder, is_kept
         self.number = self.info["launch"][0] if self.info["launch"] else "?"
@@ -49,10 +50,10 @@ class Launch:
             self.status, self.found = INCOMPLETE, "not recorded: " + (self.info["not-recorded"] or ["the folder is not whole"])[0]
             self.size = ""
             return
-        self.judge(program, is_window_wanted)
+        self.judge(program, is_window_wanted, piped)
 
-    def judge(self, program, is_window_wanted):
-        status, self.report, self.told = replayed(program, self.folder)
+    def judge(self, program, is_window_wanted, piped):
+        status, self.report, self.told = self.read_pipes(program, piped) if piped else replayed(program, self.folder)
         self.told = out_of_bounds(self.info, self.folder) + self.told
         self.status = FOUND if self.info["out-of-bounds"] and status == 0 else status if status in (0, FOUND) else INCOMPLETE
         self.found = {0: "nothing found", FOUND: "FOUND"}.get(self.status, "the trace was refused")
@@ -65,6 +66,19 @@ class Launch:
         self.size = f" ({count(groups, 'group')} of {count(x * y * z, 'work-item')}, {self.info['records'][0]} records)"
         self.told += [f"note: {loss}" for loss in losses(self.info)]
 
+    def read_pipes(self, program, piped):
+        """As `replayed`, of a launch that was judged while it was recorded. What is found is told by what stands in files."""
+        status, report = piped.finish()
+        end_files(self.folder, self.info)
+        if status == 0:
+            return status, report, []
+        in_files = replayed(program, self.folder)
+        if status != FOUND:  # not all has come
+            self.info["cut"].append("")
+            return in_files
+        told = [line for line in in_files[2] if not line.startswith("records of ")] or report[2:2 + MOST_PLACES]
+        return status, report, told + ["note: its first records are told of, since it has more than are kept; --keep DIR keeps all"]
+
     def lines(self, told_of):
         """What is said of the launch. What was told of an earlier launch is not told again."""
         head = f"launch {self.number}, {self.kernel}" if self.kernel else os.path.basename(self.folder)
@@ -74,6 +88,37 @@ class Launch:
         first = told_of.setdefault((self.kernel, *self.told), self.number)
         for line in self.told if first == self.number else [f"the same as in launch {first}"] if self.told else []:
             yield f"    {line}"
+
+
+class Piped:
+    """gpurace reads the streams of a launch while it is recorded: of each group its file, and then what comes through its pipe."""
+
+    def __init__(self, program, folder):
+        self.folder, streams = folder, streams_of(folder)
+        streams += [pipe[:-5] for pipe in self.pipes() if pipe[:-5] not in streams]
+        reads = [subprocess.Popen(["cat", *filter(os.path.exists, (stream, stream + ".pipe"))], stdout=subprocess.PIPE,
+                                  stderr=subprocess.DEVNULL, start_new_session=True) for stream in streams]  # Ctrl-C is not theirs
+        files = [read.stdout.fileno() for read in reads]
+        words = [program, "run", "--capacity", "65536", "--queues", "4", *(f"/dev/fd/{file}" for file in files)]
+        self.run = subprocess.Popen(words, pass_fds=files, stdout=subprocess.PIPE, stderr=subprocess.DEVNULL, start_new_session=True)
+        self.reads = reads
+        atexit.register(lambda: [process.kill() for process in (self.run, *reads)])
+        for read in reads:
+            read.stdout.close()
+
+    def pipes(self):
+        return sorted(glob.glob(os.path.join(glob.escape(self.folder), "*.pipe")))
+
+    def finish(self):
+        """The launch is over: the status and the lines of its report. Pipes that nobody has written to end, too."""
+        for pipe in self.pipes():
+            file = os.open(pipe, os.O_RDWR | os.O_NONBLOCK)  # who waits for a writer has had one
+            os.unlink(pipe)
+            os.close(file)
+        report = self.run.communicate()[0].decode().splitlines()
+        for read in self.reads:
+            read.wait()
+        return self.run.returncode, report
 
 
 def replayed(program, folder):
@@ -98,26 +143,21 @@ def out_of_bounds(info, folder):
     return told
 
 
-def source_line(folder, place):
-    file, _, at = place.partition(":")
-    path, line = os.path.join(folder, file), at.split(":")[0]
-    if "/" in file or not line.isdigit() or not os.path.exists(path):
-        return ""
-    with open(path, errors="replace") as text:
-        lines = text.read().split("\n")
-    return lines[int(line) - 1].strip()[:160] if 0 < int(line) <= len(lines) else ""
-
-
 def losses(info):
     """What the report on the launch does not speak of."""
+    for key, text in (("fences-not-recorded", "fences not recorded, so that an order that they give is not seen"),
+                      ("out-of-bounds-not-recorded", "accesses out of bounds, not recorded"),
+                      ("orders-not-known", "atomics whose order is not known, taken as relaxed"),
+                      ("names-outside-window", "hand-overs from groups outside the window, not recorded")):
+        number, _, place = info[key][0].partition(" ") if info[key] else ("0", "", "")
+        if number != "0":
+            yield f"{text}: {number}" + (f", the first at {place}" if place else "")
     for key, text in (("fence", "fences not recorded, so that an order that they give is not seen"),
                       ("image", "accesses of images, which are not judged")):
         places = [line.split(" ", 1) for line in info[key]]
         if places:
             where = ", ".join(place for _, place in places[:MOST_PLACES]) + (", .." if len(places) > MOST_PLACES else "")
             yield f"{text}: {sum(int(number) for number, _ in places)}, at {where}"
-    if info["names-outside-window"] and info["names-outside-window"][0] != "0":
-        yield f"hand-overs from groups outside the window, not recorded: {info['names-outside-window'][0]}"
     for text in info["note"]:
         yield f"not recorded: {text}"
     if info["places-cut"]:
@@ -132,12 +172,8 @@ def end_streams(folder):
     begun = info_of(folder, "begun.txt")
     if not begun["kernel"]:
         return False
-    groups = int(begun["groups"][0])
-    kept = int(begun["window"][0].split()[1]) if begun["window"] else groups
-    x, y, z = map(int, begun["local"][0].split())
-    items, launch = x * y * z + (1 if begun["copying-item"] else 0), int(begun["launch"][0])
     try:
-        records = sum(end_stream(os.path.join(folder, f"group{group:02}.gpurace"), group, items, launch) for group in range(kept))
+        kept, items, records = end_files(folder, begun)
         end_lines(os.path.join(folder, "places"))
         with open(os.path.join(folder, "begun.txt")) as text:
             lines = text.read()
@@ -148,6 +184,15 @@ def end_streams(folder):
         return False
     os.remove(os.path.join(folder, "begun.txt"))
     return True
+
+
+def end_files(folder, info):
+    """Ends the streams that have no end; answers how many groups and items of each there are, and how many records."""
+    groups = int(info["groups"][0])
+    kept = int(info["window"][0].split()[1]) if info["window"] else groups
+    x, y, z = map(int, info["local"][0].split())
+    items, launch = x * y * z + (1 if info["copying-item"] else 0), int(info["launch"][0])
+    return kept, items, sum(end_stream(os.path.join(folder, f"group{group:02}.gpurace"), group, items, launch) for group in range(kept))
 
 
 def end_stream(path, group, items, launch):

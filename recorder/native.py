@@ -7,7 +7,7 @@ import sys
 import threading
 import time
 
-from launches import INCOMPLETE, Launch, count, end_streams, info_of
+from launches import Launch, Piped, count, end_streams, info_of
 
 HERE = os.path.dirname(os.path.realpath(__file__))
 NEEDED = [("g++", "g++"), ("make", "make"), ("clang-15", "clang-15"), ("llvm-config-15", "llvm-15-dev"),
@@ -79,46 +79,53 @@ def run_program(words, variables):
 
 class Judge(threading.Thread):
     """Judges launches while the program runs. A folder that is not kept is removed when it is judged: the recorder waits for
-    that where much is not judged yet."""
+    that where much is not judged yet. Of a launch of very many records it reads pipes while they are recorded."""
 
     def __init__(self, program, folder, is_kept, is_window_wanted):
         super().__init__(daemon=True)
         self.program, self.folder, self.is_kept, self.is_window_wanted = program, folder, is_kept, is_window_wanted
-        self.launches, self.seen, self.is_over, self.fault = [], set(), False, None
+        self.launches, self.seen, self.piped, self.is_over, self.fault = [], set(), {}, False, None
 
     def run(self):
-        try:
-            while not self.is_over:
-                if not self.judge_all("info.txt"):
-                    time.sleep(0.02)
-        except Exception as fault:  # told by `finish`, in the thread that waits
-            self.fault = fault
+        while not self.is_over:
+            for name in self.having("piped.txt"):
+                if name not in self.piped:
+                    self.piped[name] = Piped(self.program, os.path.join(self.folder, name))
+            if not self.judge_all():
+                time.sleep(0.02)
 
-    def judge_all(self, needed):
-        """Judges the folders that have this file; answers whether there was one."""
+    def having(self, file):
+        """The folders with this file that are not judged yet."""
         names = sorted((name for name in os.listdir(self.folder) if name not in self.seen and name.partition("-")[0].isdigit()),
                        key=lambda name: (int(name.partition("-")[0]), name))
-        ready = [name for name in names if os.path.exists(os.path.join(self.folder, name, needed))]
-        for name in ready:
+        return [name for name in names if os.path.exists(os.path.join(self.folder, name, file))]
+
+    def judge_all(self):
+        """Judges the launches that have ended; answers whether there was one."""
+        ended = self.having("info.txt")
+        for name in ended:
             path = os.path.join(self.folder, name)
             self.seen.add(name)
-            self.launches.append(Launch(self.program, path, self.is_kept, self.is_window_wanted))
+            try:
+                self.launches.append(Launch(self.program, path, self.is_kept, self.is_window_wanted, self.piped.get(name)))
+            except Exception as fault:  # told by `finish`; the program does not wait for it
+                self.fault = fault
             if not self.is_kept:
                 shutil.rmtree(path)
-        return ready
+        return ended
 
     def finish(self):
         """The program is over: judges what is left, the launches that it did not end too."""
         self.is_over = True
         self.join()
-        if self.fault:
-            raise self.fault
-        self.judge_all("info.txt")
+        self.judge_all()
         for name in sorted(os.listdir(self.folder)):
             path = os.path.join(self.folder, name)
             if name not in self.seen and os.path.exists(os.path.join(path, "begun.txt")):
                 end_streams(path)
-        self.judge_all("info.txt")
+        self.judge_all()
+        if self.fault:
+            raise self.fault
         self.launches.sort(key=lambda launch: int(launch.number))
 
 

@@ -18,6 +18,8 @@ enum Operation { OP_LOAD, OP_STORE, OP_EXCHANGE, OP_ADD, OP_SUBTRACT, OP_MINIMUM
 enum NumberRow { LOCAL_ID, GROUP_ID, NUM_GROUPS, LOCAL_SIZE, ENQUEUED_LOCAL_SIZE, GLOBAL_SIZE, GLOBAL_OFFSET, GLOBAL_ID, LINEAR, ROWS };
 enum LinearNumber { WORK_DIM, LOCAL_LINEAR_ID, GLOBAL_LINEAR_ID }; // the words of the row LINEAR
 
+constexpr unsigned PRINT_ROOM = 1 << 22; // of what kernels print in a launch, 8 bytes before it with how much that is
+
 constexpr unsigned DIMENSIONS = 4;
 constexpr unsigned LOCALS_OFFSET = ROWS * DIMENSIONS * 8; // behind the numbers: where the group's local variables are
 

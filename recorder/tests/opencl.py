@@ -79,6 +79,8 @@ class Device:
                 must(LOADER.clSetKernelArg(kernel, at, ctypes.c_size_t(8), ctypes.byref(value.handle)), "clSetKernelArg")
             elif isinstance(value, Local):
                 must(LOADER.clSetKernelArg(kernel, at, ctypes.c_size_t(value.size), None), "clSetKernelArg")
+            elif isinstance(value, bytes):
+                must(LOADER.clSetKernelArg(kernel, at, ctypes.c_size_t(len(value)), value), "clSetKernelArg")
             else:
                 must(LOADER.clSetKernelArg(kernel, at, ctypes.c_size_t(4), ctypes.byref(ctypes.c_int(value))), "clSetKernelArg")
 

@@ -150,26 +150,29 @@ class Memory(FaultTest):
 
 
 class Threads(FaultTest):
-    """Runs in a memory that holds the stacks of some threads: of the sequencer, a worker and the reader of one stream."""
+    """Runs in a memory that holds the stacks of some threads: of the sequencer, of each worker and of the reader of one stream."""
 
     stack = 1 << 30
 
-    def run_with_room_for(self, threads):
+    def run_with_room_for(self, threads, workers):
         most = threads * self.stack + self.stack // 2
 
         def limit():
             resource.setrlimit(resource.RLIMIT_STACK, (self.stack, self.stack))
             resource.setrlimit(resource.RLIMIT_AS, (most, most))
 
-        return self.gpurace("run", "--workers", "1", "--queues", "1", "race", preexec_fn=limit)
+        return self.gpurace("run", "--workers", workers, "--queues", "1", "race", preexec_fn=limit)
 
     def test_a_thread_that_can_not_be_started(self):
-        for threads in range(3):
-            with self.subTest(threads=threads):
-                self.assert_run(self.run_with_room_for(threads), b"", 4, b"gpurace: no thread\n")
+        for workers in (1, 4):
+            for threads in range(workers + 2):
+                with self.subTest(workers=workers, threads=threads):
+                    self.assert_run(self.run_with_room_for(threads, workers), b"", 4, b"gpurace: no thread\n")
 
     def test_room_for_each_thread(self):
-        self.assert_run(self.run_with_room_for(3), self.gpurace("replay", given=RACE).stdout, 1)
+        for workers in (1, 4):
+            with self.subTest(workers=workers):
+                self.assert_run(self.run_with_room_for(workers + 2, workers), self.gpurace("replay", given=RACE).stdout, 1)
 
 
 class Pipes(FaultTest):

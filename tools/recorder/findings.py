@@ -148,7 +148,6 @@ class Launch:
         self.buffers = buffers_of(folder)
         words = [line.split() for line in lines_of(folder, "info.txt")]
         self.copying = {tuple(map(int, line[1:])) for line in words if line[:1] == ["copying-item"]}  # (group, item)
-        self.source = list(lines_of(folder, "kernel.cl"))
         self.places = self.find_places({"%d %d %d" % event for event in events})
 
     def find_places(self, keys):
@@ -216,15 +215,8 @@ class Launch:
         how = ", ".join(word for word in (ORDERS[access.order], SCOPES[access.scope]) if word)
         who = "asynchronous copy" if (event.group, event.item) in self.copying else f"item {event.item}"
         told = f"    {place}: {KINDS[access.kind]}{' (' + how + ')' if how else ''} by group {event.group}, {who}"
-        line = self.source_line(place)
+        line = source_line(self.folder, place)
         return [told] + ([f"        {line}"] if line else [])
-
-    def source_line(self, place):
-        file, _, at = place.partition(":")
-        line = at.split(":")[0]
-        known = file == "kernel.cl" and line.isdigit() and 0 < int(line) <= len(self.source)
-        text = self.source[int(line) - 1].strip() if known else ""
-        return text if len(text) <= MOST_COLUMNS else text[:MOST_COLUMNS] + " .."
 
     def first_word(self, race):
         """The word on which the two accesses race."""
@@ -273,8 +265,8 @@ class Launch:
         for place, count, first in came:
             items = f"{count} work-items, the first is {first}" if count > 1 else f"work-item {first}"
             told.append(f"    {place or 'no barrier'}: {items}")
-            if place and self.source_line(place):
-                told.append(f"        {self.source_line(place)}")
+            if place and source_line(self.folder, place):
+                told.append(f"        {source_line(self.folder, place)}")
         return told
 
 
@@ -283,6 +275,15 @@ def lines_of(folder, name):
     if os.path.exists(path):
         with open(path, encoding="utf-8", errors="replace", newline="\n") as given:
             yield from (line.rstrip("\n") for line in given)
+
+
+def source_line(folder, place):
+    """The line of source that a place is of, if the folder has its text."""
+    file, _, at = place.partition(":")
+    line = at.split(":")[0]
+    lines = list(lines_of(folder, file)) if line.isdigit() and "/" not in file else []
+    text = lines[int(line) - 1].strip() if lines and 0 < int(line) <= len(lines) else ""
+    return text if len(text) <= MOST_COLUMNS else text[:MOST_COLUMNS] + " .."
 
 
 def buffers_of(folder):

@@ -321,11 +321,6 @@ module _ (s : Streams) (g : ℕ) (x : Event) (prefixes : ArePrefixes s) (can : C
       own_marks : filter_map mark_of (trace_of more own) ≡ filter_map mark_of (trace_of s own) ++ own_mark.0 ∷ []
       own_marks = ap (λ (l : List Event). filter_map mark_of l) own_longer ∙ (filter_map-append mark_of (trace_of s own) (x ∷ []) ∙ ap (λ (o : Option Mark). filter_map mark_of (trace_of s own) ++ cons_option o []) own_mark.1)
 
-      pub own_arrival : arrivals more g brought x.item ≡ mark_of x
-      own_arrival =
-          let count : brought ≡ length (filter_map mark_of (trace_of s own)) + 0 = let same = count_marks (trace_of s own) in omega (arith, same) in
-          ap (λ (l : List Mark). slice_get l brought) own_marks ∙ (ap (slice_get (filter_map mark_of (trace_of s own) ++ own_mark.0 ∷ [])) count ∙ (at_behind (filter_map mark_of (trace_of s own)) (own_mark.0 ∷ []) 0 own_mark.0 refl ∙ sym own_mark.1))
-
       else_arrival : (n i : ℕ) → (n ≡ brought → ⊥) → arrivals more g n i ≡ arrivals s g n i
       else_arrival n i apart = ⊎_elim
           (λ (same : i ≡ x.item). subst (λ j. arrivals more g n j ≡ arrivals s g n j) (sym same)

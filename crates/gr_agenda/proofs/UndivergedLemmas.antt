@@ -8,11 +8,10 @@ use Rattle.std.proofs.lemmas.Option.{get_or_from_slice_get, slice_get-get_or, sl
 use Rattle.gr_model.specs.declared.event.Event.{Event}
 use Rattle.gr_model.specs.declared.event.EventId.{EventId}
 use Rattle.gr_model.specs.declared.event.ItemId.{ItemId}
-use Rattle.gr_model.specs.Barriers.{IsDivergent, arrivals, is_barrier, mark_of}
+use Rattle.gr_model.specs.Barriers.{IsDivergent, is_barrier}
 use Rattle.gr_model.specs.Events.{is_end}
 use Rattle.gr_model.specs.Streams.{Streams, event_at, place_of, trace_of}
 use Rattle.gr_clocks.specs.Counts.{count_of}
-use Rattle.gr_lanes.specs.Instances.{HasCome}
 use Rattle.gr_lanes.specs.Takes.{CanTake, next_of, with_record}
 use Rattle.gr_steps.specs.Steps.{CanHandle}
 use Rattle.gr_steps.proofs.EventRecords.{barriers_name_nothing}
@@ -25,7 +24,7 @@ use Rattle.gr_order.proofs.ForgetLemmas.{unhandled_remembered}
 use Rattle.gr_order.specs.Forgetting.{ForgetsHandled}
 use Rattle.gr_lanes.specs.Remembered.{Remembered, forgotten_of}
 use Rattle.gr_model.specs.LawfulOrders.{IsIn}
-use Rattle.gr_agenda.proofs.TakeFrames.{own_place, AddsNoMark, barrier_goes_on, divergent_was, following_marks, other_divergent, own_arrival, plain_marks}
+use Rattle.gr_agenda.proofs.TakeFrames.{own_place, AddsNoMark, barrier_goes_on, divergent_was, following_marks, other_divergent, plain_marks}
 
 module _ (q : Sequence) (is : IsSequence q) (i : ItemId) (k : ℕ) (next : IsNextBarrier q i k) where
   abbrev e : EventId
@@ -55,16 +54,7 @@ module _ (q q2 : Sequence) (is : IsSequence q) (g : ℕ) (x : Event) (can : CanT
       (λ (apart : h ≡ g → ⊥). are h k (unsettled.others h k told) (other_divergent q.taken g x is.prefixes can h k apart (subst (λ (p : Sequence). IsDivergent p.taken h k) took divergent)))
       (cases_eq h g)
 
-  -- a barrier has come to the instance to which it brings its item
-  pub has_come : is_barrier x ≡ true → (k : ℕ) → k ≡ next_instance q.taken g x.item → HasCome q2.taken g k x
-  has_come barrier k next = subst (λ (p : Sequence). HasCome p.taken g k x) (sym took) (record {
-    item = x.item;
-    within = can.item;
-    barrier = barrier;
-    came = subst (λ n. arrivals (with_record q.taken g x) g n x.item ≡ mark_of x) (sym next) (own_arrival q.taken g x is.prefixes can (barrier_goes_on x.kind x.word barrier) barrier);
-  })
-
-  -- that instance is not forgotten, since the barrier was not handled
+  -- the instance to which a barrier brings its item is not forgotten, since the barrier was not handled
   pub own_remembered : is_barrier x ≡ true → (k : ℕ) → k ≡ next_instance q.taken g x.item → (r : Remembered) → r.streams ≡ q2.taken → ForgetsHandled r q2.handled → forgotten_of r g ≤ k
   own_remembered barrier k next r streams forgets = unhandled_remembered r q2.handled forgets own out k place
     where

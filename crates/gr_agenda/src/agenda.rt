@@ -416,7 +416,7 @@ impl<A: Allocator> Agenda<A> {
                 }
             }
             Reach::Mark(instance) => {
-                if is_divergent(self.order.lanes(), group, instance, &event) {
+                if is_divergent(self.order.lanes(), group, instance) {
                     wake_group(&self.order, &mut self.worklist, &mut self.undiverged, group);
                 } else {
                     tell_undiverged(&mut self.undiverged, group, instance);

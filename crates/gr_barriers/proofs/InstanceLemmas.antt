@@ -1,18 +1,18 @@
 -- All groups' barriers: what a mark more and an ended group change, and the list of the divergences so far.
-use Rattle.std.proofs.Common.{◌≡◌, ◌≢◌, ◌⊎◌, ◌↔◌, ℕ, zero, suc, ◌+◌, ◌<◌, ◌≤◌, true, false, List, [], ◌∷◌, ◌++◌, length, get_or, set, Some, None, Contains, refl, sym, ◌∙◌, ap, subst, arith, inl, inr, ⊎_elim}
-use Rattle.std.proofs.lemmas.Bool.{cases_eq, cases_lt}
+use Rattle.std.proofs.Common.{◌≡◌, ◌≢◌, ℕ, ◌+◌, ◌<◌, ◌≤◌, true, false, List, [], ◌∷◌, ◌++◌, length, get_or, set, sym, ◌∙◌, ap, arith, ⊎_elim}
+use Rattle.std.proofs.lemmas.Bool.{cases_eq}
 use Rattle.std.proofs.lemmas.List.{get_or-set_same, get_or-set_other, length-set, get_or_read, get_or-map, length-map}
-use Rattle.std.proofs.lemmas.List.Elements.{Contains-append_left, Contains-append_cases, Contains-push, Contains-get_or}
-use Rattle.std.proofs.lemmas.List.Quantifiers.{all_pairs_push}
 use Rattle.std.proofs.Math.Seq.{map-set_same}
 use Rattle.gr_model.specs.declared.event.ItemId.{ItemId}
 use Rattle.gr_model.specs.declared.report.Divergence.{Divergence}
 use Rattle.gr_model.specs.declared.report.DivergenceCause.{DivergenceCause}
 use Rattle.gr_model.specs.Instances.{Mark, IsDivergentOf, HasDivergenceCause}
 use Rattle.gr_model.specs.Shapes.{HasItem}
-use Rattle.gr_model.specs.Reports.{Lists, DivergenceBelow}
-use Rattle.gr_model.proofs.Causes.{cause_diverges, one_cause}
-use Rattle.gr_barriers.specs.Arrived.{GroupMarks, sizes_of, group_of, marks_at, brought, Arrives, Ends, NobodyCame, IsDivergence, IsBefore, AreListed}
+use Rattle.gr_model.proofs.Causes.{cause_diverges}
+use Rattle.gr_barriers.specs.Arrived.{GroupMarks, sizes_of, group_of, marks_at, brought, Arrives, Ends, IsDivergence}
+use Rattle.gr_barriers.specs.Listings.{AreListedBefore}
+use Rattle.gr_barriers.specs.Summaries.{NobodyCame}
+use Rattle.gr_barriers.proofs.Listing.{group_done, instance_with, instance_without}
 
 -- ---- another group in its place
 
@@ -85,116 +85,13 @@ item_there v i has =
 
 -- ---- divergences, listed in order
 
-only : {X : Type 0} (y x : X) → Contains (y ∷ []) x → y ≡ x
-only y x (zero, within, is) = is
-only y x (suc n, within, is) = absurd (omega arith)
+module _ (v : List GroupMarks) (g k : ℕ) (ds : List Divergence) (listed : AreListedBefore (IsDivergence v) g k ds) where
+  pub listed_skip : ¬ IsDivergentOf (group_of v g).ended (length (group_of v g).marks) (brought (group_of v g) k) → AreListedBefore (IsDivergence v) g (k + 1) ds
+  listed_skip = instance_without (IsDivergence v) (λ h. (group_of v h).ended) (λ h. length (group_of v h).marks) (λ h. brought (group_of v h)) (λ d is. is.cause) g k ds listed
 
-nobody_diverges : (t : GroupMarks) (k : ℕ) → NobodyCame t k → ¬ IsDivergentOf t.ended (length t.marks) (brought t k)
-nobody_diverges t k none (inl (i, j, a, b, at_i, at_j, differ)) = let lacks : brought t k i ≡ None = none i at_i.0 in let clash : Some a ≡ None = sym at_i.1 ∙ lacks in cc
-nobody_diverges t k none (inr (ended, (i, j, a, at_i, within, lacks))) = let lacks_i : brought t k i ≡ None = none i at_i.0 in let clash : Some a ≡ None = sym at_i.1 ∙ lacks_i in cc
+  pub listed_more : g < length v → (c : DivergenceCause) → HasDivergenceCause (group_of v g).ended (length (group_of v g).marks) (brought (group_of v g) k) c → AreListedBefore (IsDivergence v) g (k + 1) (ds ++ record { group = g; instance = k; cause = c } ∷ [])
+  listed_more there c cause = instance_with (IsDivergence v) (λ h. (group_of v h).ended) (λ h. length (group_of v h).marks) (λ h. brought (group_of v h)) (λ d is. is.cause) g k ds listed c cause
+      (record { group = there; divergent = cause_diverges (group_of v g).ended (length (group_of v g).marks) (brought (group_of v g) k) c cause; cause = cause })
 
--- the cause of a group's instance
-abbrev pub HasCause : List GroupMarks → ℕ → ℕ → DivergenceCause → Type 0
-HasCause v g k c = HasDivergenceCause (group_of v g).ended (length (group_of v g).marks) (brought (group_of v g) k) c
-
-abbrev pub Diverges : List GroupMarks → ℕ → ℕ → Type 0
-Diverges v g k = IsDivergentOf (group_of v g).ended (length (group_of v g).marks) (brought (group_of v g) k)
-
--- a list of the values of which P holds lists those of which Q does, where both say the same
-lists_same : {X : Type 0} (Below : X → X → Type 0) (P Q : X → Type 0) (xs : List X) → Lists Below P xs → ((x : X) → P x ↔ Q x) → Lists Below Q xs
-lists_same Below P Q xs lists same = record { ascending = lists.ascending; exact = λ x. (λ in_xs. (same x).0 ((lists.exact x).0 in_xs), λ q. (lists.exact x).1 ((same x).1 q)) }
-
-before_more : (g k : ℕ) (d : Divergence) → IsBefore g k d → IsBefore g (k + 1) d
-before_more g k d (inl lower) = inl lower
-before_more g k d (inr here) = inr (here.0, let lt : d.instance < k + 1 = omega (arith, here.1) in lt)
-
-before_cases : (g k : ℕ) (d : Divergence) → IsBefore g (k + 1) d → IsBefore g k d ⊎ ((d.group ≡ g) × (d.instance ≡ k))
-before_cases g k d (inl lower) = inl (inl lower)
-before_cases g k d (inr here) =
-    ⊎_elim
-    (λ (same : d.instance ≡ k). inr (here.0, same))
-    (λ (other : d.instance ≡ k → ⊥). inl (inr (here.0, let lt : d.instance < k = omega (arith, here.1) in lt)))
-    (cases_eq d.instance k)
-
-module _ (v : List GroupMarks) (g k : ℕ) (ds : List Divergence) (listed : AreListed v g k ds) where
-  -- an instance that is not divergent is not listed
-  pub listed_skip : ¬ Diverges v g k → AreListed v g (k + 1) ds
-  listed_skip none = lists_same DivergenceBelow (λ d. IsDivergence v d × IsBefore g k d) (λ d. IsDivergence v d × IsBefore g (k + 1) d) ds listed
-      (λ d. (
-        λ p. (p.0, before_more g k d p.1),
-        λ p. ⊎_elim
-            (λ (before : IsBefore g k d). (p.0, before))
-            (λ (here : (d.group ≡ g) × (d.instance ≡ k)). absurd (none (subst (λ (n : ℕ). Diverges v g n) here.1 (subst (λ (n : ℕ). Diverges v n d.instance) here.0 p.0.divergent))))
-            (before_cases g k d p.1),
-      ))
-
-  -- one that is divergent is listed with its cause
-  module _ (there : g < length v) (c : DivergenceCause) (cause : HasCause v g k c) where
-    abbrev this : Divergence
-    this = record { group = g; instance = k; cause = c }
-
-    is_this : (d : Divergence) → IsDivergence v d → d.group ≡ g → d.instance ≡ k → d ≡ this
-    is_this d is group instance =
-        let causes : HasCause v g k d.cause = subst (λ (n : ℕ). HasCause v g n d.cause) instance (subst (λ (n : ℕ). HasCause v n d.instance d.cause) group is.cause) in
-        let same : d.cause ≡ c = one_cause (group_of v g).ended (length (group_of v g).marks) (brought (group_of v g) k) d.cause c causes cause in
-        let first : Divergence = record { group = g; instance = d.instance; cause = d.cause } in
-        let second : Divergence = record { group = g; instance = k; cause = d.cause } in
-        let one : d ≡ first = ap (λ (n : ℕ). let x : Divergence = record { group = n; instance = d.instance; cause = d.cause } in x) group in
-        let two : first ≡ second = ap (λ (n : ℕ). let x : Divergence = record { group = g; instance = n; cause = d.cause } in x) instance in
-        one ∙ two ∙ ap (λ (e : DivergenceCause). let x : Divergence = record { group = g; instance = k; cause = e } in x) same
-
-    below_this : (d : Divergence) → IsBefore g k d → DivergenceBelow d this
-    below_this d (inl lower) = inl lower
-    below_this d (inr here) = inr here
-
-    this_is : IsDivergence v this
-    this_is = record { group = there; divergent = cause_diverges (group_of v g).ended (length (group_of v g).marks) (brought (group_of v g) k) c cause; cause = cause }
-
-    pub listed_more : AreListed v g (k + 1) (ds ++ record { group = g; instance = k; cause = c } ∷ [])
-    listed_more = record {
-      ascending = all_pairs_push DivergenceBelow ds this listed.ascending (λ n d within. below_this (get_or ds n d) ((listed.exact (get_or ds n d)).0 (Contains-get_or ds n d within)).1);
-      exact = λ d. (
-        λ in_more. ⊎_elim
-            (λ (old : Contains ds d). let p = (listed.exact d).0 old in (p.0, before_more g k d p.1))
-            (λ (new : Contains (this ∷ []) d). let same : this ≡ d = only this d new in subst (λ (x : Divergence). IsDivergence v x × IsBefore g (k + 1) x) same (this_is, inr (refl, let lt : k < k + 1 = omega arith in lt)))
-            (Contains-append_cases ds (this ∷ []) d in_more),
-        λ p. ⊎_elim
-            (λ (before : IsBefore g k d). Contains-append_left ds (this ∷ []) d ((listed.exact d).1 (p.0, before)))
-            (λ (here : (d.group ≡ g) × (d.instance ≡ k)). subst (λ (x : Divergence). Contains (ds ++ this ∷ []) x) (sym (is_this d p.0 here.0 here.1)) (Contains-push ds this))
-            (before_cases g k d p.1),
-      );
-    }
-
-  -- after the last instance to which somebody came, the group is done
-  pub listed_turn : ((n : ℕ) → k ≤ n → NobodyCame (group_of v g) n) → AreListed v (g + 1) 0 ds
-  listed_turn none = lists_same DivergenceBelow (λ d. IsDivergence v d × IsBefore g k d) (λ d. IsDivergence v d × IsBefore (g + 1) 0 d) ds listed
-      (λ d. (λ p. (p.0, earlier d p.1), λ p. (p.0, later d p.0 p.1)))
-    where
-      earlier : (d : Divergence) → IsBefore g k d → IsBefore (g + 1) 0 d
-      earlier d (inl lower) = inl (let lt : d.group < g + 1 = omega arith in lt)
-      earlier d (inr here) = inl (let lt : d.group < g + 1 = omega (arith, here.0) in lt)
-
-      later : (d : Divergence) → IsDivergence v d → IsBefore (g + 1) 0 d → IsBefore g k d
-      later d is (inr past) = let over : d.instance < 0 = past.1 in absurd (omega arith)
-      later d is (inl lower) =
-          ⊎_elim
-          (λ (same : d.group ≡ g). ⊎_elim
-          (λ (lt : d.instance < k). inr (same, lt))
-          (λ (le : k ≤ d.instance). absurd (nobody_diverges (group_of v g) d.instance (none d.instance le) (subst (λ (n : ℕ). Diverges v n d.instance) same is.divergent)))
-          (cases_lt d.instance k))
-          (λ (other : d.group ≡ g → ⊥). inl (let lt : d.group < g = omega arith in lt))
-          (cases_eq d.group g)
-
--- nothing stands before the first group, and all before the end
-pub listed_start : (v : List GroupMarks) → AreListed v 0 0 []
-listed_start v = record {
-  ascending = λ i j d i_below within. absurd (omega arith);
-  exact = λ d. (λ none. absurd (let over : none.0 < 0 = none.1 in omega arith), λ p. absurd (nothing d p.1));
-}
-  where
-    nothing : (d : Divergence) → IsBefore 0 0 d → ⊥
-    nothing d (inl lower) = omega arith
-    nothing d (inr here) = let over : d.instance < 0 = here.1 in omega arith
-
-pub listed_all : (v : List GroupMarks) (n : ℕ) (ds : List Divergence) → n ≡ length v → AreListed v n 0 ds → Lists DivergenceBelow (IsDivergence v) ds
-listed_all v n ds whole listed = lists_same DivergenceBelow (λ d. IsDivergence v d × IsBefore n 0 d) (IsDivergence v) ds listed (λ d. (λ p. p.0, λ is. (is, inl (subst (λ (m : ℕ). d.group < m) (sym whole) is.group))))
+  pub listed_turn : ((n : ℕ) → k ≤ n → NobodyCame (length (group_of v g).marks) (brought (group_of v g) n)) → AreListedBefore (IsDivergence v) (g + 1) 0 ds
+  listed_turn = group_done (IsDivergence v) (λ h. (group_of v h).ended) (λ h. length (group_of v h).marks) (λ h. brought (group_of v h)) (λ d is. is.cause) g k ds listed

@@ -1,2 +1,5 @@
 pub mod GroupLemmas
 pub mod InstanceLemmas
+pub mod Listing
+pub mod Lists
+pub mod SummaryLemmas

@@ -1,14 +1,13 @@
 -- What the items of a launch's groups have brought to their barriers so far.
 -- Source: docs/MODEL.md, "Barriers". What an instance is: the model's `Instances`.
-use Rattle.std.specs.Prelude.{◌≡◌, ◌≢◌, ◌⊎◌, ℕ, ◌<◌, ◌≤◌, Bool, true, false, List, [], ◌∷◌, ◌++◌, map, length, replicate, slice_get, slice_index_or, Option, Some, None}
+use Rattle.std.specs.Prelude.{◌≡◌, ◌≢◌, ℕ, ◌<◌, ◌≤◌, Bool, true, false, List, [], ◌∷◌, ◌++◌, map, length, replicate, slice_get, slice_index_or, Option, MatchOption}
 use Rattle.gr_model.specs.declared.event.ItemId.{ItemId}
 use Rattle.gr_model.specs.declared.report.Divergence.{Divergence}
 use Rattle.gr_model.specs.declared.report.DivergenceCause.{DivergenceCause}
 use Rattle.gr_model.specs.declared.limits.TheConstants.{MOST_RECORDS}
-use Rattle.gr_model.specs.Instances.{Mark, Arrivals, HasArrived, IsConvergentOf, IsDivergentOf, IsWaitingOf, HasDivergenceCause}
-use Rattle.gr_model.specs.Reports.{Lists, DivergenceBelow}
+use Rattle.gr_model.specs.Instances.{Mark, Arrivals, IsDivergentOf, HasDivergenceCause}
 use Rattle.gr_barriers.specs.declared.instances.State.{State}
-use Rattle.gr_barriers.specs.declared.instances.State.TheVariants.{Waiting, Convergent, Divergent}
+use Rattle.gr_barriers.specs.Summaries.{IsStateOf}
 
 -- of each item of a group the marks of its barriers, in their order, and whether the group's stream has ended
 pub record GroupMarks : Type 0 where
@@ -56,21 +55,13 @@ pub record Ends (old : List GroupMarks) (g : ℕ) (new : List GroupMarks) : Type
 
 -- ---- what is known of an instance
 
--- nobody has come to it
-abbrev pub NobodyCame : GroupMarks → ℕ → Type 0
-NobodyCame t k = (i : ℕ) → i < length t.marks → brought t k i ≡ None
-
--- the state of an instance; one to which nobody came has none
+-- its state
 abbrev pub IsState : GroupMarks → ℕ → Option State → Type 0
-IsState t k None = NobodyCame t k
-IsState t k (Some Waiting) = IsWaitingOf t.ended (length t.marks) (brought t k)
-IsState t k (Some Convergent) = (0 < length t.marks) × ((a : Mark) × IsConvergentOf (length t.marks) (brought t k) a)
-IsState t k (Some Divergent) = IsDivergentOf t.ended (length t.marks) (brought t k)
+IsState t k state = IsStateOf t.ended (length t.marks) (brought t k) state
 
--- the cause of an instance; one that is not divergent has none
+-- its cause; one that is not divergent has none
 abbrev pub IsCause : GroupMarks → ℕ → Option DivergenceCause → Type 0
-IsCause t k None = ¬ IsDivergentOf t.ended (length t.marks) (brought t k)
-IsCause t k (Some c) = HasDivergenceCause t.ended (length t.marks) (brought t k) c
+IsCause t k cause = MatchOption cause (¬ IsDivergentOf t.ended (length t.marks) (brought t k)) (HasDivergenceCause t.ended (length t.marks) (brought t k))
 
 -- a divergent instance of a group, with its cause
 pub record IsDivergence (v : List GroupMarks) (d : Divergence) : Type 0 where
@@ -79,22 +70,6 @@ pub record IsDivergence (v : List GroupMarks) (d : Divergence) : Type 0 where
   pub cause : HasDivergenceCause (group_of v d.group).ended (length (group_of v d.group).marks) (brought (group_of v d.group) d.instance) d.cause
 
 -- ---- parts of these
-
--- some item has come, with a mark of which P holds
-abbrev pub SomeCame : GroupMarks → ℕ → (Mark → Type 0) → Type 0
-SomeCame t k P = (i : ℕ) × (a : Mark) × HasArrived (length t.marks) (brought t k) i a × P a
-
--- some item has not come
-abbrev pub SomeMissing : GroupMarks → ℕ → Type 0
-SomeMissing t k = (j : ℕ) × (j < length t.marks) × (brought t k j ≡ None)
-
--- an instance of an earlier group, or an earlier one of this group
-abbrev pub IsBefore : ℕ → ℕ → Divergence → Type 0
-IsBefore g k d = (d.group < g) ⊎ ((d.group ≡ g) × (d.instance < k))
-
--- the divergences before instance k of group g
-abbrev pub AreListed : List GroupMarks → ℕ → ℕ → List Divergence → Type 0
-AreListed v g k ds = Lists DivergenceBelow (λ d. IsDivergence v d × IsBefore g k d) ds
 
 -- no item has more marks than a stream has records
 abbrev pub AreFew : List (List Mark) → Type 0

@@ -2,11 +2,13 @@
 //!
 //! The mark with number k of each item belongs to instance k of the group (docs/MODEL.md, "Barriers").
 
-ghost use Rattle.std.specs.Prelude.{◌≡◌, ◌≢◌, ◌↔◌, ◌<◌, ◌≤◌, ◌++◌, ◌∷◌, [], ⊤, true, false, IsTrue, IfOk, OnOk, OnErr, MatchOption, length, replicate, slice_get, slice_index_or, slice_set, ℕ};
-ghost use Rattle.gr_barriers.specs.Arrived.{marks_at, brought, NobodyCame, SomeCame, SomeMissing, IsState, IsCause};
+ghost use Rattle.std.specs.Prelude.{◌≡◌, ◌<◌, ◌≤◌, ◌++◌, ◌∷◌, [], true, false, IfOk, OnOk, OnErr, length, replicate, slice_get, slice_index_or, slice_set, ℕ};
+ghost use Rattle.gr_barriers.specs.Arrived.{marks_at, brought, IsState, IsCause};
+ghost use Rattle.gr_barriers.specs.Summaries.{IsSummaryOf, NobodyCame};
 
 use crate::instances::State;
 use crate::mark::Mark;
+use crate::summary::Summary;
 use gr_model::limits::MOST_RECORDS;
 use gr_model::memory::Memory;
 use gr_model::report::DivergenceCause;
@@ -116,7 +118,7 @@ impl<A: Allocator> Group<A> {
 
     /// How many barriers an item has brought, at most.
     pub(crate) fn instances(&self) -> u32
-        ensures { (k : ℕ) → result ≤ k → NobodyCame self.now k }
+        ensures { (k : ℕ) → result ≤ k → NobodyCame (length self.now.marks) (brought self.now k) }
     {
         let mut most: usize = 0;
         for item in 0..self.size() {
@@ -125,94 +127,28 @@ impl<A: Allocator> Group<A> {
         most as u32
     }
 
-    /// What some item has brought to an instance, if one has come.
-    fn some_arrival(&self, instance: u32) -> Option<Mark>
-        ensures { MatchOption result (NobodyCame self.now instance) (λ a. SomeCame self.now instance (λ b. b ≡ a)) }
+    /// What the items have brought to an instance, in sum.
+    fn summary(&self, instance: u32) -> Summary
+        ensures { IsSummaryOf (length self.now.marks) (brought self.now instance) result }
     {
+        let mut summary = Summary::new();
         for item in 0..self.size() {
-            if let Some(mark) = self.arrival(item, instance) {
-                return Some(mark);
-            }
+            summary = summary.adding(self.arrival(item, instance));
         }
-        None
-    }
-
-    /// Whether some item has not come to an instance.
-    fn lacks_one(&self, instance: u32) -> bool
-        ensures { IsTrue result ↔ SomeMissing self.now instance }
-    {
-        for item in 0..self.size() {
-            if self.arrival(item, instance).is_none() {
-                return true;
-            }
-        }
-        false
-    }
-
-    /// Whether some item has come to an instance from another site.
-    fn has_other_site(&self, instance: u32, mark: Mark) -> bool
-        ensures { IsTrue result ↔ SomeCame self.now instance (λ b. b.site ≢ mark.site) }
-    {
-        for item in 0..self.size() {
-            if let Some(other) = self.arrival(item, instance)
-                && !other.is_at_site_of(mark)
-            {
-                return true;
-            }
-        }
-        false
-    }
-
-    /// Whether some item has come to an instance from another site or with other flags.
-    fn has_other_mark(&self, instance: u32, mark: Mark) -> bool
-        ensures { IsTrue result ↔ SomeCame self.now instance (λ b. b ≢ mark) }
-    {
-        for item in 0..self.size() {
-            if let Some(other) = self.arrival(item, instance)
-                && !other.is_same(mark)
-            {
-                return true;
-            }
-        }
-        false
-    }
-
-    /// Whether some item has not come to an instance and never will.
-    fn is_missing_one(&self, instance: u32) -> bool
-        ensures { IsTrue result ↔ (IsTrue self.now.ended × SomeMissing self.now instance) }
-    {
-        self.ended && self.lacks_one(instance)
+        summary
     }
 
     /// The state of an instance, or `None` if no item has come to it.
     pub(crate) fn state(&self, instance: u32) -> Option<State>
         ensures { IsState self.now instance result }
     {
-        let mark = self.some_arrival(instance)?;
-        if self.has_other_mark(instance, mark) {
-            Some(State::Divergent)
-        } else if self.is_missing_one(instance) {
-            Some(State::Divergent)
-        } else if self.lacks_one(instance) {
-            Some(State::Waiting)
-        } else {
-            Some(State::Convergent)
-        }
+        self.summary(instance).state(self.ended)
     }
 
     /// Why an instance is divergent, or `None` where it is not.
     pub(crate) fn cause(&self, instance: u32) -> Option<DivergenceCause>
         ensures { IsCause self.now instance result }
     {
-        let mark = self.some_arrival(instance)?;
-        if self.is_missing_one(instance) {
-            Some(DivergenceCause::Missing)
-        } else if self.has_other_site(instance, mark) {
-            Some(DivergenceCause::Site)
-        } else if self.has_other_mark(instance, mark) {
-            Some(DivergenceCause::Flags)
-        } else {
-            None
-        }
+        self.summary(instance).cause(self.ended)
     }
 }

@@ -8,7 +8,9 @@ ghost use Rattle.std.specs.Prelude.{◌≡◌, ◌≢◌, ◌↔◌, ◌<◌, �
 ghost use Rattle.gr_model.specs.Shapes.{HasItem};
 ghost use Rattle.gr_model.specs.Reports.{Lists, DivergenceBelow};
 ghost use Rattle.gr_barriers.specs.declared.instances.BarrierError.TheVariants.{Memory as OutOfMemory};
-ghost use Rattle.gr_barriers.specs.Arrived.{sizes_of, group_of, marks_of, fresh_group, Arrives, Ends, NobodyCame, IsState, IsCause, IsDivergence, AreListed};
+ghost use Rattle.gr_barriers.specs.Arrived.{sizes_of, group_of, marks_of, fresh_group, Arrives, Ends, brought, IsState, IsCause, IsDivergence};
+ghost use Rattle.gr_barriers.specs.Listings.{AreListedBefore};
+ghost use Rattle.gr_barriers.specs.Summaries.{NobodyCame};
 
 use crate::group::Group;
 use crate::mark::Mark;
@@ -208,7 +210,7 @@ impl<A: Allocator> Instances<A> {
     /// Requires: there is such a group.
     fn instances(&self, group: u16) -> u32
         requires { group < length self.now }
-        ensures { (k : ℕ) → result ≤ k → NobodyCame (group_of self.now group) k }
+        ensures { (k : ℕ) → result ≤ k → NobodyCame (length (group_of self.now group).marks) (brought (group_of self.now group) k) }
     {
         self.groups[group as usize].instances()
     }
@@ -217,8 +219,8 @@ impl<A: Allocator> Instances<A> {
     /// Requires: there is such a group, and the list has those of the groups before it.
     fn add_group(&self, group: u16, list: &mut Vec<Divergence, A>) -> Result<(), Memory>
         requires group { group < length self.now }
-        requires before { AreListed self.now group 0 list.old.items }
-        ensures { OnOk result (AreListed self.now (group + 1) 0 list.new.items) }
+        requires before { AreListedBefore (IsDivergence self.now) group 0 list.old.items }
+        ensures { OnOk result (AreListedBefore (IsDivergence self.now) (group + 1) 0 list.new.items) }
     {
         for instance in 0..self.instances(group) {
             if let Some(cause) = self.cause(group, instance) {

@@ -4,6 +4,7 @@
 
 mod group;
 pub mod instances;
-mod mark;
+pub mod mark;
+pub mod summary;
 
 pub use gr_model::report::{Divergence, DivergenceCause};

@@ -6,7 +6,7 @@ use std::marker::Model;
 
 /// The site of a barrier, and the memories that its flags name.
 #[derive(Clone, Copy, Debug)]
-pub(crate) struct Mark {
+pub struct Mark {
     site: u32,
     global: bool,
     local: bool,
@@ -24,7 +24,7 @@ impl Model for Mark {
 
 impl Mark {
     /// The mark of a barrier at this site with these flags.
-    pub(crate) fn new(site: u32, global: bool, local: bool) -> Mark
+    pub fn new(site: u32, global: bool, local: bool) -> Mark
         ensures { result ≡ record { site = site; global = global; local = local } }
     {
         Mark {

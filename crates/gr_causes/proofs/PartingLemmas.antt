@@ -1,10 +1,9 @@
 -- Where an event stands behind its item's barrier of an instance.
-use Rattle.std.proofs.Common.{◌≡◌, ℕ, zero, suc, ◌+◌, ◌<◌, ◌≤◌, Bool, true, false, cond, List, [], ◌∷◌, Some, None, slice_get, sym, ◌∙◌, arith}
+use Rattle.std.proofs.Common.{◌≡◌, ℕ, zero, suc, ◌+◌, ◌<◌, ◌≤◌, Bool, true, false, cond, List, [], ◌∷◌, Some, None, slice_get, arith}
 use Rattle.gr_model.specs.declared.event.EventId.{EventId}
-use Rattle.gr_model.specs.Barriers.{arrivals, is_barrier, mark_of}
+use Rattle.gr_model.specs.Barriers.{is_barrier}
 use Rattle.gr_model.specs.Shapes.{HasItem}
 use Rattle.gr_model.specs.Streams.{ArePrefixes, IsEvent, Streams, places_from, trace_of}
-use Rattle.gr_model.proofs.Places.{place-filter_map}
 use Rattle.gr_steps.proofs.EventRecords.{group_of_event, item_of_event}
 use Rattle.gr_causes.specs.Parting.{IsBehind}
 
@@ -25,13 +24,6 @@ place_at_least {X} test i (x ∷ xs) k p at =
 -- so the number of the instance is below the index of the event
 pub number_below : (s : Streams) (e : EventId) (k : ℕ) → IsBehind s e k → k < e.index
 number_below s e k behind = let far = place_at_least is_barrier 0 (trace_of s e.at) k behind.0 behind.1 in omega (arith, far, behind.2)
-
--- and its item has come to the instance
-pub behind_has_come : (s : Streams) (e : EventId) (k : ℕ) → IsBehind s e k → ¬ (arrivals s e.at.group k e.at.item ≡ None)
-behind_has_come s e k behind missing =
-    let found = place-filter_map mark_of 0 (trace_of s e.at) k behind.0 behind.1 in
-    let no : None ≡ Some found.0 = sym missing ∙ found.1 in
-    cc
 
 -- an event is of an item of the launch
 pub event_has_item : (s : Streams) (e : EventId) → ArePrefixes s → IsEvent s e → HasItem s.sizes e.at

@@ -5,7 +5,7 @@ ghost use Rattle.gr_model.specs.Shapes.{HasItem};
 ghost use Rattle.gr_lanes.specs.Remembered.{IsAllRemembered, IsRemembered};
 ghost use Rattle.gr_causes.specs.Parting.{AreParted, IsBehind, IsParting};
 
-use gr_lanes::instance::{barrier, is_divergent};
+use gr_lanes::instance::is_divergent;
 use gr_lanes::lanes::Lanes;
 use gr_model::event::EventId;
 use std::alloc::Allocator;
@@ -31,10 +31,7 @@ fn is_parting<A: Allocator>(lanes: &Lanes<A>, number: u32, first: EventId, secon
     if !is_behind(lanes, first, number) || is_behind(lanes, second, number) {
         return false;
     }
-    match barrier(lanes, first.at, number) {
-        None => false,
-        Some(mine) => is_divergent(lanes, first.at.group, number, &mine),
-    }
+    is_divergent(lanes, first.at.group, number)
 }
 
 /// Whether a divergent instance stands between two events.

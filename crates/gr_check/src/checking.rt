@@ -5,6 +5,7 @@ ghost use Rattle.std.specs.Io.KnownBytes.{Keeps};
 ghost use Rattle.gr_input.specs.Faults.{IsOutside};
 ghost use Rattle.gr_model.specs.Streams.{AreAccepted};
 ghost use Rattle.gr_record.specs.declared.fault.Fault.TheVariants as faults;
+ghost use Rattle.gr_record.specs.Faults.{IsOfValues};
 ghost use Rattle.gr_replay.specs.Each.{IsEachFault, ReadsEach, all_known, inputs_of};
 ghost use Rattle.gr_check.specs.Checked.{ChecksPrefix, IsCheckFault, IsChecked};
 
@@ -44,6 +45,7 @@ pub fn launch_of<A: Allocator + Copy>(alloc: A, inputs: &[Vec<u8, A>]) -> Result
     ensures launch { IfOk result (λ t. ReadsEach (inputs_of inputs.now) t) }
     ensures accepted { IfOk result (λ t. AreAccepted t) }
     ensures fault { IfErr result (λ f. IsEachFault (inputs_of inputs.now) f) }
+    ensures values { IfErr result IsOfValues }
 {
     let streams = read_only_streams(alloc, inputs)?;
     traces_of(alloc, streams)

@@ -59,9 +59,7 @@ fn is_flagged<A: Allocator>(records: &Records<A>, space: Space, event: EventId, 
 {
     match records.event_at(event) {
         None => false,
-        Some(taken) => {
-            has_flag(&taken.kind, space) && !records.is_divergent(event.at.group, number, &taken)
-        }
+        Some(taken) => { has_flag(&taken.kind, space) && !records.is_divergent(event.at, number) }
     }
 }
 

@@ -6,10 +6,9 @@ ghost use Rattle.std.specs.Prelude.{◌≡◌, ◌≢◌, ◌↔◌, ◌<◌, []
 ghost use Rattle.gr_model.specs.Barriers.{IsDivergent, is_barrier};
 ghost use Rattle.gr_model.specs.Names.{release_place};
 ghost use Rattle.gr_model.specs.Streams as model;
-ghost use Rattle.gr_lanes.specs.Instances.{HasCome};
 
 use gr_lanes::instance::is_divergent;
-use gr_model::event::{Event, EventId, Name, Word, word_of};
+use gr_model::event::{Event, EventId, ItemId, Name, Word, word_of};
 use gr_order::order::Order;
 use std::alloc::{Allocator, Global};
 use std::marker::Model;
@@ -72,12 +71,12 @@ impl<A: Allocator> Records<A> {
         self.order.lanes().barrier_number(event)
     }
 
-    /// Whether the instance of a barrier is divergent.
-    pub(crate) fn is_divergent(&self, group: u16, number: u32, mine: &Event) -> bool
-        requires group { group < length self.now.sizes }
-        requires come { HasCome self.now group number mine.now }
-        ensures { IsTrue result ↔ IsDivergent self.now group number }
+    /// Whether the instance of this number, to which an item came, is divergent.
+    pub(crate) fn is_divergent(&self, item: ItemId, number: u32) -> bool
+        requires group { item.group < length self.now.sizes }
+        requires come { (p : ℕ) × (model.place_of self.now is_barrier item number ≡ Some p) }
+        ensures { IsTrue result ↔ IsDivergent self.now item.group number }
     {
-        is_divergent(self.order.lanes(), group, number, mine)
+        is_divergent(self.order.lanes(), item.group, number)
     }
 }

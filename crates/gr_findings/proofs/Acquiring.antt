@@ -16,7 +16,7 @@ use Rattle.gr_model.specs.Streams.{ArePrefixes, Streams, event_at, size_of, word
 use Rattle.gr_model.proofs.Cuts.{same_event}
 use Rattle.gr_clocks.specs.Counts.{Counts, count_of}
 use Rattle.gr_findings.specs.Acquires.{AreUnmatchedBefore, IsElsewhere, IsGroundedFrontier, IsItemBefore}
-use Rattle.gr_findings.proofs.Lists.{listed_push, listed_same, none_listed}
+use Rattle.gr_barriers.proofs.Lists.{listed_push, listed_same, none_listed}
 use Rattle.gr_steps.proofs.Deciding.{by_cases, option_dec, word_dec}
 use Rattle.gr_steps.proofs.EventRecords.{group_of_event, item_of_event}
 

@@ -2,7 +2,7 @@
 use Rattle.std.proofs.Common.{◌≡◌, ◌⊎◌, ℕ, ◌+◌, ◌<◌, ◌≤◌, List, [], ◌∷◌, ◌++◌, length, subst, inl, inr, ⊎_elim, arith, eq-or-lt_of_le}
 use Rattle.gr_model.specs.Reports.{Lists, IsCut}
 use Rattle.gr_model.specs.Streams.{Streams}
-use Rattle.gr_findings.proofs.Lists.{listed_push, listed_same, none_listed}
+use Rattle.gr_barriers.proofs.Lists.{listed_push, listed_same, none_listed}
 
 abbrev pub Above : ℕ → ℕ → Type 0
 Above g h = g < h

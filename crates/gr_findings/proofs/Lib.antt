@@ -1,4 +1,3 @@
-pub mod Lists
 mod Cutting
 mod Acquiring
 mod Diverging

@@ -1,2 +1,1 @@
 pub mod Acquires
-pub mod Instances

@@ -1,12 +1,12 @@
 -- Instances, by the barriers that are found.
-use Rattle.std.proofs.Common.{◌≡◌, ℕ, zero, suc, ◌+◌, ◌<◌, true, cond, List, [], ◌∷◌, Option, Some, None, slice_get, filter, filter_map, is_some, false, ◌⊎◌, refl, sym, ap, ◌∙◌, subst, inl, inr, arith, true≢false}
+use Rattle.std.proofs.Common.{◌≡◌, ℕ, zero, suc, ◌+◌, ◌<◌, ◌≤◌, Bool, true, cond, List, [], ◌∷◌, Option, Some, None, slice_get, filter, filter_map, is_some, false, ◌⊎◌, refl, sym, ap, ◌∙◌, subst, inl, inr, ⊎_elim, arith, true≢false}
 use Rattle.std.specs.Prelude.{MatchOption}
 use Rattle.std.specs.List.{cons_option}
 use Rattle.gr_model.specs.declared.event.Event.{Event}
 use Rattle.gr_model.specs.Barriers.{IsDivergent, arrivals, is_barrier, mark_of}
-use Rattle.gr_model.specs.Instances.{Mark}
+use Rattle.gr_model.specs.Instances.{Arrivals, HasArrived, IsDivergentOf, Mark}
 use Rattle.gr_model.specs.Streams.{Streams, is_complete, list_of, places_from, size_of, trace_of}
-use Rattle.gr_lanes.specs.Instances.{HasCome, MakesDivergent, Parts}
+use Rattle.gr_lanes.specs.Instances.{HasCome}
 use Rattle.gr_lanes.specs.Kept.{CameWith, NoneDiffers, of_item}
 
 -- the k-th barrier of a list gives the k-th mark
@@ -55,66 +55,54 @@ record_mark (x ∷ xs) k =
     here a is zero rest = (sym is, ap is_some is)
     here a is (suc m) rest = rest m
 
--- ---- divergence
+-- ---- instances
 
 pub some_mark : (o : Option Mark) → is_some o ≡ true → (a : Mark) × (o ≡ Some a)
 some_mark None e = absurd (true≢false (sym e))
 some_mark (Some a) e = (a, refl)
 
-module _ (s : Streams) (g k : ℕ) (x : Event) (come : HasCome s g k x) where
-  -- the mark of one that came
-  pub mark_come : (a : Mark) × (mark_of x ≡ Some a)
-  mark_come = some_mark (mark_of x) come.barrier
+-- the mark of one that came
+pub mark_come : (s : Streams) (g k : ℕ) (x : Event) → HasCome s g k x → (a : Mark) × (mark_of x ≡ Some a)
+mark_come s g k x come = some_mark (mark_of x) come.barrier
 
-  pub parted_diverges : (j : ℕ) → j < size_of s g → MakesDivergent s g k (mark_of x) j → IsDivergent s g k
-  parted_diverges j within parted =
-      elim (arrivals s g k j) as (λ o. (arrivals s g k j ≡ o) → Parts (is_complete (list_of s g)) (mark_of x) o → IsDivergent s g k) [
-        | None ↦ λ none whole. inr (whole, (come.item, j, mark_come.0, (come.within, come.came ∙ mark_come.1), within, none))
-        | Some b ↦ λ at other. inl (come.item, j, mark_come.0, b, (come.within, come.came ∙ mark_come.1), (within, at), λ same. other (ap (λ (m : Mark). Some m) (sym same) ∙ sym mark_come.1))
-      ] refl parted
+-- what is divergent by its first items is so by more of them
+pub diverges_still : (ended : Bool) (n m : ℕ) (arrived : Arrivals) → n ≤ m → IsDivergentOf ended n arrived → IsDivergentOf ended m arrived
+diverges_still ended n m arrived le (inl (i, j, a, b, at_i, at_j, differ)) = inl (i, j, a, b, (omega (arith, le, at_i.0), at_i.1), (omega (arith, le, at_j.0), at_j.1), differ)
+diverges_still ended n m arrived le (inr (whole, (i, j, a, at_i, within, lacks))) = inr (whole, (i, j, a, (omega (arith, le, at_i.0), at_i.1), omega (arith, le, within), lacks))
 
-  pub none_parted : ((j : ℕ) → j < size_of s g → MakesDivergent s g k (mark_of x) j → ⊥) → IsDivergent s g k → ⊥
-  none_parted none (inl mixed) =
-      none mixed.0 mixed.4.0 (subst (Parts (is_complete (list_of s g)) (mark_of x)) (sym mixed.4.1) (λ (first_is : Some mixed.2 ≡ mark_of x).
-      none mixed.1 mixed.5.0 (subst (Parts (is_complete (list_of s g)) (mark_of x)) (sym mixed.5.1) (λ (second_is : Some mixed.3 ≡ mark_of x).
-      mixed.6 (let same : Some mixed.2 ≡ Some mixed.3 = first_is ∙ sym second_is in cc)))))
-  none_parted none (inr part) = none part.1.1 part.1.4 (subst (Parts (is_complete (list_of s g)) (mark_of x)) (sym part.1.5) part.0)
-
--- where none differs the instance is not divergent
-module _ (s : Streams) (g n : ℕ) (x : Event) (come : HasCome s g n x) (none : NoneDiffers s g n) where
-  -- what an item came with, or that it did not come
-  came_with : (i : ℕ) → i < size_of s g → (arrivals s g n i ≡ mark_of (of_item i none.0)) ⊎ ((is_complete (list_of s g) ≡ false) × (arrivals s g n i ≡ None))
+-- where none differs
+module _ (s : Streams) (g n : ℕ) (none : NoneDiffers s g n) where
+  -- an item came with one mark, or it did not come, and more may
+  came_with : (i : ℕ) → i < size_of s g → ((arrivals s g n i ≡ mark_of (of_item i none.0)) × (is_some (mark_of (of_item i none.0)) ≡ true)) ⊎ ((is_complete (list_of s g) ≡ false) × (arrivals s g n i ≡ None))
   came_with i within = by_case (none.1 i within)
     where
       xs : List Event
       xs = trace_of s (record { group = g; item = i })
 
-      by_case : CameWith (slice_get (filter is_barrier xs) n) (slice_get (places_from is_barrier 0 xs) n) (is_complete (list_of s g)) i none.0 → (arrivals s g n i ≡ mark_of (of_item i none.0)) ⊎ ((is_complete (list_of s g) ≡ false) × (arrivals s g n i ≡ None))
-      by_case (inl is) = inl (subst (λ (o : Option Event). MatchOption o (slice_get (filter_map mark_of xs) n ≡ None) (λ y. (slice_get (filter_map mark_of xs) n ≡ mark_of y) × (is_some (mark_of y) ≡ true))) is (record_mark xs n)).0
+      by_case : CameWith (slice_get (filter is_barrier xs) n) (slice_get (places_from is_barrier 0 xs) n) (is_complete (list_of s g)) i none.0 → ((arrivals s g n i ≡ mark_of (of_item i none.0)) × (is_some (mark_of (of_item i none.0)) ≡ true)) ⊎ ((is_complete (list_of s g) ≡ false) × (arrivals s g n i ≡ None))
+      by_case (inl is) = inl (subst (λ (o : Option Event). MatchOption o (slice_get (filter_map mark_of xs) n ≡ None) (λ y. (slice_get (filter_map mark_of xs) n ≡ mark_of y) × (is_some (mark_of y) ≡ true))) is (record_mark xs n))
       by_case (inr lacks) = inr (lacks.0, no_mark 0 xs n lacks.1)
 
-  mark_is : mark_of (of_item come.item none.0) ≡ mark_of x
-  mark_is = by_case (came_with come.item come.within)
-    where
-      by_case : (arrivals s g n come.item ≡ mark_of (of_item come.item none.0)) ⊎ ((is_complete (list_of s g) ≡ false) × (arrivals s g n come.item ≡ None)) → mark_of (of_item come.item none.0) ≡ mark_of x
-      by_case (inl is) = sym is ∙ come.came
-      by_case (inr lacks) = let some = some_mark (mark_of x) come.barrier in absurd (let no : None ≡ Some some.0 = sym lacks.1 ∙ (come.came ∙ some.1) in cc)
+  -- who came, came with that mark
+  mark_is : (i : ℕ) (a : Mark) → HasArrived (size_of s g) (arrivals s g n) i a → Some a ≡ mark_of (of_item i none.0)
+  mark_is i a at = ⊎_elim
+      (λ (is : (arrivals s g n i ≡ mark_of (of_item i none.0)) × (is_some (mark_of (of_item i none.0)) ≡ true)). sym at.1 ∙ is.0)
+      (λ (lacks : (is_complete (list_of s g) ≡ false) × (arrivals s g n i ≡ None)). let clash : Some a ≡ None = sym at.1 ∙ lacks.1 in cc)
+      (came_with i at.0)
 
-  pub not_divergent : IsDivergent s g n → ⊥
-  not_divergent = none_parted s g n x come (λ j within parted. by_case j parted (came_with j within))
-    where
-      by_case : (j : ℕ) → MakesDivergent s g n (mark_of x) j → (arrivals s g n j ≡ mark_of (of_item j none.0)) ⊎ ((is_complete (list_of s g) ≡ false) × (arrivals s g n j ≡ None)) → ⊥
-      by_case j parted (inl is) =
-          let a = some_mark (mark_of x) come.barrier in
-          subst (Parts (is_complete (list_of s g)) (mark_of x)) (is ∙ (mark_is ∙ a.1)) parted (sym a.1)
-      by_case j parted (inr lacks) =
-          let whole = subst (Parts (is_complete (list_of s g)) (mark_of x)) lacks.1 parted in
-          true≢false (sym whole ∙ lacks.0)
+  -- so the instance is not divergent
+  pub not_divergent : ¬ IsDivergent s g n
+  not_divergent (inl (i, j, a, b, at_i, at_j, differ)) = differ (let same : Some a ≡ Some b = mark_is i a at_i ∙ sym (mark_is j b at_j) in cc)
+  not_divergent (inr (whole, (i, j, a, at_i, within, lacks))) = ⊎_elim
+      (λ (is : (arrivals s g n j ≡ mark_of (of_item j none.0)) × (is_some (mark_of (of_item j none.0)) ≡ true)). true≢false (sym is.1 ∙ ap is_some (sym is.0 ∙ lacks)))
+      (λ (more : (is_complete (list_of s g) ≡ false) × (arrivals s g n j ≡ None)). true≢false (sym whole ∙ more.0))
+      (came_with j within)
 
-  -- who came, came with the mark of that barrier
-  pub came_alike : (i : ℕ) → i < size_of s g → (arrivals s g n i ≡ mark_of x) ⊎ (arrivals s g n i ≡ None)
-  came_alike i within = by_case (came_with i within)
-    where
-      by_case : (arrivals s g n i ≡ mark_of (of_item i none.0)) ⊎ ((is_complete (list_of s g) ≡ false) × (arrivals s g n i ≡ None)) → (arrivals s g n i ≡ mark_of x) ⊎ (arrivals s g n i ≡ None)
-      by_case (inl is) = inl (is ∙ mark_is)
-      by_case (inr lacks) = inr lacks.1
+  -- and who came, came with the mark of one that came
+  pub came_alike : (x : Event) → HasCome s g n x → (i : ℕ) → i < size_of s g → (arrivals s g n i ≡ mark_of x) ⊎ (arrivals s g n i ≡ None)
+  came_alike x come i within = ⊎_elim
+      (λ (is : (arrivals s g n i ≡ mark_of (of_item i none.0)) × (is_some (mark_of (of_item i none.0)) ≡ true)).
+      let a = mark_come s g n x come in
+      inl (is.0 ∙ (sym (mark_is come.item a.0 (come.within, come.came ∙ a.1)) ∙ sym a.1)))
+      (λ (lacks : (is_complete (list_of s g) ≡ false) × (arrivals s g n i ≡ None)). inr lacks.1)
+      (came_with i within)

@@ -3,11 +3,14 @@
 
 ghost use Rattle.std.specs.Prelude.{◌≡◌, ◌↔◌, ◌<◌, ◌≤◌, true, IsTrue, MatchOption, is_some, length};
 ghost use Rattle.gr_model.specs.Barriers.{IsDivergent, arrivals, mark_of};
-ghost use Rattle.gr_lanes.specs.Instances.{HasCome, MakesDivergent};
+ghost use Rattle.gr_model.specs.Streams.{size_of};
+ghost use Rattle.gr_barriers.specs.Summaries.{IsSummaryOf};
 ghost use Rattle.gr_lanes.specs.Remembered.{IsRemembered, forgotten_of};
 
 use crate::lanes::Lanes;
-use gr_model::event::{Event, ItemId};
+use gr_barriers::mark::Mark;
+use gr_barriers::summary::Summary;
+use gr_model::event::{Event, ItemId, Kind};
 use std::alloc::Allocator;
 
 /// The record of an item's barrier of this number, if it was taken.
@@ -39,30 +42,62 @@ pub fn came_with<A: Allocator>(lanes: &Lanes<A>, item: ItemId, number: u32, mine
     }
 }
 
-/// Whether an item makes the instance of a barrier divergent: it came with another site or other flags, or it never comes.
-fn makes_divergent<A: Allocator>(lanes: &Lanes<A>, item: ItemId, number: u32, mine: &Event) -> bool
-    requires mark { is_some (mark_of mine.now) ≡ true }
-    requires remembered { IsRemembered lanes.now item number }
-    ensures { IsTrue result ↔ MakesDivergent lanes.now.streams item.group number (mark_of mine.now) item.item }
+/// The mark of a barrier; other events have none.
+fn mark_of(event: &Event) -> Option<Mark>
+    ensures { result ≡ mark_of event.now }
 {
-    match barrier(lanes, item, number) {
-        None => lanes.is_complete(item.group),
-        Some(other) => !has_mark_of(mine, &other),
+    match event.kind {
+        Kind::Barrier { global, local } => Some(Mark::new(event.word, global, local)),
+        Kind::Read
+        | Kind::Write
+        | Kind::Load(_, _)
+        | Kind::Store(_, _)
+        | Kind::Rmw(_, _)
+        | Kind::End { cut: _ } => None,
     }
 }
 
-/// Whether the instance of a barrier that was taken is divergent. It is not forgotten.
-pub fn is_divergent<A: Allocator>(lanes: &Lanes<A>, group: u16, number: u32, mine: &Event) -> bool
+/// What an item brought to an instance, if it came.
+/// Requires: the instance is not forgotten.
+fn arrival<A: Allocator>(lanes: &Lanes<A>, item: ItemId, number: u32) -> Option<Mark>
+    requires { IsRemembered lanes.now item number }
+    ensures { result ≡ arrivals lanes.now.streams item.group number item.item }
+{
+    match barrier(lanes, item, number) {
+        None => None,
+        Some(taken) => mark_of(&taken),
+    }
+}
+
+/// What a group's items brought to an instance, in sum.
+/// Requires: the instance is not forgotten.
+pub fn summary<A: Allocator>(lanes: &Lanes<A>, group: u16, number: u32) -> Summary
     requires group { group < length lanes.now.streams.sizes }
     requires remembered { forgotten_of lanes.now group ≤ number }
-    requires come { HasCome lanes.now.streams group number mine.now }
+    ensures { IsSummaryOf (size_of lanes.now.streams group) (arrivals lanes.now.streams group number) result }
+{
+    let mut summary = Summary::new();
+    for item in 0..lanes.shape().items(group) {
+        summary = summary.adding(arrival(lanes, ItemId { group, item }, number));
+    }
+    summary
+}
+
+/// Whether an instance is divergent. Of one that is, no more items are looked at than show it.
+/// Requires: it is not forgotten.
+pub fn is_divergent<A: Allocator>(lanes: &Lanes<A>, group: u16, number: u32) -> bool
+    requires group { group < length lanes.now.streams.sizes }
+    requires remembered { forgotten_of lanes.now group ≤ number }
     ensures { IsTrue result ↔ IsDivergent lanes.now.streams group number }
 {
     if lanes.none_differs(group, number) {
         return false;
     }
+    let ended = lanes.is_complete(group);
+    let mut summary = Summary::new();
     for item in 0..lanes.shape().items(group) {
-        if makes_divergent(lanes, ItemId { group, item }, number, mine) {
+        summary = summary.adding(arrival(lanes, ItemId { group, item }, number));
+        if summary.is_divergent(ended) {
             return true;
         }
     }

@@ -1,6 +1,6 @@
 -- What facts need of concrete states: clocks that have counted nothing, few accesses, few barriers, and one list.
 use Rattle.std.proofs.Common.{◌≡◌, ◌≢◌, ◌⊎◌, ◌↔◌, ◌++◌, ℕ, zero, suc, ◌+◌, ◌<◌, Bool, true, false, IsTrue, List, [], ◌∷◌, map, length, get_or, Option, Some, None, Result, Err, slice_get, max, true≢false, refl, sym, subst, ap, ◌∙◌, inl, inr, arith}
-use Rattle.std.specs.Prelude.{slice_index}
+use Rattle.std.specs.Prelude.{nat_lt, not, slice_index}
 use Rattle.gr_model.specs.declared.event.Event.{Event}
 use Rattle.gr_model.specs.declared.event.ItemId.{ItemId}
 use Rattle.gr_model.specs.declared.event.Space.{Space}
@@ -18,7 +18,7 @@ use Rattle.gr_clocks.specs.ItemClocks.{ItemClocks, ReleaseClock, clocks_in, cloc
 use Rattle.gr_clocks.specs.Tables.{TicksGroup}
 use Rattle.gr_clocks.proofs.ReleaseLemmas.{left_elsewhere}
 use Rattle.gr_model.specs.Access.{memory_of}
-use Rattle.gr_model.specs.declared.event.Space.TheVariants.{Local}
+use Rattle.gr_model.specs.declared.event.Space.TheVariants.{Global, Local}
 use Rattle.gr_model.specs.declared.event.Word.TheVariants.{Global as GlobalWord}
 use Rattle.gr_scopes.specs.declared.class.Class.{Class}
 use Rattle.gr_scopes.specs.declared.class.Class.TheVariants.{PlainRead, PlainWrite, GroupModify}
@@ -71,6 +71,18 @@ module _ (v : ItemClocks) (new : AreNew (1 ∷ 2 ∷ []) v) where
       let there : 0 < slice_index (map length (clocks_in v Local)) 1 = subst (λ (sizes : List ℕ). 0 < slice_index sizes 1) (sym (new.clocks Local).shape) (omega arith) in
       (group.items 0 there).counts other ∙ ap (λ (n : ℕ). n + 0) (nothing_counted Local first other (omega arith, omega arith))
 
+abbrev zeroth : ItemId
+zeroth = record { group = 0; item = 0 }
+
+-- an acquire of two releases on a global word learns of the second
+pub learns_of_both : (w u after : ItemClocks) (r s : ReleaseClock) → r.word ≡ GlobalWord 4 → s.word ≡ GlobalWord 4 → Ticks w other u → CountSame s.clock (clock_in u Global other) → Acquires u zeroth (r ∷ s ∷ []) after → 0 < count_of (clock_in after Global zeroth) other
+learns_of_both w u after r s of_r of_s ticks same acquires =
+    let ticked : count_of (clock_in u Global other) other ≡ count_of (clock_in w Global other) other + 1 = (ticks.ticks Global).item.counts other in
+    let left : count_of s.clock other ≡ count_of (clock_in u Global other) other = same other in
+    let both : greatest_count (clocks_left Global (r ∷ s ∷ [])) other ≡ max (count_of r.clock other) (max (count_of s.clock other) 0) = rw (of_r, of_s) refl in
+    let step : count_of (clock_in after Global zeroth) other ≡ max (count_of (clock_in u Global zeroth) other) (greatest_count (clocks_left Global (r ∷ s ∷ [])) other) + 0 = (acquires.learns Global).item.counts other in
+    omega (arith, ticked, left, both, step)
+
 -- ---- hits
 
 no_hit_of_one : (x : ClockedAccess) (w : Word) → ¬ IsHitIn (x ∷ []) w
@@ -85,7 +97,7 @@ no_hit_of_two x y w apart (zero, suc zero, a, b, below, at_p, at_q, clash) =
 no_hit_of_two x y w apart (suc p, suc zero, a, b, below, at_p, at_q, clash) = omega (arith, below)
 no_hit_of_two x y w apart (p, suc (suc q), a, b, below, at_p, at_q, clash) = absurd cc
 
-abbrev one : ItemId
+abbrev pub one : ItemId
 one = record { group = 0; item = 0 }
 
 abbrev another : ItemId
@@ -110,6 +122,15 @@ hit_by_write x y z (xw, xi, xn, xc, xk) (yw, yi, yn, yc, yk) (zw, zi, zn, zc, zk
     record {
       now = (0, 2, x, z, omega arith, refl, refl, record { first = xw; second = zw; clashes = clash });
       before = no_hit_of_two x y (GlobalWord 4) reads;
+    }
+
+pub hit_by_read : (x y z : ClockedAccess) → IsBlind one 5 PlainWrite x → IsBlind one 2 PlainWrite y → z.word ≡ GlobalWord 4 → z.item ≡ another → count_of z.clock one ≡ 3 → IsHitBy (x ∷ y ∷ []) z (GlobalWord 4)
+hit_by_read x y z (xw, xi, xn, xc, xk) (yw, yi, yn, yc, yk) zw zi three =
+    let clash : IsTrue (clashes x z) = rw (xi, zi, xn, xc) (ap (λ (n : ℕ). not (nat_lt 5 n)) three) in
+    let writes : clashes x y ≡ false = rw (xi, yi) refl in
+    record {
+      now = (0, 2, x, z, omega arith, refl, refl, record { first = xw; second = zw; clashes = clash });
+      before = no_hit_of_two x y (GlobalWord 4) writes;
     }
 
 -- ---- barriers of a group of two items

@@ -1,5 +1,5 @@
-//! Tests of the model and of what stands on it alone: worked rows of scopes, clocks, barrier instances and accesses, also
-//! with each growth refused in turn, what contracts say of some values, and small worked examples of the definitions.
+//! Tests of the model and of what stands on it alone: worked rows of scopes, clocks and barrier instances, also with
+//! each growth refused in turn, what contracts say of some values, and small worked examples of the definitions.
 #![tactic(auto)]
 
 #[cfg(test)]
@@ -18,10 +18,6 @@ mod names_rows;
 #[cfg(test)]
 mod scope_rows;
 #[cfg(test)]
-mod shadow_rows;
-#[cfg(test)]
 mod sharing_rows;
-#[cfg(test)]
-mod slow;
 #[cfg(test)]
 mod tests;

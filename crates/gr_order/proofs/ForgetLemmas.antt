@@ -27,7 +27,7 @@ use Rattle.gr_lanes.specs.Remembered.{HaveAllCome, IsAllRemembered, IsDecided, I
 use Rattle.gr_lanes.specs.Takes.{CanTake, with_record}
 use Rattle.gr_lanes.proofs.Growth.{record_grows}
 use Rattle.gr_lanes.proofs.InstanceLemmas.{barrier_mark, some_mark}
-use Rattle.gr_findings.proofs.Lists.{listed_push, listed_same, none_listed}
+use Rattle.gr_barriers.proofs.Lists.{listed_push, listed_same, none_listed}
 use Rattle.gr_order.specs.Forgetting.{ForgetsHandled, ForgetsLeast, ForgetsNext, ForgetsPassed, HaveAllPassed, IsForgetting}
 use Rattle.gr_order.specs.Readiness.{IsNextInstance}
 use Rattle.gr_order.specs.States.{AreBelowFrontier, TicksItems}

@@ -8,7 +8,6 @@ ghost use Rattle.gr_order.specs.Readiness.{IsNextInstance};
 
 use gr_clocks::tally::Tally;
 use gr_findings::instances::cause;
-use gr_lanes::instance::barrier;
 use gr_lanes::lanes::Lanes;
 use gr_model::event::ItemId;
 use gr_model::memory::Memory;
@@ -85,10 +84,7 @@ fn forget_passed<A: Allocator>(lanes: &mut Lanes<A>, frontier: &Tally<A>, group:
         return;
     }
     let instance = lanes.forgotten(group);
-    let Some(mine) = barrier(lanes, ItemId { group, item: 0 }, instance) else {
-        return;
-    };
-    match cause(lanes, group, instance, &mine) {
+    match cause(lanes, group, instance) {
         None => lanes.forget(group),
         Some(cause) => {
             let divergence = Divergence {

@@ -72,7 +72,7 @@ fn may_pass<A: Allocator>(lanes: &Lanes<A>, event: EventId, taken: &Event) -> bo
     }
     match lanes.barrier_number(event) {
         None => true,
-        Some(number) => is_divergent(lanes, event.at.group, number, taken),
+        Some(number) => is_divergent(lanes, event.at.group, number),
     }
 }
 

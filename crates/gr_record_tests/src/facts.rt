@@ -69,6 +69,13 @@ fn naming_of_a_relaxed_load() {
     prove!(naming(Kind::Load(Scope::Device, Order::Relaxed), &[NAME]).is_none());
 }
 
+/// Names that descend are no names of an event.
+#[test]
+fn naming_of_names_out_of_order() {
+    let later = Name { release: 1, ..NAME };
+    prove!(naming(Kind::Load(Scope::Device, Order::Acquire), &[later, NAME]).is_none());
+}
+
 /// The first line of a site tells its place.
 #[test]
 fn place_of_a_site_with_two_lines() {

@@ -1,11 +1,12 @@
 //! What the contracts alone say, each of which a wrong body would answer otherwise. A fact tells whether it was reached.
 
-ghost use Rattle.std.specs.Prelude.{IfOk, length, map};
+ghost use Rattle.std.specs.Prelude.{IfOk, OnOk, length, map};
 ghost use Rattle.gr_model.specs.Shapes.{HasItem};
 ghost use Rattle.gr_lanes.specs.Remembered.{IsWhole};
 
-use crate::calls::{is_lawful, new, shape_of, take};
-use crate::rows::{ACQUIRE, BARRIER, END, READ, RELEASE, Record, event_of};
+use crate::calls::{is_lawful, shape_of, take};
+use crate::rows::{ACQUIRE, BARRIER, END, FIRST_0_0, READ, RELEASE, Record, event_of};
+use crate::trials::{Trial, holds_always};
 use gr_agenda::agenda::Agenda;
 use gr_findings::instances::cause;
 use gr_lanes::instance::{barrier, has_mark_of, is_divergent};
@@ -52,6 +53,12 @@ const TWO_NAMES: &[Name] = &[
 ];
 
 const ACQUIRES: Record = (0, 1, ACQUIRE, Space::Global, 4, TWO_NAMES);
+
+/// Acquires of two groups, which wait for the first release of the first item.
+const WAIT: [Record; 2] = [
+    (1, 0, ACQUIRE, Space::Global, 4, FIRST_0_0),
+    (2, 0, ACQUIRE, Space::Global, 4, FIRST_0_0),
+];
 
 /// The first event of an item goes, and so the second is its first.
 fn pop_first_of_two<A: Allocator>(windows: &mut Windows<A>, item: ItemId) -> bool
@@ -122,7 +129,7 @@ fn is_divergent_of_two_marks<A: Allocator>(lanes: &Lanes<A>) -> bool {
         && let Some(second) = barrier(lanes, SECOND, 0)
         && !has_mark_of(&first, &second)
     {
-        prove!(is_divergent(lanes, 0, 0, &first));
+        prove!(is_divergent(lanes, 0, 0));
         return true;
     }
     false
@@ -130,18 +137,11 @@ fn is_divergent_of_two_marks<A: Allocator>(lanes: &Lanes<A>) -> bool {
 
 /// While a group goes on nobody is missing.
 fn cause_while_the_group_goes_on<A: Allocator>(lanes: &Lanes<A>) -> bool {
-    if lanes.shape().groups() == 0
-        || lanes.shape().items(0) == 0
-        || lanes.forgotten(0) != 0
-        || lanes.is_complete(0)
-    {
+    if lanes.shape().groups() == 0 || lanes.forgotten(0) != 0 || lanes.is_complete(0) {
         return false;
     }
-    if let Some(first) = barrier(lanes, FIRST, 0) {
-        prove!(cause(lanes, 0, 0, &first) != Some(DivergenceCause::Missing));
-        return true;
-    }
-    false
+    prove!(cause(lanes, 0, 0) != Some(DivergenceCause::Missing));
+    true
 }
 
 /// An event is not handled before a release that it names, here the last.
@@ -187,6 +187,18 @@ fn ready_of_both<A: Allocator>(agenda: &mut Agenda<A>) -> bool {
     false
 }
 
+/// After an event is handled, what is ready for the order is ready for the agenda.
+fn ready_after_the_next<A: Allocator>(agenda: &mut Agenda<A>) -> bool {
+    match agenda.ready() {
+        Some(Ready::Item(item)) => {
+            let event = agenda.order().ready_event(item);
+            agenda.handle_event(event);
+            ready_of_both(agenda)
+        }
+        _ => false,
+    }
+}
+
 /// A group of which nothing was taken has not ended.
 fn at_end_of_nothing<A: Allocator>(sequencer: &Sequencer<A>) -> bool {
     if sequencer.shape().groups() == 0 || sequencer.taken(0) != 0 {
@@ -226,20 +238,30 @@ fn windows_forget_the_first(rt: HostRuntime) -> Result<(), Memory> {
     Ok(())
 }
 
+/// Takes two records of the only group.
+fn take_both<A: Allocator>(
+    lanes: &mut Lanes<A>,
+    first: &Record,
+    second: &Record,
+) -> Result<(), SeqError>
+    requires { IsWhole lanes.old }
+    ensures { OnOk result (IsWhole lanes.new) }
+{
+    let (first, second) = (event_of(first), event_of(second));
+    if !is_lawful(&first) || !is_lawful(&second) || lanes.taken(0) != 0 {
+        return Err(SeqError::Memory);
+    }
+    lanes.take(0, first)?;
+    lanes.take(0, second)
+}
+
 /// Lanes of one group of so many items, of which two records were taken.
 fn lanes_of(alloc: Global, items: u16, first: &Record, second: &Record) -> Result<Lanes, SeqError>
     ensures { IfOk result (λ l. IsWhole l) }
 {
-    let (first, second) = (event_of(first), event_of(second));
-    let Ok(shape) = Shape::new(vec![in alloc; items; 1]?) else {
-        return Err(SeqError::Memory);
-    };
+    let shape = shape_of(alloc, &[items])?;
     let mut lanes = Lanes::new(alloc, shape)?;
-    if !is_lawful(&first) || !is_lawful(&second) {
-        return Err(SeqError::Memory);
-    }
-    lanes.take(0, first)?;
-    lanes.take(0, second)?;
+    take_both(&mut lanes, first, second)?;
     Ok(lanes)
 }
 
@@ -278,58 +300,77 @@ fn nobody_is_missing_while_a_group_goes_on(rt: HostRuntime) -> Result<(), SeqErr
     Ok(())
 }
 
-/// An order of one group of so many items, of which these records were taken.
-fn order_of(alloc: Global, items: u16, records: &[Record]) -> Option<Order> {
-    let shape = shape_of(alloc, &[items]).ok()?;
-    let mut order = Order::new(alloc, shape).ok()?;
-    for record in records {
-        let event = event_of(record);
-        if !is_lawful(&event) || order.taken(0) >= 16_777_216 {
-            return None;
-        }
-        order.take(0, event).ok()?;
-    }
-    Some(order)
+/// Has an order take a record.
+fn order_takes<A: Allocator>(order: &mut Order<A>, record: &Record) -> bool {
+    let event = event_of(record);
+    is_lawful(&event) && order.taken(record.0) < 16_777_216 && order.take(record.0, event).is_ok()
+}
+
+/// Whether a fact is reached with an order of one group of so many items, which takes these records first.
+fn is_reached_by_order<F: Fn(&mut Order) -> bool>(
+    alloc: Global,
+    items: u16,
+    records: &[Record],
+    fact: F,
+) -> Result<bool, Memory>
+    requires { F.IsAlwaysCallable fact }
+{
+    let shape = shape_of(alloc, &[items])?;
+    let mut order = Order::new(alloc, shape)?;
+    let are_taken = records.iter().all(|record| order_takes(&mut order, record));
+    Ok(are_taken && fact(&mut order))
+}
+
+/// Handles the releases of the first item, while the acquire of the second waits for both.
+fn waits_for_both<A: Allocator>(order: &mut Order<A>) -> bool {
+    next_behind_the_last_release(order, SECOND);
+    let is_handled = order.handle(FIRST).is_ok();
+    next_behind_the_last_release(order, SECOND);
+    is_handled
 }
 
 #[test]
-fn an_order_waits_for_the_last_release(rt: HostRuntime) {
-    let mut order = order_of(rt.alloc(), 2, &[RELEASES, RELEASES, ACQUIRES]);
-    assert!(rt; order.is_some());
-    if let Some(order) = &mut order {
-        next_behind_the_last_release(order, SECOND);
-        assert!(rt; order.handle(FIRST).is_ok());
-        next_behind_the_last_release(order, SECOND);
-    }
+fn an_order_waits_for_the_last_release(rt: HostRuntime) -> Result<(), Memory> {
+    let records = [RELEASES, RELEASES, ACQUIRES];
+    let is_reached = is_reached_by_order(rt.alloc(), 2, &records, |order| waits_for_both(order))?;
+    assert!(rt; is_reached);
+    Ok(())
 }
 
 #[test]
-fn an_order_goes_on_while_a_step_is_ready(rt: HostRuntime) {
-    let order = order_of(rt.alloc(), 1, &[READS, ENDS]);
-    assert!(rt; order.is_some_and(|order| is_at_end_before_a_step(&order)));
+fn an_order_goes_on_while_a_step_is_ready(rt: HostRuntime) -> Result<(), Memory> {
+    let records = [READS, ENDS];
+    let is_reached = is_reached_by_order(
+        rt.alloc(),
+        1,
+        &records,
+        |order| is_at_end_before_a_step(order),
+    )?;
+    assert!(rt; is_reached);
+    Ok(())
 }
 
 #[test]
-fn all_of_a_group_meet(rt: HostRuntime) {
-    let order = order_of(rt.alloc(), 1, &[COMES]);
-    assert!(rt;
-        order.is_some_and(|order| {
-            let mut order = order;
-            meet_of_all(&mut order)
-        })
-    );
+fn all_of_a_group_meet(rt: HostRuntime) -> Result<(), Memory> {
+    let is_reached = is_reached_by_order(rt.alloc(), 1, &[COMES], |order| meet_of_all(order))?;
+    assert!(rt; is_reached);
+    Ok(())
+}
+
+/// Has an agenda take a record.
+fn agenda_takes<A: Allocator>(agenda: &mut Agenda<A>, record: &Record) -> bool {
+    let event = event_of(record);
+    is_lawful(&event)
+        && agenda.order().taken(record.0) < 16_777_216
+        && agenda.take(record.0, event).is_ok()
 }
 
 /// Whether an agenda finds the one step that there is, or `None` where memory was too short for the agenda.
 fn finds_its_step<A: Allocator + Copy>(alloc: A) -> Option<bool> {
     let shape = shape_of(alloc, &[1]).ok()?;
     let mut agenda = Agenda::new(alloc, shape).ok()?;
-    let event = event_of(&READS);
-    if !is_lawful(&event) || agenda.order().taken(0) >= 16_777_216 {
-        return None;
-    }
-    agenda.take(0, event).ok()?;
-    Some(ready_of_both(&mut agenda))
+    let is_taken = agenda_takes(&mut agenda, &READS);
+    is_taken.then(|| ready_of_both(&mut agenda))
 }
 
 #[test]
@@ -342,25 +383,49 @@ fn an_agenda_finds_its_step_though_memory_is_short(rt: HostRuntime) {
     }
 }
 
-#[test]
-fn a_sequencer_is_not_at_its_end_before_its_groups(rt: HostRuntime) {
-    let sequencer = new(rt.alloc(), &[1]);
-    assert!(rt; sequencer.is_some_and(|sequencer| at_end_of_nothing(&sequencer)));
+/// Two groups' acquires are taken, then the release that they name, and all three are handled.
+fn wakes_both<A: Allocator>(agenda: &mut Agenda<A>) -> bool {
+    WAIT.iter().all(|acquire| agenda_takes(agenda, acquire))
+        && agenda.ready().is_none()
+        && agenda_takes(agenda, &RELEASES)
+        && ready_after_the_next(agenda)
+        && ready_after_the_next(agenda)
+        && !ready_after_the_next(agenda)
 }
 
-/// A sequencer of one group of one item, of which this record was taken.
-fn sequencer_of(alloc: Global, record: &Record) -> Option<Sequencer> {
-    let mut sequencer = new(alloc, &[1])?;
-    take(&mut sequencer, 0, event_of(record))?.ok()?;
-    Some(sequencer)
+#[test]
+fn a_release_wakes_all_that_wait(rt: HostRuntime) -> Result<(), Memory> {
+    let shape = shape_of(rt.alloc(), &[1, 1, 1])?;
+    let mut agenda = Agenda::new(rt.alloc(), shape)?;
+    assert!(rt; wakes_both(&mut agenda));
+    Ok(())
+}
+
+/// A sequencer that has taken nothing is not at its end.
+struct AtEndOfNothing;
+
+impl Trial for AtEndOfNothing {
+    fn holds<A: Allocator + Copy>(&self, sequencer: &mut Sequencer<A>) -> bool {
+        at_end_of_nothing(sequencer)
+    }
+}
+
+#[test]
+fn a_sequencer_is_not_at_its_end_before_its_groups(rt: HostRuntime) {
+    assert!(rt; holds_always(rt.alloc(), &[1], &AtEndOfNothing));
+}
+
+/// The step of a release has a clock that counts it. Where memory is short it is made at the second try.
+struct StepOfRelease;
+
+impl Trial for StepOfRelease {
+    fn holds<A: Allocator + Copy>(&self, sequencer: &mut Sequencer<A>) -> bool {
+        take(sequencer, 0, event_of(&RELEASES)) == Some(Ok(()))
+            && (step_of_an_access(sequencer) || step_of_an_access(sequencer))
+    }
 }
 
 #[test]
 fn a_release_is_counted_by_its_clock(rt: HostRuntime) {
-    let mut sequencer = sequencer_of(rt.alloc(), &RELEASES);
-    assert!(rt;
-        sequencer
-            .as_mut()
-            .is_some_and(|sequencer| step_of_an_access(sequencer))
-    );
+    assert!(rt; holds_always(rt.alloc(), &[1], &StepOfRelease));
 }

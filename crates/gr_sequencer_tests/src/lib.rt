@@ -1,5 +1,5 @@
 //! Tests alone: the worked rows of launches, by the sequencer and by the crates under it, also with each growth refused in
-//! turn.
+//! turn, and their accesses by the shadows.
 #![tactic(auto)]
 
 #[cfg(test)]
@@ -11,11 +11,17 @@ mod facts;
 #[cfg(test)]
 mod forgetting;
 #[cfg(test)]
+mod hits;
+#[cfg(test)]
 mod lanes;
 #[cfg(test)]
 mod rows;
 #[cfg(test)]
 mod sequencers;
+#[cfg(test)]
+mod shadow_rows;
+#[cfg(test)]
+mod slow;
 #[cfg(test)]
 mod together;
 #[cfg(test)]

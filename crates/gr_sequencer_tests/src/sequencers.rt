@@ -12,7 +12,7 @@ use std::test::Fail;
 
 /// How the steps are made.
 #[derive(Clone, Copy, Debug, PartialEq, Eq)]
-enum Way {
+pub(crate) enum Way {
     /// By `step`, once all records were taken.
     Last,
     /// By `step`, behind each record.
@@ -54,7 +54,11 @@ fn take_record<A: Allocator + Copy>(
 }
 
 /// Takes all records of a row.
-fn take_all<A: Allocator + Copy>(sequencer: &mut Sequencer<A>, row: &Row, way: Way) -> Option<()> {
+pub(crate) fn take_all<A: Allocator + Copy>(
+    sequencer: &mut Sequencer<A>,
+    row: &Row,
+    way: Way,
+) -> Option<()> {
     let (_, _, records, _) = row;
     for record in records.iter() {
         take_record(sequencer, record, way)?;

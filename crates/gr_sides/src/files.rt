@@ -1,6 +1,6 @@
 //! Opening and reading side files.
 
-ghost use Rattle.std.specs.Prelude.{◌≡◌, ◌<◌, ◌++◌, IfErr, IfOk, IfSome, IsTrue, OnOk, length, map};
+ghost use Rattle.std.specs.Prelude.{◌≡◌, ◌<◌, ◌++◌, false, IfErr, IfOk, IfSome, IsOk, IsTrue, OnOk, length, map};
 ghost use Rattle.std.specs.Fn.{FnReturnsAt};
 ghost use Rattle.std.specs.Option.{is_some};
 ghost use Rattle.gr_input.specs.Faults.{IsOutside};
@@ -112,13 +112,14 @@ where
 /// All bytes of a side file, and none where there is no file.
 ///
 /// # Errors
-/// Those of `read_all`.
+/// Those of `read_all`, where there is a file.
 pub fn bytes_of<A: Allocator, T: Read + Drop>(
     alloc: A,
     file: Option<T>,
 ) -> Result<Vec<u8, A>, Fault>
     ensures bytes { IfOk result (λ v. IfSome (spec.known_of T.remaining file) (λ bytes. v.items ≡ bytes)) }
     ensures faults { IfErr result IsOutside }
+    ensures nothing { is_some file ≡ false → IsOk result }
 {
     match file {
         None => Ok(Vec::new(alloc)),

@@ -1,4 +1,4 @@
-#include "accesses.h"
+#include "instrument.h"
 
 #include "llvm/Analysis/ValueTracking.h"
 #include "llvm/IR/IRBuilder.h"

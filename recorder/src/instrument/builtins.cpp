@@ -1,4 +1,4 @@
-#include "builtins.h"
+#include "instrument.h"
 
 #include "llvm/ADT/StringSwitch.h"
 #include "llvm/IR/Constants.h"

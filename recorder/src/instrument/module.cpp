@@ -1,6 +1,4 @@
-#include "module.h"
-
-#include "builtins.h"
+#include "instrument.h"
 
 #include "llvm/AsmParser/Parser.h"
 #include "llvm/IR/DebugInfo.h"
@@ -118,9 +116,7 @@ void strip(Module &module) {
     for (Function &function : module) {
         function.setCallingConv(CallingConv::C);
         for (Instruction &instruction : instructions(function)) {
-            for (const unsigned kind : {unsigned(LLVMContext::MD_tbaa), unsigned(LLVMContext::MD_noalias),
-                                        unsigned(LLVMContext::MD_alias_scope), unsigned(LLVMContext::MD_tbaa_struct)})
-                instruction.setMetadata(kind, nullptr);
+            instruction.setAAMetadata(AAMDNodes());
             if (auto *call = dyn_cast<CallInst>(&instruction)) call->setCallingConv(CallingConv::C);
         }
     }

@@ -1,17 +1,22 @@
-#include "rewriter.h"
-
-#include "module.h"
+// Instruments a kernel: its accesses, atomics and barriers call the runtime, and it asks the runtime which work-item it is.
+//
+// The lines that say what the numbers of sites mean are written meanwhile, in this order for each kernel:
+//   kernel NAME NAMES COPIES ARGUMENTS      NAMES: it has atomics that may acquire; COPIES: it has asynchronous copies
+//   site NUMBER KIND SPACE BYTES ENTRY FILE LINE COLUMN   ENTRY: the entry that it accesses, or -1 where that is not known
+//   argument NUMBER KIND                    B buffer, C constant buffer, L local memory, I image, S sampler, V value
+//   entry NUMBER ARGUMENT SPACE BYTES GRAIN ATOMIC NAME   a buffer that is an argument, or a variable (ARGUMENT is -1)
+//   note TEXT                               what is not recorded
+#include "instrument.h"
 
 #include "llvm/IR/DebugInfoMetadata.h"
+#include "llvm/IR/IRBuilder.h"
 #include "llvm/IR/InstIterator.h"
-#include "llvm/IR/IntrinsicInst.h"
+#include "llvm/IR/ReplaceConstant.h"
 
 using namespace llvm;
 
 namespace gpurace {
 namespace {
-
-constexpr unsigned PRINT_ROOM = (1 << 22) - 8; // as in runtime/hooks.cpp
 
 Type *bytes_type(LLVMContext &context) { return Type::getInt8PtrTy(context); }
 
@@ -52,314 +57,310 @@ bool is_used_in(const Function &function, const User &user) {
     return any_of(user.users(), [&](const User *further) { return is_used_in(function, *further); });
 }
 
-bool mentions(const Value *value, const GlobalVariable *variable) {
-    auto *expression = dyn_cast<ConstantExpr>(value);
-    return value == variable || (expression && any_of(expression->operands(), [&](const Use &use) { return mentions(use.get(), variable); }));
-}
-
-// A constant that mentions a variable, as instructions that have another value in its place.
-Value *with_other(Value *value, GlobalVariable *variable, Value *other, Instruction *before) {
-    if (value == variable) return other;
-    if (!mentions(value, variable)) return value;
-    Instruction *made = cast<ConstantExpr>(value)->getAsInstruction(before);
-    for (Use &use : made->operands()) use.set(with_other(use.get(), variable, other, made));
-    return made;
-}
-
+// Has a function use another value in the place of a variable.
 void replace_in(Function &function, GlobalVariable *variable, Value *other) {
-    std::vector<Use *> uses;
-    for (Instruction &instruction : instructions(function))
-        for (Use &use : instruction.operands())
-            if (!isa<DbgInfoIntrinsic>(instruction) && mentions(use.get(), variable)) uses.push_back(&use);
-    for (Use *use : uses) {
-        auto *before = cast<Instruction>(use->getUser());
-        if (auto *phi = dyn_cast<PHINode>(before)) before = phi->getIncomingBlock(*use)->getTerminator();
-        use->set(with_other(use->get(), variable, other, before));
-    }
+    const SmallVector<User *> users(variable->users());
+    for (User *user : users)
+        if (auto *expression = dyn_cast<ConstantExpr>(user))
+            for (Instruction &instruction : instructions(function)) convertConstantExprsToInstructions(&instruction, expression);
+    variable->replaceUsesWithIf(other, [&](const Use &use) { return is_used_in(function, *use.getUser()); });
 }
+
+class Rewriter {
+public:
+    Rewriter(Function &kernel, raw_ostream &sites, unsigned &next_site)
+        : module_(*kernel.getParent()), function_(&kernel), sites_(sites), next_site_(next_site), name_(kernel.getName().str()) {}
+
+    void rewrite() {
+        add_item_argument();
+        narrow_stores(*function_);
+        const Accesses accesses = find_accesses(*function_);
+        sites_ << "kernel " << name_ << ' ' << accesses.may_acquire() << ' ' << !accesses.copies.empty() << ' ' << function_->arg_size() - 1 << '\n';
+        number_entries();
+        write_entries(accesses);
+        for (const Access &access : accesses.plain) put_access(access);
+        for (const Atomic &atomic : accesses.atomics) put_atomic(atomic);
+        for (CallInst *barrier : accesses.barriers) put_barrier(*barrier);
+        for (const Copy &copy : accesses.copies) put_copy(copy);
+        for (CallInst *fence : accesses.fences) put_count(*fence, FENCE);
+        for (CallInst *image : accesses.images) put_count(*image, IMAGE);
+        put_numbers();
+        put_prints();
+        put_samplers();
+        place_local_variables();
+        add_entry_point();
+        for (const std::string &note : accesses.notes) sites_ << "note " << note << '\n';
+    }
+
+private:
+    Module &module_;
+    Function *function_;
+    raw_ostream &sites_;
+    unsigned &next_site_;
+    std::string name_;
+    Value *item_ = nullptr;
+    std::map<const Value *, int> entries_;
+    std::vector<GlobalVariable *> variables_; // those that the kernel uses, in local and global memory
+
+    // The kernel becomes a function with one argument more, its work-item's state.
+    void add_item_argument() {
+        Function *old = function_;
+        std::vector<Type *> types;
+        for (Argument &argument : old->args()) types.push_back(argument.getType());
+        types.push_back(bytes_type(module_.getContext()));
+        function_ = Function::Create(FunctionType::get(old->getReturnType(), types, false), GlobalValue::InternalLinkage, "gr_kernel_" + name_, module_);
+        function_->copyAttributesFrom(old);
+        function_->setLinkage(GlobalValue::InternalLinkage);
+        function_->setCallingConv(CallingConv::C);
+        function_->removeFnAttr(Attribute::NoInline);
+        function_->addFnAttr(Attribute::AlwaysInline);
+        function_->getBasicBlockList().splice(function_->begin(), old->getBasicBlockList());
+        for (unsigned at = 0; at < old->arg_size(); at++) {
+            old->getArg(at)->replaceAllUsesWith(function_->getArg(at));
+            function_->getArg(at)->takeName(old->getArg(at));
+            function_->removeParamAttr(at, Attribute::NoAlias); // what the runtime does may not be moved across
+        }
+        item_ = function_->getArg(unsigned(old->arg_size()));
+        if (auto *subprogram = old->getSubprogram()) function_->setSubprogram(subprogram);
+        old->eraseFromParent();
+    }
+
+    void number_entries() {
+        int next = 0;
+        for (Argument &argument : function_->args()) {
+            const char kind = kind_of(argument);
+            if (&argument != item_ && (kind == 'B' || kind == 'L')) entries_[&argument] = next++;
+        }
+        for (GlobalVariable &variable : module_.globals()) {
+            const bool is_used = any_of(variable.users(), [&](const User *user) { return is_used_in(*function_, *user); });
+            if (!is_used || !is_traced(&variable) || (variable.isConstant() && variable.getAddressSpace() == GLOBAL_SPACE)) continue;
+            entries_[&variable] = next++;
+            variables_.push_back(&variable);
+        }
+    }
+
+    void write_entries(const Accesses &accesses) {
+        const DataLayout &layout = module_.getDataLayout();
+        const Grains grains(accesses, layout);
+        for (Argument &argument : function_->args()) {
+            if (&argument == item_) continue;
+            sites_ << "argument " << argument.getArgNo() << ' ' << kind_of(argument) << '\n';
+            if (entries_.count(&argument)) write_entry(argument, int(argument.getArgNo()), 0, argument.getName(), accesses, grains);
+        }
+        for (GlobalVariable *variable : variables_) {
+            StringRef name = variable->getName();
+            name.consume_front(name_ + ".");
+            if (variable->getAddressSpace() == GLOBAL_SPACE) variable->setLinkage(GlobalValue::ExternalLinkage); // the host looks it up
+            write_entry(*variable, -1, layout.getTypeAllocSize(variable->getValueType()), name, accesses, grains);
+        }
+    }
+
+    void write_entry(const Value &object, int argument, uint64_t bytes, StringRef name, const Accesses &accesses, const Grains &grains) {
+        const unsigned space = object.getType()->getPointerAddressSpace();
+        const bool has_atomics = any_of(accesses.atomics, [&](const Atomic &atomic) {
+            const Value *known = object_of(atomic.pointer);
+            const unsigned other = atomic.pointer->getType()->getPointerAddressSpace();
+            return known ? known == &object : other == space || other == GENERIC_SPACE;
+        });
+        sites_ << "entry " << entries_.at(&object) << ' ' << argument << ' ' << (space == LOCAL_SPACE) << ' ' << bytes << ' ' << grains.of(&object) << ' '
+               << has_atomics << ' ' << (name.empty() ? "unnamed" : name) << '\n';
+    }
+
+    // Local variables stand where the item's state says.
+    void place_local_variables() {
+        IRBuilder<> builder(&*function_->getEntryBlock().getFirstInsertionPt());
+        Type *bytes = bytes_type(module_.getContext());
+        unsigned next = 0;
+        for (GlobalVariable *variable : variables_) {
+            if (variable->getAddressSpace() != LOCAL_SPACE) continue;
+            Value *place = builder.CreateConstGEP1_32(builder.getInt8Ty(), item_, LOCALS_OFFSET);
+            Value *locals = builder.CreateLoad(bytes->getPointerTo(), builder.CreateBitCast(place, bytes->getPointerTo()->getPointerTo()));
+            Value *memory = builder.CreateLoad(bytes, builder.CreateConstGEP1_32(bytes, locals, next++));
+            replace_in(*function_, variable, as(builder, memory, variable->getType()));
+        }
+    }
+
+    // void gr_run_NAME(item, arguments): what the host calls.
+    void add_entry_point() {
+        LLVMContext &context = module_.getContext();
+        Type *bytes = bytes_type(context);
+        auto *type = FunctionType::get(Type::getVoidTy(context), {bytes, bytes->getPointerTo()}, false);
+        Function *entry = Function::Create(type, GlobalValue::ExternalLinkage, RUN_PREFIX + name_, module_);
+        entry->setAttributes(AttributeList::get(context, AttributeList::FunctionIndex, AttrBuilder(context, function_->getAttributes().getFnAttrs())));
+        entry->removeFnAttr(Attribute::AlwaysInline);
+        IRBuilder<> builder(BasicBlock::Create(context, "", entry));
+        std::vector<Value *> values;
+        for (Argument &argument : function_->args()) {
+            if (&argument == item_) continue;
+            Value *memory = builder.CreateLoad(bytes, builder.CreateConstGEP1_32(bytes, entry->getArg(1), argument.getArgNo()));
+            if (argument.hasByValAttr()) values.push_back(builder.CreateBitCast(memory, argument.getType()));
+            else values.push_back(builder.CreateAlignedLoad(argument.getType(), builder.CreateBitCast(memory, argument.getType()->getPointerTo()), Align(1)));
+        }
+        values.push_back(entry->getArg(0));
+        CallInst *call = builder.CreateCall(function_, values);
+        for (unsigned at = 0; at + 1 < values.size(); at++) // each item has its own copy of a struct
+            if (Type *copied = function_->getParamByValType(at)) call->addParamAttr(at, Attribute::getWithByValType(context, copied));
+        builder.CreateRetVoid();
+    }
+
+    unsigned site(const Instruction &at, SiteKind kind, const Value *pointer, uint64_t bytes) {
+        const unsigned space = pointer ? pointer->getType()->getPointerAddressSpace() : unsigned(GLOBAL_SPACE);
+        const auto entry = pointer && object_of(pointer) ? entries_.find(object_of(pointer)) : entries_.end();
+        const DILocation *place = at.getDebugLoc().get();
+        sites_ << "site " << next_site_ << ' ' << kind << ' ' << (space == LOCAL_SPACE ? LOCAL : space == GENERIC_SPACE ? GENERIC : GLOBAL) << ' ' << bytes << ' '
+               << (entry == entries_.end() ? -1 : entry->second) << ' ' << (place && !place->getFilename().empty() ? place->getFilename() : "kernel.cl") << ' '
+               << (place ? place->getLine() : 0) << ' ' << (place ? place->getColumn() : 0) << '\n';
+        return next_site_++;
+    }
+
+    CallInst *call_runtime(IRBuilder<> &builder, StringRef name, Type *result, std::vector<Value *> values) {
+        values.insert(values.begin(), item_);
+        std::vector<Type *> types;
+        for (Value *value : values) types.push_back(value->getType());
+        return builder.CreateCall(module_.getOrInsertFunction(name, FunctionType::get(result, types, false)), values);
+    }
+
+    // Puts what `make` makes in the place of the calls that are wanted.
+    void replace_calls(function_ref<bool(StringRef)> is_wanted, function_ref<Value *(IRBuilder<> &, CallInst &)> make) {
+        for (Instruction &instruction : make_early_inc_range(instructions(*function_))) {
+            auto *call = dyn_cast<CallInst>(&instruction);
+            if (!call || !is_wanted(name_of(*call))) continue;
+            IRBuilder<> builder(call);
+            call->replaceAllUsesWith(make(builder, *call));
+            call->eraseFromParent();
+        }
+    }
+
+    // The instruction uses the address that the runtime answers.
+    void put_access(const Access &access) {
+        IRBuilder<> builder(access.instruction);
+        Value *address = plain(builder, access.pointer());
+        if (access.index) {
+            Value *steps = builder.CreateZExtOrTrunc(access.index, builder.getInt64Ty());
+            address = builder.CreateGEP(builder.getInt8Ty(), address, builder.CreateMul(steps, builder.getInt64(access.stride)));
+            access.instruction->setOperand(access.index_operand, Constant::getNullValue(access.index->getType()));
+        }
+        const unsigned number = site(*access.instruction, access.kind, access.pointer(), access.bytes);
+        Value *allowed = call_runtime(builder, "gr_access", builder.getInt8PtrTy(), {builder.getInt32(number), address});
+        access.instruction->setOperand(access.operand, as(builder, allowed, access.pointer()->getType()));
+    }
+
+    void put_atomic(const Atomic &atomic) {
+        CallInst *at = atomic.call;
+        IRBuilder<> builder(at);
+        const StringRef name = name_of(*at);
+        Type *word = pointee_of(at->getArgOperand(0));
+        if (word->isStructTy()) word = builder.getInt32Ty();
+        const uint64_t bytes = module_.getDataLayout().getTypeStoreSize(word);
+        Value *number = builder.getInt32(site(*at, atomic.kind, atomic.pointer, bytes)), *address = plain(builder, atomic.pointer);
+        if (atomic.kind == WRITE) { // atomic_init
+            Value *allowed = call_runtime(builder, "gr_access", builder.getInt8PtrTy(), {number, address}), *value = at->getArgOperand(1);
+            builder.CreateStore(value, builder.CreateBitCast(allowed, value->getType()->getPointerTo()));
+            at->eraseFromParent();
+            return;
+        }
+        const bool is_flag = name.contains("flag"), has_expected = name.contains("compare_exchange");
+        Value *value = builder.getInt64(0), *compare = value, *expected = has_expected ? at->getArgOperand(1) : nullptr;
+        if (name.contains("inc") || name.contains("dec") || is_flag) value = builder.getInt64(atomic.kind == MODIFY);
+        else if (atomic.kind == COMPARE_EXCHANGE) value = bits_of(builder, at->getArgOperand(2));
+        else if (atomic.kind != LOAD) value = bits_of(builder, at->getArgOperand(1));
+        if (expected) compare = bits_of(builder, builder.CreateLoad(at->getArgOperand(2)->getType(), expected));
+        else if (atomic.kind == COMPARE_EXCHANGE) compare = bits_of(builder, at->getArgOperand(1));
+        const auto part = [&](Value *given, unsigned otherwise, unsigned shift) {
+            Value *part = given ? builder.CreateZExtOrTrunc(given, builder.getInt32Ty()) : builder.getInt32(otherwise);
+            return builder.CreateShl(part, shift);
+        };
+        const unsigned order = atomic.is_of_opencl20 ? 5 : 0; // memory_order_seq_cst; memory_scope_device is 2
+        Value *how = builder.CreateOr(builder.CreateOr(part(atomic.order, order, 0), part(atomic.failure, order, 8)), part(atomic.scope, 2, 16));
+        Value *what = builder.getInt32(unsigned(atomic.operation) | unsigned(atomic.type) << 8);
+        Value *old = call_runtime(builder, "gr_atomic", builder.getInt64Ty(), {number, what, address, value, compare, how});
+        if (expected) {
+            builder.CreateStore(value_of(builder, old, at->getArgOperand(2)->getType()), expected);
+            at->replaceAllUsesWith(builder.CreateZExtOrTrunc(builder.CreateICmpEQ(old, compare), at->getType()));
+        } else if (!at->getType()->isVoidTy()) {
+            Value *result = is_flag ? builder.CreateZExtOrTrunc(builder.CreateICmpNE(old, builder.getInt64(0)), at->getType())
+                                    : value_of(builder, old, at->getType());
+            at->replaceAllUsesWith(result);
+        }
+        at->eraseFromParent();
+    }
+
+    // CLK_LOCAL_MEM_FENCE is 1 and CLK_GLOBAL_MEM_FENCE 2; items may give different flags. A wait for copies has both.
+    void put_barrier(CallInst &call) {
+        IRBuilder<> builder(&call);
+        const bool is_wait = name_of(call) == "wait_group_events" || call.arg_size() == 0;
+        Value *flags = is_wait ? builder.getInt32(3) : builder.CreateZExtOrTrunc(call.getArgOperand(0), builder.getInt32Ty());
+        call_runtime(builder, "gr_barrier", builder.getVoidTy(), {builder.getInt32(site(call, BARRIER, nullptr, 0)), flags});
+        call.eraseFromParent();
+    }
+
+    void put_copy(const Copy &copy) {
+        CallInst *at = copy.call;
+        IRBuilder<> builder(at);
+        Value *to = at->getArgOperand(0), *from = at->getArgOperand(1);
+        const uint64_t bytes = module_.getDataLayout().getTypeStoreSize(pointee_of(to));
+        const bool to_local = to->getType()->getPointerAddressSpace() == LOCAL_SPACE;
+        Value *one = builder.getInt64(1), *stride = copy.is_strided ? builder.CreateZExtOrTrunc(at->getArgOperand(3), builder.getInt64Ty()) : one;
+        const unsigned reads = site(*at, READ, from, bytes), writes = site(*at, WRITE, to, bytes);
+        call_runtime(builder, "gr_copy", builder.getVoidTy(),
+                     {builder.getInt32(reads), builder.getInt32(writes), plain(builder, to), plain(builder, from),
+                      builder.CreateZExtOrTrunc(at->getArgOperand(2), builder.getInt64Ty()), to_local ? one : stride, to_local ? stride : one});
+        at->replaceAllUsesWith(at->getArgOperand(at->arg_size() - 1));
+        at->eraseFromParent();
+    }
+
+    // A fence stays one, an image's access is as it was; both are counted.
+    void put_count(CallInst &call, SiteKind kind) {
+        IRBuilder<> builder(&call);
+        call_runtime(builder, "gr_count", builder.getVoidTy(), {builder.getInt32(site(call, kind, nullptr, 0))});
+        if (kind != FENCE) return;
+        builder.CreateFence(AtomicOrdering::SequentiallyConsistent);
+        call.eraseFromParent();
+    }
+
+    // get_local_id(..) and the others are words of the item's state.
+    void put_numbers() {
+        const auto is_number = [](StringRef name) { return number_row_of(name) >= 0; };
+        replace_calls(is_number, [&](IRBuilder<> &builder, CallInst &call) {
+            const StringRef name = name_of(call);
+            const unsigned word = name == "get_work_dim" ? WORK_DIM : name == "get_local_linear_id" ? LOCAL_LINEAR_ID : GLOBAL_LINEAR_ID;
+            Value *column = builder.getInt64(word);
+            if (call.arg_size() == 1) {
+                Value *dimension = builder.CreateZExtOrTrunc(call.getArgOperand(0), builder.getInt64Ty());
+                Value *last = builder.getInt64(DIMENSIONS - 1);
+                column = builder.CreateSelect(builder.CreateICmpULT(dimension, last), dimension, last);
+            }
+            Value *index = builder.CreateAdd(builder.getInt64(uint64_t(number_row_of(name)) * DIMENSIONS), column);
+            Value *words = builder.CreateBitCast(item_, builder.getInt64Ty()->getPointerTo());
+            Value *value = builder.CreateLoad(builder.getInt64Ty(), builder.CreateGEP(builder.getInt64Ty(), words, index));
+            return builder.CreateZExtOrTrunc(value, call.getType());
+        });
+    }
+
+    // A printf is what pocl's own passes make of it: a function that writes into a buffer.
+    void put_prints() {
+        replace_calls([](StringRef name) { return name == "printf"; }, [&](IRBuilder<> &builder, CallInst &call) {
+            Type *bytes = builder.getInt8PtrTy();
+            Value *buffer = call_runtime(builder, "gr_print", bytes, {});
+            auto *type = FunctionType::get(builder.getInt32Ty(), {bytes, bytes, builder.getInt32Ty(), bytes}, true);
+            std::vector<Value *> values = {builder.CreateConstGEP1_32(builder.getInt8Ty(), buffer, 8), buffer, builder.getInt32(PRINT_ROOM - 8)};
+            values.insert(values.end(), call.arg_begin(), call.arg_end());
+            values[3] = plain(builder, values[3]);
+            Value *result = builder.CreateCall(module_.getOrInsertFunction("__pocl_printf", type), values);
+            call_runtime(builder, "gr_printed", builder.getVoidTy(), {});
+            return result;
+        });
+    }
+
+    // A sampler is its CLK_.. bits.
+    void put_samplers() {
+        replace_calls([](StringRef name) { return name == "__translate_sampler_initializer"; },
+                      [](IRBuilder<> &builder, CallInst &call) { return builder.CreateIntToPtr(call.getArgOperand(0), call.getType()); });
+    }
+};
 
 } // namespace
 
-Rewriter::Rewriter(Function &kernel, raw_ostream &sites, unsigned &next_site)
-    : module_(*kernel.getParent()), function_(&kernel), sites_(sites), next_site_(next_site), name_(kernel.getName().str()) {}
-
-void Rewriter::rewrite() {
-    add_item_argument();
-    narrow_stores(*function_);
-    const Accesses accesses = find_accesses(*function_);
-    sites_ << "kernel " << name_ << ' ' << accesses.may_acquire() << ' ' << !accesses.copies.empty() << ' ' << function_->arg_size() - 1 << '\n';
-    number_entries();
-    write_entries(accesses);
-    for (const Access &access : accesses.plain) put_access(access);
-    for (const Atomic &atomic : accesses.atomics) put_atomic(atomic);
-    for (CallInst *barrier : accesses.barriers) put_barrier(*barrier);
-    for (const Copy &copy : accesses.copies) put_copy(copy);
-    for (CallInst *fence : accesses.fences) put_count(*fence, FENCE);
-    for (CallInst *image : accesses.images) put_count(*image, IMAGE);
-    put_numbers();
-    put_prints();
-    put_samplers();
-    place_local_variables();
-    add_entry_point();
-    for (const std::string &note : accesses.notes) sites_ << "note " << note << '\n';
-}
-
-// The kernel becomes a function with one argument more, its work-item's state.
-void Rewriter::add_item_argument() {
-    Function *old = function_;
-    std::vector<Type *> types;
-    for (Argument &argument : old->args()) types.push_back(argument.getType());
-    types.push_back(bytes_type(module_.getContext()));
-    function_ = Function::Create(FunctionType::get(old->getReturnType(), types, false), GlobalValue::InternalLinkage, "gr_kernel_" + name_, module_);
-    function_->copyAttributesFrom(old);
-    function_->setLinkage(GlobalValue::InternalLinkage);
-    function_->setCallingConv(CallingConv::C);
-    function_->removeFnAttr(Attribute::NoInline);
-    function_->addFnAttr(Attribute::AlwaysInline);
-    function_->getBasicBlockList().splice(function_->begin(), old->getBasicBlockList());
-    for (unsigned at = 0; at < old->arg_size(); at++) {
-        old->getArg(at)->replaceAllUsesWith(function_->getArg(at));
-        function_->getArg(at)->takeName(old->getArg(at));
-        function_->removeParamAttr(at, Attribute::NoAlias); // what the runtime does may not be moved across
-    }
-    item_ = function_->getArg(unsigned(old->arg_size()));
-    if (auto *subprogram = old->getSubprogram()) function_->setSubprogram(subprogram);
-    old->eraseFromParent();
-}
-
-void Rewriter::number_entries() {
-    int next = 0;
-    for (Argument &argument : function_->args()) {
-        const char kind = kind_of(argument);
-        if (&argument != item_ && (kind == 'B' || kind == 'L')) entries_[&argument] = next++;
-    }
-    for (GlobalVariable &variable : module_.globals()) {
-        const bool is_used = any_of(variable.users(), [&](const User *user) { return is_used_in(*function_, *user); });
-        if (!is_used || !is_traced(&variable) || (variable.isConstant() && variable.getAddressSpace() == GLOBAL_SPACE)) continue;
-        entries_[&variable] = next++;
-        variables_.push_back(&variable);
-    }
-}
-
-void Rewriter::write_entries(const Accesses &accesses) {
-    const DataLayout &layout = module_.getDataLayout();
-    const Grains grains(accesses, layout);
-    for (Argument &argument : function_->args()) {
-        if (&argument == item_) continue;
-        sites_ << "argument " << argument.getArgNo() << ' ' << kind_of(argument) << '\n';
-        if (entries_.count(&argument)) write_entry(argument, int(argument.getArgNo()), 0, argument.getName(), accesses, grains);
-    }
-    for (GlobalVariable *variable : variables_) {
-        StringRef name = variable->getName();
-        name.consume_front(name_ + ".");
-        if (variable->getAddressSpace() == GLOBAL_SPACE) variable->setLinkage(GlobalValue::ExternalLinkage); // the host looks it up
-        write_entry(*variable, -1, layout.getTypeAllocSize(variable->getValueType()), name, accesses, grains);
-    }
-}
-
-void Rewriter::write_entry(const Value &object, int argument, uint64_t bytes, StringRef name, const Accesses &accesses, const Grains &grains) {
-    const unsigned space = object.getType()->getPointerAddressSpace();
-    const bool has_atomics = any_of(accesses.atomics, [&](const Atomic &atomic) {
-        const Value *known = object_of(atomic.pointer);
-        const unsigned other = atomic.pointer->getType()->getPointerAddressSpace();
-        return known ? known == &object : other == space || other == GENERIC_SPACE;
-    });
-    sites_ << "entry " << entries_.at(&object) << ' ' << argument << ' ' << (space == LOCAL_SPACE) << ' ' << bytes << ' ' << grains.of(&object) << ' '
-           << has_atomics << ' ' << (name.empty() ? "unnamed" : name) << '\n';
-}
-
-// Local variables stand where the item's state says.
-void Rewriter::place_local_variables() {
-    IRBuilder<> builder(&*function_->getEntryBlock().getFirstInsertionPt());
-    Type *bytes = bytes_type(module_.getContext());
-    unsigned next = 0;
-    for (GlobalVariable *variable : variables_) {
-        if (variable->getAddressSpace() != LOCAL_SPACE) continue;
-        Value *place = builder.CreateConstGEP1_32(builder.getInt8Ty(), item_, LOCALS_OFFSET);
-        Value *locals = builder.CreateLoad(bytes->getPointerTo(), builder.CreateBitCast(place, bytes->getPointerTo()->getPointerTo()));
-        Value *memory = builder.CreateLoad(bytes, builder.CreateConstGEP1_32(bytes, locals, next++));
-        replace_in(*function_, variable, as(builder, memory, variable->getType()));
-    }
-}
-
-// void gr_run_NAME(item, arguments): what the host calls.
-void Rewriter::add_entry_point() {
-    LLVMContext &context = module_.getContext();
-    Type *bytes = bytes_type(context);
-    auto *type = FunctionType::get(Type::getVoidTy(context), {bytes, bytes->getPointerTo()}, false);
-    Function *entry = Function::Create(type, GlobalValue::ExternalLinkage, RUN_PREFIX + name_, module_);
-    entry->setAttributes(AttributeList::get(context, AttributeList::FunctionIndex, AttrBuilder(context, function_->getAttributes().getFnAttrs())));
-    entry->removeFnAttr(Attribute::AlwaysInline);
-    IRBuilder<> builder(BasicBlock::Create(context, "", entry));
-    std::vector<Value *> values;
-    for (Argument &argument : function_->args()) {
-        if (&argument == item_) continue;
-        Value *memory = builder.CreateLoad(bytes, builder.CreateConstGEP1_32(bytes, entry->getArg(1), argument.getArgNo()));
-        if (argument.hasByValAttr()) values.push_back(builder.CreateBitCast(memory, argument.getType()));
-        else values.push_back(builder.CreateAlignedLoad(argument.getType(), builder.CreateBitCast(memory, argument.getType()->getPointerTo()), Align(1)));
-    }
-    values.push_back(entry->getArg(0));
-    CallInst *call = builder.CreateCall(function_, values);
-    for (unsigned at = 0; at + 1 < values.size(); at++) // each item has its own copy of a struct
-        if (Type *copied = function_->getParamByValType(at)) call->addParamAttr(at, Attribute::getWithByValType(context, copied));
-    builder.CreateRetVoid();
-}
-
-unsigned Rewriter::site(const Instruction &at, SiteKind kind, const Value *pointer, uint64_t bytes) {
-    const unsigned space = pointer ? pointer->getType()->getPointerAddressSpace() : unsigned(GLOBAL_SPACE);
-    const auto entry = pointer && object_of(pointer) ? entries_.find(object_of(pointer)) : entries_.end();
-    const DILocation *place = at.getDebugLoc().get();
-    sites_ << "site " << next_site_ << ' ' << kind << ' ' << (space == LOCAL_SPACE ? LOCAL : space == GENERIC_SPACE ? GENERIC : GLOBAL) << ' ' << bytes << ' '
-           << (entry == entries_.end() ? -1 : entry->second) << ' ' << (place && !place->getFilename().empty() ? place->getFilename() : "kernel.cl") << ' '
-           << (place ? place->getLine() : 0) << ' ' << (place ? place->getColumn() : 0) << '\n';
-    return next_site_++;
-}
-
-CallInst *Rewriter::call_runtime(IRBuilder<> &builder, StringRef name, Type *result, std::vector<Value *> values) {
-    values.insert(values.begin(), item_);
-    std::vector<Type *> types;
-    for (Value *value : values) types.push_back(value->getType());
-    return builder.CreateCall(module_.getOrInsertFunction(name, FunctionType::get(result, types, false)), values);
-}
-
-std::vector<CallInst *> Rewriter::calls_of(function_ref<bool(StringRef)> is_wanted) {
-    std::vector<CallInst *> calls;
-    for (Instruction &instruction : instructions(*function_))
-        if (auto *call = dyn_cast<CallInst>(&instruction); call && is_wanted(name_of(*call))) calls.push_back(call);
-    return calls;
-}
-
-// The instruction uses the address that the runtime answers.
-void Rewriter::put_access(const Access &access) {
-    IRBuilder<> builder(access.instruction);
-    Value *address = plain(builder, access.pointer());
-    if (access.index) {
-        Value *steps = builder.CreateZExtOrTrunc(access.index, builder.getInt64Ty());
-        address = builder.CreateGEP(builder.getInt8Ty(), address, builder.CreateMul(steps, builder.getInt64(access.stride)));
-        access.instruction->setOperand(access.index_operand, Constant::getNullValue(access.index->getType()));
-    }
-    const unsigned number = site(*access.instruction, access.kind, access.pointer(), access.bytes);
-    Value *allowed = call_runtime(builder, "gr_access", builder.getInt8PtrTy(), {builder.getInt32(number), address});
-    access.instruction->setOperand(access.operand, as(builder, allowed, access.pointer()->getType()));
-}
-
-void Rewriter::put_atomic(const Atomic &atomic) {
-    CallInst *at = atomic.call;
-    IRBuilder<> builder(at);
-    const StringRef name = name_of(*at);
-    Type *word = pointee_of(at->getArgOperand(0));
-    if (word->isStructTy()) word = builder.getInt32Ty();
-    const uint64_t bytes = module_.getDataLayout().getTypeStoreSize(word);
-    Value *number = builder.getInt32(site(*at, atomic.kind, atomic.pointer, bytes)), *address = plain(builder, atomic.pointer);
-    if (atomic.kind == WRITE) { // atomic_init
-        Value *allowed = call_runtime(builder, "gr_access", builder.getInt8PtrTy(), {number, address}), *value = at->getArgOperand(1);
-        builder.CreateStore(value, builder.CreateBitCast(allowed, value->getType()->getPointerTo()));
-        at->eraseFromParent();
-        return;
-    }
-    const bool is_flag = name.contains("flag"), has_expected = name.contains("compare_exchange");
-    Value *value = builder.getInt64(0), *compare = value, *expected = has_expected ? at->getArgOperand(1) : nullptr;
-    if (name.contains("inc") || name.contains("dec") || is_flag) value = builder.getInt64(atomic.kind == MODIFY);
-    else if (atomic.kind == COMPARE_EXCHANGE) value = bits_of(builder, at->getArgOperand(2));
-    else if (atomic.kind != LOAD) value = bits_of(builder, at->getArgOperand(1));
-    if (expected) compare = bits_of(builder, builder.CreateLoad(at->getArgOperand(2)->getType(), expected));
-    else if (atomic.kind == COMPARE_EXCHANGE) compare = bits_of(builder, at->getArgOperand(1));
-    const auto part = [&](Value *given, unsigned otherwise, unsigned shift) {
-        Value *part = given ? builder.CreateZExtOrTrunc(given, builder.getInt32Ty()) : builder.getInt32(otherwise);
-        return builder.CreateShl(part, shift);
-    };
-    const unsigned order = atomic.is_of_opencl20 ? 5 : 0; // memory_order_seq_cst; memory_scope_device is 2
-    Value *how = builder.CreateOr(builder.CreateOr(part(atomic.order, order, 0), part(atomic.failure, order, 8)), part(atomic.scope, 2, 16));
-    Value *what = builder.getInt32(unsigned(atomic.operation) | unsigned(atomic.type) << 8);
-    Value *old = call_runtime(builder, "gr_atomic", builder.getInt64Ty(), {number, what, address, value, compare, how});
-    if (expected) {
-        builder.CreateStore(value_of(builder, old, at->getArgOperand(2)->getType()), expected);
-        at->replaceAllUsesWith(builder.CreateZExtOrTrunc(builder.CreateICmpEQ(old, compare), at->getType()));
-    } else if (!at->getType()->isVoidTy()) {
-        Value *result = is_flag ? builder.CreateZExtOrTrunc(builder.CreateICmpNE(old, builder.getInt64(0)), at->getType())
-                                : value_of(builder, old, at->getType());
-        at->replaceAllUsesWith(result);
-    }
-    at->eraseFromParent();
-}
-
-// CLK_LOCAL_MEM_FENCE is 1 and CLK_GLOBAL_MEM_FENCE 2; items may give different flags. A wait for copies has both.
-void Rewriter::put_barrier(CallInst &call) {
-    IRBuilder<> builder(&call);
-    const bool is_wait = name_of(call) == "wait_group_events" || call.arg_size() == 0;
-    Value *flags = is_wait ? builder.getInt32(3) : builder.CreateZExtOrTrunc(call.getArgOperand(0), builder.getInt32Ty());
-    call_runtime(builder, "gr_barrier", builder.getVoidTy(), {builder.getInt32(site(call, BARRIER, nullptr, 0)), flags});
-    call.eraseFromParent();
-}
-
-void Rewriter::put_copy(const Copy &copy) {
-    CallInst *at = copy.call;
-    IRBuilder<> builder(at);
-    Value *to = at->getArgOperand(0), *from = at->getArgOperand(1);
-    const uint64_t bytes = module_.getDataLayout().getTypeStoreSize(pointee_of(to));
-    const bool to_local = to->getType()->getPointerAddressSpace() == LOCAL_SPACE;
-    Value *one = builder.getInt64(1), *stride = copy.is_strided ? builder.CreateZExtOrTrunc(at->getArgOperand(3), builder.getInt64Ty()) : one;
-    const unsigned reads = site(*at, READ, from, bytes), writes = site(*at, WRITE, to, bytes);
-    call_runtime(builder, "gr_copy", builder.getVoidTy(),
-                 {builder.getInt32(reads), builder.getInt32(writes), plain(builder, to), plain(builder, from),
-                  builder.CreateZExtOrTrunc(at->getArgOperand(2), builder.getInt64Ty()), to_local ? one : stride, to_local ? stride : one});
-    at->replaceAllUsesWith(at->getArgOperand(at->arg_size() - 1));
-    at->eraseFromParent();
-}
-
-// A fence stays one, an image's access is as it was; both are counted.
-void Rewriter::put_count(CallInst &call, SiteKind kind) {
-    IRBuilder<> builder(&call);
-    call_runtime(builder, "gr_count", builder.getVoidTy(), {builder.getInt32(site(call, kind, nullptr, 0))});
-    if (kind != FENCE) return;
-    builder.CreateFence(AtomicOrdering::SequentiallyConsistent);
-    call.eraseFromParent();
-}
-
-// get_local_id(..) and the others are words of the item's state.
-void Rewriter::put_numbers() {
-    for (CallInst *call : calls_of([](StringRef name) { return number_row_of(name) >= 0; })) {
-        IRBuilder<> builder(call);
-        const StringRef name = name_of(*call);
-        Value *index = builder.getInt64(uint64_t(number_row_of(name)) * DIMENSIONS);
-        if (call->arg_size() == 1) {
-            Value *dimension = builder.CreateZExtOrTrunc(call->getArgOperand(0), builder.getInt64Ty()), *last = builder.getInt64(DIMENSIONS - 1);
-            index = builder.CreateAdd(index, builder.CreateSelect(builder.CreateICmpULT(dimension, last), dimension, last));
-        } else {
-            const unsigned word = name == "get_work_dim" ? WORK_DIM : name == "get_local_linear_id" ? LOCAL_LINEAR_ID : GLOBAL_LINEAR_ID;
-            index = builder.getInt64(LINEAR * DIMENSIONS + word);
-        }
-        Value *words = builder.CreateBitCast(item_, builder.getInt64Ty()->getPointerTo());
-        Value *value = builder.CreateLoad(builder.getInt64Ty(), builder.CreateGEP(builder.getInt64Ty(), words, index));
-        call->replaceAllUsesWith(builder.CreateZExtOrTrunc(value, call->getType()));
-        call->eraseFromParent();
-    }
-}
-
-// A printf is what pocl's own passes make of it: a function that writes into a buffer.
-void Rewriter::put_prints() {
-    for (CallInst *call : calls_of([](StringRef name) { return name == "printf"; })) {
-        IRBuilder<> builder(call);
-        Type *bytes = builder.getInt8PtrTy();
-        Value *buffer = call_runtime(builder, "gr_print", bytes, {});
-        auto *type = FunctionType::get(builder.getInt32Ty(), {bytes, bytes, builder.getInt32Ty(), bytes}, true);
-        std::vector<Value *> values = {builder.CreateConstGEP1_32(builder.getInt8Ty(), buffer, 8), buffer, builder.getInt32(PRINT_ROOM)};
-        for (Value *value : call->args()) values.push_back(value);
-        values[3] = plain(builder, values[3]);
-        Value *result = builder.CreateCall(module_.getOrInsertFunction("__pocl_printf", type), values);
-        call_runtime(builder, "gr_printed", builder.getVoidTy(), {});
-        call->replaceAllUsesWith(result);
-        call->eraseFromParent();
-    }
-}
-
-// A sampler is its CLK_.. bits.
-void Rewriter::put_samplers() {
-    for (CallInst *call : calls_of([](StringRef name) { return name == "__translate_sampler_initializer"; })) {
-        IRBuilder<> builder(call);
-        call->replaceAllUsesWith(builder.CreateIntToPtr(call->getArgOperand(0), call->getType()));
-        call->eraseFromParent();
-    }
-}
+void instrument_kernel(Function &kernel, raw_ostream &sites, unsigned &next_site) { Rewriter(kernel, sites, next_site).rewrite(); }
 
 } // namespace gpurace

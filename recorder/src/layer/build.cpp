@@ -1,4 +1,4 @@
-#include "build.h"
+#include "layer.h"
 
 #include <cstring>
 #include <dlfcn.h>
@@ -67,6 +67,13 @@ Processor processor() {
     if (__builtin_cpu_supports("avx2") && __builtin_cpu_supports("fma")) return {"haswell", "avx2"};
     return {"x86-64", "sse2"};
 }
+// The file of this library, in whose folder the instrumenting pass is.
+files::path own_path() {
+    Dl_info info;
+    dladdr(reinterpret_cast<void *>(&own_path), &info);
+    return info.dli_fname;
+}
+std::string instrumenter() { return own_path().parent_path() / "instrument-kernels"; }
 std::string builtins() { return settings().builtins + "/kernel-x86_64-pc-linux-gnu-" + processor().builtins + ".bc"; }
 
 Words features_of(cl_device_id device) {
@@ -94,20 +101,18 @@ bool starts(const std::string &word, const char *with) { return word.rfind(with,
 // The options of a unit, as the driver's own compile has them.
 Words unit_options(const Unit &unit, const Words &features) {
     Words given = words_of(unit.options), options;
-    bool has_standard = false, contracts = false;
+    bool has_standard = false;
     for (size_t at = 0; at < given.size(); at++) {
         const std::string &word = given[at];
         if (word == "-x" || word == "-s") { at++; continue; }
         if (starts(word, "-spir-std") || word == "-create-library" || word == "-enable-link-options" || starts(word, "-cl-nv")) continue;
         has_standard = has_standard || starts(word, "-cl-std=");
-        contracts = contracts || word == "-cl-mad-enable" || word == "-cl-fast-relaxed-math" || word == "-cl-unsafe-math-optimizations";
         if (word == "-cl-fast-relaxed-math") options.push_back("-D__FAST_RELAXED_MATH__=1");
         if (word == "-cl-std=CL3.0") // of some features the headers alone have the macros
             for (const std::string &feature : features) options.push_back("-D" + feature + "=1");
         options.push_back(word);
     }
     if (!has_standard) options.push_back("-cl-std=CL1.2");
-    if (!contracts) options.push_back("-ffp-contract=off");
     return options;
 }
 
@@ -118,31 +123,13 @@ Words compiler_options(cl_device_id device) {
     Words words = {"-x", "cl", "-target", "x86_64-pc-linux-gnu", std::string("-march=") + processor().name, "-Xclang", "-ffake-address-space-map",
                    "-Xclang", "-no-opaque-pointers", "-Xclang", extensions_of(device), "-D__OPENCL_VERSION__=" + number, "-D__ENDIAN_LITTLE__=1",
                    "-D__IMAGE_SUPPORT__=1", "-DPOCL_DEVICE_ADDRESS_BITS=64", "-D__USE_CLANG_OPENCL_C_H", "-Dinline=", "-Dcl_khr_int64",
-                   "-DCL_DEVICE_MAX_GLOBAL_VARIABLE_SIZE=" + std::to_string(info_of<size_t>(device, CL_DEVICE_MAX_GLOBAL_VARIABLE_SIZE))};
+                   "-DCL_DEVICE_MAX_GLOBAL_VARIABLE_SIZE=" + std::to_string(info_of<size_t>(driver.clGetDeviceInfo, device, CL_DEVICE_MAX_GLOBAL_VARIABLE_SIZE))};
     for (const char *header : {"_builtin_renames.h", "opencl-c-base.h", "opencl-c.h", "_clang_opencl.h"})
         words.insert(words.end(), {"-include", headers + header});
     // each access of the text is one of the code: no pass has merged or moved any
     words.insert(words.end(), {"-fno-builtin", "-fno-discard-value-names", "-g", "-w", "-emit-llvm", "-c", "-O1", "-Xclang", "-disable-llvm-passes"});
     return words;
 }
-
-class Hash { // of two words, by FNV-1a
-public:
-    void add(const std::string &text) {
-        for (const char letter : text + '\1') {
-            first_ = (first_ ^ uint8_t(letter)) * 0x100000001b3ull;
-            second_ = (second_ ^ uint8_t(letter)) * 0x100000001b3ull + 0x9e37;
-        }
-    }
-    std::string text() const {
-        char digits[33];
-        std::snprintf(digits, sizeof digits, "%016llx%016llx", static_cast<unsigned long long>(first_), static_cast<unsigned long long>(second_));
-        return digits;
-    }
-
-private:
-    uint64_t first_ = 0xcbf29ce484222325ull, second_ = 0x84222325cbf29ce4ull;
-};
 
 // The state of a file that a build depends on.
 std::string state_of(const std::string &path) {
@@ -160,16 +147,19 @@ std::string types_header() {
 class Build {
 public:
     Build(const std::vector<Unit> &units, cl_device_id device) : units_(units), options_(compiler_options(device)), features_(features_of(device)) {
-        Hash hash;
+        std::ostringstream text;
         for (const Unit &unit : units) {
-            hash.add(unit.source), hash.add(unit.options);
-            for (const Source &header : unit.headers) hash.add(header.name), hash.add(header.text);
+            text << unit.source << '\1' << unit.options << '\1';
+            for (const Source &header : unit.headers) text << header.name << '\1' << header.text << '\1';
         }
-        for (const std::string &word : options_) hash.add(word);
-        char here[4096];
-        hash.add(getcwd(here, sizeof here) ? here : ""); // where included files are looked for
-        hash.add(state_of(own_path())), hash.add(state_of(own_folder() + "/instrument-kernels")), hash.add(state_of(builtins()));
-        if (!settings().kept_builds.empty()) kept_ = settings().kept_builds + "/" + hash.text();
+        for (const std::string &word : options_) text << word << '\1';
+        std::error_code ignored;
+        text << files::current_path(ignored); // where included files are looked for
+        for (const std::string &file : {own_path().string(), instrumenter(), builtins()}) text << state_of(file);
+        const std::hash<std::string> hash;
+        char name[34];
+        std::snprintf(name, sizeof name, "/%016zx%016zx", hash(text.str()), hash("second " + text.str()));
+        if (!settings().kept_builds.empty()) kept_ = settings().kept_builds + name;
     }
 
     std::shared_ptr<Program> program(std::string &error) {
@@ -197,20 +187,14 @@ private:
     static std::string name_of(size_t unit) { return unit == 0 ? "kernel.cl" : "kernel-" + std::to_string(unit + 1) + ".cl"; }
 
     bool compile(const std::string &folder) {
-        const std::string log = file_ + ".log", whole = file_ + ".bc";
-        Words parts;
+        const std::string log = file_ + ".log", march = std::string("-march=") + processor().name;
+        Words instrument = {instrumenter(), builtins(), file_ + ".out.bc", file_ + ".sites"};
         for (size_t at = 0; at < units_.size(); at++) {
-            parts.push_back(folder + "/unit" + std::to_string(at) + ".bc");
-            if (!compile_unit(folder, at, parts.back(), log)) return false;
+            instrument.push_back(folder + "/unit" + std::to_string(at) + ".bc");
+            if (!compile_unit(folder, at, instrument.back(), log)) return false;
         }
-        if (parts.size() == 1) files::rename(parts[0], whole);
-        else {
-            Words link = {settings().link, "-opaque-pointers=0", "-o", whole};
-            link.insert(link.end(), parts.begin(), parts.end());
-            if (!run(link, log)) return false;
-        }
-        return run({own_folder() + "/instrument-kernels", whole, builtins(), file_ + ".out.bc", file_ + ".sites"}, log) &&
-               run({settings().clang, "-O2", "-w", std::string("-march=") + processor().name, "-fPIC", "-fstack-usage", "-c", file_ + ".out.bc", "-o", file_ + ".o"}, log) &&
+        return run(instrument, log) &&
+               run({settings().clang, "-O2", "-w", march, "-fPIC", "-fstack-usage", "-c", file_ + ".out.bc", "-o", file_ + ".o"}, log) &&
                run({"ld", "-shared", file_ + ".o", own_path(), "-lm", "-o", file_ + ".so"}, log) && files::exists(file_ + ".so");
     }
 

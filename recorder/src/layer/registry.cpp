@@ -1,159 +1,251 @@
-#include "registry.h"
+#include "layer.h"
+
+#include <cstring>
+#include <mutex>
 
 namespace gpurace {
+namespace {
 
-Registry &registry() {
-    static auto &made = *new Registry; // it lives as long as any thread of the program
-    return made;
+using BuildNotice = void(CL_CALLBACK *)(cl_program, void *);
+
+struct Known { // of a program
+    std::vector<Unit> units; // none, where a part of it has no text
+    std::shared_ptr<const Program> built;
+    std::string reason;      // why it is not built
+};
+
+std::mutex lock, build_lock;
+// They live as long as any thread of the program.
+auto &programs = *new std::map<cl_program, Known>;
+auto &kernels = *new std::map<cl_kernel, Launchable>;
+auto &shared = *new std::map<char *, size_t>;
+
+void note_program(cl_program program, Known known) {
+    const std::lock_guard<std::mutex> held(lock);
+    if (program) programs[program] = std::move(known);
 }
 
-void Registry::add_source(cl_program program, std::string text) {
-    const std::lock_guard<std::mutex> held(lock_);
-    programs_[program] = {{{std::move(text), "", {}}}, nullptr, "its program was not built"};
-}
-
-void Registry::add_without_text(cl_program program, const std::string &reason) {
-    const std::lock_guard<std::mutex> held(lock_);
-    programs_[program] = {{}, nullptr, reason};
-}
-
-void Registry::compile(cl_program program, const std::string &options, const std::vector<std::pair<std::string, cl_program>> &headers) {
-    const std::lock_guard<std::mutex> held(lock_);
-    const auto found = programs_.find(program);
-    if (found == programs_.end() || found->second.units.size() != 1) return;
-    Unit &unit = found->second.units[0];
-    unit.options = options;
-    unit.headers.clear();
-    for (const auto &[name, header] : headers) {
-        const auto text = programs_.find(header);
-        if (text != programs_.end() && text->second.units.size() == 1) unit.headers.push_back({name, text->second.units[0].source});
-    }
-}
-
-void Registry::build_program(cl_program program, const std::string &options) {
-    std::vector<Unit> units;
-    {
-        const std::lock_guard<std::mutex> held(lock_);
-        const auto found = programs_.find(program);
-        if (found == programs_.end() || found->second.units.empty()) return;
-        for (Unit &unit : found->second.units) unit.options = options;
-        units = found->second.units;
-    }
-    build_units(program, units);
-}
-
-bool Registry::join_units(cl_program made, const std::vector<cl_program> &parts, std::vector<Unit> &units) {
-    const std::lock_guard<std::mutex> held(lock_);
-    Known &known = programs_[made] = {};
-    for (const cl_program part : parts) {
-        const auto found = programs_.find(part);
-        if (found == programs_.end() || found->second.units.empty()) {
-            known.reason = found == programs_.end() ? "a part of its program is not known" : found->second.reason;
-            return false;
-        }
-        units.insert(units.end(), found->second.units.begin(), found->second.units.end());
-    }
-    known.units = units;
-    return true;
-}
-
-void Registry::link(cl_program made, const std::vector<cl_program> &parts) {
-    std::vector<Unit> units;
-    if (join_units(made, parts, units)) build_units(made, units);
-}
-
-void Registry::add_library(cl_program made, const std::vector<cl_program> &parts) {
-    std::vector<Unit> units;
-    join_units(made, parts, units);
-}
-
-void Registry::build_units(cl_program program, const std::vector<Unit> &units) {
+void build_units(cl_program program, const std::vector<Unit> &units) {
     cl_device_id devices[64] = {};
     driver.clGetProgramInfo(program, CL_PROGRAM_DEVICES, sizeof devices, devices, nullptr);
-    std::string error;
-    std::shared_ptr<const Program> built;
+    Known known{units, nullptr, ""};
     {
-        const std::lock_guard<std::mutex> held(build_lock_);
-        built = build(units, devices[0], error);
+        const std::lock_guard<std::mutex> held(build_lock);
+        known.built = build(units, devices[0], known.reason);
     }
-    if (!built) say("a program could not be compiled for recording: " + error);
-    const std::lock_guard<std::mutex> held(lock_);
-    Known &known = programs_[program];
-    known.built = built;
-    known.reason = built ? "" : "its program could not be compiled for recording: " + error;
+    if (!known.built) say(known.reason = "its program could not be compiled for recording: " + known.reason);
+    note_program(program, std::move(known));
 }
 
-void Registry::add_kernel(cl_kernel kernel, cl_program of) {
-    char name[512] = "";
-    driver.clGetKernelInfo(kernel, CL_KERNEL_FUNCTION_NAME, sizeof name, name, nullptr);
-    const std::lock_guard<std::mutex> held(lock_);
-    Launchable &made = kernels_[kernel] = {};
-    const auto found = programs_.find(of);
-    if (found == programs_.end()) return (void)(made.reason = "its program has no text");
-    made.reason = found->second.reason;
-    if (!found->second.built) return;
-    const auto known = found->second.built->kernels.find(name);
-    if (known == found->second.built->kernels.end()) return (void)(made.reason = "it is not in its program's text");
+// The texts of a program, or of one that is linked of several.
+Known joined(const std::vector<cl_program> &parts) {
+    const std::lock_guard<std::mutex> held(lock);
+    Known whole{{}, nullptr, "its program was not built"};
+    for (const cl_program part : parts) {
+        const auto found = programs.find(part);
+        if (found == programs.end()) return {{}, nullptr, "a part of its program is not known"};
+        if (found->second.units.empty()) return {{}, nullptr, found->second.reason};
+        whole.units.insert(whole.units.end(), found->second.units.begin(), found->second.units.end());
+    }
+    return whole;
+}
+
+// The program's options, and the user's behind them.
+std::string all_options(const char *options) {
+    const std::string more = settings().build_options;
+    return std::string(options ? options : "") + (more.empty() ? "" : " " + more);
+}
+
+cl_program CL_API_CALL create_with_source(cl_context context, cl_uint count, const char **texts, const size_t *lengths, cl_int *error) {
+    const cl_program program = driver.clCreateProgramWithSource(context, count, texts, lengths, error);
+    std::string source;
+    for (cl_uint at = 0; program && at < count; at++) source += lengths && lengths[at] ? std::string(texts[at], lengths[at]) : std::string(texts[at]);
+    note_program(program, {{{std::move(source), "", {}}}, nullptr, "its program was not built"});
+    return program;
+}
+
+cl_program CL_API_CALL create_with_il(cl_context context, const void *il, size_t length, cl_int *error) {
+    const cl_program program = driver.clCreateProgramWithIL(context, il, length, error);
+    note_program(program, {{}, nullptr, "its program is SPIR-V, which has no text"});
+    return program;
+}
+
+cl_program CL_API_CALL create_with_builtins(cl_context context, cl_uint count, const cl_device_id *devices, const char *names, cl_int *error) {
+    const cl_program program = driver.clCreateProgramWithBuiltInKernels(context, count, devices, names, error);
+    note_program(program, {{}, nullptr, "it is built into the device"});
+    return program;
+}
+
+// A binary is refused as one that is out of date, so that the program goes back to its text.
+cl_program CL_API_CALL create_with_binary(cl_context, cl_uint count, const cl_device_id *, const size_t *, const unsigned char **, cl_int *states, cl_int *error) {
+    say("a program's binary is refused, since it has no text to record");
+    for (cl_uint at = 0; states && at < count; at++) states[at] = CL_INVALID_BINARY;
+    if (error) *error = CL_INVALID_BINARY;
+    return nullptr;
+}
+
+cl_int CL_API_CALL build_program(cl_program program, cl_uint count, const cl_device_id *devices, const char *options, BuildNotice notify, void *data) {
+    const std::string all = all_options(options);
+    const cl_int error = driver.clBuildProgram(program, count, devices, all.c_str(), nullptr, nullptr);
+    Known known = joined({program});
+    for (Unit &unit : known.units) unit.options = all;
+    if (error == CL_SUCCESS && !known.units.empty()) build_units(program, known.units);
+    if (notify) notify(program, data);
+    return notify && error == CL_BUILD_PROGRAM_FAILURE ? CL_SUCCESS : error;
+}
+
+cl_int CL_API_CALL compile_program(cl_program program, cl_uint count, const cl_device_id *devices, const char *options, cl_uint header_count,
+                                   const cl_program *headers, const char **names, BuildNotice notify, void *data) {
+    const std::string all = all_options(options);
+    const cl_int error = driver.clCompileProgram(program, count, devices, all.c_str(), header_count, headers, names, nullptr, nullptr);
+    Known known = joined({program});
+    if (error == CL_SUCCESS && known.units.size() == 1) {
+        known.units[0] = {known.units[0].source, all, {}};
+        for (cl_uint at = 0; at < header_count; at++)
+            if (const Known header = joined({headers[at]}); header.units.size() == 1)
+                known.units[0].headers.push_back({names[at], header.units[0].source});
+        note_program(program, std::move(known));
+    }
+    if (notify) notify(program, data);
+    return notify && error == CL_COMPILE_PROGRAM_FAILURE ? CL_SUCCESS : error;
+}
+
+// A library is a part of programs that are linked later.
+cl_program CL_API_CALL link_program(cl_context context, cl_uint count, const cl_device_id *devices, const char *options, cl_uint part_count,
+                                    const cl_program *parts, BuildNotice notify, void *data, cl_int *error) {
+    const cl_program program = driver.clLinkProgram(context, count, devices, options, part_count, parts, nullptr, nullptr, error);
+    const Known known = joined({parts, parts + part_count});
+    note_program(program, known);
+    const bool is_library = options && std::strstr(options, "-create-library");
+    if (program && !is_library && !known.units.empty()) build_units(program, known.units);
+    if (notify) notify(program, data);
+    return program;
+}
+
+void note_kernel(cl_kernel kernel, cl_program program) {
+    const std::string name = name_of(kernel);
+    const std::lock_guard<std::mutex> held(lock);
+    Launchable &made = kernels[kernel] = {};
+    const auto found = programs.find(program);
+    made.reason = found == programs.end() ? "its program has no text" : found->second.reason;
+    if (found == programs.end() || !found->second.built) return;
     made.program = found->second.built;
-    made.kernel = &known->second;
+    const auto known = made.program->kernels.find(name);
+    if (known != made.program->kernels.end()) made.kernel = &known->second;
+    else made.program = nullptr, made.reason = "it is not in its program's text";
 }
 
-void Registry::clone_kernel(cl_kernel kernel, cl_kernel of) {
-    const std::lock_guard<std::mutex> held(lock_);
-    kernels_[kernel] = kernels_[of];
+cl_kernel CL_API_CALL create_kernel(cl_program program, const char *name, cl_int *error) {
+    const cl_kernel kernel = driver.clCreateKernel(program, name, error);
+    if (kernel) note_kernel(kernel, program);
+    return kernel;
 }
 
-void Registry::remove_kernel(cl_kernel kernel) {
-    const std::lock_guard<std::mutex> held(lock_);
-    kernels_.erase(kernel);
+cl_int CL_API_CALL create_kernels(cl_program program, cl_uint count, cl_kernel *made, cl_uint *made_count) {
+    cl_uint number = 0;
+    const cl_int error = driver.clCreateKernelsInProgram(program, count, made, &number);
+    if (made_count) *made_count = number;
+    for (cl_uint at = 0; error == CL_SUCCESS && made && at < number; at++) note_kernel(made[at], program);
+    return error;
 }
 
-Launchable Registry::launchable(cl_kernel kernel) {
-    const std::lock_guard<std::mutex> held(lock_);
-    const auto found = kernels_.find(kernel);
-    if (found != kernels_.end()) return found->second;
+cl_kernel CL_API_CALL clone_kernel(cl_kernel of, cl_int *error) {
+    const cl_kernel kernel = driver.clCloneKernel(of, error);
+    const std::lock_guard<std::mutex> held(lock);
+    if (kernel) kernels[kernel] = kernels[of];
+    return kernel;
+}
+
+cl_int CL_API_CALL release_kernel(cl_kernel kernel) {
+    const auto count = info_of<cl_uint>(driver.clGetKernelInfo, kernel, CL_KERNEL_REFERENCE_COUNT);
+    const std::lock_guard<std::mutex> held(lock);
+    if (count == 1) kernels.erase(kernel);
+    return driver.clReleaseKernel(kernel);
+}
+
+cl_int CL_API_CALL set_argument(cl_kernel kernel, cl_uint at, size_t size, const void *value) {
+    const cl_int error = driver.clSetKernelArg(kernel, at, size, value);
+    const std::lock_guard<std::mutex> held(lock);
+    if (error != CL_SUCCESS) return error;
+    Launchable &of = kernels[kernel];
+    of.pointers.erase(at);
+    if (!value) of.local_bytes[at] = size, of.values[at].assign(sizeof(void *), 0);
+    else of.values[at].assign(static_cast<const char *>(value), static_cast<const char *>(value) + size);
+    return error;
+}
+
+cl_int CL_API_CALL set_pointer(cl_kernel kernel, cl_uint at, const void *value) {
+    const cl_int error = driver.clSetKernelArgSVMPointer(kernel, at, value);
+    const std::lock_guard<std::mutex> held(lock);
+    if (error != CL_SUCCESS) return error;
+    kernels[kernel].pointers.insert(at);
+    kernels[kernel].values[at].assign(reinterpret_cast<const char *>(&value), reinterpret_cast<const char *>(&value + 1));
+    return error;
+}
+
+cl_int CL_API_CALL set_exec_info(cl_kernel kernel, cl_kernel_exec_info what, size_t size, const void *value) {
+    const cl_int error = driver.clSetKernelExecInfo(kernel, what, size, value);
+    const std::lock_guard<std::mutex> held(lock);
+    auto *pointers = static_cast<char *const *>(value);
+    if (error == CL_SUCCESS && what == CL_KERNEL_EXEC_INFO_SVM_PTRS) kernels[kernel].more_pointers = {pointers, pointers + size / sizeof *pointers};
+    return error;
+}
+
+void *CL_API_CALL svm_alloc(cl_context context, cl_svm_mem_flags flags, size_t size, cl_uint alignment) {
+    void *memory = driver.clSVMAlloc(context, flags, size, alignment);
+    const std::lock_guard<std::mutex> held(lock);
+    if (memory) shared[static_cast<char *>(memory)] = size;
+    return memory;
+}
+
+void CL_API_CALL svm_free(cl_context context, void *memory) {
+    const std::lock_guard<std::mutex> held(lock);
+    shared.erase(static_cast<char *>(memory));
+    driver.clSVMFree(context, memory);
+}
+
+} // namespace
+
+Launchable launchable(cl_kernel kernel) {
+    const std::lock_guard<std::mutex> held(lock);
+    const auto found = kernels.find(kernel);
+    if (found != kernels.end()) return found->second;
     Launchable unknown;
     unknown.reason = "it was not made by the program";
     return unknown;
 }
 
-void Registry::set_argument(cl_kernel kernel, cl_uint at, size_t size, const void *value) {
-    const std::lock_guard<std::mutex> held(lock_);
-    Launchable &of = kernels_[kernel];
-    of.pointers.erase(at);
-    if (!value) of.local_bytes[at] = size, of.values[at].assign(sizeof(void *), 0);
-    else of.values[at].assign(static_cast<const char *>(value), static_cast<const char *>(value) + size);
+std::string name_of(cl_kernel kernel) {
+    char name[512] = "";
+    driver.clGetKernelInfo(kernel, CL_KERNEL_FUNCTION_NAME, sizeof name, name, nullptr);
+    return name;
 }
 
-void Registry::set_pointer(cl_kernel kernel, cl_uint at, const void *value) {
-    const std::lock_guard<std::mutex> held(lock_);
-    Launchable &of = kernels_[kernel];
-    of.pointers.insert(at);
-    of.values[at].assign(reinterpret_cast<const char *>(&value), reinterpret_cast<const char *>(&value + 1));
-}
-
-void Registry::set_more_pointers(cl_kernel kernel, std::vector<char *> pointers) {
-    const std::lock_guard<std::mutex> held(lock_);
-    kernels_[kernel].more_pointers = std::move(pointers);
-}
-
-void Registry::add_shared(void *memory, size_t bytes) {
-    const std::lock_guard<std::mutex> held(shared_lock_);
-    shared_[static_cast<char *>(memory)] = bytes;
-}
-
-void Registry::remove_shared(void *memory) {
-    const std::lock_guard<std::mutex> held(shared_lock_);
-    shared_.erase(static_cast<char *>(memory));
-}
-
-std::pair<char *, size_t> Registry::shared_at(char *pointer) {
-    const std::lock_guard<std::mutex> held(shared_lock_);
-    auto found = shared_.upper_bound(pointer);
-    if (found == shared_.begin()) return {};
+std::pair<char *, size_t> shared_at(char *pointer) {
+    const std::lock_guard<std::mutex> held(lock);
+    auto found = shared.upper_bound(pointer);
+    if (found == shared.begin()) return {};
     --found;
-    if (pointer >= found->first + found->second) return {};
-    return {found->first, found->second};
+    return pointer < found->first + found->second ? std::pair(found->first, found->second) : std::pair<char *, size_t>();
+}
+
+void take_over_handles(_cl_icd_dispatch &layer) {
+    layer.clCreateProgramWithSource = create_with_source;
+    layer.clCreateProgramWithIL = create_with_il;
+    layer.clCreateProgramWithBuiltInKernels = create_with_builtins;
+    layer.clCreateProgramWithBinary = create_with_binary;
+    layer.clBuildProgram = build_program;
+    layer.clCompileProgram = compile_program;
+    layer.clLinkProgram = link_program;
+    layer.clCreateKernel = create_kernel;
+    layer.clCreateKernelsInProgram = create_kernels;
+    layer.clCloneKernel = clone_kernel;
+    layer.clReleaseKernel = release_kernel;
+    layer.clSetKernelArg = set_argument;
+    layer.clSetKernelArgSVMPointer = set_pointer;
+    layer.clSetKernelExecInfo = set_exec_info;
+    layer.clSVMAlloc = svm_alloc;
+    layer.clSVMFree = svm_free;
 }
 
 } // namespace gpurace

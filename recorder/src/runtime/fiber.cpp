@@ -1,7 +1,6 @@
 #include "fiber.h"
 
 #include <atomic>
-#include <cstring>
 #include <sys/mman.h>
 
 #if !defined(__x86_64__)
@@ -34,11 +33,6 @@ namespace {
 constexpr size_t MOST_GUARDS = 20000;
 std::atomic<size_t> guards{0};
 
-uint8_t *map(size_t bytes) {
-    void *memory = mmap(nullptr, bytes, PROT_READ | PROT_WRITE, MAP_PRIVATE | MAP_ANONYMOUS | MAP_NORESERVE, -1, 0);
-    return memory == MAP_FAILED ? nullptr : static_cast<uint8_t *>(memory);
-}
-
 } // namespace
 
 void *make_fiber(uint8_t *top, void (*main)(void *), void *argument) {
@@ -53,45 +47,31 @@ void *make_fiber(uint8_t *top, void (*main)(void *), void *argument) {
 }
 
 Pool::~Pool() {
-    for (const Block &block : free_) munmap(block.memory, block.bytes);
-    for (const Block &block : free_stacks_) {
+    for (const Block &block : blocks_) {
         munmap(block.memory, block.count * block.bytes);
-        guards -= block.count;
+        guards -= block.is_guarded ? block.count : 0;
     }
 }
 
-uint8_t *Pool::take(size_t bytes) {
-    bytes = (bytes + PAGE - 1) / PAGE * PAGE + PAGE;
-    for (size_t at = 0; at < free_.size(); at++) {
-        if (free_[at].bytes != bytes) continue;
-        uint8_t *memory = free_[at].memory;
-        free_.erase(free_.begin() + long(at));
-        std::memset(memory, 0, bytes);
-        return memory;
+uint8_t *Pool::take(size_t count, size_t bytes, bool is_guarded) {
+    for (Block &block : blocks_) {
+        if (block.is_taken || block.count != count || block.bytes != bytes || block.is_guarded != is_guarded) continue;
+        block.is_taken = true;
+        return block.memory;
     }
-    return map(bytes);
+    void *mapped = mmap(nullptr, count * bytes, PROT_READ | PROT_WRITE, MAP_PRIVATE | MAP_ANONYMOUS | MAP_NORESERVE, -1, 0);
+    if (mapped == MAP_FAILED) return nullptr;
+    auto *memory = static_cast<uint8_t *>(mapped);
+    blocks_.push_back({memory, count, bytes, is_guarded, true});
+    if (!is_guarded || (guards += count) > MOST_GUARDS) return memory;
+    for (size_t at = 0; at < count; at++)
+        if (mprotect(memory + at * bytes, PAGE, PROT_NONE) != 0) break; // it runs without, as it would have
+    return memory;
 }
 
-void Pool::give(uint8_t *memory, size_t bytes) {
-    if (memory) free_.push_back({memory, 1, (bytes + PAGE - 1) / PAGE * PAGE + PAGE});
-}
-
-uint8_t *Pool::take_stacks(size_t count, size_t bytes) {
-    for (size_t at = 0; at < free_stacks_.size(); at++) {
-        if (free_stacks_[at].count != count || free_stacks_[at].bytes != bytes) continue;
-        uint8_t *stacks = free_stacks_[at].memory;
-        free_stacks_.erase(free_stacks_.begin() + long(at));
-        return stacks;
-    }
-    uint8_t *stacks = map(count * bytes);
-    const bool has_guards = (guards += count) <= MOST_GUARDS;
-    for (size_t at = 0; stacks && has_guards && at < count; at++)
-        if (mprotect(stacks + at * bytes, PAGE, PROT_NONE) != 0) break; // it runs without, as it would have
-    return stacks;
-}
-
-void Pool::give_stacks(uint8_t *stacks, size_t count, size_t bytes) {
-    if (stacks) free_stacks_.push_back({stacks, count, bytes});
+void Pool::give_back(uint8_t *memory) {
+    for (Block &block : blocks_)
+        if (block.memory == memory) block.is_taken = false;
 }
 
 } // namespace gpurace

@@ -20,17 +20,14 @@ constexpr size_t PAGE = 4096;
 class Pool {
 public:
     ~Pool();
-    // Zeros; null where there is no room.
-    uint8_t *take(size_t bytes);
-    // `count` stacks of `bytes` each, one behind the other. At the low end of each stands a page that can't be accessed, as long as the
-    // process has not too many of them.
-    uint8_t *take_stacks(size_t count, size_t bytes);
-    void give(uint8_t *memory, size_t bytes);
-    void give_stacks(uint8_t *stacks, size_t count, size_t bytes);
+    // `count` pieces of `bytes` each, one after another; null where there is no room. At the low end of each guarded one stands a page
+    // that can't be accessed, as long as the process has not too many of them.
+    uint8_t *take(size_t count, size_t bytes, bool is_guarded);
+    void give_back(uint8_t *memory);
 
 private:
-    struct Block { uint8_t *memory; size_t count, bytes; };
-    std::vector<Block> free_, free_stacks_;
+    struct Block { uint8_t *memory; size_t count, bytes; bool is_guarded, is_taken; };
+    std::vector<Block> blocks_;
 };
 
 } // namespace gpurace

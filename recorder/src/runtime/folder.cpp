@@ -1,10 +1,10 @@
-#include "folder.h"
+#include "launch.h"
 
 #include <cerrno>
 #include <cstring>
+#include <filesystem>
 #include <fstream>
 #include <sstream>
-#include <sys/stat.h>
 
 namespace gpurace {
 namespace {
@@ -16,11 +16,6 @@ std::string sizes(const uint64_t (&size)[3]) {
 bool write_file(const std::string &path, const std::string &text) {
     std::ofstream out(path, std::ios::binary);
     return out.write(text.data(), std::streamsize(text.size())).flush().good();
-}
-
-bool make_folders(const std::string &path) {
-    const std::string parent = path.substr(0, path.rfind('/'));
-    return (mkdir(parent.c_str(), 0777) == 0 || errno == EEXIST) && mkdir(path.c_str(), 0777) == 0;
 }
 
 // The lines of info.txt that are known from the start.
@@ -77,7 +72,8 @@ void write_losses(std::ostream &out, Launch &launch) {
 
 bool begin_folder(Launch &launch, std::string &error) {
     const Request &request = launch.request;
-    bool is_written = make_folders(request.folder) && write_file(request.folder + "/begun.txt", shape_of(request)) &&
+    std::error_code fault;
+    bool is_written = std::filesystem::create_directories(request.folder, fault) && write_file(request.folder + "/begun.txt", shape_of(request)) &&
                       write_file(request.folder + "/buffers", buffers_of(launch)) && launch.places.open(request.folder + "/places");
     for (const Source &source : request.program->sources) is_written = is_written && write_file(request.folder + "/" + source.name, source.text);
     const std::string sites = sites_of(launch);

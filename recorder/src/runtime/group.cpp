@@ -1,5 +1,6 @@
 #include "group.h"
 
+#include <charconv>
 #include <cstring>
 
 namespace gpurace {
@@ -10,11 +11,7 @@ constexpr uint32_t MOST_STILL = 16;                   // sweeps, after which a g
 constexpr size_t PLACES_ROOM = 1 << 16, PLACE_NUMBERS = 40;
 
 char *append(char *at, uint32_t number) {
-    char digits[10];
-    int count = 0;
-    do digits[count++] = char('0' + number % 10);
-    while (number /= 10);
-    while (count) *at++ = digits[--count];
+    at = std::to_chars(at, at + 10, number).ptr;
     *at++ = ' ';
     return at;
 }
@@ -31,11 +28,6 @@ void run_item(void *state) {
 
 } // namespace
 
-Scratch &Item::own_scratch() {
-    if (!scratch) scratch = new Scratch;
-    return *scratch;
-}
-
 void Item::rest() { gr_switch(&stack, group->scheduler); }
 
 void settle(Item &item) {
@@ -47,12 +39,12 @@ void settle(Item &item) {
 }
 
 void Group::put(uint32_t item, uint32_t &index, const Site &site, uint64_t head, uint32_t word, const Name *names, size_t count) {
-    if (stream.is_full()) { // who acquires from what is lost must not be recorded either
+    if (stream->is_full()) { // who acquires from what is lost must not be recorded either
         launch->is_over = true;
         is_cut = true;
         return;
     }
-    stream.put(head, word, names, count);
+    stream->put(head, word, names, count);
     const uint32_t number = index++;
     if (places.empty() || (head & 0xff) >= BARRIER) return;
     if (places_used + PLACE_NUMBERS + site.place.size() > places.size()) flush_places();
@@ -64,7 +56,7 @@ void Group::put(uint32_t item, uint32_t &index, const Site &site, uint64_t head,
 }
 
 void Group::flush_places() {
-    launch->places.append(places.data(), places_used);
+    if (!launch->pipes.are_open) launch->places.append(places.data(), places_used);
     places_used = 0;
 }
 
@@ -86,8 +78,9 @@ std::unique_ptr<Group> Group::begin(Launch &launch, uint64_t number, Pool &pool,
 
 void Group::place_memory(Pool &pool) {
     const Request &request = launch->request;
-    memory = pool.take(launch->locals.bytes);
+    memory = pool.take(1, launch->locals.bytes, false);
     if (!memory) return;
+    std::memset(memory, 0, launch->locals.bytes);
     const LocalLayout layout = lay_out_locals(request.entries, reinterpret_cast<uint64_t>(memory));
     local_pointers.resize(request.arguments.size());
     for (const auto &value : request.arguments) arguments.push_back(const_cast<char *>(value.data()));
@@ -107,23 +100,17 @@ void Group::place_memory(Pool &pool) {
 }
 
 void Group::open_stream() {
-    char name[32];
-    std::snprintf(name, sizeof name, "/group%02u.gpurace", window);
-    const uint32_t streamed = uint32_t(items.size()) + launch->request.kernel->has_copies;
-    if (!stream.open(launch->request.folder + name, window, streamed, launch->request.number, launch->has_names, launch->written))
-        launch->is_over = true;
-    if (launch->request.writes_places) places.resize(PLACES_ROOM);
+    stream.emplace(stream_path(launch->request.folder, window), window, launch->pipes);
+    if (!stream->open(launch->has_names, launch->written)) launch->is_over = true;
+    if (settings().writes_places) places.resize(PLACES_ROOM);
 }
 
 void Group::begin_items(Pool &pool) {
     const Range &range = launch->request.range;
-    const uint64_t at[3] = {number % range.groups[0], number / range.groups[0] % range.groups[1], number / range.groups[0] / range.groups[1]};
-    uint64_t size[3], count = 1;
-    for (int axis = 0; axis < 3; axis++) { // a last group may be smaller
-        size[axis] = std::min(range.local[axis], range.global[axis] - at[axis] * range.local[axis]);
-        count *= size[axis];
-    }
-    stacks = pool.take_stacks(range.items_of_group(), launch->stack_bytes);
+    uint64_t at[3], size[3];
+    for (int axis = 0; axis < 3; axis++) at[axis] = range.place_of(number, axis), size[axis] = range.size_of(number, axis);
+    const uint64_t count = size[0] * size[1] * size[2];
+    stacks = pool.take(range.items_of_group(), launch->stack_bytes, true);
     if (!stacks) return;
     items.resize(count);
     for (uint64_t each = 0; each < count; each++) {
@@ -158,7 +145,8 @@ void Group::begin_item(Item &item, uint64_t each, const uint64_t at[3], const ui
 
 // Where all items stand at barriers or have ended, they go on: a divergent barrier is what items do.
 bool Group::sweep() {
-    if (launch->written > launch->request.most_records) launch->is_over = true;
+    if (launch->written > settings().most_records) launch->is_over = true;
+    if (launch->written > settings().most_pending && !launch->pipes.are_open) launch->pipes.open(launch->request.folder);
     for (size_t at = order.size(); at > 1; at--) std::swap(order[at - 1], order[random->below(uint32_t(at))]);
     size_t ended = 0, standing = 0;
     bool is_moved = false, is_idle = true;
@@ -188,17 +176,17 @@ bool Group::sweep() {
 
 void Group::close_files(bool cut) {
     if (!is_recorded) return;
-    stream.close(cut || is_cut);
+    stream->close(cut || is_cut);
     flush_places();
-    launch->records += stream.records();
-    launch->is_cut[window] = cut || is_cut || stream.error() != 0;
+    launch->records += stream->records();
+    launch->is_cut[window] = cut || is_cut || stream->error() != 0;
 }
 
 void Group::end(Pool &pool) {
     close_files(false);
     for (Item &item : items) delete item.scratch;
-    pool.give(memory, launch->locals.bytes);
-    pool.give_stacks(stacks, launch->request.range.items_of_group(), launch->stack_bytes);
+    pool.give_back(memory);
+    pool.give_back(stacks);
 }
 
 } // namespace gpurace

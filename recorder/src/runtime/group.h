@@ -5,6 +5,8 @@
 #include "fiber.h"
 #include "launch.h"
 
+#include <optional>
+
 namespace gpurace {
 
 class Random { // xorshift64*
@@ -54,7 +56,7 @@ struct Item {
     uint32_t left;                       // of its turn, where a pending store interrupts that
     Scratch *scratch;
 
-    Scratch &own_scratch();
+    Scratch &own_scratch() { return *(scratch ? scratch : scratch = new Scratch); }
     void rest(); // lets others run
 };
 static_assert(offsetof(Item, numbers) == 0 && offsetof(Item, locals) == LOCALS_OFFSET, "the instrumented code knows these places");
@@ -75,7 +77,7 @@ struct Group {
     std::vector<void *> arguments;
     std::vector<uint64_t> local_pointers;
     uint8_t *memory = nullptr, *stacks = nullptr;
-    Stream stream;
+    std::optional<Stream> stream;             // of a group that is recorded
     std::vector<char> places;
     size_t places_used = 0;
     uint32_t copier_records = 0;

@@ -1,7 +1,7 @@
 // What the instrumented code calls. Each call has the state of the work-item that makes it.
 #include "group.h"
-#include "printing.h"
 
+#include <cstdio>
 #include <cstring>
 
 namespace gpurace {
@@ -11,6 +11,9 @@ constexpr uint32_t IDLE_READS = 16;      // of one place, with nothing between, 
 constexpr uint32_t MOST_READS = 64;      // of them that are recorded
 constexpr uint32_t IDLE_ATOMICS = 2;
 constexpr size_t NAMES_OF_RECORD = 4;
+
+char printed[PRINT_ROOM]; // by all work-items, one after another
+std::mutex printing;
 
 Item &item_of(void *state) { return *static_cast<Item *>(state); }
 
@@ -49,7 +52,8 @@ std::string place_of(const Group &group, const Site &site, uint64_t address) {
     const std::string size = " of " + near->name + ", which has " + count_of(near->bytes);
     if (address < near->address) return count_of(near->address - address) + " before the start" + size;
     const uint64_t end = near->address + near->bytes;
-    return address < end ? "partly behind the end" + size : count_of(address - end) + " behind the end" + size;
+    if (address < end) return "partly behind the end" + size;
+    return (address > end ? count_of(address - end) : "right") + " behind the end" + size;
 }
 
 void note_outside(Group &group, uint32_t item, uint32_t number, const Site &site, uint64_t address) {
@@ -227,42 +231,49 @@ HOOK void gr_count(void *state, uint32_t number) {
 
 HOOK void *gr_print(void *state) {
     settle(item_of(state));
-    return take_print_buffer();
+    printing.lock();
+    return printed;
 }
-HOOK void gr_printed(void *) { give_print_buffer(); }
+HOOK void gr_printed(void *) { printing.unlock(); }
 }
 
 namespace gpurace {
+
+void write_prints() {
+    uint32_t length;
+    std::memcpy(&length, printed, sizeof length);
+    if (length == 0) return;
+    std::fwrite(printed + 8, 1, length, stdout);
+    std::fflush(stdout);
+    std::memset(printed, 0, 8);
+}
+
 namespace {
 
-template <class Type, class Bits> Bits arithmetic(int operation, Bits old_bits, Bits value_bits) {
+template <class Type> uint64_t computed(int operation, uint64_t old_bits, uint64_t value_bits) {
     Type old, value;
     std::memcpy(&old, &old_bits, sizeof old);
     std::memcpy(&value, &value_bits, sizeof value);
     const Type made = operation == OP_ADD ? Type(old + value) : operation == OP_SUBTRACT ? Type(old - value)
                       : operation == OP_MINIMUM ? std::min(old, value) : std::max(old, value);
-    Bits bits;
-    std::memcpy(&bits, &made, sizeof bits);
+    uint64_t bits = 0;
+    std::memcpy(&bits, &made, sizeof made);
     return bits;
 }
 
-uint32_t typed(int operation, char type, uint32_t old, uint32_t value) {
-    return type == 'f' ? arithmetic<float>(operation, old, value) : type == 'i' ? arithmetic<int32_t>(operation, old, value)
-                                                                               : arithmetic<uint32_t>(operation, old, value);
-}
-uint64_t typed(int operation, char type, uint64_t old, uint64_t value) {
-    return type == 'd' ? arithmetic<double>(operation, old, value) : type == 'l' ? arithmetic<int64_t>(operation, old, value)
-                                                                                : arithmetic<uint64_t>(operation, old, value);
-}
-
-// What an operation makes of a word.
-template <class Bits> Bits made_of(int operation, char type, Bits old, Bits value) {
-    switch (operation) {
-    case OP_COMPARE: case OP_STORE: case OP_EXCHANGE: return value;
-    case OP_AND: return old & value;
-    case OP_OR: return old | value;
-    case OP_XOR: return old ^ value;
-    default: return typed(operation, type, old, value);
+// What an operation makes of a word, whose type is known by its letter.
+uint64_t made_of(int operation, char type, uint64_t old, uint64_t value) {
+    if (operation == OP_AND) return old & value;
+    if (operation == OP_OR) return old | value;
+    if (operation == OP_XOR) return old ^ value;
+    if (operation == OP_COMPARE || operation == OP_STORE || operation == OP_EXCHANGE) return value;
+    switch (type) {
+    case 'f': return computed<float>(operation, old, value);
+    case 'd': return computed<double>(operation, old, value);
+    case 'i': return computed<int32_t>(operation, old, value);
+    case 'l': return computed<int64_t>(operation, old, value);
+    case 'm': return computed<uint64_t>(operation, old, value);
+    default: return computed<uint32_t>(operation, old, value);
     }
 }
 
@@ -277,7 +288,7 @@ template <class Bits> Done perform(uint32_t what, void *pointer, Bits value, Bit
     do {
         if (operation == OP_LOAD) return {old, false, false};
         if (operation == OP_COMPARE && old != compare) return {old, false, true};
-        made = made_of(operation, char(what >> 8), old, value);
+        made = Bits(made_of(operation, char(what >> 8), old, value));
     } while (!__atomic_compare_exchange_n(word, &old, made, false, __ATOMIC_SEQ_CST, __ATOMIC_SEQ_CST));
     return {old, old != made, false};
 }
@@ -320,26 +331,15 @@ void drop_unrecorded(Launch &launch, Names &names) {
     names.erase(kept, names.end());
 }
 
-bool are_same(const Names &one, const Names &other) {
-    return one.size() == other.size() && std::equal(one.begin(), one.end(), other.begin(), [](const Name &a, const Name &b) { return a.is_same(b); });
-}
-
 // An item that spins says nothing new: it took no new name, changed nothing, and did nothing else meanwhile.
 bool is_news(Item &item, bool is_again, const AtomicRecord &record) {
     Names &last = item.own_scratch().last_names;
-    if (is_again && !releases(record.order) && are_same(last, record.names)) {
+    if (is_again && !releases(record.order) && last == record.names) {
         item.group->launch->losses.repeated.fetch_add(1, std::memory_order_relaxed);
         return false;
     }
     last = record.names;
     return true;
-}
-
-template <class Body> auto with_stripe(Launch &launch, uint64_t address, bool is_named, Body body) {
-    Stripe &stripe = launch.sequences.stripe_of(address);
-    if (!is_named) return body(stripe);
-    const Held held(stripe);
-    return body(stripe);
 }
 
 } // namespace
@@ -359,18 +359,20 @@ extern "C" HOOK uint64_t gr_atomic(void *state, uint32_t number, uint32_t what, 
     if (!span && site.space != GENERIC) return note_outside(group, item.number, number, site, address), 0;
     record.scope = record.space == LOCAL || (how >> 16 & 255) == 1 ? GROUP_SCOPE : DEVICE_SCOPE;
     const bool is_named = launch.has_names && span;
-    bool is_recorded = false;
-    const Done done = with_stripe(launch, address, is_named, [&](Stripe &stripe) {
-        is_recorded = span && group.records_now(); // behind the lock: who acquires from a release that is lost is not recorded
-        const Done made = site.bytes == 8 ? perform<uint64_t>(what, pointer, value, compare) : perform<uint32_t>(what, pointer, uint32_t(value), uint32_t(compare));
-        record.kind = site.kind != COMPARE_EXCHANGE ? site.kind : made.has_failed ? LOAD : MODIFY;
-        record.order = order_of(made.has_failed ? how >> 8 & 255 : how & 255, record.kind);
-        if (!is_named) return made;
+    Stripe &stripe = launch.sequences.stripe_of(address);
+    std::unique_lock<Stripe> held(stripe, std::defer_lock);
+    if (is_named) held.lock();
+    const bool is_recorded = span && group.records_now(); // behind the lock: who acquires from a release that is lost is not recorded
+    const Done done = site.bytes == 8 ? perform<uint64_t>(what, pointer, value, compare)
+                                      : perform<uint32_t>(what, pointer, uint32_t(value), uint32_t(compare));
+    record.kind = site.kind != COMPARE_EXCHANGE ? site.kind : done.has_failed ? LOAD : MODIFY;
+    record.order = order_of(done.has_failed ? how >> 8 & 255 : how & 255, record.kind);
+    if (is_named) {
         if (acquires(record.order) && is_recorded) record.names = ReleaseSequences::heads_of(stripe, address);
         const Name own{is_recorded ? group.window : NOT_RECORDED, item.number, record.scope, item.releases};
         if (record.kind != LOAD) ReleaseSequences::modify(stripe, address, own, record.kind == STORE, record.order);
-        return made;
-    });
+        held.unlock();
+    }
     const bool is_again = is_repeated(item, number, pointer) && !done.is_changed;
     if (!is_again) item.repeats = 0;
     if (is_recorded) {

@@ -1,9 +1,7 @@
-#include "folder.h"
-#include "printing.h"
-#include "stopping.h"
-#include "worker.h"
+#include "group.h"
 
 #include <chrono>
+#include <functional>
 #include <numeric>
 #include <thread>
 
@@ -12,6 +10,7 @@ namespace {
 
 // What a call of the runtime needs of an item's stack, and a signal's handler of the program.
 constexpr uint64_t RUNTIME_BYTES = 48 << 10;
+constexpr double SMALL_LAUNCH = 0.0003;         // seconds
 constexpr uint64_t SHUFFLED = 64; // groups that change places where the order is the user's seed's
 
 std::vector<uint64_t> addresses_of(const std::vector<Entry> &entries) {
@@ -20,13 +19,82 @@ std::vector<uint64_t> addresses_of(const std::vector<Entry> &entries) {
     return addresses;
 }
 
+std::vector<std::string> headers_of(const Request &request) {
+    std::vector<std::string> headers;
+    for (uint64_t group = request.first; group < request.first + request.kept; group++) {
+        const uint64_t items = request.range.size_of(group, 0) * request.range.size_of(group, 1) * request.range.size_of(group, 2);
+        headers.push_back(stream_header(uint32_t(headers.size()), items + request.kernel->has_copies, request.number, request.kernel->has_names));
+    }
+    return headers;
+}
+
 } // namespace
+
+// A thread of a launch: it begins groups and runs them. Where all of its groups wait for what others do, it begins another one, so that
+// groups that wait for each other go on whatever their number.
+class Worker {
+public:
+    Worker(Launch &launch, uint64_t seed) : launch_(launch), random_(seed) {}
+
+    // `begin_helpers` is called once, when the launch has taken some time: threads would cost a small one more than they do for it.
+    void run(std::function<void()> begin_helpers = nullptr) {
+        const double start = seconds_now();
+        const size_t usual = settings().threads == 1 ? 2 : 1; // so that items of different groups meet
+        while (!launch_.is_stopped) {
+            while (resident_.size() < usual && begin_group()) {}
+            if (resident_.empty()) return;
+            if (!run_resident() && !begin_group()) sched_yield();
+            if (!begin_helpers || seconds_now() < start + SMALL_LAUNCH) continue;
+            begin_helpers();
+            begin_helpers = nullptr;
+        }
+        close_files();
+    }
+
+    void close_files() { // of the groups that have not ended
+        for (const auto &group : resident_) group->close_files(true);
+    }
+
+private:
+    Launch &launch_;
+    Random random_;
+    Pool pool_;
+    std::vector<std::unique_ptr<Group>> resident_;
+
+    // Whether there was one to begin.
+    bool begin_group() {
+        const uint64_t count = launch_.request.range.group_count();
+        const uint64_t number = launch_.next_group.load() < count ? launch_.next_group++ : count;
+        if (number >= count) return false;
+        std::unique_ptr<Group> group = Group::begin(launch_, launch_.group_at(number), pool_, random_);
+        if (!group) launch_.fail("there is no memory for its work-items");
+        else resident_.push_back(std::move(group));
+        return true;
+    }
+
+    // Gives each group a sweep; answers whether one of them went on.
+    bool run_resident() {
+        bool goes_on = false;
+        for (size_t at = 0; at < resident_.size() && !launch_.is_stopped;) {
+            Group &group = *resident_[at];
+            if (!group.sweep()) {
+                goes_on = goes_on || !group.is_waiting;
+                at++;
+                continue;
+            }
+            group.end(pool_);
+            resident_.erase(resident_.begin() + long(at));
+            goes_on = true;
+        }
+        return goes_on;
+    }
+};
 
 double seconds_now() { return std::chrono::duration<double>(std::chrono::steady_clock::now().time_since_epoch()).count(); }
 
 Launch::Launch(const Request &given)
-    : request(given), sites(given.program->sites.data()), has_names(given.kernel->has_names),
-      spans(spans_of(given.entries, addresses_of(given.entries), GLOBAL)), locals(lay_out_locals(given.entries, 0)), losses(given.program->sites.size()),
+    : request(given), seed(settings().seed + given.number * 1000003ull), sites(given.program->sites.data()), has_names(given.kernel->has_names),
+      spans(spans_of(given.entries, addresses_of(given.entries), GLOBAL)), locals(lay_out_locals(given.entries, 0)), pipes(headers_of(given)), losses(given.program->sites.size()),
       is_cut(given.kept, true), stack_bytes(PAGE + (RUNTIME_BYTES + given.program->frame_bytes + PAGE - 1) / PAGE * PAGE) {
     uint32_t most = 0;
     for (const Site &site : given.program->sites) most = std::max(most, site.bytes);
@@ -44,9 +112,9 @@ void Launch::fail(const std::string &error) {
 
 // Groups begin in their order, since some kernels count on that; a seed has neighbours change places.
 uint64_t Launch::group_at(uint64_t number) const {
-    if (!request.is_seeded) return number;
+    if (!settings().is_seeded) return number;
     const uint64_t block = number / SHUFFLED * SHUFFLED, count = std::min(SHUFFLED, request.range.group_count() - block);
-    Random random(request.seed + block);
+    Random random(seed + block);
     uint64_t step = 1 + random.below(uint32_t(count));
     while (std::gcd(step, count) != 1) step++;
     return block + (random.below(uint32_t(count)) + (number - block) * step) % count;
@@ -58,10 +126,10 @@ void Launch::abandon() {
 
 void Launch::run_workers() {
     const uint64_t groups = request.range.group_count();
-    const unsigned count = unsigned(std::max<uint64_t>(1, std::min<uint64_t>(request.threads, groups)));
+    const unsigned count = unsigned(std::max<uint64_t>(1, std::min<uint64_t>(settings().threads, groups)));
     std::vector<std::unique_ptr<Worker>> workers;
     for (unsigned at = 0; at < count; at++) {
-        workers.push_back(std::make_unique<Worker>(*this, request.seed + at));
+        workers.push_back(std::make_unique<Worker>(*this, seed + at));
         workers_.push_back(workers.back().get());
     }
     const Watched watched(*this);

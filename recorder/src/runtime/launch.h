@@ -3,7 +3,10 @@
 #define GPURACE_LAUNCH_H
 
 #include "memory.h"
+#include "settings.h"
 #include "stream.h"
+
+#include <csignal>
 
 namespace gpurace {
 
@@ -12,6 +15,13 @@ struct Range {
     uint32_t dimensions = 1;
     uint64_t group_count() const { return groups[0] * groups[1] * groups[2]; }
     uint64_t items_of_group() const { return local[0] * local[1] * local[2]; }
+    uint64_t place_of(uint64_t group, int axis) const {
+        return axis == 0 ? group % groups[0] : axis == 1 ? group / groups[0] % groups[1] : group / groups[0] / groups[1];
+    }
+    // The items of a group along an axis: a last group may be smaller.
+    uint64_t size_of(uint64_t group, int axis) const {
+        return std::min(local[axis], global[axis] - place_of(group, axis) * local[axis]);
+    }
 };
 
 // What is to be run, and how it is to be recorded.
@@ -24,12 +34,6 @@ struct Request {
     uint32_t number = 0;                         // of the launch
     uint64_t first = 0, kept = 0;                // the groups that are recorded: `kept` of them from `first` on
     std::string folder;
-    bool writes_places = true;
-    unsigned threads = 1;
-    uint64_t seed = 0;                           // of the order of items and groups
-    bool is_seeded = false;                      // by the user, so that all runs on one thread
-    uint64_t most_records = UINT64_MAX;
-    double timeout = 0;                          // in seconds; 0 is none
 };
 
 struct Result {
@@ -62,6 +66,7 @@ public:
     Result run();
 
     const Request &request;
+    const uint64_t seed;                    // of the order of items and groups
     const Site *const sites;
     const bool has_names;
     std::vector<Span> spans;                // of global memory
@@ -69,6 +74,7 @@ public:
     LocalLayout locals;
     ReleaseSequences sequences;
     Places places;
+    Pipes pipes;
     Losses losses;
     std::vector<uint8_t> zeros;             // what a load out of every buffer takes
     std::atomic<uint64_t> next_group{0};    // that no thread has begun
@@ -87,7 +93,6 @@ public:
     uint64_t group_at(uint64_t number) const;
 
 private:
-    friend class Worker;
     std::vector<class Worker *> workers_;
     std::mutex lock_;
     std::string error_;
@@ -96,6 +101,27 @@ private:
 };
 
 double seconds_now();
+
+// The folder of a launch: the side files, the text of the kernel, and at last info.txt. A folder without info.txt is not whole;
+// begun.txt stands there while the launch runs. False where it can't be written; `error` then says why.
+bool begin_folder(Launch &launch, std::string &error);
+void end_folder(Launch &launch, double seconds);
+
+void write_prints(); // what kernels have printed
+
+constexpr int TIMED_OUT = 124; // the status of a program that was ended since a kernel's time was over
+
+// While this lives the launch is ended by Ctrl-C and by its time, and what was recorded is written as cut. Afterwards Ctrl-C goes to
+// the program as it would have.
+class Watched {
+public:
+    explicit Watched(Launch &launch);
+    ~Watched();
+    Watched(const Watched &) = delete;
+
+private:
+    struct sigaction before_;
+};
 
 } // namespace gpurace
 #endif

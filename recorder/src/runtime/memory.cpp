@@ -6,12 +6,12 @@ namespace gpurace {
 namespace {
 
 constexpr uint64_t APART = 16; // words between spans
-constexpr uint64_t LOCAL_GAP = 128;
 
 void join(Span &span, const Span &other) {
     span.bytes = std::max(span.bytes, other.address + other.bytes - span.address);
     span.grain = std::min(span.grain, other.grain);
     span.has_atomics = span.has_atomics || other.has_atomics;
+    span.entry = std::min(span.entry, other.entry);
     span.name += "=" + other.name;
 }
 
@@ -22,13 +22,14 @@ std::vector<Span> spans_of(const std::vector<Entry> &entries, const std::vector<
     for (size_t at = 0; at < entries.size(); at++) {
         const Entry &entry = entries[at];
         if (entry.space == space && entry.bytes > 0 && addresses[at])
-            found.push_back({addresses[at], entry.bytes, 0, entry.grain, 2, entry.has_atomics, entry.name});
+            found.push_back({addresses[at], entry.bytes, 0, entry.grain, 2, entry.has_atomics, at, entry.name});
     }
     std::stable_sort(found.begin(), found.end(), [](const Span &one, const Span &other) { return one.address < other.address; });
     for (const Span &span : found) {
         if (!spans.empty() && span.address < spans.back().address + spans.back().bytes) join(spans.back(), span);
         else spans.push_back(span);
     }
+    std::sort(spans.begin(), spans.end(), [](const Span &one, const Span &other) { return one.entry < other.entry; });
     uint64_t first = 0;
     for (Span &span : spans) {
         span.first_word = first;

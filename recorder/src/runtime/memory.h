@@ -11,6 +11,7 @@ struct Span {
     uint64_t first_word = 0;
     uint32_t grain = 4, shift = 2; // the bytes of a word, and their logarithm
     bool has_atomics = false;
+    size_t entry = 0; // the first that it has
     std::string name;
 
     bool holds(uint64_t at, uint64_t count) const {
@@ -23,7 +24,7 @@ struct Span {
 };
 
 // The spans of the entries of one space, whose addresses stand beside them. Entries that overlap are one span. Spans never share a
-// word, and stand apart by some.
+// word, and stand apart by some. Words are numbered in the order of the entries: where the driver has the memory changes from run to run.
 std::vector<Span> spans_of(const std::vector<Entry> &entries, const std::vector<uint64_t> &addresses, int space);
 
 // The span that has this access, or null.
@@ -33,11 +34,12 @@ inline const Span *find_span(const std::vector<Span> &spans, uint64_t address, u
     return nullptr;
 }
 
-// Where the group's local memory has each entry, if it begins at `start`: 0 for entries of global memory. Behind them stands a gap, so
+// Where the group's local memory has each entry, if it begins at `start`: 0 for entries of global memory. Around them stands a gap, so
 // that an access that goes astray meets no other entry at once.
+constexpr uint64_t LOCAL_GAP = 128;
 struct LocalLayout {
     std::vector<uint64_t> addresses;
-    uint64_t bytes = 0;
+    uint64_t bytes = LOCAL_GAP;
 };
 LocalLayout lay_out_locals(const std::vector<Entry> &entries, uint64_t start);
 

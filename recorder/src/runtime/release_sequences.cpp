@@ -28,7 +28,7 @@ void ReleaseSequences::write(uint64_t address, const uint8_t *from, uint64_t byt
     for (uint64_t at = address, end = address + bytes; at < end;) {
         const uint64_t next = std::min(end, (at / LINE + 1) * LINE);
         Stripe &stripe = stripe_of(at);
-        const Held held(stripe);
+        const std::lock_guard<Stripe> held(stripe);
         std::memcpy(reinterpret_cast<void *>(at), from + (at - address), next - at);
         for (auto head = stripe.heads.begin(); head != stripe.heads.end();)
             head = head->first >= at && head->first < next ? stripe.heads.erase(head) : std::next(head);

@@ -7,6 +7,7 @@
 #include <atomic>
 #include <cstdint>
 #include <memory>
+#include <mutex>
 #include <sched.h>
 #include <unordered_map>
 #include <vector>
@@ -24,7 +25,7 @@ inline bool releases(int order) { return order == RELEASE || order == BOTH; }
 struct Name {
     uint32_t group, item, scope, number;
 
-    bool is_same(const Name &other) const { return group == other.group && item == other.item && number == other.number; }
+    bool operator==(const Name &other) const { return group == other.group && item == other.item && number == other.number; }
     bool operator<(const Name &other) const {
         if (group != other.group) return group < other.group;
         return item != other.item ? item < other.item : number < other.number;
@@ -35,24 +36,14 @@ constexpr uint32_t NOT_RECORDED = UINT32_MAX;
 using Names = std::vector<Name>;
 
 struct alignas(64) Stripe {
-    std::atomic<uint32_t> lock{0};
+    std::atomic<bool> is_locked{false};
     std::unordered_map<uint64_t, Names> heads; // by address
 
-    void take() {
-        for (unsigned tries = 0; lock.exchange(1, std::memory_order_acquire); tries++)
+    void lock() {
+        for (unsigned tries = 0; is_locked.exchange(true, std::memory_order_acquire); tries++)
             if (tries > 200) sched_yield();
     }
-    void give() { lock.store(0, std::memory_order_release); }
-};
-
-class Held { // a stripe while it is locked
-public:
-    explicit Held(Stripe &stripe) : stripe_(stripe) { stripe_.take(); }
-    ~Held() { stripe_.give(); }
-    Held(const Held &) = delete;
-
-private:
-    Stripe &stripe_;
+    void unlock() { is_locked.store(false, std::memory_order_release); }
 };
 
 class ReleaseSequences {

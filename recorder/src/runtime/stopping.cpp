@@ -1,6 +1,4 @@
-#include "stopping.h"
-
-#include "folder.h"
+#include "launch.h"
 
 #include <chrono>
 #include <cstdio>
@@ -63,10 +61,6 @@ void Watcher::watch() {
     }
 }
 
-void forget_thread() { // it is not there in a process that was forked
-    new (&watcher()) Watcher;
-}
-
 } // namespace
 
 Watched::Watched(Launch &launch) {
@@ -79,7 +73,7 @@ Watched::Watched(Launch &launch) {
     const std::lock_guard<std::mutex> held(own.lock);
     if (!own.has_thread) {
         own.has_thread = true;
-        pthread_atfork(nullptr, nullptr, forget_thread);
+        pthread_atfork(nullptr, nullptr, [] { new (&watcher()) Watcher; }); // the thread is not there in a process that was forked
         std::thread([] {
             sigset_t all; // signals are the program's own threads'
             sigfillset(&all);
@@ -89,7 +83,7 @@ Watched::Watched(Launch &launch) {
     }
     own.launch = &launch;
     own.number++;
-    own.end = launch.request.timeout > 0 ? seconds_now() + launch.request.timeout : 0;
+    own.end = settings().timeout > 0 ? seconds_now() + settings().timeout : 0;
 }
 
 Watched::~Watched() {

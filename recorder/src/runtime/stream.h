@@ -5,11 +5,30 @@
 #include "release_sequences.h"
 
 #include <mutex>
+#include <shared_mutex>
 #include <string>
 
 namespace gpurace {
 
 constexpr uint32_t MOST_RECORDS = 16777216; // of a stream, its end included
+
+std::string stream_path(const std::string &folder, uint64_t group);
+
+// Where a launch has written as much into files as may stand there before it is judged, its streams go on through pipes, which the
+// judge reads meanwhile: NAME.pipe beside NAME, for each stream that has not ended. It begins when it sees the file piped.txt, and
+// wants the headers of all streams first: one that no group has begun has its header as a file.
+struct Pipes {
+    enum State : char { TO_BEGIN, BEGUN, ENDED };
+    explicit Pipes(std::vector<std::string> headers) : states(headers.size(), TO_BEGIN), headers(std::move(headers)) {}
+    void open(const std::string &folder);
+
+    std::shared_mutex lock; // held alone while the pipes are made, and shared while a stream is written to its file
+    std::vector<State> states;
+    const std::vector<std::string> headers;
+    std::atomic<bool> are_open{false};
+};
+
+std::string stream_header(uint32_t group, uint64_t items, uint32_t launch, bool has_names);
 
 // The side file `places`, to which the groups append by turns. Where the disk is full it ends behind a whole line.
 class Places {
@@ -29,25 +48,30 @@ private:
 class Stream {
 public:
     ~Stream();
+    Stream(std::string path, uint32_t group, Pipes &pipes) : path_(std::move(path)), group_(group), pipes_(pipes) {}
     // `counted` is told of records as they are written.
-    bool open(const std::string &path, uint32_t group, uint32_t items, uint32_t launch, bool has_names, std::atomic<uint64_t> &counted);
+    bool open(bool has_names, std::atomic<uint64_t> &counted);
     void put(uint64_t head, uint32_t word, const Name *names, size_t count);
     void close(bool is_cut);
     uint32_t records() const { return records_; }
-    uint32_t record_bytes() const { return record_bytes_; }
     bool is_full() const { return records_ >= MOST_RECORDS - 1; }
     int error() const { return error_; }
 
 private:
     static constexpr size_t ROOM = 1 << 17, HEADER_BYTES = 12;
+    const std::string path_;
+    const uint32_t group_;
+    Pipes &pipes_;
+    bool is_piped_ = false;
     int file_ = -1, error_ = 0;
     uint32_t records_ = 0, record_bytes_ = 20, untold_ = 0;
     uint64_t written_ = 0;
-    std::unique_ptr<char[]> bytes_;
+    std::unique_ptr<char[]> bytes_; // null where it is not open
     size_t used_ = 0;
     std::atomic<uint64_t> *counted_ = nullptr;
 
-    void flush();
+    void flush(bool is_last);
+    int write_out(bool is_last);
     void end_early();
 };
 

@@ -59,6 +59,18 @@ fn acquire_of_a_global_word(rt: HostRuntime) -> Result<(), ClockError> {
     Ok(())
 }
 
+/// An acquire of two releases counts the second.
+#[test]
+fn acquire_of_two_releases(rt: HostRuntime) -> Result<(), ClockError> {
+    let acquirer = ItemId { group: 0, item: 0 };
+    let mut clocks = new_clocks(rt.alloc())?;
+    let first = clocks.release(FIRST, Word::Global(4), Scope::Device)?;
+    let second = clocks.release(OTHER, Word::Global(4), Scope::Device)?;
+    clocks.acquire(acquirer, &[&first, &second])?;
+    prove!(clocks.clock_of(acquirer, Space::Global).get(OTHER) > 0);
+    Ok(())
+}
+
 /// A join counts no less than the other, of an item that it did not count.
 #[test]
 fn join_counts_no_less(rt: HostRuntime) -> Result<(), ClockError> {

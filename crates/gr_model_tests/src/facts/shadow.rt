@@ -47,6 +47,19 @@ fn access<A: Allocator + Copy>(
     }
 }
 
+/// A read of the other item, which counts three events of the first.
+fn read_after_three<A: Allocator + Copy>(alloc: A) -> Result<Access<A>, ClockError>
+    ensures word { IfOk result (λ x. x.word ≡ GlobalWord 4) }
+    ensures item { IfOk result (λ x. x.item ≡ OTHER) }
+    ensures count { IfOk result (λ x. count_of x.clock FIRST ≡ 3) }
+{
+    let mut read = access(alloc, OTHER, 0, Class::PlainRead)?;
+    read.clock.tick(FIRST)?;
+    read.clock.tick(FIRST)?;
+    read.clock.tick(FIRST)?;
+    Ok(read)
+}
+
 /// A write clashes with the first of two reads, though its own item made the second.
 #[test]
 fn apply_of_a_write_behind_two_reads(rt: HostRuntime) -> Result<(), ClockError> {
@@ -57,6 +70,20 @@ fn apply_of_a_write_behind_two_reads(rt: HostRuntime) -> Result<(), ClockError> 
     shadows.apply(&first)?;
     shadows.apply(&second)?;
     let answer = shadows.apply(&write)?;
+    prove!(answer.is_some());
+    Ok(())
+}
+
+/// A read that counts the first three writes of an item clashes with the sixth, though the third is the last that came.
+#[test]
+fn apply_of_a_read_after_an_earlier_write(rt: HostRuntime) -> Result<(), ClockError> {
+    let sixth = access(rt.alloc(), FIRST, 5, Class::PlainWrite)?;
+    let third = access(rt.alloc(), FIRST, 2, Class::PlainWrite)?;
+    let read = read_after_three(rt.alloc())?;
+    let mut shadows = Shadows::new(rt.alloc());
+    shadows.apply(&sixth)?;
+    shadows.apply(&third)?;
+    let answer = shadows.apply(&read)?;
     prove!(answer.is_some());
     Ok(())
 }

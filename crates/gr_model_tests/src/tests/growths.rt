@@ -4,50 +4,53 @@ use gr_model::event::Event;
 use gr_model::memory::Memory;
 use gr_model::shape::Shape;
 use gr_model::traces::Traces;
-use refusing::growths::{Growths, refuse_each};
+use refusing::growths::refuse_each;
 use std::alloc::Allocator;
 
-/// The sizes of one group of two.
-fn sizes_of_two<A: Allocator>(alloc: A) -> Result<Vec<u16, A>, Memory> {
+/// The sizes of eight groups of 256.
+fn sizes_of_eight<A: Allocator>(alloc: A) -> Result<Vec<u16, A>, Memory> {
     let mut sizes = Vec::new(alloc);
-    sizes.push(2)?;
+    for _group in 0..8 {
+        sizes.push(256)?;
+    }
     Ok(sizes)
 }
 
-/// The list of one group, which has its end alone.
-fn lists_of_one<A: Allocator + Copy>(alloc: A) -> Result<Vec<Vec<Event, A>, A>, Memory> {
+/// A list that has its end alone.
+fn list_of_end<A: Allocator>(alloc: A) -> Result<Vec<Event, A>, Memory> {
     let mut list = Vec::new(alloc);
     list.push(Event::end(false))?;
+    Ok(list)
+}
+
+/// The lists of eight groups, each of which has its end alone.
+fn lists_of_eight<A: Allocator + Copy>(alloc: A) -> Result<Vec<Vec<Event, A>, A>, Memory> {
     let mut lists = Vec::new(alloc);
-    lists.push(list)?;
+    for _group in 0..8 {
+        lists.push(list_of_end(alloc)?)?;
+    }
     Ok(lists)
 }
 
-/// Whether the traces of this shape's copy have two items, or memory ran out.
-fn has_copy_two_items<A: Allocator + Copy>(alloc: A, shape: &Shape<A>) -> Result<bool, Memory> {
+/// Whether the traces of this shape's copy have 2,048 items, or memory ran out.
+fn has_copy_all_items<A: Allocator + Copy>(alloc: A, shape: &Shape<A>) -> Result<bool, Memory> {
     let copy = shape.copy()?;
-    match Traces::new(copy, lists_of_one(alloc)?) {
-        Ok(traces) => Ok(traces.shape().total() == 2),
+    match Traces::new(copy, lists_of_eight(alloc)?) {
+        Ok(traces) => Ok(traces.shape().total() == 2_048),
         Err(_) => Ok(false),
     }
 }
 
-/// Whether the traces of one group of two have two items, or memory ran out.
-fn have_traces_two_items<A: Allocator + Copy>(alloc: A) -> Result<bool, Memory> {
-    match Shape::new(sizes_of_two(alloc)?) {
-        Ok(shape) => has_copy_two_items(alloc, &shape),
+/// Whether the traces of eight groups of 256 have 2,048 items, or memory ran out.
+fn have_traces_all_items<A: Allocator + Copy>(alloc: A) -> Result<bool, Memory> {
+    match Shape::new(sizes_of_eight(alloc)?) {
+        Ok(shape) => has_copy_all_items(alloc, &shape),
         Err(_) => Ok(false),
     }
 }
 
 #[test]
 fn each_refused_growth_is_out_of_memory(rt: HostRuntime) {
-    let growths = refuse_each(rt.alloc(), 4, |heap| have_traces_two_items(heap));
-    assert_eq!(rt;
-        growths,
-        Ok(Growths {
-            refused: 4,
-            told: 4
-        })
-    );
+    let growths = refuse_each(rt.alloc(), 11, |heap| have_traces_all_items(heap));
+    assert!(rt; growths.is_ok_and(|growths| growths.told == growths.refused));
 }

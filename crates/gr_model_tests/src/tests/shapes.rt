@@ -8,7 +8,7 @@ use std::test::Fail;
 /// A row: its name, how many groups of which size come first, the sizes behind them, and the refusal that is due.
 type Case = (&'static str, u16, u16, &'static [u16], Option<ShapeError>);
 
-static CASES: [Case; 8] = [
+static CASES: [Case; 10] = [
     ("no groups", 0, 0, &[], Some(ShapeError::NoGroups)),
     ("one group of one", 0, 0, &[1], None),
     (
@@ -40,6 +40,8 @@ static CASES: [Case; 8] = [
         &[],
         Some(ShapeError::TooManyGroups),
     ),
+    ("eight groups of 256", 8, 256, &[], None),
+    ("eight groups of 256 and one of 1", 8, 256, &[1], None),
     ("sixty-four groups of 256", 64, 256, &[], None),
 ];
 
@@ -96,10 +98,12 @@ fn a_shape_tells_its_sizes(rt: HostRuntime) -> Result<(), Fail> {
 }
 
 #[test]
-fn the_largest_launch_can_be_copied(rt: HostRuntime) -> Result<(), Fail> {
-    let shape = shape_of(rt.alloc(), &("", 64, 256, &[], None))?
-        .ok()
-        .ok_or("shape")?;
-    assert_eq!(rt; shape.copy().map(|copy| copy.total()), Ok(16_384));
+fn a_copy_has_as_many_items(rt: HostRuntime) -> Result<(), Fail> {
+    for (groups, items) in [(8, 2_048), (64, 16_384)] {
+        let shape = shape_of(rt.alloc(), &("", groups, 256, &[], None))?
+            .ok()
+            .ok_or("shape")?;
+        assert_eq!(rt; shape.copy().map(|copy| copy.total()), Ok(items));
+    }
     Ok(())
 }

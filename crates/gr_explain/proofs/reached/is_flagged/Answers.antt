@@ -1,11 +1,10 @@
 use Rattle.std.proofs.Common.{◌≡◌, ◌∙◌, None, Some, sym, true≢false}
 use Rattle.std.proofs.lemmas.Bool.{not-true}
-use Rattle.gr_order.proofs.ReadyLemmas.{come_of}
 use Rattle.gr_explain.proofs.Instances.{flagged, flagged_is_there, not_both_ways, not_divergent_too, not_without_flag}
 use Rattle.gr_explain.proofs.reached.is_flagged.Goals as goal
 
 pub is_divergent-requires-clause-come : goal.is_divergent-requires-clause-come
-is_divergent-requires-clause-come g c = come_of c.args.records.now c.requires.prefixes c.args.event c.in-Some.taken (sym c.event_at.ensures ∙ c.in-Some.is) c.args.number c.requires.place
+is_divergent-requires-clause-come g c = (c.args.event.index, c.requires.place)
 
 pub returns-in-None : goal.returns-in-None
 returns-in-None g c = (

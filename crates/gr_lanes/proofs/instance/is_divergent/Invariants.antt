@@ -1,7 +1,7 @@
-use Rattle.std.proofs.Common.{ℕ, ◌<◌}
-use Rattle.gr_model.specs.Barriers.{mark_of}
-use Rattle.gr_lanes.specs.Instances.{MakesDivergent}
+use Rattle.gr_model.specs.Barriers.{arrivals}
+use Rattle.gr_model.specs.Instances.{IsDivergentOf}
+use Rattle.gr_barriers.specs.Summaries.{IsSummaryOf}
 use Rattle.gr_lanes.proofs.instance.is_divergent.Given as goal
 
 abbrev pub invariant-loop-item : goal.invariant-loop-item
-invariant-loop-item g l = (i : ℕ) → i < l.item → MakesDivergent l.lanes.streams l.group l.number (mark_of l.mine) i → ⊥
+invariant-loop-item g l = IsSummaryOf l.item (arrivals l.lanes.streams l.group l.number) l.summary × ¬ IsDivergentOf l.ended l.item (arrivals l.lanes.streams l.group l.number)

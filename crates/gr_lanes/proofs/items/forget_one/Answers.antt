@@ -1,4 +1,4 @@
-use Rattle.std.proofs.Common.{◌∙◌, ◌++◌, ap, append-nil, arith, drop, length, map, refl, take}
+use Rattle.std.proofs.Common.{◌∙◌, ◌++◌, ap, append-nil, arith, map, refl, take}
 use Rattle.std.proofs.lemmas.List.{drop_all, take_all}
 use Rattle.gr_lanes.specs.Kept.{forgetting_one}
 use Rattle.gr_lanes.proofs.KeptLemmas.{one_written}

@@ -1,4 +1,4 @@
-use Rattle.std.proofs.Common.{◌≡◌, ◌<◌, ◌≤◌, ◌∙◌, ℕ, length, set, ap, arith}
+use Rattle.std.proofs.Common.{◌<◌, ◌≤◌, ◌∙◌, ℕ, length, set, ap, arith}
 use Rattle.gr_model.specs.Groups.{put}
 use Rattle.gr_model.proofs.PutLemmas.{puts_last, puts_more}
 use Rattle.gr_lanes.specs.Indices.{empty}

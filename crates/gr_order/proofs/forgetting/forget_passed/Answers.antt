@@ -19,25 +19,25 @@ pub returns-in-None : goal.returns-in-None
 returns-in-None g c =
     inr (c.have_all_passed.ensures c.if-not-have_all_passed.false, inl (c.forget.ensures.forgotten, subst (λ n. ¬ IsDivergent c.args.lanes.now.streams c.args.group n) c.forgotten-instance.ensures c.in-None.ensures))
 
-pub returns-in-Some-cause : goal.returns-in-Some-cause
-returns-in-Some-cause g c =
+pub returns-in-Some : goal.returns-in-Some
+returns-in-Some g c =
     let s = c.args.lanes.now.streams in
     let group = c.args.group in
     let passed = c.have_all_passed.ensures c.if-not-have_all_passed.false in
-    let d : Divergence = record { group = group; instance = c.forgotten-instance.result; cause = c.in-Some-cause.cause } in
-    let cause = c.in-Some-cause.ensures in
+    let d : Divergence = record { group = group; instance = c.forgotten-instance.result; cause = c.in-Some.cause } in
+    let cause = c.in-Some.ensures in
     elim c.decide.result as (λ r. OnOk r (c.decide.new.self ≡ deciding c.args.lanes.now d) → OnErr r (c.decide.new.self ≡ c.args.lanes.now) → ForgetsPassed c.args.lanes.now c.args.frontier.now group c.decide.new.self) [
       | Ok x ↦ λ ok err. inr (passed, inr (d, ok, record { group = c.requires; divergent = cause_diverges (is_complete (list_of s group)) (size_of s group) (arrivals s group d.instance) d.cause cause; cause = cause }, refl, c.forgotten-instance.ensures))
       | Err x ↦ λ ok err. inl err
     ] c.decide.ensures.ok c.decide.ensures.err
 
-pub returns-in-Some-cause-2 : goal.returns-in-Some-cause-2
-returns-in-Some-cause-2 g c =
+pub returns-in-Some-2 : goal.returns-in-Some-2
+returns-in-Some-2 g c =
     let s = c.args.lanes.now.streams in
     let group = c.args.group in
     let passed = c.have_all_passed.ensures c.if-not-have_all_passed.false in
-    let d : Divergence = record { group = group; instance = c.forgotten-instance.result; cause = c.in-Some-cause.cause } in
-    let cause = c.in-Some-cause.ensures in
+    let d : Divergence = record { group = group; instance = c.forgotten-instance.result; cause = c.in-Some.cause } in
+    let cause = c.in-Some.ensures in
     elim c.decide.result as (λ r. OnOk r (c.decide.new.self ≡ deciding c.args.lanes.now d) → OnErr r (c.decide.new.self ≡ c.args.lanes.now) → ForgetsPassed c.args.lanes.now c.args.frontier.now group c.decide.new.self) [
       | Ok x ↦ λ ok err. inr (passed, inr (d, ok, record { group = c.requires; divergent = cause_diverges (is_complete (list_of s group)) (size_of s group) (arrivals s group d.instance) d.cause cause; cause = cause }, refl, c.forgotten-instance.ensures))
       | Err x ↦ λ ok err. inl err
@@ -45,12 +45,6 @@ returns-in-Some-cause-2 g c =
 
 pub returns-then-not-have_all_passed : goal.returns-then-not-have_all_passed
 returns-then-not-have_all_passed g c = inl refl
-
-pub returns-in_default : goal.returns-in_default
-returns-in_default g c = inl refl
-
-pub barrier-requires : goal.barrier-requires
-barrier-requires g c = λ p is. omega (arith, c.forgotten-instance.ensures)
 
 pub cause-requires-clause-remembered : goal.cause-requires-clause-remembered
 cause-requires-clause-remembered g c = omega (arith, c.forgotten-instance.ensures)

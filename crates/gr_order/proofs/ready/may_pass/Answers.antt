@@ -1,7 +1,7 @@
 use Rattle.std.proofs.Common.{◌≡◌, ◌∙◌, Some, ap, refl, sym, true≢false}
 use Rattle.gr_model.specs.Barriers.{is_barrier}
 use Rattle.gr_steps.proofs.BarrierPlaces.{barrier_there}
-use Rattle.gr_order.proofs.ReadyLemmas.{come_of, passes_if, passes_only}
+use Rattle.gr_order.proofs.ReadyLemmas.{passes_if, passes_only}
 use Rattle.gr_order.proofs.ready.may_pass.Goals as goal
 use Rattle.gr_steps.proofs.EventRecords.{group_of_event}
 
@@ -10,9 +10,6 @@ is_divergent-requires-clause-group g c = group_of_event c.args.lanes.now.streams
 
 pub is_divergent-requires-clause-remembered : goal.is_divergent-requires-clause-remembered
 is_divergent-requires-clause-remembered g c = c.requires.remembered c.in-Some.number c.in-Some.ensures
-
-pub is_divergent-requires-clause-come : goal.is_divergent-requires-clause-come
-is_divergent-requires-clause-come g c = come_of c.args.lanes.now.streams c.requires.prefixes c.args.event c.args.taken.now c.requires.there c.in-Some.number c.in-Some.ensures
 
 pub returns-in-Some : goal.returns-in-Some
 returns-in-Some g c =

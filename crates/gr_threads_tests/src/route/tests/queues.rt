@@ -13,15 +13,16 @@ use gr_model::shape::Shape;
 use gr_route::intake::{Intake, IntakeSeat, TakerSeat};
 use gr_route::work::{GiverSeat, Work, WorkQueue, WorkerSeat};
 use gr_scopes::class::Class;
-use std::alloc::Global;
+use refusing::growths::refuse_each;
+use std::alloc::{Allocator, Global};
 use std::sync::Wait;
 use std::test::*;
 
 /// What comes back of the second of two pushes into an empty queue of one place, and what two pops then give; `None` where
 /// the first push is refused.
-fn pushed_and_popped<R: Wait>(
+fn pushed_and_popped<R: Wait, A: Allocator + Copy>(
     rt: &R,
-    queue: &Intake,
+    queue: &Intake<A>,
     taker: &mut TakerSeat,
     seat: &mut IntakeSeat,
 ) -> Option<(Option<Event>, [Option<Sent>; 2])>
@@ -51,9 +52,9 @@ type IntakeAnswers = (
 );
 
 /// What an empty queue of one place gives; `None` where the first split is refused.
-fn split_push_and_join<R: Wait>(
+fn split_push_and_join<R: Wait, A: Allocator + Copy>(
     rt: &R,
-    queue: &Intake,
+    queue: &Intake<A>,
     taker: &mut TakerSeat,
 ) -> Option<IntakeAnswers>
     requires { taker.old.queue ≡ queue.now.queue }
@@ -67,21 +68,28 @@ fn split_push_and_join<R: Wait>(
 }
 
 /// What a queue of one place gives; `None` where the first split is refused.
-fn intake_answers<R: Wait>(rt: &R, alloc: Global) -> Result<Option<IntakeAnswers>, Memory> {
+fn intake_answers<R: Wait, A: Allocator + Copy>(
+    rt: &R,
+    alloc: A,
+) -> Result<Option<IntakeAnswers>, Memory> {
     let (queue, mut taker) = Intake::new(alloc, 1)?;
     Ok(split_push_and_join(rt, &queue, &mut taker))
 }
 
-#[test]
-fn an_intake_queue_of_one_place(rt: HostRuntime) -> Result<(), Fail> {
+/// Whether an intake queue of one place gives what it should.
+fn is_intake_right<R: Wait, A: Allocator + Copy>(rt: &R, alloc: A) -> Result<bool, Memory> {
     let first = Sent {
         group: 5,
         event: write(7),
     };
     let seen = Some((Some(write(8)), [Some(first), None]));
-    let answers = intake_answers(&rt, rt.alloc())?;
-    assert_eq!(rt; answers, Some(((5, 2), seen, [true, true])));
-    Ok(())
+    Ok(intake_answers(rt, alloc)? == Some(((5, 2), seen, [true, true])))
+}
+
+#[test]
+fn an_intake_queue_of_one_place(rt: HostRuntime) {
+    let growths = refuse_each(rt.alloc(), 1, |heap| is_intake_right(&rt, heap));
+    assert!(rt; growths.is_ok(), "the queue grows: {growths:?}");
 }
 
 /// A seat for each work-group that a launch may have.
@@ -122,23 +130,23 @@ fn each_group_has_one_seat(rt: HostRuntime) -> Result<(), Fail> {
 }
 
 /// A plain write of a global word by the only work-item of a launch.
-pub(crate) fn write_by_one(alloc: Global, word: u32) -> Result<Work, Fail>
+fn write_by_one<A: Allocator + Copy>(alloc: A, word: u32) -> Result<Work<A>, Memory>
     ensures { IfOk result (λ work. IsFalse (is_stop work)) }
 {
     let mut sizes = Vec::new(alloc);
     sizes.push(1)?;
-    let shape = Shape::new(sizes).map_err(|_| "a shape of one item")?;
+    let shape = Shape::new(sizes).map_err(|_| Memory)?;
     Ok(Work::Access(Access {
         word: Word::Global(word),
         item: ItemId { group: 0, item: 0 },
         index: 0,
         class: Class::PlainWrite,
-        clock: Clock::new(alloc, &shape)?,
+        clock: Clock::new(alloc, &shape).map_err(|_| Memory)?,
     }))
 }
 
 /// The word of an access.
-fn word_of(work: &Work) -> Option<Word> {
+fn word_of<A: Allocator>(work: &Work<A>) -> Option<Word> {
     match work {
         Work::Access(access) => Some(access.word),
         Work::Stop => None,
@@ -146,7 +154,11 @@ fn word_of(work: &Work) -> Option<Word> {
 }
 
 /// Pops, and tells the word of what was popped.
-fn pop_word<R: Wait>(rt: &R, queue: &WorkQueue, worker: &mut WorkerSeat) -> Option<Option<Word>>
+fn pop_word<R: Wait, A: Allocator + Copy>(
+    rt: &R,
+    queue: &WorkQueue<A>,
+    worker: &mut WorkerSeat<A>,
+) -> Option<Option<Word>>
     requires { worker.old.queue ≡ queue.now.queue }
     ensures { worker.new.queue ≡ queue.now.queue }
 {
@@ -157,11 +169,11 @@ fn pop_word<R: Wait>(rt: &R, queue: &WorkQueue, worker: &mut WorkerSeat) -> Opti
 }
 
 /// Pushes work, and tells the word of what comes back; `None` where nothing does.
-fn push_word<R: Wait>(
+fn push_word<R: Wait, A: Allocator + Copy>(
     rt: &R,
-    queue: &WorkQueue,
-    giver: &mut GiverSeat,
-    work: Work,
+    queue: &WorkQueue<A>,
+    giver: &mut GiverSeat<A>,
+    work: Work<A>,
 ) -> Option<Option<Word>>
     requires queue { giver.old.queue ≡ queue.now.queue }
     requires unstopped { IsFalse (is_stopped giver.old.pushed) }
@@ -176,12 +188,12 @@ fn push_word<R: Wait>(
 
 /// Pushes an access and, into the full queue, the word that there are no more, and pops twice; then pushes that word again,
 /// and pops it. Tells the words of what was popped, or `None` where a push was not answered as it is due.
-fn through_one_place<R: Wait>(
+fn through_one_place<R: Wait, A: Allocator + Copy>(
     rt: &R,
-    queue: &WorkQueue,
-    giver: &mut GiverSeat,
-    worker: &mut WorkerSeat,
-    access: Work,
+    queue: &WorkQueue<A>,
+    giver: &mut GiverSeat<A>,
+    worker: &mut WorkerSeat<A>,
+    access: Work<A>,
 ) -> Option<[Option<Option<Word>>; 3]>
     requires worker { worker.old.queue ≡ queue.now.queue }
     requires giver { giver.old ≡ record { queue = queue.now.queue; pushed = [] } }
@@ -209,11 +221,11 @@ fn through_one_place<R: Wait>(
 type WorkAnswers = (Option<[Option<Option<Word>>; 3]>, [bool; 2]);
 
 /// What an empty queue of one place gives; `None` where the first split is refused.
-fn split_give_and_join<R: Wait>(
+fn split_give_and_join<R: Wait, A: Allocator + Copy>(
     rt: &R,
-    queue: &WorkQueue,
-    worker: &mut WorkerSeat,
-    access: Work,
+    queue: &WorkQueue<A>,
+    worker: &mut WorkerSeat<A>,
+    access: Work<A>,
 ) -> Option<WorkAnswers>
     requires queue { worker.old.queue ≡ queue.now.queue }
     requires access { IsFalse (is_stop access) }
@@ -226,12 +238,12 @@ fn split_give_and_join<R: Wait>(
 }
 
 /// What an empty queue of one place gives where the access is a write; `None` where the first split is refused.
-fn give_write<R: Wait>(
+fn give_write<R: Wait, A: Allocator + Copy>(
     rt: &R,
-    alloc: Global,
-    queue: &WorkQueue,
-    worker: &mut WorkerSeat,
-) -> Result<Option<WorkAnswers>, Fail>
+    alloc: A,
+    queue: &WorkQueue<A>,
+    worker: &mut WorkerSeat<A>,
+) -> Result<Option<WorkAnswers>, Memory>
     requires { worker.old.queue ≡ queue.now.queue }
 {
     let access = write_by_one(alloc, 7)?;
@@ -239,15 +251,22 @@ fn give_write<R: Wait>(
 }
 
 /// What a queue of one place gives; `None` where the first split is refused.
-fn work_answers<R: Wait>(rt: &R, alloc: Global) -> Result<Option<WorkAnswers>, Fail> {
+fn work_answers<R: Wait, A: Allocator + Copy>(
+    rt: &R,
+    alloc: A,
+) -> Result<Option<WorkAnswers>, Memory> {
     let (queue, mut worker) = WorkQueue::new(alloc, 1)?;
     give_write(rt, alloc, &queue, &mut worker)
 }
 
-#[test]
-fn a_work_queue_of_one_place(rt: HostRuntime) -> Result<(), Fail> {
+/// Whether a work queue of one place gives what it should.
+fn is_work_right<R: Wait, A: Allocator + Copy>(rt: &R, alloc: A) -> Result<bool, Memory> {
     let popped = Some([Some(Some(Word::Global(7))), None, Some(None)]);
-    let answers = work_answers(&rt, rt.alloc())?;
-    assert_eq!(rt; answers, Some((popped, [true, true])));
-    Ok(())
+    Ok(work_answers(rt, alloc)? == Some((popped, [true, true])))
+}
+
+#[test]
+fn a_work_queue_of_one_place(rt: HostRuntime) {
+    let growths = refuse_each(rt.alloc(), 1, |heap| is_work_right(&rt, heap));
+    assert!(rt; growths.is_ok(), "the queue grows: {growths:?}");
 }

@@ -1,20 +1,12 @@
 use Rattle.std.proofs.Common.{◌≡◌, ◌∙◌, Some, slice_get, refl, sym, subst, true≢false}
 use Rattle.std.specs.Prelude.{IfSome}
-use Rattle.gr_lanes.specs.Instances.{HasCome}
 use Rattle.gr_model.specs.Barriers.{IsDivergent}
 use Rattle.gr_model.specs.Streams.{Streams}
 use Rattle.gr_agenda.specs.declared.reach.Reach.TheVariants.{Item, Instance, Mark}
 use Rattle.gr_agenda.specs.Reaches.{IsReach}
-use Rattle.gr_agenda.proofs.UndivergedLemmas.{has_come, own_remembered, undiverged_following, undiverged_more, undiverged_plain, undiverged_wide}
+use Rattle.gr_agenda.proofs.UndivergedLemmas.{own_remembered, undiverged_following, undiverged_more, undiverged_plain, undiverged_wide}
 use Rattle.gr_agenda.proofs.KeptLemmas.{took_following, took_plain, took_undiverged, took_wide}
 use Rattle.gr_agenda.proofs.agenda.Agenda.take.Goals as goal
-
-pub is_divergent-requires-clause-come : goal.is_divergent-requires-clause-come
-is_divergent-requires-clause-come g c =
-    let q = c.self.inside.order in
-    let barrier : IsReach q.taken c.args.group c.args.event (Mark c.in-Mark.instance) = subst (IsReach q.taken c.args.group c.args.event) c.in-Mark.is (subst (λ (s : Streams). IsReach s c.args.group c.args.event c.reach_of-reach.result) c.lanes-taken.ensures.taken c.reach_of-reach.ensures) in
-    subst (λ (s : Streams). HasCome s c.args.group c.in-Mark.instance c.args.event) (sym c.lanes.ensures.taken)
-    (has_come q c.take.new.self c.lanes-taken.ensures.sequence c.args.group c.args.event c.in_ok-take.ensures.ok.0 c.in_ok-take.ensures.ok.1 c.self.inside.undiverged.items c.self.invariant.1 barrier.0 c.in-Mark.instance barrier.1)
 
 pub is_divergent-requires-clause-remembered : goal.is_divergent-requires-clause-remembered
 is_divergent-requires-clause-remembered g c =

@@ -1,8 +1,7 @@
-use Rattle.std.proofs.Common.{◌≡◌, length, ap, arith}
-use Rattle.gr_barriers.proofs.InstanceLemmas.{listed_all}
+use Rattle.std.proofs.Common.{length, ap, arith}
+use Rattle.gr_barriers.specs.Arrived.{IsDivergence}
+use Rattle.gr_barriers.proofs.Listing.{all_listed}
 use Rattle.gr_barriers.proofs.instances.Instances.divergences.Goals as goal
 
 pub returns : goal.returns
-returns g c =
-    let whole : c.loop-group.group ≡ length c.args.self.now = omega (arith, ap length c.self.view_is, c.self.inside.groups.ok.0) in
-    listed_all c.args.self.now c.loop-group.group c.loop-group.list.items whole c.loop-group.invariant
+returns g c = all_listed (IsDivergence c.args.self.now) c.loop-group.group c.loop-group.list.items (λ d is. omega (arith, is.group, ap length c.self.view_is, c.self.inside.groups.ok.0, c.loop-group-test.false)) c.loop-group.invariant

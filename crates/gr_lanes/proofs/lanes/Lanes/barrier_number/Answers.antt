@@ -1,4 +1,4 @@
-use Rattle.std.proofs.Common.{List, arith, ap, ◌∙◌, slice_get, subst, sym, filter, ◌≡◌, [], ℕ, None, Some}
+use Rattle.std.proofs.Common.{List, arith, ap, ◌∙◌, slice_get, subst, sym, filter, ◌≡◌, [], None, Some}
 use Rattle.gr_model.specs.declared.event.Event.{Event}
 use Rattle.gr_model.specs.Barriers.{is_barrier}
 use Rattle.gr_model.specs.Streams.{is_of, places_from}

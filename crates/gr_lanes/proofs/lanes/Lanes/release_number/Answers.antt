@@ -1,4 +1,4 @@
-use Rattle.std.proofs.Common.{List, subst, ◌≡◌, [], ℕ, None, Some, slice_get, sym}
+use Rattle.std.proofs.Common.{List, subst, ◌≡◌, [], None, Some, slice_get, sym}
 use Rattle.gr_model.specs.declared.event.Event.{Event}
 use Rattle.gr_model.specs.Access.{is_release}
 use Rattle.gr_lanes.specs.Indices.{IsNumberAmong}

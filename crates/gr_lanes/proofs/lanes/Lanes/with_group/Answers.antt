@@ -1,5 +1,4 @@
 use Rattle.std.proofs.Common.{◌≡◌, ◌∙◌, ℕ, List, sym, ap, subst}
-use Rattle.gr_model.specs.Groups.{put}
 use Rattle.gr_model.specs.Streams.{ArePrefixes}
 use Rattle.gr_lanes.specs.Indices.{AreGroups, remembered_of}
 use Rattle.gr_lanes.specs.Remembered.{Remembered, with_group}

@@ -1,0 +1,80 @@
+-- The divergences of a launch, listed one instance after the other.
+use Rattle.std.proofs.Common.{◌≡◌, ◌⊎◌, ℕ, ◌+◌, ◌<◌, ◌≤◌, Bool, List, [], ◌∷◌, ◌++◌, refl, subst, inl, inr, ⊎_elim, arith}
+use Rattle.std.proofs.lemmas.Bool.{cases_eq, cases_lt}
+use Rattle.gr_model.specs.declared.report.Divergence.{Divergence}
+use Rattle.gr_model.specs.declared.report.DivergenceCause.{DivergenceCause}
+use Rattle.gr_model.specs.Instances.{Arrivals, HasDivergenceCause, IsDivergentOf}
+use Rattle.gr_model.specs.Reports.{DivergenceBelow, Lists}
+use Rattle.gr_model.proofs.Causes.{cause_diverges, one_cause}
+use Rattle.gr_barriers.specs.Listings.{AreListedBefore, IsBefore}
+use Rattle.gr_barriers.specs.Summaries.{NobodyCame}
+use Rattle.gr_barriers.proofs.Lists.{listed_push, listed_same}
+use Rattle.gr_barriers.proofs.SummaryLemmas.{nobody_diverges}
+
+before_more : (g k : ℕ) (d : Divergence) → IsBefore g k d → IsBefore g (k + 1) d
+before_more g k d (inl lower) = inl lower
+before_more g k d (inr here) = inr (here.0, let lt : d.instance < k + 1 = omega (arith, here.1) in lt)
+
+before_cases : (g k : ℕ) (d : Divergence) → IsBefore g (k + 1) d → IsBefore g k d ⊎ ((d.group ≡ g) × (d.instance ≡ k))
+before_cases g k d (inl lower) = inl (inl lower)
+before_cases g k d (inr here) =
+    ⊎_elim
+    (λ (same : d.instance ≡ k). inr (here.0, same))
+    (λ (other : d.instance ≡ k → ⊥). inl (inr (here.0, let lt : d.instance < k = omega (arith, here.1) in lt)))
+    (cases_eq d.instance k)
+
+-- the divergences of groups that have ended or not, are of some size, and whose items brought this to their instances
+module _ (Is : Divergence → Type 0) where
+  -- behind the last group all are listed
+  pub all_listed : (groups : ℕ) (ds : List Divergence) → ((d : Divergence) → Is d → d.group < groups) → AreListedBefore Is groups 0 ds → Lists DivergenceBelow Is ds
+  all_listed groups ds within listed = listed_same DivergenceBelow (λ d. Is d × IsBefore groups 0 d) Is ds listed (λ d p. p.0) (λ d is. (is, inl (within d is)))
+
+  module _ (ended : ℕ → Bool) (size : ℕ → ℕ) (arrived : ℕ → ℕ → Arrivals) (caused : (d : Divergence) → Is d → HasDivergenceCause (ended d.group) (size d.group) (arrived d.group d.instance) d.cause) (g k : ℕ) (ds : List Divergence) (listed : AreListedBefore Is g k ds) where
+    diverges : (d : Divergence) → Is d → d.group ≡ g → IsDivergentOf (ended g) (size g) (arrived g d.instance)
+    diverges d is group = cause_diverges (ended g) (size g) (arrived g d.instance) d.cause (subst (λ n. HasDivergenceCause (ended n) (size n) (arrived n d.instance) d.cause) group (caused d is))
+
+    -- an instance that is not divergent
+    pub instance_without : ¬ IsDivergentOf (ended g) (size g) (arrived g k) → AreListedBefore Is g (k + 1) ds
+    instance_without none = listed_same DivergenceBelow (λ d. Is d × IsBefore g k d) (λ d. Is d × IsBefore g (k + 1) d) ds listed
+        (λ d p. (p.0, before_more g k d p.1))
+        (λ d p. (p.0, ⊎_elim (λ before. before) (λ (here : (d.group ≡ g) × (d.instance ≡ k)). absurd (none (subst (λ n. IsDivergentOf (ended g) (size g) (arrived g n)) here.1 (diverges d p.0 here.0)))) (before_cases g k d p.1)))
+
+    -- one that is, with its cause
+    pub instance_with : (c : DivergenceCause) → HasDivergenceCause (ended g) (size g) (arrived g k) c → Is (record { group = g; instance = k; cause = c }) → AreListedBefore Is g (k + 1) (ds ++ record { group = g; instance = k; cause = c } ∷ [])
+    instance_with c cause is_one = listed_push DivergenceBelow (λ d. Is d × IsBefore g k d) (λ d. Is d × IsBefore g (k + 1) d) ds this listed
+        (λ d p. below_this d p.1)
+        (is_one, inr (refl, let lt : k < k + 1 = omega arith in lt))
+        (λ d p. (p.0, before_more g k d p.1))
+        (λ d p. ⊎_elim (λ before. inl (p.0, before)) (λ (here : (d.group ≡ g) × (d.instance ≡ k)). inr (is_this d p.0 here.0 here.1)) (before_cases g k d p.1))
+      where
+        this : Divergence
+        this = record { group = g; instance = k; cause = c }
+
+        is_this : (d : Divergence) → Is d → d.group ≡ g → d.instance ≡ k → d ≡ this
+        is_this d is group instance =
+            let causes : HasDivergenceCause (ended g) (size g) (arrived g k) d.cause = subst (λ n. HasDivergenceCause (ended g) (size g) (arrived g n) d.cause) instance (subst (λ n. HasDivergenceCause (ended n) (size n) (arrived n d.instance) d.cause) group (caused d is)) in
+            let same : d.cause ≡ c = one_cause (ended g) (size g) (arrived g k) d.cause c causes cause in
+            λ i. record { group = group i; instance = instance i; cause = same i }
+
+        below_this : (d : Divergence) → IsBefore g k d → DivergenceBelow d this
+        below_this d (inl lower) = inl lower
+        below_this d (inr here) = inr here
+
+    -- behind the last instance to which somebody came the group is done
+    pub group_done : ((n : ℕ) → k ≤ n → NobodyCame (size g) (arrived g n)) → AreListedBefore Is (g + 1) 0 ds
+    group_done none = listed_same DivergenceBelow (λ d. Is d × IsBefore g k d) (λ d. Is d × IsBefore (g + 1) 0 d) ds listed (λ d p. (p.0, earlier d p.1)) (λ d p. (p.0, later d p.0 p.1))
+      where
+        earlier : (d : Divergence) → IsBefore g k d → IsBefore (g + 1) 0 d
+        earlier d (inl lower) = inl (let lt : d.group < g + 1 = omega arith in lt)
+        earlier d (inr here) = inl (let lt : d.group < g + 1 = omega (arith, here.0) in lt)
+
+        later : (d : Divergence) → Is d → IsBefore (g + 1) 0 d → IsBefore g k d
+        later d is (inr past) = let over : d.instance < 0 = past.1 in absurd (omega arith)
+        later d is (inl lower) =
+            ⊎_elim
+            (λ (same : d.group ≡ g). ⊎_elim
+            (λ (lt : d.instance < k). inr (same, lt))
+            (λ (le : k ≤ d.instance). absurd (nobody_diverges (ended g) (size g) (arrived g d.instance) (none d.instance le) (diverges d is same)))
+            (cases_lt d.instance k))
+            (λ (other : d.group ≡ g → ⊥). inl (let lt : d.group < g = omega arith in lt))
+            (cases_eq d.group g)

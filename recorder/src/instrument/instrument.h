@@ -1,0 +1,134 @@
+// What the parts of the pass know of each other: what a kernel does to memory, found in its code before anything of it is changed; what
+// OpenCL's builtins mean; and what is done to a module as a whole.
+#ifndef GPURACE_INSTRUMENT_H
+#define GPURACE_INSTRUMENT_H
+
+#include "../sites.h"
+
+#include "llvm/IR/Instructions.h"
+#include "llvm/IR/Module.h"
+#include "llvm/Support/raw_ostream.h"
+
+#include <map>
+#include <memory>
+#include <optional>
+#include <set>
+
+namespace gpurace {
+
+enum AddressSpace : unsigned { PRIVATE_SPACE = 0, GLOBAL_SPACE = 1, CONSTANT_SPACE = 2, LOCAL_SPACE = 3, GENERIC_SPACE = 4 };
+
+// The plain name of a builtin: that of _Z10atomic_addPU3AS1Vii is atomic_add.
+llvm::StringRef name_of(const llvm::CallInst &call);
+
+// The number behind the letters of a vector builtin's name: 4 of vload4 and vstore_half4_rte, 1 where there is none.
+unsigned width_of(llvm::StringRef name);
+
+// An atomic builtin. Its order, its order on failure and its scope are OpenCL's numbers, which need not be constants; a null
+// pointer stands for the default.
+struct Atomic {
+    llvm::CallInst *call = nullptr;
+    llvm::Value *pointer = nullptr;
+    SiteKind kind = MODIFY;
+    Operation operation = OP_EXCHANGE;
+    char type = 'i'; // of the word, as in mangled names: i j l m f d
+    llvm::Value *order = nullptr, *failure = nullptr, *scope = nullptr;
+    bool is_of_opencl20 = false; // seq_cst at device scope where nothing is said; else relaxed
+
+    bool may_acquire() const;
+};
+
+// The call as an atomic, if it is one that accesses memory.
+std::optional<Atomic> atomic_of(llvm::CallInst &call);
+
+// The row of an item's numbers that a builtin such as get_local_id answers from, or -1.
+int number_row_of(llvm::StringRef name);
+
+// The operand through which a builtin such as fract writes a result, or -1.
+int result_operand_of(const llvm::CallInst &call);
+
+bool is_fence(llvm::StringRef name);
+bool is_image_access(llvm::StringRef name);
+
+// The type that a pointer of a builtin points to.
+inline llvm::Type *pointee_of(const llvm::Value *pointer) {
+    return llvm::cast<llvm::PointerType>(pointer->getType())->getNonOpaquePointerElementType();
+}
+
+// A plain access through one operand of an instruction.
+struct Access {
+    llvm::Instruction *instruction;
+    unsigned operand;              // the one that has the pointer
+    SiteKind kind;
+    uint64_t bytes, unit;          // unit: the bytes of its parts that are aligned
+    llvm::Value *index = nullptr;  // of vload and vstore: the first argument, in steps of `stride` bytes
+    unsigned index_operand = 0;
+    uint64_t stride = 0;
+
+    llvm::Value *pointer() const { return instruction->getOperand(operand); }
+};
+
+struct Copy { // an asynchronous copy of the whole group
+    llvm::CallInst *call;
+    bool is_strided;
+};
+
+struct Accesses {
+    std::vector<Access> plain;
+    std::vector<Atomic> atomics;
+    std::vector<llvm::CallInst *> barriers, fences, images;
+    std::vector<Copy> copies;
+    std::set<std::string> notes; // what is not recorded
+
+    bool may_acquire() const;
+};
+
+Accesses find_accesses(llvm::Function &function);
+
+inline bool is_traced(const llvm::Value *pointer) {
+    const unsigned space = pointer->getType()->getPointerAddressSpace();
+    return space == GLOBAL_SPACE || space == LOCAL_SPACE;
+}
+
+// The argument or variable that a pointer belongs to, if the code says so; else null.
+const llvm::Value *object_of(const llvm::Value *pointer);
+
+// The words of each argument and variable: the greatest of 4, 2 and 1 bytes at which every access to it is of whole words. An access
+// whose object is not known may be to each of its address space.
+class Grains {
+public:
+    Grains(const Accesses &accesses, const llvm::DataLayout &layout);
+    uint64_t of(const llvm::Value *object) const;
+
+private:
+    std::map<const llvm::Value *, uint64_t> grains_;
+    uint64_t least_[5] = {4, 4, 4, 4, 4};
+    void add(const llvm::Value *pointer, uint64_t bytes, uint64_t unit);
+};
+
+// Of a vector of which some components are assigned, clang loads and stores all. The text writes those alone: each such store becomes
+// stores of the components that it changes.
+void narrow_stores(llvm::Function &function);
+
+inline bool is_kernel(const llvm::Function &function) {
+    return !function.isDeclaration() && function.getCallingConv() == llvm::CallingConv::SPIR_KERNEL;
+}
+
+// The functions that the host calls are named so, with the kernel's name behind it.
+constexpr const char RUN_PREFIX[] = "gr_run_";
+
+// Instruments a kernel, and writes what the numbers of its sites mean (rewriter.cpp).
+void instrument_kernel(llvm::Function &kernel, llvm::raw_ostream &sites, unsigned &next_site);
+
+// Inlines all calls of a module's own functions, and promotes private variables. A kernel that another one calls is then there
+// twice: as what is launched, and within the other.
+void inline_calls(llvm::Module &module);
+
+// Drops what no longer holds behind instrumentation: debug information and statements on aliases.
+void strip(llvm::Module &module);
+
+// The module with one address space, as the processor has it, linked with the builtins that it uses; null where it failed, which is said.
+std::unique_ptr<llvm::Module> link_for_host(llvm::Module &module, const char *builtins, llvm::LLVMContext &context);
+
+} // namespace gpurace
+#endif

@@ -1,0 +1,56 @@
+#include "settings.h"
+
+#include <cstdio>
+#include <cstdlib>
+#include <poll.h>
+#include <sys/syscall.h>
+#include <unistd.h>
+
+namespace gpurace {
+namespace {
+
+void refuse(const char *name, const char *needed) {
+    std::fprintf(stderr, "gpurace-recorder: GPURACE_%s must be %s\n", name, needed);
+    std::_Exit(3);
+}
+
+} // namespace
+
+std::string setting(const char *name, const std::string &otherwise) {
+    const char *value = std::getenv(("GPURACE_" + std::string(name)).c_str());
+    return value && *value ? value : otherwise;
+}
+
+uint64_t number_setting(const char *name, uint64_t otherwise) {
+    const std::string text = setting(name);
+    if (text.empty()) return otherwise;
+    if (text.size() > 19 || text.find_first_not_of("0123456789") != std::string::npos) refuse(name, "a number");
+    return std::stoull(text);
+}
+
+Settings::Settings() {
+    const std::string groups = setting("GROUPS");
+    unsigned long from = 0, number = 0;
+    char rest = 0;
+    if (groups.empty()) return;
+    if (std::sscanf(groups.c_str(), "%9lu:%9lu%c", &from, &number, &rest) != 2 || number == 0) refuse("GROUPS", "FIRST:COUNT, as 0:8");
+    first = from;
+    count = std::min(count, uint64_t(number));
+}
+
+const Settings &settings() {
+    static const Settings &made = *new Settings; // it lives as long as any thread of the program
+    return made;
+}
+
+bool is_judge_there() {
+    static const int judge = int(syscall(SYS_pidfd_open, settings().judge, 0));
+    pollfd ended{judge, POLLIN, 0};
+    return judge >= 0 && poll(&ended, 1, 0) == 0;
+}
+
+void say(const std::string &text) {
+    if (!settings().is_quiet) std::fprintf(stderr, "gpurace-recorder: %s\n", text.c_str());
+}
+
+} // namespace gpurace
