@@ -209,7 +209,7 @@ where
 
 /// The side files that a form of `explain` has.
 fn sides_of<'a>(form: Form<'a>) -> SideNames<'a>
-    ensures { side_names result.now ≡ sides_asked (form_of form.now) }
+    ensures { side_names result ≡ sides_asked (form_of form.entry) }
 {
     match form {
         Form::Short => SideNames {

@@ -6,6 +6,6 @@ use Rattle.gr_command.proofs.execute.check.Goals as goal
 
 pub returns : goal.returns
 returns g c =
-    outcome_of fault_line fault_status Write _ _ _ _ _ _ _ _ _ (λ accepted. accepted) c.show_check.result
-    c.show_check.ensures.checked c.show_check.ensures.fault c.show_check.ensures.untouched c.show_check.ensures.prefix
+    outcome_of fault_line fault_status Write _ _ _ _ _ _ _ _ _ (λ accepted. accepted) c.write_check.result
+    c.write_check.ensures.checked c.write_check.ensures.fault c.write_check.ensures.untouched c.write_check.ensures.prefix
     c.conclude_check.ensures.accepted c.conclude_check.ensures.silent c.conclude_check.ensures.fault c.conclude_check.ensures.told
