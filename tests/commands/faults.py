@@ -154,20 +154,26 @@ class Threads(FaultTest):
 
     stack = 1 << 30
 
-    def run_with_room_for(self, threads, workers):
+    def run_with_room_for(self, threads, workers, name="race"):
         most = threads * self.stack + self.stack // 2
 
         def limit():
             resource.setrlimit(resource.RLIMIT_STACK, (self.stack, self.stack))
             resource.setrlimit(resource.RLIMIT_AS, (most, most))
 
-        return self.gpurace("run", "--workers", workers, "--queues", "1", "race", preexec_fn=limit)
+        return self.gpurace("run", "--workers", workers, "--queues", "1", name, preexec_fn=limit)
 
     def test_a_thread_that_can_not_be_started(self):
         for workers in (1, 4):
             for threads in range(workers + 2):
                 with self.subTest(workers=workers, threads=threads):
                     self.assert_run(self.run_with_room_for(threads, workers), b"", 4, b"gpurace: no thread\n")
+
+    def test_a_missing_thread_is_told_before_a_stream_that_is_cut_off(self):
+        for threads in range(3):
+            with self.subTest(threads=threads):
+                self.assert_run(self.run_with_room_for(threads, 1, "cut"), b"", 4, b"gpurace: no thread\n")
+        self.assert_run(self.run_with_room_for(3, 1, "cut"), b"", 2, b"gpurace: stream 0: truncated\n")
 
     def test_room_for_each_thread(self):
         for workers in (1, 4):
