@@ -8,8 +8,8 @@ use Rattle.gr_model.specs.declared.event.EventId.{EventId}
 use Rattle.gr_model.specs.declared.event.Word.{Word}
 use Rattle.gr_model.specs.Streams.{IsAccepted, Streams, list_of}
 use Rattle.gr_accesses.specs.declared.counting.Count.{Count}
-use Rattle.gr_long.specs.declared.details.Details.{Details}
-use Rattle.gr_long.specs.Details.{details_of}
+use Rattle.gr_accesses.specs.declared.details.Details.{Details}
+use Rattle.gr_accesses.specs.Details.{details_of}
 use Rattle.gr_accesses.specs.Accesses.{AreAccesses, IsKnown, IsOn, details_at}
 use Rattle.gr_accesses.specs.Counting.{AreCounts, IsSmall, after_record, counted}
 use Rattle.gr_accesses.specs.Gathering.{AreKnownIn, AreOthersKept, IsKnownIn, KeepsRecord}

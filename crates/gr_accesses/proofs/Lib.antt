@@ -3,3 +3,4 @@ pub mod CountLemmas
 pub mod RecordLemmas
 pub mod GroupLemmas
 pub mod HeldLemmas
+pub mod DetailLemmas

@@ -13,7 +13,7 @@ use Rattle.gr_model.specs.Access.{event_word, word_if_access}
 use Rattle.gr_model.specs.Barriers.{is_barrier}
 use Rattle.gr_model.specs.Events.{is_end, is_end_kind}
 use Rattle.gr_model.specs.Streams.{is_of, places_from}
-use Rattle.gr_long.specs.declared.details.Details.{Details}
+use Rattle.gr_accesses.specs.declared.details.Details.{Details}
 use Rattle.gr_accesses.specs.Accesses.{details_at}
 use Rattle.gr_explain.specs.Edges.{same_event}
 use Rattle.gr_explain.proofs.Sets.{event_from_equal, event_itself}

@@ -4,9 +4,9 @@ use Rattle.std.specs.Map.{lookup}
 use Rattle.gr_model.specs.declared.event.EventId.{EventId}
 use Rattle.gr_model.specs.declared.event.Word.{Word}
 use Rattle.gr_model.specs.Streams.{Streams, word_at}
-use Rattle.gr_long.specs.declared.details.Details.{Details}
+use Rattle.gr_accesses.specs.declared.details.Details.{Details}
 use Rattle.gr_explain.specs.Edges.{same_event}
-use Rattle.gr_long.specs.Details.{details_of}
+use Rattle.gr_accesses.specs.Details.{details_of}
 
 -- an event accesses this word
 abbrev pub IsOn : Streams → Word → EventId → Type 0

@@ -7,7 +7,7 @@ use Rattle.gr_model.specs.Access.{event_word}
 use Rattle.gr_model.specs.Barriers.{is_barrier}
 use Rattle.gr_model.specs.Streams.{is_of, places_from}
 use Rattle.gr_accesses.specs.declared.counting.Count.{Count}
-use Rattle.gr_long.specs.declared.details.Details.{Details}
+use Rattle.gr_accesses.specs.declared.details.Details.{Details}
 use Rattle.gr_accesses.specs.Accesses.{details_at}
 use Rattle.gr_explain.specs.Edges.{same_event}
 

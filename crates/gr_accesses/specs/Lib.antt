@@ -1,4 +1,6 @@
+pub mod Details
 pub mod Accesses
 pub mod Counting
 pub mod Gathering
 pub mod Held
+pub mod Racy

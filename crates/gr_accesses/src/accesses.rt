@@ -8,7 +8,7 @@ ghost use Rattle.gr_accesses.specs.Accesses.{AreAccesses, details_at};
 ghost use Rattle.gr_accesses.specs.Gathering.{AreKnownIn, AreOthersKept, KeepsRecord};
 
 use crate::counting::{Count, count_record, none_counted};
-use gr_long::details::Details;
+use crate::details::Details;
 use gr_model::event::{Event, EventId, ItemId, Word, word_of};
 use gr_model::memory::Memory;
 use gr_model::traces::Traces;

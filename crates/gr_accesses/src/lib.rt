@@ -3,3 +3,4 @@
 
 pub mod accesses;
 mod counting;
+pub mod details;

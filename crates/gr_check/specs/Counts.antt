@@ -1,11 +1,12 @@
 -- How many records of each kind a launch has.
 -- Source: docs/FORMATS.md, "Check".
-use Rattle.std.specs.Prelude.{ℕ, Bool, true, false, List, [], ◌∷◌, length, filter}
+use Rattle.std.specs.Prelude.{ℕ, Bool, true, false, List, length, filter, sum}
 use Rattle.std.specs.List.{sum_by}
 use Rattle.gr_model.specs.declared.event.Event.{Event}
 use Rattle.gr_model.specs.declared.event.Kind.{Kind}
 use Rattle.gr_model.specs.declared.event.Kind.TheVariants.{Read, Write, Load, Store, Rmw, Barrier, End}
 use Rattle.gr_model.specs.Streams.{Streams}
+use Rattle.gr_check.specs.declared.counts.Counts.{Counts}
 use Rattle.gr_check.specs.declared.counts.RecordKind.{RecordKind}
 use Rattle.gr_check.specs.declared.counts.RecordKind.TheVariants as kinds
 
@@ -28,6 +29,17 @@ count_in k list = length (filter (λ e. is_of_kind k e.kind) list)
 abbrev pub count_of : RecordKind → Streams → ℕ
 count_of k s = sum_by (count_in k) s.lists
 
--- the kinds, in the order of their lines
-abbrev pub all_kinds : List RecordKind
-all_kinds = kinds.Read ∷ kinds.Write ∷ kinds.Load ∷ kinds.Store ∷ kinds.Rmw ∷ kinds.Barrier ∷ kinds.End ∷ []
+-- how large a launch is, and how many records of each kind it has
+abbrev pub counts : Streams → Counts
+counts s = record {
+  groups = length s.sizes;
+  items = sum s.sizes;
+  records = sum_by length s.lists;
+  reads = count_of kinds.Read s;
+  writes = count_of kinds.Write s;
+  loads = count_of kinds.Load s;
+  stores = count_of kinds.Store s;
+  rmws = count_of kinds.Rmw s;
+  barriers = count_of kinds.Barrier s;
+  ends = count_of kinds.End s;
+}

@@ -1,7 +1,6 @@
 pub mod Spots
 pub mod Counts
 pub mod Neighbours
-pub mod Sentences
-pub mod CheckText
+pub mod Places
 pub mod Checked
 pub mod Laws

@@ -36,7 +36,7 @@ fn place_between<A: Allocator>(inputs: &[Vec<u8, A>], least: usize, most: usize)
 }
 
 /// The name at this place, if there is one.
-pub fn name_at<'a>(names: &[&'a str], place: u64) -> Option<&'a str>
+pub(crate) fn name_at<'a>(names: &[&'a str], place: u64) -> Option<&'a str>
     ensures { option_map (λ s. s.now) result ≡ slice_get (map (λ s. s.now) names.now) place }
 {
     names.get(place as usize).copied()
@@ -58,7 +58,7 @@ fn first_between<'a, A: Allocator>(
 }
 
 /// The name of the first file of a group that is greater than this one.
-pub fn first_above<'a, A: Allocator>(
+pub(crate) fn first_above<'a, A: Allocator>(
     names: &[&'a str],
     inputs: &[Vec<u8, A>],
     group: u16,
@@ -69,7 +69,7 @@ pub fn first_above<'a, A: Allocator>(
 }
 
 /// The name of the first file that is of the same group as the one at this place.
-pub fn first_like<'a, A: Allocator>(
+pub(crate) fn first_like<'a, A: Allocator>(
     names: &[&'a str],
     inputs: &[Vec<u8, A>],
     place: u64,

@@ -17,9 +17,17 @@ pub enum Spot {
     /// At the header, which begins at byte 0.
     Header,
     /// At the record with this number, from 0, which begins at this byte.
-    Record { number: u64, byte: u64 },
+    Record {
+        /// The number.
+        number: u64,
+        /// The byte.
+        byte: u64,
+    },
     /// Behind the end, at this byte.
-    Behind { byte: u64 },
+    Behind {
+        /// The byte.
+        byte: u64,
+    },
 }
 
 /// How many records are accepted at the start of the bytes, in the stream of this header and up to its end, and the bytes
@@ -61,7 +69,7 @@ fn behind_header(error: RecordError, number: u64, byte: u64) -> Spot
 
 /// Where this fault stands in the stream that the bytes are: at the header, if it can't be read; else at the first record that
 /// is not accepted, or behind the end.
-pub fn spot_of(error: RecordError, bytes: &[u8]) -> Spot
+pub(crate) fn spot_of(error: RecordError, bytes: &[u8]) -> Spot
     ensures { result ≡ spot error bytes.now }
 {
     match read_front_header(bytes) {

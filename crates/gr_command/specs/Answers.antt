@@ -1,6 +1,6 @@
 -- What a run of the program leaves behind: on standard output, on standard error, and its status.
 -- Source: docs/FORMATS.md, "Report", "Fault lines" and "Exit statuses".
-use Rattle.std.specs.Prelude.{◌≡◌, ◌≢◌, ◌⊎◌, ℕ, Bool, false, true, List, Option, None, Some, Result, Ok, Err, IfSome}
+use Rattle.std.specs.Prelude.{◌≡◌, ◌≢◌, ◌⊎◌, ℕ, Bool, false, true, List, Option, None, Some, Result, Ok, Err, IfSome, ⊤}
 use Rattle.std.specs.Io.KnownBytes.{Appends, Keeps}
 use Rattle.gr_model.specs.declared.event.Word.{Word}
 use Rattle.gr_model.specs.Reports.{WholeReport}
@@ -12,28 +12,25 @@ use Rattle.gr_record.specs.declared.fault.Fault.{Fault}
 use Rattle.gr_record.specs.declared.fault.Fault.TheVariants.{Write}
 use Rattle.gr_report.specs.ReportText.{report_text}
 use Rattle.gr_report.specs.FaultText.{fault_line}
-use Rattle.gr_check.specs.Checked.{ChecksPrefix, IsCheckFileFault, IsChecked}
-use Rattle.gr_check_json.specs.Checked.{ChecksJsonPrefix, IsCheckedJson}
+use Rattle.gr_accesses.specs.Racy.{IsRacyIn}
+use Rattle.gr_check.specs.Checked.{CheckedSaid, IsCheckFileFault, IsCheckedAsKnown, is_accepted}
+use Rattle.gr_held.specs.Why.{IsWhy}
+use Rattle.gr_races.specs.Accounts.{IsAccountOf}
 use Rattle.gr_replay.specs.Replays.{IsExact, IsExactOfEach, IsReplayFault, WritesPrefix}
 use Rattle.gr_input.specs.Faults.{Fails, IsOutside}
 use Rattle.gr_text.specs.Texts.{packed}
 use Rattle.gr_text.specs.Dumps.{dumped, upgraded}
 use Rattle.gr_text.specs.Partial.{text_before_fault}
 use Rattle.gr_text.specs.Writes.{Writes, WritesPrefix as WritesPrefixOf}
-use Rattle.gr_sides.specs.declared.fault.SidesFault.TheVariants.{Run}
-use Rattle.gr_sides.specs.FaultText.{sides_fault_line}
-use Rattle.gr_sides.specs.Opening.{HoldsOfAllFiles, IsSidesFault, Pair}
-use Rattle.gr_races.specs.Shown.{HasRace, IsRacesText}
-use Rattle.gr_sides.specs.Sides.{SidesSaid}
-use Rattle.gr_races_json.specs.Shown.{IsRacesJson}
-use Rattle.gr_sides.specs.Files.{HoldsOfFiles, IsOpeningFault}
-use Rattle.gr_frame.specs.Told.{IsShown, ShowsPrefix}
-use Rattle.gr_show.specs.Shown.{IsLine, IsRacyIn}
-use Rattle.gr_long.specs.Shown.{IsAccountText}
-use Rattle.gr_held.specs.Shown.{IsHeldIn, IsWhyText}
-use Rattle.gr_timeline.specs.Shown.{IsHistoryText}
-use Rattle.gr_json.specs.Reports.{report_json}
-use Rattle.gr_json.specs.Shown.{IsJsonAccount, IsJsonLine}
+use Rattle.gr_places.specs.declared.sides_fault.SidesFault.TheVariants.{Run}
+use Rattle.gr_places.specs.FaultText.{sides_fault_line}
+use Rattle.gr_places.specs.Opening.{HoldsOfAllFiles, IsSidesFault, Pair}
+use Rattle.gr_races.specs.Shown.{HasRace}
+use Rattle.gr_places.specs.Sides.{SidesSaid}
+use Rattle.gr_places.specs.Files.{HoldsOfFiles, IsOpeningFault}
+use Rattle.gr_show.specs.Told.{IsShown, ShowsPrefix}
+use Rattle.gr_show.specs.Rendering.{Renders}
+use Rattle.gr_show.specs.Shown.{AreRaces, IsExplanation, IsHeldIn, IsLine, IsToldOf}
 use Rattle.gr_report.specs.Putting.{AppendsPrefix}
 use Rattle.gr_streams.specs.Streams.{IsRunFault}
 use Rattle.gr_command.specs.declared.status.TheConstants.{NOTHING, USAGE, WANTING}
@@ -86,40 +83,28 @@ module _ (input old new old_errors new_errors : Option (List ℕ)) (status : ℕ
 
 -- ---- launches whose streams are in files, one each
 
--- the line that is shown of a word of a launch, or the same as JSON
-abbrev pub IsLineOf : Bool → Word → Streams → List ℕ → Type 0
-IsLineOf false = IsLine
-IsLineOf true = IsJsonLine
+-- that of JSON where it is asked for, and else that of the text
+abbrev pub in_form : Bool → (SidesSaid → Streams → List ℕ → Type 0) → (SidesSaid → Streams → List ℕ → Type 0) → SidesSaid → Streams → List ℕ → Type 0
+in_form true IsJson IsText = IsJson
+in_form false IsJson IsText = IsText
 
--- the same in the long form, with what side files say
-abbrev pub IsAccountTextOf : Bool → SidesSaid → Word → Streams → List ℕ → Type 0
-IsAccountTextOf false = IsAccountText
-IsAccountTextOf true = IsJsonAccount
+-- what is told of a word of a launch: the line of its least racing pair; as JSON, and in the long form, a rendering
+abbrev pub IsWordTextOf : AskedForm → Bool → Word → SidesSaid → Streams → List ℕ → Type 0
+IsWordTextOf in_short json w = in_form json (λ said s. Renders (IsExplanation s w)) (λ said. IsLine w)
+IsWordTextOf (in_long places buffers) json w = λ said s. Renders (IsAccountOf s w)
 
--- that of the form that is asked for
-abbrev pub IsWordTextOf : AskedForm → Bool → SidesSaid → Word → Streams → List ℕ → Type 0
-IsWordTextOf in_short json said = IsLineOf json
-IsWordTextOf (in_long places buffers) json said = IsAccountTextOf json said
+-- the text of a report; its JSON is a rendering
+abbrev pub IsReportTextOf : Bool → WholeReport → List ℕ → Type 0
+IsReportTextOf false r text = text ≡ report_text r
+IsReportTextOf true r text = ⊤
 
--- the text of the races of a launch, or the same as JSON
-abbrev pub IsRacesTextOf : Bool → SidesSaid → Option ℕ → Bool → Streams → List ℕ → Type 0
-IsRacesTextOf false = IsRacesText
-IsRacesTextOf true = IsRacesJson
+-- a text of a report is written whole
+abbrev pub WritesReport : Bool → WholeReport → Option (List ℕ) → Option (List ℕ) → Type 0
+WritesReport json r old new = (text : List ℕ) × IsReportTextOf json r text × Appends old new text
 
--- the text of a check of files of these names is written, or the same as JSON
-abbrev pub IsCheckedAs : Bool → List (List ℕ) → Option (List (List ℕ)) → Bool → Option (List ℕ) → Option (List ℕ) → Type 0
-IsCheckedAs false = IsChecked
-IsCheckedAs true = IsCheckedJson
-
--- and a prefix of it
-abbrev pub ChecksPrefixAs : Bool → List (List ℕ) → Option (List (List ℕ)) → Option (List ℕ) → Option (List ℕ) → Type 0
-ChecksPrefixAs false = ChecksPrefix
-ChecksPrefixAs true = ChecksJsonPrefix
-
--- the text of a report, or the same as JSON
-abbrev pub text_of : Bool → WholeReport → List ℕ
-text_of false = report_text
-text_of true = report_json
+-- or a prefix of it
+abbrev pub WritesReportPrefix : Bool → WholeReport → Option (List ℕ) → Option (List ℕ) → Type 0
+WritesReportPrefix json r old new = (text : List ℕ) × IsReportTextOf json r text × AppendsPrefix old new text
 
 -- the names of the side files
 abbrev pub sides_of : Option (List ℕ) → Option (List ℕ) → Pair (List ℕ)
@@ -143,16 +128,16 @@ module _ {T X : Type 0} (remaining : T → Option (List ℕ)) (Gives : List ℕ 
   -- a prefix of its text, or of its JSON, was written
   abbrev pub WritesPrefixOfFiles : Bool → Option (List ℕ) → Option (List ℕ) → Type 0
   WritesPrefixOfFiles json old new =
-      HoldsOfFiles remaining Gives names (λ known. IfSome known (λ inputs. (r : WholeReport) × IsExactOfEach inputs r × AppendsPrefix old new (text_of json r)))
+      HoldsOfFiles remaining Gives names (λ known. IfSome known (λ inputs. (r : WholeReport) × IsExactOfEach inputs r × WritesReportPrefix json r old new))
 
 module _ {T X : Type 0} (remaining : T → Option (List ℕ)) (Gives : List ℕ → Result T X → Type 0) (old new : Option (List ℕ)) where
-  -- the text of the check is written whole, and it is said whether the files are accepted
+  -- a rendering of what comes of the check is written whole, and it is said whether the files are accepted
   abbrev pub IsCheckedOfFiles : AskedCheck → Bool → Type 0
-  IsCheckedOfFiles a accepted = HoldsOfFiles remaining Gives a.files (λ known. IsCheckedAs a.json a.files known accepted old new)
+  IsCheckedOfFiles a accepted = HoldsOfFiles remaining Gives a.files (λ known. (c : CheckedSaid) × IsCheckedAsKnown a.files known c × (accepted ≡ is_accepted c) × (text : List ℕ) × Appends old new text)
 
-  -- a prefix of the text was written
+  -- a prefix of the rendering was written
   abbrev pub ChecksPrefixOfFiles : AskedCheck → Type 0
-  ChecksPrefixOfFiles a = HoldsOfFiles remaining Gives a.files (λ known. ChecksPrefixAs a.json a.files known old new)
+  ChecksPrefixOfFiles a = HoldsOfFiles remaining Gives a.files (λ known. (c : CheckedSaid) × IsCheckedAsKnown a.files known c × (text : List ℕ) × AppendsPrefix old new text)
 
   module _ (old_errors new_errors : Option (List ℕ)) (status : ℕ) where
     -- a text that answers a question, with side files of these names and streams in files of these names, is written whole, and the
@@ -166,11 +151,11 @@ module _ {T X : Type 0} (remaining : T → Option (List ℕ)) (Gives : List ℕ 
 
     -- what is told of the word, and whether it is racy; or why nothing is
     abbrev pub IsExplainOutcome : AskedWord → Type 0
-    IsExplainOutcome a = IsAnswered (sides_asked a.form) a.files (λ said. IsWordTextOf a.form a.json said a.word) (IsRacyIn a.word)
+    IsExplainOutcome a = IsAnswered (sides_asked a.form) a.files (IsWordTextOf a.form a.json a.word) (IsRacyIn a.word)
 
     -- the text of the races, and whether there is one; or why there is none
     abbrev pub IsRacesOutcome : AskedRaces → Type 0
-    IsRacesOutcome a = IsAnswered (sides_of a.places a.buffers) a.files (λ said. IsRacesTextOf a.json said a.most a.causes) HasRace
+    IsRacesOutcome a = IsAnswered (sides_of a.places a.buffers) a.files (λ said s. Renders (AreRaces said a.causes s)) HasRace
 
     -- the text of a check, and whether the files are accepted; or why there is none
     abbrev pub IsCheckOutcome : AskedCheck → Type 0
@@ -180,17 +165,17 @@ module _ {T X : Type 0} (remaining : T → Option (List ℕ)) (Gives : List ℕ 
 
     -- all accesses to a word, and whether it is racy; or why there are none
     abbrev pub IsHistoryOutcome : AskedHistory → Type 0
-    IsHistoryOutcome a = IsAnswered (sides_of a.places a.buffers) a.files (λ said. IsHistoryText said a.word) (IsRacyIn a.word)
+    IsHistoryOutcome a = IsAnswered (sides_of a.places a.buffers) a.files (λ said s. Renders (IsToldOf s a.word)) (IsRacyIn a.word)
 
     -- why an event is held, and whether it is; or why nothing is told
     abbrev pub IsWhyHeldOutcome : AskedEvent → Type 0
-    IsWhyHeldOutcome a = IsAnswered (sides_of None None) a.files (λ said. IsWhyText a.event) (IsHeldIn a.event)
+    IsWhyHeldOutcome a = IsAnswered (sides_of None None) a.files (λ said s. Renders (IsWhy s a.event)) (IsHeldIn a.event)
 
     -- the report of a run in threads, and its whole text or JSON; or why there is none
     abbrev pub IsRunAnswer : AskedRun → Type 0
     IsRunAnswer a =
         IsOutcome fault_line fault_status Write old new old_errors new_errors status
-        (λ r. IsReportOfFiles remaining Gives a.files r × Appends old new (text_of a.json r)) IsReportStatus
+        (λ r. IsReportOfFiles remaining Gives a.files r × WritesReport a.json r old new) IsReportStatus
         (IsFaultOfFiles remaining Gives a.files) (WritesPrefixOfFiles remaining Gives a.files a.json old new)
 
 -- ---- whatever words ask for

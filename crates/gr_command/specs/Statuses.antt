@@ -6,8 +6,8 @@ use Rattle.gr_record.specs.declared.error.RecordError.TheVariants.{Memory as NoM
 use Rattle.gr_record.specs.declared.fault.Fault.{Fault}
 use Rattle.gr_record.specs.declared.fault.Fault.TheVariants.{Stream, SameGroup, OtherLaunch, MissingGroup, Shape, BadLine, NoEnd, LongStream, Read, Write, Memory, Threads}
 use Rattle.gr_report.specs.Whole.{HasFinding}
-use Rattle.gr_sides.specs.declared.fault.SidesFault.{SidesFault}
-use Rattle.gr_sides.specs.declared.fault.SidesFault.TheVariants.{Buffers, Places, Run}
+use Rattle.gr_places.specs.declared.sides_fault.SidesFault.{SidesFault}
+use Rattle.gr_places.specs.declared.sides_fault.SidesFault.TheVariants.{Buffers, Places, Run}
 use Rattle.gr_command.specs.declared.status.TheConstants.{NOTHING, FOUND, REFUSED, WANTING, FAILED}
 
 -- a fault of the input is a refusal

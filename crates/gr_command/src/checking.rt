@@ -10,16 +10,33 @@ ghost use Rattle.gr_command.specs.Answers.{ChecksPrefixOfFiles, IsCheckedOfFiles
 
 use gr_arguments::request::CheckArguments;
 use gr_check::check_files;
-use gr_check_json::check_files_json;
+use gr_check::checking::Checked;
+use gr_json::check::check_json;
+use gr_model::memory::Memory;
 use gr_record::fault::Fault;
+use gr_show::check_text::check_text;
+use gr_show::writing::write_text;
 use std::alloc::Global;
 use std::io::{self, Read, Write};
+
+/// What comes of a check, as text or as JSON.
+///
+/// # Errors
+/// `Memory`: out of memory.
+fn text_of(alloc: Global, checked: &Checked<'_>, json: bool) -> Result<Vec<u8>, Memory> {
+    if json {
+        check_json(alloc, checked)
+    } else {
+        check_text(alloc, checked)
+    }
+}
 
 /// Checks files: writes what comes of it, as text or as JSON, and nothing else, and tells whether
 /// they are those of a launch.
 ///
 /// # Errors
-/// Those of `check_files`.
+/// Those of `check_files`, and `Memory` where there is no memory for the text: nothing is then written. `Write` where the
+/// writer fails, which then has a prefix of the text.
 pub fn write_check<T: Read + Drop, O: Fn(&str) -> io::Result<T>, W: Write>(
     alloc: Global,
     arguments: &CheckArguments<'_>,
@@ -32,10 +49,12 @@ pub fn write_check<T: Read + Drop, O: Fn(&str) -> io::Result<T>, W: Write>(
     ensures untouched { IfErr result (λ f. f ≢ faults.Write → Keeps (W.contents writer.old) (W.contents writer.new)) }
     ensures prefix { IfErr result (λ f. f ≡ faults.Write → ChecksPrefixOfFiles T.remaining (FnReturnsAt O.Fn opener) (W.contents writer.old) (W.contents writer.new) (check_of arguments.now)) }
 {
-    let files = arguments.files.as_slice();
-    if arguments.json {
-        check_files_json(alloc, files, opener, writer)
-    } else {
-        check_files(alloc, files, opener, writer)
+    let checked = check_files(alloc, arguments.files.as_slice(), opener)?;
+    let Ok(text) = text_of(alloc, &checked, arguments.json) else {
+        return Err(Fault::Memory);
+    };
+    match write_text(writer, &text) {
+        Ok(()) => Ok(checked.is_accepted()),
+        Err(_) => Err(Fault::Write),
     }
 }

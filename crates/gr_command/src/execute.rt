@@ -7,11 +7,11 @@ ghost use Rattle.clap.specs.Words.{kind_of};
 ghost use Rattle.gr_report.specs.FaultText.{fault_line};
 ghost use Rattle.gr_report.specs.Putting.{AppendsPrefix};
 ghost use Rattle.gr_report.specs.Whole.{whole_of};
-ghost use Rattle.gr_sides.specs.Opening.{side_names};
-ghost use Rattle.gr_sides.specs.FaultText.{sides_fault_line};
+ghost use Rattle.gr_places.specs.Opening.{side_names};
+ghost use Rattle.gr_places.specs.FaultText.{sides_fault_line};
 ghost use Rattle.gr_arguments.specs.Asked.{Asked, AsksTo, asked_of, check_of, event_of, form_of, history_of, races_of, run_of, word_of};
 ghost use Rattle.gr_arguments.specs.Commands.{AreHelp, AreWrong, IsHelp, IsWrongUsage, faults};
-ghost use Rattle.gr_command.specs.Answers.{IsAnswerOf, IsAnswered, IsCheckOutcome, IsDone, IsExplainOutcome, IsFaultTold, IsHistoryOutcome, IsRacesOutcome, IsRunAnswer, IsWhyHeldOutcome, sides_asked};
+ghost use Rattle.gr_command.specs.Answers.{IsAnswerOf, IsAnswered, IsCheckOutcome, IsDone, IsExplainOutcome, IsFaultTold, IsHistoryOutcome, IsRacesOutcome, IsRunAnswer, IsWhyHeldOutcome, in_form, sides_asked};
 ghost use Rattle.gr_command.specs.Statuses.{check_status, fault_status, race_status, sides_fault_status, IsReportStatus};
 
 use crate::checking::write_check;
@@ -27,22 +27,20 @@ use gr_arguments::request::{
     Request, RunArguments, Task, WhyHeldArguments,
 };
 use gr_arguments::request_of;
-use gr_frame::question::Question;
-use gr_frame::tell_files;
-use gr_held::question::HeldEvent;
-use gr_json::question::{LeastRaceJson, LongRaceJson};
-use gr_long::question::LongRace;
-use gr_races::question::Races;
-use gr_races_json::question::RacesJson;
+use gr_places::files::SideNames;
+use gr_places::sides_fault::{SidesFault, write_sides_fault};
 use gr_record::fault::Fault;
 use gr_replay::replay;
 use gr_report::report::Report;
 use gr_report::write_fault;
-use gr_show::question::LeastRace;
-use gr_sides::fault::{SidesFault, write_sides_fault};
-use gr_sides::files::SideNames;
+use gr_show::history::WordHistory;
+use gr_show::least_race::LeastRace;
+use gr_show::long_race::LongRace;
+use gr_show::question::{InJson, JsonQuestion, Question};
+use gr_show::races::Races;
+use gr_show::tell_files;
+use gr_show::why_held::HeldEvent;
 use gr_text::{dump, dump_partial, pack, upgrade};
-use gr_timeline::question::WordHistory;
 use std::alloc::Global;
 use std::convert::AsStr;
 use std::io::{self, Read, Write};
@@ -207,6 +205,41 @@ where
     conclude_telling(outcome, errors)
 }
 
+/// Writes the answer to a question as text or as JSON, and gives the exit status.
+fn tell_in<Q, T, O, W, E>(
+    json: bool,
+    alloc: Global,
+    question: Q,
+    sides: &SideNames<'_>,
+    files: &[&str],
+    opener: O,
+    writer: &mut W,
+    errors: &mut E,
+) -> u8
+where
+    Q: JsonQuestion + Drop,
+    T: Read + Drop,
+    O: Fn(&str) -> io::Result<T>,
+    W: Write,
+    E: Write,
+    requires { O.IsAlwaysCallable opener }
+    ensures { IsAnswered T.remaining (FnReturnsAt O.Fn opener) (W.contents writer.old) (W.contents writer.new) (E.contents errors.old) (E.contents errors.new) result (side_names sides.now) (map (λ s. s.now) files.now) (in_form json (Q.is_json question) (Q.is_text question)) (Q.is_found question) }
+{
+    if json {
+        tell(
+            alloc,
+            &InJson(question),
+            sides,
+            files,
+            opener,
+            writer,
+            errors,
+        )
+    } else {
+        tell(alloc, &question, sides, files, opener, writer, errors)
+    }
+}
+
 /// The side files that a form of `explain` has.
 fn sides_of<'a>(form: Form<'a>) -> SideNames<'a>
     ensures { side_names result ≡ sides_asked (form_of form.entry) }
@@ -233,25 +266,15 @@ fn explain<T: Read + Drop, O: Fn(&str) -> io::Result<T>, W: Write, E: Write>(
 {
     let sides = sides_of(arguments.form);
     let files = arguments.files.as_slice();
-    let word = arguments.word;
+    let (word, json) = (arguments.word, arguments.json);
     match arguments.form {
         Form::Short => {
-            if arguments.json {
-                let question = LeastRaceJson { word };
-                tell(alloc, &question, &sides, files, opener, writer, errors)
-            } else {
-                let question = LeastRace { word };
-                tell(alloc, &question, &sides, files, opener, writer, errors)
-            }
+            let question = LeastRace { word };
+            tell_in(json, alloc, question, &sides, files, opener, writer, errors)
         }
         Form::Long { .. } => {
-            if arguments.json {
-                let question = LongRaceJson { word };
-                tell(alloc, &question, &sides, files, opener, writer, errors)
-            } else {
-                let question = LongRace { word };
-                tell(alloc, &question, &sides, files, opener, writer, errors)
-            }
+            let question = LongRace { word };
+            tell_in(json, alloc, question, &sides, files, opener, writer, errors)
         }
     }
 }
@@ -272,16 +295,12 @@ fn races<T: Read + Drop, O: Fn(&str) -> io::Result<T>, W: Write, E: Write>(
         buffers: arguments.buffers,
     };
     let files = arguments.files.as_slice();
-    let races = Races {
+    let question = Races {
         most: arguments.most,
         causes: arguments.causes,
     };
-    if arguments.json {
-        let question = RacesJson { races };
-        tell(alloc, &question, &sides, files, opener, writer, errors)
-    } else {
-        tell(alloc, &races, &sides, files, opener, writer, errors)
-    }
+    let json = arguments.json;
+    tell_in(json, alloc, question, &sides, files, opener, writer, errors)
 }
 
 /// Tells why an event of the launch whose streams are in files is held, and gives the exit status.

@@ -2,16 +2,17 @@
 
 ghost use Rattle.std.specs.Prelude.{◌≡◌, ◌≢◌, IfErr, IfOk, map};
 ghost use Rattle.std.specs.Fn.{FnReturnsAt};
-ghost use Rattle.std.specs.Io.KnownBytes.{Appends, Keeps};
+ghost use Rattle.std.specs.Io.KnownBytes.{Keeps};
 ghost use Rattle.gr_record.specs.declared.fault.Fault.TheVariants as faults;
 ghost use Rattle.gr_report.specs.Whole.{whole_of};
-ghost use Rattle.gr_command.specs.Answers.{IsFaultOfFiles, IsReportOfFiles, WritesPrefixOfFiles, text_of};
+ghost use Rattle.gr_command.specs.Answers.{IsFaultOfFiles, IsReportOfFiles, WritesPrefixOfFiles, WritesReport};
 
 use gr_arguments::request::RunArguments;
-use gr_json::write_report_json;
+use gr_json::report::report_json;
+use gr_places::opening::open_all;
 use gr_record::fault::Fault;
 use gr_report::report::Report;
-use gr_sides::opening::open_all;
+use gr_show::writing::write_text;
 use gr_streams::{NoWatch, detect_streams, run_streams};
 use std::alloc::Global;
 use std::io::{self, Read, Write};
@@ -38,7 +39,7 @@ where
     W: Write,
     requires { O.IsAlwaysCallable opener }
     ensures report { IfOk result (λ r. IsReportOfFiles T.remaining (FnReturnsAt O.Fn opener) (map (λ s. s.now) arguments.now.files.items) (whole_of r)) }
-    ensures text { IfOk result (λ r. Appends (W.contents writer.old) (W.contents writer.new) (text_of arguments.now.json (whole_of r))) }
+    ensures text { IfOk result (λ r. WritesReport arguments.now.json (whole_of r) (W.contents writer.old) (W.contents writer.new)) }
     ensures fault { IfErr result (λ f. IsFaultOfFiles T.remaining (FnReturnsAt O.Fn opener) (map (λ s. s.now) arguments.now.files.items) f) }
     ensures untouched { IfErr result (λ f. f ≢ faults.Write → Keeps (W.contents writer.old) (W.contents writer.new)) }
     ensures prefix { IfErr result (λ f. f ≡ faults.Write → WritesPrefixOfFiles T.remaining (FnReturnsAt O.Fn opener) (map (λ s. s.now) arguments.now.files.items) arguments.now.json (W.contents writer.old) (W.contents writer.new)) }
@@ -51,8 +52,11 @@ where
         return run_streams(rt, alloc, files, arguments.config, watch, writer);
     }
     let report = detect_streams(rt, alloc, files, arguments.config, watch)?;
-    match write_report_json(alloc, &report, writer) {
+    let Ok(text) = report_json(alloc, &report) else {
+        return Err(Fault::Memory);
+    };
+    match write_text(writer, &text) {
         Ok(()) => Ok(report),
-        Err(fault) => Err(fault),
+        Err(_) => Err(Fault::Write),
     }
 }

@@ -4,11 +4,11 @@ ghost use Rattle.std.specs.Prelude.{◌≡◌};
 ghost use Rattle.gr_report.specs.Whole.{whole_of};
 ghost use Rattle.gr_command.specs.Statuses.{check_status, fault_status, race_status, sides_fault_status, IsReportStatus};
 
+use gr_places::sides_fault::SidesFault;
 use gr_record::error::RecordError;
 use gr_record::fault::Fault;
 use gr_report::found;
 use gr_report::report::Report;
-use gr_sides::fault::SidesFault;
 use std::alloc::Allocator;
 
 /// Nothing was found, or help was asked for.

@@ -2,18 +2,20 @@
 
 use crate::launches::Files;
 use gr_check::check_files;
-use gr_check_json::check_files_json;
-use gr_frame::question::Question;
-use gr_frame::tell_files;
-use gr_held::question::HeldEvent;
-use gr_long::question::LongRace;
 use gr_model::event::{EventId, ItemId, Word};
-use gr_races::question::Races;
-use gr_show::question::LeastRace;
-use gr_sides::fault::SidesFault;
-use gr_timeline::question::WordHistory;
+use gr_places::sides_fault::SidesFault;
+use gr_record::fault::Fault;
+use gr_show::check_text::check_text;
+use gr_show::history::WordHistory;
+use gr_show::least_race::LeastRace;
+use gr_show::long_race::LongRace;
+use gr_show::question::Question;
+use gr_show::races::Races;
+use gr_show::tell_files;
+use gr_show::why_held::HeldEvent;
+use gr_show::writing::write_text;
 use refusing::failing::FailingWriter;
-use std::alloc::{Allocator, Global};
+use std::alloc::Allocator;
 
 /// What is asked of a launch.
 #[derive(Clone, Copy, Debug)]
@@ -69,6 +71,22 @@ fn told<A: Allocator + Copy, Q: Question<A>>(
     tell_files(alloc, question, &files.sides, files.names(), opener, writer)
 }
 
+/// Checks, and answers as text.
+fn checked<A: Allocator + Copy>(
+    alloc: A,
+    files: Files<'_>,
+    writer: &mut FailingWriter,
+) -> Result<bool, Fault> {
+    let checked = check_files(alloc, files.names(), |name: &str| files.open(name))?;
+    let Ok(text) = check_text(alloc, &checked) else {
+        return Err(Fault::Memory);
+    };
+    match write_text(writer, &text) {
+        Ok(()) => Ok(checked.is_accepted()),
+        Err(_) => Err(Fault::Write),
+    }
+}
+
 /// Answers as text.
 pub(crate) fn answered<A: Allocator + Copy>(
     alloc: A,
@@ -82,19 +100,6 @@ pub(crate) fn answered<A: Allocator + Copy>(
         Asked::Races(causes) => told(alloc, files, &all_races(causes), writer),
         Asked::WhyHeld(item, index) => told(alloc, files, &held_event(item, index), writer),
         Asked::History(word) => told(alloc, files, &WordHistory { word }, writer),
-        Asked::Check => {
-            let opener = |name: &str| files.open(name);
-            Ok(check_files(alloc, files.names(), opener, writer)?)
-        }
+        Asked::Check => Ok(checked(alloc, files, writer)?),
     }
-}
-
-/// Checks, and answers as JSON.
-pub(crate) fn checked_as_json(
-    alloc: Global,
-    files: Files<'_>,
-    writer: &mut FailingWriter,
-) -> Result<bool, SidesFault> {
-    let opener = |name: &str| files.open(name);
-    Ok(check_files_json(alloc, files.names(), opener, writer)?)
 }

@@ -1,13 +1,14 @@
 //! What no words of a command line and no files give.
 
 use gr_check::check_files;
-use gr_check_json::check_files_json;
 use gr_command::execute::execute;
 use gr_command::status::status_of;
+use gr_json::check::check_json;
 use gr_model::shape::ShapeError;
+use gr_places::sides_fault::{SidesFault, write_sides_fault};
 use gr_record::error::RecordError;
 use gr_record::fault::Fault;
-use gr_sides::fault::{SidesFault, write_sides_fault};
+use gr_show::check_text::check_text;
 use refusing::failing::FailingWriter;
 use std::alloc::Global;
 use std::io::{self, ErrorKind};
@@ -97,21 +98,18 @@ fn lines_of_faults_are_flushed(rt: HostRuntime) {
 const CHECKED: &str = "gpurace: shape: no groups\nwrong: there is no stream\n\
 right: there is one stream at least; often the program before failed\n";
 
-const CHECKED_JSON: &str = "{\"accepted\":false,\"place\":null,\
+const CHECKED_JSON: &str = "{\"gpurace\":1,\"accepted\":false,\"place\":null,\
 \"right\":\"there is one stream at least; often the program before failed\",\
 \"type\":\"check\",\"wrong\":\"there is no stream\"}\n";
 
 #[test]
 fn a_check_of_no_file_is_refused(rt: HostRuntime) -> Result<(), Fail> {
     let alloc = rt.alloc();
-    let mut text = Vec::new(alloc);
-    let answer = check_files(alloc, &[], open_none, &mut text);
-    assert_eq!(rt; (answer, str::from_utf8(&text)), (Ok(false), Ok(CHECKED)));
-    let mut json = Vec::new(alloc);
-    let answer = check_files_json(alloc, &[], open_none, &mut json);
-    assert_eq!(rt;
-        (answer, str::from_utf8(&json)),
-        (Ok(false), Ok(CHECKED_JSON))
-    );
+    let checked = check_files(alloc, &[], open_none)?;
+    assert!(rt; !checked.is_accepted());
+    let text = check_text(alloc, &checked)?;
+    assert_eq!(rt; str::from_utf8(&text), Ok(CHECKED));
+    let json = check_json(alloc, &checked)?;
+    assert_eq!(rt; str::from_utf8(&json), Ok(CHECKED_JSON));
     Ok(())
 }

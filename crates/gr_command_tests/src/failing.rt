@@ -1,43 +1,25 @@
 //! Readers and writers that fail, at each of their calls.
 
-use crate::answers::{Asked, answered, checked_as_json};
+use crate::answers::{Asked, answered};
 use crate::launches::{Files, NOTED, bytes_of, streams_of};
+use gr_places::sides_fault::SidesFault;
 use gr_record::fault::Fault;
-use gr_sides::fault::SidesFault;
 use refusing::failing::FailingWriter;
 use std::alloc::Global;
 use std::test::Fail;
 
-/// What is asked, and whether the answer is JSON: a question, for all that one frame answers, and checks.
-type Question = (Asked, bool);
-
-static QUESTIONS: [Question; 3] = [
-    (Asked::Races(true), false),
-    (Asked::Check, false),
-    (Asked::Check, true),
-];
-
-fn answer(
-    alloc: Global,
-    files: Files<'_>,
-    question: Question,
-    writer: &mut FailingWriter,
-) -> Result<bool, SidesFault> {
-    match question {
-        (_, true) => checked_as_json(alloc, files, writer),
-        (asked, false) => answered(alloc, files, asked, writer),
-    }
-}
+/// A question, for all that one frame answers, and a check.
+static QUESTIONS: [Asked; 2] = [Asked::Races(true), Asked::Check];
 
 /// Whether a file that fails is told, and nothing is written.
-fn fails_to_read(alloc: Global, files: Files<'_>, question: Question) -> bool {
+fn fails_to_read(alloc: Global, files: Files<'_>, question: Asked) -> bool {
     let mut writer = FailingWriter::with_room(alloc, usize::MAX);
-    let answered = answer(alloc, files, question, &mut writer);
+    let answered = answered(alloc, files, question, &mut writer);
     answered == Err(SidesFault::Run(Fault::Read)) && writer.taken.is_empty()
 }
 
 /// Whether a file that fails is told, behind however many calls.
-fn fails_at_each_read(alloc: Global, streams: &[Vec<u8>], name: &str, question: Question) -> bool {
+fn fails_at_each_read(alloc: Global, streams: &[Vec<u8>], name: &str, question: Asked) -> bool {
     let Some(bytes) = bytes_of(streams, name) else {
         return false;
     };
@@ -46,15 +28,15 @@ fn fails_at_each_read(alloc: Global, streams: &[Vec<u8>], name: &str, question: 
 }
 
 /// The files that are read for an answer.
-fn files_of(question: Question) -> &'static [&'static str] {
-    match question.0 {
+fn files_of(question: Asked) -> &'static [&'static str] {
+    match question {
         Asked::Check => &["0"],
         _ => &["places", "buffers", "0"],
     }
 }
 
 /// Whether each file that is read for an answer, and fails, is told.
-fn fails_in_each_file(alloc: Global, streams: &[Vec<u8>], question: Question) -> bool {
+fn fails_in_each_file(alloc: Global, streams: &[Vec<u8>], question: Asked) -> bool {
     files_of(question)
         .iter()
         .all(|name| fails_at_each_read(alloc, streams, name, question))
@@ -76,19 +58,19 @@ fn readers_that_fail_are_told(rt: HostRuntime) -> Result<(), Fail> {
 fn fails_to_write(
     alloc: Global,
     streams: &[Vec<u8>],
-    question: Question,
+    question: Asked,
     text: &[u8],
     room: usize,
 ) -> bool {
     let mut writer = FailingWriter::within(alloc, text, room);
-    let answered = answer(alloc, Files::with_sides(streams), question, &mut writer);
+    let answered = answered(alloc, Files::with_sides(streams), question, &mut writer);
     answered == Err(SidesFault::Run(Fault::Write)) && writer.has_front(text, room)
 }
 
 /// Whether a writer that fails is told, behind however many bytes.
-fn fails_at_each_write(alloc: Global, streams: &[Vec<u8>], question: Question) -> bool {
+fn fails_at_each_write(alloc: Global, streams: &[Vec<u8>], question: Asked) -> bool {
     let mut writer = FailingWriter::with_room(alloc, usize::MAX);
-    let answered = answer(alloc, Files::with_sides(streams), question, &mut writer);
+    let answered = answered(alloc, Files::with_sides(streams), question, &mut writer);
     let text = writer.taken;
     let fails = |room| fails_to_write(alloc, streams, question, &text, room);
     answered.is_ok() && !text.is_empty() && (0..text.len() + 1).all(fails)

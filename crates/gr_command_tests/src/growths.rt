@@ -3,8 +3,8 @@
 use crate::answers::{ALL, Asked, answered};
 use crate::launches::{Files, LAUNCHES, Launch, NOTED, streams_of};
 use gr_model::memory::Memory;
+use gr_places::sides_fault::SidesFault;
 use gr_record::fault::Fault;
-use gr_sides::fault::SidesFault;
 use refusing::failing::FailingWriter;
 use refusing::growths::refuse_each;
 use std::alloc::{Allocator, Global};

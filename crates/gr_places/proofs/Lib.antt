@@ -1,2 +1,4 @@
 pub mod IndexLemmas
 pub mod Reading
+pub mod OpeningLemmas
+pub mod FileLemmas

@@ -8,9 +8,9 @@ use Rattle.std.proofs.lemmas.Bool.{and_parts, eqb-true, false_from_ne_true, lt-l
 use Rattle.std.proofs.lemmas.List.Elements.{All-cons, All-contains, All-nil, Contains-append_left, Contains-append_right, Contains-push}
 use Rattle.std.proofs.lemmas.List.Folds.{list_any-append, list_any_at}
 use Rattle.std.proofs.lemmas.List.Quantifiers.{all_pairs_push}
-use Rattle.gr_causes.specs.declared.cause.Cause.{Cause}
-use Rattle.gr_causes.specs.declared.cause.Cause.TheVariants as why
-use Rattle.gr_causes.specs.contracts.cause.CausePartialEq.TheImpl as causes
+use Rattle.gr_races.specs.declared.cause.Cause.{Cause}
+use Rattle.gr_races.specs.declared.cause.Cause.TheVariants as why
+use Rattle.gr_races.specs.contracts.cause.CausePartialEq.TheImpl as causes
 use Rattle.gr_model.specs.Access.{event_word, word_if_access, word_in}
 use Rattle.gr_model.specs.declared.event.Event.{Event}
 use Rattle.gr_model.specs.declared.event.EventId.{EventId}

@@ -2,3 +2,8 @@ pub mod KindLemmas
 pub mod ListingLemmas
 pub mod RunLemmas
 pub mod TellingLemmas
+pub mod RelaxingLemmas
+pub mod PartingLemmas
+pub mod CauseLemmas
+pub mod BetweenLemmas
+pub mod AccountLemmas

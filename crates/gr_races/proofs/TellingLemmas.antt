@@ -1,7 +1,7 @@
 -- A race and the cause that is told of it.
 use Rattle.std.proofs.Common.{◌≡◌, ◌<◌, ℕ, zero, suc, List, [], ◌∷◌, Option, arith, ap, get_or, length, refl, slice_get}
 use Rattle.gr_model.specs.declared.race.Race.{Race}
-use Rattle.gr_causes.specs.declared.cause.Cause.{Cause}
+use Rattle.gr_races.specs.declared.cause.Cause.{Cause}
 use Rattle.gr_races.specs.Telling.{with_causes}
 
 pub count_told : (races : List Race) (causes : List Cause) → length (with_causes races causes) ≡ length races

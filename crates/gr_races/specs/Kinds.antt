@@ -2,7 +2,7 @@
 -- Source: docs/FORMATS.md, "Races". They are this project's own.
 use Rattle.std.specs.Prelude.{ℕ, Bool, ◌==◌, Option, None, Some, option_and_then, option_map, List}
 use Rattle.std.specs.List.{filter_map}
-use Rattle.gr_causes.specs.declared.cause.Cause.{Cause}
+use Rattle.gr_races.specs.declared.cause.Cause.{Cause}
 use Rattle.gr_model.specs.Access.{memory_of}
 use Rattle.gr_model.specs.declared.event.EventId.{EventId}
 use Rattle.gr_model.specs.declared.event.Kind.{Kind}

@@ -1,8 +1,12 @@
+pub mod Relaxing
+pub mod Parting
+pub mod Causes
+pub mod CauseLaws
+pub mod Between
+pub mod Accounts
 pub mod Kinds
 pub mod Runs
 pub mod Listing
-pub mod Notes
 pub mod Telling
-pub mod RacesText
 pub mod Shown
 pub mod Laws

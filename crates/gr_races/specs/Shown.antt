@@ -7,13 +7,10 @@ use Rattle.gr_model.specs.RacePairs.{ArePairedRaces}
 use Rattle.gr_model.specs.Races.{IsRacy}
 use Rattle.gr_model.specs.Streams.{Streams}
 use Rattle.gr_model.specs.Waits.{IsGrounded}
-use Rattle.gr_causes.specs.declared.cause.Cause.{Cause}
-use Rattle.gr_places.specs.SideLines.{place_number}
+use Rattle.gr_races.specs.declared.cause.Cause.{Cause}
 use Rattle.gr_places.specs.declared.places.Placed.{Placed}
 use Rattle.gr_races.specs.Kinds.{all_kinded}
 use Rattle.gr_races.specs.Listing.{Entry, entries}
-use Rattle.gr_races.specs.RacesText.{races_text}
-use Rattle.gr_sides.specs.Sides.{SidesSaid}
 use Rattle.gr_races.specs.Telling.{AreTold, with_causes}
 
 -- the racy words of a launch where places have these numbers, each with a racing pair, kind by kind, with causes where they
@@ -25,19 +22,6 @@ pub record AreListedRaces (s : Streams) (numbers : Placed → Option ℕ) (cause
   pub causes_told : AreTold s causes races told
   pub listed : by_kind ≡ entries (all_kinded s numbers (with_causes races told))
   pub counted : count ≡ length races
-
--- a text of the races of a launch, which their kinds, by what side files say and with causes where they are asked for, and
--- their number determine
-pub record IsTextOfRaces (sides : SidesSaid) (text_of : List Entry → ℕ → List ℕ) (causes : Bool) (s : Streams) (text : List ℕ) : Type 0 where
-  pub races : List Race
-  pub exact : ArePairedRaces s races
-  pub told : List Cause
-  pub causes_told : AreTold s causes races told
-  pub is : text ≡ text_of (entries (all_kinded s (place_number sides.places) (with_causes races told))) (length races)
-
--- the text of the races of a launch, of at most so many kinds, with what side files say, and with causes where they are asked for
-abbrev pub IsRacesText : SidesSaid → Option ℕ → Bool → Streams → List ℕ → Type 0
-IsRacesText sides most = IsTextOfRaces sides (races_text sides most)
 
 -- a word is racy
 abbrev pub HasRace : Streams → Type 0

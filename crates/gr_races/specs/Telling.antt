@@ -3,8 +3,8 @@
 use Rattle.std.specs.Prelude.{◌≡◌, Bool, true, false, List, [], ◌∷◌, Option, None, Some}
 use Rattle.gr_model.specs.declared.race.Race.{Race}
 use Rattle.gr_model.specs.Streams.{Streams}
-use Rattle.gr_causes.specs.Causes.{AreCauses}
-use Rattle.gr_causes.specs.declared.cause.Cause.{Cause}
+use Rattle.gr_races.specs.Causes.{AreCauses}
+use Rattle.gr_races.specs.declared.cause.Cause.{Cause}
 
 -- where causes are asked for, the cause of each race; else none
 abbrev pub AreTold : Streams → Bool → List Race → List Cause → Type 0

@@ -2,26 +2,51 @@
 
 ghost use Rattle.std.specs.Prelude.{◌≡◌, IfOk, map};
 ghost use Rattle.gr_model.specs.RacePairs.{ArePairedRaces};
+ghost use Rattle.gr_model.specs.Reports.{IsReportOf};
+ghost use Rattle.gr_report.specs.Whole.{whole_of};
 ghost use Rattle.gr_places.specs.PlaceIndexes.{number_at};
 ghost use Rattle.gr_places.specs.SideLines.{place_number};
 ghost use Rattle.gr_races.specs.Kinds.{all_kinded};
 ghost use Rattle.gr_races.specs.Listing.{entries, entry_of};
 ghost use Rattle.gr_races.specs.Shown.{AreListedRaces};
 ghost use Rattle.gr_races.specs.Telling.{with_causes};
-ghost use Rattle.gr_sides.specs.Sides.{sides_said};
+ghost use Rattle.gr_places.specs.Sides.{sides_said};
 
+use crate::cause::Cause;
 use crate::causes::causes_told;
 use crate::listing::{KindEntry, entries_of};
-use gr_causes::cause::Cause;
 use gr_explain::records::Records;
 use gr_explain::taking::take_all;
 use gr_model::memory::Memory;
 use gr_model::race::Race;
 use gr_model::traces::Traces;
 use gr_places::index::PlaceIndex;
-use gr_replay::detect::detect_races;
-use gr_sides::sides::Sides;
-use std::alloc::Allocator;
+use gr_places::sides::Sides;
+use gr_replay::detect::{Detection, detect_races};
+use gr_report::report::Report;
+use std::alloc::{Allocator, Global};
+
+/// What is found of a launch, its races kind by kind.
+#[derive(Drop)]
+#[derive_where(Debug)]
+pub struct RacesByKind<A: Allocator = Global> {
+    /// The kinds, each with its races.
+    pub kinds: Vec<KindEntry<A>, A>,
+    /// How many races there are, one of each racy word.
+    pub races: usize,
+    /// The report.
+    pub report: Report<A>,
+}
+
+impl<A: Allocator> RacesByKind<A> {
+    /// The first kinds, at most this many.
+    pub fn at_most(&self, most: Option<u32>) -> &[KindEntry<A>] {
+        match most {
+            None => &self.kinds,
+            Some(most) => &self.kinds[..self.kinds.len().min(most as usize)],
+        }
+    }
+}
 
 /// These races of a launch kind by kind, where this index has the places and these are the causes that are told of them.
 ///
@@ -40,7 +65,7 @@ fn list_told<A: Allocator + Copy>(
     entries_of(alloc, &records, index, races, told)
 }
 
-/// These races of a launch, one of each racy word, kind by kind, where this index has the places, and how many there are.
+/// What is found of a launch, its races kind by kind, where this index has the places.
 ///
 /// # Errors
 /// `Memory`: out of memory.
@@ -49,16 +74,22 @@ fn list_found<A: Allocator + Copy>(
     traces: &Traces<A>,
     index: &PlaceIndex<'_, A>,
     causes: bool,
-    races: &[Race],
-) -> Result<(Vec<KindEntry<A>, A>, usize), Memory>
-    requires { ArePairedRaces traces.now races.now }
-    ensures { IfOk result (λ found. AreListedRaces traces.now (number_at index.now) causes (map entry_of found.0.items) found.1) }
+    found: Detection<A>,
+) -> Result<RacesByKind<A>, Memory>
+    requires { ArePairedRaces traces.now found.races.items }
+    ensures listed { IfOk result (λ r. AreListedRaces traces.now (number_at index.now) causes (map entry_of r.kinds.items) r.races) }
+    ensures report { IfOk result (λ r. r.report ≡ found.report) }
 {
-    let told = causes_told(alloc, traces, causes, races)?;
-    Ok((list_told(alloc, traces, index, races, &told)?, races.len()))
+    let told = causes_told(alloc, traces, causes, &found.races)?;
+    let kinds = list_told(alloc, traces, index, &found.races, &told)?;
+    Ok(RacesByKind {
+        kinds,
+        races: found.races.len(),
+        report: found.report,
+    })
 }
 
-/// The races of a launch kind by kind, where this index has the places, and how many there are.
+/// What is found of a launch, its races kind by kind, where this index has the places.
 ///
 /// # Errors
 /// `Memory`: out of memory.
@@ -67,14 +98,15 @@ fn list_races<A: Allocator + Copy>(
     traces: &Traces<A>,
     index: &PlaceIndex<'_, A>,
     causes: bool,
-) -> Result<(Vec<KindEntry<A>, A>, usize), Memory>
-    ensures { IfOk result (λ found. AreListedRaces traces.now (number_at index.now) causes (map entry_of found.0.items) found.1) }
+) -> Result<RacesByKind<A>, Memory>
+    ensures listed { IfOk result (λ r. AreListedRaces traces.now (number_at index.now) causes (map entry_of r.kinds.items) r.races) }
+    ensures report { IfOk result (λ r. IsReportOf traces.now (whole_of r.report)) }
 {
     let found = detect_races(alloc, traces)?;
-    list_found(alloc, traces, index, causes, &found.races)
+    list_found(alloc, traces, index, causes, found)
 }
 
-/// The races of a launch kind by kind, and how many there are.
+/// What is found of a launch, its races kind by kind.
 ///
 /// # Errors
 /// `Memory`: out of memory.
@@ -83,8 +115,9 @@ pub fn races_by_kind<A: Allocator + Copy>(
     traces: &Traces<A>,
     sides: &Sides<'_>,
     causes: bool,
-) -> Result<(Vec<KindEntry<A>, A>, usize), Memory>
-    ensures { IfOk result (λ found. AreListedRaces traces.now (place_number (sides_said sides.now).places) causes (map entry_of found.0.items) found.1) }
+) -> Result<RacesByKind<A>, Memory>
+    ensures listed { IfOk result (λ r. AreListedRaces traces.now (place_number (sides_said sides.now).places) causes (map entry_of r.kinds.items) r.races) }
+    ensures report { IfOk result (λ r. IsReportOf traces.now (whole_of r.report)) }
 {
     let index = PlaceIndex::of(alloc, sides.places)?;
     list_races(alloc, traces, &index, causes)

@@ -1,10 +1,10 @@
 //! The causes of races.
 
 ghost use Rattle.std.specs.Prelude.{◌≡◌, All, IfOk};
-ghost use Rattle.gr_causes.specs.Causes.{IsPairOf};
+ghost use Rattle.gr_races.specs.Causes.{IsPairOf};
 ghost use Rattle.gr_races.specs.Telling.{AreTold};
 
-use gr_causes::cause::{Cause, causes_of};
+use crate::cause::{Cause, causes_of};
 use gr_model::memory::Memory;
 use gr_model::race::Race;
 use gr_model::traces::Traces;

@@ -4,7 +4,7 @@ ghost use Rattle.std.specs.Prelude.{◌≡◌};
 ghost use Rattle.gr_places.specs.PlaceIndexes.{number_at};
 ghost use Rattle.gr_races.specs.Kinds as spec;
 
-use gr_causes::cause::Cause;
+use crate::cause::Cause;
 use gr_clocks::clocks::memory_of;
 use gr_explain::records::Records;
 use gr_model::event::{EventId, Kind, Space};

@@ -1,6 +1,6 @@
 //! Laws of kinds and runs. Each is the contract of a function that does nothing.
 
-ghost use Rattle.gr_races.specs.Laws.{EachRaceIsListedOnce, EveryRaceHasAKind, NothingIsNoted, SameKindsAreOne};
+ghost use Rattle.gr_races.specs.Laws.{EachRaceIsListedOnce, EveryRaceHasAKind, SameKindsAreOne};
 
 /// Kinds are the same just where the memory, both accesses, whether these are of one work-group, the numbers of both places,
 /// and the cause are the same.
@@ -12,9 +12,4 @@ pub fn the_same_kinds_are_one()
 pub fn races_are_listed()
     ensures kinds { EveryRaceHasAKind }
     ensures once { EachRaceIsListedOnce }
-{}
-
-/// Without side files the text says of a race nothing but its words and its pair.
-pub fn nothing_is_noted()
-    ensures { NothingIsNoted }
 {}

@@ -1,15 +1,19 @@
-//! The races of a launch by their kinds: for each kind its words, and of the least of them two events that race on it and,
-//! where it is asked for, the cause of their race.
+//! The races of a launch as data: the races by their kinds, the cause of each, and of the least racing pair of a word what its accesses
+//! are and what stands between them.
 //!
-//! The text is docs/FORMATS.md, "Races".
+//! Semantics of causes: a rule is relaxed by other records, and the definition of a race is asked again. No happens-before of its
+//! own stands here.
 #![tactic(auto)]
 
+pub mod account;
+pub mod between;
 pub mod by_kind;
+pub mod cause;
+pub mod cause_laws;
 pub mod causes;
 pub mod kinds;
 pub mod laws;
 pub mod listing;
-mod notes;
-pub mod question;
+mod parting;
+pub mod relaxing;
 pub mod runs;
-pub mod text;

@@ -7,9 +7,9 @@ ghost use Rattle.gr_races.specs.Kinds.{all_kinded, same_kind};
 ghost use Rattle.gr_races.specs.Listing as spec;
 ghost use Rattle.gr_races.specs.Telling.{with_causes};
 
+use crate::cause::Cause;
 use crate::kinds::{KindedRace, RaceKind, kinded};
 use crate::runs::{Run, runs_of};
-use gr_causes::cause::Cause;
 use gr_explain::records::Records;
 use gr_model::memory::Memory;
 use gr_model::race::Race;

@@ -18,7 +18,7 @@ pub struct Run {
 }
 
 /// The number of a word in its memory.
-pub(crate) fn number_of(word: Word) -> u32
+pub fn number_of(word: Word) -> u32
     ensures { result ≡ spec.number_of word }
 {
     match word {

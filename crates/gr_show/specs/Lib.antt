@@ -1,2 +1,4 @@
+pub mod Told
+pub mod Rendering
 pub mod Explanations
 pub mod Shown

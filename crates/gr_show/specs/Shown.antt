@@ -1,12 +1,27 @@
--- What is shown of a word of a launch: the line of its least racing pair.
+-- What answers the questions about a launch, and the line of a word's least racing pair.
 -- Source: docs/FORMATS.md, "Explanation".
-use Rattle.std.specs.Prelude.{◌≡◌, ℕ, List, Option, MatchOption}
+use Rattle.std.specs.Prelude.{◌≡◌, ◌↔◌, ℕ, Bool, IsTrue, List, Option, MatchOption, map}
+use Rattle.gr_model.specs.declared.event.EventId.{EventId}
 use Rattle.gr_model.specs.declared.event.Word.{Word}
 use Rattle.gr_model.specs.Races.{IsRacy}
 use Rattle.gr_model.specs.Streams.{Streams}
 use Rattle.gr_model.specs.Waits.{IsGrounded}
 use Rattle.gr_explain.specs.LeastRaces.{IsLeastRace}
 use Rattle.gr_model.specs.RacePairs.{Pair}
+use Rattle.gr_model.specs.Reports.{IsReportOf, WholeReport}
+use Rattle.gr_report.specs.Whole.{whole_of}
+use Rattle.gr_places.specs.SideLines.{place_number}
+use Rattle.gr_places.specs.Sides.{SidesSaid}
+use Rattle.gr_accesses.specs.declared.details.Details.{Details}
+use Rattle.gr_accesses.specs.Accesses.{AreAccesses}
+use Rattle.gr_accesses.specs.Held.{IsHeldCount}
+use Rattle.gr_accesses.specs.Racy.{IsRacyIn}
+use Rattle.gr_held.specs.Waiting.{IsHeldEvent}
+use Rattle.gr_races.specs.declared.by_kind.RacesByKind.{RacesByKind}
+use Rattle.gr_races.specs.Listing.{Entry, entry_of}
+use Rattle.gr_races.specs.Shown.{AreListedRaces}
+use Rattle.gr_timeline.specs.declared.told.Told.{Told}
+use Rattle.gr_timeline.specs.Histories.{IsHistory, Line, lines_of}
 use Rattle.gr_show.specs.Explanations.{explanation_line}
 
 -- the least racing pair of the word, or none exactly where the word is not racy
@@ -19,6 +34,41 @@ pub record IsLine (w : Word) (s : Streams) (line : List ℕ) : Type 0 where
   pub least : IsExplanation s w pair
   pub is : line ≡ explanation_line w pair
 
--- the word is racy in a launch
-abbrev pub IsRacyIn : Word → Streams → Type 0
-IsRacyIn w s = IsRacy s (IsGrounded s) w
+-- the event is held in a launch
+abbrev pub IsHeldIn : EventId → Streams → Type 0
+IsHeldIn e s = IsHeldEvent s e
+
+-- ---- races by kinds
+
+-- the kinds of races, how many races there are, and the report
+pub record RacesSaid : Type 0 where
+  pub by_kind : List Entry
+  pub races : ℕ
+  pub report : WholeReport
+
+abbrev pub races_said : {Z : Type 0} → RacesByKind Z → RacesSaid
+races_said r = record { by_kind = map entry_of r.kinds.items; races = r.races; report = whole_of r.report }
+
+-- those of a launch, by what side files say, with causes where they are asked for, and its report
+pub record AreRaces (said : SidesSaid) (causes : Bool) (s : Streams) (r : RacesSaid) : Type 0 where
+  pub listed : AreListedRaces s (place_number said.places) causes r.by_kind r.races
+  pub report : IsReportOf s r.report
+
+-- ---- the history of a word
+
+-- the accesses to a word, what is told of each, how many others are held, and whether the word is racy
+pub record HistorySaid : Type 0 where
+  pub known : List (EventId × Details)
+  pub lines : List Line
+  pub held : ℕ
+  pub racy : Bool
+
+abbrev pub history_said : {Z : Type 0} → Told Z → HistorySaid
+history_said t = record { known = t.known.entries; lines = lines_of t.entries.items; held = t.held; racy = t.racy }
+
+-- those of a word of a launch
+pub record IsToldOf (s : Streams) (w : Word) (h : HistorySaid) : Type 0 where
+  pub known : AreAccesses s w h.known
+  pub history : IsHistory s w h.lines
+  pub held : IsHeldCount s w h.held
+  pub racy : IsTrue h.racy ↔ IsRacyIn w s

@@ -1,10 +1,29 @@
-//! What is shown of one word of a launch: its least racing pair, as a line.
+//! From the files of a launch to the text that answers a question about it: one frame for every question, the questions, and their
+//! texts.
 //!
-//! The lines are docs/FORMATS.md, "Explanation".
+//! That an answer is right is a contract; its text is a rendering, of which nothing is claimed but for the line of `explain`. The
+//! texts are docs/FORMATS.md, "Explanation" and what follows there.
 #![tactic(auto)]
 
+mod account_text;
+pub mod check_text;
+mod event_text;
 pub mod explanation;
+pub mod files;
+pub mod history;
+mod history_text;
+pub mod least_race;
+pub mod long_race;
 pub mod question;
+pub mod races;
+mod races_text;
 mod show;
+mod sides_text;
+mod streams;
+pub mod why_held;
+mod why_text;
+pub mod writing;
 
+pub use files::tell_files;
 pub use show::show_race;
+pub use streams::tell_streams;

@@ -1,59 +1,111 @@
-//! The question for the least racing pair of a word.
+//! What a question about a launch is.
 
-ghost use Rattle.std.specs.Prelude.{◌≡◌, IfOk};
-ghost use Rattle.gr_show.specs.Explanations.{explanation_line};
-ghost use Rattle.gr_show.specs.Shown.{IsLine, IsRacyIn};
+ghost use Rattle.std.specs.Prelude.{◌↔◌, ℕ, IfOk, IsTrue, List};
+ghost use Rattle.gr_model.specs.Streams.{Streams};
+ghost use Rattle.gr_places.specs.Sides.{SidesSaid, sides_said};
 
-use crate::explanation::put_explanation;
-use gr_explain::explain::explain;
-use gr_frame::question::{Answer, Question};
-use gr_model::event::{EventId, Word};
 use gr_model::memory::Memory;
 use gr_model::traces::Traces;
-use gr_sides::sides::Sides;
-use std::alloc::Allocator;
+use gr_places::sides::Sides;
+use std::alloc::{Allocator, Global};
 
-/// The word whose least racing pair is asked for.
-#[derive(Clone, Copy, Debug)]
-pub struct LeastRace {
-    /// The word.
-    pub word: Word,
+/// What is told of a launch: a text, and whether what is looked for is found.
+#[derive(Drop)]
+pub(crate) struct Told<A: Allocator> {
+    /// The text, whole.
+    pub(crate) text: Vec<u8, A>,
+    /// Whether it is found.
+    pub(crate) found: bool,
 }
 
-/// The line of a word and its least racing pair, or of a word that has none.
-///
-/// # Errors
-/// `Memory`: out of memory.
-fn line_of<A: Allocator + Copy>(
-    alloc: A,
-    word: Word,
-    pair: Option<(EventId, EventId)>,
-) -> Result<Vec<u8, A>, Memory>
-    ensures { IfOk result (λ text. text.items ≡ explanation_line word pair) }
-{
-    let mut text = Vec::new(alloc);
-    match put_explanation(&mut text, word, pair) {
-        Ok(()) => Ok(text),
-        Err(_) => Err(Memory),
-    }
-}
+/// A question about a launch. Its answer is a value, of which a text is made.
+pub trait Question<A: Allocator> {
+    /// What answers it.
+    type Answer: Drop;
 
-impl<A: Allocator + Copy> Question<A> for LeastRace {
-    ghost is_text = { λ q said. IsLine q.word };
+    // by what side files say, this answers it of a launch
+    ghost is_answer: { Self → SidesSaid → Streams → Self.Answer → Type 0 };
 
-    ghost is_found = { λ q. IsRacyIn q.word };
+    // what it looks for is found in a launch
+    ghost is_found: { Self → Streams → Type 0 };
 
+    // by what side files say, this is a text of an answer of a launch
+    ghost is_text: { Self → SidesSaid → Streams → List ℕ → Type 0 };
+
+    /// The answer of a launch, with what side files say.
+    ///
+    /// # Errors
+    /// `Memory`: out of memory.
     fn answer(
         &self,
         alloc: A,
         launch: &Traces<A>,
-        _sides: &Sides<'_>,
-    ) -> Result<Answer<A>, Memory> {
-        let pair = explain(alloc, launch, self.word)?;
-        let text = line_of(alloc, self.word, pair)?;
-        Ok(Answer {
-            text,
-            found: pair.is_some(),
-        })
+        sides: &Sides<'_>,
+    ) -> Result<Self::Answer, Memory>
+        ensures { IfOk result (λ answer. is_answer self.now (sides_said sides.now) launch.now answer) };
+
+    /// Whether an answer is that what it looks for is found.
+    fn found(&self, answer: &Self::Answer) -> bool
+        ensures { (said : SidesSaid) (launch : Streams) → is_answer self.now said launch answer.now → IsTrue result ↔ is_found self.now launch };
+
+    /// A text of an answer, with what side files say.
+    ///
+    /// # Errors
+    /// `Memory`: out of memory.
+    fn text(&self, alloc: A, answer: &Self::Answer, sides: &Sides<'_>) -> Result<Vec<u8, A>, Memory>
+        ensures { IfOk result (λ text. (launch : Streams) → is_answer self.now (sides_said sides.now) launch answer.now → is_text self.now (sides_said sides.now) launch text.items) };
+}
+
+/// A question whose answers are told as JSON, too.
+pub trait JsonQuestion: Question<Global> {
+    // by what side files say, this is JSON of an answer of a launch
+    ghost is_json: { Self → SidesSaid → Streams → List ℕ → Type 0 };
+
+    /// The JSON of an answer, with what side files say.
+    ///
+    /// # Errors
+    /// `Memory`: out of memory.
+    fn json(
+        &self,
+        alloc: Global,
+        answer: &Self::Answer,
+        sides: &Sides<'_>,
+    ) -> Result<Vec<u8>, Memory>
+        ensures { IfOk result (λ text. (launch : Streams) → Self.is_answer self.now (sides_said sides.now) launch answer.now → is_json self.now (sides_said sides.now) launch text.items) };
+}
+
+/// A question whose answer is told as JSON.
+#[derive(Clone, Copy, Debug, Drop)]
+pub struct InJson<Q>(pub Q);
+
+impl<Q: JsonQuestion> Question<Global> for InJson<Q> {
+    type Answer = Q::Answer;
+
+    ghost is_answer = { λ q. Q.is_answer q.0 };
+
+    ghost is_found = { λ q. Q.is_found q.0 };
+
+    ghost is_text = { λ q. Q.is_json q.0 };
+
+    fn answer(
+        &self,
+        alloc: Global,
+        launch: &Traces,
+        sides: &Sides<'_>,
+    ) -> Result<Q::Answer, Memory> {
+        self.0.answer(alloc, launch, sides)
+    }
+
+    fn found(&self, answer: &Q::Answer) -> bool {
+        self.0.found(answer)
+    }
+
+    fn text(
+        &self,
+        alloc: Global,
+        answer: &Q::Answer,
+        sides: &Sides<'_>,
+    ) -> Result<Vec<u8>, Memory> {
+        self.0.json(alloc, answer, sides)
     }
 }

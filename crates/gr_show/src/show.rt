@@ -4,15 +4,16 @@ ghost use Rattle.std.specs.Prelude.{◌≡◌, ◌≢◌, IfErr, IfOk, IfSome, m
 ghost use Rattle.std.specs.Io.KnownBytes.{Keeps};
 ghost use Rattle.gr_record.specs.declared.fault.Fault.TheVariants as faults;
 ghost use Rattle.gr_replay.specs.Each.{all_known};
-ghost use Rattle.gr_sides.specs.Files.{IsShowFault};
-ghost use Rattle.gr_frame.specs.Told.{IsShown, ShowsPrefix};
-ghost use Rattle.gr_show.specs.Shown.{IsLine, IsRacyIn};
+ghost use Rattle.gr_places.specs.Files.{IsShowFault};
+ghost use Rattle.gr_show.specs.Told.{IsShown, ShowsPrefix};
+ghost use Rattle.gr_accesses.specs.Racy.{IsRacyIn};
+ghost use Rattle.gr_show.specs.Shown.{IsLine};
 
-use crate::question::LeastRace;
-use gr_frame::tell_streams;
+use crate::least_race::LeastRace;
+use crate::tell_streams;
 use gr_model::event::Word;
+use gr_places::sides::Sides;
 use gr_record::fault::Fault;
-use gr_sides::sides::Sides;
 use std::alloc::Allocator;
 use std::io::{Read, Write};
 

@@ -1,5 +1,4 @@
 pub mod SelectionLemmas
 pub mod EntryLemmas
 pub mod HistoryLemmas
-pub mod TextLemmas
 pub mod ShownLemmas

@@ -1,4 +1,2 @@
 pub mod Selections
 pub mod Histories
-pub mod HistoryText
-pub mod Shown

@@ -1,12 +1,8 @@
 //! The history of one word of a launch: each access to it that is not held, in an order in which they can be
 //! handled, each with those above it that happen before it; and how many accesses to it are held.
-//!
-//! The text is docs/FORMATS.md, "The text of history".
 #![tactic(auto)]
 
 pub mod entry;
 mod handling;
 pub mod history;
-pub mod question;
-mod text;
-mod told;
+pub mod told;

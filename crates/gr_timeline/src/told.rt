@@ -3,7 +3,7 @@
 ghost use Rattle.std.specs.Prelude.{◌↔◌, Contains, IfOk, IsTrue};
 ghost use Rattle.gr_accesses.specs.Accesses.{AreAccesses};
 ghost use Rattle.gr_accesses.specs.Held.{IsHeldCount};
-ghost use Rattle.gr_show.specs.Shown.{IsRacyIn};
+ghost use Rattle.gr_accesses.specs.Racy.{IsRacyIn};
 ghost use Rattle.gr_timeline.specs.Histories.{IsHistory, lines_of};
 
 use crate::entry::Entry;
@@ -17,15 +17,15 @@ use std::alloc::{Allocator, Global};
 
 /// What is told of a word.
 #[derive(Drop)]
-pub(crate) struct Told<A: Allocator = Global> {
+pub struct Told<A: Allocator = Global> {
     /// All accesses to it, with what is told of each.
-    pub(crate) known: Accesses<A>,
+    pub known: Accesses<A>,
     /// Its history.
-    pub(crate) entries: Vec<Entry<A>, A>,
+    pub entries: Vec<Entry<A>, A>,
     /// How many accesses to it are held.
-    pub(crate) held: usize,
+    pub held: usize,
     /// Whether it is racy.
-    pub(crate) racy: bool,
+    pub racy: bool,
 }
 
 /// Whether a word is one of these.
@@ -50,7 +50,7 @@ fn is_racy<A: Allocator + Copy>(alloc: A, traces: &Traces<A>, word: Word) -> Res
 ///
 /// # Errors
 /// `Memory`: out of memory.
-pub(crate) fn told_of<A: Allocator + Copy>(
+pub fn told_of<A: Allocator + Copy>(
     alloc: A,
     traces: &Traces<A>,
     word: Word,

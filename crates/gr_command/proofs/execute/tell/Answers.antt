@@ -1,6 +1,6 @@
-use Rattle.gr_sides.specs.declared.fault.SidesFault.TheVariants.{Run}
+use Rattle.gr_places.specs.declared.sides_fault.SidesFault.TheVariants.{Run}
 use Rattle.gr_record.specs.declared.fault.Fault.TheVariants.{Write}
-use Rattle.gr_sides.specs.FaultText.{sides_fault_line}
+use Rattle.gr_places.specs.FaultText.{sides_fault_line}
 use Rattle.gr_command.specs.Statuses.{sides_fault_status}
 use Rattle.gr_command.proofs.AnswerLemmas.{outcome_of}
 use Rattle.gr_command.proofs.execute.tell.Goals as goal

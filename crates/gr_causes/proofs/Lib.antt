@@ -1,3 +1,0 @@
-pub mod RelaxingLemmas
-pub mod PartingLemmas
-pub mod CauseLemmas

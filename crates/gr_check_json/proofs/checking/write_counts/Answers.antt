@@ -1,5 +1,0 @@
-use Rattle.std.proofs.Common.{◌∙◌}
-use Rattle.gr_check_json.proofs.checking.write_counts.Goals as goal
-
-pub returns-clause-prefix : goal.returns-clause-prefix
-returns-clause-prefix g c = λ _. rw (c.deref.ensures.value ∙ c.in_ok-text.ensures) at c.in-Err.ensures.prefix

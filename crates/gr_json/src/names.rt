@@ -1,0 +1,107 @@
+//! The words that texts and JSON have for what answers are made of.
+
+use gr_model::event::{Kind, Order, Scope, Space, Word};
+use gr_races::cause::Cause;
+use gr_races::kinds::Operation;
+
+/// The name of a memory.
+pub fn space_name(space: Space) -> &'static str {
+    match space {
+        Space::Global => "global",
+        Space::Local => "local",
+    }
+}
+
+/// The name of what an access does.
+pub fn operation_name(operation: Operation) -> &'static str {
+    match operation {
+        Operation::Read => "read",
+        Operation::Write => "write",
+        Operation::Load => "load",
+        Operation::Store => "store",
+        Operation::Rmw => "rmw",
+    }
+}
+
+/// The name of what a record says, without its scope and its order.
+pub fn kind_name(kind: Kind) -> &'static str {
+    match kind {
+        Kind::Read => "read",
+        Kind::Write => "write",
+        Kind::Load(_, _) => "load",
+        Kind::Store(_, _) => "store",
+        Kind::Rmw(_, _) => "rmw",
+        Kind::Barrier {
+            global: _,
+            local: _,
+        } => "barrier",
+        Kind::End { cut: _ } => "end",
+    }
+}
+
+/// The scope and the order of an atomic access, or `None` where a record is none.
+pub fn atomic_of(kind: Kind) -> Option<(Scope, Order)> {
+    match kind {
+        Kind::Load(scope, order) | Kind::Store(scope, order) | Kind::Rmw(scope, order) => {
+            Some((scope, order))
+        }
+        Kind::Read
+        | Kind::Write
+        | Kind::Barrier {
+            global: _,
+            local: _,
+        }
+        | Kind::End { cut: _ } => None,
+    }
+}
+
+/// The name of a scope.
+pub fn scope_name(scope: Scope) -> &'static str {
+    match scope {
+        Scope::Group => "grp",
+        Scope::Device => "dev",
+    }
+}
+
+/// The name of an order.
+pub fn order_name(order: Order) -> &'static str {
+    match order {
+        Order::Relaxed => "rlx",
+        Order::Acquire => "acq",
+        Order::Release => "rel",
+        Order::Both => "both",
+    }
+}
+
+/// The name of a cause.
+pub fn cause_name(cause: Cause) -> &'static str {
+    match cause {
+        Cause::Flags => "flags",
+        Cause::Scope => "scope",
+        Cause::Divergence => "divergent",
+        Cause::NoBarrier => "no-barrier",
+        Cause::NoHandOver => "no-hand-over",
+    }
+}
+
+/// What would order the two accesses of a race on a word, of this cause.
+pub fn cause_sentence(word: Word, cause: Cause) -> &'static str {
+    match (cause, word) {
+        (Cause::Flags, _) => {
+            "with CLK_LOCAL_MEM_FENCE | CLK_GLOBAL_MEM_FENCE at every barrier the two would be ordered"
+        }
+        (Cause::Scope, _) => "with memory_scope_device at every atomic the two would be no race",
+        (Cause::Divergence, _) => {
+            "between the two stands a barrier that not all work-items of the group meet alike"
+        }
+        (Cause::NoBarrier, Word::Global(_)) => {
+            "nothing orders the two; a barrier with CLK_GLOBAL_MEM_FENCE between them would"
+        }
+        (Cause::NoBarrier, Word::Local(_, _)) => {
+            "nothing orders the two; a barrier with CLK_LOCAL_MEM_FENCE between them would"
+        }
+        (Cause::NoHandOver, _) => {
+            "nothing orders the two; a release that an acquire takes, at memory_scope_device, would"
+        }
+    }
+}

@@ -1,3 +1,0 @@
-pub mod AccountLemmas
-pub mod BetweenLemmas
-pub mod DetailLemmas

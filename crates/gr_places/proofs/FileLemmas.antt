@@ -1,0 +1,78 @@
+-- What is told of files that are open, or why nothing is.
+use Rattle.std.proofs.Common.{◌≡◌, ◌⊎◌, ℕ, ◌<◌, Bool, true, false, List, [], ◌∷◌, ◌++◌, Option, None, Some, Result, Ok, Err, inl, inr, map, length, ◌∙◌, ap, subst, sym, arith, true≢false}
+use Rattle.std.specs.Option.{is_some}
+use Rattle.std.specs.Prelude.{IfSome, option_map}
+use Rattle.gr_input.proofs.Outside.{at_known}
+use Rattle.gr_input.specs.Faults.{IsOutside}
+use Rattle.gr_places.specs.SideLines.{BufferSaid, PlaceSaid, buffers_in, places_in}
+use Rattle.gr_record.specs.declared.fault.Fault.{Fault}
+use Rattle.gr_replay.specs.Each.{all_known}
+use Rattle.gr_places.specs.declared.sides_fault.SidesFault.{SidesFault}
+use Rattle.gr_places.specs.declared.sides_fault.SidesFault.TheVariants.{Buffers, Places, Run}
+use Rattle.gr_places.specs.Opening.{AreAllOpened, HoldsOfAllFiles, IsSidesFault, Pair, RefusesBuffers, RefusesPlaces, Say, known_of, listed}
+use Rattle.gr_places.specs.Sides.{SidesSaid}
+use Rattle.gr_places.specs.Files.{AreOpened, IsOpeningFault, IsShowFault}
+
+pub same_fault : (f h : Fault) → Run f ≡ Run h → f ≡ h
+same_fault f h is = cc
+
+module _ {T E : Type 0} (remaining : T → Option (List ℕ)) (Gives : List ℕ → Result T E → Type 0) (named : Pair (List ℕ)) (names : List (List ℕ)) (sides : Pair T) (files : List T) (opened : AreAllOpened Gives named names sides files) where
+  pub unread : (f : Fault) → IsOutside f → IsSidesFault remaining Gives named names (Run f)
+  unread f outside = inr (inl (record { sides = sides; files = files; opened = opened; outside = outside }))
+
+  pub places_refused : (bytes : List ℕ) → IfSome (known_of remaining sides.places) (λ known. bytes ≡ known) → (f : SidesFault) → RefusesPlaces bytes f → IsSidesFault remaining Gives named names f
+  places_refused bytes read (Run f) memory = inl (inl memory)
+  places_refused bytes read (Places line) h =
+      record { sides = sides; files = files; opened = opened; first = at_known (known_of remaining sides.places) bytes (λ known. places_in known ≡ Err line) read h }
+  places_refused bytes read (Buffers line) h = absurd h
+
+module _ {T E : Type 0} (remaining : T → Option (List ℕ)) (Gives : List ℕ → Result T E → Type 0) (named : Pair (List ℕ)) (names : List (List ℕ)) (sides : Pair T) (files : List T) (opened : AreAllOpened Gives named names sides files) (place_bytes : List ℕ) (places_read : IfSome (known_of remaining sides.places) (λ bytes. place_bytes ≡ bytes)) (places : List PlaceSaid) (places_said : places_in place_bytes ≡ Ok places) (buffer_bytes : List ℕ) (buffers_read : IfSome (known_of remaining sides.buffers) (λ bytes. buffer_bytes ≡ bytes)) where
+  pub buffers_refused : (f : SidesFault) → RefusesBuffers buffer_bytes f → IsSidesFault remaining Gives named names f
+  buffers_refused (Run f) memory = inl (inl memory)
+  buffers_refused (Places line) h = absurd h
+  buffers_refused (Buffers line) h =
+      record {
+        sides = sides;
+        files = files;
+        opened = opened;
+        places = at_known (known_of remaining sides.places) place_bytes (λ bytes. (said : List PlaceSaid) × (places_in bytes ≡ Ok said)) places_read (places, places_said);
+        first = at_known (known_of remaining sides.buffers) buffer_bytes (λ bytes. buffers_in bytes ≡ Err line) buffers_read h;
+      }
+
+  module _ (buffers : List BufferSaid) (buffers_said : buffers_in buffer_bytes ≡ Ok buffers) where
+    abbrev all_said : SidesSaid
+    all_said = record { places = places; buffers = buffers }
+
+    say : Say remaining sides all_said
+    say = record {
+      places = at_known (known_of remaining sides.places) place_bytes (λ bytes. places_in bytes ≡ Ok places) places_read places_said;
+      buffers = at_known (known_of remaining sides.buffers) buffer_bytes (λ bytes. buffers_in bytes ≡ Ok buffers) buffers_read buffers_said;
+    }
+
+    pub streams_refused : (f : Fault) → IfSome (all_known (map remaining files)) (λ inputs. IsShowFault inputs f) → IsSidesFault remaining Gives named names (Run f)
+    streams_refused f fault = inr (inr (record { sides = sides; files = files; opened = opened; said = all_said; say = say; fault = fault }))
+
+    pub holds_of_all : (Holds : Option (List (List ℕ)) → SidesSaid → Type 0) → Holds (all_known (map remaining files)) all_said → HoldsOfAllFiles remaining Gives named names Holds
+    holds_of_all Holds shown = record { sides = sides; files = files; opened = opened; said = all_said; say = say; shown = shown }
+
+-- the files of the first names, where there are some, and the others
+module _ {T E : Type 0} (Gives : List ℕ → Result T E → Type 0) {X : Type 0} (name : X → List ℕ) where
+  pub first_opened : (named : Option X) (rest : List (List ℕ)) (got : Option T) (files left : List T) → is_some got ≡ is_some named → files ≡ listed got ++ left → AreOpened Gives (listed (option_map name named) ++ rest) files
+      → AreOpened Gives (listed (option_map name named)) (listed got) × AreOpened Gives rest left
+  first_opened None rest None files left same is opened = (tt, subst (AreOpened Gives rest) is opened)
+  first_opened (Some n) rest (Some f) files left same is opened = let all = subst (AreOpened Gives (name n ∷ rest)) is opened in ((all.0, tt), all.1)
+  first_opened None rest (Some f) files left same is opened = absurd (true≢false same)
+  first_opened (Some n) rest None files left same is opened = absurd (true≢false (sym same))
+
+  pub has_first : (named : Option X) (rest : List (List ℕ)) (files : List T) → is_some named ≡ true → AreOpened Gives (listed (option_map name named) ++ rest) files → 0 < length files
+  has_first None rest files wanted opened = absurd (true≢false (sym wanted))
+  has_first (Some n) rest [] wanted opened = absurd opened
+  has_first (Some n) rest (f ∷ files) wanted opened = omega arith
+
+-- the same, by the same names
+module _ {T E : Type 0} (Gives : List ℕ → Result T E → Type 0) {names names' : List (List ℕ)} (same : names ≡ names') where
+  pub opened_at : (files : List T) → AreOpened Gives names files → AreOpened Gives names' files
+  opened_at files opened = subst (λ ns. AreOpened Gives ns files) same opened
+
+  pub unopened_at : (f : Fault) → IsOpeningFault Gives names f → IsOpeningFault Gives names' f
+  unopened_at f fault = subst (λ ns. IsOpeningFault Gives ns f) same fault

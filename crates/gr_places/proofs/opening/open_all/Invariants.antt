@@ -1,0 +1,7 @@
+use Rattle.std.proofs.Common.{map, take}
+use Rattle.std.specs.Fn.{FnReturnsAt}
+use Rattle.gr_places.specs.Files.{AreOpened}
+use Rattle.gr_places.proofs.opening.open_all.Given as goal
+
+abbrev pub invariant-loop-name : goal.invariant-loop-name
+invariant-loop-name g l = AreOpened (FnReturnsAt g.O.Fn l.opener) (take l.name-index (map (λ s. s.now) l.names)) l.files.items

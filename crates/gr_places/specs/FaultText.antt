@@ -1,0 +1,15 @@
+-- The line that tells why nothing is told of a launch with side files.
+-- Source: docs/FORMATS.md, "Fault lines".
+use Rattle.std.specs.Prelude.{ℕ, List, ◌++◌, codes, decimal}
+use Rattle.gr_report.specs.FaultText.{fault_line}
+use Rattle.gr_report.specs.Putting.{field}
+use Rattle.gr_places.specs.declared.sides_fault.SidesFault.{SidesFault}
+use Rattle.gr_places.specs.declared.sides_fault.SidesFault.TheVariants.{Buffers, Places, Run}
+
+abbrev pub bad_line : List ℕ → ℕ → List ℕ
+bad_line before line = field before (decimal line) ++ codes ": bad line\n"
+
+abbrev pub sides_fault_line : SidesFault → List ℕ
+sides_fault_line (Run f) = fault_line f
+sides_fault_line (Places line) = bad_line (codes "gpurace: places: line ") line
+sides_fault_line (Buffers line) = bad_line (codes "gpurace: buffers: line ") line

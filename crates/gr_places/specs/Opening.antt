@@ -1,0 +1,105 @@
+-- What is told of a launch whose streams, and side files, are in files.
+-- Source: docs/FORMATS.md, "Races" and "Side files".
+use Rattle.std.specs.Prelude.{◌≡◌, ◌⊎◌, ℕ, List, [], ◌∷◌, ◌++◌, map, Option, None, Some, Result, Ok, Err, IfSome, option_map}
+use Rattle.gr_input.specs.Faults.{IsOutside}
+use Rattle.gr_places.specs.SideLines.{buffers_in, places_in}
+use Rattle.gr_record.specs.declared.fault.Fault.{Fault}
+use Rattle.gr_replay.specs.Each.{all_known}
+use Rattle.gr_record.specs.declared.fault.Fault.TheVariants as faults
+use Rattle.gr_places.specs.declared.sides_fault.SidesFault.{SidesFault}
+use Rattle.gr_places.specs.declared.sides_fault.SidesFault.TheVariants.{Buffers, Places, Run}
+use Rattle.gr_places.specs.declared.files.SideNames.{SideNames}
+use Rattle.gr_places.specs.Sides.{SidesSaid}
+use Rattle.gr_places.specs.Files.{AreOpened, IsOpeningFault, IsShowFault}
+
+-- of places and of buffers, each where there is one
+pub record Pair (X : Type 0) : Type 0 where
+  pub places : Option X
+  pub buffers : Option X
+
+-- the names of the side files
+abbrev pub side_names : SideNames → Pair (List ℕ)
+side_names n = record { places = option_map (λ s. s.now) n.places; buffers = option_map (λ s. s.now) n.buffers }
+
+abbrev pub listed : {X : Type 0} → Option X → List X
+listed None = []
+listed (Some x) = x ∷ []
+
+-- all names, in the order in which the files are opened
+abbrev pub all_names : Pair (List ℕ) → List (List ℕ) → List (List ℕ)
+all_names sides names = listed sides.places ++ listed sides.buffers ++ names
+
+-- the side files and the files of the streams are open
+pub record AreAllOpened {T E : Type 0} (Gives : List ℕ → Result T E → Type 0) (named : Pair (List ℕ)) (names : List (List ℕ)) (sides : Pair T) (files : List T) : Type 0 where
+  pub places : AreOpened Gives (listed named.places) (listed sides.places)
+  pub buffers : AreOpened Gives (listed named.buffers) (listed sides.buffers)
+  pub streams : AreOpened Gives names files
+
+-- the bytes of a side file, where they are known; of none there are none
+abbrev pub known_of : {T : Type 0} → (T → Option (List ℕ)) → Option T → Option (List ℕ)
+known_of remaining None = Some []
+known_of remaining (Some file) = remaining file
+
+-- the files of places and of buffers say this, where their bytes are known
+pub record Say {T : Type 0} (remaining : T → Option (List ℕ)) (sides : Pair T) (said : SidesSaid) : Type 0 where
+  pub places : IfSome (known_of remaining sides.places) (λ bytes. places_in bytes ≡ Ok said.places)
+  pub buffers : IfSome (known_of remaining sides.buffers) (λ bytes. buffers_in bytes ≡ Ok said.buffers)
+
+-- why bytes are no places: their first line that is out of form; or memory ran out
+abbrev pub RefusesPlaces : List ℕ → SidesFault → Type 0
+RefusesPlaces bytes (Run f) = f ≡ faults.Memory
+RefusesPlaces bytes (Places line) = places_in bytes ≡ Err line
+RefusesPlaces bytes (Buffers line) = ⊥
+
+-- the same of buffers
+abbrev pub RefusesBuffers : List ℕ → SidesFault → Type 0
+RefusesBuffers bytes (Run f) = f ≡ faults.Memory
+RefusesBuffers bytes (Places line) = ⊥
+RefusesBuffers bytes (Buffers line) = buffers_in bytes ≡ Err line
+
+module _ {T E : Type 0} (remaining : T → Option (List ℕ)) (Gives : List ℕ → Result T E → Type 0) (named : Pair (List ℕ)) (names : List (List ℕ)) where
+  -- the files are open, the side files are in form, and this holds of the bytes of the streams' files, as far as they are known, and of what the side files say
+  pub record HoldsOfAllFiles (Holds : Option (List (List ℕ)) → SidesSaid → Type 0) : Type 0 where
+    pub sides : Pair T
+    pub files : List T
+    pub opened : AreAllOpened Gives named names sides files
+    pub said : SidesSaid
+    pub say : Say remaining sides said
+    pub shown : Holds (all_known (map remaining files)) said
+
+  -- the files are open, and this line of the places is the first that is out of form
+  pub record IsPlacesFault (line : ℕ) : Type 0 where
+    pub sides : Pair T
+    pub files : List T
+    pub opened : AreAllOpened Gives named names sides files
+    pub first : IfSome (known_of remaining sides.places) (λ bytes. places_in bytes ≡ Err line)
+
+  -- the places are in form, and this line of the buffers is the first that is not
+  pub record IsBuffersFault (line : ℕ) : Type 0 where
+    pub sides : Pair T
+    pub files : List T
+    pub opened : AreAllOpened Gives named names sides files
+    pub places : IfSome (known_of remaining sides.places) (λ bytes. (said : List _) × (places_in bytes ≡ Ok said))
+    pub first : IfSome (known_of remaining sides.buffers) (λ bytes. buffers_in bytes ≡ Err line)
+
+  -- the files are open, and a side file can't be read, or there is no memory
+  pub record IsReadingFault (f : Fault) : Type 0 where
+    pub sides : Pair T
+    pub files : List T
+    pub opened : AreAllOpened Gives named names sides files
+    pub outside : IsOutside f
+
+  -- the side files are in form, and why the streams are no launch, or the writer failed
+  pub record IsStreamsFault (f : Fault) : Type 0 where
+    pub sides : Pair T
+    pub files : List T
+    pub opened : AreAllOpened Gives named names sides files
+    pub said : SidesSaid
+    pub say : Say remaining sides said
+    pub fault : IfSome (all_known (map remaining files)) (λ inputs. IsShowFault inputs f)
+
+  -- why nothing is told: a file can't be opened; a side file can't be read, or is out of form; or the streams are no launch
+  abbrev pub IsSidesFault : SidesFault → Type 0
+  IsSidesFault (Run f) = IsOpeningFault Gives (all_names named names) f ⊎ IsReadingFault f ⊎ IsStreamsFault f
+  IsSidesFault (Places line) = IsPlacesFault line
+  IsSidesFault (Buffers line) = IsBuffersFault line

@@ -1,0 +1,161 @@
+//! Opening and reading side files.
+
+ghost use Rattle.std.specs.Prelude.{◌≡◌, ◌<◌, ◌++◌, false, IfErr, IfOk, IfSome, IsOk, IsTrue, OnOk, length, map};
+ghost use Rattle.std.specs.Fn.{FnReturnsAt};
+ghost use Rattle.std.specs.Option.{is_some};
+ghost use Rattle.gr_input.specs.Faults.{IsOutside};
+ghost use Rattle.gr_places.specs.SideLines.{buffer_line, buffers_in, place_line, places_in};
+ghost use Rattle.gr_places.specs.Opening as spec;
+ghost use Rattle.gr_places.specs.Files.{IsOpeningFault};
+
+use crate::buffers::{BufferLine, read_buffers};
+use crate::fault::SideFault;
+use crate::opening::open_all;
+use crate::places::{PlaceLine, read_places};
+use crate::sides_fault::SidesFault;
+use gr_input::read_all;
+use gr_model::memory::Memory;
+use gr_record::fault::Fault;
+use std::alloc::Allocator;
+use std::io::{self, Read};
+
+/// The names of side files, each where there is one.
+#[derive(Clone, Copy, Debug)]
+pub struct SideNames<'a> {
+    /// The file of places.
+    pub places: Option<&'a str>,
+    /// The file of buffers.
+    pub buffers: Option<&'a str>,
+}
+
+/// Files that are open: side files, each where there is one, and those of the streams.
+#[derive(Drop)]
+pub struct Opened<T: Drop, A: Allocator> {
+    /// The file of places.
+    pub places: Option<T>,
+    /// The file of buffers.
+    pub buffers: Option<T>,
+    /// The files of the streams, in their order.
+    pub streams: Vec<T, A>,
+}
+
+/// Keeps a name, if there is one.
+fn keep_name<'a, A: Allocator>(
+    names: &mut Vec<&'a str, A>,
+    name: Option<&'a str>,
+) -> Result<(), Memory>
+    ensures { OnOk result (names.new.items ≡ names.old.items ++ spec.listed name.entry) }
+{
+    if let Some(name) = name {
+        names.push(name)?;
+    }
+    Ok(())
+}
+
+/// All names, in the order in which the files are opened: places, buffers, streams.
+///
+/// # Errors
+/// `Memory`: out of memory.
+fn all_names<'a, A: Allocator>(
+    alloc: A,
+    sides: &SideNames<'a>,
+    names: &[&'a str],
+) -> Result<Vec<&'a str, A>, Memory>
+    ensures { IfOk result (λ all. map (λ s. s.now) all.items ≡ spec.all_names (spec.side_names sides.now) (map (λ s. s.now) names.now)) }
+{
+    let mut all = Vec::new(alloc);
+    keep_name(&mut all, sides.places)?;
+    keep_name(&mut all, sides.buffers)?;
+    all.extend_from_slice(names)?;
+    Ok(all)
+}
+
+/// Takes the first file away, if it is wanted.
+/// Requires: where it is wanted there is one.
+fn take_first<T: Drop, A: Allocator>(files: &mut Vec<T, A>, wanted: bool) -> Option<T>
+    requires { IsTrue wanted → 0 < length files.old.items }
+    ensures taken { is_some result ≡ wanted }
+    ensures left { files.old.items ≡ spec.listed result ++ files.new.items }
+{
+    if wanted { Some(files.remove(0)) } else { None }
+}
+
+/// Opens the file of places and that of buffers, each where there is one, and then those of the streams.
+///
+/// # Errors
+/// `Read` at the first that can't be opened; `Memory`.
+pub fn open_files<'a, A, T, O>(
+    alloc: A,
+    sides: &SideNames<'a>,
+    names: &[&'a str],
+    opener: O,
+) -> Result<Opened<T, A>, Fault>
+where
+    A: Allocator + Copy,
+    T: Drop,
+    O: Fn(&str) -> io::Result<T>,
+    requires { O.IsAlwaysCallable opener }
+    ensures opened { IfOk result (λ o. spec.AreAllOpened (FnReturnsAt O.Fn opener) (spec.side_names sides.now) (map (λ s. s.now) names.now) (record { places = o.places; buffers = o.buffers }) o.streams.items) }
+    ensures fault { IfErr result (λ f. IsOpeningFault (FnReturnsAt O.Fn opener) (spec.all_names (spec.side_names sides.now) (map (λ s. s.now) names.now)) f) }
+{
+    let all = all_names(alloc, sides, names)?;
+    let mut streams = open_all(alloc, &all, opener)?;
+    let places = take_first(&mut streams, sides.places.is_some());
+    let buffers = take_first(&mut streams, sides.buffers.is_some());
+    Ok(Opened {
+        places,
+        buffers,
+        streams,
+    })
+}
+
+/// All bytes of a side file, and none where there is no file.
+///
+/// # Errors
+/// Those of `read_all`, where there is a file.
+pub fn bytes_of<A: Allocator, T: Read + Drop>(
+    alloc: A,
+    file: Option<T>,
+) -> Result<Vec<u8, A>, Fault>
+    ensures bytes { IfOk result (λ v. IfSome (spec.known_of T.remaining file) (λ bytes. v.items ≡ bytes)) }
+    ensures faults { IfErr result IsOutside }
+    ensures nothing { is_some file ≡ false → IsOk result }
+{
+    match file {
+        None => Ok(Vec::new(alloc)),
+        Some(mut file) => read_all(alloc, &mut file),
+    }
+}
+
+/// What a file of places says.
+///
+/// # Errors
+/// `Places` with the first line that is out of form; `Run` with `Memory`.
+pub fn places_of<A: Allocator>(alloc: A, bytes: &[u8]) -> Result<Vec<PlaceLine<'_>, A>, SidesFault>
+    ensures said { IfOk result (λ lines. places_in bytes.now ≡ Ok (map place_line lines.items)) }
+    ensures fault { IfErr result (spec.RefusesPlaces bytes.now) }
+{
+    match read_places(alloc, bytes) {
+        Ok(lines) => Ok(lines),
+        Err(SideFault::BadLine(line)) => Err(SidesFault::Places(line)),
+        Err(SideFault::Memory) => Err(SidesFault::Run(Fault::Memory)),
+    }
+}
+
+/// What a file of buffers says.
+///
+/// # Errors
+/// `Buffers` with the first line that is out of form; `Run` with `Memory`.
+pub fn buffers_of<A: Allocator>(
+    alloc: A,
+    bytes: &[u8],
+) -> Result<Vec<BufferLine<'_>, A>, SidesFault>
+    ensures said { IfOk result (λ lines. buffers_in bytes.now ≡ Ok (map buffer_line lines.items)) }
+    ensures fault { IfErr result (spec.RefusesBuffers bytes.now) }
+{
+    match read_buffers(alloc, bytes) {
+        Ok(lines) => Ok(lines),
+        Err(SideFault::BadLine(line)) => Err(SidesFault::Buffers(line)),
+        Err(SideFault::Memory) => Err(SidesFault::Run(Fault::Memory)),
+    }
+}

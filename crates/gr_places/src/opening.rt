@@ -1,0 +1,52 @@
+//! Files that are opened by their names.
+
+ghost use Rattle.std.specs.Prelude.{◌≡◌, ◌⊎◌, ◌++◌, ◌∷◌, [], IfErr, IfOk, OnOk, map};
+ghost use Rattle.std.specs.Fn.{FnReturnsAt};
+ghost use Rattle.gr_places.specs.Files.{AreOpened, IsOpeningFault};
+
+use gr_model::memory::Memory;
+use gr_record::fault::Fault;
+use std::alloc::Allocator;
+use std::io::{self, ErrorKind};
+
+/// The fault of a file that can't be opened.
+fn fault_of_opening(error: &io::Error) -> Fault
+    ensures { (result ≡ Fault.Memory) ⊎ (result ≡ Fault.Read) }
+{
+    if error.kind() == ErrorKind::OutOfMemory {
+        Fault::Memory
+    } else {
+        Fault::Read
+    }
+}
+
+/// Keeps one more file.
+fn keep_file<A: Allocator, T: Drop>(files: &mut Vec<T, A>, file: T) -> Result<(), Memory>
+    ensures { OnOk result (files.new.items ≡ files.old.items ++ file ∷ []) }
+{
+    files.push(file)?;
+    Ok(())
+}
+
+/// Opens the files of these names, in their order, by what opens one.
+///
+/// # Errors
+/// `Read` at the first that can't be opened; `Memory`.
+pub fn open_all<A: Allocator, T: Drop, O: Fn(&str) -> io::Result<T>>(
+    alloc: A,
+    names: &[&str],
+    opener: O,
+) -> Result<Vec<T, A>, Fault>
+    requires { O.IsAlwaysCallable opener }
+    ensures opened { IfOk result (λ v. AreOpened (FnReturnsAt O.Fn opener) (map (λ s. s.now) names.now) v.items) }
+    ensures fault { IfErr result (λ f. IsOpeningFault (FnReturnsAt O.Fn opener) (map (λ s. s.now) names.now) f) }
+{
+    let mut files = Vec::new(alloc);
+    for name in names {
+        match opener(name) {
+            Ok(file) => keep_file(&mut files, file)?,
+            Err(error) => return Err(fault_of_opening(&error)),
+        }
+    }
+    Ok(files)
+}

@@ -1,0 +1,181 @@
+-- Where a rule is relaxed, lists that are accepted still are.
+use Rattle.std.proofs.Common.{◌≡◌, ℕ, ◌≤◌, ◌==◌, ◌&&◌, Bool, true, false, cond, List, [], ◌∷◌, filter, map, Option, Some, None, option_and_then, option_map, slice_get, get_or, zero, suc, refl, sym, ap, ◌∙◌, subst}
+use Rattle.std.specs.Prelude.{not}
+use Rattle.std.proofs.lemmas.List.{length-map}
+use Rattle.gr_model.specs.declared.event.Event.{Event}
+use Rattle.gr_model.specs.declared.event.EventId.{EventId}
+use Rattle.gr_model.specs.declared.event.Kind.{Kind}
+use Rattle.gr_model.specs.declared.event.Kind.TheVariants.{Read, Write, Load, Store, Rmw, Barrier, End}
+use Rattle.gr_model.specs.declared.event.Name.{Name}
+use Rattle.gr_model.specs.declared.event.Space.{Space}
+use Rattle.gr_model.specs.declared.event.Word.{Word}
+use Rattle.gr_model.specs.declared.race.Race.{Race}
+use Rattle.gr_model.specs.declared.limits.TheConstants.{MOST_RECORDS}
+use Rattle.gr_model.specs.Access.{event_word, is_acquire_kind, word_if_access, word_in}
+use Rattle.gr_model.specs.Events.{IsEventOk, IsKindOk, IsNamingOk, is_end_kind}
+use Rattle.gr_model.specs.Streams.{AreAccepted, AreGood, IsAccepted, IsGoodAt, Streams, event_at, is_complete, is_of, list_of, size_of, word_at}
+use Rattle.gr_races.specs.declared.relaxing.Relaxation.{Relaxation}
+use Rattle.gr_races.specs.declared.relaxing.Relaxation.TheVariants.{BothFlags, DeviceScope}
+use Rattle.gr_judge.specs.Judged.{AreAccesses}
+use Rattle.gr_races.specs.Causes.{IsPairOf}
+use Rattle.gr_races.specs.Relaxing.{relaxed, relaxed_event, relaxed_kind}
+
+-- ---- one record
+
+same_end : (r : Relaxation) (k : Kind) → is_end_kind (relaxed_kind r k) ≡ is_end_kind k
+same_end BothFlags Read = refl
+same_end BothFlags Write = refl
+same_end BothFlags (Load scope order) = refl
+same_end BothFlags (Store scope order) = refl
+same_end BothFlags (Rmw scope order) = refl
+same_end BothFlags (Barrier global local) = refl
+same_end BothFlags (End cut) = refl
+same_end DeviceScope Read = refl
+same_end DeviceScope Write = refl
+same_end DeviceScope (Load scope order) = refl
+same_end DeviceScope (Store scope order) = refl
+same_end DeviceScope (Rmw scope order) = refl
+same_end DeviceScope (Barrier global local) = refl
+same_end DeviceScope (End cut) = refl
+
+same_acquire : (r : Relaxation) (k : Kind) → is_acquire_kind (relaxed_kind r k) ≡ is_acquire_kind k
+same_acquire BothFlags Read = refl
+same_acquire BothFlags Write = refl
+same_acquire BothFlags (Load scope order) = refl
+same_acquire BothFlags (Store scope order) = refl
+same_acquire BothFlags (Rmw scope order) = refl
+same_acquire BothFlags (Barrier global local) = refl
+same_acquire BothFlags (End cut) = refl
+same_acquire DeviceScope Read = refl
+same_acquire DeviceScope Write = refl
+same_acquire DeviceScope (Load scope order) = refl
+same_acquire DeviceScope (Store scope order) = refl
+same_acquire DeviceScope (Rmw scope order) = refl
+same_acquire DeviceScope (Barrier global local) = refl
+same_acquire DeviceScope (End cut) = refl
+
+still_kind : (r : Relaxation) (k : Kind) (item : ℕ) (space : Space) (word : ℕ) → IsKindOk k item space word → IsKindOk (relaxed_kind r k) item space word
+still_kind BothFlags Read item space word ok = ok
+still_kind BothFlags Write item space word ok = ok
+still_kind BothFlags (Load scope order) item space word ok = ok
+still_kind BothFlags (Store scope order) item space word ok = ok
+still_kind BothFlags (Rmw scope order) item space word ok = ok
+still_kind BothFlags (Barrier global local) item space word ok = ok
+still_kind BothFlags (End cut) item space word ok = ok
+still_kind DeviceScope Read item space word ok = ok
+still_kind DeviceScope Write item space word ok = ok
+still_kind DeviceScope (Load scope order) item space word ok = ok
+still_kind DeviceScope (Store scope order) item space word ok = ok
+still_kind DeviceScope (Rmw scope order) item space word ok = ok
+still_kind DeviceScope (Barrier global local) item space word ok = ok
+still_kind DeviceScope (End cut) item space word ok = ok
+
+still_naming : (r : Relaxation) (k : Kind) (names : List Name) → IsNamingOk k names → IsNamingOk (relaxed_kind r k) names
+still_naming r k [] ok = ok
+still_naming r k (n ∷ names) ok = (same_acquire r k ∙ ok.0, ok.1)
+
+still_event : (r : Relaxation) (x : Event) (items : ℕ) → IsEventOk x items → IsEventOk (relaxed_event r x) items
+still_event r x items ok = (ok.0, still_naming r x.kind x.names ok.1, still_kind r x.kind x.item x.space x.word ok.2)
+
+-- ---- one list
+
+mapped : {X Y : Type 0} (f : X → Y) (xs : List X) (k : ℕ) (y : Y) → slice_get (map f xs) k ≡ Some y → (x : X) × (slice_get xs k ≡ Some x) × (f x ≡ y)
+mapped f [] k y at = let no : None ≡ Some y = at in cc
+mapped f (x ∷ xs) zero y at = (x, refl, cc)
+mapped f (x ∷ xs) (suc k) y at = mapped f xs k y at
+
+still_complete : (r : Relaxation) (xs : List Event) → is_complete (map (relaxed_event r) xs) ≡ is_complete xs
+still_complete r [] = refl
+still_complete r (x ∷ []) = same_end r x.kind
+still_complete r (x ∷ y ∷ xs) = still_complete r (y ∷ xs)
+
+still_good : (r : Relaxation) (items : ℕ) (list : List Event) → AreGood items list → AreGood items (map (relaxed_event r) list)
+still_good r items list good p x at =
+    let before = mapped (relaxed_event r) list p x at in
+    let ok = good p before.0 before.1 in
+    subst (IsGoodAt items (map (relaxed_event r) list) p) before.2
+    (still_event r before.0 items ok.0, λ end. ok.1 (sym (same_end r before.0.kind) ∙ end) ∙ sym (length-map list (relaxed_event r)))
+
+still_accepted : (r : Relaxation) (items : ℕ) (list : List Event) → IsAccepted items list → IsAccepted items (map (relaxed_event r) list)
+still_accepted r items list accepted = record {
+  few = subst (λ n. n ≤ MOST_RECORDS) (sym (length-map list (relaxed_event r))) accepted.few;
+  good = still_good r items list accepted.good;
+  ended = still_complete r list ∙ accepted.ended;
+}
+
+-- ---- all lists
+
+abbrev no_events : List Event
+no_events = []
+
+list_at : (f : List Event → List Event) → f [] ≡ [] → (lists : List (List Event)) (g : ℕ) → get_or (map f lists) g no_events ≡ f (get_or lists g no_events)
+list_at f none [] g = sym none
+list_at f none (xs ∷ lists) zero = refl
+list_at f none (xs ∷ lists) (suc g) = list_at f none lists g
+
+pub relaxed_list_of : (r : Relaxation) (s : Streams) (g : ℕ) → list_of (relaxed r s) g ≡ map (relaxed_event r) (list_of s g)
+relaxed_list_of r s g = list_at (map (relaxed_event r)) refl s.lists g
+
+pub still_all_accepted : (r : Relaxation) (s : Streams) → AreAccepted s → AreAccepted (relaxed r s)
+still_all_accepted r s accepted = record {
+  shape = accepted.shape;
+  count = length-map s.lists (map (relaxed_event r)) ∙ accepted.count;
+  each = λ g lt. subst (IsAccepted (size_of s g)) (sym (relaxed_list_of r s g)) (still_accepted r (size_of s g) (list_of s g) (accepted.each g lt));
+}
+
+-- ---- what an event accesses
+
+same_word : (r : Relaxation) (k : Kind) (w : Word) → word_if_access (relaxed_kind r k) w ≡ word_if_access k w
+same_word BothFlags Read w = refl
+same_word BothFlags Write w = refl
+same_word BothFlags (Load scope order) w = refl
+same_word BothFlags (Store scope order) w = refl
+same_word BothFlags (Rmw scope order) w = refl
+same_word BothFlags (Barrier global local) w = refl
+same_word BothFlags (End cut) w = refl
+same_word DeviceScope Read w = refl
+same_word DeviceScope Write w = refl
+same_word DeviceScope (Load scope order) w = refl
+same_word DeviceScope (Store scope order) w = refl
+same_word DeviceScope (Rmw scope order) w = refl
+same_word DeviceScope (Barrier global local) w = refl
+same_word DeviceScope (End cut) w = refl
+
+module _ {X : Type 0} (f : X → X) where
+  -- a list with its first element, where that passes a test
+  kept_first : (x : X) (xs : List X) (ys : List X) → ys ≡ map f xs → (b : Bool) → cond b (f x ∷ ys) ys ≡ map f (cond b (x ∷ xs) xs)
+  kept_first x xs ys same true = ap (λ zs. f x ∷ zs) same
+  kept_first x xs ys same false = same
+
+  filtered : (test : X → Bool) → ((x : X) → test (f x) ≡ test x) → (xs : List X) → filter test (map f xs) ≡ map f (filter test xs)
+  filtered test same [] = refl
+  filtered test same (x ∷ xs) =
+      ap (λ b. cond b (f x ∷ filter test (map f xs)) (filter test (map f xs))) (same x)
+      ∙ kept_first x (filter test xs) (filter test (map f xs)) (filtered test same xs) (test x)
+
+  got : (xs : List X) (k : ℕ) → slice_get (map f xs) k ≡ option_map f (slice_get xs k)
+  got [] k = refl
+  got (x ∷ xs) zero = refl
+  got (x ∷ xs) (suc k) = got xs k
+
+still_event_at : (r : Relaxation) (s : Streams) (e : EventId) → event_at (relaxed r s) e ≡ option_map (relaxed_event r) (event_at s e)
+still_event_at r s e =
+    let test = is_of e.at.item in
+    let list = list_of s e.at.group in
+    ap (λ xs. slice_get (filter test xs) e.index) (relaxed_list_of r s e.at.group)
+    ∙ ap (λ xs. slice_get xs e.index) (filtered (relaxed_event r) test (λ x. ap (λ ended. (x.item == e.at.item) && not ended) (same_end r x.kind)) list)
+    ∙ got (relaxed_event r) (filter test list) e.index
+
+-- an event accesses the word that it accessed
+pub still_word : (r : Relaxation) (s : Streams) (e : EventId) → word_at (relaxed r s) e ≡ word_at s e
+still_word r s e = ap (option_and_then (event_word e.at.group)) (still_event_at r s e) ∙ of_event (event_at s e)
+  where
+    of_event : (o : Option Event) → option_and_then (event_word e.at.group) (option_map (relaxed_event r) o) ≡ option_and_then (event_word e.at.group) o
+    of_event None = refl
+    of_event (Some x) = same_word r x.kind (word_in x.space e.at.group x.word)
+
+-- so the two of a racing pair are accesses still
+pub still_accesses : (r : Relaxation) (s : Streams) (pair : Race) → IsPairOf s pair → AreAccesses (relaxed r s) pair
+still_accesses r s pair race =
+    let may_race = race.race.may_race in
+    record { first = (pair.word, still_word r s pair.first ∙ may_race.word_first); second = (pair.word, still_word r s pair.second ∙ may_race.word_second) }

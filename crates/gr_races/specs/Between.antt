@@ -1,0 +1,71 @@
+-- What stands between the two accesses of a racing pair.
+-- Source: docs/FORMATS.md, "The long form of explain".
+use Rattle.std.specs.Prelude.{ℕ, Bool, List, [], Option, None, drop, filter, filter_map, find, if◌then◌else◌, nat_lt, option_and_then, option_map, take, ◌==◌}
+use Rattle.std.specs.List.{enumerate_from, last_or}
+use Rattle.gr_model.specs.declared.event.Event.{Event}
+use Rattle.gr_model.specs.declared.event.EventId.{EventId}
+use Rattle.gr_model.specs.declared.event.ItemId.{ItemId}
+use Rattle.gr_model.specs.Access.{is_acquire_kind, is_release}
+use Rattle.gr_model.specs.Barriers.{is_barrier, mark_of}
+use Rattle.gr_model.specs.Instances.{Mark}
+use Rattle.gr_model.specs.Streams.{Streams, places_from, trace_of}
+use Rattle.gr_races.specs.declared.between.Between.{Between}
+use Rattle.gr_races.specs.declared.between.Crossing.{Crossing}
+use Rattle.gr_races.specs.declared.between.Told.{Told}
+use Rattle.gr_accesses.specs.declared.details.Details.{Details}
+use Rattle.gr_accesses.specs.Details.{details_of, phase_of}
+
+-- ---- barriers
+
+abbrev pub crossing : ℕ → Mark → Crossing
+crossing k a = record { instance = k; site = a.site; global = a.global; local = a.local }
+
+-- a barrier, with its number among its item's
+abbrev pub crossing_of : ℕ × Event → Option Crossing
+crossing_of x = option_map (crossing x.0) (mark_of x.1)
+
+-- the barriers of its item before an event, from the n-th on, n from 0
+abbrev pub passed_from : Streams → EventId → ℕ → List Crossing
+passed_from s e n = filter_map crossing_of (drop n (enumerate_from 0 (filter is_barrier (take e.index (trace_of s e.at)))))
+
+-- of two events of one group the barriers that the one with more of them before it is behind, and the other not
+abbrev pub crossings : Streams → EventId → EventId → List Crossing
+crossings s e f =
+    if e.at.group == f.at.group
+    then (if nat_lt (phase_of s e) (phase_of s f) then passed_from s f (phase_of s e) else passed_from s e (phase_of s f))
+    else []
+
+-- ---- halves of hand-overs
+
+abbrev pub is_acquire : Event → Bool
+is_acquire e = is_acquire_kind e.kind
+
+abbrev pub with_details : EventId → Details → Told
+with_details e d = record { event = e; details = d }
+
+-- what is told of an item's event of this index, where there is one
+abbrev pub told_at : Streams → ItemId → ℕ → Option Told
+told_at s i k = let e : EventId = record { at = i; index = k } in option_map (with_details e) (details_of s e)
+
+-- of the releases of its item's trace the first that stands behind an event
+abbrev pub release_behind : Streams → EventId → Option Told
+release_behind s e = option_and_then (told_at s e.at) (find (nat_lt e.index) (places_from is_release 0 (trace_of s e.at)))
+
+-- of the acquires of its item's trace the last that stands before an event
+abbrev pub acquire_before : Streams → EventId → Option Told
+acquire_before s e = option_and_then (told_at s e.at) (last_or None (filter (λ k. nat_lt k e.index) (places_from is_acquire 0 (trace_of s e.at))))
+
+-- ---- both
+
+-- what is said to stand between two accesses
+pub record BetweenSaid : Type 0 where
+  pub crossings : List Crossing
+  pub release : Option Told
+  pub acquire : Option Told
+
+abbrev pub between_said : {Z : Type 0} → Between Z → BetweenSaid
+between_said b = record { crossings = b.crossings.items; release = b.release; acquire = b.acquire }
+
+-- what stands between two accesses
+abbrev pub between_of : Streams → EventId → EventId → BetweenSaid
+between_of s e f = record { crossings = crossings s e f; release = release_behind s e; acquire = acquire_before s f }

@@ -1,0 +1,45 @@
+-- The cause of a race: the first rule without which its two accesses would be no race, or else what is missing between them.
+-- Source: docs/FORMATS.md, "The long form of explain". Causes are this project's own.
+use Rattle.std.specs.Prelude.{◌≡◌, ◌≢◌, List}
+use Rattle.gr_model.specs.declared.event.EventId.{EventId}
+use Rattle.gr_model.specs.declared.event.Word.{Word}
+use Rattle.gr_model.specs.declared.race.Race.{Race}
+use Rattle.gr_model.specs.RacePairs.{IsRacePair}
+use Rattle.gr_model.specs.Races.{IsRace}
+use Rattle.gr_model.specs.Streams.{Streams}
+use Rattle.gr_explain.specs.Judgements.{AreJudged}
+use Rattle.gr_judge.specs.Answering.{AreAnswers}
+use Rattle.gr_races.specs.declared.cause.Cause.{Cause}
+use Rattle.gr_races.specs.declared.cause.Cause.TheVariants.{Flags, Scope, Divergence, NoBarrier, NoHandOver}
+use Rattle.gr_races.specs.declared.relaxing.Relaxation.{Relaxation}
+use Rattle.gr_races.specs.declared.relaxing.Relaxation.TheVariants.{BothFlags, DeviceScope}
+use Rattle.gr_races.specs.Parting.{AreParted}
+use Rattle.gr_races.specs.Relaxing.{relaxed}
+
+-- where a rule is relaxed, both events are judged and are no race
+pub record IsMended (s : Streams) (r : Relaxation) (w : Word) (e f : EventId) : Type 0 where
+  pub judged : AreJudged (relaxed r s) e f
+  pub no_race : ¬ IsRace (relaxed r s) w e f
+
+-- no rule that is relaxed makes them no race
+abbrev pub IsMendedByNone : Streams → Word → EventId → EventId → Type 0
+IsMendedByNone s w e f = ¬ IsMended s BothFlags w e f × ¬ IsMended s DeviceScope w e f
+
+-- the cause of a race
+abbrev pub IsCause : Streams → Word → EventId → EventId → Cause → Type 0
+IsCause s w e f Flags = IsMended s BothFlags w e f
+IsCause s w e f Scope = ¬ IsMended s BothFlags w e f × IsMended s DeviceScope w e f
+IsCause s w e f Divergence = IsMendedByNone s w e f × (e.at.group ≡ f.at.group) × AreParted s e f
+IsCause s w e f NoBarrier = IsMendedByNone s w e f × (e.at.group ≡ f.at.group) × ¬ AreParted s e f
+IsCause s w e f NoHandOver = IsMendedByNone s w e f × (e.at.group ≢ f.at.group)
+
+-- the events of a race are a racing pair of its word
+abbrev pub IsPairOf : Streams → Race → Type 0
+IsPairOf s r = IsRacePair s r.word (r.first, r.second)
+
+abbrev pub IsCauseOf : Streams → Race → Cause → Type 0
+IsCauseOf s r c = IsCause s r.word r.first r.second c
+
+-- one cause for each race, in their order
+abbrev pub AreCauses : Streams → List Race → List Cause → Type 0
+AreCauses s races causes = AreAnswers (IsCauseOf s) races causes

@@ -1,0 +1,237 @@
+//! What stands between the two accesses of a racing pair: barriers that one of them is behind, a release behind the first
+//! and an acquire before the second.
+
+ghost use Rattle.std.specs.Prelude.{◌≡◌, ◌≤◌, ◌<◌, ◌&&◌, IfOk, None, Some, drop, filter, filter_map, find, if◌then◌else◌, length, nat_lt, option_and_then, take};
+ghost use Rattle.std.specs.List.{enumerate_from, last_or};
+ghost use Rattle.gr_model.specs.Access.{is_release};
+ghost use Rattle.gr_model.specs.Barriers.{is_barrier};
+ghost use Rattle.gr_model.specs.Streams as model;
+ghost use Rattle.gr_races.specs.Between as spec;
+
+use gr_accesses::details::{Details, barriers_before, details_at, is_of};
+use gr_explain::records::Records;
+use gr_lanes::kinds::{is_barrier, is_release};
+use gr_model::event::{Event, EventId, ItemId, Kind};
+use gr_model::limits::MOST_RECORDS;
+use gr_model::memory::Memory;
+use gr_model::traces::Traces;
+use std::alloc::{AllocError, Allocator, Global};
+
+/// A barrier instance that one of two accesses of a work-group is behind, and the other not.
+#[derive(Clone, Copy, Debug, PartialEq, Eq)]
+pub struct Crossing {
+    /// The number of the instance in its group, from 0.
+    pub instance: usize,
+    /// The site of the barrier.
+    pub site: u32,
+    /// Whether its flags name global memory.
+    pub global: bool,
+    /// Whether its flags name local memory.
+    pub local: bool,
+}
+
+/// An event of a launch, and what is told of it.
+#[derive(Clone, Copy, Debug, PartialEq, Eq)]
+pub struct Told {
+    /// The event.
+    pub event: EventId,
+    /// What it is.
+    pub details: Details,
+}
+
+/// What stands between the two accesses of a racing pair.
+#[derive(Drop)]
+#[derive_where(Debug)]
+pub struct Between<A: Allocator = Global> {
+    /// Of two accesses of one group the barrier instances that one is behind and the other not, ascending.
+    pub crossings: Vec<Crossing, A>,
+    /// The first release of its item behind the first access.
+    pub release: Option<Told>,
+    /// The last acquire of its item before the second access.
+    pub acquire: Option<Told>,
+}
+
+/// The instance of a barrier that is the one of this number of its item.
+fn crossing_of(instance: usize, event: &Event) -> Option<Crossing>
+    ensures { result ≡ spec.crossing_of (instance, event.now) }
+{
+    match event.kind {
+        Kind::Barrier { global, local } => Some(Crossing {
+            instance,
+            site: event.word,
+            global,
+            local,
+        }),
+        Kind::Read
+        | Kind::Write
+        | Kind::Load(_, _)
+        | Kind::Store(_, _)
+        | Kind::Rmw(_, _)
+        | Kind::End { cut: _ } => None,
+    }
+}
+
+/// The barriers of an item before its record of this index, from the barrier of this number on.
+///
+/// # Errors
+/// `AllocError`: out of memory.
+fn passed<A: Allocator>(
+    alloc: A,
+    list: &[Event],
+    item: u16,
+    index: u32,
+    from: usize,
+) -> Result<Vec<Crossing, A>, AllocError>
+    ensures { IfOk result (λ crossings. crossings.items ≡ filter_map spec.crossing_of (drop from (enumerate_from 0 (filter is_barrier (take index (filter (model.is_of item) list.now)))))) }
+{
+    list.iter()
+        .filter(|event| is_of(event, item))
+        .take(index as usize)
+        .filter(|event| is_barrier(event))
+        .enumerate()
+        .skip(from)
+        .filter_map(|(instance, event)| crossing_of(instance, event))
+        .collect(alloc)
+}
+
+/// The barrier instances that one of two accesses of a group is behind and the other not; none of two groups.
+///
+/// # Errors
+/// `AllocError`: out of memory.
+fn crossings<A: Allocator>(
+    alloc: A,
+    traces: &Traces<A>,
+    first: EventId,
+    second: EventId,
+) -> Result<Vec<Crossing, A>, AllocError>
+    requires { first.at.group < length traces.now.sizes }
+    ensures { IfOk result (λ crossings. crossings.items ≡ spec.crossings traces.now first second) }
+{
+    if first.at.group != second.at.group {
+        return Ok(Vec::new(alloc));
+    }
+    let list = traces.list(first.at.group);
+    let first_phase = barriers_before(list, first.at.item, first.index);
+    let second_phase = barriers_before(list, second.at.item, second.index);
+    if first_phase < second_phase {
+        passed(alloc, list, second.at.item, second.index, first_phase)
+    } else {
+        passed(alloc, list, first.at.item, first.index, second_phase)
+    }
+}
+
+/// The least index above this one of a release of an item in a list.
+fn release_above(list: &[Event], item: u16, index: u32) -> Option<u32>
+    requires { length list.now ≤ MOST_RECORDS }
+    ensures { result ≡ find (nat_lt index) (model.places_from is_release 0 (filter (model.is_of item) list.now)) }
+{
+    let mut at = 0;
+    for event in list {
+        if is_of(event, item) {
+            if at > index && is_release(event) {
+                return Some(at);
+            }
+            at += 1;
+        }
+    }
+    None
+}
+
+/// This index of a record, if it is an acquire below an index; else what was found before.
+fn nearest(found: Option<u32>, at: u32, index: u32, event: &Event) -> Option<u32>
+    ensures { result ≡ if (nat_lt at index && spec.is_acquire event.now) then Some at else found }
+{
+    if at < index && event.kind.is_acquire() {
+        Some(at)
+    } else {
+        found
+    }
+}
+
+/// The greatest index below this one of an acquire of an item in a list.
+fn acquire_below(list: &[Event], item: u16, index: u32) -> Option<u32>
+    requires { length list.now ≤ MOST_RECORDS }
+    ensures { result ≡ last_or None (filter (λ k. nat_lt k index) (model.places_from spec.is_acquire 0 (filter (model.is_of item) list.now))) }
+{
+    let mut at = 0;
+    let mut found = None;
+    for event in list {
+        if is_of(event, item) {
+            found = nearest(found, at, index, event);
+            at += 1;
+        }
+    }
+    found
+}
+
+/// What is told of an item's event of this index, where there is one.
+fn told_at<A: Allocator>(
+    traces: &Traces<A>,
+    records: &Records<A>,
+    at: ItemId,
+    index: Option<u32>,
+) -> Option<Told>
+    requires same { records.now ≡ traces.now }
+    requires group { at.group < length traces.now.sizes }
+    ensures { result ≡ option_and_then (spec.told_at traces.now at) index }
+{
+    let event = EventId { at, index: index? };
+    let details = details_at(traces, records, event)?;
+    Some(Told { event, details })
+}
+
+/// The first release of its item behind an access.
+fn release_behind<A: Allocator>(
+    traces: &Traces<A>,
+    records: &Records<A>,
+    access: EventId,
+) -> Option<Told>
+    requires same { records.now ≡ traces.now }
+    requires group { access.at.group < length traces.now.sizes }
+    ensures { result ≡ spec.release_behind traces.now access }
+{
+    let list = traces.list(access.at.group);
+    let index = release_above(list, access.at.item, access.index);
+    told_at(traces, records, access.at, index)
+}
+
+/// The last acquire of its item before an access.
+fn acquire_before<A: Allocator>(
+    traces: &Traces<A>,
+    records: &Records<A>,
+    access: EventId,
+) -> Option<Told>
+    requires same { records.now ≡ traces.now }
+    requires group { access.at.group < length traces.now.sizes }
+    ensures { result ≡ spec.acquire_before traces.now access }
+{
+    let list = traces.list(access.at.group);
+    let index = acquire_below(list, access.at.item, access.index);
+    told_at(traces, records, access.at, index)
+}
+
+/// What stands between two accesses of a launch. It takes time that grows with the records of their groups.
+///
+/// # Errors
+/// `Memory`: out of memory.
+pub fn between_of<A: Allocator>(
+    alloc: A,
+    traces: &Traces<A>,
+    records: &Records<A>,
+    first: EventId,
+    second: EventId,
+) -> Result<Between<A>, Memory>
+    requires same { records.now ≡ traces.now }
+    requires first { model.IsEvent traces.now first }
+    requires second { model.IsEvent traces.now second }
+    ensures { IfOk result (λ between. spec.between_said between ≡ spec.between_of traces.now first second) }
+{
+    let groups = traces.shape().groups();
+    let within = first.at.group < groups && second.at.group < groups;
+    prove!(within);
+    Ok(Between {
+        crossings: crossings(alloc, traces, first, second)?,
+        release: release_behind(traces, records, first),
+        acquire: acquire_before(traces, records, second),
+    })
+}

@@ -1,0 +1,124 @@
+//! A launch with one of its rules relaxed: the same records, but for the flags of its barriers or the scopes of its
+//! atomics.
+
+ghost use Rattle.std.specs.Prelude.{◌≡◌, IfOk, map};
+ghost use Rattle.gr_races.specs.Relaxing as spec;
+
+use gr_model::event::{Event, Kind, Scope};
+use gr_model::memory::Memory;
+use gr_model::traces::Traces;
+use std::alloc::Allocator;
+
+/// A rule that can be relaxed.
+#[derive(Clone, Copy, Debug, PartialEq, Eq)]
+pub enum Relaxation {
+    /// The flags of each barrier name both memories.
+    BothFlags,
+    /// Each atomic access has device scope.
+    DeviceScope,
+}
+
+/// What a record says where the flags of each barrier name both memories.
+fn with_both_flags(kind: Kind) -> Kind
+    ensures { result ≡ spec.with_both_flags kind }
+{
+    match kind {
+        Kind::Barrier {
+            global: _,
+            local: _,
+        } => Kind::Barrier {
+            global: true,
+            local: true,
+        },
+        Kind::Read
+        | Kind::Write
+        | Kind::Load(_, _)
+        | Kind::Store(_, _)
+        | Kind::Rmw(_, _)
+        | Kind::End { cut: _ } => kind,
+    }
+}
+
+/// What a record says where each atomic access has device scope.
+fn with_device_scope(kind: Kind) -> Kind
+    ensures { result ≡ spec.with_device_scope kind }
+{
+    match kind {
+        Kind::Load(_, order) => Kind::Load(Scope::Device, order),
+        Kind::Store(_, order) => Kind::Store(Scope::Device, order),
+        Kind::Rmw(_, order) => Kind::Rmw(Scope::Device, order),
+        Kind::Read
+        | Kind::Write
+        | Kind::Barrier {
+            global: _,
+            local: _,
+        }
+        | Kind::End { cut: _ } => kind,
+    }
+}
+
+/// A record where a rule is relaxed: the same but for its kind.
+fn relaxed_event(relaxation: Relaxation, event: &Event) -> Event
+    ensures { result ≡ spec.relaxed_event relaxation event.now }
+{
+    let kind = match relaxation {
+        Relaxation::BothFlags => with_both_flags(event.kind),
+        Relaxation::DeviceScope => with_device_scope(event.kind),
+    };
+    Event { kind, ..*event }
+}
+
+/// The list of a group where a rule is relaxed.
+///
+/// # Errors
+/// `Memory`: out of memory.
+fn relaxed_list<A: Allocator>(
+    alloc: A,
+    relaxation: Relaxation,
+    list: &[Event],
+) -> Result<Vec<Event, A>, Memory>
+    ensures { IfOk result (λ events. events.items ≡ map (spec.relaxed_event relaxation) list.now) }
+{
+    let events = list
+        .iter()
+        .map(|event| relaxed_event(relaxation, event))
+        .collect(alloc)?;
+    Ok(events)
+}
+
+/// The lists of a launch where a rule is relaxed.
+///
+/// # Errors
+/// `Memory`: out of memory.
+fn relaxed_lists<A: Allocator + Copy>(
+    alloc: A,
+    traces: &Traces<A>,
+    relaxation: Relaxation,
+) -> Result<Vec<Vec<Event, A>, A>, Memory>
+    ensures { IfOk result (λ lists. map (λ v. v.items) lists.items ≡ map (map (spec.relaxed_event relaxation)) traces.now.lists) }
+{
+    let mut lists = Vec::new(alloc);
+    for group in 0..traces.shape().groups() {
+        lists.push(relaxed_list(alloc, relaxation, traces.list(group))?)?;
+    }
+    Ok(lists)
+}
+
+/// The traces of a launch where a rule is relaxed. Each event stands where it stood, and the names are the same.
+///
+/// # Errors
+/// `Memory`: out of memory.
+pub fn relaxed<A: Allocator + Copy>(
+    alloc: A,
+    traces: &Traces<A>,
+    relaxation: Relaxation,
+) -> Result<Traces<A>, Memory>
+    ensures { IfOk result (λ t. t ≡ spec.relaxed relaxation traces.now) }
+{
+    let lists = relaxed_lists(alloc, traces, relaxation)?;
+    let shape = traces.shape().copy()?;
+    match Traces::new(shape, lists) {
+        Ok(relaxed) => Ok(relaxed),
+        Err(_) => unreachable!(),
+    }
+}

@@ -1,7 +1,0 @@
-use Rattle.std.proofs.Common.{◌≡◌, map, take}
-use Rattle.serde_json.specs.View.{view}
-use Rattle.gr_races_json.specs.Kinds.{run_data}
-use Rattle.gr_races_json.proofs.kinds.run_values.Given as goal
-
-abbrev pub invariant-loop-run : goal.invariant-loop-run
-invariant-loop-run l = map view l.values.items ≡ map run_data (take l.run-index l.runs)

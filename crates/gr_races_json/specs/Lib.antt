@@ -1,4 +1,0 @@
-pub mod Causes
-pub mod Kinds
-pub mod Races
-pub mod Shown

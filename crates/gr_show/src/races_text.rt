@@ -1,0 +1,107 @@
+//! The text of races, kind by kind.
+
+use crate::event_text::{put_cause, put_name};
+use crate::explanation::{put_pair, put_word};
+use crate::sides_text::{put_buffer, put_text};
+use gr_json::names::{operation_name, space_name};
+use gr_model::event::EventId;
+use gr_model::race::Race;
+use gr_places::places::{Placed, place_of};
+use gr_places::sides::Sides;
+use gr_races::by_kind::RacesByKind;
+use gr_races::kinds::RaceKind;
+use gr_races::listing::KindEntry;
+use gr_races::runs::{Run, number_of};
+use gr_report::putting::{WriteFault, put, put_field};
+use std::alloc::Allocator;
+use std::io::Write;
+
+fn put_kind<W: Write>(writer: &mut W, kind: RaceKind, words: usize) -> Result<(), WriteFault> {
+    put(writer, b"kind")?;
+    put_name(writer, space_name(kind.space))?;
+    put_name(writer, operation_name(kind.first))?;
+    put_name(writer, operation_name(kind.second))?;
+    put_name(
+        writer,
+        if kind.one_group {
+            "one group"
+        } else {
+            "two groups"
+        },
+    )?;
+    put_field(writer, b" words ", words)?;
+    put(writer, b"\n")
+}
+
+fn put_run<W: Write>(writer: &mut W, run: Run) -> Result<(), WriteFault> {
+    put_word(writer, run.first)?;
+    if run.last == number_of(run.first) {
+        return Ok(());
+    }
+    put_field(writer, b"..", run.last)
+}
+
+fn put_words<W: Write>(writer: &mut W, runs: &[Run]) -> Result<(), WriteFault> {
+    put(writer, b"words")?;
+    for run in runs {
+        put_run(writer, *run)?;
+    }
+    put(writer, b"\n")
+}
+
+/// Writes the line of the place of an event behind these bytes, where it is known.
+fn put_place<W: Write>(
+    writer: &mut W,
+    before: &[u8],
+    sides: &Sides<'_>,
+    event: EventId,
+) -> Result<(), WriteFault> {
+    match place_of(sides.places, Placed::Event(event)) {
+        None => Ok(()),
+        Some(text) => put_text(writer, before, text),
+    }
+}
+
+fn put_race<W: Write>(writer: &mut W, sides: &Sides<'_>, race: &Race) -> Result<(), WriteFault> {
+    put_pair(writer, race.word, race.first, race.second)?;
+    put(writer, b"\n")?;
+    put_buffer(writer, sides, race.word)?;
+    put_place(writer, b"first ", sides, race.first)?;
+    put_place(writer, b"second ", sides, race.second)
+}
+
+fn put_entry<A: Allocator, W: Write>(
+    writer: &mut W,
+    sides: &Sides<'_>,
+    entry: &KindEntry<A>,
+) -> Result<(), WriteFault> {
+    put_kind(writer, entry.kind, entry.races.len())?;
+    put_words(writer, &entry.runs)?;
+    let Some(race) = entry.races.first() else {
+        return Ok(());
+    };
+    put_race(writer, sides, race)?;
+    match entry.kind.cause {
+        None => Ok(()),
+        Some(cause) => put_cause(writer, race.word, cause),
+    }
+}
+
+/// Writes the races of a launch kind by kind, of at most so many kinds, with what side files say of them, and an end that
+/// counts all of them.
+///
+/// # Errors
+/// `WriteFault` where the writer fails.
+pub(crate) fn put_races<A: Allocator, W: Write>(
+    writer: &mut W,
+    sides: &Sides<'_>,
+    found: &RacesByKind<A>,
+    most: Option<u32>,
+) -> Result<(), WriteFault> {
+    for entry in found.at_most(most) {
+        put_entry(writer, sides, entry)?;
+    }
+    put_field(writer, b"end kinds ", found.kinds.len())?;
+    put_field(writer, b" races ", found.races)?;
+    put(writer, b"\n")
+}

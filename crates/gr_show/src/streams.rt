@@ -1,0 +1,65 @@
+//! The answer to a question about a launch whose streams come from readers.
+
+ghost use Rattle.std.specs.Prelude.{◌≡◌, ◌≢◌, IfErr, IfOk, IfSome, map};
+ghost use Rattle.std.specs.Io.KnownBytes.{Keeps};
+ghost use Rattle.gr_record.specs.declared.fault.Fault.TheVariants as faults;
+ghost use Rattle.gr_replay.specs.Each.{IsEachFault, all_known};
+ghost use Rattle.gr_places.specs.Files.{IsShowFault};
+ghost use Rattle.gr_places.specs.Sides.{sides_said};
+ghost use Rattle.gr_show.specs.Told.{IsShown, IsTold, ShowsPrefix};
+
+use crate::question::{Question, Told};
+use crate::writing::write_text;
+use gr_places::sides::Sides;
+use gr_record::fault::Fault;
+use gr_replay::read_each;
+use std::alloc::Allocator;
+use std::io::{Read, Write};
+
+/// Reads the streams of a launch, one from each reader, and answers the question.
+///
+/// # Errors
+/// Those of `read_each`.
+pub(crate) fn answer_of_streams<A: Allocator + Copy, Q: Question<A>, T: Read + Drop>(
+    alloc: A,
+    question: &Q,
+    readers: Vec<T, A>,
+    sides: &Sides<'_>,
+) -> Result<Told<A>, Fault>
+    ensures told { IfOk result (λ told. IsTold (Q.is_text question.now (sides_said sides.now)) (Q.is_found question.now) (all_known (map T.remaining readers.items)) told.text.items told.found) }
+    ensures fault { IfErr result (λ f. IfSome (all_known (map T.remaining readers.items)) (λ inputs. IsEachFault inputs f)) }
+    ensures reading { IfErr result (λ f. (f ≢ faults.Write) × (f ≢ faults.Threads)) }
+{
+    let launch = read_each(alloc, readers)?;
+    let answer = question.answer(alloc, &launch, sides)?;
+    Ok(Told {
+        text: question.text(alloc, &answer, sides)?,
+        found: question.found(&answer),
+    })
+}
+
+/// Reads the streams of a launch, one from each reader, writes the text that answers the question and nothing else, and
+/// tells whether what the question looks for is found.
+///
+/// # Errors
+/// Those of `read_each`, or `Memory` where there is no memory for the answer: nothing is then written. `Write` where the writer
+/// fails, which then has a prefix of the text.
+pub fn tell_streams<A: Allocator + Copy, Q: Question<A>, T: Read + Drop, W: Write>(
+    alloc: A,
+    question: &Q,
+    readers: Vec<T, A>,
+    sides: &Sides<'_>,
+    writer: &mut W,
+) -> Result<bool, Fault>
+    ensures shown { IfOk result (λ found. IsShown (Q.is_text question.now (sides_said sides.now)) (Q.is_found question.now) (all_known (map T.remaining readers.items)) found (W.contents writer.old) (W.contents writer.new)) }
+    ensures fault { IfErr result (λ f. IfSome (all_known (map T.remaining readers.items)) (λ inputs. IsShowFault inputs f)) }
+    ensures untouched { IfErr result (λ f. f ≢ faults.Write → Keeps (W.contents writer.old) (W.contents writer.new)) }
+    ensures prefix { IfErr result (λ f. f ≡ faults.Write → ShowsPrefix (Q.is_text question.now (sides_said sides.now)) (all_known (map T.remaining readers.items)) (W.contents writer.old) (W.contents writer.new)) }
+    ensures threads { IfErr result (λ f. f ≢ faults.Threads) }
+{
+    let told = answer_of_streams(alloc, question, readers, sides)?;
+    match write_text(writer, &told.text) {
+        Ok(()) => Ok(told.found),
+        Err(_) => Err(Fault::Write),
+    }
+}

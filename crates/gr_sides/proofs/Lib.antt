@@ -1,3 +1,0 @@
-pub mod OpeningLemmas
-pub mod FileLemmas
-pub mod PutLemmas

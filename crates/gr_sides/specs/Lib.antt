@@ -1,4 +1,0 @@
-pub mod Sides
-pub mod FaultText
-pub mod Files
-pub mod Opening
