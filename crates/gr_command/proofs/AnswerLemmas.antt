@@ -10,11 +10,9 @@ use Rattle.gr_arguments.specs.Commands.{AreHelp, AreWrong, IsHelp, IsWrongUsage}
 use Rattle.gr_arguments.specs.declared.request.Task.{Task}
 use Rattle.gr_arguments.specs.declared.request.Task.TheVariants.{Replay, Pack, Dump, Upgrade}
 use Rattle.gr_model.specs.Reports.{WholeReport}
-use Rattle.gr_model.specs.Streams.{Streams}
 use Rattle.gr_input.specs.Faults.{Fails, IsOutside}
 use Rattle.gr_input.proofs.Outside.{at_any}
 use Rattle.gr_places.specs.FaultText.{sides_fault_line}
-use Rattle.gr_places.specs.Sides.{SidesSaid}
 use Rattle.gr_places.specs.declared.sides_fault.SidesFault.TheVariants.{Run}
 use Rattle.gr_record.specs.declared.fault.Fault.{Fault}
 use Rattle.gr_record.specs.declared.fault.Fault.TheVariants.{Write, Memory}
@@ -26,7 +24,7 @@ use Rattle.gr_text.specs.Texts.{packed}
 use Rattle.gr_text.specs.Dumps.{dumped, upgraded}
 use Rattle.gr_text.specs.Partial.{text_before_fault}
 use Rattle.gr_text.specs.Writes.{Writes}
-use Rattle.gr_command.specs.Answers.{IsAnswerOf, IsDone, IsFaultTold, IsPartialDump, IsUsageTold, WritesReportPrefix, in_form}
+use Rattle.gr_command.specs.Answers.{IsAnswerOf, IsDone, IsFaultTold, IsPartialDump, IsUsageTold, WritesReportPrefix}
 use Rattle.gr_command.specs.Statuses.{fault_status, sides_fault_status}
 use Rattle.gr_command.specs.Outcomes.{IsOutcome, IsTold}
 use Rattle.gr_command.specs.declared.status.TheConstants.{NOTHING, USAGE, WANTING, FAILED}
@@ -124,11 +122,6 @@ run_fault inputs f (inr writing) = subst (IsRunFault inputs) (sym writing) (inr 
 pub of_report : (json : Bool) (known : Option (List (List ℕ))) (old new : Option (List ℕ)) (r : WholeReport) → IfSome known (λ inputs. IsExactOfEach inputs r) → WritesReportPrefix json r old new → IfSome known (λ inputs. (s : WholeReport) × IsExactOfEach inputs s × WritesReportPrefix json s old new)
 of_report json None old new r exact prefix = tt
 of_report json (Some inputs) old new r exact prefix = (r, exact, prefix)
-
--- what is claimed of both forms is claimed of each
-pub one_form : (json : Bool) (IsText : SidesSaid → Streams → List ℕ → Type 0) (Of : (SidesSaid → Streams → List ℕ → Type 0) → Type 0) → Of (in_form json IsText IsText) → Of IsText
-one_form true IsText Of of = of
-one_form false IsText Of of = of
 
 -- ---- words that are not taken
 

@@ -88,10 +88,14 @@ abbrev pub in_form : Bool → (SidesSaid → Streams → List ℕ → Type 0) �
 in_form true IsJson IsText = IsJson
 in_form false IsJson IsText = IsText
 
+-- that of both forms
+abbrev pub in_both : Bool → (SidesSaid → Streams → List ℕ → Type 0) → SidesSaid → Streams → List ℕ → Type 0
+in_both json IsText = in_form json IsText IsText
+
 -- what is told of a word of a launch: the line of its least racing pair; as JSON, and in the long form, a rendering
 abbrev pub IsWordTextOf : AskedForm → Bool → Word → SidesSaid → Streams → List ℕ → Type 0
 IsWordTextOf in_short json w = in_form json (λ said s. Renders (IsExplanation s w)) (λ said. IsLine w)
-IsWordTextOf (in_long places buffers) json w = λ said s. Renders (IsAccountOf s w)
+IsWordTextOf (in_long places buffers) json w = in_both json (λ said s. Renders (IsAccountOf s w))
 
 -- the text of a report; its JSON is a rendering
 abbrev pub IsReportTextOf : Bool → WholeReport → List ℕ → Type 0
@@ -155,7 +159,7 @@ module _ {T X : Type 0} (remaining : T → Option (List ℕ)) (Gives : List ℕ 
 
     -- the text of the races, and whether there is one; or why there is none
     abbrev pub IsRacesOutcome : AskedRaces → Type 0
-    IsRacesOutcome a = IsAnswered (sides_of a.places a.buffers) a.files (λ said s. Renders (AreRaces said a.causes s)) HasRace
+    IsRacesOutcome a = IsAnswered (sides_of a.places a.buffers) a.files (in_both a.json (λ said s. Renders (AreRaces said a.causes s))) HasRace
 
     -- the text of a check, and whether the files are accepted; or why there is none
     abbrev pub IsCheckOutcome : AskedCheck → Type 0

@@ -1,13 +1,8 @@
+use Rattle.std.proofs.Common.{inl, inr, refl}
+use Rattle.gr_check.specs.Checked.{checked_said}
 use Rattle.gr_command.proofs.checking.write_check.Goals as goal
 
-pub returns-then-arguments-clause-checked : goal.returns-then-arguments-clause-checked
-returns-then-arguments-clause-checked g c = rw (c.if-arguments.true, ← c.as_slice-files.ensures.value) c.check_files_json.ensures.checked
-
-pub returns-then-arguments-clause-prefix : goal.returns-then-arguments-clause-prefix
-returns-then-arguments-clause-prefix g c = rw (c.if-arguments.true, ← c.as_slice-files.ensures.value) c.check_files_json.ensures.prefix
-
-pub returns-else-arguments-clause-checked : goal.returns-else-arguments-clause-checked
-returns-else-arguments-clause-checked g c = rw (c.if-arguments.false, ← c.as_slice-files.ensures.value) c.check_files.ensures.checked
-
-pub returns-else-arguments-clause-prefix : goal.returns-else-arguments-clause-prefix
-returns-else-arguments-clause-prefix g c = rw (c.if-arguments.false, ← c.as_slice-files.ensures.value) c.check_files.ensures.prefix
+pub returns-in-Ok-clause-checked : goal.returns-in-Ok-clause-checked
+returns-in-Ok-clause-checked g c =
+    let h = c.in_ok-checked.ensures.checked in
+    rw (← c.as_slice.ensures.value) (h.0, h.1, checked_said c.in_ok-checked.checked, h.2, c.is_accepted.ensures, c.in_ok-text.text.items, c.in-Ok.ensures.whole)
