@@ -18,7 +18,7 @@ INPUTS = {"replay": RACE, "pack": TEXT, "dump": RACE, "dump --partial": RACE, "u
 FILES = ("explain g 16", "explain --long g 16", "races", "races --causes", "history g 16", "run", "check", "why-held 0 0 0")
 
 # commands whose answer is JSON
-JSON = ("explain --json g 16", "explain --long --json g 16", "races --json", "races --json --causes", "run --json", "check --json")
+JSON = ("explain --json g 16", "explain --long --json g 16", "races --json", "races --json --causes", "run --json", "check --json", "history --json g 16", "why-held --json 0 0 0")
 
 # words for which help is written, and words that are no command's
 WORDS = ("--help", "help run", "--version", "--quiet", "explain l64 16 race", "run --workers many race")

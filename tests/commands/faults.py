@@ -27,15 +27,17 @@ FILES = {
     "races --json": 1,
     "races --json --causes": 1,
     "history g 16": 1,
+    "history --json g 16": 1,
     "run": 1,
     "run --json": 1,
     "check": 0,
     "check --json": 0,
     "why-held 0 0 0": 0,
+    "why-held --json 0 0 0": 0,
 }
 
 # commands with side files
-SIDES = ("explain --long g 16", "explain --long --json g 16", "races", "races --json", "history g 16")
+SIDES = ("explain --long g 16", "explain --long --json g 16", "races", "races --json", "history g 16", "history --json g 16")
 
 # words for which help or the version is written
 HELP = ("--help", "-h", "help", "--version", "replay --help", "help run")

@@ -86,7 +86,7 @@ def launch_of_40_kinds(pairs):
 
 
 def line_of_json(**keys):
-    return json.dumps(keys, sort_keys=True, separators=(",", ":")) + "\n"
+    return json.dumps({"gpurace": 1, **dict(sorted(keys.items()))}, separators=(",", ":")) + "\n"
 
 
 class Races(ProgramTest):

@@ -115,9 +115,10 @@ pub one_history : (rows : List Row) (a b : AskedHistory) → IsAskedHistory rows
 one_history rows a b h k =
     let places : a.places ≡ b.places = sym h.places ∙ k.places in
     let buffers : a.buffers ≡ b.buffers = sym h.buffers ∙ k.buffers in
+    let json : a.json ≡ b.json = sym h.as_json ∙ k.as_json in
     let word : a.word ≡ b.word = same_word rows a.word b.word h.named k.named in
     let files : a.files ≡ b.files = sym h.at_files ∙ k.at_files in
-    λ i. record { places = places i; buffers = buffers i; word = word i; files = files i }
+    λ i. record { places = places i; buffers = buffers i; json = json i; word = word i; files = files i }
 
 -- ---- the command `check`
 
@@ -218,6 +219,7 @@ same_event rows a b h k =
 
 pub one_event : (rows : List Row) (a b : AskedEvent) → IsAskedEvent rows a → IsAskedEvent rows b → a ≡ b
 one_event rows a b h k =
+    let json : a.json ≡ b.json = sym h.as_json ∙ k.as_json in
     let event : a.event ≡ b.event = same_event rows a b h k in
     let files : a.files ≡ b.files = sym h.at_files ∙ k.at_files in
-    λ i. record { event = event i; files = files i }
+    λ i. record { json = json i; event = event i; files = files i }

@@ -105,10 +105,11 @@ pub record IsAskedRaces (rows : List Row) (a : AskedRaces) : Type 0 where
 
 -- ---- all accesses to one word
 
--- with which side files, which word, and in which files the streams of the launch are
+-- with which side files, whether as JSON, which word, and in which files the streams of the launch are
 pub record AskedHistory : Type 0 where
   pub places : Option Text
   pub buffers : Option Text
+  pub json : Bool
   pub word : Word
   pub files : List Text
 
@@ -116,6 +117,7 @@ pub record AskedHistory : Type 0 where
 pub record IsAskedHistory (rows : List Row) (a : AskedHistory) : Type 0 where
   pub places : first_of (codes "places") rows ≡ a.places
   pub buffers : first_of (codes "buffers") rows ≡ a.buffers
+  pub as_json : has_flag (codes "json") rows ≡ a.json
   pub named : NamesWord rows a.word
   pub at_files : files_of rows ≡ a.files
 
@@ -158,13 +160,15 @@ pub record IsAskedCheck (rows : List Row) (a : AskedCheck) : Type 0 where
 
 -- ---- why an event is held
 
--- which event, and in which files the streams are
+-- whether as JSON, which event, and in which files the streams are
 pub record AskedEvent : Type 0 where
+  pub json : Bool
   pub event : EventId
   pub files : List Text
 
 -- the values of the command `why-held` ask for this
 pub record IsAskedEvent (rows : List Row) (a : AskedEvent) : Type 0 where
+  pub as_json : has_flag (codes "json") rows ≡ a.json
   pub group : Text
   pub item : Text
   pub index : Text
@@ -228,7 +232,7 @@ abbrev pub races_of : RacesArguments → AskedRaces
 races_of l = record { most = l.most; places = option_map (λ s. s.now) l.places; buffers = option_map (λ s. s.now) l.buffers; causes = l.causes; json = l.json; files = map (λ s. s.now) l.files.items }
 
 abbrev pub history_of : HistoryArguments → AskedHistory
-history_of r = record { places = option_map (λ s. s.now) r.places; buffers = option_map (λ s. s.now) r.buffers; word = r.word; files = map (λ s. s.now) r.files.items }
+history_of r = record { places = option_map (λ s. s.now) r.places; buffers = option_map (λ s. s.now) r.buffers; json = r.json; word = r.word; files = map (λ s. s.now) r.files.items }
 
 abbrev pub check_of : CheckArguments → AskedCheck
 check_of i = record { json = i.json; files = map (λ s. s.now) i.files.items }
@@ -237,7 +241,7 @@ abbrev pub run_of : RunArguments → AskedRun
 run_of p = record { config = p.config; json = p.json; files = map (λ s. s.now) p.files.items }
 
 abbrev pub event_of : WhyHeldArguments → AskedEvent
-event_of i = record { event = i.event; files = map (λ s. s.now) i.files.items }
+event_of i = record { json = i.json; event = i.event; files = map (λ s. s.now) i.files.items }
 
 -- what a request stands for
 abbrev pub asked_of : Request → Asked

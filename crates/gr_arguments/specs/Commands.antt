@@ -59,10 +59,11 @@ racing =
     (with_rule (with_rule (with_rule (with_rule (with_rule (new_app (codes "races")) (option_rule (codes "most"))) (option_rule (codes "places"))) (option_rule (codes "buffers"))) (flag_rule (codes "causes"))) (flag_rule (codes "json")))
     wanted_files).top
 
--- the command that tells of all accesses to one word: the side files, the word, and the files
+-- the command that tells of all accesses to one word: the side files, whether as JSON, the word, and the files
 abbrev pub recalling : Shape
 recalling =
-    (with_rule (with_rule (with_rule (with_rule (with_rule (new_app (codes "history")) (option_rule (codes "places"))) (option_rule (codes "buffers"))) (wanted (codes "SPACE"))) (wanted (codes "WORD")))
+    (with_rule
+    (with_rule (with_rule (with_rule (with_rule (with_rule (new_app (codes "history")) (option_rule (codes "places"))) (option_rule (codes "buffers"))) (flag_rule (codes "json"))) (wanted (codes "SPACE"))) (wanted (codes "WORD")))
     wanted_files).top
 
 -- the command that runs a launch in threads: how many workers and queues, the places of a queue, whether as JSON, and the files
@@ -75,9 +76,12 @@ running =
 abbrev pub checking : Shape
 checking = (with_rule (with_rule (new_app (codes "check")) (flag_rule (codes "json"))) wanted_files).top
 
--- the command that tells why an event is held: the event, and the files
+-- the command that tells why an event is held: whether as JSON, the event, and the files
 abbrev pub inquiring : Shape
-inquiring = (with_rule (with_rule (with_rule (with_rule (new_app (codes "why-held")) (wanted (codes "GROUP"))) (wanted (codes "ITEM"))) (wanted (codes "INDEX"))) wanted_files).top
+inquiring =
+    (with_rule
+    (with_rule (with_rule (with_rule (with_rule (new_app (codes "why-held")) (flag_rule (codes "json"))) (wanted (codes "GROUP"))) (wanted (codes "ITEM"))) (wanted (codes "INDEX")))
+    wanted_files).top
 
 abbrev pub tasks : App
 tasks = with_subcommand (with_subcommand (with_subcommand (with_subcommand (record { top = alone; subs = [] }) (command_named (codes "replay"))) (command_named (codes "pack"))) dumping) (command_named (codes "upgrade"))

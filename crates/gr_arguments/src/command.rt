@@ -363,6 +363,7 @@ const PAGES: [Page; 10] = [
         parameters: &[
             Parameter::Valued("places", "FILE", PLACES),
             Parameter::Valued("buffers", "FILE", BUFFERS),
+            Parameter::Flag("json", JSON),
             Parameter::Wanted("SPACE", SPACE),
             Parameter::Wanted("WORD", WORD),
             Parameter::Files,
@@ -394,6 +395,7 @@ const PAGES: [Page; 10] = [
         long_about: Some(LONG_WHY_HELD),
         example: AFTER_WHY_HELD,
         parameters: &[
+            Parameter::Flag("json", JSON),
             Parameter::Wanted("GROUP", GROUP),
             Parameter::Wanted("ITEM", ITEM),
             Parameter::Wanted("INDEX", INDEX),

@@ -89,6 +89,8 @@ pub struct HistoryArguments<'a> {
     pub places: Option<&'a str>,
     /// The name of the file of buffers.
     pub buffers: Option<&'a str>,
+    /// Whether they are to be told as JSON.
+    pub json: bool,
     /// The word.
     pub word: Word,
     /// The names of the files of the streams.
@@ -118,6 +120,8 @@ pub struct RunArguments<'a> {
 /// The arguments of `why-held`: an event of a launch, whose streams are in these files, one each.
 #[derive(Drop)]
 pub struct WhyHeldArguments<'a> {
+    /// Whether the answer is to be JSON.
+    pub json: bool,
     /// The event.
     pub event: EventId,
     /// The names of the files.

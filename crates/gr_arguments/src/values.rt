@@ -153,10 +153,12 @@ pub(crate) fn history_of<'a>(
     };
     let places = values.get_str("places");
     let buffers = values.get_str("buffers");
+    let json = asks_for(values, "json");
     let files = files_of(alloc, values)?;
     Ok(Some(HistoryArguments {
         places,
         buffers,
+        json,
         word,
         files,
     }))
@@ -232,6 +234,7 @@ pub(crate) fn why_held_of<'a>(
     let Some(event) = event_named(group, item, index) else {
         return Ok(None);
     };
+    let json = asks_for(values, "json");
     let files = files_of(alloc, values)?;
-    Ok(Some(WhyHeldArguments { event, files }))
+    Ok(Some(WhyHeldArguments { json, event, files }))
 }

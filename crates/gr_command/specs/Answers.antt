@@ -169,11 +169,11 @@ module _ {T X : Type 0} (remaining : T → Option (List ℕ)) (Gives : List ℕ 
 
     -- all accesses to a word, and whether it is racy; or why there are none
     abbrev pub IsHistoryOutcome : AskedHistory → Type 0
-    IsHistoryOutcome a = IsAnswered (sides_of a.places a.buffers) a.files (λ said s. Renders (IsToldOf s a.word)) (IsRacyIn a.word)
+    IsHistoryOutcome a = IsAnswered (sides_of a.places a.buffers) a.files (in_both a.json (λ said s. Renders (IsToldOf s a.word))) (IsRacyIn a.word)
 
     -- why an event is held, and whether it is; or why nothing is told
     abbrev pub IsWhyHeldOutcome : AskedEvent → Type 0
-    IsWhyHeldOutcome a = IsAnswered (sides_of None None) a.files (λ said s. Renders (IsWhy s a.event)) (IsHeldIn a.event)
+    IsWhyHeldOutcome a = IsAnswered (sides_of None None) a.files (in_both a.json (λ said s. Renders (IsWhy s a.event))) (IsHeldIn a.event)
 
     -- the report of a run in threads, and its whole text or JSON; or why there is none
     abbrev pub IsRunAnswer : AskedRun → Type 0

@@ -78,7 +78,7 @@ For more information, try '--help'.\n";
 const NO_EVENT: &[u8] = b"\
 error: GROUP, ITEM and INDEX name no event: GROUP and ITEM are numbers below 65536 and INDEX is one below 4294967296, in \
 decimal digits\n\n\
-Usage: gpurace why-held <GROUP> <ITEM> <INDEX> <FILE>...\n\n\
+Usage: gpurace why-held [OPTIONS] <GROUP> <ITEM> <INDEX> <FILE>...\n\n\
 For more information, try '--help'.\n";
 
 /// Tells of a fault on standard error, and gives its status. That standard error fails is passed over: there is nowhere
@@ -321,8 +321,8 @@ fn why_held<T: Read + Drop, O: Fn(&str) -> io::Result<T>, W: Write, E: Write>(
     let question = HeldEvent {
         event: arguments.event,
     };
-    let files = arguments.files.as_slice();
-    tell(alloc, &question, &sides, files, opener, writer, errors)
+    let (json, files) = (arguments.json, arguments.files.as_slice());
+    tell_in(json, alloc, question, &sides, files, opener, writer, errors)
 }
 
 /// Tells of all accesses to a word of the launch whose streams are in files, and gives the exit status.
@@ -343,8 +343,8 @@ fn history<T: Read + Drop, O: Fn(&str) -> io::Result<T>, W: Write, E: Write>(
     let question = WordHistory {
         word: arguments.word,
     };
-    let files = arguments.files.as_slice();
-    tell(alloc, &question, &sides, files, opener, writer, errors)
+    let (json, files) = (arguments.json, arguments.files.as_slice());
+    tell_in(json, alloc, question, &sides, files, opener, writer, errors)
 }
 
 /// Tells of a check that failed, and gives the status of what came of it.

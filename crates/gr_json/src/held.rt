@@ -9,28 +9,41 @@ use gr_model::memory::Memory;
 use serde_json::{Value, json};
 use std::alloc::{AllocError, Allocator, Global};
 
-/// The name of a release.
+/// A reason that is about an event.
 ///
 /// # Errors
 /// `AllocError`: out of memory.
-fn name_value(alloc: Global, name: Name) -> Result<Value, AllocError> {
-    json!(in alloc; {"group": name.at.group, "item": name.at.item, "release": name.release})
+fn about_event(alloc: Global, name: &str, event: EventId) -> Result<Value, AllocError> {
+    let event = event_value(alloc, event)?;
+    json!(in alloc; {"event": event, "name": name})
 }
 
-/// Why an event is held: the text's word, and the event, the name or the line that it is about.
+/// A reason that is about a release that an acquire names.
+///
+/// # Errors
+/// `AllocError`: out of memory.
+fn about_release(alloc: Global, name: &str, named: Name) -> Result<Value, AllocError> {
+    let group = named.at.group;
+    let item = named.at.item;
+    json!(in alloc; {
+        "name": name,
+        "release": {"group": group, "item": item, "number": named.release}
+    })
+}
+
+/// Why an event is held.
 ///
 /// # Errors
 /// `AllocError`: out of memory.
 fn reason_value(alloc: Global, reason: Reason) -> Result<Value, AllocError> {
-    let (name, about) = match reason {
-        Reason::Behind(event) => ("behind", event_value(alloc, event)?),
-        Reason::Release(event) => ("release", event_value(alloc, event)?),
-        Reason::Barrier(event) => ("barrier", event_value(alloc, event)?),
-        Reason::Absent(name) => ("absent", name_value(alloc, name)?),
-        Reason::OtherWord(name) => ("other-word", name_value(alloc, name)?),
-        Reason::Circle(line) => ("circle", Value::from(line)),
-    };
-    json!(in alloc; {"about": about, "name": name})
+    match reason {
+        Reason::Behind(event) => about_event(alloc, "behind", event),
+        Reason::Release(event) => about_event(alloc, "release", event),
+        Reason::Barrier(event) => about_event(alloc, "barrier", event),
+        Reason::Absent(named) => about_release(alloc, "absent", named),
+        Reason::OtherWord(named) => about_release(alloc, "other-word", named),
+        Reason::Circle(line) => json!(in alloc; {"line": line, "name": "circle"}),
+    }
 }
 
 fn push_links(alloc: Global, text: &mut Vec<u8>, links: &[Link]) -> Result<(), Memory> {

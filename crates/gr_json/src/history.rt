@@ -13,13 +13,16 @@ use gr_timeline::told::Told;
 use serde_json::{Map, Value, json, put};
 use std::alloc::{AllocError, Global};
 
-/// Events, in their order.
+/// The accesses above one that happen before it, or `all` where these are all that stand above.
 ///
 /// # Errors
 /// `AllocError`: out of memory.
-fn events_value(alloc: Global, events: &[EventId]) -> Result<Value, AllocError> {
+fn behind_value(alloc: Global, above: usize, behind: &[EventId]) -> Result<Value, AllocError> {
+    if above > 0 && behind.len() == above {
+        return Value::try_from_str(alloc, "all");
+    }
     let mut values = Vec::new(alloc);
-    for event in events {
+    for event in behind {
         values.push(event_value(alloc, *event)?)?;
     }
     Ok(Value::Array(values))
@@ -39,8 +42,7 @@ fn put_entry(
     if let Some(details) = known.get(&entry.event) {
         put_details(alloc, members, places, entry.event, details)?;
     }
-    put(members, alloc, "above", Value::from(entry.above))?;
-    let behind = events_value(alloc, &entry.behind)?;
+    let behind = behind_value(alloc, entry.above, &entry.behind)?;
     put(members, alloc, "behind", behind)?;
     let kind = Value::try_from_str(alloc, "access")?;
     put(members, alloc, "type", kind)

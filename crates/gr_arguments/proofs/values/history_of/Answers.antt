@@ -12,6 +12,7 @@ returns c =
     record {
       places = sym (text_there f (codes "places") c.get_str-places.result c.get_str-places.ensures);
       buffers = sym (text_there f (codes "buffers") c.get_str-buffers.result c.get_str-buffers.ensures);
+      as_json = sym c.asks_for-json.ensures;
       named = c.in-Some.ensures;
       at_files = sym c.in_ok-files.ensures;
     }

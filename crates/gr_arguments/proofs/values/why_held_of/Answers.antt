@@ -25,6 +25,7 @@ pub returns : goal.returns
 returns c =
     let f = found_of c.args.values.now in
     record {
+      as_json = sym c.asks_for-json.ensures;
       group = c.in-Some.group.now;
       item = c.in-Some-get_str.item.now;
       index = c.in-Some-get_str-2.index.now;
