@@ -18,7 +18,7 @@ use Rattle.gr_model.specs.Streams.{Streams}
 use Rattle.gr_model.specs.Waits.{IsGrounded}
 use Rattle.gr_model.proofs.Places.{Contains-at}
 use Rattle.gr_accesses.specs.declared.details.Details.{Details}
-use Rattle.gr_explain.specs.Edges.{same_event}
+use Rattle.gr_explain.specs.Events.{same_event}
 use Rattle.gr_explain.proofs.Sets.{event_from_equal}
 use Rattle.gr_accesses.specs.Accesses.{AreAccesses, IsKnown, IsOn, details_at}
 use Rattle.gr_accesses.specs.Held.{AreHeld}

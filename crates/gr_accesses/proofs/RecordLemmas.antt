@@ -15,7 +15,7 @@ use Rattle.gr_model.specs.Events.{is_end, is_end_kind}
 use Rattle.gr_model.specs.Streams.{is_of, places_from}
 use Rattle.gr_accesses.specs.declared.details.Details.{Details}
 use Rattle.gr_accesses.specs.Accesses.{details_at}
-use Rattle.gr_explain.specs.Edges.{same_event}
+use Rattle.gr_explain.specs.Events.{same_event}
 use Rattle.gr_explain.proofs.Sets.{event_from_equal, event_itself}
 use Rattle.gr_accesses.specs.Counting.{counted}
 use Rattle.gr_accesses.specs.Gathering.{AreKnownIn, IsKnownIn, KeepsRecord, event_in, event_of, number_in, phase_in, told_from, told_in, told_of, word_in}

@@ -5,7 +5,7 @@ use Rattle.gr_model.specs.declared.event.EventId.{EventId}
 use Rattle.gr_model.specs.declared.event.Word.{Word}
 use Rattle.gr_model.specs.Streams.{Streams, word_at}
 use Rattle.gr_accesses.specs.declared.details.Details.{Details}
-use Rattle.gr_explain.specs.Edges.{same_event}
+use Rattle.gr_explain.specs.Events.{same_event}
 use Rattle.gr_accesses.specs.Details.{details_of}
 
 -- an event accesses this word

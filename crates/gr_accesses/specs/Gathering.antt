@@ -9,7 +9,7 @@ use Rattle.gr_model.specs.Streams.{is_of, places_from}
 use Rattle.gr_accesses.specs.declared.counting.Count.{Count}
 use Rattle.gr_accesses.specs.declared.details.Details.{Details}
 use Rattle.gr_accesses.specs.Accesses.{details_at}
-use Rattle.gr_explain.specs.Edges.{same_event}
+use Rattle.gr_explain.specs.Events.{same_event}
 
 -- the record of an event in the list of its group, its number there, and how many barriers of its item stand before it
 abbrev pub event_in : List Event → EventId → Option Event

@@ -1,5 +1,5 @@
 -- The order of events and of pairs, and the least of the pairs of which something holds.
-use Rattle.std.proofs.Common.{◌≡◌, ◌⊎◌, ℕ, ◌<◌, ◌≤◌, Option, Some, None, MatchOption, sym, ◌∙◌, subst, inl, inr, ⊎_elim, arith, eq-or-lt_of_le}
+use Rattle.std.proofs.Common.{◌≡◌, ◌⊎◌, ℕ, ◌<◌, ◌≤◌, Option, Some, None, MatchOption, refl, sym, ◌∙◌, subst, inl, inr, ⊎_elim, arith, eq-or-lt_of_le}
 use Rattle.std.proofs.lemmas.Bool.{cases_lt}
 use Rattle.gr_model.specs.declared.event.EventId.{EventId}
 use Rattle.gr_model.specs.Reports.{EventBelow}
@@ -104,3 +104,55 @@ least_more C D (Some l) x r to from new (inr is) least =
           (λ c. least.1 p c)
           (λ (same : p ≡ x). λ below. is.1 (subst (λ y. PairBelow y l) same below)) (from p d),
     )
+
+pairs_either_way : (p q : Pair) → PairBelow p q ⊎ PairBelow q p ⊎ (p ≡ q)
+pairs_either_way p q = by_first (either_way p.0 q.0)
+  where
+    by_second : p.0 ≡ q.0 → EventBelow p.1 q.1 ⊎ EventBelow q.1 p.1 ⊎ (p.1 ≡ q.1) → PairBelow p q ⊎ PairBelow q p ⊎ (p ≡ q)
+    by_second same (inl below) = inl (inr (same, below))
+    by_second same (inr (inl below)) = inr (inl (inr (sym same, below)))
+    by_second same (inr (inr equal)) = inr (inr (λ i. (same i, equal i)))
+
+    by_first : EventBelow p.0 q.0 ⊎ EventBelow q.0 p.0 ⊎ (p.0 ≡ q.0) → PairBelow p q ⊎ PairBelow q p ⊎ (p ≡ q)
+    by_first (inl below) = inl (inl below)
+    by_first (inr (inl below)) = inr (inl (inl below))
+    by_first (inr (inr same)) = by_second same (either_way p.1 q.1)
+
+-- what is below the least of two is below the other
+below_lesser : (p x l : Pair) → PairBelow p l → ¬ PairBelow x l → PairBelow p x
+below_lesser p x l below not_less = ⊎_elim
+    (λ (less : PairBelow x l). absurd (not_less less))
+    (⊎_elim (λ (more : PairBelow l x). pair_below_trans p l x below more) (λ (same : x ≡ l). subst (λ y. PairBelow p y) (sym same) below))
+    (pairs_either_way x l)
+
+-- with a pair that none of the others is below, the lesser of it and the least so far
+pub least_group : (C D : Pair → Type 0) (least : Option Pair) (x r : Pair) → ((p : Pair) → C p → D p) → ((p : Pair) → D p → C p ⊎ ¬ PairBelow p x) → D x → MatchOption least (r ≡ x) (λ l. ((r ≡ x) × PairBelow x l) ⊎ ((r ≡ l) × ¬ PairBelow x l)) → IsLeastOf C least → IsLeast D r
+least_group C D None x r to from new is none = subst (IsLeast D) (sym is) (new, λ p d. ⊎_elim (λ c. absurd (none p c)) (λ not_below. not_below) (from p d))
+least_group C D (Some l) x r to from new (inl is) least =
+    subst (IsLeast D) (sym is.0) (
+      new,
+      λ p d. ⊎_elim (λ c. λ below. least.1 p c (pair_below_trans p x l below is.1)) (λ not_below. not_below) (from p d),
+    )
+least_group C D (Some l) x r to from new (inr is) least =
+    subst (IsLeast D) (sym is.0) (
+      to l least.0,
+      λ p d. ⊎_elim (λ c. least.1 p c) (λ not_below. λ below. not_below (below_lesser p x l below is.1)) (from p d),
+    )
+
+-- where what is looked at after the least so far is followed by what came before
+pub least_then : (C D : Pair → Type 0) (old new : Option Pair) → IsLeastOf C old → IsLeastOf (λ p. (old ≡ Some p) ⊎ D p) new → IsLeastOf (λ p. C p ⊎ D p) new
+least_then C D None None none none_new = λ p cd. ⊎_elim (λ c. none p c) (λ d. none_new p (inr d)) cd
+least_then C D None (Some n) none is = (
+  ⊎_elim (λ (same : None ≡ Some n). cc) (λ d. inr d) is.0,
+  λ p cd. ⊎_elim (λ c. absurd (none p c)) (λ d. is.1 p (inr d)) cd,
+)
+least_then C D (Some l) None least none_new = λ p cd. none_new l (inl refl)
+least_then C D (Some l) (Some n) least is = (
+  ⊎_elim (λ (same : Some l ≡ Some n). let here : l ≡ n = cc in inl (subst C here least.0)) (λ d. inr d) is.0,
+  λ p cd. ⊎_elim
+      (λ c. λ below. ⊎_elim (λ (same : Some l ≡ Some n). let here : l ≡ n = cc in least.1 p c (subst (λ q. PairBelow p q) (sym here) below)) (λ d. is_less p c below) is.0)
+      (λ d. is.1 p (inr d)) cd,
+)
+  where
+    is_less : (p : Pair) → C p → PairBelow p n → ⊥
+    is_less p c below = least.1 p c (below_lesser p l n below (is.1 l (inl refl)))

@@ -1,11 +1,9 @@
--- Sets of events and of instances, as the lists of their elements.
+-- Sets of events, as the lists of their elements.
 use Rattle.std.proofs.Common.{◌≡◌, ◌⊎◌, Bool, true, false, cond, List, [], ◌==◌, ◌&&◌, refl, sym, ap, ◌∙◌, inl, inr, eqb-true, true≢false}
 use Rattle.std.specs.List.{list_any}
 use Rattle.gr_model.specs.declared.event.EventId.{EventId}
 use Rattle.gr_model.specs.contracts.event.EventIdEq.TheImpl.Laws as equal
-use Rattle.gr_explain.specs.declared.reached.Instance.{Instance}
-use Rattle.gr_explain.specs.contracts.reached.InstanceEq.TheImpl.Laws as instance_equal
-use Rattle.gr_explain.specs.Edges.{Has, same_event, same_instance}
+use Rattle.gr_explain.specs.Events.{Has, same_event}
 
 -- the event that a loop over events names where there is none
 abbrev pub no_id : EventId
@@ -23,14 +21,6 @@ event_from_equal d e h =
 
 pub event_itself : (e : EventId) → same_event e e ≡ true
 event_itself e = equal.laws-law.refl e
-
-pub instance_from_equal : (k l : Instance) → same_instance k l ≡ true → k ≡ l
-instance_from_equal k l h =
-    let parts = both (k.group == l.group) (k.number == l.number) h in
-    λ i. record { group = eqb-true k.group l.group parts.0 i; number = eqb-true k.number l.number parts.1 i }
-
-pub instance_itself : (k : Instance) → same_instance k k ≡ true
-instance_itself k = instance_equal.laws-law.refl k
 
 pub has_none : (events : List EventId) (e : EventId) → events ≡ [] → ¬ Has events e
 has_none events e none h = true≢false (sym h ∙ ap (list_any (same_event e)) none)

@@ -1,5 +1,9 @@
-pub mod LeastRaces
-pub mod Searching
 pub mod Taking
-pub mod Edges
+pub mod Events
+pub mod LeastRaces
 pub mod Judgements
+pub mod Answering
+pub mod Accesses
+pub mod Judged
+pub mod Seen
+pub mod Search

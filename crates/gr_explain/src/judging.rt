@@ -1,21 +1,19 @@
-//! Whether two events of a launch race.
+//! Whether pairs of accesses of a launch race.
 
-ghost use Rattle.std.specs.Prelude.{◌≢◌, ◌↔◌, IfOk, IsTrue};
-ghost use Rattle.gr_model.specs.Counts.{Sees};
-ghost use Rattle.gr_model.specs.HappensBefore.{HappensBefore};
-ghost use Rattle.gr_model.specs.LawfulOrders.{IsIn, IsLawful, IsWholeOrder};
-ghost use Rattle.gr_model.specs.Races.{IsRace};
-ghost use Rattle.gr_model.specs.Streams.{ArePrefixes};
-ghost use Rattle.gr_explain.specs.Judgements.{IsJudgement};
+ghost use Rattle.std.specs.Prelude.{◌≡◌, ◌↔◌, All, IfOk, IsTrue};
+ghost use Rattle.gr_model.specs.Streams.{Streams};
+ghost use Rattle.gr_clocks.specs.ClockedAccess.{clocked};
+ghost use Rattle.gr_shadow.specs.Clashes as shadow;
+ghost use Rattle.gr_explain.specs.Accesses.{AreBothKept};
+ghost use Rattle.gr_explain.specs.Judged.{AreAccesses, AreJudgements, ClashOn, IsJudged};
 
-use crate::candidates::may_race;
-use crate::followers::followers;
-use crate::grounded::grounded_events;
-use crate::records::Records;
-use gr_clocks::clocks::memory_of;
-use gr_model::event::{EventId, Space, Word};
+use crate::accesses::{Accesses, accesses_of_pairs};
+use gr_clocks::access::Access;
+use gr_model::event::Word;
 use gr_model::memory::Memory;
+use gr_model::race::Race;
 use gr_model::traces::Traces;
+use gr_scopes::class::exempt;
 use std::alloc::Allocator;
 
 /// What two events are to each other on a word.
@@ -29,113 +27,76 @@ pub enum Judgement {
     NoRace,
 }
 
-/// Whether an event stands in an order.
-fn stands_in(order: &[EventId], event: EventId) -> bool
-    ensures { IsTrue result ↔ IsIn order.now event }
+/// Whether an access is of another item than another one, not exempt with it, and does not count it.
+fn clashes<A: Allocator>(earlier: &Access<A>, later: &Access<A>) -> bool
+    ensures { result ≡ shadow.clashes (clocked earlier.now) (clocked later.now) }
 {
-    order.iter().any(|other| *other == event)
+    earlier.item != later.item
+        && !exempt(
+            earlier.class,
+            earlier.item.group,
+            later.class,
+            later.item.group,
+        )
+        && !later.clock.covers(earlier.item, earlier.index)
 }
 
-/// Whether an event happens before another in a memory.
+/// Whether two accesses are of a word and each clashes with the other: neither counts the other.
+fn are_race<A: Allocator>(word: Word, first: &Access<A>, second: &Access<A>) -> bool
+    ensures { IsTrue result ↔ (ClashOn word (clocked first.now) (clocked second.now) × ClashOn word (clocked second.now) (clocked first.now)) }
+{
+    first.word == word && second.word == word && clashes(first, second) && clashes(second, first)
+}
+
+/// What the two events of a pair are to each other on its word, where the accesses of those that are grounded were kept.
+fn judgement_of<A: Allocator>(accesses: &Accesses<A>, race: &Race) -> Judgement
+    ensures { (s : Streams) → AreAccesses s race.now → AreBothKept s accesses.now.entries race.now → IsJudged s race.now result }
+{
+    match (accesses.get(&race.first), accesses.get(&race.second)) {
+        (Some(first), Some(second)) => {
+            if are_race(race.word, first, second) {
+                Judgement::Race
+            } else {
+                Judgement::NoRace
+            }
+        }
+        _ => Judgement::Held,
+    }
+}
+
+/// What the two accesses of each pair are to each other on its word, where the accesses of those that are grounded were kept.
 ///
 /// # Errors
 /// `Memory`: out of memory.
-fn is_before<A: Allocator + Copy>(
+fn judgements_of<A: Allocator + Copy>(
     alloc: A,
-    records: &Records<A>,
-    order: &[EventId],
-    space: Space,
-    first: EventId,
-    second: EventId,
-) -> Result<bool, Memory>
-    requires prefixes { ArePrefixes records.now }
-    requires lawful { IsLawful records.now order.now }
-    requires there { IsIn order.now second }
-    requires apart { first ≢ second }
-    ensures { IfOk result (λ before. IsTrue before ↔ HappensBefore records.now space first second) }
+    accesses: &Accesses<A>,
+    races: &[Race],
+) -> Result<Vec<Judgement, A>, Memory>
+    ensures { IfOk result (λ judgements. (s : Streams) → All (AreAccesses s) races.now → All (AreBothKept s accesses.now.entries) races.now → AreJudgements s races.now judgements.items) }
 {
-    let followers = followers(alloc, records, order, space, first)?;
-    Ok(followers.events.contains(&second))
+    let mut judgements = Vec::new(alloc);
+    for race in races {
+        judgements.push(judgement_of(accesses, race))?;
+    }
+    Ok(judgements)
 }
 
-/// Whether two events of a lawful order are a race on a word.
+/// What the two accesses of each pair are to each other on its word: a race, no race, or one of them is held. The answers
+/// stand in the order of the pairs.
+///
+/// It handles the events of the launch once for all pairs. Time and memory grow with the events, and with the pairs.
 ///
 /// # Errors
 /// `Memory`: out of memory.
-fn is_race<A: Allocator + Copy>(
-    alloc: A,
-    records: &Records<A>,
-    order: &[EventId],
-    word: Word,
-    first: EventId,
-    second: EventId,
-) -> Result<bool, Memory>
-    requires prefixes { ArePrefixes records.now }
-    requires lawful { IsLawful records.now order.now }
-    requires first { IsIn order.now first }
-    requires second { IsIn order.now second }
-    ensures { IfOk result (λ race. IsTrue race ↔ IsRace records.now word first second) }
-{
-    if !may_race(records, word, first, second) {
-        return Ok(false);
-    }
-    let space = memory_of(word);
-    if is_before(alloc, records, order, space, first, second)? {
-        return Ok(false);
-    }
-    let after = is_before(alloc, records, order, space, second, first)?;
-    Ok(!after)
-}
-
-/// Whether two events of a launch are a race on a word, or one of them is held: it does not stand in the lawful order of all
-/// grounded events.
-///
-/// # Errors
-/// `Memory`: out of memory.
-fn judgement_of<A: Allocator + Copy>(
-    alloc: A,
-    records: &Records<A>,
-    order: &[EventId],
-    word: Word,
-    first: EventId,
-    second: EventId,
-) -> Result<Judgement, Memory>
-    requires prefixes { ArePrefixes records.now }
-    requires whole { IsWholeOrder records.now order.now }
-    ensures { IfOk result (λ j. IsJudgement records.now word first second j) }
-{
-    if !stands_in(order, first) || !stands_in(order, second) {
-        return Ok(Judgement::Held);
-    }
-    if is_race(alloc, records, order, word, first, second)? {
-        Ok(Judgement::Race)
-    } else {
-        Ok(Judgement::NoRace)
-    }
-}
-
-/// Whether two events of a launch are a race on a word, or one of them is held.
-///
-/// It follows base pairs alone, without clocks, and so takes time and memory that grow with the events of the launch.
-///
-/// # Errors
-/// `Memory`: out of memory.
-pub fn judge<A: Allocator + Copy>(
+pub fn judge_races<A: Allocator + Copy>(
     alloc: A,
     traces: &Traces<A>,
-    word: Word,
-    first: EventId,
-    second: EventId,
-) -> Result<Judgement, Memory>
-    ensures { IfOk result (λ j. IsJudgement traces.now word first second j) }
+    races: &[Race],
+) -> Result<Vec<Judgement, A>, Memory>
+    requires accesses { All (AreAccesses traces.now) races.now }
+    ensures { IfOk result (λ judgements. AreJudgements traces.now races.now judgements.items) }
 {
-    let grounded = grounded_events(alloc, traces)?;
-    judgement_of(
-        alloc,
-        &grounded.records,
-        &grounded.order,
-        word,
-        first,
-        second,
-    )
+    let accesses = accesses_of_pairs(alloc, traces, races)?;
+    judgements_of(alloc, &accesses, races)
 }

@@ -8,8 +8,8 @@ use Rattle.gr_model.specs.Streams.{Streams}
 use Rattle.gr_races.specs.declared.cause.Cause.{Cause}
 use Rattle.gr_races.specs.declared.cause.Cause.TheVariants.{Flags, Scope, Divergence, NoBarrier, NoHandOver}
 use Rattle.gr_explain.specs.declared.judging.Judgement.{Judgement}
-use Rattle.gr_judge.specs.Judged.{AreJudgements, IsJudged}
-use Rattle.gr_judge.proofs.AnswerLemmas.{answer_at, answers_count}
+use Rattle.gr_explain.specs.Judged.{AreJudgements, IsJudged}
+use Rattle.gr_explain.proofs.AnswerLemmas.{answer_at, answers_count}
 use Rattle.gr_races.specs.Causes.{IsCause}
 
 pub one_cause : (s : Streams) (w : Word) (e f : EventId) (c d : Cause) → IsCause s w e f c → IsCause s w e f d → c ≡ d

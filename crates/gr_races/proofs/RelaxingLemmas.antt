@@ -16,7 +16,7 @@ use Rattle.gr_model.specs.Events.{IsEventOk, IsKindOk, IsNamingOk, is_end_kind}
 use Rattle.gr_model.specs.Streams.{AreAccepted, AreGood, IsAccepted, IsGoodAt, Streams, event_at, is_complete, is_of, list_of, size_of, word_at}
 use Rattle.gr_races.specs.declared.relaxing.Relaxation.{Relaxation}
 use Rattle.gr_races.specs.declared.relaxing.Relaxation.TheVariants.{BothFlags, DeviceScope}
-use Rattle.gr_judge.specs.Judged.{AreAccesses}
+use Rattle.gr_explain.specs.Judged.{AreAccesses}
 use Rattle.gr_races.specs.Causes.{IsPairOf}
 use Rattle.gr_races.specs.Relaxing.{relaxed, relaxed_event, relaxed_kind}
 

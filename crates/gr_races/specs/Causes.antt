@@ -8,7 +8,7 @@ use Rattle.gr_model.specs.RacePairs.{IsRacePair}
 use Rattle.gr_model.specs.Races.{IsRace}
 use Rattle.gr_model.specs.Streams.{Streams}
 use Rattle.gr_explain.specs.Judgements.{AreJudged}
-use Rattle.gr_judge.specs.Answering.{AreAnswers}
+use Rattle.gr_explain.specs.Answering.{AreAnswers}
 use Rattle.gr_races.specs.declared.cause.Cause.{Cause}
 use Rattle.gr_races.specs.declared.cause.Cause.TheVariants.{Flags, Scope, Divergence, NoBarrier, NoHandOver}
 use Rattle.gr_races.specs.declared.relaxing.Relaxation.{Relaxation}

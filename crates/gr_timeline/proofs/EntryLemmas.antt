@@ -1,38 +1,48 @@
--- The events of the first entries of a list, and those of them that a clock counts.
-use Rattle.std.proofs.Common.{◌≡◌, ℕ, ◌+◌, ◌<◌, List, [], ◌∷◌, ◌++◌, ap, sym, ◌∙◌, get_or, length, subst, take}
-use Rattle.std.proofs.lemmas.List.{length-map, map-append, take_more}
+-- The lines of entries, where one more comes.
+use Rattle.std.proofs.Common.{◌≡◌, ◌+◌, ◌<◌, ℕ, Bool, true, false, cond, List, [], ◌∷◌, ◌++◌, ap, append-nil, append_assoc, filter, length, map, refl, sym, true≢false, ◌∙◌}
+use Rattle.std.proofs.lemmas.Bool.{lt-ltb, ltb-true}
+use Rattle.std.proofs.lemmas.List.{length-map}
+use Rattle.std.specs.Prelude.{nat_lt}
 use Rattle.gr_model.specs.declared.event.EventId.{EventId}
-use Rattle.gr_clocks.specs.Counts.{Counts}
+use Rattle.gr_clocks.specs.Counts.{Counts, count_of}
 use Rattle.gr_timeline.specs.declared.entry.Entry.{Entry}
-use Rattle.gr_timeline.specs.Histories.{IsCounted, events_of, line_of, lines_of}
-use Rattle.gr_timeline.specs.Selections.{AreThose}
-use Rattle.gr_timeline.proofs.SelectionLemmas.{other_more, those_more}
+use Rattle.gr_timeline.specs.Histories.{IsAdded, IsCounted, Line, events_of, is_counted, line_below, lines_below, lines_of}
+use Rattle.gr_timeline.specs.Selections.{AreThose, of_none, of_one, of_other}
+
+-- what a clock counts of a list
+those_counted : (c : Counts) (events : List EventId) → AreThose (IsCounted c) events (filter (is_counted c) events)
+those_counted c [] = of_none
+those_counted c (e ∷ events) = by_test (is_counted c e) refl
+  where
+    by_test : (b : Bool) → is_counted c e ≡ b → AreThose (IsCounted c) (e ∷ events) (cond b (e ∷ filter (is_counted c) events) (filter (is_counted c) events))
+    by_test true t = of_one (ltb-true e.index (count_of c e.at) t) (those_counted c events)
+    by_test false f = of_other (λ is. true≢false (sym (lt-ltb e.index (count_of c e.at) is) ∙ f)) (those_counted c events)
 
 module _ {Z : Type 0} where
-  lines_more : (entries : List (Entry Z)) (e : Entry Z) → events_of (lines_of (entries ++ e ∷ [])) ≡ events_of (lines_of entries) ++ e.event ∷ []
-  lines_more entries e = ap events_of (map-append line_of entries (e ∷ [])) ∙ map-append (λ l. l.event) (lines_of entries) (line_of e ∷ [])
+  -- the events of the lines are those of the entries
+  events_below : (above : List EventId) (entries : List (Entry Z)) → events_of (lines_below above entries) ≡ map (λ x. x.event) entries
+  events_below above [] = refl
+  events_below above (x ∷ entries) = ap (λ l. x.event ∷ l) (events_below (above ++ x.event ∷ []) entries)
 
-  -- an entry is added, below as many as there are
-  pub line_pushed : (old new : List (Entry Z)) (e : Entry Z) → new ≡ old ++ e ∷ [] → e.above ≡ length old → lines_of new ≡ lines_of old ++ record { event = e.event; above = length (lines_of old); behind = e.behind.items } ∷ []
-  line_pushed old new e is above =
-      ap lines_of is ∙ (map-append line_of old (e ∷ []) ∙ ap (λ (n : ℕ). lines_of old ++ record { event = e.event; above = n; behind = e.behind.items } ∷ []) (above ∙ sym (length-map old line_of)))
+  length_below : (above : List EventId) (entries : List (Entry Z)) → length (lines_below above entries) ≡ length entries
+  length_below above [] = refl
+  length_below above (x ∷ entries) = ap (λ n. 1 + n) (length_below (above ++ x.event ∷ []) entries)
 
-  module _ (c : Counts) (entries : List (Entry Z)) (i : ℕ) (e : Entry Z) (lt : i < length entries) (here : e ≡ get_or entries i e) (behind new : List EventId) (are : AreThose (IsCounted c) (events_of (lines_of (take i entries))) behind) where
-    events_more : events_of (lines_of (take (i + 1) entries)) ≡ events_of (lines_of (take i entries)) ++ e.event ∷ []
-    events_more =
-        ap (λ (l : List (Entry Z)). events_of (lines_of l)) (take_more entries i e lt)
-        ∙ lines_more (take i entries) (get_or entries i e)
-        ∙ ap (λ (x : Entry Z). events_of (lines_of (take i entries)) ++ x.event ∷ []) (sym here)
+  lines_more : (above : List EventId) (entries : List (Entry Z)) (x : Entry Z) → lines_below above (entries ++ x ∷ []) ≡ lines_below above entries ++ line_below (above ++ map (λ y. y.event) entries) x ∷ []
+  lines_more above [] x = ap (λ l. line_below l x ∷ []) (sym (append-nil above))
+  lines_more above (y ∷ entries) x =
+      ap (λ l. line_below above y ∷ l)
+      (lines_more (above ++ y.event ∷ []) entries x
+      ∙ ap (λ l. lines_below (above ++ y.event ∷ []) entries ++ line_below l x ∷ []) (append_assoc above (y.event ∷ []) (map (λ z. z.event) entries)))
 
-    -- with the next entry
-    pub counted_more : IsCounted c e.event → new ≡ behind ++ e.event ∷ [] → AreThose (IsCounted c) (events_of (lines_of (take (i + 1) entries))) new
-    counted_more is pushed =
-        subst (λ (above : List EventId). AreThose (IsCounted c) above new) (sym events_more)
-        (subst (λ (those : List EventId). AreThose (IsCounted c) (events_of (lines_of (take i entries)) ++ e.event ∷ []) those) (sym pushed)
-        (those_more (IsCounted c) (events_of (lines_of (take i entries))) behind e.event are is))
-
-    pub uncounted_more : ¬ IsCounted c e.event → new ≡ behind → AreThose (IsCounted c) (events_of (lines_of (take (i + 1) entries))) new
-    uncounted_more is_not same =
-        subst (λ (above : List EventId). AreThose (IsCounted c) above new) (sym events_more)
-        (subst (λ (those : List EventId). AreThose (IsCounted c) (events_of (lines_of (take i entries)) ++ e.event ∷ []) those) (sym same)
-        (other_more (IsCounted c) (events_of (lines_of (take i entries))) behind e.event are is_not))
+  pub entry_added : (old new : List (Entry Z)) (x : Entry Z) → new ≡ old ++ x ∷ [] → IsAdded x.event x.clock (lines_of old) (lines_of new)
+  entry_added old new x is = record {
+    behind = filter (is_counted x.clock) (events_of (lines_of old));
+    counted = those_counted x.clock (events_of (lines_of old));
+    pushed =
+        ap lines_of is ∙ (lines_more [] old x
+        ∙ ap (λ (l : Line). lines_of old ++ l ∷ []) (λ i. record { event = x.event; above = lengths i; behind = filter (is_counted x.clock) (sym (events_below [] old) i) }));
+  }
+    where
+      lengths : length (map (λ (y : Entry Z). y.event) old) ≡ length (lines_of old)
+      lengths = length-map old (λ y. y.event) ∙ sym (length_below [] old)

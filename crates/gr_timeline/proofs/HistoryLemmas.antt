@@ -15,7 +15,7 @@ use Rattle.gr_order.specs.Sequences.{IsDone, Sequence}
 use Rattle.gr_sequencer.specs.Answers.{IsStep}
 use Rattle.gr_sequencer.specs.declared.handled.Handled.{Handled}
 use Rattle.gr_sequencer.specs.declared.handled.Handled.TheVariants.{One, Meet}
-use Rattle.gr_judge.proofs.KeptLemmas.{barrier_has_none}
+use Rattle.gr_explain.proofs.KeptLemmas.{barrier_has_none}
 use Rattle.gr_accesses.specs.Accesses.{IsOn}
 use Rattle.gr_timeline.specs.Histories.{AddsStep, IsAdded, IsAlong, IsCounted, IsHistory, Line, events_of}
 use Rattle.gr_timeline.specs.Selections.{AreThose, of_none}

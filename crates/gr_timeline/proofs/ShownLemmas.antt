@@ -13,7 +13,7 @@ use Rattle.gr_model.specs.Streams.{Streams}
 use Rattle.gr_model.specs.Waits.{IsGrounded}
 use Rattle.gr_model.proofs.Descent.{lawful_is_grounded}
 use Rattle.gr_model.proofs.WordLemmas.{same_from_equal}
-use Rattle.gr_explain.specs.Edges.{same_event}
+use Rattle.gr_explain.specs.Events.{same_event}
 use Rattle.gr_accesses.specs.declared.details.Details.{Details}
 use Rattle.gr_accesses.specs.Accesses.{AreAccesses, IsOn}
 use Rattle.gr_accesses.specs.Held.{AreHeld}

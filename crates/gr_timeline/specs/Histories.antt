@@ -1,6 +1,6 @@
 -- The accesses to one word of a launch, in an order in which they can be handled, each with those that happen before it.
 -- Source: docs/MODEL.md, "Lawful orders" and "Happens-before".
-use Rattle.std.specs.Prelude.{◌≡◌, ◌≢◌, ◌⊎◌, ℕ, ◌<◌, List, [], ◌∷◌, ◌++◌, None, Some, length, map, slice_get, take}
+use Rattle.std.specs.Prelude.{◌≡◌, ◌≢◌, ◌⊎◌, ℕ, ◌<◌, Bool, List, [], ◌∷◌, ◌++◌, None, Some, filter, length, map, nat_lt, slice_get, take}
 use Rattle.gr_model.specs.declared.event.EventId.{EventId}
 use Rattle.gr_model.specs.declared.event.Word.{Word}
 use Rattle.gr_model.specs.Access.{memory_of}
@@ -20,11 +20,23 @@ pub record Line : Type 0 where
   pub above : ℕ
   pub behind : List EventId
 
-abbrev pub line_of : {Z : Type 0} → Entry Z → Line
-line_of x = record { event = x.event; above = x.above; behind = x.behind.items }
+-- a clock counts an event
+abbrev pub IsCounted : Counts → EventId → Type 0
+IsCounted c d = d.index < count_of c d.at
+
+abbrev pub is_counted : Counts → EventId → Bool
+is_counted c d = nat_lt d.index (count_of c d.at)
+
+-- an access below others, with those of them that its clock counts
+abbrev pub line_below : {Z : Type 0} → List EventId → Entry Z → Line
+line_below above x = record { event = x.event; above = length above; behind = filter (is_counted x.clock) above }
+
+abbrev pub lines_below : {Z : Type 0} → List EventId → List (Entry Z) → List Line
+lines_below above [] = []
+lines_below above (x ∷ entries) = line_below above x ∷ lines_below (above ++ x.event ∷ []) entries
 
 abbrev pub lines_of : {Z : Type 0} → List (Entry Z) → List Line
-lines_of entries = map line_of entries
+lines_of entries = lines_below [] entries
 
 -- the accesses themselves
 abbrev pub events_of : List Line → List EventId
@@ -43,10 +55,6 @@ pub record IsHistory (s : Streams) (w : Word) (lines : List Line) : Type 0 where
   pub along : IsAlong s w order lines
 
 -- ---- one access more
-
--- a clock counts an event
-abbrev pub IsCounted : Counts → EventId → Type 0
-IsCounted c d = d.index < count_of c d.at
 
 -- an access is added, with those above it that a clock counts
 pub record IsAdded (e : EventId) (c : Counts) (old new : List Line) : Type 0 where

@@ -4,7 +4,7 @@ ghost use Rattle.std.specs.Prelude.{OnOk};
 ghost use Rattle.gr_model.specs.Streams.{Streams};
 ghost use Rattle.gr_timeline.specs.Histories.{AddsStep, IsAdded, IsAlong, IsHistory, lines_of};
 
-use crate::entry::{Entry, counted_of};
+use crate::entry::Entry;
 use gr_clocks::clock::Clock;
 use gr_model::event::{EventId, Word};
 use gr_model::memory::Memory;
@@ -12,25 +12,18 @@ use gr_sequencer::handled::Handled;
 use gr_sequencer::sequencer::Sequencer;
 use std::alloc::Allocator;
 
-/// Adds an access, with those above it that its clock counts.
+/// Adds an access, with its clock.
 ///
 /// # Errors
 /// `Memory`: out of memory.
-fn add<A: Allocator + Copy>(
-    alloc: A,
+fn add<A: Allocator>(
     entries: &mut Vec<Entry<A>, A>,
     event: EventId,
-    clock: &Clock<A>,
+    clock: Clock<A>,
 ) -> Result<(), Memory>
-    ensures { OnOk result (IsAdded event clock.now (lines_of entries.old.items) (lines_of entries.new.items)) }
+    ensures { OnOk result (IsAdded event clock (lines_of entries.old.items) (lines_of entries.new.items)) }
 {
-    let behind = counted_of(alloc, entries, clock)?;
-    let above = entries.len();
-    entries.push(Entry {
-        event,
-        above,
-        behind,
-    })?;
+    entries.push(Entry { event, clock })?;
     Ok(())
 }
 
@@ -38,8 +31,7 @@ fn add<A: Allocator + Copy>(
 ///
 /// # Errors
 /// `Memory`: out of memory.
-fn add_step<A: Allocator + Copy>(
-    alloc: A,
+fn add_step<A: Allocator>(
     entries: &mut Vec<Entry<A>, A>,
     word: Word,
     step: Handled<A>,
@@ -52,7 +44,7 @@ fn add_step<A: Allocator + Copy>(
             access: Some(access),
         } => {
             if access.word == word {
-                add(alloc, entries, event, &access.clock)?;
+                add(entries, event, access.clock)?;
             }
             Ok(())
         }
@@ -65,7 +57,6 @@ fn add_step<A: Allocator + Copy>(
 /// # Errors
 /// `Memory`: out of memory.
 pub(crate) fn handle_all<A: Allocator + Copy>(
-    alloc: A,
     sequencer: &mut Sequencer<A>,
     entries: &mut Vec<Entry<A>, A>,
     word: Word,
@@ -74,7 +65,7 @@ pub(crate) fn handle_all<A: Allocator + Copy>(
     ensures { OnOk result (IsHistory sequencer.old.taken word (lines_of entries.new.items)) }
 {
     while let Some(step) = sequencer.step()? {
-        add_step(alloc, entries, word, step)?;
+        add_step(entries, word, step)?;
         // brings into the proof that no more events are handled than were taken
         let _held = sequencer.held();
     }

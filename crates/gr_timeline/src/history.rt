@@ -5,7 +5,7 @@ ghost use Rattle.gr_timeline.specs.Histories.{IsHistory, lines_of};
 
 use crate::entry::Entry;
 use crate::handling::handle_all;
-use gr_judge::taking::take_all;
+use gr_explain::sequencing::take_all;
 use gr_model::event::Word;
 use gr_model::memory::Memory;
 use gr_model::traces::Traces;
@@ -25,15 +25,14 @@ fn entries_of<A: Allocator + Copy>(
     ensures { IfOk result (λ entries. IsHistory sequencer.old.taken word (lines_of entries.items)) }
 {
     let mut entries = Vec::new(alloc);
-    handle_all(alloc, sequencer, &mut entries, word)?;
+    handle_all(sequencer, &mut entries, word)?;
     Ok(entries)
 }
 
 /// The accesses to a word that are grounded, each once, in a lawful order of the launch, and each with those above it that
 /// happen before it.
 ///
-/// It handles the events of the launch once. Time and memory grow with the events, and with the accesses to the word
-/// times those above each.
+/// It handles the events of the launch once. Time and memory grow with the events: which accesses happen before one is in its clock.
 ///
 /// # Errors
 /// `Memory`: out of memory.

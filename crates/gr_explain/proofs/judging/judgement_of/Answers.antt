@@ -1,28 +1,26 @@
-use Rattle.std.proofs.Common.{◌∙◌, sym, true≢false}
-use Rattle.gr_explain.proofs.JudgingLemmas.{stands_grounded}
+use Rattle.std.proofs.Common.{◌∙◌, ap, subst, sym, true≢false}
+use Rattle.std.specs.Option.{option_copied}
+use Rattle.gr_model.specs.Waits.{IsGrounded}
+use Rattle.gr_explain.specs.Accesses.{IsKept}
+use Rattle.gr_explain.proofs.JudgedLemmas.{clashes_are_race, race_clashes}
 use Rattle.gr_explain.proofs.judging.judgement_of.Goals as goal
-use Rattle.gr_explain.proofs.judging.judgement_of.Goals.{then-not-stands_in-via-then-not-stands_in, then-not-stands_in-via-else-not-stands_in+then-not-stands_in-2}
 
-pub returns-then-not-stands_in : goal.returns-then-not-stands_in
-returns-then-not-stands_in g c judged =
-    let there = stands_grounded c.args.records.now c.args.order.now c.requires.whole in
-    elim c.then-not-stands_in.branch [
-      | then-not-stands_in-via-then-not-stands_in w ↦
-          true≢false (sym (c.stands_in.ensures.1 ((there c.args.first).1 judged.0)) ∙ w.if-not-stands_in.true)
-      | then-not-stands_in-via-else-not-stands_in+then-not-stands_in-2 w ↦
-          true≢false (sym (w.stands_in-else-not-stands_in.ensures.1 ((there c.args.second).1 judged.1)) ∙ w.if-not-stands_in-2.true)
-    ]
+pub returns-then-are_race : goal.returns-then-are_race
+returns-then-are_race g c s accesses kept =
+    let r = c.args.race.now in
+    let a = c.in-Some-Some.first.now in
+    let b = c.in-Some-Some.second.now in
+    let of_first = subst (IsKept s (IsGrounded s) r.first) (sym c.get.ensures.value ∙ ap option_copied c.in-Some-Some.is-0) kept.first in
+    let of_second = subst (IsKept s (IsGrounded s) r.second) (sym c.get-2.ensures.value ∙ ap option_copied c.in-Some-Some.is-1) kept.second in
+    ((of_first.0, of_second.0), clashes_are_race s r.word r.first r.second a b of_first.1 of_second.1 (c.are_race.ensures.0 c.if-are_race.true))
 
-pub returns-then-branch : goal.returns-then-branch
-returns-then-branch g c =
-    let there = stands_grounded c.args.records.now c.args.order.now c.requires.whole in (
-      ((there c.args.first).0 (c.stands_in.ensures.0 c.if-not-stands_in.false), (there c.args.second).0 (c.stands_in-else-not-stands_in.ensures.0 c.if-not-stands_in-2.false)),
-      c.in_ok-is_race.ensures.0 c.if-branch.true,
-    )
-
-pub returns-else-branch : goal.returns-else-branch
-returns-else-branch g c =
-    let there = stands_grounded c.args.records.now c.args.order.now c.requires.whole in (
-      ((there c.args.first).0 (c.stands_in.ensures.0 c.if-not-stands_in.false), (there c.args.second).0 (c.stands_in-else-not-stands_in.ensures.0 c.if-not-stands_in-2.false)),
-      λ race. true≢false (sym (c.in_ok-is_race.ensures.1 race) ∙ c.if-branch.false),
+pub returns-else-are_race : goal.returns-else-are_race
+returns-else-are_race g c s accesses kept =
+    let r = c.args.race.now in
+    let a = c.in-Some-Some.first.now in
+    let b = c.in-Some-Some.second.now in
+    let of_first = subst (IsKept s (IsGrounded s) r.first) (sym c.get.ensures.value ∙ ap option_copied c.in-Some-Some.is-0) kept.first in
+    let of_second = subst (IsKept s (IsGrounded s) r.second) (sym c.get-2.ensures.value ∙ ap option_copied c.in-Some-Some.is-1) kept.second in (
+      (of_first.0, of_second.0),
+      λ race. true≢false (sym (c.are_race.ensures.1 (race_clashes s r.word r.first r.second a b of_first.1 of_second.1 race)) ∙ c.if-are_race.false),
     )

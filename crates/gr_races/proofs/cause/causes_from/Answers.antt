@@ -3,8 +3,8 @@ use Rattle.std.proofs.lemmas.List.Elements.{All-get_or}
 use Rattle.gr_races.specs.Causes.{IsCauseOf, IsPairOf}
 use Rattle.gr_races.specs.Relaxing.{relaxed}
 use Rattle.gr_races.specs.declared.relaxing.Relaxation.TheVariants.{BothFlags, DeviceScope}
-use Rattle.gr_judge.specs.Judged.{IsJudged}
-use Rattle.gr_judge.proofs.AnswerLemmas.{answers_count, answers_next}
+use Rattle.gr_explain.specs.Judged.{IsJudged}
+use Rattle.gr_explain.proofs.AnswerLemmas.{answers_count, answers_next}
 use Rattle.gr_races.proofs.CauseLemmas.{judged_at}
 use Rattle.gr_races.proofs.cause.causes_from.Goals as goal
 

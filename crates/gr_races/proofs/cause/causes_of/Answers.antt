@@ -4,7 +4,7 @@ use Rattle.gr_model.specs.Streams.{ArePrefixes, Streams}
 use Rattle.gr_explain.specs.declared.judging.Judgement.{Judgement}
 use Rattle.gr_order.specs.Sequences.{Sequence}
 use Rattle.gr_order.proofs.ForgetLemmas.{none_forgotten}
-use Rattle.gr_judge.specs.Judged.{AreJudgements}
+use Rattle.gr_explain.specs.Judged.{AreJudgements}
 use Rattle.gr_races.specs.Causes.{AreCauses, IsPairOf}
 use Rattle.gr_races.specs.Relaxing.{relaxed}
 use Rattle.gr_races.specs.declared.relaxing.Relaxation.TheVariants.{BothFlags, DeviceScope}

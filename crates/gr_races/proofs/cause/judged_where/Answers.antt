@@ -1,7 +1,7 @@
 use Rattle.std.proofs.Common.{All, subst, sym}
 use Rattle.std.proofs.lemmas.List.Elements.{All-weaker}
 use Rattle.gr_model.specs.Streams.{Streams}
-use Rattle.gr_judge.specs.Judged.{AreAccesses}
+use Rattle.gr_explain.specs.Judged.{AreAccesses}
 use Rattle.gr_races.specs.Causes.{IsPairOf}
 use Rattle.gr_races.specs.Relaxing.{relaxed}
 use Rattle.gr_races.proofs.RelaxingLemmas.{still_accesses}

@@ -3,7 +3,7 @@ use Rattle.std.proofs.lemmas.Result.{err_from_is_err_and}
 use Rattle.gr_model.specs.LawfulOrders.{IsLawful}
 use Rattle.gr_order.specs.Sequences.{Sequence}
 use Rattle.gr_sequencer.specs.Answers.{IsStep}
-use Rattle.gr_judge.proofs.KeptLemmas.{done_where_none, taken_stays}
+use Rattle.gr_explain.proofs.KeptLemmas.{done_where_none, taken_stays}
 use Rattle.gr_timeline.specs.Histories.{lines_of}
 use Rattle.gr_timeline.proofs.HistoryLemmas.{along_step, history_at_rest, same_where_none}
 use Rattle.gr_timeline.proofs.handling.handle_all.Goals as goal

@@ -1,0 +1,14 @@
+use Rattle.std.proofs.Common.{All, List, subst}
+use Rattle.std.proofs.lemmas.List.{take_all}
+use Rattle.gr_model.specs.declared.race.Race.{Race}
+use Rattle.gr_explain.specs.Accesses.{AreWanted}
+use Rattle.gr_explain.proofs.EventSets.{all_wanted}
+use Rattle.gr_explain.proofs.accesses.events_of.Goals as goal
+
+pub loop-race-preserved : goal.loop-race-preserved
+loop-race-preserved g c =
+    all_wanted c.loop-race.events.keys c.add_pair.new.events.keys c.args.races.now c.loop-race.race-index _ c.loop-race-test.true
+    c.in_ok-add_pair.ensures.others c.in_ok-add_pair.ensures.added c.loop-race.invariant
+
+pub returns : goal.returns
+returns g c = subst (λ (races : List Race). All (AreWanted c.loop-race.events.keys) races) (take_all c.loop-race.race-index c.args.races.now c.loop-race-test.false) c.loop-race.invariant

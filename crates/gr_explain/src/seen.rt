@@ -1,0 +1,138 @@
+//! The accesses of one class to a word that came so far.
+
+ghost use Rattle.std.specs.Prelude.{◌≡◌, ◌↔◌, ◌⊎◌, IsTrue, OnOk, Some};
+ghost use Rattle.gr_model.specs.declared.event.EventId.{EventId as AnyEvent};
+ghost use Rattle.gr_clocks.specs.ClockedAccess.{clocked};
+ghost use Rattle.gr_shadow.specs.Clashes as spec;
+ghost use Rattle.gr_explain.specs.LeastRaces.{IsLeastOf};
+ghost use Rattle.gr_explain.specs.Seen.{IsAmong, IsFirstOf, IsClashing, IsPairWith, IsPassed, nothing_seen};
+
+use crate::pairs::lesser;
+use gr_clocks::access::Access;
+use gr_model::event::{EventId, ItemId};
+use gr_model::memory::Memory;
+use gr_model::race::{is_below, turned};
+use gr_scopes::class::{Class, exempt};
+use std::alloc::{Allocator, Global};
+use std::collections::BTreeSet;
+use std::marker::Model;
+
+/// The accesses of one class to a word.
+///
+/// Invariant: the item of each event is one of the items.
+#[derive(Drop)]
+#[derive_where(Debug)]
+pub(crate) struct Seen<A: Allocator = Global> {
+    class: Class,
+    items: BTreeSet<ItemId, A>,
+    events: BTreeSet<EventId, A>,
+}
+
+impl<A: Allocator> Model for Seen<A> {
+    ghost use Rattle.gr_explain.specs.Seen.{HaveItems, SeenList};
+
+    ghost Value = { SeenList };
+
+    ghost view = { λ s. record { class = s.class; events = s.events.keys } };
+
+    ghost invariant = { λ s. HaveItems s.items.keys s.events.keys };
+}
+
+/// The event of an access.
+pub(crate) fn event_of<A: Allocator>(access: &Access<A>) -> EventId
+    ensures { result ≡ spec.event_of (clocked access.now) }
+{
+    EventId {
+        at: access.item,
+        index: access.index,
+    }
+}
+
+/// Whether the least pair so far is below each pair of an event with one of an item, or of a greater item: its first event is of an item
+/// before this one, and before the event.
+fn is_passed(least: Option<(EventId, EventId)>, item: ItemId, event: EventId) -> bool
+    ensures { IsTrue result → IsPassed least item event }
+{
+    match least {
+        None => false,
+        Some((first, _)) => first.at < item && is_below(first, event),
+    }
+}
+
+impl<A: Allocator + Copy> Seen<A> {
+    /// No accesses of a class.
+    pub(crate) fn new(alloc: A, class: Class) -> Seen<A>
+        ensures { result ≡ nothing_seen class }
+    {
+        Seen {
+            class,
+            items: BTreeSet::new(alloc),
+            events: BTreeSet::new(alloc),
+        }
+    }
+
+    /// Whether an access is of the class.
+    pub(crate) fn has(&self, access: &Access<A>) -> bool
+        ensures { IsTrue result ↔ (access.now.class ≡ self.now.class) }
+    {
+        access.class == self.class
+    }
+
+    /// Adds an access.
+    /// Requires: it is of the class (`has`).
+    ///
+    /// # Errors
+    /// `Memory`: out of memory.
+    pub(crate) fn add(&mut self, access: &Access<A>) -> Result<(), Memory>
+        requires { access.now.class ≡ self.old.class }
+        ensures class { OnOk result (self.new.class ≡ access.now.class) }
+        ensures same { OnOk result (self.new.class ≡ self.old.class) }
+        ensures events { OnOk result ((e : AnyEvent) → IsAmong self.new.events e ↔ ((e ≡ spec.event_of (clocked access.now)) ⊎ IsAmong self.old.events e)) }
+    {
+        let event = event_of(access);
+        self.items.insert(event.at)?;
+        self.events.insert(event)?;
+        Ok(())
+    }
+}
+
+impl<A: Allocator> Seen<A> {
+    /// The first event of an item with which a later access clashes.
+    fn first_of(&self, item: ItemId, access: &Access<A>) -> Option<EventId>
+        ensures { IsFirstOf self.now (clocked access.now) item result }
+    {
+        if item == access.item || exempt(self.class, item.group, access.class, access.item.group) {
+            return None;
+        }
+        let unseen = EventId {
+            at: item,
+            index: access.clock.get(item),
+        };
+        match self.events.range(unseen..).next() {
+            None => None,
+            Some(first) => { if first.at == item { Some(*first) } else { None } }
+        }
+    }
+
+    /// The least of a pair, if there is one, and those of a later access with the accesses with which it clashes.
+    pub(crate) fn with_pairs(
+        &self,
+        access: &Access<A>,
+        least: Option<(EventId, EventId)>,
+    ) -> Option<(EventId, EventId)>
+        ensures { IsLeastOf (λ p. (least ≡ Some p) ⊎ IsPairWith self.now (clocked access.now) p) result }
+    {
+        let mut least = least;
+        let event = event_of(access);
+        for item in self.items.iter() {
+            if is_passed(least, *item, event) {
+                return least;
+            }
+            match self.first_of(*item, access) {
+                None => {}
+                Some(earlier) => least = Some(lesser(least, turned(earlier, event))),
+            }
+        }
+        least
+    }
+}

@@ -1,4 +1,0 @@
-pub mod AnswerLemmas
-pub mod EventSets
-pub mod KeptLemmas
-pub mod JudgedLemmas

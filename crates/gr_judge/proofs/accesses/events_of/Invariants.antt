@@ -1,6 +1,0 @@
-use Rattle.std.proofs.Common.{All, take}
-use Rattle.gr_judge.specs.Accesses.{AreWanted}
-use Rattle.gr_judge.proofs.accesses.events_of.Given as goal
-
-abbrev pub invariant-loop-race : goal.invariant-loop-race
-invariant-loop-race g l = All (AreWanted l.events.keys) (take l.race-index l.races)
