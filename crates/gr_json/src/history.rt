@@ -4,62 +4,69 @@ use crate::details::put_details;
 use crate::lines::push_object;
 use crate::words::{buffer_value, event_value, word_value};
 use gr_accesses::accesses::Accesses;
-use gr_model::event::{EventId, Word};
+use gr_model::event::Word;
 use gr_model::memory::Memory;
 use gr_places::index::PlaceIndex;
 use gr_places::sides::Sides;
+use gr_scopes::class::class_of;
 use gr_timeline::entry::Entry;
+use gr_timeline::standing::{Above, Named, Standing};
 use gr_timeline::told::Told;
 use serde_json::{Map, Value, json, put};
 use std::alloc::{AllocError, Global};
 
-/// The accesses above one that happen before it, or `all` where these are all that stand above.
+/// Some events: the first few, and how many others there are.
 ///
 /// # Errors
 /// `AllocError`: out of memory.
-fn behind_value(alloc: Global, above: usize, behind: &[EventId]) -> Result<Value, AllocError> {
-    if above > 0 && behind.len() == above {
-        return Value::try_from_str(alloc, "all");
-    }
+fn named_value(alloc: Global, named: &Named) -> Result<Value, AllocError> {
     let mut values = Vec::new(alloc);
-    for event in behind {
+    for event in &named.events {
         values.push(event_value(alloc, *event)?)?;
     }
-    Ok(Value::Array(values))
+    let events = Value::Array(values);
+    let others = named.others;
+    json!(in alloc; {"events": events, "others": others})
 }
 
-/// Adds an access, what is told of it, and the accesses above it that happen before it.
+/// Adds how an access stands to those above it.
 ///
 /// # Errors
 /// `AllocError`: out of memory.
-fn put_entry(
+fn put_standing(
     alloc: Global,
     members: &mut Map<String, Value>,
-    places: &PlaceIndex<'_>,
-    known: &Accesses<Global>,
-    entry: &Entry,
+    standing: &Standing,
 ) -> Result<(), AllocError> {
-    if let Some(details) = known.get(&entry.event) {
-        put_details(alloc, members, places, entry.event, details)?;
-    }
-    let behind = behind_value(alloc, entry.above, &entry.behind)?;
-    put(members, alloc, "behind", behind)?;
-    let kind = Value::try_from_str(alloc, "access")?;
-    put(members, alloc, "type", kind)
+    put(members, alloc, "behind", Value::from(standing.behind))?;
+    let races = named_value(alloc, &standing.races)?;
+    put(members, alloc, "races_with", races)?;
+    let unordered = named_value(alloc, &standing.unordered)?;
+    put(members, alloc, "unordered_with", unordered)
 }
 
-/// An access with the same.
+/// An access, what is told of it, and how it stands to those above it, to which it is added.
 ///
 /// # Errors
-/// `AllocError`: out of memory.
+/// `Memory`: out of memory.
 fn entry_value(
     alloc: Global,
     places: &PlaceIndex<'_>,
+    above: &mut Above,
     known: &Accesses<Global>,
     entry: &Entry,
-) -> Result<Value, AllocError> {
+) -> Result<Value, Memory> {
     let mut members = Map::new(alloc);
-    put_entry(alloc, &mut members, places, known, entry)?;
+    if let Some(details) = known.get(&entry.event) {
+        put_details(alloc, &mut members, places, entry.event, details)?;
+        if let Some(class) = class_of(&details.kind) {
+            let standing = above.standing(alloc, entry, class)?;
+            put_standing(alloc, &mut members, &standing)?;
+            above.add(alloc, entry.event, class)?;
+        }
+    }
+    let kind = Value::try_from_str(alloc, "access")?;
+    put(&mut members, alloc, "type", kind)?;
     Ok(Value::Object(members))
 }
 
@@ -70,8 +77,9 @@ fn push_entries(
     told: &Told,
 ) -> Result<(), Memory> {
     let places = PlaceIndex::of(alloc, sides.places)?;
+    let mut above = Above::new(alloc);
     for entry in &told.entries {
-        let value = entry_value(alloc, &places, &told.known, entry)?;
+        let value = entry_value(alloc, &places, &mut above, &told.known, entry)?;
         push_object(alloc, text, &value)?;
     }
     Ok(())

@@ -42,7 +42,7 @@ impl<A: Allocator + Copy> Question<A> for WordHistory {
     fn text(&self, alloc: A, answer: &Told<A>, sides: &Sides<'_>) -> Result<Vec<u8, A>, Memory> {
         let places = PlaceIndex::of(alloc, sides.places)?;
         let mut text = Vec::new(alloc);
-        match put_history(&mut text, sides, &places, self.word, answer) {
+        match put_history(alloc, &mut text, sides, &places, self.word, answer) {
             Ok(()) => Ok(text),
             Err(_) => Err(Memory),
         }

@@ -5,4 +5,5 @@
 pub mod entry;
 mod handling;
 pub mod history;
+pub mod standing;
 pub mod told;
