@@ -63,12 +63,13 @@ class Launch:
         written = []
         for (space, first, second, one_group, (cause, sentence)), races in self.kinds().items():
             memory, group = ("global", "") if space == "g" else ("local", "0 ")
-            names = " ".join(f"{memory} {group}{race[1]}" for race in races)
+            names = " ".join(f"{memory} {group}{race[1]}" for race in races[:5])
+            more = f" and {len(races) - 5} more" if len(races) > 5 else ""
             _, word, _, _, _, _, index, other = races[0]
             event = f"0 1 {other}" if one_group else f"1 0 {other}"
             written.append(f"kind {memory} {first} {second} {'one group' if one_group else 'two groups'} words {len(races)}\n")
-            written.append(f"words {names}\nrace {memory} {group}{word}: 0 0 {index} with {event}\ncause {cause}: {sentence}\n")
-        return "".join(written) + f"end kinds {len(self.kinds())} races {len(self.races)}\n"
+            written.append(f"words {names}{more}\nrace {memory} {group}{word}: 0 0 {index} with {event}\ncause {cause}: {sentence}\n")
+        return "".join(written) + f"end kinds {len(self.kinds())} races {len(self.races)} diverge 0 unmatched 0 held 0\n"
 
 
 def launch_of_40_kinds(pairs):
@@ -115,7 +116,7 @@ class Races(ProgramTest):
         race = {"buffer": None, "cause": None, "first": {**event, "item": 0}, "second": {**event, "item": 1}, "word": words[0]}
         kind = {"first": "write", "one_group": True, "second": "write", "space": "global"}
         runs = [{"first": word, "last": word["number"]} for word in words]
-        wanted = line_of_json(kind=kind, race=race, runs=runs, type="kind", words=2_000) + line_of_json(kinds=1, races=2_000, type="end")
+        wanted = line_of_json(kind=kind, race=race, runs=runs, type="kind", words=2_000) + line_of_json(diverge=0, held=0, kinds=1, races=2_000, type="end", unmatched=0)
         self.assert_run(self.gpurace("races", "--json", "writes"), wanted.encode(), 1)
 
     def test_a_report_of_2000_races_as_JSON(self):

@@ -152,8 +152,8 @@ Tells of all words that have a race, kind by kind: which words they are, and of 
 
 A kind is the memory, what the two accesses do, whether they are of one work-group, where they stand in the source if --places
 has both, and with --causes the cause of the race. The accesses are told as GROUP ITEM INDEX; an item's records are counted
-from 0. The races are found by clocks, as replay finds them. Divergent barriers, unmatched acquires and what these hold back
-are told by replay and run alone.";
+from 0. The races are found by clocks, as replay finds them. Divergent barriers come first, since races may follow from them; the
+last line counts them, unmatched acquires and what these hold back.";
 
 const AFTER_RACES: &str = "\
 Example:
@@ -161,7 +161,7 @@ Example:
   kind global write read one group words 48
   words global 896..943
   race global 896: 0 3 12 with 0 7 14
-  end kinds 1 races 48
+  end kinds 1 races 48 diverge 0 unmatched 0 held 0
 
 With side files, whose lines say where accesses stand and which words are which buffer:
   gpurace races --places places --buffers buffers --most 1 group*.gpurace
@@ -171,7 +171,7 @@ With side files, whose lines say where accesses stand and which words are which 
   buffer psc[448]
   first scan.cl:4992:7
   second scan.cl:5001:16
-  end kinds 1 races 48
+  end kinds 1 races 48 diverge 0 unmatched 0 held 0
 
 With --causes the last line of a kind is the cause of all its races, as explain --long tells it:
   gpurace races --causes --most 1 group*.gpurace
@@ -179,7 +179,7 @@ With --causes the last line of a kind is the cause of all its races, as explain 
   words global 896..943
   race global 896: 0 3 12 with 0 7 14
   cause no-barrier: nothing orders the two; a barrier with CLK_GLOBAL_MEM_FENCE between them would
-  end kinds 1 races 48";
+  end kinds 1 races 48 diverge 0 unmatched 0 held 0";
 
 const MOST: &str = "Of how many kinds to tell at most";
 

@@ -1,6 +1,7 @@
 //! The words that texts and JSON have for what answers are made of.
 
 use gr_model::event::{Kind, Order, Scope, Space, Word};
+use gr_model::report::DivergenceCause;
 use gr_races::cause::Cause;
 use gr_races::kinds::Operation;
 
@@ -70,6 +71,15 @@ pub fn order_name(order: Order) -> &'static str {
         Order::Acquire => "acq",
         Order::Release => "rel",
         Order::Both => "both",
+    }
+}
+
+/// The name of why an instance of barriers is divergent.
+pub fn divergence_name(cause: DivergenceCause) -> &'static str {
+    match cause {
+        DivergenceCause::Missing => "missing",
+        DivergenceCause::Site => "site",
+        DivergenceCause::Flags => "flags",
     }
 }
 

@@ -2,6 +2,7 @@
 
 use crate::lines::push_object;
 use crate::names::{cause_name, cause_sentence, operation_name, space_name};
+use crate::report::push_divergences;
 use crate::words::{buffer_value, text_value, word_value};
 use gr_model::event::{EventId, Word};
 use gr_model::memory::Memory;
@@ -138,8 +139,26 @@ fn push_entries(
     Ok(())
 }
 
-/// The races of a launch kind by kind, of at most so many kinds, with what side files say of them, and an end that counts all of
-/// them, as lines of JSON.
+/// How many kinds and races there are, and how much of what is no race.
+///
+/// # Errors
+/// `AllocError`: out of memory.
+fn end_value(alloc: Global, found: &RacesByKind) -> Result<Value, AllocError> {
+    let diverge = found.report.divergences.as_slice().len();
+    let unmatched = found.report.unmatched.as_slice().len();
+    let kinds = found.kinds.len();
+    json!(in alloc; {
+        "diverge": diverge,
+        "held": found.report.held,
+        "kinds": kinds,
+        "races": found.races,
+        "type": "end",
+        "unmatched": unmatched
+    })
+}
+
+/// The divergent barriers of a launch, its races kind by kind, of at most so many kinds, with what side files say of them, and an
+/// end that counts all of them, as lines of JSON.
 ///
 /// # Errors
 /// `Memory`: out of memory.
@@ -150,10 +169,9 @@ pub fn races_json(
     most: Option<u32>,
 ) -> Result<Vec<u8>, Memory> {
     let mut text = Vec::new(alloc);
+    push_divergences(alloc, &mut text, found.report.divergences.as_slice())?;
     push_entries(alloc, &mut text, sides, found.at_most(most))?;
-    let kinds = found.kinds.len();
-    let races = found.races;
-    let end = json!(in alloc; {"kinds": kinds, "races": races, "type": "end"})?;
+    let end = end_value(alloc, found)?;
     push_object(alloc, &mut text, &end)?;
     Ok(text)
 }

@@ -1,10 +1,11 @@
 //! The report of a launch as JSON: a line each for how large the launch is, each finding, and the end.
 
 use crate::lines::push_object;
+use crate::names::divergence_name;
 use crate::words::{event_value, word_value};
 use gr_model::event::Word;
 use gr_model::memory::Memory;
-use gr_model::report::{AcquireCause, Divergence, DivergenceCause, Unmatched};
+use gr_model::report::{AcquireCause, Divergence, Unmatched};
 use gr_report::report::Report;
 use serde_json::{Value, json};
 use std::alloc::{AllocError, Allocator, Global};
@@ -31,20 +32,12 @@ fn race_value(alloc: Global, word: Word) -> Result<Value, AllocError> {
     json!(in alloc; {"type": "race", "word": word})
 }
 
-fn divergence_cause(cause: DivergenceCause) -> &'static str {
-    match cause {
-        DivergenceCause::Missing => "missing",
-        DivergenceCause::Site => "site",
-        DivergenceCause::Flags => "flags",
-    }
-}
-
 /// A divergent instance of a group's barriers.
 ///
 /// # Errors
 /// `AllocError`: out of memory.
 fn divergence_value(alloc: Global, divergence: Divergence) -> Result<Value, AllocError> {
-    let cause = divergence_cause(divergence.cause);
+    let cause = divergence_name(divergence.cause);
     json!(in alloc; {
         "cause": cause,
         "group": divergence.group,

@@ -3,9 +3,10 @@
 use crate::event_text::{put_cause, put_name};
 use crate::explanation::{put_pair, put_word};
 use crate::sides_text::{put_buffer, put_text};
-use gr_json::names::{operation_name, space_name};
+use gr_json::names::{divergence_name, operation_name, space_name};
 use gr_model::event::EventId;
 use gr_model::race::Race;
+use gr_model::report::Divergence;
 use gr_places::places::{Placed, place_of};
 use gr_places::sides::Sides;
 use gr_races::by_kind::RacesByKind;
@@ -15,6 +16,9 @@ use gr_races::runs::{Run, number_of};
 use gr_report::putting::{WriteFault, put, put_field};
 use std::alloc::Allocator;
 use std::io::Write;
+
+/// How many runs of a kind's words are told at most.
+const MOST_RUNS: usize = 5;
 
 fn put_kind<W: Write>(writer: &mut W, kind: RaceKind, words: usize) -> Result<(), WriteFault> {
     put(writer, b"kind")?;
@@ -41,10 +45,25 @@ fn put_run<W: Write>(writer: &mut W, run: Run) -> Result<(), WriteFault> {
     put_field(writer, b"..", run.last)
 }
 
-fn put_words<W: Write>(writer: &mut W, runs: &[Run]) -> Result<(), WriteFault> {
+/// How many words a run has.
+fn words_in(run: Run) -> u64 {
+    u64::from(run.last.saturating_sub(number_of(run.first))).saturating_add(1)
+}
+
+/// Writes the first runs of a kind's words, and how many words more there are.
+fn put_words<A: Allocator, W: Write>(
+    writer: &mut W,
+    entry: &KindEntry<A>,
+) -> Result<(), WriteFault> {
     put(writer, b"words")?;
-    for run in runs {
+    let mut left = entry.races.len() as u64;
+    for run in &entry.runs[..entry.runs.len().min(MOST_RUNS)] {
         put_run(writer, *run)?;
+        left = left.saturating_sub(words_in(*run));
+    }
+    if left > 0 {
+        put_field(writer, b" and ", left)?;
+        put(writer, b" more")?;
     }
     put(writer, b"\n")
 }
@@ -76,7 +95,7 @@ fn put_entry<A: Allocator, W: Write>(
     entry: &KindEntry<A>,
 ) -> Result<(), WriteFault> {
     put_kind(writer, entry.kind, entry.races.len())?;
-    put_words(writer, &entry.runs)?;
+    put_words(writer, entry)?;
     let Some(race) = entry.races.first() else {
         return Ok(());
     };
@@ -87,8 +106,30 @@ fn put_entry<A: Allocator, W: Write>(
     }
 }
 
-/// Writes the races of a launch kind by kind, of at most so many kinds, with what side files say of them, and an end that
-/// counts all of them.
+/// Writes the line of a divergent instance of barriers, as the report has it.
+fn put_divergence<W: Write>(writer: &mut W, divergence: &Divergence) -> Result<(), WriteFault> {
+    put_field(writer, b"diverge ", divergence.group)?;
+    put_field(writer, b" ", divergence.instance)?;
+    put_name(writer, divergence_name(divergence.cause))?;
+    put(writer, b"\n")
+}
+
+fn put_end<A: Allocator, W: Write>(
+    writer: &mut W,
+    found: &RacesByKind<A>,
+) -> Result<(), WriteFault> {
+    put_field(writer, b"end kinds ", found.kinds.len())?;
+    put_field(writer, b" races ", found.races)?;
+    let diverge = found.report.divergences.as_slice().len();
+    put_field(writer, b" diverge ", diverge)?;
+    let unmatched = found.report.unmatched.as_slice().len();
+    put_field(writer, b" unmatched ", unmatched)?;
+    put_field(writer, b" held ", found.report.held)?;
+    put(writer, b"\n")
+}
+
+/// Writes the divergent barriers of a launch, its races kind by kind, of at most so many kinds, with what side files say of
+/// them, and an end that counts all of them.
 ///
 /// # Errors
 /// `WriteFault` where the writer fails.
@@ -98,10 +139,11 @@ pub(crate) fn put_races<A: Allocator, W: Write>(
     found: &RacesByKind<A>,
     most: Option<u32>,
 ) -> Result<(), WriteFault> {
+    for divergence in found.report.divergences.as_slice() {
+        put_divergence(writer, divergence)?;
+    }
     for entry in found.at_most(most) {
         put_entry(writer, sides, entry)?;
     }
-    put_field(writer, b"end kinds ", found.kinds.len())?;
-    put_field(writer, b" races ", found.races)?;
-    put(writer, b"\n")
+    put_end(writer, found)
 }
