@@ -139,11 +139,11 @@ item_below_from_less i j less = grind (arith, nat_tests)
 
 above_all : (i : ItemId) (items : List ItemId) (j : ItemId) → AllByRecursion (λ k. (item_order.cmp-value).it i k ≡ Less) items → HasItem items j → IsItemBelow i j
 above_all i [] j all has = absurd (true≢false (sym has))
-above_all i (k ∷ items) j all has = by_test (is_at ((item_order.cmp-value).it j) k) refl
+above_all i (k ∷ items) j all has = by_test (is_at ((item_order.cmp-value).it j) k) refl (λ rest. above_all i items j all.1 rest)
   where
-    by_test : (b : Bool) → is_at ((item_order.cmp-value).it j) k ≡ b → IsItemBelow i j
-    by_test true t = subst (λ (x : ItemId). IsItemBelow i x) (sym (same_items j k (sym (item_ties j k) ∙ t))) (item_below_from_less i k all.0)
-    by_test false f = above_all i items j all.1 (sym (ap (λ b. b || list_any (is_at ((item_order.cmp-value).it j)) items) f) ∙ has)
+    by_test : (b : Bool) → is_at ((item_order.cmp-value).it j) k ≡ b → (HasItem items j → IsItemBelow i j) → IsItemBelow i j
+    by_test true t later = subst (λ (x : ItemId). IsItemBelow i x) (sym (same_items j k (sym (item_ties j k) ∙ t))) (item_below_from_less i k all.0)
+    by_test false f later = later (sym (ap (λ b. b || list_any (is_at ((item_order.cmp-value).it j)) items) f) ∙ has)
 
 -- of items in their order, one is before an item, or it, or above it
 later_item : (before : List ItemId) (i : ItemId) (items : List ItemId) (j : ItemId) → IsStrictlySortedBy (item_order.cmp-value).it (before ++ i ∷ items) → HasItem (before ++ i ∷ items) j → HasItem before j ⊎ ((j ≡ i) ⊎ IsItemBelow i j)
@@ -152,14 +152,15 @@ later_item [] i items j sorted has = by_test (is_at ((item_order.cmp-value).it j
     by_test : (b : Bool) → is_at ((item_order.cmp-value).it j) i ≡ b → HasItem [] j ⊎ ((j ≡ i) ⊎ IsItemBelow i j)
     by_test true t = inr (inl (same_items j i (sym (item_ties j i) ∙ t)))
     by_test false f = inr (inr (above_all i items j (sorted_head (item_order.cmp-value).it i items sorted) (sym (ap (λ b. b || list_any (is_at ((item_order.cmp-value).it j)) items) f) ∙ has)))
-later_item (k ∷ before) i items j sorted has = by_test (is_at ((item_order.cmp-value).it j) k) refl
+later_item (k ∷ before) i items j sorted has =
+    by_test (is_at ((item_order.cmp-value).it j) k) refl (λ rest. later_item before i items j (sorted_tail (item_order.cmp-value).it k (before ++ i ∷ items) sorted) rest)
   where
-    by_test : (b : Bool) → is_at ((item_order.cmp-value).it j) k ≡ b → HasItem (k ∷ before) j ⊎ ((j ≡ i) ⊎ IsItemBelow i j)
-    by_test true t = inl (ap (λ b. b || list_any (is_at ((item_order.cmp-value).it j)) before) t)
-    by_test false f = ⊎_elim
+    by_test : (b : Bool) → is_at ((item_order.cmp-value).it j) k ≡ b → (HasItem (before ++ i ∷ items) j → HasItem before j ⊎ ((j ≡ i) ⊎ IsItemBelow i j)) → HasItem (k ∷ before) j ⊎ ((j ≡ i) ⊎ IsItemBelow i j)
+    by_test true t later = inl (ap (λ b. b || list_any (is_at ((item_order.cmp-value).it j)) before) t)
+    by_test false f later = ⊎_elim
         (λ was. inl (ap (λ b. b || list_any (is_at ((item_order.cmp-value).it j)) before) f ∙ was))
         (λ other. inr other)
-        (later_item before i items j (sorted_tail (item_order.cmp-value).it k (before ++ i ∷ items) sorted) (sym (ap (λ b. b || list_any (is_at ((item_order.cmp-value).it j)) (before ++ i ∷ items)) f) ∙ has))
+        (later (sym (ap (λ b. b || list_any (is_at ((item_order.cmp-value).it j)) (before ++ i ∷ items)) f) ∙ has))
 
 -- an item that is below an item is below one that is it or above it
 still_below : (h i j : ItemId) → IsItemBelow h i → (j ≡ i) ⊎ IsItemBelow i j → IsItemBelow h j

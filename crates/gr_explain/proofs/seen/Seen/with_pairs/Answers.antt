@@ -1,6 +1,6 @@
-use Rattle.std.proofs.Common.{◌≡◌, ◌⊎◌, ◌∙◌, List, [], ◌∷◌, ◌++◌, None, Some, inl, inr, ⊎_elim, map, rules, subst, sym}
+use Rattle.std.proofs.Common.{◌≡◌, ◌⊎◌, ◌∙◌, List, [], ◌∷◌, ◌++◌, None, Some, ap, inl, inr, ⊎_elim, map, rules, subst, sym}
 use Rattle.std.proofs.lemmas.List.{map-append}
-use Rattle.std.proofs.lemmas.Map.Iter.{iter_end}
+use Rattle.std.proofs.lemmas.Map.Iter.{iter_end, rest_more, rest_so_far}
 use Rattle.std.specs.List.Sorted.{IsStrictlySortedBy}
 use Rattle.std.specs.Map.Iter.{deref}
 use Rattle.gr_model.specs.contracts.event.ItemIdOrd.TheImpl as item_order
@@ -66,7 +66,10 @@ returns-then-is_passed g c =
     let keys = c.self.inside.items.keys in
     let before = map deref c.loop-item.yielded in
     let i = c.in-Some.item.now in
-    let left : before ++ i ∷ c.next.new.self ≡ keys = search rules in
+    let given : c.into_iter-item-iterator.result ≡ keys = c.into_iter-item-iterator.ensures.into_iter_gives ∙ c.iter-item-items.ensures.rest in
+    let so_far = rest_so_far deref c.loop-item.yielded c.into_iter-item-iterator.result c.loop-item.item-iterator c.loop-item.yielded_by in
+    let now = rest_more deref c.loop-item.item-iterator c.next.new.self c.next.result c.in-Some.item c.in-Some.is c.next.ensures.steps in
+    let left : before ++ i ∷ c.next.new.self ≡ keys = sym (so_far ∙ ap (λ l. before ++ l) now) ∙ given in
     let have : HaveItems keys seen.events = subst (λ (s : SeenList). HaveItems keys s.events) c.self.view_is c.self.invariant in
     let passed : IsPassed c.loop-item.least i (event_of y) = subst (λ (f : EventId). IsPassed c.loop-item.least i f) c.event_of-event.ensures (c.is_passed.ensures c.if-is_passed.true) in
     least_passed seen y before i c.next.new.self
