@@ -15,9 +15,8 @@ ghost use Rattle.gr_races.specs.Relaxing as spec;
 
 use crate::parting::are_parted;
 use crate::relaxing::{Relaxation, relaxed};
-use gr_explain::judging::Judgement;
+use gr_explain::judging::{Judgement, judge_races};
 use gr_explain::taking::take_all;
-use gr_explain::judging::judge_races;
 use gr_lanes::lanes::Lanes;
 use gr_model::event::{EventId, Word};
 use gr_model::memory::Memory;
