@@ -1,5 +1,5 @@
 -- The lines of entries, where one more comes.
-use Rattle.std.proofs.Common.{◌≡◌, ◌+◌, ◌<◌, ℕ, Bool, true, false, cond, List, [], ◌∷◌, ◌++◌, ap, append-nil, append_assoc, filter, length, map, refl, sym, true≢false, ◌∙◌}
+use Rattle.std.proofs.Common.{◌≡◌, ◌+◌, ◌<◌, ℕ, suc, Bool, true, false, cond, List, [], ◌∷◌, ◌++◌, ap, append-nil, append_assoc, filter, length, map, refl, sym, true≢false, ◌∙◌}
 use Rattle.std.proofs.lemmas.Bool.{lt-ltb, ltb-true}
 use Rattle.std.proofs.lemmas.List.{length-map}
 use Rattle.std.specs.Prelude.{nat_lt}
@@ -12,11 +12,11 @@ use Rattle.gr_timeline.specs.Selections.{AreThose, of_none, of_one, of_other}
 -- what a clock counts of a list
 those_counted : (c : Counts) (events : List EventId) → AreThose (IsCounted c) events (filter (is_counted c) events)
 those_counted c [] = of_none
-those_counted c (e ∷ events) = by_test (is_counted c e) refl
+those_counted c (e ∷ events) = by_test (is_counted c e) refl (those_counted c events)
   where
-    by_test : (b : Bool) → is_counted c e ≡ b → AreThose (IsCounted c) (e ∷ events) (cond b (e ∷ filter (is_counted c) events) (filter (is_counted c) events))
-    by_test true t = of_one (ltb-true e.index (count_of c e.at) t) (those_counted c events)
-    by_test false f = of_other (λ is. true≢false (sym (lt-ltb e.index (count_of c e.at) is) ∙ f)) (those_counted c events)
+    by_test : (b : Bool) → is_counted c e ≡ b → AreThose (IsCounted c) events (filter (is_counted c) events) → AreThose (IsCounted c) (e ∷ events) (cond b (e ∷ filter (is_counted c) events) (filter (is_counted c) events))
+    by_test true t rest = of_one (ltb-true e.index (count_of c e.at) t) rest
+    by_test false f rest = of_other (λ is. true≢false (sym (lt-ltb e.index (count_of c e.at) is) ∙ f)) rest
 
 module _ {Z : Type 0} where
   -- the events of the lines are those of the entries
@@ -24,9 +24,9 @@ module _ {Z : Type 0} where
   events_below above [] = refl
   events_below above (x ∷ entries) = ap (λ l. x.event ∷ l) (events_below (above ++ x.event ∷ []) entries)
 
-  length_below : (above : List EventId) (entries : List (Entry Z)) → length (lines_below above entries) ≡ length entries
+  pub length_below : (above : List EventId) (entries : List (Entry Z)) → length (lines_below above entries) ≡ length entries
   length_below above [] = refl
-  length_below above (x ∷ entries) = ap (λ n. 1 + n) (length_below (above ++ x.event ∷ []) entries)
+  length_below above (x ∷ entries) = ap suc (length_below (above ++ x.event ∷ []) entries)
 
   lines_more : (above : List EventId) (entries : List (Entry Z)) (x : Entry Z) → lines_below above (entries ++ x ∷ []) ≡ lines_below above entries ++ line_below (above ++ map (λ y. y.event) entries) x ∷ []
   lines_more above [] x = ap (λ l. line_below l x ∷ []) (sym (append-nil above))

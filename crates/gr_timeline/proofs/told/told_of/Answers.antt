@@ -1,6 +1,6 @@
-use Rattle.std.proofs.Common.{◌≡◌, arith, length}
-use Rattle.std.proofs.lemmas.List.{length-map}
-use Rattle.gr_timeline.specs.Histories.{line_of, lines_of}
+use Rattle.std.proofs.Common.{◌≡◌, [], arith, length}
+use Rattle.gr_timeline.specs.Histories.{lines_of}
+use Rattle.gr_timeline.proofs.EntryLemmas.{length_below}
 use Rattle.gr_timeline.proofs.ShownLemmas.{others_are_held}
 use Rattle.gr_timeline.proofs.told.told_of.Goals as goal
 
@@ -10,7 +10,7 @@ overflow_sub-held g c =
     let known = c.in_ok-known.known.entries in
     let left = others_are_held c.args.traces.now c.args.word (lines_of entries) c.in_ok-entries.ensures known c.len.ensures.unique c.in_ok-known.ensures in
     let all : c.len.result ≡ length known = c.len.ensures.len in
-    let lines : length (lines_of entries) ≡ length entries = length-map entries line_of in
+    let lines : length (lines_of entries) ≡ length entries = length_below [] entries in
     omega (arith, left.2, all, lines, c.len-2.ensures, c.in_ok-entries.entries.ok)
 
 pub returns-clause-held : goal.returns-clause-held
@@ -19,5 +19,5 @@ returns-clause-held g c =
     let known = c.in_ok-known.known.entries in
     let left = others_are_held c.args.traces.now c.args.word (lines_of entries) c.in_ok-entries.ensures known c.len.ensures.unique c.in_ok-known.ensures in
     let all : c.len.result ≡ length known = c.len.ensures.len in
-    let lines : length (lines_of entries) ≡ length entries = length-map entries line_of in
+    let lines : length (lines_of entries) ≡ length entries = length_below [] entries in
     record { held = left.0; are = left.1; is = omega (arith, left.2, all, lines, c.len-2.ensures, c.in_ok-entries.entries.ok) }
