@@ -36,10 +36,17 @@ private:
         if (auto *load = dyn_cast<LoadInst>(&at))
             add({&at, load->getPointerOperandIndex(), READ, size_of(load->getType()), load->getAlign().value()});
         else if (auto *store = dyn_cast<StoreInst>(&at))
-            add({&at, store->getPointerOperandIndex(), WRITE, size_of(store->getValueOperand()->getType()), store->getAlign().value()});
+            find_store(*store);
         else if (isa<AnyMemIntrinsic>(at)) find_block(cast<AnyMemIntrinsic>(at));
         else if (isa<AtomicRMWInst>(at) || isa<AtomicCmpXchgInst>(at)) found.notes.insert("an atomic that is no call of a builtin");
         else if (auto *call = dyn_cast<CallInst>(&at)) find_call(*call);
+    }
+
+    void find_store(StoreInst &store) {
+        Value *value = store.getValueOperand();
+        Access access{&store, store.getPointerOperandIndex(), WRITE, size_of(value->getType()), store.getAlign().value()};
+        access.stored = value;
+        add(access);
     }
 
     // The copy of a struct, or its filling.
@@ -76,6 +83,7 @@ private:
         access.index = call.getArgOperand(index);
         access.index_operand = index;
         access.stride = unit * (is_aligned && width == 3 ? 4 : width);
+        if (!is_load && !name.contains("half")) access.stored = call.getArgOperand(0);
         add(access);
     }
 

@@ -64,6 +64,7 @@ struct Access {
     llvm::Value *index = nullptr;  // of vload and vstore: the first argument, in steps of `stride` bytes
     unsigned index_operand = 0;
     uint64_t stride = 0;
+    llvm::Value *stored = nullptr; // what it stores, where the code has it as a value
 
     llvm::Value *pointer() const { return instruction->getOperand(operand); }
 };

@@ -18,6 +18,8 @@ using namespace llvm;
 namespace gpurace {
 namespace {
 
+constexpr unsigned MOST_STORED = 128, STORED_ROOM = MOST_STORED + 4; // the bytes of the greatest vector; the runtime reads them by four
+
 Type *bytes_type(LLVMContext &context) { return Type::getInt8PtrTy(context); }
 
 // A pointer as one to bytes of private memory, which is how the runtime knows each address.
@@ -99,6 +101,7 @@ private:
     unsigned &next_site_;
     std::string name_;
     Value *item_ = nullptr;
+    AllocaInst *stored_ = nullptr; // room for the value of a store
     std::map<const Value *, int> entries_;
     std::vector<GlobalVariable *> variables_; // those that the kernel uses, in local and global memory
 
@@ -231,6 +234,17 @@ private:
         }
     }
 
+    // The address to use, which the runtime answers. It sees the value that is stored, where that is known.
+    Value *call_access(IRBuilder<> &builder, unsigned number, Value *address, Value *stored) {
+        Value *seen = Constant::getNullValue(builder.getInt8PtrTy());
+        if (stored && module_.getDataLayout().getTypeAllocSize(stored->getType()) <= MOST_STORED) {
+            if (!stored_) stored_ = new AllocaInst(ArrayType::get(builder.getInt8Ty(), STORED_ROOM), 0, nullptr, Align(16), "", &*function_->getEntryBlock().begin());
+            seen = builder.CreateBitCast(stored_, builder.getInt8PtrTy());
+            builder.CreateAlignedStore(stored, builder.CreateBitCast(stored_, stored->getType()->getPointerTo()), Align(16));
+        }
+        return call_runtime(builder, "gr_access", builder.getInt8PtrTy(), {builder.getInt32(number), address, seen});
+    }
+
     // The instruction uses the address that the runtime answers.
     void put_access(const Access &access) {
         IRBuilder<> builder(access.instruction);
@@ -241,7 +255,7 @@ private:
             access.instruction->setOperand(access.index_operand, Constant::getNullValue(access.index->getType()));
         }
         const unsigned number = site(*access.instruction, access.kind, access.pointer(), access.bytes);
-        Value *allowed = call_runtime(builder, "gr_access", builder.getInt8PtrTy(), {builder.getInt32(number), address});
+        Value *allowed = call_access(builder, number, address, access.stored);
         access.instruction->setOperand(access.operand, as(builder, allowed, access.pointer()->getType()));
     }
 
@@ -252,9 +266,10 @@ private:
         Type *word = pointee_of(at->getArgOperand(0));
         if (word->isStructTy()) word = builder.getInt32Ty();
         const uint64_t bytes = module_.getDataLayout().getTypeStoreSize(word);
-        Value *number = builder.getInt32(site(*at, atomic.kind, atomic.pointer, bytes)), *address = plain(builder, atomic.pointer);
+        const unsigned site_number = site(*at, atomic.kind, atomic.pointer, bytes);
+        Value *number = builder.getInt32(site_number), *address = plain(builder, atomic.pointer);
         if (atomic.kind == WRITE) { // atomic_init
-            Value *allowed = call_runtime(builder, "gr_access", builder.getInt8PtrTy(), {number, address}), *value = at->getArgOperand(1);
+            Value *value = at->getArgOperand(1), *allowed = call_access(builder, site_number, address, value);
             builder.CreateStore(value, builder.CreateBitCast(allowed, value->getType()->getPointerTo()));
             at->eraseFromParent();
             return;

@@ -72,7 +72,7 @@ public:
 private:
     struct Image { // as pocl's builtins know one (dev_image_t)
         void *data;
-        int32_t width, height, depth, array_size, row_pitch, slice_pitch, mip_levels, samples, order, type, channels, element_size;
+        int32_t width, height, depth, array_size, row_pitch, slice_pitch, mip_levels, samples, order, type, channels, channel_bytes;
     };
     cl_command_queue queue_ = nullptr;
     std::map<cl_mem, void *> mapped_;
@@ -138,10 +138,11 @@ private:
         std::unique_ptr<Image> &made = images_[image];
         if (made) return set_value(value, static_cast<const void *>(made.get())); // it is two arguments
         const auto format = info_of<cl_image_format>(driver.clGetImageInfo, image, CL_IMAGE_FORMAT);
+        const int32_t channels = channels_of(format.image_channel_order);
         made.reset(new Image{nullptr, image_size(image, CL_IMAGE_WIDTH), image_size(image, CL_IMAGE_HEIGHT),
-                 image_size(image, CL_IMAGE_DEPTH), image_size(image, CL_IMAGE_ARRAY_SIZE), 0, 0, 0, 0,
-                 int32_t(format.image_channel_order), int32_t(format.image_channel_data_type), channels_of(format.image_channel_order),
-                 image_size(image, CL_IMAGE_ELEMENT_SIZE)});
+                             image_size(image, CL_IMAGE_DEPTH), image_size(image, CL_IMAGE_ARRAY_SIZE), 0, 0, 0, 0,
+                             int32_t(format.image_channel_order), int32_t(format.image_channel_data_type), channels,
+                             image_size(image, CL_IMAGE_ELEMENT_SIZE) / channels});
         void *memory = map_image(image, *made);
         if (memory) mapped_[image] = memory;
         made->data = memory;

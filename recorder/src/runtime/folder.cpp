@@ -92,6 +92,8 @@ void end_folder(Launch &launch, double seconds) {
     if (launch.places.error()) info << "places-cut " << std::strerror(launch.places.error()) << '\n';
     for (const std::string &note : request.program->notes) info << "note " << note << '\n';
     write_losses(info, launch);
+    const std::string equal = launch.stored.lines("g") + launch.stored_in_locals;
+    if (!equal.empty()) write_file(request.folder + "/equal", equal);
     info << "kernel-seconds " << seconds << '\n';
     if (write_file(request.folder + "/info.part", info.str()) && std::rename((request.folder + "/info.part").c_str(), (request.folder + "/info.txt").c_str()) == 0)
         std::remove((request.folder + "/begun.txt").c_str());

@@ -102,6 +102,7 @@ void Group::place_memory(Pool &pool) {
 void Group::open_stream() {
     stream.emplace(stream_path(launch->request.folder, window), window, launch->pipes);
     if (!stream->open(launch->has_names, launch->written)) launch->is_over = true;
+    stored.emplace(words_of(spans));
     if (settings().writes_places) places.resize(PLACES_ROOM);
 }
 
@@ -176,8 +177,10 @@ bool Group::sweep() {
 
 void Group::close_files(bool cut) {
     if (!is_recorded) return;
+    is_recorded = false;
     stream->close(cut || is_cut);
     flush_places();
+    launch->add_stored(stored->lines("l " + std::to_string(window)));
     launch->records += stream->records();
     launch->is_cut[window] = cut || is_cut || stream->error() != 0;
 }

@@ -78,6 +78,7 @@ struct Group {
     std::vector<uint64_t> local_pointers;
     uint8_t *memory = nullptr, *stacks = nullptr;
     std::optional<Stream> stream;             // of a group that is recorded
+    std::optional<StoredValues> stored;       // in local memory
     std::vector<char> places;
     size_t places_used = 0;
     uint32_t copier_records = 0;

@@ -63,6 +63,31 @@ void note_outside(Group &group, uint32_t item, uint32_t number, const Site &site
     launch.losses.outside[number] = {group.number, item, place_of(group, site, address)};
 }
 
+struct Stored { // what a store writes where; `value` is null where that is not known
+    int space;
+    const Span &span;
+    uint64_t address, bytes;
+    const uint8_t *value = nullptr;
+};
+
+uint32_t first_word(const uint8_t *bytes, uint32_t grain) {
+    uint32_t word;
+    std::memcpy(&word, bytes, sizeof word); // there is room for a whole one
+    return grain == 4 ? word : grain == 2 ? uint16_t(word) : uint8_t(word);
+}
+
+__attribute__((noinline)) // it would slow loads down
+void note_stored(Group &group, uint32_t item, const Stored &store) {
+    if (!group.is_recorded) return;
+    const Span &span = store.span;
+    StoredValues &values = store.space == LOCAL ? *group.stored : group.launch->stored;
+    const uint8_t *value = (store.address - span.address) % span.grain == 0 ? store.value : nullptr;
+    for (uint64_t word = span.word_of(store.address), last = span.word_of(store.address + store.bytes - 1); word <= last; word++) {
+        if (value) values.note(word, group.window << 16 | item, first_word(value, span.grain)), value += span.grain;
+        else values.note_unknown(word);
+    }
+}
+
 // What the record of an access of an item needs.
 struct Accessor {
     Group &group;
@@ -95,8 +120,10 @@ uint8_t *access_outside(Item &item, Accessor accessor, uint32_t number, const Si
     Group &group = accessor.group;
     note_outside(group, accessor.item, number, site, address);
     const Inside inside = inside_of(site.space == LOCAL ? group.spans : group.launch->spans, address, site.bytes);
-    if (inside.span) accessor.put(site, kind, site.space == LOCAL ? LOCAL : GLOBAL, *inside.span, inside.from, inside.to - inside.from);
+    const int space = site.space == LOCAL ? LOCAL : GLOBAL;
+    if (inside.span) accessor.put(site, kind, space, *inside.span, inside.from, inside.to - inside.from);
     else if (kind == READ) return group.launch->zeros.data();
+    if (inside.span && kind != READ) note_stored(group, accessor.item, {space, *inside.span, inside.from, inside.to - inside.from});
     Scratch &scratch = item.own_scratch();
     if (kind == READ) {
         scratch.loaded.assign(site.bytes, 0);
@@ -151,6 +178,7 @@ uint8_t *access_of_copy(Item &item, uint32_t number, uint8_t *pointer) {
     const Span *span = span_of(group, site, address, site.bytes, space);
     if (!span) return access_outside(item, copier, number, site, site.kind, address);
     copier.put(site, site.kind, space, *span, address, site.bytes);
+    if (site.kind != READ) note_stored(group, copier.item, {space, *span, address, site.bytes});
     return site.kind == WRITE && span->has_atomics && group.launch->has_names ? defer_store(item, address, site.bytes) : pointer;
 }
 
@@ -162,8 +190,8 @@ using namespace gpurace;
 extern "C" {
 #define HOOK __attribute__((visibility("default")))
 
-// Records a plain access, and answers the address that it is to use.
-HOOK void *gr_access(void *state, uint32_t number, void *pointer) {
+// Records a plain access, and answers the address that it is to use. `stored` has what it stores, or is null where that is not known.
+HOOK void *gr_access(void *state, uint32_t number, void *pointer, const uint8_t *stored) {
     Item &item = item_of(state);
     if (--item.turn == 0) end_turn(item);
     Group &group = *item.group;
@@ -178,6 +206,7 @@ HOOK void *gr_access(void *state, uint32_t number, void *pointer) {
         return allowed;
     }
     if (site.kind != READ) {
+        note_stored(group, item.number, {space, *span, address, site.bytes, stored});
         item.last_site = number;
     } else if (is_repeated(item, number, pointer)) {
         rest_if_idle(item, IDLE_READS);
@@ -322,6 +351,7 @@ void put_atomic(Item &item, const Site &site, const Span &span, uint64_t address
         for (Name &name : names) name.number++;
     }
     if (releases(record.order)) item.releases += uint32_t(last - first + 1);
+    if (record.kind != LOAD) note_stored(group, item.number, {record.space, span, address, site.bytes});
 }
 
 // Takes the names that can't be recorded out.

@@ -94,7 +94,8 @@ double seconds_now() { return std::chrono::duration<double>(std::chrono::steady_
 
 Launch::Launch(const Request &given)
     : request(given), seed(settings().seed + given.number * 1000003ull), sites(given.program->sites.data()), has_names(given.kernel->has_names),
-      spans(spans_of(given.entries, addresses_of(given.entries), GLOBAL)), locals(lay_out_locals(given.entries, 0)), pipes(headers_of(given)), losses(given.program->sites.size()),
+      spans(spans_of(given.entries, addresses_of(given.entries), GLOBAL)), locals(lay_out_locals(given.entries, 0)),
+      stored(given.kept ? words_of(spans) : 0), pipes(headers_of(given)), losses(given.program->sites.size()),
       is_cut(given.kept, true), stack_bytes(PAGE + (RUNTIME_BYTES + given.program->frame_bytes + PAGE - 1) / PAGE * PAGE) {
     uint32_t most = 0;
     for (const Site &site : given.program->sites) most = std::max(most, site.bytes);
@@ -108,6 +109,11 @@ void Launch::fail(const std::string &error) {
     error_ = error;
     has_failed = true;
     is_stopped = true;
+}
+
+void Launch::add_stored(const std::string &lines) {
+    const std::lock_guard<std::mutex> held(lock_);
+    stored_in_locals += lines;
 }
 
 // Groups begin in their order, since some kernels count on that; a seed has neighbours change places.

@@ -4,6 +4,7 @@
 
 #include "memory.h"
 #include "settings.h"
+#include "stored_values.h"
 #include "stream.h"
 
 #include <csignal>
@@ -73,6 +74,8 @@ public:
     std::vector<const Span *> entry_spans;  // by entry; null for those of local memory, or of no bytes
     LocalLayout locals;
     ReleaseSequences sequences;
+    StoredValues stored;                    // in global memory
+    std::string stored_in_locals;           // lines of what groups that have ended stored
     Places places;
     Pipes pipes;
     Losses losses;
@@ -89,6 +92,7 @@ public:
     // Ends the groups of all threads as cut, when these don't do it themselves.
     void abandon();
     void fail(const std::string &error);
+    void add_stored(const std::string &lines);
     // The `number`th group to begin.
     uint64_t group_at(uint64_t number) const;
 

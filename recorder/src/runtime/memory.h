@@ -27,6 +27,11 @@ struct Span {
 // word, and stand apart by some. Words are numbered in the order of the entries: where the driver has the memory changes from run to run.
 std::vector<Span> spans_of(const std::vector<Entry> &entries, const std::vector<uint64_t> &addresses, int space);
 
+// The numbers that their words have.
+inline uint64_t words_of(const std::vector<Span> &spans) {
+    return spans.empty() ? 0 : spans.back().first_word + spans.back().words();
+}
+
 // The span that has this access, or null.
 inline const Span *find_span(const std::vector<Span> &spans, uint64_t address, uint64_t bytes) {
     for (const Span &span : spans)
