@@ -20,23 +20,24 @@ std::vector<uint64_t> addresses_of(const std::vector<Entry> &entries) {
 }
 
 std::vector<std::string> headers_of(const Request &request) {
+    const Kernel &kernel = *request.kernel;
     std::vector<std::string> headers;
-    for (uint64_t group = request.first; group < request.first + request.kept; group++) {
-        const uint64_t items = request.range.size_of(group, 0) * request.range.size_of(group, 1) * request.range.size_of(group, 2);
-        headers.push_back(stream_header(uint32_t(headers.size()), items + request.kernel->has_copies, request.number, request.kernel->has_names));
+    for (uint64_t group = 0; group < request.kept; group++) {
+        const uint64_t items = request.range.items_of(request.first + group) + kernel.has_copies;
+        headers.push_back(stream_header(uint32_t(group), items, request.number, kernel.has_names));
     }
     return headers;
 }
 
 } // namespace
 
-// A thread of a launch: it begins groups and runs them. Where all of its groups wait for what others do, it begins another one, so that
-// groups that wait for each other go on whatever their number.
+// A thread of a launch: it begins groups and runs them. Where all of its groups wait for what others do, it begins
+// another one, so that groups that wait for each other go on whatever their number.
 class Worker {
 public:
     Worker(Launch &launch, uint64_t seed) : launch_(launch), random_(seed) {}
 
-    // `begin_helpers` is called once, when the launch has taken some time: threads would cost a small one more than they do for it.
+    // `begin_helpers` is called once, when the launch has taken some time: threads would cost a small one too much.
     void run(std::function<void()> begin_helpers = nullptr) {
         const double start = seconds_now();
         const size_t usual = settings().threads == 1 ? 2 : 1; // so that items of different groups meet
@@ -90,13 +91,18 @@ private:
     }
 };
 
-double seconds_now() { return std::chrono::duration<double>(std::chrono::steady_clock::now().time_since_epoch()).count(); }
+double seconds_now() {
+    return std::chrono::duration<double>(std::chrono::steady_clock::now().time_since_epoch()).count();
+}
 
 Launch::Launch(const Request &given)
-    : request(given), seed(settings().seed + given.number * 1000003ull), sites(given.program->sites.data()), has_names(given.kernel->has_names),
-      spans(spans_of(given.entries, addresses_of(given.entries), GLOBAL)), locals(lay_out_locals(given.entries, 0)),
-      stored(given.kept ? words_of(spans) : 0), pipes(headers_of(given)), losses(given.program->sites.size()),
-      is_cut(given.kept, true), stack_bytes(PAGE + (RUNTIME_BYTES + given.program->frame_bytes + PAGE - 1) / PAGE * PAGE) {
+    : request(given), seed(settings().seed + given.number * 1000003ull), sites(given.program->sites.data()),
+      has_names(given.kernel->has_names), spans(spans_of(given.entries, addresses_of(given.entries), GLOBAL)),
+      locals(lay_out_locals(given.entries, 0)),
+      stored(given.kept ? words_of(spans) : 0), stored_in_locals(given.kept), pipes(headers_of(given)),
+      losses(given.program->sites.size()),
+      is_cut(given.kept, true),
+      stack_bytes(PAGE + (RUNTIME_BYTES + given.program->frame_bytes + PAGE - 1) / PAGE * PAGE) {
     uint32_t most = 0;
     for (const Site &site : given.program->sites) most = std::max(most, site.bytes);
     zeros.resize(most);
@@ -111,15 +117,11 @@ void Launch::fail(const std::string &error) {
     is_stopped = true;
 }
 
-void Launch::add_stored(const std::string &lines) {
-    const std::lock_guard<std::mutex> held(lock_);
-    stored_in_locals += lines;
-}
-
 // Groups begin in their order, since some kernels count on that; a seed has neighbours change places.
 uint64_t Launch::group_at(uint64_t number) const {
     if (!settings().is_seeded) return number;
-    const uint64_t block = number / SHUFFLED * SHUFFLED, count = std::min(SHUFFLED, request.range.group_count() - block);
+    const uint64_t block = number / SHUFFLED * SHUFFLED;
+    const uint64_t count = std::min(SHUFFLED, request.range.group_count() - block);
     Random random(seed + block);
     uint64_t step = 1 + random.below(uint32_t(count));
     while (std::gcd(step, count) != 1) step++;

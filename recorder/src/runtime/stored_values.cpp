@@ -4,7 +4,8 @@
 
 namespace gpurace {
 
-StoredValues::StoredValues(uint64_t words) : entries_(reinterpret_cast<uint64_t *>(memory_.take(1, words * sizeof(uint64_t), false))) {}
+StoredValues::StoredValues(uint64_t words)
+    : entries_(reinterpret_cast<uint64_t *>(memory_.take(1, words * sizeof(uint64_t), false))) {}
 
 void StoredValues::change(uint64_t word, uint64_t own) {
     uint64_t seen = 0, made = own; // most words are stored to for the first time
@@ -18,7 +19,9 @@ void StoredValues::change(uint64_t word, uint64_t own) {
 }
 
 std::string StoredValues::lines(const std::string &memory) {
-    const auto is_other = [&](uint64_t word) { return __atomic_load_n(&entries_[word], __ATOMIC_RELAXED) >= DIFFERENT; };
+    const auto is_other = [&](uint64_t word) {
+        return __atomic_load_n(&entries_[word], __ATOMIC_RELAXED) >= DIFFERENT;
+    };
     const std::lock_guard<std::mutex> held(lock_);
     same_.erase(std::remove_if(same_.begin(), same_.end(), is_other), same_.end());
     std::sort(same_.begin(), same_.end());

@@ -1,4 +1,4 @@
-// Which words of a memory several items have stored to, all of them the same value: a finding of such stores alone says so.
+// Which words of a memory several items have stored to, all of them the same value: a finding of such stores says so.
 #pragma once
 
 #include "fiber.h"
