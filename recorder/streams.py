@@ -11,12 +11,13 @@ from launches import info_of, streams_of
 
 HEADER = struct.Struct("<4sHHI")
 RECORD_BYTES = {b"GRT1": 20, b"GRT2": 44}
-DIES_WITH_US = ["setpriv", "--pdeathsig", "KILL"] if shutil.which("setpriv") else []
+DIES_WITH_US = ["setpriv", "--pdeathsig", "KILL", "sh", "-c", '[ "$PPID" = "$0" ] && exec "$@"', str(os.getpid())]
 
 
 def start(words, **more):
     """Starts a process that Ctrl-C is not for, and that ends with the thread that starts it, however that ends."""
-    return subprocess.Popen(DIES_WITH_US + words, stdout=subprocess.PIPE, stderr=subprocess.DEVNULL,
+    words = DIES_WITH_US + words if shutil.which("setpriv") else words
+    return subprocess.Popen(words, stdout=subprocess.PIPE, stderr=subprocess.DEVNULL,
                             start_new_session=True, **more)
 
 
