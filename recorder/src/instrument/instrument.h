@@ -97,8 +97,7 @@ private:
     void add(const llvm::Value *pointer, uint64_t bytes, uint64_t unit);
 };
 
-// Of a vector of which some components are assigned, clang loads and stores all. The text writes those alone: each such
-// store becomes stores of the components that it changes.
+// Where some components of a vector are assigned clang stores all. Such stores become those of the assigned ones.
 void narrow_stores(llvm::Function &function);
 
 inline bool is_kernel(const llvm::Function &function) {
@@ -111,8 +110,7 @@ constexpr const char RUN_PREFIX[] = "gr_run_";
 // Instruments a kernel, and writes what the numbers of its sites mean (rewriter.cpp).
 void instrument_kernel(llvm::Function &kernel, llvm::raw_ostream &sites, unsigned &next_site);
 
-// Inlines all calls of a module's own functions, and promotes private variables. A kernel that another one calls is
-// then there twice: as what is launched, and within the other.
+// Inlines all calls of a module's own functions, those of kernels too, and promotes private variables.
 void inline_calls(llvm::Module &module);
 
 // Drops what no longer holds behind instrumentation: debug information and statements on aliases.

@@ -36,8 +36,7 @@ struct Unit {
     std::string source, options;
     std::vector<Source> headers; // those that clCompileProgram was given
 };
-// Compiles the text of a program for the host, instrumented, and loads it. What was built is kept, by the hash of all
-// that went into it. Null where it could not be built; `error` then says why.
+// Compiles a program for the host, instrumented, keeps and loads it. Null where that can't be; `error` then says why.
 std::shared_ptr<Program> build(const std::vector<Unit> &units, cl_device_id device, std::string &error);
 
 // A kernel and the arguments that it has. Without an instrumented program it runs on the driver, for `reason`.

@@ -61,7 +61,7 @@ void Group::flush_places() {
     places_used = 0;
 }
 
-std::unique_ptr<Group> Group::begin(Launch &launch, uint64_t number, Pool &pool, Random &random) {
+std::unique_ptr<Group> Group::begin(Launch &launch, uint64_t number, Pool &pool, Random &random) try {
     auto group = std::make_unique<Group>();
     const Request &request = launch.request;
     group->launch = &launch;
@@ -75,6 +75,8 @@ std::unique_ptr<Group> Group::begin(Launch &launch, uint64_t number, Pool &pool,
     if (!group->stacks) return nullptr;
     if (group->is_recorded) group->open_stream();
     return group;
+} catch (const std::bad_alloc &) {
+    return nullptr;
 }
 
 void Group::place_memory(Pool &pool) {

@@ -31,8 +31,7 @@ std::vector<std::string> headers_of(const Request &request) {
 
 } // namespace
 
-// A thread of a launch: it begins groups and runs them. Where all of its groups wait for what others do, it begins
-// another one, so that groups that wait for each other go on whatever their number.
+// A thread of a launch. Where all of its groups wait for others it begins one more, so that at last all are there.
 class Worker {
 public:
     Worker(Launch &launch, uint64_t seed) : launch_(launch), random_(seed) {}
@@ -68,8 +67,8 @@ private:
         const uint64_t number = launch_.next_group.load() < count ? launch_.next_group++ : count;
         if (number >= count) return false;
         std::unique_ptr<Group> group = Group::begin(launch_, launch_.group_at(number), pool_, random_);
-        if (!group) launch_.fail("there is no memory for its work-items");
-        else resident_.push_back(std::move(group));
+        if (!group) return launch_.is_stopped = launch_.has_failed = true, false;
+        resident_.push_back(std::move(group));
         return true;
     }
 
@@ -110,13 +109,6 @@ Launch::Launch(const Request &given)
         entry_spans.push_back(entry.space == GLOBAL && entry.address ? find_span(spans, entry.address, 1) : nullptr);
 }
 
-void Launch::fail(const std::string &error) {
-    const std::lock_guard<std::mutex> held(lock_);
-    error_ = error;
-    has_failed = true;
-    is_stopped = true;
-}
-
 // Groups begin in their order, since some kernels count on that; a seed has neighbours change places.
 uint64_t Launch::group_at(uint64_t number) const {
     if (!settings().is_seeded) return number;
@@ -143,7 +135,9 @@ void Launch::run_workers() {
     const Watched watched(*this);
     std::vector<std::thread> threads;
     workers[0]->run([&] {
-        for (unsigned at = 1; at < count; at++) threads.emplace_back([&, at] { workers[at]->run(); });
+        try {
+            for (unsigned at = 1; at < count; at++) threads.emplace_back([&, at] { workers[at]->run(); });
+        } catch (const std::exception &) {} // there is no memory for more of them
     });
     for (std::thread &thread : threads) thread.join();
 }
@@ -152,13 +146,13 @@ Result Launch::run() {
     Result result;
     if (request.kept > 0 && !begin_folder(*this, result.error)) return result;
     const double start = seconds_now();
-    result.has_run = true;
     run_workers();
+    result.has_run = !has_failed || next_group > 1;
     result.seconds = seconds_now() - start;
     result.records = records;
     result.is_stopped = is_stopped && !has_failed;
     result.is_timed_out = is_timed_out;
-    result.error = error_;
+    if (has_failed) result.error = "there is no memory for its work-items";
     write_prints();
     if (request.kept > 0) end_folder(*this, result.seconds);
     return result;

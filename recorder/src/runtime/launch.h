@@ -92,14 +92,11 @@ public:
 
     // Ends the groups of all threads as cut, when these don't do it themselves.
     void abandon();
-    void fail(const std::string &error);
     // The `number`th group to begin.
     uint64_t group_at(uint64_t number) const;
 
 private:
     std::vector<class Worker *> workers_;
-    std::mutex lock_;
-    std::string error_;
 
     void run_workers();
 };

@@ -71,8 +71,7 @@ Watched::Watched(Launch &launch) {
     was_interrupted = 0;
     sigaction(SIGINT, &interrupt, &before_);
     const std::lock_guard<std::mutex> held(own.lock);
-    if (!own.has_thread) {
-        own.has_thread = true;
+    if (!own.has_thread) try {
         pthread_atfork(nullptr, nullptr, [] { new (&watcher()) Watcher; }); // a forked process has no such thread
         std::thread([] {
             sigset_t all; // signals are the program's own threads'
@@ -80,7 +79,8 @@ Watched::Watched(Launch &launch) {
             pthread_sigmask(SIG_BLOCK, &all, nullptr);
             watcher().watch();
         }).detach();
-    }
+        own.has_thread = true;
+    } catch (const std::exception &) {} // without memory for it nobody watches
     own.launch = &launch;
     own.number++;
     own.end = settings().timeout > 0 ? seconds_now() + settings().timeout : 0;
