@@ -202,15 +202,14 @@ HOOK void *gr_access(void *state, uint32_t number, void *pointer, const uint8_t 
         interrupt_turn(item);
         return allowed;
     }
-    const Part part{span, address, site.bytes};
     if (site.kind != READ) {
-        note_stored(group, item.number, space, part, stored);
+        note_stored(group, item.number, space, {span, address, site.bytes}, stored);
         item.last_site = number;
     } else if (is_repeated(item, number, pointer)) {
         rest_if_idle(item, IDLE_READS);
         if (item.repeats > MOST_READS) return group.launch->losses.repeated++, pointer; // it is recorded already
     }
-    Accessor{group, item.number, item.records}.put(site, site.kind, space, part);
+    Accessor{group, item.number, item.records}.put(site, site.kind, space, {span, address, site.bytes});
     item.last_records = item.records;
     if (site.kind != WRITE || !span->has_atomics || !group.launch->has_names) return pointer;
     uint8_t *allowed = defer_store(item, address, site.bytes);
