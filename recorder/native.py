@@ -47,7 +47,8 @@ def build(say):
     if all(os.path.exists(part) and os.path.getmtime(part) >= newest for part in parts):
         return out
     say("building the recorder, which takes a minute the first time")
-    built = subprocess.run(["make", "-s", "-j2", "-C", HERE, f"OUT={out}"], capture_output=True, text=True)
+    make = ["make", "-s", f"-j{os.cpu_count() or 2}", "-C", HERE, f"OUT={out}"]
+    built = subprocess.run(make, capture_output=True, text=True)
     if built.returncode != 0:
         raise Missing("the recorder could not be built:\n" + built.stderr)
     for part in parts:
