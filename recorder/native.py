@@ -1,17 +1,22 @@
-"""Records a program's kernels on the host's threads: builds the recorder, runs the program with its layer, and judges launches meanwhile."""
+"""Records a program's kernels on the host's threads: builds the recorder, runs the program with its layer, and judges
+launches meanwhile."""
 import os
 import shutil
 import signal
 import subprocess
 import sys
+import tempfile
 import threading
 import time
 
-from launches import Launch, Piped, count, end_streams, info_of
-
 HERE = os.path.dirname(os.path.realpath(__file__))
+sys.path.insert(0, os.path.join(HERE, "..", "tools", "recorder"))
+from launches import Launch, info_of, unrecorded  # noqa: E402
+from streams import Piped, end_streams  # noqa: E402
+
 NEEDED = [("g++", "g++"), ("make", "make"), ("clang-15", "clang-15"), ("llvm-config-15", "llvm-15-dev"),
-          ("/usr/include/CL/cl_layer.h", "opencl-headers"), ("ld", "binutils"), ("/usr/share/pocl/include/opencl-c.h", "libpocl2-common")]
+          ("/usr/include/CL/cl_layer.h", "opencl-headers"), ("ld", "binutils"),
+          ("/usr/share/pocl/include/opencl-c.h", "libpocl2-common")]
 CLOSES = 10.0  # seconds that a program has to end after Ctrl-C
 
 
@@ -36,12 +41,14 @@ def build(say):
     if missing:
         raise Missing(f"packages are missing (Debian: apt-get install {' '.join(missing)})")
     parts = [os.path.join(out, part) for part in ("layer.so", "instrument-kernels")]
-    sources = [os.path.join(folder, name) for folder, _, names in os.walk(os.path.join(HERE, "src")) for name in names]
+    source = os.path.join(HERE, "src")
+    sources = [os.path.join(folder, name) for folder, _, names in os.walk(source) for name in names]
     newest = max(map(os.path.getmtime, sources + [os.path.join(HERE, "Makefile")]))
     if all(os.path.exists(part) and os.path.getmtime(part) >= newest for part in parts):
         return out
     say("building the recorder, which takes a minute the first time")
-    built = subprocess.run(["make", "-s", "-j2", "-C", HERE, f"OUT={out}"], capture_output=True, text=True)
+    make = ["make", "-s", f"-j{os.cpu_count() or 2}", "-C", HERE, f"OUT={out}"]
+    built = subprocess.run(make, capture_output=True, text=True)
     if built.returncode != 0:
         raise Missing("the recorder could not be built:\n" + built.stderr)
     for part in parts:
@@ -54,18 +61,19 @@ def environment(out, options, folder, seed, is_judged):
     layers = os.path.join(out, "layer.so")
     if os.environ.get("OPENCL_LAYERS"):
         layers += ":" + os.environ["OPENCL_LAYERS"]
-    settings = {"OPENCL_LAYERS": layers, "GPURACE_OUT": folder, "GPURACE_QUIET": "1", "PYOPENCL_NO_CACHE": "1",
-                "GPURACE_KEPT_BUILDS": os.path.join(cache(), "programs"), "GPURACE_SEED": "" if seed is None else str(seed),
+    settings = {"OPENCL_LAYERS": layers, "GPURACE_OUT": folder, "PYOPENCL_NO_CACHE": "1",
+                "GPURACE_KEPT_BUILDS": os.path.join(cache(), "programs"),
+                "GPURACE_SEED": "" if seed is None else str(seed),
                 "GPURACE_JUDGE": str(os.getpid()) if is_judged else ""}
-    for option, name in (("--kernel", "KERNEL"), ("--launch", "LAUNCH"), ("--groups", "GROUPS"), ("--max-group-size", "ITEMS"),
-                         ("--most-records", "MOST_RECORDS"), ("--timeout", "TIMEOUT"), ("--build-options", "BUILD_OPTIONS")):
-        if option in options:
-            settings["GPURACE_" + name] = options[option]
+    for name in ("kernel", "launch", "groups", "max-group-size", "most-records", "timeout", "build-options"):
+        if "--" + name in options:
+            settings["GPURACE_" + name.replace("-", "_").upper()] = options["--" + name]
     return {**os.environ, **settings}
 
 
 def run_program(words, variables):
-    """Runs the program and answers its status, negative where a signal ended it. Ctrl-C goes to the program, and ends the wait for it."""
+    """Runs the program and answers its status, negative where a signal ended it. Ctrl-C goes to the program, and ends
+    the wait for it."""
     with subprocess.Popen(words, env=variables) as program:
         asked_at = None
         while True:
@@ -78,8 +86,8 @@ def run_program(words, variables):
 
 
 class Judge(threading.Thread):
-    """Judges launches while the program runs. A folder that is not kept is removed when it is judged: the recorder waits for
-    that where much is not judged yet. Of a launch of very many records it reads pipes while they are recorded."""
+    """Judges launches while the program runs. A folder that is not kept is removed when it is judged: the recorder
+    waits for that where much is not judged yet. Of a launch of many records it reads pipes while they are recorded."""
 
     def __init__(self, program, folder, is_kept, is_window_wanted):
         super().__init__(daemon=True)
@@ -93,12 +101,19 @@ class Judge(threading.Thread):
                     self.piped[name] = Piped(self.program, os.path.join(self.folder, name))
             if not self.judge_all():
                 time.sleep(0.02)
+        self.judge_all()
+        for name in self.having("begun.txt"):
+            try:
+                end_streams(os.path.join(self.folder, name))
+            except Exception as fault:
+                self.fault = fault
+        self.judge_all()
 
     def having(self, file):
         """The folders with this file that are not judged yet."""
-        names = sorted((name for name in os.listdir(self.folder) if name not in self.seen and name.partition("-")[0].isdigit()),
-                       key=lambda name: (int(name.partition("-")[0]), name))
-        return [name for name in names if os.path.exists(os.path.join(self.folder, name, file))]
+        names = [name for name in os.listdir(self.folder) if name not in self.seen and name.partition("-")[0].isdigit()]
+        return [name for name in sorted(names, key=lambda name: (int(name.partition("-")[0]), name))
+                if os.path.exists(os.path.join(self.folder, name, file))]
 
     def judge_all(self):
         """Judges the launches that have ended; answers whether there was one."""
@@ -106,8 +121,9 @@ class Judge(threading.Thread):
         for name in ended:
             path = os.path.join(self.folder, name)
             self.seen.add(name)
+            piped = self.piped.get(name)
             try:
-                self.launches.append(Launch(self.program, path, self.is_kept, self.is_window_wanted, self.piped.get(name)))
+                self.launches.append(Launch(self.program, path, self.is_kept, self.is_window_wanted, piped))
             except Exception as fault:  # told by `finish`; the program does not wait for it
                 self.fault = fault
             if not self.is_kept:
@@ -115,50 +131,32 @@ class Judge(threading.Thread):
         return ended
 
     def finish(self):
-        """The program is over: judges what is left, the launches that it did not end too."""
+        """The program is over: waits until what is left is judged, the launches that it did not end too."""
         self.is_over = True
         self.join()
-        self.judge_all()
-        for name in sorted(os.listdir(self.folder)):
-            path = os.path.join(self.folder, name)
-            if name not in self.seen and os.path.exists(os.path.join(path, "begun.txt")):
-                end_streams(path)
-        self.judge_all()
         if self.fault:
             raise self.fault
         self.launches.sort(key=lambda launch: int(launch.number))
-
-
-def unrecorded(folder):
-    """The launches that the driver ran, as lines by their reason, and how many they are."""
-    kernels = {}
-    path = os.path.join(folder, "not-recorded.txt")
-    with open(path, errors="replace") if os.path.exists(path) else open(os.devnull) as lines:
-        for line in lines:
-            _, kernel, reason = line.rstrip("\n").split("\t", 2)
-            kernels.setdefault(reason, []).append(kernel)
-    for reason, names in kernels.items():
-        told = sorted(set(names))
-        more = f" and {len(told) - 3} more" if len(told) > 3 else ""
-        yield len(names), f"{count(len(names), 'launch')} of {', '.join(told[:3])}{more} not recorded: {reason}"
 
 
 def check(say):
     """Says what this machine has, and records one small kernel. Answers whether all is there."""
     missing = missing_packages()
     for needed, package in NEEDED:
-        print(f"  {'missing' if package in missing else 'there  '}  {os.path.basename(needed)}, of the package {package}")
-    program = [sys.executable, os.path.join(HERE, "small_program.py")]
+        state = "missing" if package in missing else "there  "
+        print(f"  {state}  {os.path.basename(needed)}, of the package {package}")
+    program = [sys.executable, os.path.join(HERE, "tests", "small_program.py")]
     told = subprocess.run(program + ["list"], capture_output=True, text=True)
     print("".join(f"  {line}\n" for line in (told.stdout or told.stderr).splitlines()), end="")
     if missing or told.returncode != 0:
         say("not ready" + (f": apt-get install {' '.join(missing)}" if missing else ""))
         return False
-    import tempfile
     with tempfile.TemporaryDirectory() as folder:
-        ran = subprocess.run(program + ["run"], capture_output=True, text=True, env=environment(build(say), {}, folder, None, False))
+        variables = environment(build(say), {}, folder, None, False)
+        ran = subprocess.run(program + ["run"], capture_output=True, text=True, env=variables)
         recorded = [info_of(os.path.join(folder, name)) for name in os.listdir(folder) if name.startswith("000-")]
         is_right = ran.returncode == 0 and len(recorded) == 1 and recorded[0]["records"][:1] == ["34"]
         say("one small kernel was recorded: 2 groups of 8 work-items, 34 records; all is there" if is_right
-            else "one small kernel could not be recorded:\n" + ran.stdout + ran.stderr + "".join(line for _, line in unrecorded(folder)))
+            else "one small kernel could not be recorded:\n" + ran.stdout + ran.stderr
+            + "".join(line for _, line in unrecorded(folder)))
         return is_right

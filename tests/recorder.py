@@ -16,7 +16,7 @@ NATIVE = ("clang-15", "llvm-config-15", "c++", "make")
 class Recorder(unittest.TestCase):
     def assert_passes(self, *words):
         environ = {**os.environ, "GPURACE_PROGRAM": os.environ["GPURACE"]}
-        ran = subprocess.run(words, env=environ, stdout=subprocess.PIPE, stderr=subprocess.STDOUT, timeout=600, check=False)
+        ran = subprocess.run(words, env=environ, stdout=subprocess.PIPE, stderr=subprocess.STDOUT, timeout=1800, check=False)
         self.assertEqual(ran.returncode, 0, ran.stdout.decode(errors="replace"))
         return ran.stdout.decode(errors="replace")
 

@@ -193,6 +193,33 @@ kernel void fenced(global int *data) {
     data[get_global_id(0)] = 1;
     mem_fence(CLK_GLOBAL_MEM_FENCE);
 }
+kernel void equal(global int *out, global int4 *vectors, local short *part) { // each word gets one value from the odd items
+    const int l = get_local_id(0);
+    if ((l & 1) == 0) return;
+    out[0] = 7;
+    vectors[l & 3].yz = (int2)(l & 3, 9);
+    vstore2((short2)(5, 6), l / 32, part);
+}
+kernel void one_unequal(global int *out) { // one item of all writes another value to one word of five
+    const int i = get_global_id(0), value = i == 37 ? 6 : 5;
+    out[0] = 5;
+    out[1 + (i & 3)] = value;
+}
+kernel void unequal_in_time(global int *out) { // each writes twice, the last time the same
+    out[0] = get_global_id(0);
+    out[0] = 5;
+}
+kernel void equal_atomics(global int *out) { // what atomics write is not looked at
+    out[0] = 5;
+    atomic_xchg(&out[0], 5);
+}
+kernel void equal_copies(global int *out) { // nor what copies do
+    local int tile[4];
+    if (get_local_id(0) < 4) tile[get_local_id(0)] = 3;
+    barrier(CLK_LOCAL_MEM_FENCE);
+    event_t copy = async_work_group_copy(out, tile, 4, 0);
+    wait_group_events(1, &copy);
+}
 local_helper
 kernel void calls(global int *out) { helper(out, get_global_id(0)); }
 kernel void called(global int *out, int extra) { out[get_global_id(0)] = extra; }
@@ -275,9 +302,9 @@ class Case:
     """A launch: its sizes, what its arguments are, what it must have computed, and the races that must be found in it; None where
     they depend on the run, but some must be found."""
 
-    def __init__(self, kernel, arguments, races=0, results=(), size=(ALL,), local=(ITEMS,), diverge=0, say=(), offset=None):
+    def __init__(self, kernel, arguments, races=0, results=(), size=(ALL,), local=(ITEMS,), diverge=0, say=(), unsaid="", offset=None):
         self.kernel, self.arguments, self.races, self.results, self.size, self.local = kernel, arguments, races, dict(results), size, local
-        self.diverge, self.say, self.offset = diverge, say, offset
+        self.diverge, self.say, self.unsaid, self.offset = diverge, say, unsaid, offset
 
 
 def sums_before():
@@ -326,6 +353,13 @@ def cases():
                {0: [3 * ALL, -ALL, 1 - ALL, ALL - 101, ALL]})
     yield Case("fenced", [zeros], 0, {0: [1] * ALL}, say=("fences not recorded, so that an order that they give is not seen: 256, at kernel.cl:",))
     yield Case("numbers", [[0] * 4 * 48], 0, {0: numbers_of()}, (6, 4, 2), (3, 2, 1), offset=(1, 2, 3))
+    same = "write the same value"  # out[0]; y and z of two vectors; four parts of a tile of each group
+    yield Case("equal", [[0], [0] * 16, Local(4 * ITEMS)], 1 + 4 + 4 * GROUPS, {0: [7], 1: [0] * 5 + [1, 9, 0] + [0] * 5 + [3, 9, 0]},
+               say=("all stores to it " + same, "all stores to each of them " + same))
+    yield Case("one_unequal", [[0] * 5], 5, say=("all stores to it " + same,), unsaid="each of them " + same)
+    yield Case("unequal_in_time", [[0]], 1, {0: [5]}, unsaid=same)
+    yield Case("equal_atomics", [[0]], 1, {0: [5]}, unsaid=same)
+    yield Case("equal_copies", [[0] * 4], 4, {0: [3] * 4}, unsaid=same)
     yield Case("calls", [zeros], ALL)  # each reads what another one adds to
     yield Case("caller", [zeros], 0, {0: [9] * ALL})
     yield Case("deep", [zeros, 3], 0, {0: [(3 + 5996) * 4] * ALL})

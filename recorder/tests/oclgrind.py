@@ -25,7 +25,8 @@ DIFFERENT = {
     **dict.fromkeys(("memcheck/async_copy_out_of_bounds", "memcheck/atomic_out_of_bounds", "memcheck/dereference_null",
                      "memcheck/read_out_of_bounds", "memcheck/write_out_of_bounds"), "out of bounds is a finding natively, and counted there"),
     "misc/non_uniform_work_groups": "pocl refuses groups of unequal size",
-    "uninitialized/uninitialized_address": "private memory out of bounds: the program dies of it natively"}
+    "uninitialized/uninitialized_address": "private memory out of bounds, of which the program may die natively"}
+UNDEFINED = {"uninitialized/uninitialized_address"}  # may be alike too
 ADDRESS, TYPE_NAME, OF_GLOBAL, OF_LOCAL, OF_CONSTANT = 0x1196, 0x1198, 0x119B, 0x119C, 0x119D
 
 
@@ -106,7 +107,7 @@ def compared(folder, tests=()):
         found = threads.map(both, [os.path.abspath(folder)] * len(tests), tests)
         for test, sides in zip(tests, found):
             is_alike = len({(status, *words_of(told)) for status, told in sides}) == 1
-            yield test, [] if is_alike == (test not in DIFFERENT) else [
+            yield test, [] if is_alike == (test not in DIFFERENT) or test in UNDEFINED else [
                 "; ".join(f"{where} {status}: {', '.join(told)}" for where, (status, told) in zip(("natively", "on the simulator"), sides))]
 
 

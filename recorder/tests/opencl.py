@@ -8,7 +8,8 @@ LOADER = ctypes.CDLL(None)  # what is loaded already: the simulator loads itself
 if not hasattr(LOADER, "clGetPlatformIDs"):
     LOADER = ctypes.CDLL("libOpenCL.so.1")
 for _name in ("clCreateContext", "clCreateCommandQueue", "clCreateProgramWithSource", "clCreateKernel", "clCreateBuffer", "clCreateUserEvent",
-              "clLinkProgram", "clSVMAlloc", "clCreateProgramWithBinary"):
+              "clLinkProgram", "clSVMAlloc", "clCreateProgramWithBinary", "clCreateImage", "clCreateSampler",
+              "clCreateProgramWithIL"):
     getattr(LOADER, _name).restype = POINTER
 
 
@@ -43,6 +44,25 @@ class Buffer:
     def read(self):
         memory = (ctypes.c_char * self.size).from_buffer(self.values)
         must(LOADER.clEnqueueReadBuffer(self.device.queue, self.handle, 1, ctypes.c_size_t(0), ctypes.c_size_t(self.size), memory, 0, None, None), "clEnqueueReadBuffer")
+        return list(self.values)
+
+
+class Image:
+    """An image of 8 x 8 points of four values: bytes (B) or floats (f)."""
+    ORIGIN, REGION = sizes((0, 0, 0)), sizes((8, 8, 1))
+
+    def __init__(self, device, values, kind):
+        self.device, self.values = device, array.array(kind, values)
+        rgba, type_of_values, image_2d, error = 0x10B5, {"B": 0x10D2, "f": 0x10DE}[kind], 0x10F1, ctypes.c_int(0)
+        shape = (ctypes.c_uint64 * 9)(image_2d, 8, 8, *[0] * 6)
+        self.memory = (ctypes.c_char * (len(self.values) * self.values.itemsize)).from_buffer(self.values)
+        self.handle = POINTER(LOADER.clCreateImage(device.context, ctypes.c_ulong(COPY_HOST_PTR), (ctypes.c_uint * 2)(rgba, type_of_values),
+                                                   shape, self.memory, ctypes.byref(error)))
+        must(error.value, "clCreateImage")
+
+    def read(self):
+        must(LOADER.clEnqueueReadImage(self.device.queue, self.handle, 1, self.ORIGIN, self.REGION, ctypes.c_size_t(0), ctypes.c_size_t(0), self.memory,
+                                       0, None, None), "clEnqueueReadImage")
         return list(self.values)
 
 

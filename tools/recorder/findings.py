@@ -10,7 +10,7 @@ import re
 import struct
 import subprocess
 
-BARRIER = 5
+WRITE, BARRIER = 1, 5
 RECORD_FORMS = {b"GRT1": struct.Struct("<BBBBHxxI8x"), b"GRT2": struct.Struct("<BBBBHxxI32x")}  # names are passed over
 KINDS = ["read", "write", "atomic load", "atomic store", "atomic read-modify-write"]
 SCOPES = ["", "work-group scope", "device scope"]
@@ -146,6 +146,7 @@ class Launch:
         self.groups = {group: Group(self.streams[group], [event for event in events if event.group == group])
                        for group in numbers}
         self.buffers = buffers_of(folder)
+        self.equal = [equal_of(*line.split()) for line in lines_of(folder, "equal")]
         words = [line.split() for line in lines_of(folder, "info.txt")]
         self.copying = {tuple(map(int, line[1:])) for line in words if line[:1] == ["copying-item"]}  # (group, item)
         self.places = self.find_places({"%d %d %d" % event for event in events})
@@ -169,12 +170,20 @@ class Launch:
         """A kind of races, and those of its further words that are of other buffers or places than all before."""
         more = f" ({race.words} words); on {self.first_word(race)}:" if race.words > 1 else ""
         told = [f"race on {self.names(race)}{more}"] + self.pair_told(race)
+        if self.is_equal(race):
+            told.append(f"    all stores to {'it' if race.words == 1 else 'each of them'} write the same value")
         seen = {self.sight(race)}
         for other in further:
             if self.sight(other) not in seen:
                 seen.add(self.sight(other))
                 told += [f"and on {self.names(other)}:"] + self.pair_told(other)
         return told
+
+    def is_equal(self, race):
+        """Whether both accesses are stores, and each of the words has got one value by all stores to it (the file `equal`)."""
+        is_store = all(self.groups[event.group].accesses[event].kind == WRITE for event in (race.first, race.second))
+        return is_store and all(any(equal.group == run.group and equal.first <= run.first and run.last <= equal.last
+                                    for equal in self.equal) for run in race.runs)
 
     def sight(self, race):
         """The buffer of the race's first word, and the places of its two accesses, whichever comes first."""
@@ -292,6 +301,12 @@ def buffers_of(folder):
 
 def buffer_of(group, first, words, name):
     return Buffer(group and int(group), int(first), int(first) + int(words) - 1, name)
+
+
+def equal_of(memory, *numbers):
+    """Words that several items have stored to, all the same value: of `g FIRST LAST` or `l GROUP FIRST LAST`."""
+    *group, first, last = map(int, numbers)
+    return Run(group[0] if memory == "l" else None, first, last)
 
 
 def parts(run, buffers):

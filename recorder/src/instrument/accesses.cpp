@@ -36,9 +36,10 @@ private:
         if (auto *load = dyn_cast<LoadInst>(&at))
             add({&at, load->getPointerOperandIndex(), READ, size_of(load->getType()), load->getAlign().value()});
         else if (auto *store = dyn_cast<StoreInst>(&at))
-            add({&at, store->getPointerOperandIndex(), WRITE, size_of(store->getValueOperand()->getType()), store->getAlign().value()});
+            add({&at, store->getPointerOperandIndex(), WRITE, size_of(store->getValueOperand()->getType()),
+                 store->getAlign().value()});
         else if (isa<AnyMemIntrinsic>(at)) find_block(cast<AnyMemIntrinsic>(at));
-        else if (isa<AtomicRMWInst>(at) || isa<AtomicCmpXchgInst>(at)) found.notes.insert("an atomic that is no call of a builtin");
+        else if (isa<AtomicRMWInst>(at) || isa<AtomicCmpXchgInst>(at)) found.notes.insert("an atomic of another kind");
         else if (auto *call = dyn_cast<CallInst>(&at)) find_call(*call);
     }
 
@@ -46,15 +47,16 @@ private:
     void find_block(AnyMemIntrinsic &block) {
         const auto *length = dyn_cast<ConstantInt>(block.getLength());
         if (!length) return (void)found.notes.insert("a copy of memory whose length is no constant");
-        if (auto *copy = dyn_cast<AnyMemTransferInst>(&block)) // the read first: a write may be done at the item's next call alone
+        if (auto *copy = dyn_cast<AnyMemTransferInst>(&block)) // first, as a write may be done at the item's next call
             add({&block, 1, READ, length->getZExtValue(), copy->getSourceAlign().valueOrOne().value()});
         add({&block, 0, WRITE, length->getZExtValue(), block.getDestAlign().valueOrOne().value()});
     }
 
     void find_call(CallInst &call) {
         const StringRef name = name_of(call);
-        if (name == "barrier" || name == "work_group_barrier" || name == "wait_group_events") found.barriers.push_back(&call);
-        else if (name.startswith("async_work_group_")) found.copies.push_back({&call, name.contains("strided")});
+        if (name == "barrier" || name == "work_group_barrier" || name == "wait_group_events")
+            found.barriers.push_back(&call);
+        else if (name.startswith("async_work_group_")) found.copies.push_back(&call);
         else if (name.startswith("vload") || name.startswith("vstore")) find_vector(call, name);
         else if (is_fence(name)) found.fences.push_back(&call);
         else if (is_image_access(name)) found.images.push_back(&call);
@@ -69,7 +71,7 @@ private:
 
     // vload4(index, pointer), vstore4(value, index, pointer), and those of half.
     void find_vector(CallInst &call, StringRef name) {
-        const bool is_load = name.startswith("vload"), is_aligned = name.startswith("vloada") || name.startswith("vstorea");
+        const bool is_load = name.startswith("vload"), is_aligned = name.startswith(is_load ? "vloada" : "vstorea");
         const unsigned index = is_load ? 0 : 1, width = width_of(name);
         const uint64_t unit = name.contains("half") ? 2 : size_of(pointee_of(call.getArgOperand(index + 1)));
         Access access{&call, index + 1, is_load ? READ : WRITE, unit * width, unit};
@@ -91,9 +93,9 @@ Accesses find_accesses(Function &function) { return Finder(function).found; }
 
 Grains::Grains(const Accesses &accesses, const DataLayout &layout) {
     for (const Access &access : accesses.plain) add(access.pointer(), access.bytes, access.unit);
-    for (const Copy &copy : accesses.copies)
+    for (const CallInst *copy : accesses.copies)
         for (unsigned at : {0u, 1u}) {
-            Value *pointer = copy.call->getArgOperand(at);
+            Value *pointer = copy->getArgOperand(at);
             const uint64_t bytes = layout.getTypeStoreSize(pointee_of(pointer));
             add(pointer, bytes, bytes);
         }
@@ -103,7 +105,8 @@ void Grains::add(const Value *pointer, uint64_t bytes, uint64_t unit) {
     unit = std::min<uint64_t>(4, unit);
     while (bytes % unit) unit /= 2;
     const Value *object = object_of(pointer);
-    uint64_t &grain = object ? grains_.try_emplace(object, 4).first->second : least_[pointer->getType()->getPointerAddressSpace()];
+    uint64_t &least = least_[pointer->getType()->getPointerAddressSpace()];
+    uint64_t &grain = object ? grains_.try_emplace(object, 4).first->second : least;
     grain = std::min(grain, unit);
 }
 
@@ -120,7 +123,8 @@ struct Component { unsigned number; Value *value; };
 // The load of the vector of which a store changes some components: that of the same place, in the same block.
 LoadInst *whole_of(StoreInst &store, Value *from) {
     auto *load = dyn_cast<LoadInst>(from);
-    return load && load->getPointerOperand() == store.getPointerOperand() && load->getParent() == store.getParent() ? load : nullptr;
+    const bool is_here = load && load->getParent() == store.getParent();
+    return is_here && load->getPointerOperand() == store.getPointerOperand() ? load : nullptr;
 }
 
 // The components that a store changes, where its value is what stood there with some of them inserted; else none.
@@ -128,17 +132,19 @@ std::vector<Component> changed_components(StoreInst &store) {
     std::vector<Component> changed;
     if (auto *insert = dyn_cast<InsertElementInst>(store.getValueOperand())) {
         auto *index = dyn_cast<ConstantInt>(insert->getOperand(2));
-        if (index && whole_of(store, insert->getOperand(0))) changed.push_back({unsigned(index->getZExtValue()), insert->getOperand(1)});
+        if (index && whole_of(store, insert->getOperand(0)))
+            changed.push_back({unsigned(index->getZExtValue()), insert->getOperand(1)});
     } else if (auto *shuffle = dyn_cast<ShuffleVectorInst>(store.getValueOperand())) {
+        Value *whole = shuffle->getOperand(0), *others = shuffle->getOperand(1);
         const ArrayRef<int> mask = shuffle->getShuffleMask();
         const int width = int(mask.size());
-        if (!whole_of(store, shuffle->getOperand(0)) || shuffle->getOperand(0)->getType() != shuffle->getType()) return {};
+        if (!whole_of(store, whole) || whole->getType() != shuffle->getType()) return {};
         IRBuilder<> builder(&store);
         for (int at = 0; at < width; at++) {
             const int from = mask[size_t(at)];
             if (from == at || from < 0) continue;
             if (from < width) return {}; // a component that moves: all that stood there is read
-            changed.push_back({unsigned(at), builder.CreateExtractElement(shuffle->getOperand(1), uint64_t(from - width))});
+            changed.push_back({unsigned(at), builder.CreateExtractElement(others, uint64_t(from - width))});
         }
     }
     return changed;
@@ -148,7 +154,8 @@ std::vector<Component> changed_components(StoreInst &store) {
 bool is_idle(LoadInst &load) {
     if (!load.use_empty() || !load.getType()->isVectorTy()) return false;
     for (Instruction *next = load.getNextNode(); next; next = next->getNextNode())
-        if (auto *store = dyn_cast<StoreInst>(next); store && store->getPointerOperand() == load.getPointerOperand()) return true;
+        if (auto *store = dyn_cast<StoreInst>(next))
+            if (store->getPointerOperand() == load.getPointerOperand()) return true;
     return false;
 }
 
@@ -157,8 +164,9 @@ void store_components(StoreInst &store, const std::vector<Component> &changed) {
     const uint64_t bytes = store.getModule()->getDataLayout().getTypeStoreSize(type->getElementType());
     IRBuilder<> builder(&store);
     for (const Component &component : changed) {
-        Value *place = builder.CreateInBoundsGEP(type, store.getPointerOperand(), {builder.getInt32(0), builder.getInt32(component.number)});
-        builder.CreateAlignedStore(component.value, place, commonAlignment(store.getAlign(), component.number * bytes), store.isVolatile());
+        Value *place = builder.CreateConstInBoundsGEP2_32(type, store.getPointerOperand(), 0, component.number);
+        const Align align = commonAlignment(store.getAlign(), component.number * bytes);
+        builder.CreateAlignedStore(component.value, place, align, store.isVolatile());
     }
     auto *value = cast<Instruction>(store.getValueOperand());
     auto *whole = cast<LoadInst>(value->getOperand(0));

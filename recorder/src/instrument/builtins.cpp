@@ -1,5 +1,6 @@
 #include "instrument.h"
 
+#include "llvm/ADT/StringExtras.h"
 #include "llvm/ADT/StringSwitch.h"
 #include "llvm/IR/Constants.h"
 
@@ -18,12 +19,8 @@ StringRef name_of(const CallInst &call) {
 }
 
 unsigned width_of(StringRef name) {
-    const size_t digits = name.find_first_of("0123456789");
     unsigned width = 1;
-    if (digits != StringRef::npos) {
-        StringRef rest = name.drop_front(digits);
-        rest.consumeInteger(10, width);
-    }
+    name.drop_until(isDigit).consumeInteger(10, width);
     return width;
 }
 
@@ -48,7 +45,8 @@ Operation operation_of(StringRef name, SiteKind kind) {
     if (kind == LOAD) return OP_LOAD;
     if (kind == STORE || kind == WRITE) return OP_STORE;
     if (kind == COMPARE_EXCHANGE) return OP_COMPARE;
-    return StringSwitch<Operation>(name.drop_front(name.startswith("atomic") ? 6 : 4).drop_until([](char c) { return c != '_'; }))
+    if (!name.consume_front("atomic_")) name.consume_front("atom_");
+    return StringSwitch<Operation>(name)
         .StartsWith("fetch_add", OP_ADD).StartsWith("add", OP_ADD).StartsWith("inc", OP_ADD)
         .StartsWith("fetch_sub", OP_SUBTRACT).StartsWith("sub", OP_SUBTRACT).StartsWith("dec", OP_SUBTRACT)
         .StartsWith("fetch_min", OP_MINIMUM).StartsWith("min", OP_MINIMUM)
@@ -73,13 +71,10 @@ char type_of(const CallInst &call, StringRef name) {
 void read_orders(Atomic &atomic, unsigned plain) {
     const CallInst &call = *atomic.call;
     const auto argument = [&](unsigned at) { return at < call.arg_size() ? call.getArgOperand(at) : nullptr; };
+    const bool has_failure = atomic.kind == COMPARE_EXCHANGE;
     atomic.order = argument(plain);
-    if (atomic.kind != COMPARE_EXCHANGE) {
-        atomic.scope = argument(plain + 1);
-        return;
-    }
-    atomic.failure = argument(plain + 1);
-    atomic.scope = argument(plain + 2);
+    atomic.failure = has_failure ? argument(plain + 1) : nullptr;
+    atomic.scope = argument(plain + 1 + has_failure);
 }
 
 } // namespace
@@ -91,17 +86,17 @@ bool Atomic::may_acquire() const {
 
 std::optional<Atomic> atomic_of(CallInst &call) {
     const StringRef name = name_of(call);
-    if (!name.startswith("atom") || name.contains("fence") || call.arg_size() == 0 || !call.getArgOperand(0)->getType()->isPointerTy())
-        return std::nullopt;
+    if (!name.startswith("atom") || name.contains("fence") || call.arg_size() == 0) return std::nullopt;
+    if (!call.getArgOperand(0)->getType()->isPointerTy()) return std::nullopt;
     Atomic atomic;
     atomic.call = &call;
-    atomic.pointer = call.getArgOperand(0)->stripPointerCasts(); // from OpenCL C 2.0 on it is mostly cast to the generic space
+    atomic.pointer = call.getArgOperand(0)->stripPointerCasts(); // OpenCL C 2.0 mostly casts it to the generic space
     if (!atomic.pointer->getType()->isPointerTy()) atomic.pointer = call.getArgOperand(0);
     atomic.kind = kind_of(name);
     atomic.operation = operation_of(name, atomic.kind);
     atomic.type = type_of(call, name);
-    atomic.is_of_opencl20 = name.contains("fetch") || name.contains("load") || name.contains("store") || name.contains("exchange") ||
-                            name.contains("flag");
+    atomic.is_of_opencl20 = any_of(ArrayRef<StringRef>{"fetch", "load", "store", "exchange", "flag"},
+                                   [&](StringRef word) { return name.contains(word); });
     if (atomic.is_of_opencl20)
         read_orders(atomic, atomic.kind == LOAD || name.contains("flag") ? 1 : atomic.kind == COMPARE_EXCHANGE ? 3 : 2);
     return atomic;
@@ -122,9 +117,7 @@ int result_operand_of(const CallInst &call) {
     return is_there && call.getArgOperand(unsigned(operand))->getType()->isPointerTy() ? operand : -1;
 }
 
-bool is_fence(StringRef name) {
-    return name == "mem_fence" || name == "read_mem_fence" || name == "write_mem_fence" || name == "atomic_work_item_fence";
-}
+bool is_fence(StringRef name) { return name.endswith("mem_fence") || name == "atomic_work_item_fence"; }
 
 bool is_image_access(StringRef name) { return name.startswith("read_image") || name.startswith("write_image"); }
 

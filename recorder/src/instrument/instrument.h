@@ -1,7 +1,5 @@
-// What the parts of the pass know of each other: what a kernel does to memory, found in its code before anything of it is changed; what
-// OpenCL's builtins mean; and what is done to a module as a whole.
-#ifndef GPURACE_INSTRUMENT_H
-#define GPURACE_INSTRUMENT_H
+// What the parts of the pass know of each other.
+#pragma once
 
 #include "../sites.h"
 
@@ -16,7 +14,7 @@
 
 namespace gpurace {
 
-enum AddressSpace : unsigned { PRIVATE_SPACE = 0, GLOBAL_SPACE = 1, CONSTANT_SPACE = 2, LOCAL_SPACE = 3, GENERIC_SPACE = 4 };
+enum AddressSpace : unsigned { PRIVATE_SPACE, GLOBAL_SPACE, CONSTANT_SPACE, LOCAL_SPACE, GENERIC_SPACE }; // of SPIR
 
 // The plain name of a builtin: that of _Z10atomic_addPU3AS1Vii is atomic_add.
 llvm::StringRef name_of(const llvm::CallInst &call);
@@ -24,8 +22,7 @@ llvm::StringRef name_of(const llvm::CallInst &call);
 // The number behind the letters of a vector builtin's name: 4 of vload4 and vstore_half4_rte, 1 where there is none.
 unsigned width_of(llvm::StringRef name);
 
-// An atomic builtin. Its order, its order on failure and its scope are OpenCL's numbers, which need not be constants; a null
-// pointer stands for the default.
+// An atomic builtin. Its orders and its scope are OpenCL's numbers, which need not be constants; null is the default.
 struct Atomic {
     llvm::CallInst *call = nullptr;
     llvm::Value *pointer = nullptr;
@@ -68,16 +65,10 @@ struct Access {
     llvm::Value *pointer() const { return instruction->getOperand(operand); }
 };
 
-struct Copy { // an asynchronous copy of the whole group
-    llvm::CallInst *call;
-    bool is_strided;
-};
-
 struct Accesses {
     std::vector<Access> plain;
     std::vector<Atomic> atomics;
-    std::vector<llvm::CallInst *> barriers, fences, images;
-    std::vector<Copy> copies;
+    std::vector<llvm::CallInst *> barriers, copies, fences, images;
     std::set<std::string> notes; // what is not recorded
 
     bool may_acquire() const;
@@ -93,8 +84,8 @@ inline bool is_traced(const llvm::Value *pointer) {
 // The argument or variable that a pointer belongs to, if the code says so; else null.
 const llvm::Value *object_of(const llvm::Value *pointer);
 
-// The words of each argument and variable: the greatest of 4, 2 and 1 bytes at which every access to it is of whole words. An access
-// whose object is not known may be to each of its address space.
+// The words of each argument and variable: the greatest of 4, 2 and 1 bytes at which every access to it is of whole
+// words. An access whose object is not known may be to each of its address space.
 class Grains {
 public:
     Grains(const Accesses &accesses, const llvm::DataLayout &layout);
@@ -106,8 +97,7 @@ private:
     void add(const llvm::Value *pointer, uint64_t bytes, uint64_t unit);
 };
 
-// Of a vector of which some components are assigned, clang loads and stores all. The text writes those alone: each such store becomes
-// stores of the components that it changes.
+// Where some components of a vector are assigned clang stores all. Such stores become those of the assigned ones.
 void narrow_stores(llvm::Function &function);
 
 inline bool is_kernel(const llvm::Function &function) {
@@ -120,15 +110,13 @@ constexpr const char RUN_PREFIX[] = "gr_run_";
 // Instruments a kernel, and writes what the numbers of its sites mean (rewriter.cpp).
 void instrument_kernel(llvm::Function &kernel, llvm::raw_ostream &sites, unsigned &next_site);
 
-// Inlines all calls of a module's own functions, and promotes private variables. A kernel that another one calls is then there
-// twice: as what is launched, and within the other.
+// Inlines all calls of a module's own functions, those of kernels too, and promotes private variables.
 void inline_calls(llvm::Module &module);
 
 // Drops what no longer holds behind instrumentation: debug information and statements on aliases.
 void strip(llvm::Module &module);
 
-// The module with one address space, as the processor has it, linked with the builtins that it uses; null where it failed, which is said.
+// The module with one address space, linked with the builtins that it uses; null where that failed, which is said.
 std::unique_ptr<llvm::Module> link_for_host(llvm::Module &module, const char *builtins, llvm::LLVMContext &context);
 
 } // namespace gpurace
-#endif

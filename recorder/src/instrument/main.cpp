@@ -1,8 +1,4 @@
-// Instruments the kernels of a module of OpenCL C, and links it for the host.
-//
-// usage: instrument-kernels BUILTINS.bc OUT.bc SITES KERNELS.bc..
-//
-// Several modules are linked. rewriter.cpp says what stands in SITES.
+// Instruments the kernels of modules of OpenCL C, and links them for the host. rewriter.cpp says what stands in SITES.
 #include "instrument.h"
 
 #include "llvm/Bitcode/BitcodeWriter.h"
@@ -13,9 +9,7 @@
 
 using namespace llvm;
 
-namespace {
 constexpr int WRONG_WORDS = 3, FAILED = 70;
-}
 
 int main(int count, char **words) {
     if (count < 5) return errs() << "usage: instrument-kernels BUILTINS.bc OUT.bc SITES KERNELS.bc..\n", WRONG_WORDS;

@@ -13,8 +13,6 @@
 #include "llvm/Transforms/Scalar/SROA.h"
 #include "llvm/Transforms/Utils/Cloning.h"
 
-#include <set>
-
 using namespace llvm;
 
 namespace gpurace {
@@ -83,7 +81,8 @@ std::set<std::string> program_variables(const Module &module) {
 // Only what the host looks up can be seen from outside, so that programs don't meet.
 void hide_all_but(Module &module, const std::set<std::string> &shared) {
     for (GlobalValue &value : module.global_values()) {
-        const bool is_shared = shared.count(value.getName().str()) > 0, is_here = !value.isDeclaration() && !value.hasAvailableExternallyLinkage();
+        const bool is_shared = shared.count(value.getName().str()) > 0;
+        const bool is_here = !value.isDeclaration() && !value.hasAvailableExternallyLinkage();
         if (is_here && !is_shared && !value.getName().startswith(RUN_PREFIX) && !value.getName().startswith("llvm.")) {
             value.setLinkage(GlobalValue::InternalLinkage);
             value.setVisibility(GlobalValue::DefaultVisibility);
@@ -105,10 +104,8 @@ void inline_calls(Module &module) {
         function.addFnAttr(Attribute::AlwaysInline);
     }
     run_passes(module);
-    std::vector<Function *> inlined;
-    for (Function &function : module)
-        if (!function.isDeclaration() && function.use_empty() && !is_kernel(function)) inlined.push_back(&function);
-    for (Function *function : inlined) function->eraseFromParent();
+    for (Function &function : make_early_inc_range(module))
+        if (!function.isDeclaration() && function.use_empty() && !is_kernel(function)) function.eraseFromParent();
 }
 
 void strip(Module &module) {

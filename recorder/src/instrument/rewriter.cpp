@@ -1,8 +1,7 @@
-// Instruments a kernel: its accesses, atomics and barriers call the runtime, and it asks the runtime which work-item it is.
-//
-// The lines that say what the numbers of sites mean are written meanwhile, in this order for each kernel:
+// Instruments a kernel: its accesses, atomics and barriers call the runtime. The lines that say what the numbers of
+// sites mean are written meanwhile, in this order for each kernel:
 //   kernel NAME NAMES COPIES ARGUMENTS      NAMES: it has atomics that may acquire; COPIES: it has asynchronous copies
-//   site NUMBER KIND SPACE BYTES ENTRY FILE LINE COLUMN   ENTRY: the entry that it accesses, or -1 where that is not known
+//   site NUMBER KIND SPACE BYTES ENTRY FILE LINE COLUMN   ENTRY: what it accesses, or -1 where that is not known
 //   argument NUMBER KIND                    B buffer, C constant buffer, L local memory, I image, S sampler, V value
 //   entry NUMBER ARGUMENT SPACE BYTES GRAIN ATOMIC NAME   a buffer that is an argument, or a variable (ARGUMENT is -1)
 //   note TEXT                               what is not recorded
@@ -18,28 +17,39 @@ using namespace llvm;
 namespace gpurace {
 namespace {
 
-Type *bytes_type(LLVMContext &context) { return Type::getInt8PtrTy(context); }
+using Builder = IRBuilder<>;
+
+constexpr unsigned MOST_STORED = 128; // bytes of the greatest vector
 
 // A pointer as one to bytes of private memory, which is how the runtime knows each address.
-Value *plain(IRBuilder<> &builder, Value *pointer) {
+Value *plain(Builder &builder, Value *pointer) {
     const unsigned space = pointer->getType()->getPointerAddressSpace();
     Value *bytes = builder.CreateBitCast(pointer, builder.getInt8PtrTy(space));
     return space ? builder.CreateAddrSpaceCast(bytes, builder.getInt8PtrTy()) : bytes;
 }
-Value *as(IRBuilder<> &builder, Value *bytes, Type *type) {
+Value *as(Builder &builder, Value *bytes, Type *type) {
     const unsigned space = type->getPointerAddressSpace();
     return builder.CreateBitCast(space ? builder.CreateAddrSpaceCast(bytes, builder.getInt8PtrTy(space)) : bytes, type);
 }
 
+Value *wide(Builder &builder, Value *number) { return builder.CreateZExtOrTrunc(number, builder.getInt64Ty()); }
+
 // A value in the 64 bits that a call of the runtime has for it, and back.
-Value *bits_of(IRBuilder<> &builder, Value *value) {
+Type *bits_type(Builder &builder, Type *type) { return builder.getIntNTy(unsigned(type->getPrimitiveSizeInBits())); }
+Value *bits_of(Builder &builder, Value *value) {
     Type *type = value->getType();
-    if (type->isFloatingPointTy()) value = builder.CreateBitCast(value, builder.getIntNTy(unsigned(type->getPrimitiveSizeInBits())));
-    return builder.CreateZExtOrTrunc(value, builder.getInt64Ty());
+    return wide(builder, type->isFloatingPointTy() ? builder.CreateBitCast(value, bits_type(builder, type)) : value);
 }
-Value *value_of(IRBuilder<> &builder, Value *bits, Type *type) {
-    if (!type->isFloatingPointTy()) return builder.CreateZExtOrTrunc(bits, type);
-    return builder.CreateBitCast(builder.CreateTrunc(bits, builder.getIntNTy(unsigned(type->getPrimitiveSizeInBits()))), type);
+Value *value_of(Builder &builder, Value *bits, Type *type) {
+    return builder.CreateBitCast(builder.CreateZExtOrTrunc(bits, bits_type(builder, type)), type);
+}
+
+// What a store writes, where the code has it as a value.
+Value *stored_of(const Access &access) {
+    if (auto *store = dyn_cast<StoreInst>(access.instruction)) return store->getValueOperand();
+    auto *call = dyn_cast<CallInst>(access.instruction); // of vstore, but for those of half
+    return call && access.kind == WRITE && access.index_operand == 1 && !name_of(*call).contains("half")
+               ? call->getArgOperand(0) : nullptr;
 }
 
 char kind_of(const Argument &argument) {
@@ -62,26 +72,29 @@ void replace_in(Function &function, GlobalVariable *variable, Value *other) {
     const SmallVector<User *> users(variable->users());
     for (User *user : users)
         if (auto *expression = dyn_cast<ConstantExpr>(user))
-            for (Instruction &instruction : instructions(function)) convertConstantExprsToInstructions(&instruction, expression);
+            for (Instruction &at : instructions(function)) convertConstantExprsToInstructions(&at, expression);
     variable->replaceUsesWithIf(other, [&](const Use &use) { return is_used_in(function, *use.getUser()); });
 }
 
 class Rewriter {
 public:
     Rewriter(Function &kernel, raw_ostream &sites, unsigned &next_site)
-        : module_(*kernel.getParent()), function_(&kernel), sites_(sites), next_site_(next_site), name_(kernel.getName().str()) {}
+        : module_(*kernel.getParent()), layout_(module_.getDataLayout()), context_(module_.getContext()),
+          bytes_(Type::getInt8PtrTy(context_)), function_(&kernel), sites_(sites), next_site_(next_site),
+          name_(kernel.getName().str()) {}
 
     void rewrite() {
         add_item_argument();
         narrow_stores(*function_);
         const Accesses accesses = find_accesses(*function_);
-        sites_ << "kernel " << name_ << ' ' << accesses.may_acquire() << ' ' << !accesses.copies.empty() << ' ' << function_->arg_size() - 1 << '\n';
+        sites_ << "kernel " << name_ << ' ' << accesses.may_acquire() << ' ' << !accesses.copies.empty() << ' '
+               << function_->arg_size() - 1 << '\n';
         number_entries();
         write_entries(accesses);
         for (const Access &access : accesses.plain) put_access(access);
         for (const Atomic &atomic : accesses.atomics) put_atomic(atomic);
         for (CallInst *barrier : accesses.barriers) put_barrier(*barrier);
-        for (const Copy &copy : accesses.copies) put_copy(copy);
+        for (CallInst *copy : accesses.copies) put_copy(copy);
         for (CallInst *fence : accesses.fences) put_count(*fence, FENCE);
         for (CallInst *image : accesses.images) put_count(*image, IMAGE);
         put_numbers();
@@ -94,11 +107,15 @@ public:
 
 private:
     Module &module_;
+    const DataLayout &layout_;
+    LLVMContext &context_;
+    PointerType *const bytes_; // to bytes of private memory
     Function *function_;
     raw_ostream &sites_;
     unsigned &next_site_;
     std::string name_;
     Value *item_ = nullptr;
+    AllocaInst *stored_ = nullptr; // room for the value of a store
     std::map<const Value *, int> entries_;
     std::vector<GlobalVariable *> variables_; // those that the kernel uses, in local and global memory
 
@@ -107,8 +124,9 @@ private:
         Function *old = function_;
         std::vector<Type *> types;
         for (Argument &argument : old->args()) types.push_back(argument.getType());
-        types.push_back(bytes_type(module_.getContext()));
-        function_ = Function::Create(FunctionType::get(old->getReturnType(), types, false), GlobalValue::InternalLinkage, "gr_kernel_" + name_, module_);
+        types.push_back(bytes_);
+        auto *type = FunctionType::get(old->getReturnType(), types, false);
+        function_ = Function::Create(type, GlobalValue::InternalLinkage, "gr_kernel_" + name_, module_);
         function_->copyAttributesFrom(old);
         function_->setLinkage(GlobalValue::InternalLinkage);
         function_->setCallingConv(CallingConv::C);
@@ -121,6 +139,8 @@ private:
             function_->removeParamAttr(at, Attribute::NoAlias); // what the runtime does may not be moved across
         }
         item_ = function_->getArg(unsigned(old->arg_size()));
+        Type *room = ArrayType::get(Type::getInt8Ty(context_), MOST_STORED + 4); // the runtime reads it by four bytes
+        stored_ = new AllocaInst(room, 0, nullptr, Align(16), "", &function_->getEntryBlock().front());
         if (auto *subprogram = old->getSubprogram()) function_->setSubprogram(subprogram);
         old->eraseFromParent();
     }
@@ -132,74 +152,79 @@ private:
             if (&argument != item_ && (kind == 'B' || kind == 'L')) entries_[&argument] = next++;
         }
         for (GlobalVariable &variable : module_.globals()) {
-            const bool is_used = any_of(variable.users(), [&](const User *user) { return is_used_in(*function_, *user); });
-            if (!is_used || !is_traced(&variable) || (variable.isConstant() && variable.getAddressSpace() == GLOBAL_SPACE)) continue;
+            const auto is_here = [&](const User *user) { return is_used_in(*function_, *user); };
+            const bool is_constant = variable.isConstant() && variable.getAddressSpace() == GLOBAL_SPACE;
+            if (is_constant || !is_traced(&variable) || !any_of(variable.users(), is_here)) continue;
             entries_[&variable] = next++;
             variables_.push_back(&variable);
         }
     }
 
     void write_entries(const Accesses &accesses) {
-        const DataLayout &layout = module_.getDataLayout();
-        const Grains grains(accesses, layout);
+        const Grains grains(accesses, layout_);
         for (Argument &argument : function_->args()) {
             if (&argument == item_) continue;
             sites_ << "argument " << argument.getArgNo() << ' ' << kind_of(argument) << '\n';
-            if (entries_.count(&argument)) write_entry(argument, int(argument.getArgNo()), 0, argument.getName(), accesses, grains);
+            if (entries_.count(&argument))
+                write_entry(argument, int(argument.getArgNo()), 0, argument.getName(), accesses, grains);
         }
         for (GlobalVariable *variable : variables_) {
             StringRef name = variable->getName();
             name.consume_front(name_ + ".");
-            if (variable->getAddressSpace() == GLOBAL_SPACE) variable->setLinkage(GlobalValue::ExternalLinkage); // the host looks it up
-            write_entry(*variable, -1, layout.getTypeAllocSize(variable->getValueType()), name, accesses, grains);
+            if (variable->getAddressSpace() == GLOBAL_SPACE) // the host looks it up
+                variable->setLinkage(GlobalValue::ExternalLinkage);
+            write_entry(*variable, -1, layout_.getTypeAllocSize(variable->getValueType()), name, accesses, grains);
         }
     }
 
-    void write_entry(const Value &object, int argument, uint64_t bytes, StringRef name, const Accesses &accesses, const Grains &grains) {
+    void write_entry(const Value &object, int argument, uint64_t bytes, StringRef name, const Accesses &accesses,
+                     const Grains &grains) {
         const unsigned space = object.getType()->getPointerAddressSpace();
         const bool has_atomics = any_of(accesses.atomics, [&](const Atomic &atomic) {
             const Value *known = object_of(atomic.pointer);
             const unsigned other = atomic.pointer->getType()->getPointerAddressSpace();
             return known ? known == &object : other == space || other == GENERIC_SPACE;
         });
-        sites_ << "entry " << entries_.at(&object) << ' ' << argument << ' ' << (space == LOCAL_SPACE) << ' ' << bytes << ' ' << grains.of(&object) << ' '
-               << has_atomics << ' ' << (name.empty() ? "unnamed" : name) << '\n';
+        sites_ << "entry " << entries_.at(&object) << ' ' << argument << ' ' << (space == LOCAL_SPACE) << ' ' << bytes
+               << ' ' << grains.of(&object) << ' ' << has_atomics << ' ' << (name.empty() ? "unnamed" : name) << '\n';
     }
 
     // Local variables stand where the item's state says.
     void place_local_variables() {
-        IRBuilder<> builder(&*function_->getEntryBlock().getFirstInsertionPt());
-        Type *bytes = bytes_type(module_.getContext());
+        Builder builder(&*function_->getEntryBlock().getFirstInsertionPt());
         unsigned next = 0;
         for (GlobalVariable *variable : variables_) {
             if (variable->getAddressSpace() != LOCAL_SPACE) continue;
             Value *place = builder.CreateConstGEP1_32(builder.getInt8Ty(), item_, LOCALS_OFFSET);
-            Value *locals = builder.CreateLoad(bytes->getPointerTo(), builder.CreateBitCast(place, bytes->getPointerTo()->getPointerTo()));
-            Value *memory = builder.CreateLoad(bytes, builder.CreateConstGEP1_32(bytes, locals, next++));
+            Type *many = bytes_->getPointerTo();
+            Value *locals = builder.CreateLoad(many, builder.CreateBitCast(place, many->getPointerTo()));
+            Value *memory = builder.CreateLoad(bytes_, builder.CreateConstGEP1_32(bytes_, locals, next++));
             replace_in(*function_, variable, as(builder, memory, variable->getType()));
         }
     }
 
     // void gr_run_NAME(item, arguments): what the host calls.
     void add_entry_point() {
-        LLVMContext &context = module_.getContext();
-        Type *bytes = bytes_type(context);
-        auto *type = FunctionType::get(Type::getVoidTy(context), {bytes, bytes->getPointerTo()}, false);
+        auto *type = FunctionType::get(Type::getVoidTy(context_), {bytes_, bytes_->getPointerTo()}, false);
         Function *entry = Function::Create(type, GlobalValue::ExternalLinkage, RUN_PREFIX + name_, module_);
-        entry->setAttributes(AttributeList::get(context, AttributeList::FunctionIndex, AttrBuilder(context, function_->getAttributes().getFnAttrs())));
+        entry->addFnAttrs(AttrBuilder(context_, function_->getAttributes().getFnAttrs()));
         entry->removeFnAttr(Attribute::AlwaysInline);
-        IRBuilder<> builder(BasicBlock::Create(context, "", entry));
+        Builder builder(BasicBlock::Create(context_, "", entry));
         std::vector<Value *> values;
         for (Argument &argument : function_->args()) {
             if (&argument == item_) continue;
-            Value *memory = builder.CreateLoad(bytes, builder.CreateConstGEP1_32(bytes, entry->getArg(1), argument.getArgNo()));
-            if (argument.hasByValAttr()) values.push_back(builder.CreateBitCast(memory, argument.getType()));
-            else values.push_back(builder.CreateAlignedLoad(argument.getType(), builder.CreateBitCast(memory, argument.getType()->getPointerTo()), Align(1)));
+            Type *given = argument.getType();
+            Value *place = builder.CreateConstGEP1_32(bytes_, entry->getArg(1), argument.getArgNo());
+            Value *value = builder.CreateLoad(bytes_, place);
+            if (argument.hasByValAttr()) value = builder.CreateBitCast(value, given);
+            else value = builder.CreateAlignedLoad(given, as(builder, value, given->getPointerTo()), Align(1));
+            values.push_back(value);
         }
         values.push_back(entry->getArg(0));
         CallInst *call = builder.CreateCall(function_, values);
         for (unsigned at = 0; at + 1 < values.size(); at++) // each item has its own copy of a struct
-            if (Type *copied = function_->getParamByValType(at)) call->addParamAttr(at, Attribute::getWithByValType(context, copied));
+            if (Type *copied = function_->getParamByValType(at))
+                call->addParamAttr(at, Attribute::getWithByValType(context_, copied));
         builder.CreateRetVoid();
     }
 
@@ -207,13 +232,15 @@ private:
         const unsigned space = pointer ? pointer->getType()->getPointerAddressSpace() : unsigned(GLOBAL_SPACE);
         const auto entry = pointer && object_of(pointer) ? entries_.find(object_of(pointer)) : entries_.end();
         const DILocation *place = at.getDebugLoc().get();
-        sites_ << "site " << next_site_ << ' ' << kind << ' ' << (space == LOCAL_SPACE ? LOCAL : space == GENERIC_SPACE ? GENERIC : GLOBAL) << ' ' << bytes << ' '
-               << (entry == entries_.end() ? -1 : entry->second) << ' ' << (place && !place->getFilename().empty() ? place->getFilename() : "kernel.cl") << ' '
+        const StringRef file = place ? place->getFilename() : "";
+        sites_ << "site " << next_site_ << ' ' << kind << ' '
+               << (space == LOCAL_SPACE ? LOCAL : space == GENERIC_SPACE ? GENERIC : GLOBAL) << ' ' << bytes << ' '
+               << (entry == entries_.end() ? -1 : entry->second) << ' ' << (file.empty() ? "kernel.cl" : file) << ' '
                << (place ? place->getLine() : 0) << ' ' << (place ? place->getColumn() : 0) << '\n';
         return next_site_++;
     }
 
-    CallInst *call_runtime(IRBuilder<> &builder, StringRef name, Type *result, std::vector<Value *> values) {
+    CallInst *call_runtime(Builder &builder, StringRef name, Type *result, std::vector<Value *> values) {
         values.insert(values.begin(), item_);
         std::vector<Type *> types;
         for (Value *value : values) types.push_back(value->getType());
@@ -221,43 +248,52 @@ private:
     }
 
     // Puts what `make` makes in the place of the calls that are wanted.
-    void replace_calls(function_ref<bool(StringRef)> is_wanted, function_ref<Value *(IRBuilder<> &, CallInst &)> make) {
+    void replace_calls(function_ref<bool(StringRef)> is_wanted, function_ref<Value *(Builder &, CallInst &)> make) {
         for (Instruction &instruction : make_early_inc_range(instructions(*function_))) {
             auto *call = dyn_cast<CallInst>(&instruction);
             if (!call || !is_wanted(name_of(*call))) continue;
-            IRBuilder<> builder(call);
+            Builder builder(call);
             call->replaceAllUsesWith(make(builder, *call));
             call->eraseFromParent();
         }
     }
 
+    // The address to use, which the runtime answers. It sees the value that is stored, where that is known.
+    Value *call_access(Builder &builder, unsigned number, Value *address, Value *stored) {
+        Value *seen = ConstantPointerNull::get(bytes_);
+        if (stored && layout_.getTypeAllocSize(stored->getType()) <= MOST_STORED) {
+            seen = builder.CreateBitCast(stored_, bytes_);
+            builder.CreateAlignedStore(stored, as(builder, seen, stored->getType()->getPointerTo()), Align(16));
+        }
+        return call_runtime(builder, "gr_access", bytes_, {builder.getInt32(number), address, seen});
+    }
+
     // The instruction uses the address that the runtime answers.
     void put_access(const Access &access) {
-        IRBuilder<> builder(access.instruction);
+        Builder builder(access.instruction);
         Value *address = plain(builder, access.pointer());
         if (access.index) {
-            Value *steps = builder.CreateZExtOrTrunc(access.index, builder.getInt64Ty());
-            address = builder.CreateGEP(builder.getInt8Ty(), address, builder.CreateMul(steps, builder.getInt64(access.stride)));
+            Value *offset = builder.CreateMul(wide(builder, access.index), builder.getInt64(access.stride));
+            address = builder.CreateGEP(builder.getInt8Ty(), address, offset);
             access.instruction->setOperand(access.index_operand, Constant::getNullValue(access.index->getType()));
         }
         const unsigned number = site(*access.instruction, access.kind, access.pointer(), access.bytes);
-        Value *allowed = call_runtime(builder, "gr_access", builder.getInt8PtrTy(), {builder.getInt32(number), address});
+        Value *allowed = call_access(builder, number, address, stored_of(access));
         access.instruction->setOperand(access.operand, as(builder, allowed, access.pointer()->getType()));
     }
 
     void put_atomic(const Atomic &atomic) {
         CallInst *at = atomic.call;
-        IRBuilder<> builder(at);
+        Builder builder(at);
         const StringRef name = name_of(*at);
         Type *word = pointee_of(at->getArgOperand(0));
         if (word->isStructTy()) word = builder.getInt32Ty();
-        const uint64_t bytes = module_.getDataLayout().getTypeStoreSize(word);
-        Value *number = builder.getInt32(site(*at, atomic.kind, atomic.pointer, bytes)), *address = plain(builder, atomic.pointer);
+        const unsigned site_number = site(*at, atomic.kind, atomic.pointer, layout_.getTypeStoreSize(word));
+        Value *number = builder.getInt32(site_number), *address = plain(builder, atomic.pointer);
         if (atomic.kind == WRITE) { // atomic_init
-            Value *allowed = call_runtime(builder, "gr_access", builder.getInt8PtrTy(), {number, address}), *value = at->getArgOperand(1);
-            builder.CreateStore(value, builder.CreateBitCast(allowed, value->getType()->getPointerTo()));
-            at->eraseFromParent();
-            return;
+            Value *value = at->getArgOperand(1), *allowed = call_access(builder, site_number, address, value);
+            builder.CreateStore(value, as(builder, allowed, value->getType()->getPointerTo()));
+            return at->eraseFromParent(), void();
         }
         const bool is_flag = name.contains("flag"), has_expected = name.contains("compare_exchange");
         Value *value = builder.getInt64(0), *compare = value, *expected = has_expected ? at->getArgOperand(1) : nullptr;
@@ -271,14 +307,16 @@ private:
             return builder.CreateShl(part, shift);
         };
         const unsigned order = atomic.is_of_opencl20 ? 5 : 0; // memory_order_seq_cst; memory_scope_device is 2
-        Value *how = builder.CreateOr(builder.CreateOr(part(atomic.order, order, 0), part(atomic.failure, order, 8)), part(atomic.scope, 2, 16));
+        Value *orders = builder.CreateOr(part(atomic.order, order, 0), part(atomic.failure, order, 8));
+        Value *how = builder.CreateOr(orders, part(atomic.scope, 2, 16));
         Value *what = builder.getInt32(unsigned(atomic.operation) | unsigned(atomic.type) << 8);
-        Value *old = call_runtime(builder, "gr_atomic", builder.getInt64Ty(), {number, what, address, value, compare, how});
+        std::vector<Value *> values = {number, what, address, value, compare, how};
+        Value *old = call_runtime(builder, "gr_atomic", builder.getInt64Ty(), values);
         if (expected) {
             builder.CreateStore(value_of(builder, old, at->getArgOperand(2)->getType()), expected);
             at->replaceAllUsesWith(builder.CreateZExtOrTrunc(builder.CreateICmpEQ(old, compare), at->getType()));
         } else if (!at->getType()->isVoidTy()) {
-            Value *result = is_flag ? builder.CreateZExtOrTrunc(builder.CreateICmpNE(old, builder.getInt64(0)), at->getType())
+            Value *result = is_flag ? builder.CreateZExtOrTrunc(builder.CreateIsNotNull(old), at->getType())
                                     : value_of(builder, old, at->getType());
             at->replaceAllUsesWith(result);
         }
@@ -287,31 +325,33 @@ private:
 
     // CLK_LOCAL_MEM_FENCE is 1 and CLK_GLOBAL_MEM_FENCE 2; items may give different flags. A wait for copies has both.
     void put_barrier(CallInst &call) {
-        IRBuilder<> builder(&call);
+        Builder builder(&call);
         const bool is_wait = name_of(call) == "wait_group_events" || call.arg_size() == 0;
-        Value *flags = is_wait ? builder.getInt32(3) : builder.CreateZExtOrTrunc(call.getArgOperand(0), builder.getInt32Ty());
-        call_runtime(builder, "gr_barrier", builder.getVoidTy(), {builder.getInt32(site(call, BARRIER, nullptr, 0)), flags});
+        Value *given = is_wait ? builder.getInt32(3) : call.getArgOperand(0);
+        Value *flags = builder.CreateZExtOrTrunc(given, builder.getInt32Ty());
+        Value *number = builder.getInt32(site(call, BARRIER, nullptr, 0));
+        call_runtime(builder, "gr_barrier", builder.getVoidTy(), {number, flags});
         call.eraseFromParent();
     }
 
-    void put_copy(const Copy &copy) {
-        CallInst *at = copy.call;
-        IRBuilder<> builder(at);
+    void put_copy(CallInst *at) {
+        const bool is_strided = name_of(*at).contains("strided");
+        Builder builder(at);
         Value *to = at->getArgOperand(0), *from = at->getArgOperand(1);
-        const uint64_t bytes = module_.getDataLayout().getTypeStoreSize(pointee_of(to));
+        const uint64_t bytes = layout_.getTypeStoreSize(pointee_of(to));
         const bool to_local = to->getType()->getPointerAddressSpace() == LOCAL_SPACE;
-        Value *one = builder.getInt64(1), *stride = copy.is_strided ? builder.CreateZExtOrTrunc(at->getArgOperand(3), builder.getInt64Ty()) : one;
+        Value *one = builder.getInt64(1), *stride = is_strided ? wide(builder, at->getArgOperand(3)) : one;
         const unsigned reads = site(*at, READ, from, bytes), writes = site(*at, WRITE, to, bytes);
         call_runtime(builder, "gr_copy", builder.getVoidTy(),
                      {builder.getInt32(reads), builder.getInt32(writes), plain(builder, to), plain(builder, from),
-                      builder.CreateZExtOrTrunc(at->getArgOperand(2), builder.getInt64Ty()), to_local ? one : stride, to_local ? stride : one});
+                      wide(builder, at->getArgOperand(2)), to_local ? one : stride, to_local ? stride : one});
         at->replaceAllUsesWith(at->getArgOperand(at->arg_size() - 1));
         at->eraseFromParent();
     }
 
     // A fence stays one, an image's access is as it was; both are counted.
     void put_count(CallInst &call, SiteKind kind) {
-        IRBuilder<> builder(&call);
+        Builder builder(&call);
         call_runtime(builder, "gr_count", builder.getVoidTy(), {builder.getInt32(site(call, kind, nullptr, 0))});
         if (kind != FENCE) return;
         builder.CreateFence(AtomicOrdering::SequentiallyConsistent);
@@ -321,29 +361,28 @@ private:
     // get_local_id(..) and the others are words of the item's state.
     void put_numbers() {
         const auto is_number = [](StringRef name) { return number_row_of(name) >= 0; };
-        replace_calls(is_number, [&](IRBuilder<> &builder, CallInst &call) {
+        replace_calls(is_number, [&](Builder &builder, CallInst &call) {
             const StringRef name = name_of(call);
-            const unsigned word = name == "get_work_dim" ? WORK_DIM : name == "get_local_linear_id" ? LOCAL_LINEAR_ID : GLOBAL_LINEAR_ID;
-            Value *column = builder.getInt64(word);
+            const LinearNumber of_items = name == "get_local_linear_id" ? LOCAL_LINEAR_ID : GLOBAL_LINEAR_ID;
+            Value *column = builder.getInt64(name == "get_work_dim" ? WORK_DIM : of_items);
             if (call.arg_size() == 1) {
-                Value *dimension = builder.CreateZExtOrTrunc(call.getArgOperand(0), builder.getInt64Ty());
-                Value *last = builder.getInt64(DIMENSIONS - 1);
+                Value *dimension = wide(builder, call.getArgOperand(0)), *last = builder.getInt64(DIMENSIONS - 1);
                 column = builder.CreateSelect(builder.CreateICmpULT(dimension, last), dimension, last);
             }
             Value *index = builder.CreateAdd(builder.getInt64(uint64_t(number_row_of(name)) * DIMENSIONS), column);
-            Value *words = builder.CreateBitCast(item_, builder.getInt64Ty()->getPointerTo());
-            Value *value = builder.CreateLoad(builder.getInt64Ty(), builder.CreateGEP(builder.getInt64Ty(), words, index));
-            return builder.CreateZExtOrTrunc(value, call.getType());
+            Type *type = builder.getInt64Ty();
+            Value *place = builder.CreateGEP(type, builder.CreateBitCast(item_, type->getPointerTo()), index);
+            return builder.CreateZExtOrTrunc(builder.CreateLoad(type, place), call.getType());
         });
     }
 
     // A printf is what pocl's own passes make of it: a function that writes into a buffer.
     void put_prints() {
-        replace_calls([](StringRef name) { return name == "printf"; }, [&](IRBuilder<> &builder, CallInst &call) {
-            Type *bytes = builder.getInt8PtrTy();
-            Value *buffer = call_runtime(builder, "gr_print", bytes, {});
-            auto *type = FunctionType::get(builder.getInt32Ty(), {bytes, bytes, builder.getInt32Ty(), bytes}, true);
-            std::vector<Value *> values = {builder.CreateConstGEP1_32(builder.getInt8Ty(), buffer, 8), buffer, builder.getInt32(PRINT_ROOM - 8)};
+        replace_calls([](StringRef name) { return name == "printf"; }, [&](Builder &builder, CallInst &call) {
+            Value *buffer = call_runtime(builder, "gr_print", bytes_, {});
+            auto *type = FunctionType::get(builder.getInt32Ty(), {bytes_, bytes_, builder.getInt32Ty(), bytes_}, true);
+            Value *text = builder.CreateConstGEP1_32(builder.getInt8Ty(), buffer, 8);
+            std::vector<Value *> values = {text, buffer, builder.getInt32(PRINT_ROOM - 8)};
             values.insert(values.end(), call.arg_begin(), call.arg_end());
             values[3] = plain(builder, values[3]);
             Value *result = builder.CreateCall(module_.getOrInsertFunction("__pocl_printf", type), values);
@@ -355,12 +394,16 @@ private:
     // A sampler is its CLK_.. bits.
     void put_samplers() {
         replace_calls([](StringRef name) { return name == "__translate_sampler_initializer"; },
-                      [](IRBuilder<> &builder, CallInst &call) { return builder.CreateIntToPtr(call.getArgOperand(0), call.getType()); });
+                      [](Builder &builder, CallInst &call) {
+                          return builder.CreateIntToPtr(call.getArgOperand(0), call.getType());
+                      });
     }
 };
 
 } // namespace
 
-void instrument_kernel(Function &kernel, raw_ostream &sites, unsigned &next_site) { Rewriter(kernel, sites, next_site).rewrite(); }
+void instrument_kernel(Function &kernel, raw_ostream &sites, unsigned &next_site) {
+    Rewriter(kernel, sites, next_site).rewrite();
+}
 
 } // namespace gpurace

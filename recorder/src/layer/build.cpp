@@ -1,6 +1,5 @@
 #include "layer.h"
 
-#include <cstring>
 #include <dlfcn.h>
 #include <fcntl.h>
 #include <filesystem>
@@ -18,6 +17,8 @@ namespace {
 
 using Words = std::vector<std::string>;
 namespace files = std::filesystem;
+
+bool starts(const std::string &word, const std::string &with) { return word.rfind(with, 0) == 0; }
 
 // The words of build options: double quotes and backslashes as a shell has them.
 Words words_of(const std::string &text) {
@@ -41,7 +42,7 @@ bool run(const Words &words, const std::string &log) {
     for (const std::string &word : words) pointers.push_back(const_cast<char *>(word.c_str()));
     pointers.push_back(nullptr);
     for (char **each = environ; *each; each++) // the tools are no part of what is recorded
-        if (std::strncmp(*each, "LD_PRELOAD=", 11) && std::strncmp(*each, "OPENCL_LAYERS=", 14)) variables.push_back(*each);
+        if (!starts(*each, "LD_PRELOAD=") && !starts(*each, "OPENCL_LAYERS=")) variables.push_back(*each);
     variables.push_back(nullptr);
     posix_spawn_file_actions_t actions;
     posix_spawn_file_actions_init(&actions);
@@ -63,7 +64,8 @@ bool run(const Words &words, const std::string &log) {
 struct Processor { const char *name, *builtins; };
 Processor processor() {
     __builtin_cpu_init();
-    if (__builtin_cpu_supports("avx512vl") && __builtin_cpu_supports("avx512dq") && __builtin_cpu_supports("avx512bw")) return {"skylake-avx512", "avx512"};
+    const bool has_avx512 = __builtin_cpu_supports("avx512vl") && __builtin_cpu_supports("avx512dq");
+    if (has_avx512 && __builtin_cpu_supports("avx512bw")) return {"skylake-avx512", "avx512"};
     if (__builtin_cpu_supports("avx2") && __builtin_cpu_supports("fma")) return {"haswell", "avx2"};
     return {"x86-64", "sse2"};
 }
@@ -96,8 +98,6 @@ std::string extensions_of(cl_device_id device) {
     return list;
 }
 
-bool starts(const std::string &word, const char *with) { return word.rfind(with, 0) == 0; }
-
 // The options of a unit, as the driver's own compile has them.
 Words unit_options(const Unit &unit, const Words &features) {
     Words given = words_of(unit.options), options;
@@ -105,7 +105,8 @@ Words unit_options(const Unit &unit, const Words &features) {
     for (size_t at = 0; at < given.size(); at++) {
         const std::string &word = given[at];
         if (word == "-x" || word == "-s") { at++; continue; }
-        if (starts(word, "-spir-std") || word == "-create-library" || word == "-enable-link-options" || starts(word, "-cl-nv")) continue;
+        if (word == "-create-library" || word == "-enable-link-options") continue;
+        if (starts(word, "-spir-std") || starts(word, "-cl-nv")) continue;
         has_standard = has_standard || starts(word, "-cl-std=");
         if (word == "-cl-fast-relaxed-math") options.push_back("-D__FAST_RELAXED_MATH__=1");
         if (word == "-cl-std=CL3.0") // of some features the headers alone have the macros
@@ -118,16 +119,19 @@ Words unit_options(const Unit &unit, const Words &features) {
 
 Words compiler_options(cl_device_id device) {
     const std::string headers = settings().builtins + "/include/";
-    const std::string version = text_of(device, CL_DEVICE_VERSION); // OpenCL 3.0 ..
-    const std::string number = version.size() > 9 && version[7] >= '1' ? std::string{version[7], version[9], '0'} : "120";
-    Words words = {"-x", "cl", "-target", "x86_64-pc-linux-gnu", std::string("-march=") + processor().name, "-Xclang", "-ffake-address-space-map",
-                   "-Xclang", "-no-opaque-pointers", "-Xclang", extensions_of(device), "-D__OPENCL_VERSION__=" + number, "-D__ENDIAN_LITTLE__=1",
-                   "-D__IMAGE_SUPPORT__=1", "-DPOCL_DEVICE_ADDRESS_BITS=64", "-D__USE_CLANG_OPENCL_C_H", "-Dinline=", "-Dcl_khr_int64",
-                   "-DCL_DEVICE_MAX_GLOBAL_VARIABLE_SIZE=" + std::to_string(info_of<size_t>(driver.clGetDeviceInfo, device, CL_DEVICE_MAX_GLOBAL_VARIABLE_SIZE))};
+    const std::string version = text_of(device, CL_DEVICE_VERSION) + "          "; // OpenCL 3.0 ..
+    const std::string number = version[7] >= '1' ? std::string{version[7], version[9], '0'} : "120";
+    const auto most_variables = info_of<size_t>(driver.clGetDeviceInfo, device, CL_DEVICE_MAX_GLOBAL_VARIABLE_SIZE);
+    Words words = {"-x", "cl", "-target", "x86_64-pc-linux-gnu", std::string("-march=") + processor().name,
+                   "-Xclang", "-ffake-address-space-map", "-Xclang", "-no-opaque-pointers", "-Xclang",
+                   extensions_of(device), "-D__OPENCL_VERSION__=" + number, "-D__ENDIAN_LITTLE__=1",
+                   "-D__IMAGE_SUPPORT__=1", "-DPOCL_DEVICE_ADDRESS_BITS=64", "-D__USE_CLANG_OPENCL_C_H", "-Dinline=",
+                   "-Dcl_khr_int64", "-DCL_DEVICE_MAX_GLOBAL_VARIABLE_SIZE=" + std::to_string(most_variables)};
     for (const char *header : {"_builtin_renames.h", "opencl-c-base.h", "opencl-c.h", "_clang_opencl.h"})
         words.insert(words.end(), {"-include", headers + header});
     // each access of the text is one of the code: no pass has merged or moved any
-    words.insert(words.end(), {"-fno-builtin", "-fno-discard-value-names", "-g", "-w", "-emit-llvm", "-c", "-O1", "-Xclang", "-disable-llvm-passes"});
+    words.insert(words.end(), {"-fno-builtin", "-fno-discard-value-names", "-g", "-w", "-emit-llvm", "-c", "-O1",
+                               "-Xclang", "-disable-llvm-passes"});
     return words;
 }
 
@@ -135,18 +139,22 @@ Words compiler_options(cl_device_id device) {
 std::string state_of(const std::string &path) {
     struct stat state {};
     if (stat(path.c_str(), &state) != 0) return path + " missing";
-    return path + " " + std::to_string(state.st_mtim.tv_sec) + "." + std::to_string(state.st_mtim.tv_nsec) + " " + std::to_string(state.st_size);
+    const timespec &time = state.st_mtim;
+    std::ostringstream text;
+    text << path << ' ' << time.tv_sec << '.' << time.tv_nsec << ' ' << state.st_size;
+    return text.str();
 }
 
 // pocl's own types, but for one that clang has itself in OpenCL C 2.0.
 std::string types_header() {
-    return "#if __OPENCL_C_VERSION__ == 200\n#define reserve_id_t pocl_reserve_id_t\n#endif\n#include \"" + settings().builtins +
-           "/include/pocl_types.h\"\n#undef reserve_id_t\n";
+    return "#if __OPENCL_C_VERSION__ == 200\n#define reserve_id_t pocl_reserve_id_t\n#endif\n#include \"" +
+           settings().builtins + "/include/pocl_types.h\"\n#undef reserve_id_t\n";
 }
 
 class Build {
 public:
-    Build(const std::vector<Unit> &units, cl_device_id device) : units_(units), options_(compiler_options(device)), features_(features_of(device)) {
+    Build(const std::vector<Unit> &units, cl_device_id device)
+        : units_(units), options_(compiler_options(device)), features_(features_of(device)) {
         std::ostringstream text;
         for (const Unit &unit : units) {
             text << unit.source << '\1' << unit.options << '\1';
@@ -184,18 +192,21 @@ private:
     Words options_, features_;
     std::string kept_, file_;
 
-    static std::string name_of(size_t unit) { return unit == 0 ? "kernel.cl" : "kernel-" + std::to_string(unit + 1) + ".cl"; }
+    static std::string name_of(size_t unit) {
+        return unit == 0 ? "kernel.cl" : "kernel-" + std::to_string(unit + 1) + ".cl";
+    }
 
     bool compile(const std::string &folder) {
         const std::string log = file_ + ".log", march = std::string("-march=") + processor().name;
-        Words instrument = {instrumenter(), builtins(), file_ + ".out.bc", file_ + ".sites"};
+        const std::string linked = file_ + ".out.bc", code = file_ + ".o", library = file_ + ".so";
+        Words instrument = {instrumenter(), builtins(), linked, file_ + ".sites"};
         for (size_t at = 0; at < units_.size(); at++) {
             instrument.push_back(folder + "/unit" + std::to_string(at) + ".bc");
             if (!compile_unit(folder, at, instrument.back(), log)) return false;
         }
         return run(instrument, log) &&
-               run({settings().clang, "-O2", "-w", march, "-fPIC", "-fstack-usage", "-c", file_ + ".out.bc", "-o", file_ + ".o"}, log) &&
-               run({"ld", "-shared", file_ + ".o", own_path(), "-lm", "-o", file_ + ".so"}, log) && files::exists(file_ + ".so");
+               run({settings().clang, "-O2", "-w", march, "-fPIC", "-fstack-usage", "-c", linked, "-o", code}, log) &&
+               run({"ld", "-shared", code, own_path(), "-lm", "-o", library}, log) && files::exists(library);
     }
 
     bool compile_unit(const std::string &folder, size_t at, const std::string &out, const std::string &log) {
@@ -211,17 +222,19 @@ private:
         words.insert(words.end(), options_.begin(), options_.end());
         const Words own = unit_options(units_[at], features_);
         words.insert(words.end(), own.begin(), own.end());
-        words.insert(words.end(), {"-fdebug-prefix-map=" + folder + "/=", "-I", headers, "-MD", "-MF", out + ".d", text, "-o", out});
+        words.insert(words.end(), {"-fdebug-prefix-map=" + folder + "/=", "-I", headers, "-MD", "-MF", out + ".d", text,
+                                   "-o", out});
         return run(words, log);
     }
 
     // What a kept build depends on: the files that its texts include, pocl's apart.
     std::string included() const {
+        const std::string folder = files::path(file_).parent_path().string() + "/";
         std::string lines;
         for (size_t at = 0; at < units_.size(); at++) {
-            std::ifstream in(files::path(file_).parent_path() / ("unit" + std::to_string(at) + ".bc.d"));
+            std::ifstream in(folder + "unit" + std::to_string(at) + ".bc.d");
             for (std::string word; in >> word;) {
-                const bool is_ours = starts(word, (files::path(file_).parent_path().string() + "/").c_str()) || starts(word, settings().builtins.c_str());
+                const bool is_ours = starts(word, folder) || starts(word, settings().builtins);
                 if (word != "\\" && word.back() != ':' && !is_ours) lines += state_of(word) + "\n";
             }
         }
@@ -259,7 +272,8 @@ private:
             kernel.run = reinterpret_cast<void (*)(void *, void **)>(dlsym(code, ("gr_run_" + name).c_str()));
             if (!kernel.run) return nullptr;
             for (Entry &entry : kernel.entries)
-                if (entry.argument < 0 && entry.space == GLOBAL) entry.address = reinterpret_cast<uint64_t>(dlsym(code, entry.name.c_str()));
+                if (entry.argument < 0 && entry.space == GLOBAL)
+                    entry.address = reinterpret_cast<uint64_t>(dlsym(code, entry.name.c_str()));
         }
         return made;
     }
@@ -289,11 +303,10 @@ private:
 
     std::string failure() const {
         std::ifstream in(file_ + ".log");
-        std::string line, first = "its instrumented code could not be loaded";
-        if (const char *text = dlerror()) first += std::string(": ") + text;
-        for (; std::getline(in, line);)
+        for (std::string line; std::getline(in, line);)
             if (line.find("error") != std::string::npos || line.find(": ") != std::string::npos) return line;
-        return first;
+        const char *text = dlerror();
+        return std::string("its instrumented code could not be loaded: ") + (text ? text : "it is not whole");
     }
 };
 

@@ -1,9 +1,7 @@
-// A layer of the OpenCL loader (OPENCL_LAYERS): the calls of the program that it has an own part in. All others go to the driver, and
-// so do the program's handles.
+// A layer of the OpenCL loader (OPENCL_LAYERS). Calls in which it has no part go to the driver, whose the handles are.
 #include "layer.h"
 
 #include <algorithm>
-#include <cstring>
 
 namespace gpurace {
 
@@ -28,29 +26,30 @@ cl_mem_flags mappable(cl_mem_flags flags) {
 cl_mem CL_API_CALL create_buffer(cl_context context, cl_mem_flags flags, size_t size, void *host, cl_int *error) {
     return driver.clCreateBuffer(context, mappable(flags), size, host, error);
 }
-cl_mem CL_API_CALL create_sub_buffer(cl_mem buffer, cl_mem_flags flags, cl_buffer_create_type type, const void *info, cl_int *error) {
+cl_mem CL_API_CALL create_sub_buffer(cl_mem buffer, cl_mem_flags flags, cl_buffer_create_type type, const void *info,
+                                     cl_int *error) {
     return driver.clCreateSubBuffer(buffer, mappable(flags), type, info, error);
 }
-cl_mem CL_API_CALL create_image(cl_context context, cl_mem_flags flags, const cl_image_format *format, const cl_image_desc *shape, void *host, cl_int *error) {
+cl_mem CL_API_CALL create_image(cl_context context, cl_mem_flags flags, const cl_image_format *format,
+                                const cl_image_desc *shape, void *host, cl_int *error) {
     return driver.clCreateImage(context, mappable(flags), format, shape, host, error);
 }
 
-// The device says that its groups are of the size that a trace has room for. Programs choose other kernels for a GPU: where it is
-// wanted, the device says that it is one.
+void limit_items(size_t &most) { most = settings().most_items ? std::min<size_t>(most, settings().most_items) : most; }
+
+// The device says that its groups are of the size that a trace has room for, and where it is wanted that it is a GPU.
 cl_int CL_API_CALL device_info(cl_device_id device, cl_device_info what, size_t size, void *value, size_t *size_ret) {
     const cl_int error = driver.clGetDeviceInfo(device, what, size, value, size_ret);
     if (error != CL_SUCCESS || !value) return error;
-    const size_t most = settings().most_items ? settings().most_items : SIZE_MAX;
     if (what == CL_DEVICE_TYPE && settings().as_gpu) *static_cast<cl_device_type *>(value) = CL_DEVICE_TYPE_GPU;
     if (what == CL_DEVICE_MAX_WORK_GROUP_SIZE || what == CL_DEVICE_MAX_WORK_ITEM_SIZES)
-        for (size_t at = 0; at < size / sizeof(size_t) && at < 3; at++)
-            static_cast<size_t *>(value)[at] = std::min(static_cast<size_t *>(value)[at], most);
+        std::for_each_n(static_cast<size_t *>(value), std::min<size_t>(size / sizeof(size_t), 3), limit_items);
     return error;
 }
-cl_int CL_API_CALL group_info(cl_kernel kernel, cl_device_id device, cl_kernel_work_group_info what, size_t size, void *value, size_t *size_ret) {
+cl_int CL_API_CALL group_info(cl_kernel kernel, cl_device_id device, cl_kernel_work_group_info what, size_t size,
+                              void *value, size_t *size_ret) {
     const cl_int error = driver.clGetKernelWorkGroupInfo(kernel, device, what, size, value, size_ret);
-    const size_t most = settings().most_items ? settings().most_items : SIZE_MAX;
-    if (error == CL_SUCCESS && value && what == CL_KERNEL_WORK_GROUP_SIZE) *static_cast<size_t *>(value) = std::min(*static_cast<size_t *>(value), most);
+    if (error == CL_SUCCESS && value && what == CL_KERNEL_WORK_GROUP_SIZE) limit_items(*static_cast<size_t *>(value));
     return error;
 }
 
@@ -62,16 +61,16 @@ extern "C" {
 
 SEEN CL_API_ENTRY cl_int CL_API_CALL clGetLayerInfo(cl_layer_info what, size_t size, void *value, size_t *size_ret) {
     const cl_layer_api_version version = CL_LAYER_API_VERSION_100;
-    const char name[] = "gpurace";
     const bool is_name = what == CL_LAYER_NAME;
-    const size_t length = is_name ? sizeof name : sizeof version;
+    const size_t length = is_name ? sizeof "gpurace" : sizeof version;
     if (size_ret) *size_ret = length;
     if (value && size < length) return CL_INVALID_VALUE;
-    if (value) std::memcpy(value, is_name ? static_cast<const void *>(name) : &version, length);
+    if (value) std::memcpy(value, is_name ? static_cast<const void *>("gpurace") : &version, length);
     return CL_SUCCESS;
 }
 
-SEEN CL_API_ENTRY cl_int CL_API_CALL clInitLayer(cl_uint count, const cl_icd_dispatch *target, cl_uint *made_count, const cl_icd_dispatch **made) {
+SEEN CL_API_ENTRY cl_int CL_API_CALL clInitLayer(cl_uint count, const cl_icd_dispatch *target, cl_uint *made_count,
+                                                 const cl_icd_dispatch **made) {
     using namespace gpurace;
     std::memcpy(static_cast<void *>(&driver), target, std::min(sizeof driver, count * sizeof(void *)));
     settings(); // a wrong one is said before the program does anything

@@ -1,12 +1,11 @@
-// What the parts of the layer know of each other: the driver below it; the texts of the program's programs, its kernels with their
-// arguments, and its shared memory.
-#ifndef GPURACE_LAYER_H
-#define GPURACE_LAYER_H
+// What the parts of the layer know of each other.
+#pragma once
 
 #include "../runtime/launch.h"
 
 #include <CL/cl_layer.h>
 
+#include <cstring>
 #include <set>
 
 namespace gpurace {
@@ -18,6 +17,12 @@ void take_over_handles(_cl_icd_dispatch &layer);
 void take_over_launches(_cl_icd_dispatch &layer);
 
 std::string text_of(cl_device_id device, cl_device_info what);
+
+template <class Value> Value value_of(const std::vector<char> &bytes) {
+    Value value{};
+    std::memcpy(&value, bytes.data(), std::min(bytes.size(), sizeof value));
+    return value;
+}
 
 // What one of the calls clGet..Info says; zeros where it fails.
 template <class Value, class Get, class Handle> Value info_of(Get get, Handle handle, cl_uint what) {
@@ -31,8 +36,7 @@ struct Unit {
     std::string source, options;
     std::vector<Source> headers; // those that clCompileProgram was given
 };
-// Compiles the text of a program for the host, instrumented, and loads it. What was built is kept, by the hash of all that went into
-// it. Null where it could not be built; `error` then says why.
+// Compiles a program for the host, instrumented, keeps and loads it. Null where that can't be; `error` then says why.
 std::shared_ptr<Program> build(const std::vector<Unit> &units, cl_device_id device, std::string &error);
 
 // A kernel and the arguments that it has. Without an instrumented program it runs on the driver, for `reason`.
@@ -53,9 +57,9 @@ std::string name_of(cl_kernel kernel);
 // The allocation of shared virtual memory that a pointer points into: its start and its bytes, or zeros.
 std::pair<char *, size_t> shared_at(char *pointer);
 
-// Gives the request its arguments and the places of its buffers, which are mapped until the last copy of what this answers is gone. Null
-// where one can't be mapped; `reason` then says why.
-std::shared_ptr<void> map_arguments(cl_context context, cl_device_id device, const Launchable &launched, Request &request, std::string &reason);
+// Gives the request its arguments and the places of its buffers, which are mapped until the last copy of what this
+// answers is gone. Null where one can't be mapped; `reason` then says why.
+std::shared_ptr<void> map_arguments(cl_context context, cl_device_id device, const Launchable &launched,
+                                    Request &request, std::string &reason);
 
 } // namespace gpurace
-#endif

@@ -1,6 +1,5 @@
 #include "layer.h"
 
-#include <cstring>
 #include <mutex>
 
 namespace gpurace {
@@ -25,6 +24,11 @@ void note_program(cl_program program, Known known) {
     if (program) programs[program] = std::move(known);
 }
 
+cl_program without_text(cl_program program, const char *reason) {
+    note_program(program, {{}, nullptr, reason});
+    return program;
+}
+
 void build_units(cl_program program, const std::vector<Unit> &units) {
     cl_device_id devices[64] = {};
     driver.clGetProgramInfo(program, CL_PROGRAM_DEVICES, sizeof devices, devices, nullptr);
@@ -33,7 +37,7 @@ void build_units(cl_program program, const std::vector<Unit> &units) {
         const std::lock_guard<std::mutex> held(build_lock);
         known.built = build(units, devices[0], known.reason);
     }
-    if (!known.built) say(known.reason = "its program could not be compiled for recording: " + known.reason);
+    if (!known.built) known.reason = "its program could not be compiled for recording: " + known.reason;
     note_program(program, std::move(known));
 }
 
@@ -56,35 +60,36 @@ std::string all_options(const char *options) {
     return std::string(options ? options : "") + (more.empty() ? "" : " " + more);
 }
 
-cl_program CL_API_CALL create_with_source(cl_context context, cl_uint count, const char **texts, const size_t *lengths, cl_int *error) {
+cl_program CL_API_CALL create_with_source(cl_context context, cl_uint count, const char **texts, const size_t *lengths,
+                                          cl_int *error) {
     const cl_program program = driver.clCreateProgramWithSource(context, count, texts, lengths, error);
     std::string source;
-    for (cl_uint at = 0; program && at < count; at++) source += lengths && lengths[at] ? std::string(texts[at], lengths[at]) : std::string(texts[at]);
+    for (cl_uint at = 0; program && at < count; at++)
+        source.append(texts[at], lengths && lengths[at] ? lengths[at] : std::strlen(texts[at]));
     note_program(program, {{{std::move(source), "", {}}}, nullptr, "its program was not built"});
     return program;
 }
 
 cl_program CL_API_CALL create_with_il(cl_context context, const void *il, size_t length, cl_int *error) {
-    const cl_program program = driver.clCreateProgramWithIL(context, il, length, error);
-    note_program(program, {{}, nullptr, "its program is SPIR-V, which has no text"});
-    return program;
+    return without_text(driver.clCreateProgramWithIL(context, il, length, error), "its program is SPIR-V");
 }
 
-cl_program CL_API_CALL create_with_builtins(cl_context context, cl_uint count, const cl_device_id *devices, const char *names, cl_int *error) {
+cl_program CL_API_CALL create_with_builtins(cl_context context, cl_uint count, const cl_device_id *devices,
+                                            const char *names, cl_int *error) {
     const cl_program program = driver.clCreateProgramWithBuiltInKernels(context, count, devices, names, error);
-    note_program(program, {{}, nullptr, "it is built into the device"});
-    return program;
+    return without_text(program, "it is built into the device");
 }
 
 // A binary is refused as one that is out of date, so that the program goes back to its text.
-cl_program CL_API_CALL create_with_binary(cl_context, cl_uint count, const cl_device_id *, const size_t *, const unsigned char **, cl_int *states, cl_int *error) {
-    say("a program's binary is refused, since it has no text to record");
+cl_program CL_API_CALL create_with_binary(cl_context, cl_uint count, const cl_device_id *, const size_t *,
+                                          const unsigned char **, cl_int *states, cl_int *error) {
     for (cl_uint at = 0; states && at < count; at++) states[at] = CL_INVALID_BINARY;
     if (error) *error = CL_INVALID_BINARY;
     return nullptr;
 }
 
-cl_int CL_API_CALL build_program(cl_program program, cl_uint count, const cl_device_id *devices, const char *options, BuildNotice notify, void *data) {
+cl_int CL_API_CALL build_program(cl_program program, cl_uint count, const cl_device_id *devices, const char *options,
+                                 BuildNotice notify, void *data) {
     const std::string all = all_options(options);
     const cl_int error = driver.clBuildProgram(program, count, devices, all.c_str(), nullptr, nullptr);
     Known known = joined({program});
@@ -94,10 +99,12 @@ cl_int CL_API_CALL build_program(cl_program program, cl_uint count, const cl_dev
     return notify && error == CL_BUILD_PROGRAM_FAILURE ? CL_SUCCESS : error;
 }
 
-cl_int CL_API_CALL compile_program(cl_program program, cl_uint count, const cl_device_id *devices, const char *options, cl_uint header_count,
-                                   const cl_program *headers, const char **names, BuildNotice notify, void *data) {
+cl_int CL_API_CALL compile_program(cl_program program, cl_uint count, const cl_device_id *devices, const char *options,
+                                   cl_uint header_count, const cl_program *headers, const char **names,
+                                   BuildNotice notify, void *data) {
     const std::string all = all_options(options);
-    const cl_int error = driver.clCompileProgram(program, count, devices, all.c_str(), header_count, headers, names, nullptr, nullptr);
+    const cl_int error = driver.clCompileProgram(program, count, devices, all.c_str(), header_count, headers, names,
+                                                 nullptr, nullptr);
     Known known = joined({program});
     if (error == CL_SUCCESS && known.units.size() == 1) {
         known.units[0] = {known.units[0].source, all, {}};
@@ -111,9 +118,11 @@ cl_int CL_API_CALL compile_program(cl_program program, cl_uint count, const cl_d
 }
 
 // A library is a part of programs that are linked later.
-cl_program CL_API_CALL link_program(cl_context context, cl_uint count, const cl_device_id *devices, const char *options, cl_uint part_count,
-                                    const cl_program *parts, BuildNotice notify, void *data, cl_int *error) {
-    const cl_program program = driver.clLinkProgram(context, count, devices, options, part_count, parts, nullptr, nullptr, error);
+cl_program CL_API_CALL link_program(cl_context context, cl_uint count, const cl_device_id *devices, const char *options,
+                                    cl_uint part_count, const cl_program *parts, BuildNotice notify, void *data,
+                                    cl_int *error) {
+    const cl_program program =
+        driver.clLinkProgram(context, count, devices, options, part_count, parts, nullptr, nullptr, error);
     const Known known = joined({parts, parts + part_count});
     note_program(program, known);
     const bool is_library = options && std::strstr(options, "-create-library");
@@ -178,8 +187,9 @@ cl_int CL_API_CALL set_pointer(cl_kernel kernel, cl_uint at, const void *value) 
     const cl_int error = driver.clSetKernelArgSVMPointer(kernel, at, value);
     const std::lock_guard<std::mutex> held(lock);
     if (error != CL_SUCCESS) return error;
+    const auto *bytes = reinterpret_cast<const char *>(&value);
     kernels[kernel].pointers.insert(at);
-    kernels[kernel].values[at].assign(reinterpret_cast<const char *>(&value), reinterpret_cast<const char *>(&value + 1));
+    kernels[kernel].values[at].assign(bytes, bytes + sizeof value);
     return error;
 }
 
@@ -187,7 +197,8 @@ cl_int CL_API_CALL set_exec_info(cl_kernel kernel, cl_kernel_exec_info what, siz
     const cl_int error = driver.clSetKernelExecInfo(kernel, what, size, value);
     const std::lock_guard<std::mutex> held(lock);
     auto *pointers = static_cast<char *const *>(value);
-    if (error == CL_SUCCESS && what == CL_KERNEL_EXEC_INFO_SVM_PTRS) kernels[kernel].more_pointers = {pointers, pointers + size / sizeof *pointers};
+    if (error == CL_SUCCESS && what == CL_KERNEL_EXEC_INFO_SVM_PTRS)
+        kernels[kernel].more_pointers = {pointers, pointers + size / sizeof *pointers};
     return error;
 }
 
@@ -226,7 +237,8 @@ std::pair<char *, size_t> shared_at(char *pointer) {
     auto found = shared.upper_bound(pointer);
     if (found == shared.begin()) return {};
     --found;
-    return pointer < found->first + found->second ? std::pair(found->first, found->second) : std::pair<char *, size_t>();
+    if (pointer < found->first + found->second) return *found;
+    return {};
 }
 
 void take_over_handles(_cl_icd_dispatch &layer) {

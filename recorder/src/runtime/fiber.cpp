@@ -59,7 +59,8 @@ uint8_t *Pool::take(size_t count, size_t bytes, bool is_guarded) {
         block.is_taken = true;
         return block.memory;
     }
-    void *mapped = mmap(nullptr, count * bytes, PROT_READ | PROT_WRITE, MAP_PRIVATE | MAP_ANONYMOUS | MAP_NORESERVE, -1, 0);
+    constexpr int kind = MAP_PRIVATE | MAP_ANONYMOUS | MAP_NORESERVE;
+    void *mapped = mmap(nullptr, count * bytes, PROT_READ | PROT_WRITE, kind, -1, 0);
     if (mapped == MAP_FAILED) return nullptr;
     auto *memory = static_cast<uint8_t *>(mapped);
     blocks_.push_back({memory, count, bytes, is_guarded, true});

@@ -1,6 +1,5 @@
 // Fibers: each work-item has a stack of its own, and goes on from where it rested when its thread switches to it.
-#ifndef GPURACE_FIBER_H
-#define GPURACE_FIBER_H
+#pragma once
 
 #include <cstddef>
 #include <cstdint>
@@ -11,7 +10,7 @@ extern "C" void gr_switch(void **own, void *other);
 
 namespace gpurace {
 
-// A new fiber on the stack that ends at `top`: the first switch to what this answers calls main(argument), which must not return.
+// A new fiber on the stack that ends at `top`: the first switch to it calls main(argument), which must not return.
 void *make_fiber(uint8_t *top, void (*main)(void *), void *argument);
 
 constexpr size_t PAGE = 4096;
@@ -20,8 +19,8 @@ constexpr size_t PAGE = 4096;
 class Pool {
 public:
     ~Pool();
-    // `count` pieces of `bytes` each, one after another; null where there is no room. At the low end of each guarded one stands a page
-    // that can't be accessed, as long as the process has not too many of them.
+    // `count` pieces of `bytes` each, one after another; null where there is no room. At the low end of each guarded
+    // one stands a page that can't be accessed, as long as the process has not too many of them.
     uint8_t *take(size_t count, size_t bytes, bool is_guarded);
     void give_back(uint8_t *memory);
 
@@ -31,4 +30,3 @@ private:
 };
 
 } // namespace gpurace
-#endif

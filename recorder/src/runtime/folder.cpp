@@ -9,8 +9,8 @@
 namespace gpurace {
 namespace {
 
-std::string sizes(const uint64_t (&size)[3]) {
-    return std::to_string(size[0]) + " " + std::to_string(size[1]) + " " + std::to_string(size[2]);
+std::string sizes(const char *name, const uint64_t (&size)[3]) {
+    return name + std::to_string(size[0]) + " " + std::to_string(size[1]) + " " + std::to_string(size[2]) + "\n";
 }
 
 bool write_file(const std::string &path, const std::string &text) {
@@ -22,11 +22,11 @@ bool write_file(const std::string &path, const std::string &text) {
 std::string shape_of(const Request &request) {
     const Range &range = request.range;
     std::ostringstream text;
-    text << "kernel " << request.kernel->name << "\nlaunch " << request.number << "\nglobal " << sizes(range.global) << "\nlocal "
-         << sizes(range.local) << "\ngroups " << range.group_count() << '\n';
+    text << "kernel " << request.kernel->name << "\nlaunch " << request.number << '\n' << sizes("global ", range.global)
+         << sizes("local ", range.local) << "groups " << range.group_count() << '\n';
     if (request.kept < range.group_count()) text << "window " << request.first << ' ' << request.kept << '\n';
-    if (request.kernel->has_copies)
-        for (uint64_t group = 0; group < request.kept; group++) text << "copying-item " << group << ' ' << range.items_of_group() << '\n';
+    for (uint64_t group = 0; request.kernel->has_copies && group < request.kept; group++)
+        text << "copying-item " << group << ' ' << range.items_of_group() << '\n';
     return text.str();
 }
 
@@ -36,7 +36,8 @@ std::string buffers_of(const Launch &launch) {
         text << memory << ' ' << span.first_word << ' ' << span.words() << ' ' << span.traced_name() << '\n';
     };
     for (const Span &span : launch.spans) line("g", span);
-    const std::vector<Span> locals = spans_of(launch.request.entries, lay_out_locals(launch.request.entries, 1 << 12).addresses, LOCAL);
+    const std::vector<Entry> &entries = launch.request.entries;
+    const std::vector<Span> locals = spans_of(entries, lay_out_locals(entries, 1 << 12).addresses, LOCAL);
     for (uint64_t group = 0; group < launch.request.kept; group++)
         for (const Span &span : locals) line("l " + std::to_string(group), span);
     return text.str();
@@ -62,21 +63,24 @@ void write_losses(std::ostream &out, Launch &launch) {
         }
         const Outside &first = launch.losses.outside[uint32_t(site)];
         const char *how = at.kind == READ ? "read" : at.kind == WRITE ? "write" : "atomic";
-        out << "out-of-bounds " << count << ' ' << at.place << ' ' << how << ' ' << at.bytes << ' ' << first.group << ' ' << first.item << ' ' << first.where << '\n';
+        out << "out-of-bounds " << count << ' ' << at.place << ' ' << how << ' ' << at.bytes << ' ' << first.group
+            << ' ' << first.item << ' ' << first.where << '\n';
     }
-    out << "names-outside-window " << launch.losses.names_outside << "\nrepeated-not-recorded " << launch.losses.repeated
-        << "\nacquire-loads-added " << launch.losses.added << '\n';
+    out << "names-outside-window " << launch.losses.names_outside << "\nrepeated-not-recorded "
+        << launch.losses.repeated << "\nacquire-loads-added " << launch.losses.added << '\n';
 }
 
 } // namespace
 
 bool begin_folder(Launch &launch, std::string &error) {
     const Request &request = launch.request;
+    const std::string folder = request.folder + "/", sites = sites_of(launch);
     std::error_code fault;
-    bool is_written = std::filesystem::create_directories(request.folder, fault) && write_file(request.folder + "/begun.txt", shape_of(request)) &&
-                      write_file(request.folder + "/buffers", buffers_of(launch)) && launch.places.open(request.folder + "/places");
-    for (const Source &source : request.program->sources) is_written = is_written && write_file(request.folder + "/" + source.name, source.text);
-    const std::string sites = sites_of(launch);
+    bool is_written = std::filesystem::create_directories(request.folder, fault) &&
+                      write_file(folder + "begun.txt", shape_of(request)) &&
+                      write_file(folder + "buffers", buffers_of(launch)) && launch.places.open(folder + "places");
+    for (const Source &source : request.program->sources)
+        is_written = is_written && write_file(folder + source.name, source.text);
     is_written = is_written && launch.places.append(sites.data(), sites.size());
     if (!is_written) error = request.folder + " could not be written: " + std::strerror(errno);
     return is_written;
@@ -84,17 +88,21 @@ bool begin_folder(Launch &launch, std::string &error) {
 
 void end_folder(Launch &launch, double seconds) {
     const Request &request = launch.request;
+    const std::string folder = request.folder + "/", part = folder + "info.part";
+    const uint64_t items = request.range.items_of_group() + request.kernel->has_copies;
     std::ostringstream info;
-    info << shape_of(request) << "items " << request.kept * (request.range.items_of_group() + request.kernel->has_copies) << "\nrecords "
-         << launch.records << '\n';
+    info << shape_of(request) << "items " << request.kept * items << "\nrecords " << launch.records << '\n';
     for (uint64_t group = 0; group < request.kept; group++)
         if (launch.is_cut[group]) info << "cut " << group << '\n';
     if (launch.places.error()) info << "places-cut " << std::strerror(launch.places.error()) << '\n';
     for (const std::string &note : request.program->notes) info << "note " << note << '\n';
     write_losses(info, launch);
+    std::string equal = launch.stored.lines("g");
+    for (const std::string &lines : launch.stored_in_locals) equal += lines;
+    if (!equal.empty()) write_file(folder + "equal", equal);
     info << "kernel-seconds " << seconds << '\n';
-    if (write_file(request.folder + "/info.part", info.str()) && std::rename((request.folder + "/info.part").c_str(), (request.folder + "/info.txt").c_str()) == 0)
-        std::remove((request.folder + "/begun.txt").c_str());
+    if (write_file(part, info.str()) && std::rename(part.c_str(), (folder + "info.txt").c_str()) == 0)
+        std::remove((folder + "begun.txt").c_str());
 }
 
 } // namespace gpurace

@@ -38,7 +38,8 @@ void settle(Item &item) {
     pending.bytes = 0;
 }
 
-void Group::put(uint32_t item, uint32_t &index, const Site &site, uint64_t head, uint32_t word, const Name *names, size_t count) {
+void Group::put(uint32_t item, uint32_t &index, const Site &site, uint64_t head, uint32_t word, const Name *names,
+                size_t count) {
     if (stream->is_full()) { // who acquires from what is lost must not be recorded either
         launch->is_over = true;
         is_cut = true;
@@ -60,7 +61,7 @@ void Group::flush_places() {
     places_used = 0;
 }
 
-std::unique_ptr<Group> Group::begin(Launch &launch, uint64_t number, Pool &pool, Random &random) {
+std::unique_ptr<Group> Group::begin(Launch &launch, uint64_t number, Pool &pool, Random &random) try {
     auto group = std::make_unique<Group>();
     const Request &request = launch.request;
     group->launch = &launch;
@@ -74,6 +75,8 @@ std::unique_ptr<Group> Group::begin(Launch &launch, uint64_t number, Pool &pool,
     if (!group->stacks) return nullptr;
     if (group->is_recorded) group->open_stream();
     return group;
+} catch (const std::bad_alloc &) {
+    return nullptr;
 }
 
 void Group::place_memory(Pool &pool) {
@@ -102,13 +105,14 @@ void Group::place_memory(Pool &pool) {
 void Group::open_stream() {
     stream.emplace(stream_path(launch->request.folder, window), window, launch->pipes);
     if (!stream->open(launch->has_names, launch->written)) launch->is_over = true;
+    stored.emplace(words_of(spans));
     if (settings().writes_places) places.resize(PLACES_ROOM);
 }
 
 void Group::begin_items(Pool &pool) {
     const Range &range = launch->request.range;
-    uint64_t at[3], size[3];
-    for (int axis = 0; axis < 3; axis++) at[axis] = range.place_of(number, axis), size[axis] = range.size_of(number, axis);
+    const uint64_t at[3] = {range.place_of(number, 0), range.place_of(number, 1), range.place_of(number, 2)};
+    const uint64_t size[3] = {range.size_of(number, 0), range.size_of(number, 1), range.size_of(number, 2)};
     const uint64_t count = size[0] * size[1] * size[2];
     stacks = pool.take(range.items_of_group(), launch->stack_bytes, true);
     if (!stacks) return;
@@ -117,7 +121,8 @@ void Group::begin_items(Pool &pool) {
         order.push_back(uint16_t(each));
         begin_item(items[each], each, at, size);
         // neighbouring stacks begin at different places of their pages, or all would share a few sets of the cache
-        items[each].stack = make_fiber(stacks + launch->stack_bytes * (each + 1) - 64 * (each % 32), run_item, &items[each]);
+        uint8_t *top = stacks + launch->stack_bytes * (each + 1) - 64 * (each % 32);
+        items[each].stack = make_fiber(top, run_item, &items[each]);
     }
 }
 
@@ -126,13 +131,16 @@ void Group::begin_item(Item &item, uint64_t each, const uint64_t at[3], const ui
     const uint64_t local[3] = {each % size[0], each / size[0] % size[1], each / size[0] / size[1]};
     std::memset(&item, 0, sizeof item);
     for (int axis = 0; axis < 3; axis++) {
-        const uint64_t values[] = {local[axis], at[axis], range.groups[axis], size[axis], range.local[axis], range.global[axis], range.offset[axis],
-                                   range.offset[axis] + at[axis] * range.local[axis] + local[axis]};
+        const uint64_t of_global = at[axis] * range.local[axis] + local[axis];
+        const uint64_t values[] = {local[axis], at[axis], range.groups[axis], size[axis], range.local[axis],
+                                   range.global[axis], range.offset[axis], range.offset[axis] + of_global};
         for (int row = 0; row < LINEAR; row++) item.numbers[row][axis] = values[row];
     }
-    for (const int row : {NUM_GROUPS, LOCAL_SIZE, ENQUEUED_LOCAL_SIZE, GLOBAL_SIZE}) item.numbers[row][3] = 1; // of no dimension
+    for (const int row : {NUM_GROUPS, LOCAL_SIZE, ENQUEUED_LOCAL_SIZE, GLOBAL_SIZE})
+        item.numbers[row][3] = 1; // of no dimension
     uint64_t linear = 0;
-    for (int axis = 2; axis >= 0; axis--) linear = linear * range.global[axis] + at[axis] * range.local[axis] + local[axis];
+    for (int axis = 2; axis >= 0; axis--)
+        linear = linear * range.global[axis] + item.numbers[GLOBAL_ID][axis] - range.offset[axis];
     item.numbers[LINEAR][WORK_DIM] = range.dimensions;
     item.numbers[LINEAR][LOCAL_LINEAR_ID] = each;
     item.numbers[LINEAR][GLOBAL_LINEAR_ID] = linear;
@@ -146,7 +154,7 @@ void Group::begin_item(Item &item, uint64_t each, const uint64_t at[3], const ui
 // Where all items stand at barriers or have ended, they go on: a divergent barrier is what items do.
 bool Group::sweep() {
     if (launch->written > settings().most_records) launch->is_over = true;
-    if (launch->written > settings().most_pending && !launch->pipes.are_open) launch->pipes.open(launch->request.folder);
+    if (launch->written > settings().most_pending) launch->pipes.open(launch->request.folder);
     for (size_t at = order.size(); at > 1; at--) std::swap(order[at - 1], order[random->below(uint32_t(at))]);
     size_t ended = 0, standing = 0;
     bool is_moved = false, is_idle = true;
@@ -176,8 +184,10 @@ bool Group::sweep() {
 
 void Group::close_files(bool cut) {
     if (!is_recorded) return;
+    is_recorded = false;
     stream->close(cut || is_cut);
     flush_places();
+    launch->stored_in_locals[window] = stored->lines("l " + std::to_string(window));
     launch->records += stream->records();
     launch->is_cut[window] = cut || is_cut || stream->error() != 0;
 }

@@ -1,6 +1,5 @@
 // A work-group that runs, and its work-items.
-#ifndef GPURACE_GROUP_H
-#define GPURACE_GROUP_H
+#pragma once
 
 #include "fiber.h"
 #include "launch.h"
@@ -11,17 +10,14 @@ namespace gpurace {
 
 class Random { // xorshift64*
 public:
-    explicit Random(uint64_t seed) : state_(seed * 0x9e3779b97f4a7c15ull + 0x2545f4914f6cdd1dull) {
-        for (int at = 0; at < 4; at++) next();
+    explicit Random(uint64_t seed) : state_(seed * 0x9e3779b97f4a7c15ull + 0x2545f4914f6cdd1dull) {}
+    uint32_t below(uint32_t count) {
+        state_ ^= state_ >> 12, state_ ^= state_ << 25, state_ ^= state_ >> 27;
+        return uint32_t((state_ * 0x2545f4914f6cdd1dull >> 32) * count >> 32);
     }
-    uint32_t below(uint32_t count) { return uint32_t(uint64_t(next()) * count >> 32); }
 
 private:
     uint64_t state_;
-    uint32_t next() {
-        state_ ^= state_ >> 12, state_ ^= state_ << 25, state_ ^= state_ >> 27;
-        return uint32_t(state_ * 0x2545f4914f6cdd1dull >> 32);
-    }
 };
 
 enum ItemState : uint8_t { RUNS, STANDS, ENDED };
@@ -59,7 +55,7 @@ struct Item {
     Scratch &own_scratch() { return *(scratch ? scratch : scratch = new Scratch); }
     void rest(); // lets others run
 };
-static_assert(offsetof(Item, numbers) == 0 && offsetof(Item, locals) == LOCALS_OFFSET, "the instrumented code knows these places");
+static_assert(offsetof(Item, numbers) == 0 && offsetof(Item, locals) == LOCALS_OFFSET, "instrumented code knows them");
 
 struct Group {
     Launch *launch;
@@ -78,6 +74,7 @@ struct Group {
     std::vector<uint64_t> local_pointers;
     uint8_t *memory = nullptr, *stacks = nullptr;
     std::optional<Stream> stream;             // of a group that is recorded
+    std::optional<StoredValues> stored;       // in local memory
     std::vector<char> places;
     size_t places_used = 0;
     uint32_t copier_records = 0;
@@ -97,7 +94,8 @@ struct Group {
         return false;
     }
     // A record of an item, whose number among the item's is `index`.
-    void put(uint32_t item, uint32_t &index, const Site &site, uint64_t head, uint32_t word, const Name *names = nullptr, size_t count = 0);
+    void put(uint32_t item, uint32_t &index, const Site &site, uint64_t head, uint32_t word,
+             const Name *names = nullptr, size_t count = 0);
     void flush_places();
 
 private:
@@ -116,4 +114,3 @@ inline uint64_t head_of(uint32_t item, uint8_t kind, uint8_t space, uint8_t scop
 void settle(Item &item);
 
 } // namespace gpurace
-#endif

@@ -43,9 +43,12 @@ std::string count_of(uint64_t bytes) { return std::to_string(bytes) + (bytes == 
 
 // Where an address is in relation to the buffer that the code names, or else to the nearest one.
 std::string place_of(const Group &group, const Site &site, uint64_t address) {
-    const auto distance = [&](const Span &span) { return address < span.address ? span.address - address : address - span.address; };
+    const auto distance = [&](const Span &span) {
+        return std::max(address, span.address) - std::min(address, span.address);
+    };
     const Span *near = site.entry >= 0 ? group.entry_spans[size_t(site.entry)] : nullptr;
-    if (!near && site.entry >= 0) return "in " + group.launch->request.entries[size_t(site.entry)].name + ", which has no memory";
+    const std::vector<Entry> &entries = group.launch->request.entries;
+    if (!near && site.entry >= 0) return "in " + entries[size_t(site.entry)].name + ", which has no memory";
     for (const Span &span : site.space == LOCAL ? group.spans : group.launch->spans)
         if (site.entry < 0 && (!near || distance(span) < distance(*near))) near = &span;
     if (!near) return "in no buffer";
@@ -63,49 +66,76 @@ void note_outside(Group &group, uint32_t item, uint32_t number, const Site &site
     launch.losses.outside[number] = {group.number, item, place_of(group, site, address)};
 }
 
+struct Part { // of a span
+    const Span *span = nullptr;
+    uint64_t address = 0, bytes = 0;
+
+    uint64_t first_word() const { return span->word_of(address); }
+    uint64_t last_word() const { return span->word_of(address + bytes - 1); }
+};
+
+uint32_t word_at(const uint8_t *bytes, uint32_t grain) {
+    uint32_t word;
+    std::memcpy(&word, bytes, sizeof word); // there is room for a whole one
+    return grain == 4 ? word : grain == 2 ? uint16_t(word) : uint8_t(word);
+}
+
+// An item stores to a part of a span; `value` is null where it is not known. Within others this would slow loads down.
+__attribute__((noinline)) void note_stored(Group &group, uint32_t item, int space, const Part &part,
+                                           const uint8_t *value = nullptr) {
+    if (!group.is_recorded) return;
+    StoredValues &values = space == LOCAL ? *group.stored : group.launch->stored;
+    const uint32_t grain = part.span->grain;
+    if ((part.address - part.span->address) % grain) value = nullptr;
+    for (uint64_t word = part.first_word(), last = part.last_word(); word <= last; word++) {
+        if (value) values.note(word, group.window << 16 | item, word_at(value, grain)), value += grain;
+        else values.note_unknown(word);
+    }
+}
+
 // What the record of an access of an item needs.
 struct Accessor {
     Group &group;
     uint32_t item;
     uint32_t &records;
 
-    void put(const Site &site, int kind, int space, const Span &span, uint64_t address, uint64_t bytes) {
+    void put(const Site &site, int kind, int space, const Part &part) {
         if (!group.records_now()) return;
         const uint64_t head = head_of(item, uint8_t(kind), uint8_t(space));
-        for (uint64_t word = span.word_of(address), last = span.word_of(address + bytes - 1); word <= last; word++)
+        for (uint64_t word = part.first_word(), last = part.last_word(); word <= last; word++)
             group.put(item, records, site, head, uint32_t(word));
     }
 };
 
 // The part of an access that is inside of a buffer.
-struct Inside {
-    const Span *span = nullptr;
-    uint64_t from = 0, to = 0;
-};
-Inside inside_of(const std::vector<Span> &spans, uint64_t address, uint64_t bytes) {
+Part inside_of(const std::vector<Span> &spans, uint64_t address, uint64_t bytes) {
     for (const Span &span : spans) {
-        const uint64_t from = std::max(address, span.address), to = std::min(address + bytes, span.address + span.bytes);
-        if (from < to) return {&span, from, to};
+        const uint64_t from = std::max(address, span.address);
+        const uint64_t to = std::min(address + bytes, span.address + span.bytes);
+        if (from < to) return {&span, from, to - from};
     }
     return {};
 }
 
-// An access that is not whole in a buffer: it has its inside part, a load has zeros for the rest, and the rest of a store is dropped.
+// An access that is not whole in a buffer has its inside part. A load has zeros for the rest; that of a store is lost.
 uint8_t *access_outside(Item &item, Accessor accessor, uint32_t number, const Site &site, int kind, uint64_t address) {
     Group &group = accessor.group;
     note_outside(group, accessor.item, number, site, address);
-    const Inside inside = inside_of(site.space == LOCAL ? group.spans : group.launch->spans, address, site.bytes);
-    if (inside.span) accessor.put(site, kind, site.space == LOCAL ? LOCAL : GLOBAL, *inside.span, inside.from, inside.to - inside.from);
+    const Part inside = inside_of(site.space == LOCAL ? group.spans : group.launch->spans, address, site.bytes);
+    const int space = site.space == LOCAL ? LOCAL : GLOBAL;
+    if (inside.span) accessor.put(site, kind, space, inside);
     else if (kind == READ) return group.launch->zeros.data();
     Scratch &scratch = item.own_scratch();
     if (kind == READ) {
         scratch.loaded.assign(site.bytes, 0);
-        std::memcpy(scratch.loaded.data() + (inside.from - address), reinterpret_cast<const void *>(inside.from), inside.to - inside.from);
+        const auto *source = reinterpret_cast<const uint8_t *>(inside.address);
+        std::copy_n(source, inside.bytes, scratch.loaded.data() + (inside.address - address));
         return scratch.loaded.data();
     }
     scratch.stored.resize(std::max<size_t>(site.bytes, scratch.stored.size()));
-    if (inside.span)
-        scratch.pending = {inside.from, inside.to - inside.from, scratch.stored.data() + (inside.from - address), inside.span->has_atomics};
+    if (inside.span) note_stored(group, accessor.item, space, inside);
+    const uint8_t *part = scratch.stored.data() + (inside.address - address);
+    if (inside.span) scratch.pending = {inside.address, inside.bytes, part, inside.span->has_atomics};
     return scratch.stored.data();
 }
 
@@ -136,11 +166,6 @@ void rest_if_idle(Item &item, uint32_t most) {
     item.rest();
 }
 
-uint8_t *read_again(Item &item) { // the access is recorded already
-    item.group->launch->losses.repeated.fetch_add(1, std::memory_order_relaxed);
-    return static_cast<uint8_t *>(const_cast<void *>(item.last_address));
-}
-
 // One more item of the group does the copies.
 uint8_t *access_of_copy(Item &item, uint32_t number, uint8_t *pointer) {
     Group &group = *item.group;
@@ -150,20 +175,20 @@ uint8_t *access_of_copy(Item &item, uint32_t number, uint8_t *pointer) {
     Accessor copier{group, uint32_t(group.items.size()), group.copier_records};
     const Span *span = span_of(group, site, address, site.bytes, space);
     if (!span) return access_outside(item, copier, number, site, site.kind, address);
-    copier.put(site, site.kind, space, *span, address, site.bytes);
-    return site.kind == WRITE && span->has_atomics && group.launch->has_names ? defer_store(item, address, site.bytes) : pointer;
+    const Part part{span, address, site.bytes};
+    copier.put(site, site.kind, space, part);
+    if (site.kind != READ) note_stored(group, copier.item, space, part);
+    const bool is_deferred = site.kind == WRITE && span->has_atomics && group.launch->has_names;
+    return is_deferred ? defer_store(item, address, site.bytes) : pointer;
 }
 
 } // namespace
-} // namespace gpurace
-
-using namespace gpurace;
 
 extern "C" {
 #define HOOK __attribute__((visibility("default")))
 
-// Records a plain access, and answers the address that it is to use.
-HOOK void *gr_access(void *state, uint32_t number, void *pointer) {
+// Records a plain access, and answers the address to use. `stored` has what it stores, or is null.
+HOOK void *gr_access(void *state, uint32_t number, void *pointer, const uint8_t *stored) {
     Item &item = item_of(state);
     if (--item.turn == 0) end_turn(item);
     Group &group = *item.group;
@@ -178,12 +203,13 @@ HOOK void *gr_access(void *state, uint32_t number, void *pointer) {
         return allowed;
     }
     if (site.kind != READ) {
+        note_stored(group, item.number, space, {span, address, site.bytes}, stored);
         item.last_site = number;
     } else if (is_repeated(item, number, pointer)) {
         rest_if_idle(item, IDLE_READS);
-        if (item.repeats > MOST_READS) return read_again(item);
+        if (item.repeats > MOST_READS) return group.launch->losses.repeated++, pointer; // it is recorded already
     }
-    Accessor{group, item.number, item.records}.put(site, site.kind, space, *span, address, site.bytes);
+    Accessor{group, item.number, item.records}.put(site, site.kind, space, {span, address, site.bytes});
     item.last_records = item.records;
     if (site.kind != WRITE || !span->has_atomics || !group.launch->has_names) return pointer;
     uint8_t *allowed = defer_store(item, address, site.bytes);
@@ -208,7 +234,8 @@ HOOK void gr_barrier(void *state, uint32_t number, uint32_t flags) {
     item.rest();
 }
 
-HOOK void gr_copy(void *state, uint32_t reads, uint32_t writes, uint8_t *to, uint8_t *from, uint64_t count, uint64_t to_stride, uint64_t from_stride) {
+HOOK void gr_copy(void *state, uint32_t reads, uint32_t writes, uint8_t *to, uint8_t *from, uint64_t count,
+                  uint64_t to_stride, uint64_t from_stride) {
     Item &item = item_of(state);
     settle(item);
     if (item.number != 0) return;
@@ -236,8 +263,6 @@ HOOK void *gr_print(void *state) {
 }
 HOOK void gr_printed(void *) { printing.unlock(); }
 }
-
-namespace gpurace {
 
 void write_prints() {
     uint32_t length;
@@ -309,7 +334,8 @@ void put_atomic(Item &item, const Site &site, const Span &span, uint64_t address
     Group &group = *item.group;
     Names &names = record.names;
     std::sort(names.begin(), names.end());
-    const uint64_t first = span.word_of(address), last = span.word_of(address + site.bytes - 1);
+    const Part part{&span, address, site.bytes};
+    const uint64_t first = part.first_word(), last = part.last_word();
     const uint64_t head = head_of(item.number, uint8_t(record.kind), uint8_t(record.space), record.scope, record.order);
     const uint64_t load = head_of(item.number, LOAD, uint8_t(record.space), record.scope, ACQUIRE);
     for (uint64_t word = first; word <= last; word++) { // a release of several words is several records
@@ -322,11 +348,13 @@ void put_atomic(Item &item, const Site &site, const Span &span, uint64_t address
         for (Name &name : names) name.number++;
     }
     if (releases(record.order)) item.releases += uint32_t(last - first + 1);
+    if (record.kind != LOAD) note_stored(group, item.number, record.space, part);
 }
 
 // Takes the names that can't be recorded out.
 void drop_unrecorded(Launch &launch, Names &names) {
-    const auto kept = std::remove_if(names.begin(), names.end(), [](const Name &name) { return name.group == NOT_RECORDED; });
+    const auto is_lost = [](const Name &name) { return name.group == NOT_RECORDED; };
+    const auto kept = std::remove_if(names.begin(), names.end(), is_lost);
     launch.losses.names_outside.fetch_add(uint64_t(names.end() - kept), std::memory_order_relaxed);
     names.erase(kept, names.end());
 }
@@ -343,10 +371,10 @@ bool is_news(Item &item, bool is_again, const AtomicRecord &record) {
 }
 
 } // namespace
-} // namespace gpurace
 
-// Does an atomic operation and records it; answers what the word had. `how` has the order, the order on failure and the scope.
-extern "C" HOOK uint64_t gr_atomic(void *state, uint32_t number, uint32_t what, void *pointer, uint64_t value, uint64_t compare, uint32_t how) {
+// Does an atomic operation, records it, and answers the old value. `how` has the order, that on failure, and the scope.
+extern "C" HOOK uint64_t gr_atomic(void *state, uint32_t number, uint32_t what, void *pointer, uint64_t value,
+                                   uint64_t compare, uint32_t how) {
     Item &item = item_of(state);
     if (--item.turn == 0) end_turn(item);
     settle(item);
@@ -362,7 +390,8 @@ extern "C" HOOK uint64_t gr_atomic(void *state, uint32_t number, uint32_t what, 
     Stripe &stripe = launch.sequences.stripe_of(address);
     std::unique_lock<Stripe> held(stripe, std::defer_lock);
     if (is_named) held.lock();
-    const bool is_recorded = span && group.records_now(); // behind the lock: who acquires from a release that is lost is not recorded
+    // behind the lock: who acquires from a release that is lost is not recorded
+    const bool is_recorded = span && group.records_now();
     const Done done = site.bytes == 8 ? perform<uint64_t>(what, pointer, value, compare)
                                       : perform<uint32_t>(what, pointer, uint32_t(value), uint32_t(compare));
     record.kind = site.kind != COMPARE_EXCHANGE ? site.kind : done.has_failed ? LOAD : MODIFY;
@@ -383,3 +412,5 @@ extern "C" HOOK uint64_t gr_atomic(void *state, uint32_t number, uint32_t what, 
     rest_if_idle(item, IDLE_ATOMICS);
     return done.old;
 }
+
+} // namespace gpurace

@@ -20,23 +20,23 @@ std::vector<uint64_t> addresses_of(const std::vector<Entry> &entries) {
 }
 
 std::vector<std::string> headers_of(const Request &request) {
+    const Kernel &kernel = *request.kernel;
     std::vector<std::string> headers;
-    for (uint64_t group = request.first; group < request.first + request.kept; group++) {
-        const uint64_t items = request.range.size_of(group, 0) * request.range.size_of(group, 1) * request.range.size_of(group, 2);
-        headers.push_back(stream_header(uint32_t(headers.size()), items + request.kernel->has_copies, request.number, request.kernel->has_names));
+    for (uint64_t group = 0; group < request.kept; group++) {
+        const uint64_t items = request.range.items_of(request.first + group) + kernel.has_copies;
+        headers.push_back(stream_header(uint32_t(group), items, request.number, kernel.has_names));
     }
     return headers;
 }
 
 } // namespace
 
-// A thread of a launch: it begins groups and runs them. Where all of its groups wait for what others do, it begins another one, so that
-// groups that wait for each other go on whatever their number.
+// A thread of a launch. Where all of its groups wait for others it begins one more, so that at last all are there.
 class Worker {
 public:
     Worker(Launch &launch, uint64_t seed) : launch_(launch), random_(seed) {}
 
-    // `begin_helpers` is called once, when the launch has taken some time: threads would cost a small one more than they do for it.
+    // `begin_helpers` is called once, when the launch has taken some time: threads would cost a small one too much.
     void run(std::function<void()> begin_helpers = nullptr) {
         const double start = seconds_now();
         const size_t usual = settings().threads == 1 ? 2 : 1; // so that items of different groups meet
@@ -67,8 +67,8 @@ private:
         const uint64_t number = launch_.next_group.load() < count ? launch_.next_group++ : count;
         if (number >= count) return false;
         std::unique_ptr<Group> group = Group::begin(launch_, launch_.group_at(number), pool_, random_);
-        if (!group) launch_.fail("there is no memory for its work-items");
-        else resident_.push_back(std::move(group));
+        if (!group) return launch_.is_stopped = launch_.has_failed = true, false;
+        resident_.push_back(std::move(group));
         return true;
     }
 
@@ -90,12 +90,18 @@ private:
     }
 };
 
-double seconds_now() { return std::chrono::duration<double>(std::chrono::steady_clock::now().time_since_epoch()).count(); }
+double seconds_now() {
+    return std::chrono::duration<double>(std::chrono::steady_clock::now().time_since_epoch()).count();
+}
 
 Launch::Launch(const Request &given)
-    : request(given), seed(settings().seed + given.number * 1000003ull), sites(given.program->sites.data()), has_names(given.kernel->has_names),
-      spans(spans_of(given.entries, addresses_of(given.entries), GLOBAL)), locals(lay_out_locals(given.entries, 0)), pipes(headers_of(given)), losses(given.program->sites.size()),
-      is_cut(given.kept, true), stack_bytes(PAGE + (RUNTIME_BYTES + given.program->frame_bytes + PAGE - 1) / PAGE * PAGE) {
+    : request(given), seed(settings().seed + given.number * 1000003ull), sites(given.program->sites.data()),
+      has_names(given.kernel->has_names), spans(spans_of(given.entries, addresses_of(given.entries), GLOBAL)),
+      locals(lay_out_locals(given.entries, 0)),
+      stored(given.kept ? words_of(spans) : 0), stored_in_locals(given.kept), pipes(headers_of(given)),
+      losses(given.program->sites.size()),
+      is_cut(given.kept, true),
+      stack_bytes(PAGE + (RUNTIME_BYTES + given.program->frame_bytes + PAGE - 1) / PAGE * PAGE) {
     uint32_t most = 0;
     for (const Site &site : given.program->sites) most = std::max(most, site.bytes);
     zeros.resize(most);
@@ -103,17 +109,11 @@ Launch::Launch(const Request &given)
         entry_spans.push_back(entry.space == GLOBAL && entry.address ? find_span(spans, entry.address, 1) : nullptr);
 }
 
-void Launch::fail(const std::string &error) {
-    const std::lock_guard<std::mutex> held(lock_);
-    error_ = error;
-    has_failed = true;
-    is_stopped = true;
-}
-
 // Groups begin in their order, since some kernels count on that; a seed has neighbours change places.
 uint64_t Launch::group_at(uint64_t number) const {
     if (!settings().is_seeded) return number;
-    const uint64_t block = number / SHUFFLED * SHUFFLED, count = std::min(SHUFFLED, request.range.group_count() - block);
+    const uint64_t block = number / SHUFFLED * SHUFFLED;
+    const uint64_t count = std::min(SHUFFLED, request.range.group_count() - block);
     Random random(seed + block);
     uint64_t step = 1 + random.below(uint32_t(count));
     while (std::gcd(step, count) != 1) step++;
@@ -135,7 +135,9 @@ void Launch::run_workers() {
     const Watched watched(*this);
     std::vector<std::thread> threads;
     workers[0]->run([&] {
-        for (unsigned at = 1; at < count; at++) threads.emplace_back([&, at] { workers[at]->run(); });
+        try {
+            for (unsigned at = 1; at < count; at++) threads.emplace_back([&, at] { workers[at]->run(); });
+        } catch (const std::exception &) {} // there is no memory for more of them
     });
     for (std::thread &thread : threads) thread.join();
 }
@@ -144,13 +146,13 @@ Result Launch::run() {
     Result result;
     if (request.kept > 0 && !begin_folder(*this, result.error)) return result;
     const double start = seconds_now();
-    result.has_run = true;
     run_workers();
+    result.has_run = !has_failed || next_group > 1;
     result.seconds = seconds_now() - start;
     result.records = records;
     result.is_stopped = is_stopped && !has_failed;
     result.is_timed_out = is_timed_out;
-    result.error = error_;
+    if (has_failed) result.error = "there is no memory for its work-items";
     write_prints();
     if (request.kept > 0) end_folder(*this, result.seconds);
     return result;

@@ -1,9 +1,9 @@
 // A launch of a kernel that runs on the host's threads, and is recorded meanwhile.
-#ifndef GPURACE_LAUNCH_H
-#define GPURACE_LAUNCH_H
+#pragma once
 
 #include "memory.h"
 #include "settings.h"
+#include "stored_values.h"
 #include "stream.h"
 
 #include <csignal>
@@ -14,14 +14,16 @@ struct Range {
     uint64_t global[3] = {1, 1, 1}, local[3] = {1, 1, 1}, groups[3] = {1, 1, 1}, offset[3] = {0, 0, 0};
     uint32_t dimensions = 1;
     uint64_t group_count() const { return groups[0] * groups[1] * groups[2]; }
-    uint64_t items_of_group() const { return local[0] * local[1] * local[2]; }
+    uint64_t items_of_group() const { return local[0] * local[1] * local[2]; } // at most
     uint64_t place_of(uint64_t group, int axis) const {
-        return axis == 0 ? group % groups[0] : axis == 1 ? group / groups[0] % groups[1] : group / groups[0] / groups[1];
+        const uint64_t row = group / groups[0];
+        return axis == 0 ? group % groups[0] : axis == 1 ? row % groups[1] : row / groups[1];
     }
     // The items of a group along an axis: a last group may be smaller.
     uint64_t size_of(uint64_t group, int axis) const {
         return std::min(local[axis], global[axis] - place_of(group, axis) * local[axis]);
     }
+    uint64_t items_of(uint64_t group) const { return size_of(group, 0) * size_of(group, 1) * size_of(group, 2); }
 };
 
 // What is to be run, and how it is to be recorded.
@@ -73,6 +75,8 @@ public:
     std::vector<const Span *> entry_spans;  // by entry; null for those of local memory, or of no bytes
     LocalLayout locals;
     ReleaseSequences sequences;
+    StoredValues stored;                    // in global memory
+    std::vector<std::string> stored_in_locals; // by group: the lines of what was stored there
     Places places;
     Pipes pipes;
     Losses losses;
@@ -88,22 +92,19 @@ public:
 
     // Ends the groups of all threads as cut, when these don't do it themselves.
     void abandon();
-    void fail(const std::string &error);
     // The `number`th group to begin.
     uint64_t group_at(uint64_t number) const;
 
 private:
     std::vector<class Worker *> workers_;
-    std::mutex lock_;
-    std::string error_;
 
     void run_workers();
 };
 
 double seconds_now();
 
-// The folder of a launch: the side files, the text of the kernel, and at last info.txt. A folder without info.txt is not whole;
-// begun.txt stands there while the launch runs. False where it can't be written; `error` then says why.
+// The folder of a launch: side files, the text of the kernel, and at last info.txt. A folder without info.txt is not
+// whole; begun.txt stands there while the launch runs. False where it can't be written; `error` then says why.
 bool begin_folder(Launch &launch, std::string &error);
 void end_folder(Launch &launch, double seconds);
 
@@ -111,8 +112,7 @@ void write_prints(); // what kernels have printed
 
 constexpr int TIMED_OUT = 124; // the status of a program that was ended since a kernel's time was over
 
-// While this lives the launch is ended by Ctrl-C and by its time, and what was recorded is written as cut. Afterwards Ctrl-C goes to
-// the program as it would have.
+// While this lives the launch is ended by Ctrl-C and by its time, and what was recorded is written as cut.
 class Watched {
 public:
     explicit Watched(Launch &launch);
@@ -124,4 +124,3 @@ private:
 };
 
 } // namespace gpurace
-#endif

@@ -24,7 +24,8 @@ std::vector<Span> spans_of(const std::vector<Entry> &entries, const std::vector<
         if (entry.space == space && entry.bytes > 0 && addresses[at])
             found.push_back({addresses[at], entry.bytes, 0, entry.grain, 2, entry.has_atomics, at, entry.name});
     }
-    std::stable_sort(found.begin(), found.end(), [](const Span &one, const Span &other) { return one.address < other.address; });
+    const auto is_before = [](const Span &one, const Span &other) { return one.address < other.address; };
+    std::stable_sort(found.begin(), found.end(), is_before);
     for (const Span &span : found) {
         if (!spans.empty() && span.address < spans.back().address + spans.back().bytes) join(spans.back(), span);
         else spans.push_back(span);

@@ -1,6 +1,5 @@
 // The buffers of a launch as spans of memory, and their words in the trace.
-#ifndef GPURACE_MEMORY_H
-#define GPURACE_MEMORY_H
+#pragma once
 
 #include "program.h"
 
@@ -23,9 +22,14 @@ struct Span {
     std::string traced_name() const { return name + (grain == 4 ? "" : grain == 2 ? ".half" : ".byte"); }
 };
 
-// The spans of the entries of one space, whose addresses stand beside them. Entries that overlap are one span. Spans never share a
-// word, and stand apart by some. Words are numbered in the order of the entries: where the driver has the memory changes from run to run.
+// The spans of the entries of one space; those that overlap are one. They never share a word, and stand apart by some.
+// Words are numbered in the order of the entries, since the driver has memory at other places from run to run.
 std::vector<Span> spans_of(const std::vector<Entry> &entries, const std::vector<uint64_t> &addresses, int space);
+
+// The numbers that their words have.
+inline uint64_t words_of(const std::vector<Span> &spans) {
+    return spans.empty() ? 0 : spans.back().first_word + spans.back().words();
+}
 
 // The span that has this access, or null.
 inline const Span *find_span(const std::vector<Span> &spans, uint64_t address, uint64_t bytes) {
@@ -34,8 +38,7 @@ inline const Span *find_span(const std::vector<Span> &spans, uint64_t address, u
     return nullptr;
 }
 
-// Where the group's local memory has each entry, if it begins at `start`: 0 for entries of global memory. Around them stands a gap, so
-// that an access that goes astray meets no other entry at once.
+// Where a group's local memory has each entry, from `start` on; 0 for global ones. Gaps catch accesses that go astray.
 constexpr uint64_t LOCAL_GAP = 128;
 struct LocalLayout {
     std::vector<uint64_t> addresses;
@@ -44,4 +47,3 @@ struct LocalLayout {
 LocalLayout lay_out_locals(const std::vector<Entry> &entries, uint64_t start);
 
 } // namespace gpurace
-#endif

@@ -23,7 +23,8 @@ bool read_sites(const std::string &path, Program &program) {
             kernel->kinds += kind;
         } else if (word == "entry" && kernel) {
             Entry entry;
-            words >> number >> entry.argument >> entry.space >> entry.bytes >> entry.grain >> entry.has_atomics >> entry.name;
+            words >> number >> entry.argument >> entry.space >> entry.bytes >> entry.grain >> entry.has_atomics;
+            words >> entry.name;
             program.has_variables = program.has_variables || (entry.argument < 0 && entry.space == GLOBAL);
             kernel->entries.push_back(entry);
         } else if (word == "site") {

@@ -1,6 +1,5 @@
 // An instrumented program: its code, its kernels, and what the numbers of its sites mean.
-#ifndef GPURACE_PROGRAM_H
-#define GPURACE_PROGRAM_H
+#pragma once
 
 #include "../sites.h"
 
@@ -30,7 +29,7 @@ struct Entry {
 
 struct Kernel {
     std::string name;
-    std::string kinds;          // of each argument: B buffer, C constant buffer, L local memory, I image, S sampler, V value
+    std::string kinds;          // a letter for each argument (instrument/rewriter.cpp)
     bool has_names = false;     // it has atomics that may acquire
     bool has_copies = false;    // it has asynchronous copies, which one more item of each group does
     std::vector<Entry> entries;
@@ -51,8 +50,7 @@ struct Program {
     bool has_variables = false;     // in global memory, so that each program needs code of its own
 };
 
-// The program that the instrumenting pass described in this file (instrument/rewriter.cpp); false where it can't be read.
+// The program that the instrumenting pass described in this file; false where it can't be read.
 bool read_sites(const std::string &path, Program &program);
 
 } // namespace gpurace
-#endif

@@ -4,9 +4,8 @@
 
 namespace gpurace {
 
-// A store leaves the sequences of its own item alone, a read-modify-write leaves all. Who acquires from a release has what that one
-// acquired, and what its item did before: such names would say nothing more, and are left out. A release that is not recorded
-// takes nobody's place.
+// A store leaves the sequences of its own item alone, a read-modify-write leaves all. Names that a later release
+// implies are left out: who acquires from that has what it acquired. One that is not recorded takes nobody's place.
 void ReleaseSequences::modify(Stripe &stripe, uint64_t address, const Name &own, bool is_store, int order) {
     const auto found = stripe.heads.find(address);
     if (found == stripe.heads.end() && !releases(order)) return;
@@ -15,7 +14,8 @@ void ReleaseSequences::modify(Stripe &stripe, uint64_t address, const Name &own,
     const auto is_over = [&](const Name &head) {
         const bool is_own = is_recorded && head.group == own.group && head.item == own.item;
         const bool is_inclusive = head.scope == own.scope && (own.scope == DEVICE_SCOPE || head.group == own.group);
-        const bool is_implied = is_recorded && releases(order) && is_inclusive && (is_own || (order == BOTH && head.group != NOT_RECORDED));
+        const bool is_known = is_own || (order == BOTH && head.group != NOT_RECORDED);
+        const bool is_implied = is_recorded && releases(order) && is_inclusive && is_known;
         const bool is_again = !is_recorded && head.group == NOT_RECORDED && releases(order);
         return (is_store && !is_own) || is_implied || is_again;
     };

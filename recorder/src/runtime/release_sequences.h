@@ -1,7 +1,6 @@
-// The releases to whose release sequences the value of each atomic word belongs: what an acquire of the word names. The change of a
-// value and that of its names are one step, under the lock of the word's stripe.
-#ifndef GPURACE_RELEASE_SEQUENCES_H
-#define GPURACE_RELEASE_SEQUENCES_H
+// The releases to whose release sequences the value of each atomic word belongs: what an acquire of the word names. The
+// change of a value and that of its names are one step, under the lock of the word's stripe.
+#pragma once
 
 #include <algorithm>
 #include <atomic>
@@ -9,6 +8,7 @@
 #include <memory>
 #include <mutex>
 #include <sched.h>
+#include <tuple>
 #include <unordered_map>
 #include <vector>
 
@@ -20,16 +20,13 @@ enum Scope : uint8_t { NO_SCOPE = 0, GROUP_SCOPE = 1, DEVICE_SCOPE };
 inline bool acquires(int order) { return order == ACQUIRE || order == BOTH; }
 inline bool releases(int order) { return order == RELEASE || order == BOTH; }
 
-// A release: the group, the item, and its number among the item's releases. A release of a group that is not recorded is known by
-// its group alone, and can't be named.
+// A release by its number among its item's. Of one whose group is not recorded no more than that is known.
 struct Name {
     uint32_t group, item, scope, number;
 
-    bool operator==(const Name &other) const { return group == other.group && item == other.item && number == other.number; }
-    bool operator<(const Name &other) const {
-        if (group != other.group) return group < other.group;
-        return item != other.item ? item < other.item : number < other.number;
-    }
+    auto key() const { return std::tuple(group, item, number); }
+    bool operator==(const Name &other) const { return key() == other.key(); }
+    bool operator<(const Name &other) const { return key() < other.key(); }
 };
 constexpr uint32_t NOT_RECORDED = UINT32_MAX;
 
@@ -50,9 +47,7 @@ class ReleaseSequences {
 public:
     static constexpr uint64_t LINE = 64; // the bytes that belong to one stripe together
 
-    Stripe &stripe_of(uint64_t address) {
-        return stripes_[((address / LINE) * 0x9e3779b97f4a7c15ull >> 40) % STRIPES];
-    }
+    Stripe &stripe_of(uint64_t address) { return stripes_[((address / LINE) * 0x9e3779b97f4a7c15ull >> 40) % STRIPES]; }
     // The names that the word's value has; the stripe is locked.
     static Names heads_of(const Stripe &stripe, uint64_t address) {
         const auto found = stripe.heads.find(address);
@@ -69,4 +64,3 @@ private:
 };
 
 } // namespace gpurace
-#endif

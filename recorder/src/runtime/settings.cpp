@@ -33,7 +33,8 @@ Settings::Settings() {
     unsigned long from = 0, number = 0;
     char rest = 0;
     if (groups.empty()) return;
-    if (std::sscanf(groups.c_str(), "%9lu:%9lu%c", &from, &number, &rest) != 2 || number == 0) refuse("GROUPS", "FIRST:COUNT, as 0:8");
+    if (std::sscanf(groups.c_str(), "%9lu:%9lu%c", &from, &number, &rest) != 2 || number == 0)
+        refuse("GROUPS", "FIRST:COUNT, as 0:8");
     first = from;
     count = std::min(count, uint64_t(number));
 }
@@ -47,10 +48,6 @@ bool is_judge_there() {
     static const int judge = int(syscall(SYS_pidfd_open, settings().judge, 0));
     pollfd ended{judge, POLLIN, 0};
     return judge >= 0 && poll(&ended, 1, 0) == 0;
-}
-
-void say(const std::string &text) {
-    if (!settings().is_quiet) std::fprintf(stderr, "gpurace-recorder: %s\n", text.c_str());
 }
 
 } // namespace gpurace

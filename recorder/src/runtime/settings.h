@@ -1,6 +1,5 @@
 // What the user has set, by variables of the environment (README.md has what each means).
-#ifndef GPURACE_SETTINGS_H
-#define GPURACE_SETTINGS_H
+#pragma once
 
 #include <cstdint>
 #include <random>
@@ -14,26 +13,25 @@ std::string setting(const char *name, const std::string &otherwise = "");
 uint64_t number_setting(const char *name, uint64_t otherwise = 0);
 
 struct Settings {
-    const std::string out = setting("OUT", "gpurace-out"), kernel = setting("KERNEL"), build_options = setting("BUILD_OPTIONS"),
-                      builtins = setting("BUILTINS", "/usr/share/pocl"), clang = setting("CLANG", "clang-15"),
-                      kept_builds = setting("KEPT_BUILDS");
+    const std::string out = setting("OUT", "gpurace-out"), kernel = setting("KERNEL"),
+                      build_options = setting("BUILD_OPTIONS"), kept_builds = setting("KEPT_BUILDS"),
+                      builtins = setting("BUILTINS", "/usr/share/pocl"), clang = setting("CLANG", "clang-15");
     const uint64_t launch = number_setting("LAUNCH", UINT64_MAX); // the one that is recorded, or all
     uint64_t first = 0, count = 64;                               // the groups that are recorded
-    const uint64_t most_items = number_setting("ITEMS", 256), most_records = number_setting("MOST_RECORDS", UINT64_MAX);
+    const uint64_t most_items = number_setting("MAX_GROUP_SIZE", 256);
+    const uint64_t most_records = number_setting("MOST_RECORDS", UINT64_MAX);
     const double timeout = double(number_setting("TIMEOUT"));
-    const bool is_quiet = setting("QUIET") == "1", writes_places = setting("PLACES", "1") == "1",
-               keeps_code = setting("KEEP_CODE") == "1", as_gpu = setting("AS_GPU") == "1", is_seeded = !setting("SEED").empty();
+    const bool writes_places = setting("PLACES", "1") == "1", keeps_code = setting("KEEP_CODE") == "1",
+               as_gpu = setting("AS_GPU") == "1", is_seeded = !setting("SEED").empty();
     const uint64_t seed = is_seeded ? number_setting("SEED") : std::random_device()();
-    const unsigned threads = is_seeded ? 1 : unsigned(number_setting("THREADS", std::max(1u, std::thread::hardware_concurrency())));
-    const int judge = int(number_setting("JUDGE")); // the process that judges and removes folders while the program runs
-    const uint64_t most_pending = judge ? number_setting("MOST_PENDING", 1 << 28) / 48 : UINT64_MAX; // records in files not judged yet
+    const unsigned processors = std::max(1u, std::thread::hardware_concurrency());
+    const unsigned threads = is_seeded ? 1 : unsigned(number_setting("THREADS", processors));
+    const int judge = int(number_setting("JUDGE")); // the process that judges and removes folders meanwhile
+    const uint64_t most_pending = judge ? number_setting("MOST_PENDING", 1 << 28) / 48 : UINT64_MAX; // records in files
 
     Settings();
 };
 const Settings &settings();
 bool is_judge_there(); // one that has ended is not, whoever has waited for it
 
-void say(const std::string &text); // unless it is to be quiet
-
 } // namespace gpurace
-#endif

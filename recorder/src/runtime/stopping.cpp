@@ -30,7 +30,7 @@ Watcher &watcher() {
     return made;
 }
 
-// The launch's threads do not come back from their kernel: they call the runtime no more, so that what they have can be written.
+// The launch's threads stay in their kernel and call the runtime no more, so that what they have can be written.
 void Watcher::write_and_end(Launch &stopped) {
     stopped.abandon();
     if (stopped.request.kept > 0) end_folder(stopped, 0);
@@ -71,16 +71,16 @@ Watched::Watched(Launch &launch) {
     was_interrupted = 0;
     sigaction(SIGINT, &interrupt, &before_);
     const std::lock_guard<std::mutex> held(own.lock);
-    if (!own.has_thread) {
-        own.has_thread = true;
-        pthread_atfork(nullptr, nullptr, [] { new (&watcher()) Watcher; }); // the thread is not there in a process that was forked
+    if (!own.has_thread) try {
+        pthread_atfork(nullptr, nullptr, [] { new (&watcher()) Watcher; }); // a forked process has no such thread
         std::thread([] {
             sigset_t all; // signals are the program's own threads'
             sigfillset(&all);
             pthread_sigmask(SIG_BLOCK, &all, nullptr);
             watcher().watch();
         }).detach();
-    }
+        own.has_thread = true;
+    } catch (const std::exception &) {} // without memory for it nobody watches
     own.launch = &launch;
     own.number++;
     own.end = settings().timeout > 0 ? seconds_now() + settings().timeout : 0;

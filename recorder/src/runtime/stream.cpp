@@ -63,6 +63,7 @@ std::string stream_header(uint32_t group, uint64_t items, uint32_t launch, bool 
 }
 
 void Pipes::open(const std::string &folder) {
+    if (are_open) return;
     const std::unique_lock<std::shared_mutex> held(lock);
     if (are_open.exchange(true)) return;
     for (size_t group = 0; group < states.size(); group++) {
@@ -165,8 +166,8 @@ void Stream::end_early() {
     std::memset(end, 0xff, sizeof end);
     std::memset(end, 0, 12);
     end[0] = END, end[1] = 1;
-    const uint64_t bytes = HEADER_BYTES + records * record_bytes_;
-    if (ftruncate(file_, off_t(bytes)) != 0 || pwrite(file_, end, record_bytes_, off_t(bytes - record_bytes_)) != ssize_t(record_bytes_)) records_ = 0;
+    const off_t bytes = off_t(HEADER_BYTES + records * record_bytes_), size = off_t(record_bytes_);
+    if (ftruncate(file_, bytes) != 0 || pwrite(file_, end, size_t(size), bytes - size) != size) records_ = 0;
 }
 
 } // namespace gpurace

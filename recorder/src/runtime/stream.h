@@ -1,6 +1,5 @@
 // The files that grow while a launch runs: a stream for each group, and `places` for all of them.
-#ifndef GPURACE_STREAM_H
-#define GPURACE_STREAM_H
+#pragma once
 
 #include "release_sequences.h"
 
@@ -14,9 +13,8 @@ constexpr uint32_t MOST_RECORDS = 16777216; // of a stream, its end included
 
 std::string stream_path(const std::string &folder, uint64_t group);
 
-// Where a launch has written as much into files as may stand there before it is judged, its streams go on through pipes, which the
-// judge reads meanwhile: NAME.pipe beside NAME, for each stream that has not ended. It begins when it sees the file piped.txt, and
-// wants the headers of all streams first: one that no group has begun has its header as a file.
+// Where the files of a launch are full, its streams go on through pipes, NAME.pipe beside NAME. The judge begins when
+// it sees piped.txt, and wants the headers of all streams first: that of a stream that is not begun is a file.
 struct Pipes {
     enum State : char { TO_BEGIN, BEGUN, ENDED };
     explicit Pipes(std::vector<std::string> headers) : states(headers.size(), TO_BEGIN), headers(std::move(headers)) {}
@@ -76,4 +74,3 @@ private:
 };
 
 } // namespace gpurace
-#endif

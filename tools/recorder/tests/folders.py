@@ -87,6 +87,34 @@ race on output[0]
         tile[l] = input[l];
     the two are one place of the source: let one work-item do it, use an atomic, or, in a loop, a barrier with CLK_GLOBAL_MEM_FENCE
 """),
+    # both words of the output got one value, and so did the word of group 0's tile, but not that of group 1's
+    "equal values": Case(
+        ["group 0 items 2 launch 7\n0 w g 128\n1 w g 128\n0 w g 129\n1 w g 129\n0 w l 64\n1 w l 64\nend\n",
+         "group 1 items 2 launch 7\n0 w l 64\n1 w l 64\nend\n"],
+        {"buffers": BUFFERS, "equal": "g 127 130\nl 0 64 64\n"}, 1, """\
+race on output[0..1] (2 words); on output[0]:
+    unknown: write by group 0, item 0
+    unknown: write by group 0, item 1
+    no barrier stands between the two; one with CLK_GLOBAL_MEM_FENCE would order them
+    all stores to each of them write the same value
+race on tile[0] of 2 groups (2 words); on tile[0] of group 0:
+    unknown: write by group 0, item 0
+    unknown: write by group 0, item 1
+    no barrier stands between the two; one with CLK_LOCAL_MEM_FENCE would order them
+"""),
+    "one equal value": Case(
+        ["group 0 items 2 launch 7\n0 w g 0\n1 w g 0\n0 w g 2\n1 r g 2\nend\n"],
+        {"buffers": BUFFERS, "equal": "g 0 0\ng 2 2\n"}, 1, """\
+race on input[0]
+    unknown: write by group 0, item 0
+    unknown: write by group 0, item 1
+    no barrier stands between the two; one with CLK_GLOBAL_MEM_FENCE would order them
+    all stores to it write the same value
+race on input[2]
+    unknown: write by group 0, item 0
+    unknown: read by group 0, item 1
+    no barrier stands between the two; one with CLK_GLOBAL_MEM_FENCE would order them
+"""),
     # words of a buffer and of none, with one place of two, are of one kind, and two accesses are shown for each; both accesses to output[0]
     # have a place, so it is of another
     "two groups": Case(

@@ -1,18 +1,12 @@
-"""Recorded launches: what their folders say, what gpurace finds in them, and what becomes of those whose program died."""
-import atexit
+"""Recorded launches: what their folders say, and what gpurace finds in them."""
 import collections
 import glob
 import os
-import struct
 import subprocess
-import sys
 
-sys.path.insert(0, os.path.join(os.path.dirname(os.path.realpath(__file__)), "..", "tools", "recorder"))
-from findings import findings, source_line  # noqa: E402
+from findings import findings, source_line
 
 FOUND, INCOMPLETE = 1, 2
-HEADER = struct.Struct("<4sHHI")
-RECORD_BYTES = {b"GRT1": 20, b"GRT2": 44}
 SMALL = 1 << 22  # bytes of streams that are given to gpurace in one piece
 MOST_PLACES = 3  # of one kind that are told
 
@@ -68,8 +62,7 @@ class Launch:
 
     def read_pipes(self, program, piped):
         """As `replayed`, of a launch that was judged while it was recorded. What is found is told by what stands in files."""
-        status, report = piped.finish()
-        end_files(self.folder, self.info)
+        status, report = piped.finish(self.info)
         if status == 0:
             return status, report, []
         in_files = replayed(program, self.folder)
@@ -88,37 +81,6 @@ class Launch:
         first = told_of.setdefault((self.kernel, *self.told), self.number)
         for line in self.told if first == self.number else [f"the same as in launch {first}"] if self.told else []:
             yield f"    {line}"
-
-
-class Piped:
-    """gpurace reads the streams of a launch while it is recorded: of each group its file, and then what comes through its pipe."""
-
-    def __init__(self, program, folder):
-        self.folder, streams = folder, streams_of(folder)
-        streams += [pipe[:-5] for pipe in self.pipes() if pipe[:-5] not in streams]
-        reads = [subprocess.Popen(["cat", *filter(os.path.exists, (stream, stream + ".pipe"))], stdout=subprocess.PIPE,
-                                  stderr=subprocess.DEVNULL, start_new_session=True) for stream in streams]  # Ctrl-C is not theirs
-        files = [read.stdout.fileno() for read in reads]
-        words = [program, "run", "--capacity", "65536", "--queues", "4", *(f"/dev/fd/{file}" for file in files)]
-        self.run = subprocess.Popen(words, pass_fds=files, stdout=subprocess.PIPE, stderr=subprocess.DEVNULL, start_new_session=True)
-        self.reads = reads
-        atexit.register(lambda: [process.kill() for process in (self.run, *reads)])
-        for read in reads:
-            read.stdout.close()
-
-    def pipes(self):
-        return sorted(glob.glob(os.path.join(glob.escape(self.folder), "*.pipe")))
-
-    def finish(self):
-        """The launch is over: the status and the lines of its report. Pipes that nobody has written to end, too."""
-        for pipe in self.pipes():
-            file = os.open(pipe, os.O_RDWR | os.O_NONBLOCK)  # who waits for a writer has had one
-            os.unlink(pipe)
-            os.close(file)
-        report = self.run.communicate()[0].decode().splitlines()
-        for read in self.reads:
-            read.wait()
-        return self.run.returncode, report
 
 
 def replayed(program, folder):
@@ -167,61 +129,15 @@ def losses(info):
         yield f"the report is of groups {first} to {first + number - 1} of {info['groups'][0]} (as 0 to {number - 1})"
 
 
-def end_streams(folder):
-    """Makes a launch whole whose program died: its streams end as cut behind their last whole record. False where that can't be done."""
-    begun = info_of(folder, "begun.txt")
-    if not begun["kernel"]:
-        return False
-    try:
-        kept, items, records = end_files(folder, begun)
-        end_lines(os.path.join(folder, "places"))
-        with open(os.path.join(folder, "begun.txt")) as text:
-            lines = text.read()
-        with open(os.path.join(folder, "info.txt"), "w") as out:
-            out.write(lines + f"items {kept * items}\nrecords {records}\n" + "".join(f"cut {group}\n" for group in range(kept)))
-    except OSError as error:
-        print(f"gpurace-record: {folder}: {error.strerror}", file=sys.stderr)
-        return False
-    os.remove(os.path.join(folder, "begun.txt"))
-    return True
-
-
-def end_files(folder, info):
-    """Ends the streams that have no end; answers how many groups and items of each there are, and how many records."""
-    groups = int(info["groups"][0])
-    kept = int(info["window"][0].split()[1]) if info["window"] else groups
-    x, y, z = map(int, info["local"][0].split())
-    items, launch = x * y * z + (1 if info["copying-item"] else 0), int(info["launch"][0])
-    return kept, items, sum(end_stream(os.path.join(folder, f"group{group:02}.gpurace"), group, items, launch) for group in range(kept))
-
-
-def end_stream(path, group, items, launch):
-    """Ends a stream that has no end, and answers how many records it has."""
-    with open(path, "r+b" if os.path.exists(path) else "w+b") as stream:
-        head = stream.read(HEADER.size)
-        if len(head) < HEADER.size or head[:4] not in RECORD_BYTES:
-            head = HEADER.pack(b"GRT1", group, items, launch)
-            stream.truncate(0)
-            stream.seek(0)
-            stream.write(head)
-        size = RECORD_BYTES[head[:4]]
-        records = (stream.seek(0, os.SEEK_END) - HEADER.size) // size
-        if records:
-            stream.seek(HEADER.size + (records - 1) * size)
-            if stream.read(1) == b"\6":
-                return records
-        stream.truncate(HEADER.size + records * size)
-        stream.seek(0, os.SEEK_END)
-        stream.write(bytes([6, 1]) + bytes(10) + b"\xff" * (size - 12))
-        return records + 1
-
-
-def end_lines(path):
-    """Cuts a file of lines behind its last whole one."""
-    if not os.path.exists(path):
-        return
-    with open(path, "r+b") as lines:
-        size = lines.seek(0, os.SEEK_END)
-        lines.seek(max(0, size - 65536))
-        last = lines.read().rfind(b"\n")
-        lines.truncate(max(0, size - 65536) + last + 1)
+def unrecorded(folder):
+    """The launches that the driver ran, as lines by their reason, and how many they are."""
+    kernels = {}
+    path = os.path.join(folder, "not-recorded.txt")
+    with open(path, errors="replace") if os.path.exists(path) else open(os.devnull) as lines:
+        for line in lines:
+            _, kernel, reason = line.rstrip("\n").split("\t", 2)
+            kernels.setdefault(reason, []).append(kernel)
+    for reason, names in kernels.items():
+        told = sorted(set(names))
+        more = f" and {len(told) - 3} more" if len(told) > 3 else ""
+        yield len(names), f"{count(len(names), 'launch')} of {', '.join(told[:3])}{more} not recorded: {reason}"
