@@ -19,7 +19,8 @@ use Rattle.gr_record.specs.declared.fault.Fault.TheVariants.{Write, Memory}
 use Rattle.gr_replay.specs.Replays.{IsExactOfEach, IsReplayFault}
 use Rattle.gr_report.specs.FaultText.{fault_line}
 use Rattle.gr_report.specs.Putting.{AppendsPrefix}
-use Rattle.gr_streams.specs.Streams.{IsRunFault}
+use Rattle.gr_report.specs.ReportText.{report_text}
+use Rattle.gr_streams.specs.Streams.{IsRunFault, WritesPrefixOfEach}
 use Rattle.gr_text.specs.Texts.{packed}
 use Rattle.gr_text.specs.Dumps.{dumped, upgraded}
 use Rattle.gr_text.specs.Partial.{text_before_fault}
@@ -122,6 +123,11 @@ run_fault inputs f (inr writing) = subst (IsRunFault inputs) (sym writing) (inr 
 pub of_report : (json : Bool) (known : Option (List (List ℕ))) (old new : Option (List ℕ)) (r : WholeReport) → IfSome known (λ inputs. IsExactOfEach inputs r) → WritesReportPrefix json r old new → IfSome known (λ inputs. (s : WholeReport) × IsExactOfEach inputs s × WritesReportPrefix json s old new)
 of_report json None old new r exact prefix = tt
 of_report json (Some inputs) old new r exact prefix = (r, exact, prefix)
+
+-- so does a prefix of the text of a report of the inputs
+pub of_each : (known : Option (List (List ℕ))) (old new : Option (List ℕ)) → IfSome known (λ inputs. WritesPrefixOfEach inputs old new) → IfSome known (λ inputs. (r : WholeReport) × IsExactOfEach inputs r × WritesReportPrefix false r old new)
+of_each None old new none = tt
+of_each (Some inputs) old new (r, exact, prefix) = (r, exact, report_text r, refl, prefix)
 
 -- ---- words that are not taken
 
