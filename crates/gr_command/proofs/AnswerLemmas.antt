@@ -127,7 +127,7 @@ of_report json (Some inputs) old new r exact prefix = (r, exact, prefix)
 -- so does a prefix of the text of a report of the inputs
 pub of_each : (known : Option (List (List ℕ))) (old new : Option (List ℕ)) → IfSome known (λ inputs. WritesPrefixOfEach inputs old new) → IfSome known (λ inputs. (r : WholeReport) × IsExactOfEach inputs r × WritesReportPrefix false r old new)
 of_each None old new none = tt
-of_each (Some inputs) old new (r, exact, prefix) = (r, exact, report_text r, refl, prefix)
+of_each (Some inputs) old new (r, exact, prefix) = (r, exact, (report_text r, refl, prefix))
 
 -- ---- words that are not taken
 
