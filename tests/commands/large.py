@@ -1,5 +1,6 @@
 """Large launches by the commands that tell of them: what each writes is known from how the launch was made."""
 
+import itertools
 import json
 
 from testing.program import END, ProgramTest, access, header, pack
@@ -87,7 +88,7 @@ def launch_of_40_kinds(pairs):
 
 
 def line_of_json(**keys):
-    return json.dumps({"gpurace": 1, **dict(sorted(keys.items()))}, separators=(",", ":")) + "\n"
+    return '{"gpurace":1,' + json.dumps(keys, separators=(",", ":"), sort_keys=True)[1:] + "\n"
 
 
 class Races(ProgramTest):
@@ -142,7 +143,7 @@ class SideFiles(ProgramTest):
 
     def test_races_by_side_files_of_5_MB(self):
         wanted = b"kind global write read one group words 1\nwords global 16\nrace global 16: 0 0 0 with 0 1 0\n"
-        wanted += b"buffer flags[4]\nsecond kernel.cl:9:3\nend kinds 1 races 1\n"
+        wanted += b"buffer flags[4]\nsecond kernel.cl:9:3\nend kinds 1 races 1 diverge 0 unmatched 0 held 0\n"
         self.assert_run(self.gpurace("races", "--places", "places", "--buffers", "buffers", "race"), wanted, 1)
 
     def test_history_by_side_files_of_5_MB(self):
@@ -183,7 +184,7 @@ class Groups(ProgramTest):
         self.assertEqual(lines[:2], ["kind global rmw rmw two groups words 1", "words global 16"])
         self.assertRegex(lines[2], "^race global 16: ")
         self.assertEqual(lines[3:6], ["buffer flags[4]", "first scan.cl:0", "second scan.cl:0"])
-        self.assertEqual((lines[-1], ran.returncode, ran.stderr), ("end kinds 2 races 12801", 1, b""))
+        self.assertEqual((lines[-1], ran.returncode, ran.stderr), ("end kinds 2 races 12801 diverge 0 unmatched 0 held 0", 1, b""))
 
     def put_reads(self):
         """Item 0 of each group reads as many words as the group's number says."""
@@ -220,11 +221,17 @@ class Groups(ProgramTest):
         self.assert_run(self.gpurace("races", *names), b"", 2, b"gpurace: group 40 missing\n")
 
 
+def named(before, names, count):
+    """So many events, of which the first eight are named."""
+    return f"{before} {', '.join(names[:8])}" + (f" and {count - 8} more" if count > 8 else "")
+
+
 class Histories(ProgramTest):
     """Histories of a word whose accesses nothing orders but that some are of one item."""
 
     def assert_history(self, files, kind, record_of, count, end, status):
-        """Each access is behind just those of its item that stand above it. `record_of` has the number of an access's record."""
+        """Each access is behind just those of its item that stand above it, and races with the others where these are writes.
+        `record_of` has the number of an access's record."""
         ran = self.gpurace("history", "g", "16", *files)
         *lines, last = ran.stdout.decode().splitlines()
         self.assertEqual((len(lines), last, ran.returncode, ran.stderr), (count, end, status, b""))
@@ -233,9 +240,13 @@ class Histories(ProgramTest):
             group, item, index = (int(it) for it in line.split()[1:4])
             names = above.setdefault((group, item), [])
             self.assertEqual(index, len(names))
-            behind = "none" if not names else "all" if len(names) == number else ", ".join(names)
+            of_others = (it for key, its in above.items() if key != (group, item) for it in its)
+            others, unordered = list(itertools.islice(of_others, 8)), number - len(names)
+            races = named(" races with", others, unordered) if unordered and kind == "write" else ""
+            all_but = named(" but", others, unordered) if unordered and not races else ""
+            behind = f" behind all{' others' if races else ''}{all_but}" if names else " behind none"
             record = record_of(item, index)
-            self.assertEqual(line, f"access {group} {item} {index} {kind} record {record} phase 0 behind {behind}")
+            self.assertEqual(line, f"access {group} {item} {index} {kind} record {record} phase 0{races}{behind}")
             names.append(f"{group} {item} {index}")
 
     def test_2000_writes_of_two_items(self):
