@@ -2,6 +2,7 @@
 
 import json
 import os
+import re
 import shutil
 import subprocess
 
@@ -27,6 +28,18 @@ WORDS = ("--help", "help run", "--version", "--quiet", "explain l64 16 race", "r
 MOST = 5_000
 
 
+# how an access of a history stands to those above it, in a line of text and in one of JSON
+STANDING = re.compile(rb"( races with .*?)? behind (none|all( others)?( but .*?)?)(?= at |$)")
+STANDING_KEYS = ("behind", "races_with", "unordered_with")
+
+
+def without_standing(line):
+    """A line of a history, whatever stands above it."""
+    if not line.startswith(b"{"):
+        return STANDING.sub(b"", line)
+    return json.dumps({key: value for key, value in json.loads(line).items() if key not in STANDING_KEYS}).encode()
+
+
 class Growths(ProgramTest):
     def setUp(self):
         super().setUp()
@@ -48,8 +61,8 @@ class Growths(ProgramTest):
 
     def assert_told(self, words, given=b""):
         """Each such run has the answer, or says that memory ran out, or that a thread can't be started, and writes nothing. A
-        history may then be in another lawful order."""
-        lines = (lambda it: sorted(it.stdout.splitlines())) if words[0] == "history" else (lambda it: it.stdout.splitlines())
+        history may then be in another lawful order, in which other accesses stand above each."""
+        lines = (lambda it: sorted(map(without_standing, it.stdout.splitlines()))) if words[0] == "history" else (lambda it: it.stdout.splitlines())
         answer = self.gpurace(*words, given=given)
         for number in range(1, MOST):
             ran, is_refused = self.with_refused(words, given, number)
