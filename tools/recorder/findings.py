@@ -5,6 +5,7 @@ these stand, is what `gpurace races` says; of further words of a kind of races, 
 are of other buffers or other places of the source are shown. Of the streams only barriers and shown accesses are read.
 """
 import collections
+import json
 import os
 import re
 import struct
@@ -17,7 +18,6 @@ SCOPES = ["", "work-group scope", "device scope"]
 ORDERS = ["", "relaxed", "acquire", "release", "acquire and release"]
 CAUSES = {"missing": "some work-items never reach it", "site": "the work-items are at different barriers",
           "flags": "the work-items give different flags"}
-RUN = re.compile(r"(?:global|local (\d+)) (\d+)(?:\.\.(\d+))?")
 BUFFER = re.compile(r"(?:g|l (\d+)) (\d+) (\d+) (.+)")
 MOST_SHOWN = 20      # kinds of races
 MOST_RUNS = 5        # of words of a buffer
@@ -62,25 +62,32 @@ def races_of(program, folder, streams):
     for name in ("places", "buffers"):
         if os.path.exists(os.path.join(folder, name)):
             words += ["--" + name, os.path.join(folder, name)]
-    ran = subprocess.run(words + [os.path.join(folder, name) for name in streams], capture_output=True)
-    if ran.returncode != 1:
+    words += [os.path.join(folder, name) for name in streams]
+    ran, as_json = subprocess.run(words, capture_output=True), subprocess.run([*words, "--json"], capture_output=True)
+    if (ran.returncode, as_json.returncode) != (1, 1):
         return [], ["the races could not be told: " + ran.stderr.decode(errors="replace").strip()]
-    kinds = []
+    kinds, objects = [], map(json.loads, as_json.stdout.decode(errors="replace").splitlines())
+    all_runs = [[run_of(run) for run in it["runs"]] for it in objects if it["type"] == "kind"]
     for line in ran.stdout.decode(errors="replace").rstrip("\n").split("\n"):
         key, _, rest = line.partition(" ")
         if key == "kind":
             kinds.append({})
+        elif key == "diverge":
+            continue
         elif key == "end":
             more = int(rest.split()[1]) - len(kinds)
             break
         kinds[-1][key] = rest
-    return [race_of(said) for said in kinds], [f"and {more} more kinds of races"] if more else []
+    return [race_of(*kind) for kind in zip(kinds, all_runs)], [f"and {more} more kinds of races"] if more else []
 
 
-def race_of(said):
-    """A kind of races, of what stands in its lines behind their first words."""
-    runs = [Run(group and int(group), int(first), int(last or first)) for group, first, last in
-            (run.groups() for run in RUN.finditer(said["words"]))]
+def run_of(run):
+    """A run of words, of its object in JSON."""
+    return Run(run["first"].get("group"), run["first"]["number"], run["last"])
+
+
+def race_of(said, runs):
+    """A kind of races, of what stands in its lines behind their first words, and of the runs of its words."""
     return Race(said["kind"].split()[0], int(said["kind"].split()[-1]), runs, *pair_of(said["race"]), said)
 
 
