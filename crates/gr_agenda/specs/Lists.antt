@@ -34,8 +34,8 @@ KeepsSteps old new = (r : Ready) → Has old r → Has new r
 
 -- the place of a step's mark
 abbrev pub IsPlace : Ready → ℕ → Type 0
-IsPlace (Item i) p = (i.item < 256) × (p ≡ i.group * 257 + 1 + i.item)
-IsPlace (Group g) p = p ≡ g * 257
+IsPlace (Item i) p = (i.item < 1024) × (p ≡ i.group * 1025 + 1 + i.item)
+IsPlace (Group g) p = p ≡ g * 1025
 
 -- a step that is marked stands in the list
 abbrev pub AreMarked : List Bool → List Ready → Type 0
@@ -45,7 +45,7 @@ AreMarked marks steps = (r : Ready) (p : ℕ) → IsPlace r p → slice_get mark
 
 -- the list for those that wait for the release of this name; others may share it
 abbrev pub bucket_of : Name → ℕ
-bucket_of n = (n.at.group * 256 + n.at.item + n.release * 257) % 2048
+bucket_of n = (n.at.group + n.at.item * 67 + n.release * 257) % 2048
 
 -- an item stands in the list of those that wait for the release of this name
 abbrev pub IsWaiting : {Z : Type 0} → List (Vec ItemId Z) → Name → ItemId → Type 0

@@ -35,9 +35,6 @@ use gr_order::steps::Ready;
 use std::alloc::{Allocator, Global};
 use std::marker::Model;
 
-/// How many groups there may be.
-const GROUPS: usize = 64;
-
 /// An order of events with the list of the steps that may have become ready. Contracts see the lists and the order.
 #[derive(Drop)]
 #[derive_where(Debug)]
@@ -89,8 +86,7 @@ fn no_lists<A: Allocator + Copy>(alloc: A) -> Result<Vec<Vec<ItemId, A>, A>, Mem
 fn no_instances<A: Allocator + Copy>(alloc: A) -> Result<Vec<Option<u32>, A>, Memory>
     ensures { IfOk result (λ v. (s : Streams) → AreUndiverged s v.items) }
 {
-    let mut undiverged = Vec::with_capacity(alloc, GROUPS)?;
-    undiverged.resize(GROUPS, None)?;
+    let undiverged = Vec::new(alloc);
     Ok(undiverged)
 }
 
@@ -251,6 +247,9 @@ fn tell_undiverged<A: Allocator>(undiverged: &mut Vec<Option<u32>, A>, group: u1
     ensures { IsTold undiverged.old.items group instance undiverged.new.items }
 {
     let place = usize::from(group);
+    if place >= undiverged.len() {
+        let _ = undiverged.resize(place + 1, None);
+    }
     if place < undiverged.len() {
         undiverged[place] = Some(instance);
     }

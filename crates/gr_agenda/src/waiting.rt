@@ -19,7 +19,7 @@ pub(crate) const LISTS: usize = 2048;
 fn bucket_of(named: Name) -> usize
     ensures { result ≡ bucket_of named }
 {
-    let item = usize::from(named.at.group) * 256 + usize::from(named.at.item);
+    let item = usize::from(named.at.group) + usize::from(named.at.item) * 67;
     (item + named.release as usize * 257) % LISTS
 }
 

@@ -11,8 +11,6 @@ use gr_order::steps::Ready;
 use std::alloc::{Allocator, Global};
 use std::marker::Model;
 
-/// How many places there are for marks: for each group one of its own and one for each item that it may have.
-const PLACES: usize = 64 * 257;
 
 /// The steps that may have become ready, and whether memory was too short for one of them.
 #[derive(Drop)]
@@ -38,10 +36,10 @@ fn place_of(step: Ready) -> Option<usize>
     ensures { MatchOption result ((p : ℕ) → ¬ IsPlace step p) (λ p. IsPlace step p) }
 {
     match step {
-        Ready::Group(group) => Some(usize::from(group) * 257),
+        Ready::Group(group) => Some(usize::from(group) * 1_025),
         Ready::Item(at) => {
-            if at.item < 256 {
-                Some(usize::from(at.group) * 257 + 1 + usize::from(at.item))
+            if at.item < 1_024 {
+                Some(usize::from(at.group) * 1_025 + 1 + usize::from(at.item))
             } else {
                 None
             }
@@ -62,13 +60,26 @@ fn is_marked(marks: &[bool], step: Ready) -> bool
     }
 }
 
-/// Marks a step, if there is a place for its mark.
+/// Makes places for marks until there are so many, as far as memory suffices.
+fn reach<A: Allocator>(marks: &mut Vec<bool, A>, count: usize)
+    ensures { (p : ℕ) → slice_get marks.new.items p ≡ Some true → slice_get marks.old.items p ≡ Some true }
+{
+    while marks.len() < count {
+        match marks.push(false) {
+            Ok(()) => {}
+            Err(_) => return,
+        }
+    }
+}
+
+/// Marks a step, if there is a place for its mark, or memory for one.
 fn mark<A: Allocator>(marks: &mut Vec<bool, A>, step: Ready)
     ensures { (p : ℕ) → slice_get marks.new.items p ≡ Some true → IsPlace step p ⊎ (slice_get marks.old.items p ≡ Some true) }
 {
     match place_of(step) {
         None => {}
         Some(place) => {
+            reach(marks, place + 1);
             if place < marks.len() {
                 marks[place] = true;
             }
@@ -94,8 +105,7 @@ fn unmark<A: Allocator>(marks: &mut Vec<bool, A>, step: Ready)
 impl<A: Allocator + Copy> Worklist<A> {
     /// The empty list.
     pub(crate) fn new(alloc: A) -> Result<Worklist<A>, Memory> {
-        let mut marks = Vec::with_capacity(alloc, PLACES)?;
-        marks.resize(PLACES, false)?;
+        let marks = Vec::new(alloc);
         Ok(Worklist {
             steps: Vec::new(alloc),
             marks,

@@ -22,6 +22,7 @@ use Rattle.gr_shadow.specs.StandsFor.{StandsFor}
 use Rattle.gr_model.proofs.PutLemmas.{all_put, length_put, put_other, put_same, sum_put}
 use Rattle.gr_hits.specs.Accesses.AreAccesses.{of_none}
 use Rattle.gr_lanes.specs.Takes.{CanTake, nothing_taken, with_record}
+use Rattle.gr_record.proofs.Places.{header_group, header_items}
 use Rattle.gr_record.specs.declared.error.RecordError.TheVariants.{Truncated}
 use Rattle.gr_record.specs.declared.fault.Fault.TheVariants as faults
 use Rattle.gr_record.specs.declared.header.Header.{Header}
@@ -117,13 +118,13 @@ module _ (s : Streams) (cs : List Coming) (h : Header) (groups : AreGroupsOf s.s
 
   pub can_begin : IsPartOfShape s.sizes → CanAdd s h.group h.items
   can_begin part = record {
-    group = is.group;
+    group = header_group h is;
     none = none_there;
-    size = (is.some, is.items);
+    size = (is.some, header_items h is);
     total =
         let sizes = put 0 s.sizes h.group h.items in
-        let bound = sum_bound sizes (all_put (λ n. n ≤ MOST_ITEMS_OF_A_GROUP) s.sizes h.group h.items (omega arith) is.items part.each) in
-        omega (arith, bound, sum_put s.sizes h.group h.items none_there, length_put 0 s.sizes h.group h.items, part.groups, is.group);
+        let bound = sum_bound sizes (all_put (λ n. n ≤ MOST_ITEMS_OF_A_GROUP) s.sizes h.group h.items (omega arith) (header_items h is) part.each) in
+        omega (arith, bound, sum_put s.sizes h.group h.items none_there, length_put 0 s.sizes h.group h.items, part.groups, header_group h is);
   }
 
   pub groups_begin : AreGroupsOf (with_group s h.group h.items).sizes (headers_of cs ++ h ∷ [])

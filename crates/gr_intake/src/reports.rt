@@ -53,7 +53,7 @@ pub fn report_of<A: Allocator + Copy>(
         cut: Rows::of(cut),
         held: sequencer.held(),
         groups: shape.groups(),
-        items: shape.total() as u16,
+        items: shape.total(),
         records: records_of(sequencer, shape.groups()),
     })
 }

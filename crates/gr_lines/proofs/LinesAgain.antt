@@ -14,9 +14,10 @@ use Rattle.gr_model.specs.Access.{is_acquire_kind}
 use Rattle.gr_model.specs.Events.{IsNamingOk, IsKindOk, end_of}
 use Rattle.gr_record.specs.declared.header.Header.{Header}
 use Rattle.gr_record.specs.declared.header.Version.{Version}
-use Rattle.gr_record.specs.declared.header.Version.TheVariants.{One, Two}
+use Rattle.gr_record.specs.declared.header.Version.TheVariants.{One, Two, Three}
 use Rattle.gr_model.specs.NameLists.{IsNameInRange}
 use Rattle.gr_lines.specs.declared.line.Line.TheVariants as lines
+use Rattle.gr_record.specs.Versions.{most_groups, most_items}
 use Rattle.gr_record.specs.Reading.{is_order_ok}
 use Rattle.gr_record.specs.Spelling.{IsHeader}
 use Rattle.gr_lines.specs.LineText.{space_word, scope_word, order_word, flags_word, version_words, name_words, names_words, later_text, line_text}
@@ -24,18 +25,25 @@ use Rattle.gr_lines.specs.LineReading.{same, IsWord, first_of, header_said, vers
 use Rattle.gr_lines.specs.LineLaws.{TextIsRead}
 use Rattle.gr_lines.proofs.LineNumbers.{same_self, number_back}
 use Rattle.gr_lines.proofs.LineWords.{decimal_word, no_key, key_word, space_is_word, scope_is_word, order_is_word, flags_are_word, space_again, scope_again, order_again, flags_again, short_again, first_of_more, first_of_last}
-use Rattle.gr_record.proofs.Places.{naming_back, few_names, each_in_range}
+use Rattle.gr_record.proofs.Places.{header_group, header_items, naming_back, few_names, each_in_range}
+
+third_not_second : same (codes "v3") (codes "v2") ≡ false
+unfolding same
+third_not_second = refl
 
 version_again : (v : Version) (word : List ℕ) → IsWord word → ((first_of (word ++ later_text (version_words v))).0 ≡ word) × (version_said (first_of (word ++ later_text (version_words v))).1 ≡ Some v)
 version_again One word is = let w = first_of_last word is in rw w (refl, refl)
 version_again Two word is = let w = first_of_more word (codes "v2") [] is in rw (w, same_self (codes "v2")) (refl, refl)
+version_again Three word is = let w = first_of_more word (codes "v3") [] is in rw (w, third_not_second, same_self (codes "v3")) (refl, refl)
 
 header_again : (h : Header) → IsHeader h → line_said (line_text (lines.Header h)) ≡ Some (lines.Header h)
 unfolding line_said header_said
 header_again h ok =
-    let group : h.group < 64 = ok.group in
+    let few : h.group < 65535 = header_group h ok in
+    let group : h.group < most_groups h.version = ok.group in
     let some : 1 ≤ h.items = ok.some in
-    let items : h.items ≤ 256 = ok.items in
+    let small : h.items ≤ 1024 = header_items h ok in
+    let items : h.items ≤ most_items h.version = ok.items in
     let launch : h.launch < 2 ^ 32 = ok.launch in
     let end : List (List ℕ) = version_words h.version in
     let w0 = first_of_more (codes "group") (decimal h.group) (codes "items" ∷ decimal h.items ∷ codes "launch" ∷ decimal h.launch ∷ end) (key_word (codes "group") refl) in
@@ -44,7 +52,7 @@ header_again h ok =
     let w3 = first_of_more (decimal h.items) (codes "launch") (decimal h.launch ∷ end) (decimal_word h.items (omega arith)) in
     let w4 = first_of_more (codes "launch") (decimal h.launch) end (key_word (codes "launch") refl) in
     let w5 = version_again h.version (decimal h.launch) (decimal_word h.launch launch) in
-    rw (w0, same_self (codes "group"), w1, w2, w3, w4, w5.1, w5.0, same_self (codes "items"), same_self (codes "launch"), short_again h.group (omega arith), short_again h.items (omega arith), number_back h.launch launch, lt-ltb h.group 64 group, le-leb 1 h.items some, le-leb h.items 256 items) refl
+    rw (w0, same_self (codes "group"), w1, w2, w3, w4, w5.1, w5.0, same_self (codes "items"), same_self (codes "launch"), short_again h.group (omega arith), short_again h.items (omega arith), number_back h.launch launch, lt-ltb h.group (most_groups h.version) group, le-leb 1 h.items some, le-leb h.items (most_items h.version) items) refl
 
 -- what stands behind a word, where other words follow
 abbrev tail_text : List (List ℕ) → Option (List ℕ)
@@ -55,7 +63,7 @@ word_before : (word : List ℕ) (ws : List (List ℕ)) → IsWord word → first
 word_before word [] is = first_of_last word is
 word_before word (w ∷ ws) is = first_of_more word w ws is
 
-name_again : (n : Name) (ws : List (List ℕ)) → n.at.group < 64 → n.at.item < 256 → n.release < 2 ^ 32 → name_said (codes "<" ++ later_text (decimal n.at.group ∷ decimal n.at.item ∷ decimal n.release ∷ ws)) ≡ Some (n, tail_text ws)
+name_again : (n : Name) (ws : List (List ℕ)) → n.at.group < 65535 → n.at.item < 1024 → n.release < 2 ^ 32 → name_said (codes "<" ++ later_text (decimal n.at.group ∷ decimal n.at.item ∷ decimal n.release ∷ ws)) ≡ Some (n, tail_text ws)
 unfolding name_said
 name_again n ws group item release =
     let w0 = first_of_more (codes "<") (decimal n.at.group) (decimal n.at.item ∷ decimal n.release ∷ ws) (key_word (codes "<") refl) in
@@ -90,7 +98,7 @@ atomic_again key kind item space word scope order names is ok =
     let w0 = first_of_more (scope_word scope) (order_word order) (names_words names) (scope_is_word scope) in
     let w1 = word_before (order_word order) (names_words names) (order_is_word order) in
     let said = names_again names 4 (few_names kind names ok) (each_in_range kind names ok) in
-    rw (w0, w1, scope_again scope, order_again order, is, said, naming_back kind names ok) refl
+    rw (w0, w1, scope_again scope, order_again order, is, said, naming_back Three kind names ok (each_in_range kind names ok)) refl
 
 module _ (item word : ℕ) (space : Space) (fits : word < 2 ^ 32) where
   abbrev place_words : List (List ℕ) → List (List ℕ)
@@ -150,10 +158,10 @@ module _ (item word : ℕ) (space : Space) (fits : word < 2 ^ 32) where
 
 -- ---- the whole line
 
-checked_again : (e : Event) → e.item < 256 → is_order_ok e.kind ≡ true → checked e ≡ Some e
-checked_again e lt order = rw (lt-ltb e.item 256 lt, order) refl
+checked_again : (e : Event) → e.item < 1024 → is_order_ok e.kind ≡ true → checked e ≡ Some e
+checked_again e lt order = rw (lt-ltb e.item 1024 lt, order) refl
 
-event_line : (e : Event) (key : List ℕ) (words : List (List ℕ)) → e.item < 256 → is_order_ok e.kind ≡ true → event_said e.item (key ++ later_text words) ≡ Some e
+event_line : (e : Event) (key : List ℕ) (words : List (List ℕ)) → e.item < 1024 → is_order_ok e.kind ≡ true → event_said e.item (key ++ later_text words) ≡ Some e
     → line_said (decimal e.item ++ later_text (key ∷ words)) ≡ Some (lines.Event e)
 unfolding line_said
 event_line e key words lt order is =
@@ -165,7 +173,7 @@ unfolding line_said same
 end_again true = rw (first_of_more (codes "end") (codes "cut") [] (key_word (codes "end") refl)) refl
 end_again false = rw (first_of_last (codes "end") (key_word (codes "end") refl)) refl
 
-event_again : (item word : ℕ) (kind : Kind) (space : Space) (names : List Name) → item < 256 → word < 2 ^ 32 → IsNamingOk kind names → IsKindOk kind item space word
+event_again : (item word : ℕ) (kind : Kind) (space : Space) (names : List Name) → item < 1024 → word < 2 ^ 32 → IsNamingOk kind names → IsKindOk kind item space word
     → line_said (line_text (lines.Event (record { item = item; kind = kind; space = space; word = word; names = names }))) ≡ Some (lines.Event (record { item = item; kind = kind; space = space; word = word; names = names }))
 event_again item word Read space [] lt fits naming ok = event_line _ (codes "r") (space_word space ∷ decimal word ∷ []) lt refl (read_again item word space fits)
 event_again item word Read space (n ∷ names) lt fits naming ok = absurd (none_named Read n names naming refl)

@@ -1,7 +1,7 @@
 -- What is read from a line has that line.
 use Rattle.std.proofs.Common.{◌≡◌, ℕ, ◌^◌, ◌<◌, Bool, true, false, cond, List, [], ◌∷◌, ◌++◌, zero, suc, Option, Some, None, refl, sym, ap, subst, ◌∙◌, arith, inl, inr}
 use Rattle.std.specs.Prelude.{◌⊎◌, decimal, codes}
-use Rattle.std.proofs.lemmas.Bool.{ltb-true, leb-true, and_parts, not-true}
+use Rattle.std.proofs.lemmas.Bool.{ltb-true, leb-true, and_parts, not-true, cases_Bool}
 use Rattle.gr_model.specs.declared.event.Space.{Space}
 use Rattle.gr_model.specs.declared.event.Scope.{Scope}
 use Rattle.gr_model.specs.declared.event.Order.{Order}
@@ -13,7 +13,7 @@ use Rattle.gr_model.specs.declared.limits.TheConstants.{MOST_NAMES}
 use Rattle.gr_model.specs.Events.{IsKindOk, IsNamingOk, end_of}
 use Rattle.gr_record.proofs.Places.{naming_found}
 use Rattle.gr_record.specs.declared.header.Version.{Version}
-use Rattle.gr_record.specs.declared.header.Version.TheVariants.{One, Two}
+use Rattle.gr_record.specs.declared.header.Version.TheVariants.{One, Two, Three}
 use Rattle.gr_record.specs.declared.header.Header.{Header}
 use Rattle.gr_lines.specs.declared.line.Line.{Line}
 use Rattle.gr_lines.specs.declared.line.Line.TheVariants as lines
@@ -117,8 +117,12 @@ last_with bytes word words w r = first_found bytes ∙ ap (λ (x : List ℕ). x 
 version_found : (rest : Option (List ℕ)) (v : Version) → version_said rest ≡ Some v → behind_space rest ≡ later_text (version_words v)
 version_found None v e = ap (λ (x : Version). later_text (version_words x)) (some_is One v e)
 version_found (Some rest) v e =
-    let g = guard_some _ (Some Two) v e in
-    ap (λ (x : List ℕ). 32 ∷ x) (same_is rest (codes "v2") g.0) ∙ ap (λ (x : Version). later_text (version_words x)) (some_is Two v g.1)
+    elim (cases_Bool (same rest (codes "v2"))) [
+      | inl two ↦ ap (λ (x : List ℕ). 32 ∷ x) (same_is rest (codes "v2") two) ∙ ap (λ (x : Version). later_text (version_words x)) (some_is Two v (rw two at e))
+      | inr other ↦
+          let g = guard_some _ (Some Three) v (rw other at e) in
+          ap (λ (x : List ℕ). 32 ∷ x) (same_is rest (codes "v3") g.0) ∙ ap (λ (x : Version). later_text (version_words x)) (some_is Three v g.1)
+    ]
 
 header_found : (bytes : List ℕ) (h : Header) → header_said bytes ≡ Some h → IsHeader h × (bytes ≡ decimal h.group ++ later_text (codes "items" ∷ decimal h.items ∷ codes "launch" ∷ decimal h.launch ∷ version_words h.version))
 unfolding header_said
@@ -180,11 +184,11 @@ names_found (Some rest) (suc most) names e =
     let ih = names_found b.0.1 most c.0 c.1 in
     ap (λ (x : List ℕ). 32 ∷ x) (name_found rest b.0 (names_words c.0) b.1 ih) ∙ ap (λ (x : List Name). later_text (names_words x)) (some_is (b.0.0 ∷ c.0) names c.2)
 
-named_found : (kind : Kind) (said names : List Name) → naming kind said ≡ Some names → (said ≡ names) × IsNamingOk kind names
+named_found : (kind : Kind) (said names : List Name) → naming Three kind said ≡ Some names → (said ≡ names) × IsNamingOk kind names
 named_found kind said names e =
     let g = guard_some _ (Some said) names e in
     let same_names = some_is said names g.1 in
-    (same_names, subst (IsNamingOk kind) same_names (naming_found kind said g.0))
+    (same_names, subst (IsNamingOk kind) same_names (naming_found Three kind said g.0).0)
 
 -- ---- events
 

@@ -3,7 +3,7 @@
 use Rattle.std.specs.Prelude.{◌≡◌, ◌≢◌, ℕ, zero, suc, ◌^◌, ◌<◌, Bool, true, false, ◌&&◌, List, [], ◌∷◌, Option, Some, None, nat_eq, nat_lt, nat_le, ◌==◌, codes, decimal, All, length, slice_index, if◌then◌else◌}
 use Rattle.std.specs.Cmp.Lexicographic.{pointwise}
 use Rattle.std.specs.Str.Parse.{digits_value}
-use Rattle.gr_model.specs.declared.limits.TheConstants.{MOST_GROUPS, MOST_ITEMS_OF_A_GROUP, MOST_NAMES}
+use Rattle.gr_model.specs.declared.limits.TheConstants.{MOST_ITEMS_OF_A_GROUP, MOST_NAMES}
 use Rattle.gr_model.specs.declared.event.Kind.{Kind}
 use Rattle.gr_model.specs.declared.event.Kind.TheVariants.{Read, Write, Load, Store, Rmw, Barrier}
 use Rattle.gr_model.specs.declared.event.Name.{Name}
@@ -13,7 +13,8 @@ use Rattle.gr_record.specs.declared.header.Header.{Header}
 use Rattle.gr_lines.specs.declared.line.Line.{Line}
 use Rattle.gr_lines.specs.declared.line.Line.TheVariants as lines
 use Rattle.gr_record.specs.declared.header.Version.{Version}
-use Rattle.gr_record.specs.declared.header.Version.TheVariants.{One, Two}
+use Rattle.gr_record.specs.declared.header.Version.TheVariants.{One, Two, Three}
+use Rattle.gr_record.specs.Versions.{most_groups, most_items}
 use Rattle.gr_record.specs.Reading.{is_order_ok, naming}
 use Rattle.gr_model.specs.declared.event.Space.{Space}
 use Rattle.gr_model.specs.declared.event.Space.TheVariants.{Global, Local}
@@ -94,13 +95,13 @@ short_of word = number_of word >>= λ n. if nat_lt n 65536 then Some n else None
 
 abbrev pub header_made : Version → ℕ → ℕ → ℕ → Option Header
 header_made version group items launch =
-    if nat_lt group MOST_GROUPS && nat_le 1 items && nat_le items MOST_ITEMS_OF_A_GROUP then Some (record { version = version; group = group; items = items; launch = launch })
+    if nat_lt group (most_groups version) && nat_le 1 items && nat_le items (most_items version) then Some (record { version = version; group = group; items = items; launch = launch })
     else None
 
 -- what stands behind the launch: the version, but for the first
 abbrev pub version_said : Option (List ℕ) → Option Version
 version_said None = Some One
-version_said (Some bytes) = if same bytes (codes "v2") then Some Two else None
+version_said (Some bytes) = if same bytes (codes "v2") then Some Two else if same bytes (codes "v3") then Some Three else None
 
 -- what stands behind `group`
 unfoldable pub header_said : List ℕ → Option Header
@@ -144,7 +145,7 @@ unfoldable pub atomic_said : List ℕ → ℕ → Space → ℕ → List ℕ →
 atomic_said kind item space word bytes =
     let scope = first_of bytes in scope.1 >>= λ b.
     let order = first_of b in
-    scope_said scope.0 >>= λ s. order_said order.0 >>= λ o. kind_said kind s o >>= λ k. names_said order.1 MOST_NAMES >>= λ said. naming k said >>= λ names.
+    scope_said scope.0 >>= λ s. order_said order.0 >>= λ o. kind_said kind s o >>= λ k. names_said order.1 MOST_NAMES >>= λ said. naming Three k said >>= λ names.
     Some (record { item = item; kind = k; space = space; word = word; names = names })
 
 unfoldable pub barrier_said : ℕ → List ℕ → List ℕ → Option Event

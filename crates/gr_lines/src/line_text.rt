@@ -159,6 +159,7 @@ fn push_header<A: Allocator>(text: &mut String<A>, header: &Header) -> Result<()
     match header.version {
         Version::One => Ok(()),
         Version::Two => push_word(text, "v2"),
+        Version::Three => push_word(text, "v3"),
     }
 }
 

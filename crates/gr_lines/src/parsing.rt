@@ -10,7 +10,7 @@ ghost use Rattle.gr_lines.specs.LineLaws.{IsSaid};
 use crate::line::Line;
 use crate::words::{is_word, parse_number, parse_short, split_word};
 use gr_model::event::{Event, ItemId, Kind, Name, Order, Scope, Space};
-use gr_model::limits::{MOST_GROUPS, MOST_ITEMS_OF_A_GROUP, MOST_NAMES};
+use gr_model::limits::{MOST_ITEMS_OF_A_GROUP, MOST_NAMES};
 use gr_model::names::Names;
 use gr_record::header::{Header, Version};
 use gr_record::reading::{naming, order_fits};
@@ -86,7 +86,7 @@ fn parse_flags(word: &[u8]) -> Option<(bool, bool)>
 fn make_header(version: Version, group: u16, items: u16, launch: u32) -> Option<Header>
     ensures { result ≡ header_made version group items launch }
 {
-    if usize::from(group) < MOST_GROUPS && 1 <= items && items <= MOST_ITEMS_OF_A_GROUP {
+    if usize::from(group) < version.most_groups() && 1 <= items && items <= version.most_items() {
         Some(Header {
             version,
             group,
@@ -105,6 +105,7 @@ fn parse_version(bytes: Option<&[u8]>) -> Option<Version>
     match bytes {
         None => Some(Version::One),
         Some(word) if is_word(word, "v2") => Some(Version::Two),
+        Some(word) if is_word(word, "v3") => Some(Version::Three),
         Some(_) => None,
     }
 }
@@ -198,7 +199,7 @@ fn parse_atomic(kind: &[u8], item: u16, space: Space, word: u32, bytes: &[u8]) -
     let order = parse_order(order)?;
     let kind = parse_kind(kind, scope, order)?;
     let (names, used) = parse_names(rest)?;
-    let names = naming(kind, &names[..used])?;
+    let names = naming(Version::Three, kind, &names[..used])?;
     Some(Event {
         item,
         kind,

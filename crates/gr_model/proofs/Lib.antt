@@ -1,3 +1,4 @@
+pub mod Bounds
 pub mod ListsOfRecords
 pub mod Pairs
 pub mod HitLaws

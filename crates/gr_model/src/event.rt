@@ -5,10 +5,10 @@
 
 ghost use Rattle.std.specs.Prelude.{◌≡◌, ◌↔◌, IsTrue};
 ghost use Rattle.gr_model.specs.Access.{acquires, releases, is_acquire_kind, event_word};
-ghost use Rattle.gr_model.specs.NameLists.{IsNameInRange};
+ghost use Rattle.gr_model.specs.NameLists.{IsNameWithin};
 ghost use Rattle.gr_model.specs.Events.{IsNamingOk, IsKindOk, IsEventOk, end_of, is_end_kind};
 
-use crate::limits::{MOST_GROUPS, MOST_ITEMS_OF_A_GROUP, MOST_RECORDS};
+use crate::limits::MOST_RECORDS;
 use crate::names::Names;
 
 /// One of the two memories that work-items share: the launch's global memory, or the local memory of each work-group.
@@ -186,13 +186,13 @@ impl Event {
 }
 
 impl Name {
-    /// Whether some launch could have a release of this name: the group is below `MOST_GROUPS`, the item below
-    /// `MOST_ITEMS_OF_A_GROUP` and the number below `MOST_RECORDS`.
-    pub fn is_in_range(self) -> bool
-        ensures { IsTrue result ↔ IsNameInRange self }
+    /// Whether some launch of so many groups, each of so many items, could have a release of this name: the group and the
+    /// item are below these numbers, and the number is below `MOST_RECORDS`.
+    pub fn is_within(self, groups: usize, items: u16) -> bool
+        ensures { IsTrue result ↔ IsNameWithin groups items self }
     {
-        usize::from(self.at.group) < MOST_GROUPS
-            && self.at.item < MOST_ITEMS_OF_A_GROUP
+        usize::from(self.at.group) < groups
+            && self.at.item < items
             && (self.release as usize) < MOST_RECORDS
     }
 }

@@ -1,6 +1,6 @@
 //! The sizes of work-groups that come one after another.
 //!
-//! Invariant: there are at most 64 groups, each has at most 256 items, and there are at most 16,384 items (`limits`). A
+//! Invariant: there are at most 65,535 groups, each has at most 1,024 items, and there are at most 67,107,840 items (`limits`). A
 //! group that has no items has not come yet.
 
 ghost use Rattle.std.specs.Prelude.{[], ◌≡◌, ◌↔◌, ◌+◌, ◌<◌, ◌≤◌, IfOk, IsTrue, length, slice_index, sum};

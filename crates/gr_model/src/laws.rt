@@ -1,10 +1,10 @@
 //! Laws of the definitions. Each is the contract of a function that does nothing, told in words in docs/MODEL.md,
 //! "Laws".
 
-ghost use Rattle.std.specs.Prelude.{◌≡◌};
+ghost use Rattle.std.specs.Prelude.{◌≡◌, ◌*◌};
 ghost use Rattle.gr_model.specs.Laws.{AcceptedAreComplete, PairsGoForwards, OrderGoesForwards, OrderStaysWithin, OrderIsGrounded, WaitsStay, StagesStay, OrderStays, CountsStay, HitsAreRaces, WholeHitsAreRaces, RacesStay, ReportIsOne};
 
-use crate::limits::{MOST_GROUPS, MOST_ITEMS, MOST_ITEMS_OF_A_GROUP, MOST_NAMES, MOST_RECORDS};
+use crate::limits::{FEW_GROUPS, FEW_ITEMS_OF_A_GROUP, MOST_GROUPS, MOST_ITEMS, MOST_ITEMS_OF_A_GROUP, MOST_NAMES, MOST_RECORDS};
 
 /// The lists of a shape's groups are accepted exactly where they may have come and are complete.
 pub fn accepted_lists_are_complete()
@@ -54,9 +54,11 @@ pub fn lists_have_one_report()
 
 /// The limits, as docs/FORMATS.md and the README tell them.
 pub fn limits_are_those_of_the_formats()
-    ensures groups { MOST_GROUPS ≡ 64 }
-    ensures items_of_a_group { MOST_ITEMS_OF_A_GROUP ≡ 256 }
-    ensures items { MOST_ITEMS ≡ 16384 }
+    ensures groups { MOST_GROUPS ≡ 65535 }
+    ensures items_of_a_group { MOST_ITEMS_OF_A_GROUP ≡ 1024 }
+    ensures items { MOST_ITEMS ≡ MOST_GROUPS * MOST_ITEMS_OF_A_GROUP }
+    ensures few_groups { FEW_GROUPS ≡ 64 }
+    ensures few_items_of_a_group { FEW_ITEMS_OF_A_GROUP ≡ 256 }
     ensures records { MOST_RECORDS ≡ 16777216 }
     ensures names { MOST_NAMES ≡ 4 }
 {}

@@ -1,13 +1,19 @@
 //! The limits of a launch. Each is cited by the clauses that rest on it.
 
 /// The greatest number of work-groups in a launch.
-pub const MOST_GROUPS: usize = 64;
+pub const MOST_GROUPS: usize = 65_535;
 
 /// The greatest number of work-items in a work-group.
-pub const MOST_ITEMS_OF_A_GROUP: u16 = 256;
+pub const MOST_ITEMS_OF_A_GROUP: u16 = 1_024;
 
 /// The greatest number of work-items in a launch.
-pub const MOST_ITEMS: u32 = 16_384;
+pub const MOST_ITEMS: u32 = 67_107_840;
+
+/// The greatest number of work-groups in a launch whose streams are of versions 1 and 2.
+pub const FEW_GROUPS: usize = 64;
+
+/// The greatest number of work-items in a work-group whose stream is of version 1 or 2.
+pub const FEW_ITEMS_OF_A_GROUP: u16 = 256;
 
 /// The greatest number of records in a work-group's stream, its end included.
 pub const MOST_RECORDS: usize = 16_777_216;

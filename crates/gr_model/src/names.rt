@@ -2,11 +2,11 @@
 //!
 //! Invariant: their names are in range, and stand in strictly ascending order.
 
-ghost use Rattle.std.specs.Prelude.{◌≡◌, ◌↔◌, IsTrue, IsSome, IfSome, []};
-ghost use Rattle.gr_model.specs.NameLists.{NameBelow, AreAscending, AreNames};
+ghost use Rattle.std.specs.Prelude.{◌≤◌, ◌≡◌, ◌↔◌, IsTrue, IsSome, IfSome, []};
+ghost use Rattle.gr_model.specs.NameLists.{NameBelow, AreAscending, AreFewNames, AreNames, AreNamesWithin};
 
 use crate::event::{ItemId, Name};
-use crate::limits::MOST_NAMES;
+use crate::limits::{FEW_GROUPS, FEW_ITEMS_OF_A_GROUP, MOST_GROUPS, MOST_ITEMS_OF_A_GROUP, MOST_NAMES};
 use std::marker::Model;
 
 /// What stands in the places that are not used.
@@ -59,6 +59,15 @@ fn are_ascending(names: &[Name]) -> bool
     true
 }
 
+/// Whether these are names that one acquire may have in a launch of so many groups, each of so many items.
+fn are_within(names: &[Name], groups: usize, items: u16) -> bool
+    ensures { IsTrue result ↔ AreNamesWithin groups items names.now }
+{
+    names.len() <= MOST_NAMES
+        && are_ascending(names)
+        && names.iter().all(|name| name.is_within(groups, items))
+}
+
 impl Names {
     /// No names: what a record that is no acquire has, and an acquire that took the value of no release.
     pub const fn none() -> Names
@@ -71,23 +80,43 @@ impl Names {
     }
 
     /// These names, or `None` where they are more than `MOST_NAMES`, or not in strictly ascending order of group, item and
-    /// number, or one of them is not in range.
+    /// number, or one of them is not in range: the group below `FEW_GROUPS`, the item below `FEW_ITEMS_OF_A_GROUP`, as
+    /// streams of versions 1 and 2 have them, and the number below `MOST_RECORDS`.
     pub fn new(names: &[Name]) -> Option<Names>
-        ensures some { IsSome result ↔ AreNames names.now }
+        ensures some { IsSome result ↔ AreFewNames names.now }
         ensures names { IfSome result (λ n. n ≡ names.now) }
     {
-        if names.len() > MOST_NAMES
-            || !are_ascending(names)
-            || !names.iter().all(|name| name.is_in_range())
-        {
+        Names::within(names, FEW_GROUPS, FEW_ITEMS_OF_A_GROUP)
+    }
+
+    /// These names, or `None` where they are more than `MOST_NAMES`, or not in strictly ascending order of group, item and
+    /// number, or one of them is not in range: the group and the item below these numbers, and the number below
+    /// `MOST_RECORDS`.
+    /// Requires: a launch may have so many groups, and a group so many items.
+    #[tactic(auto, using(crate::proofs::Bounds::names_within))]
+    pub fn within(names: &[Name], groups: usize, items: u16) -> Option<Names>
+        requires groups { groups ≤ MOST_GROUPS }
+        requires items { items ≤ MOST_ITEMS_OF_A_GROUP }
+        ensures some { IsSome result ↔ AreNamesWithin groups items names.now }
+        ensures names { IfSome result (λ n. n ≡ names.now) }
+    {
+        if !are_within(names, groups, items) {
             return None;
         }
+        Some(Names::kept(names))
+    }
+
+    /// These names, which one acquire may have.
+    fn kept(names: &[Name]) -> Names
+        requires { AreNames names.now }
+        ensures { result ≡ names.now }
+    {
         let mut places = [UNUSED; MOST_NAMES];
         places[..names.len()].copy_from_slice(names);
-        Some(Names {
+        Names {
             places,
             count: names.len() as u8,
-        })
+        }
     }
 
     /// The names, in ascending order.

@@ -1,12 +1,12 @@
 //! How many work-items each work-group of a launch has.
 //!
-//! Invariant: there are 1 to 64 groups, each has 1 to 256 items, and there are at most 16,384 items (`limits`).
+//! Invariant: there are 1 to 65,535 groups, each has 1 to 1,024 items, and there are at most 67,107,840 items (`limits`).
 
 ghost use Rattle.std.specs.Prelude.{◌≡◌, ◌↔◌, ◌+◌, ◌<◌, ◌≤◌, IsTrue, IsOk, IfOk, IfErr, MatchOption, length, slice_index, sum, All, take};
-ghost use Rattle.gr_model.specs.Shapes.{IsShape, IsGroupSize, HasItem, IsFirstBadSize, IsShapeFault};
+ghost use Rattle.gr_model.specs.Shapes.{IsShape, IsShapeWithin, IsSizeWithin, IsSmallShape, HasItem, IsFirstBadSize, IsFaultWithin, IsShapeFault, IsSmallShapeFault};
 
 use crate::event::ItemId;
-use crate::limits::{MOST_GROUPS, MOST_ITEMS, MOST_ITEMS_OF_A_GROUP};
+use crate::limits::{FEW_GROUPS, FEW_ITEMS_OF_A_GROUP, MOST_GROUPS, MOST_ITEMS, MOST_ITEMS_OF_A_GROUP};
 use crate::memory::Memory;
 use std::alloc::{Allocator, Global};
 use std::marker::Model;
@@ -18,10 +18,10 @@ pub enum ShapeError {
     /// There are no groups.
     #[error("no groups")]
     NoGroups,
-    /// There are more than `MOST_GROUPS` groups.
+    /// There are too many groups.
     #[error("too many groups")]
     TooManyGroups,
-    /// The least group that has no items, or more than `MOST_ITEMS_OF_A_GROUP`.
+    /// The least group that has no items, or too many.
     #[error("bad items in group {0}")]
     BadItems(u16),
     /// There are more than `MOST_ITEMS` work-items in all.
@@ -47,13 +47,11 @@ impl<A: Allocator> Model for Shape<A> {
     ghost invariant = { λ s. IsShape s.sizes.items };
 }
 
-/// The first group that has no items or too many.
-fn bad_group(sizes: &[u16]) -> Option<usize>
-    ensures { MatchOption result (All IsGroupSize sizes.now) (λ g. IsFirstBadSize sizes.now g) }
+/// The first group that has no items or more than so many.
+fn bad_group(sizes: &[u16], most: u16) -> Option<usize>
+    ensures { MatchOption result (All (IsSizeWithin most) sizes.now) (λ g. IsFirstBadSize most sizes.now g) }
 {
-    sizes
-        .iter()
-        .position(|size| *size == 0 || *size > MOST_ITEMS_OF_A_GROUP)
+    sizes.iter().position(|size| *size == 0 || *size > most)
 }
 
 /// The sum of the sizes.
@@ -70,17 +68,19 @@ pub(crate) fn total_of(sizes: &[u16]) -> u32
     total
 }
 
-/// Why the sizes are no shape, or `None` where they are one.
-fn fault_of(sizes: &[u16]) -> Option<ShapeError>
-    ensures { MatchOption result (IsShape sizes.now) (λ e. IsShapeFault sizes.now e) }
+/// Why the sizes are no shape of at most so many groups, each of at most so many items, or `None` where they are one.
+fn fault_of(sizes: &[u16], most_groups: usize, most_items: u16) -> Option<ShapeError>
+    requires groups { most_groups ≤ MOST_GROUPS }
+    requires items { most_items ≤ MOST_ITEMS_OF_A_GROUP }
+    ensures { MatchOption result (IsShapeWithin most_groups most_items sizes.now) (λ e. IsFaultWithin most_groups most_items sizes.now e) }
 {
     if sizes.is_empty() {
         return Some(ShapeError::NoGroups);
     }
-    if sizes.len() > MOST_GROUPS {
+    if sizes.len() > most_groups {
         return Some(ShapeError::TooManyGroups);
     }
-    if let Some(g) = bad_group(sizes) {
+    if let Some(g) = bad_group(sizes, most_items) {
         return Some(ShapeError::BadItems(g as u16));
     }
     if total_of(sizes) > MOST_ITEMS {
@@ -90,11 +90,11 @@ fn fault_of(sizes: &[u16]) -> Option<ShapeError>
 }
 
 impl<A: Allocator> Shape<A> {
-    /// The shape of a launch whose group g has `sizes[g]` work-items.
+    /// The shape of a launch whose group g has `sizes[g]` work-items, where its streams are of versions 1 and 2.
     ///
     /// # Errors
-    /// The first of these that is there: `NoGroups`; `TooManyGroups`; `BadItems` with the least such group;
-    /// `TooManyItems`.
+    /// The first of these that is there: `NoGroups`; `TooManyGroups` above `FEW_GROUPS`; `BadItems` with the least group
+    /// that has no items, or more than `FEW_ITEMS_OF_A_GROUP`; `TooManyItems`, which never comes.
     ///
     /// # Example
     /// ```rust
@@ -105,11 +105,27 @@ impl<A: Allocator> Shape<A> {
     /// assert_eq!(rt; Shape::new(Vec::new(rt.alloc())).err(), Some(ShapeError::NoGroups));
     /// ```
     pub fn new(sizes: Vec<u16, A>) -> Result<Shape<A>, ShapeError>
+        ensures accepted { IsOk result ↔ IsSmallShape sizes.items }
+        ensures sizes { IfOk result (λ s. s ≡ sizes.items) }
+        ensures refused { IfErr result (λ e. IsSmallShapeFault sizes.items e) }
+    {
+        match fault_of(&sizes, FEW_GROUPS, FEW_ITEMS_OF_A_GROUP) {
+            Some(fault) => Err(fault),
+            None => Ok(Shape { sizes }),
+        }
+    }
+
+    /// The shape of a whole launch, whose group g has `sizes[g]` work-items.
+    ///
+    /// # Errors
+    /// The first of these that is there: `NoGroups`; `TooManyGroups` above `MOST_GROUPS`; `BadItems` with the least group
+    /// that has no items, or more than `MOST_ITEMS_OF_A_GROUP`; `TooManyItems`, which never comes.
+    pub fn of_launch(sizes: Vec<u16, A>) -> Result<Shape<A>, ShapeError>
         ensures accepted { IsOk result ↔ IsShape sizes.items }
         ensures sizes { IfOk result (λ s. s ≡ sizes.items) }
         ensures refused { IfErr result (λ e. IsShapeFault sizes.items e) }
     {
-        match fault_of(&sizes) {
+        match fault_of(&sizes, MOST_GROUPS, MOST_ITEMS_OF_A_GROUP) {
             Some(fault) => Err(fault),
             None => Ok(Shape { sizes }),
         }

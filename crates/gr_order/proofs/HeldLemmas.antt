@@ -48,7 +48,7 @@ module _ (q : Sequence) (frontier : Counts) (held : ℕ) (state : IsOrderState q
       let handled = state.counts in
       let rest = state.rest in omega arith
 
-  pub held_most : held ≤ 1073741824
+  pub held_most : held ≤ 1099494850560
   held_most = let most = events_most q.taken state.sequence.prefixes in let rest = state.rest in omega arith
 
   -- where no step is left, the held events are those that are not grounded

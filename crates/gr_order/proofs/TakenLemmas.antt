@@ -96,7 +96,7 @@ trace_most s prefixes i there =
     let few : length (list_of s i.group) ≤ MOST_RECORDS = (prefixes.each i.group there).few in
     let part = length-filter_le (is_of i.item) (list_of s i.group) in omega arith
 
-pub events_most : (s : Streams) → ArePrefixes s → event_count s ≤ 1073741824
+pub events_most : (s : Streams) → ArePrefixes s → event_count s ≤ 1099494850560
 events_most s prefixes =
     let lists : event_count s ≡ total (λ g. events_in (list_of s g)) 0 (length s.sizes) = sum_places events_in s.lists [] ∙ ap (λ (n : ℕ). total (λ g. events_in (list_of s g)) 0 n) prefixes.count in
     let most = total_most (λ g. events_in (list_of s g)) 0 (length s.sizes) (λ g from there.

@@ -36,7 +36,6 @@ use gr_lanes::lanes::Lanes;
 use gr_lanes::seq_error::SeqError;
 use gr_model::event::{Event, EventId, ItemId};
 use gr_model::history::History;
-use gr_model::limits::MOST_GROUPS;
 use gr_model::memory::Memory;
 use gr_model::shape::Shape;
 use gr_windows::windows::Windows;
@@ -52,7 +51,7 @@ pub struct Order<A: Allocator = Global> {
     handled: History<EventId>,
     frontier: Tally<A>,
     windows: Windows<A>,
-    held: u32,
+    held: u64,
     /// Of each group the item that had not passed the least instance remembered when that was last looked at.
     lagging: Vec<u16, A>,
 }
@@ -112,8 +111,9 @@ impl<A: Allocator + Copy> Order<A> {
         };
         let windows = Windows::new(alloc, lanes.shape())?;
         let handled = History::new();
-        let mut lagging = Vec::with_capacity(alloc, MOST_GROUPS)?;
-        lagging.resize(MOST_GROUPS, 0)?;
+        let groups = usize::from(lanes.shape().groups());
+        let mut lagging = Vec::with_capacity(alloc, groups)?;
+        lagging.resize(groups, 0)?;
         Ok(Order {
             lanes,
             handled,
@@ -140,8 +140,11 @@ impl<A: Allocator + Copy> Order<A> {
             frontier,
             windows,
             held,
-            lagging,
+            mut lagging,
         } = self;
+        if lagging.len() <= usize::from(group) {
+            lagging.resize(usize::from(group) + 1, 0)?;
+        }
         let frontier = match frontier.with_group(alloc, group, items) {
             Ok(counts) => counts,
             Err(_) => return Err(Memory),
@@ -341,7 +344,7 @@ impl<A: Allocator> Order<A> {
         keep(&mut self.windows, group, &event)?;
         match self.lanes.take_accepted(group, &event) {
             Ok(()) => {
-                self.held += u32::from(more);
+                self.held += u64::from(more);
                 Ok(())
             }
             Err(Memory) => {
@@ -448,7 +451,7 @@ impl<A: Allocator> Order<A> {
         add_next_events(&mut self.handled, &self.frontier, group, size);
         count_next_events(&mut self.frontier, group, size);
         self.windows.pop_group(group, size);
-        self.held -= u32::from(size);
+        self.held -= u64::from(size);
     }
 
     /// A step of a group that is ready, if there is one.
@@ -519,6 +522,6 @@ impl<A: Allocator> Order<A> {
         ensures count { result + length self.now.handled ≡ event_count self.now.taken }
         ensures held { IsAtRest self.now.taken self.now.handled → IsHeld self.now.taken result }
     {
-        u64::from(self.held)
+        self.held
     }
 }

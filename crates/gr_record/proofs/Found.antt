@@ -7,9 +7,9 @@ use Rattle.gr_model.specs.declared.event.Name.{Name}
 use Rattle.gr_model.specs.Events.{IsKindOk, IsEventOk}
 use Rattle.gr_record.specs.declared.header.Header.{Header}
 use Rattle.gr_record.specs.declared.header.Version.{Version}
-use Rattle.gr_record.specs.declared.header.Version.TheVariants.{One, Two}
+use Rattle.gr_record.specs.declared.header.Version.TheVariants.{One, Two, Three}
 use Rattle.gr_record.specs.declared.error.RecordError.{RecordError}
-use Rattle.gr_record.specs.Versions.{places, record_length}
+use Rattle.gr_record.specs.Versions.{places, record_length, most_groups, most_items}
 use Rattle.gr_record.specs.Spelling.{kind_bytes, names_bytes, version_byte, header_spelling, IsHeader}
 use Rattle.gr_record.specs.Reading.{field, is_field_ok, unless_bad, unless_bad_names, bad_field, bad_field_from, kind_of, space_at, names_in, names_at, is_order_ok, is_naming_ok, event_at, version_of, header_behind, header_at}
 use Rattle.gr_record.specs.Laws.{AreBytes, ReadIsSpelled, ReadHeaderIsSpelled}
@@ -53,7 +53,7 @@ record Accepted (h : Header) (bytes : List ℕ) (e : Event) : Type 0 where
   kind : nat_lt 6 (slice_index bytes 0) ≡ false
   fields : bad_field bytes ≡ None
   order : not (is_order_ok (kind_of bytes)) ≡ false
-  naming : is_naming_ok (kind_of bytes) (names_at h.version bytes) ≡ true
+  naming : is_naming_ok h.version (kind_of bytes) (names_at h.version bytes) ≡ true
   item : nat_le h.items (field 4 2 bytes) ≡ false
   same : said h bytes ≡ e
 
@@ -130,6 +130,7 @@ module _ (b0 b1 b2 b3 b4 b5 b6 b7 b8 b9 b10 b11 : ℕ) (rest : List ℕ) where
       → take (record_length v) cells ≡ b0 ∷ b1 ∷ b2 ∷ b3 ∷ b4 ∷ b5 ∷ b6 ∷ b7 ∷ b8 ∷ b9 ∷ b10 ∷ b11 ∷ names_bytes (places v) (names_in (places v) rest)
   names_taken One fits long = ap (λ (x : List ℕ). b0 ∷ b1 ∷ b2 ∷ b3 ∷ b4 ∷ b5 ∷ b6 ∷ b7 ∷ b8 ∷ b9 ∷ b10 ∷ b11 ∷ x) (names_prefix 1 rest fits (omega arith))
   names_taken Two fits long = ap (λ (x : List ℕ). b0 ∷ b1 ∷ b2 ∷ b3 ∷ b4 ∷ b5 ∷ b6 ∷ b7 ∷ b8 ∷ b9 ∷ b10 ∷ b11 ∷ x) (names_prefix 4 rest fits (omega arith))
+  names_taken Three fits long = ap (λ (x : List ℕ). b0 ∷ b1 ∷ b2 ∷ b3 ∷ b4 ∷ b5 ∷ b6 ∷ b7 ∷ b8 ∷ b9 ∷ b10 ∷ b11 ∷ x) (names_prefix 4 rest fits (omega arith))
 
 -- an end has no item and no word
 no_end : (b : ℕ) → (not (6 == 6) || (b == 0)) ≡ true → b ≡ 0
@@ -161,11 +162,12 @@ module _ (b1 b2 b3 b4 b5 b6 b7 b8 b9 b10 b11 : ℕ) (rest : List ℕ) where
 some_fields : (v : Version) → 12 ≤ record_length v
 some_fields One = omega arith
 some_fields Two = omega arith
+some_fields Three = omega arith
 
 said_ok : (h : Header) (bytes : List ℕ) (e : Event) → record_length h.version ≤ length bytes → Accepted h bytes e → IsEventOk (said h bytes) h.items
 said_ok h (b0 ∷ b1 ∷ b2 ∷ b3 ∷ b4 ∷ b5 ∷ b6 ∷ b7 ∷ b8 ∷ b9 ∷ b10 ∷ b11 ∷ rest) e len a =
     let f = fields_ok (b0 ∷ b1 ∷ b2 ∷ b3 ∷ b4 ∷ b5 ∷ b6 ∷ b7 ∷ b8 ∷ b9 ∷ b10 ∷ b11 ∷ rest) a.fields in
-    (leb-false _ _ a.item, naming_found _ _ a.naming, kind_ok b1 b2 b3 b4 b5 b6 b7 b8 b9 b10 b11 rest b0 a.kind f (not-false _ a.order))
+    (leb-false _ _ a.item, (naming_found h.version _ _ a.naming).0, kind_ok b1 b2 b3 b4 b5 b6 b7 b8 b9 b10 b11 rest b0 a.kind f (not-false _ a.order))
 said_ok h _ e len a = let long = some_fields h.version in absurd (omega arith)
 
 -- what is read is a record that the group may have
@@ -184,7 +186,7 @@ read_is_spelled h e (b0 ∷ b1 ∷ b2 ∷ b3 ∷ b4 ∷ b5 ∷ b6 ∷ b7 ∷ b8 
     let z7 : b7 ≡ 0 = eqb-true b7 0 f.seven in
     rw (← a.same) (
       n ∙ rw (k, z6, z7, two_low b4 b5 (fits 4) (fits 5), two_high b4 b5 (fits 4) (fits 5), w.0, w.1, w.2, w.3) refl,
-      record { event = record { ok = said_ok h bytes e len a; word = omega (arith, fits 8, fits 9, fits 10, fits 11) }; names = names_few (places h.version) rest },
+      record { event = record { ok = said_ok h bytes e len a; word = omega (arith, fits 8, fits 9, fits 10, fits 11) }; names = names_few (places h.version) rest; range = (naming_found h.version _ _ a.naming).1 },
     )
 read_is_spelled h e _ fits len is = let long = some_fields h.version in absurd (omega arith)
 
@@ -213,6 +215,9 @@ some_version v w e = cc
 no_version : (v : Version) → None ≡ Some v → ⊥
 no_version v e = absurd cc
 
+magic_three : (a b c d : ℕ) → a < 256 → b < 256 → c < 256 → d < 256 → a + 256 * (b + 256 * (c + 256 * (d + 0))) ≡ 861164103 → (a ≡ 71) × (b ≡ 82) × (c ≡ 84) × (d ≡ 51)
+magic_three a b c d p q r s k = (omega arith, omega arith, omega arith, omega arith)
+
 -- the four bytes of a version
 magic : (a b c d : ℕ) → a < 256 → b < 256 → c < 256 → d < 256 → (v : Version) → version_of (a + 256 * (b + 256 * (c + 256 * (d + 0)))) ≡ Some v → (a ≡ 71) × (b ≡ 82) × (c ≡ 84) × (d ≡ version_byte v)
 magic a b c d p q r s v e =
@@ -228,7 +233,14 @@ magic a b c d p q r s v e =
                 let is : Two ≡ v = some_version Two v (rw (other, two) at e) in
                 let m = magic_two a b c d p q r s (eqb-true _ _ two) in
                 (m.0, m.1, m.2, m.3 ∙ ap version_byte is)
-            | inr none ↦ absurd (no_version v (rw (other, none) at e))
+            | inr neither ↦
+                elim (cases_Bool (n == 861164103)) [
+                  | inl three ↦
+                      let is : Three ≡ v = some_version Three v (rw (other, neither, three) at e) in
+                      let m = magic_three a b c d p q r s (eqb-true _ _ three) in
+                      (m.0, m.1, m.2, m.3 ∙ ap version_byte is)
+                  | inr none ↦ absurd (no_version v (rw (other, neither, none) at e))
+                ]
           ]
     ]
 
@@ -248,9 +260,9 @@ read_header_is_spelled h (b0 ∷ b1 ∷ b2 ∷ b3 ∷ b4 ∷ b5 ∷ b6 ∷ b7 �
         let w = four b8 b9 b10 b11 (fits 8) (fits 9) (fits 10) (fits 11) _ refl in
         let o = or_parts _ _ r.0 in
         let p = or_parts _ _ o.0 in
-        let group : field 4 2 bytes < 64 = leb-false 64 _ p.0 in
+        let group : field 4 2 bytes < most_groups v = leb-false (most_groups v) _ p.0 in
         let some : 1 ≤ field 6 2 bytes = not_zero _ p.1 in
-        let items : field 6 2 bytes ≤ 256 = ltb-false 256 _ o.1 in
+        let items : field 6 2 bytes ≤ most_items v = ltb-false (most_items v) _ o.1 in
         rw (← same) (
           rw (g.0, g.1, g.2, g.3, two_low b4 b5 (fits 4) (fits 5), two_high b4 b5 (fits 4) (fits 5), two_low b6 b7 (fits 6) (fits 7), two_high b6 b7 (fits 6) (fits 7), w.0, w.1, w.2, w.3) refl,
           record { group = group; some = some; items = items; launch = omega (arith, fits 8, fits 9, fits 10, fits 11) },

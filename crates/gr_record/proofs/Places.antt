@@ -6,8 +6,14 @@ use Rattle.std.proofs.lemmas.List.{length-drop, take_at, get_or-drop}
 use Rattle.gr_model.specs.declared.event.Name.{Name}
 use Rattle.gr_model.specs.declared.event.Kind.{Kind}
 use Rattle.gr_model.specs.Events.{IsNamingOk}
-use Rattle.gr_model.specs.NameLists.{IsNameInRange, NameBelow, AreAscending, AreNames}
-use Rattle.gr_record.specs.Spelling.{names_bytes}
+use Rattle.gr_model.specs.NameLists.{IsNameInRange, IsNameWithin, NameBelow, AreAscending, AreNames, AreNamesWithin}
+use Rattle.gr_model.specs.declared.limits.TheConstants.{MOST_GROUPS, MOST_ITEMS_OF_A_GROUP}
+use Rattle.gr_model.proofs.Bounds.{names_within}
+use Rattle.gr_record.specs.declared.header.Version.{Version}
+use Rattle.gr_record.specs.declared.header.Version.TheVariants.{One, Two, Three}
+use Rattle.gr_record.specs.Versions.{most_groups, most_items}
+use Rattle.gr_record.specs.declared.header.Header.{Header}
+use Rattle.gr_record.specs.Spelling.{IsHeader, names_bytes}
 use Rattle.gr_record.specs.Laws.{AreBytes}
 use Rattle.gr_record.specs.Reading.{field, are_unused, name_in, names_in, is_in_range, is_below, are_in_order, is_naming_ok}
 use Rattle.gr_record.proofs.Numbers.{two_low, two_high, two_again, four, four_again, eight}
@@ -78,8 +84,29 @@ names_few (suc n) bytes =
 
 -- ---- names that one acquire may have
 
-range_found : (n : Name) → is_in_range n ≡ true → IsNameInRange n
-range_found n h =
+-- a name of a launch of this version
+abbrev pub IsNameOf : Version → Name → Type 0
+IsNameOf v n = IsNameWithin (most_groups v) (most_items v) n
+
+pub groups_within : (v : Version) → most_groups v ≤ MOST_GROUPS
+groups_within One = omega arith
+groups_within Two = omega arith
+groups_within Three = omega arith
+
+pub items_within : (v : Version) → most_items v ≤ MOST_ITEMS_OF_A_GROUP
+items_within One = omega arith
+items_within Two = omega arith
+items_within Three = omega arith
+
+-- of whatever version, a header's group and items are those that some launch may have
+pub header_group : (h : Header) → IsHeader h → h.group < MOST_GROUPS
+header_group h is = let group = is.group in let few = groups_within h.version in omega (arith, group, few)
+
+pub header_items : (h : Header) → IsHeader h → h.items ≤ MOST_ITEMS_OF_A_GROUP
+header_items h is = let items = is.items in let few = items_within h.version in omega (arith, items, few)
+
+range_found : (v : Version) (n : Name) → is_in_range v n ≡ true → IsNameOf v n
+range_found v n h =
     let a = and_parts _ _ h in
     let b = and_parts _ _ a.0 in
     (ltb-true _ _ b.0, ltb-true _ _ b.1, ltb-true _ _ a.1)
@@ -96,30 +123,38 @@ below_found m n h =
           ]
     ]
 
-ascending_found : (names : List Name) → are_in_order names ≡ true → AreAscending names
-ascending_found [] h k d lt = absurd (omega arith)
-ascending_found (n ∷ []) h k d lt = absurd (omega arith)
-ascending_found (n ∷ m ∷ names) h zero d lt = below_found n m (and_parts _ _ (and_parts _ _ h).0).1
-ascending_found (n ∷ m ∷ names) h (suc k) d lt =
+ascending_found : (v : Version) (names : List Name) → are_in_order v names ≡ true → AreAscending names
+ascending_found v [] h k d lt = absurd (omega arith)
+ascending_found v (n ∷ []) h k d lt = absurd (omega arith)
+ascending_found v (n ∷ m ∷ names) h zero d lt = below_found n m (and_parts _ _ (and_parts _ _ h).0).1
+ascending_found v (n ∷ m ∷ names) h (suc k) d lt =
     let e : suc k + 1 ≡ suc (k + 1) = omega arith in
-    rw e (ascending_found (m ∷ names) (and_parts _ _ h).1 k d (omega arith))
+    rw e (ascending_found v (m ∷ names) (and_parts _ _ h).1 k d (omega arith))
 
-each_found : (names : List Name) → are_in_order names ≡ true → All IsNameInRange names
-each_found [] h k d lt = absurd (omega arith)
-each_found (n ∷ names) h zero d lt = range_found n (and_parts _ _ (and_parts _ _ h).0).0
-each_found (n ∷ names) h (suc k) d lt = each_found names (and_parts _ _ h).1 k d (omega arith)
+each_found : (v : Version) (names : List Name) → are_in_order v names ≡ true → All (IsNameOf v) names
+each_found v [] h k d lt = absurd (omega arith)
+each_found v (n ∷ names) h zero d lt = range_found v n (and_parts _ _ (and_parts _ _ h).0).0
+each_found v (n ∷ names) h (suc k) d lt = each_found v names (and_parts _ _ h).1 k d (omega arith)
 
-pub naming_found : (kind : Kind) (names : List Name) → is_naming_ok kind names ≡ true → IsNamingOk kind names
-naming_found kind [] h = tt
-naming_found kind (n ∷ names) h =
+-- names of a launch of this version
+pub those_found : (v : Version) (kind : Kind) (n : Name) (names : List Name) → is_naming_ok v kind (n ∷ names) ≡ true → AreNamesWithin (most_groups v) (most_items v) (n ∷ names)
+those_found v kind n names h =
     let a = and_parts _ _ h in
     let b = and_parts _ _ a.0 in
-    (b.0, record { few = leb-true _ _ b.1; ascending = ascending_found (n ∷ names) a.1; each = each_found (n ∷ names) a.1 })
+    record { few = leb-true _ _ b.1; ascending = ascending_found v (n ∷ names) a.1; each = each_found v (n ∷ names) a.1 }
+
+pub naming_found : (v : Version) (kind : Kind) (names : List Name) → is_naming_ok v kind names ≡ true → IsNamingOk kind names × All (IsNameOf v) names
+naming_found v kind [] h = (tt, λ k d lt. absurd (omega arith))
+naming_found v kind (n ∷ names) h =
+    let a = and_parts _ _ h in
+    let b = and_parts _ _ a.0 in
+    let those = those_found v kind n names h in
+    ((b.0, names_within (most_groups v) (most_items v) (groups_within v) (items_within v) (n ∷ names) those), those.each)
 
 -- ---- and back
 
-range_back : (n : Name) → IsNameInRange n → is_in_range n ≡ true
-range_back n ok = and_from _ _ (and_from _ _ (lt-ltb _ _ ok.0) (lt-ltb _ _ ok.1)) (lt-ltb _ _ ok.2)
+range_back : (v : Version) (n : Name) → IsNameOf v n → is_in_range v n ≡ true
+range_back v n ok = and_from _ _ (and_from _ _ (lt-ltb _ _ ok.0) (lt-ltb _ _ ok.1)) (lt-ltb _ _ ok.2)
 
 or_left : (a b : Bool) → a ≡ true → (a || b) ≡ true
 or_left true b h = refl
@@ -139,26 +174,22 @@ ascending_later n names ascending k d lt =
     let e : suc k + 1 ≡ suc (k + 1) = omega arith in
     rw e at (ascending (suc k) d (omega arith))
 
-pub order_back : (names : List Name) → AreAscending names → All IsNameInRange names → are_in_order names ≡ true
-order_back [] ascending each = refl
-order_back (n ∷ []) ascending each = and_from _ _ (and_from _ _ (range_back n (each 0 n (omega arith))) refl) refl
-order_back (n ∷ m ∷ names) ascending each =
-    and_from _ _ (and_from _ _ (range_back n (each 0 n (omega arith))) (below_back n m (ascending 0 n (omega arith))))
-    (order_back (m ∷ names) (ascending_later n (m ∷ names) ascending) (λ k d lt. each (suc k) d (omega arith)))
+pub order_back : (v : Version) (names : List Name) → AreAscending names → All (IsNameOf v) names → are_in_order v names ≡ true
+order_back v [] ascending each = refl
+order_back v (n ∷ []) ascending each = and_from _ _ (and_from _ _ (range_back v n (each 0 n (omega arith))) refl) refl
+order_back v (n ∷ m ∷ names) ascending each =
+    and_from _ _ (and_from _ _ (range_back v n (each 0 n (omega arith))) (below_back n m (ascending 0 n (omega arith))))
+    (order_back v (m ∷ names) (ascending_later n (m ∷ names) ascending) (λ k d lt. each (suc k) d (omega arith)))
 
-pub names_back : (names : List Name) → AreNames names → (nat_le (length names) 4 ≡ true) × (are_in_order names ≡ true)
-names_back names ok = (le-leb _ _ ok.few, order_back names ok.ascending ok.each)
-
-pub naming_back : (kind : Kind) (names : List Name) → IsNamingOk kind names → is_naming_ok kind names ≡ true
-naming_back kind [] ok = refl
-naming_back kind (n ∷ names) ok =
-    let b = names_back (n ∷ names) ok.1 in
-    and_from _ _ (and_from _ _ ok.0 b.0) b.1
+pub naming_back : (v : Version) (kind : Kind) (names : List Name) → IsNamingOk kind names → All (IsNameOf v) names → is_naming_ok v kind names ≡ true
+naming_back v kind [] ok range = refl
+naming_back v kind (n ∷ names) ok range =
+    and_from _ _ (and_from _ _ ok.0 (le-leb _ _ ok.1.few)) (order_back v (n ∷ names) ok.1.ascending range)
 
 -- ---- from names to bytes and back
 
 -- a name in range does not fill its bytes with 255
-not_all : (g i r : ℕ) → g < 64
+not_all : (g i r : ℕ) → g < 65535
     → (g % 256 + 256 * (g / 256 % 256 + 256 * (i % 256 + 256 * (i / 256 % 256 + 256 * (r % 256 + 256 * (r / 256 % 256 + 256 * (r / 65536 % 256 + 256 * (r / 16777216 % 256 + 0)))))))) ≡ 18446744073709551615 → ⊥
 not_all g i r lt e = omega arith
 
@@ -170,14 +201,14 @@ unused_back (suc n) rest = unused_back n rest
 used_back : (n : ℕ) (name : Name) (names : List Name) (rest : List ℕ) → IsNameInRange name → are_unused (suc n) (names_bytes (suc n) (name ∷ names) ++ rest) ≡ false
 unfolding are_unused
 used_back n name names rest ok =
-    let group : name.at.group < 64 = ok.0 in
+    let group : name.at.group < 65535 = ok.0 in
     rw (ne_eqb _ 18446744073709551615 (not_all name.at.group name.at.item name.release group)) refl
 
 name_back : (n : ℕ) (name : Name) (names : List Name) (rest : List ℕ) → IsNameInRange name → name_in (names_bytes (suc n) (name ∷ names) ++ rest) ≡ name
 unfolding name_in
 name_back n name names rest ok =
-    let group : name.at.group < 64 = ok.0 in
-    let item : name.at.item < 256 = ok.1 in
+    let group : name.at.group < 65535 = ok.0 in
+    let item : name.at.item < 1024 = ok.1 in
     let release : name.release < 16777216 = ok.2 in
     rw (two_again name.at.group (omega arith), two_again name.at.item (omega arith), four_again name.release (omega arith)) refl
 

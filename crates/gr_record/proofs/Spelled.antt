@@ -1,5 +1,6 @@
 -- What is spelled is read again, whatever follows it.
 use Rattle.std.proofs.Common.{◌≡◌, ℕ, ◌+◌, ◌*◌, ◌<◌, ◌≤◌, Bool, true, false, cond, List, ◌++◌, length, drop, Some, None, Result, Ok, refl, sym, ap, ◌∙◌, arith}
+use Rattle.std.specs.Prelude.{All}
 use Rattle.std.proofs.lemmas.Bool.{lt-leb, le-ltb, ne_eqb}
 use Rattle.std.proofs.lemmas.List.{drop_at, length-append}
 use Rattle.gr_model.specs.declared.event.Event.{Event}
@@ -11,53 +12,53 @@ use Rattle.gr_model.specs.Events.{IsNamingOk, IsKindOk}
 use Rattle.gr_record.specs.declared.error.RecordError.{RecordError}
 use Rattle.gr_record.specs.declared.header.Header.{Header}
 use Rattle.gr_record.specs.declared.header.Version.{Version}
-use Rattle.gr_record.specs.declared.header.Version.TheVariants.{One, Two}
+use Rattle.gr_record.specs.declared.header.Version.TheVariants.{One, Two, Three}
 use Rattle.gr_record.specs.Versions.{places, record_length}
 use Rattle.gr_record.specs.Spelling.{kind_bytes, names_bytes, event_spelling, header_spelling, IsHeader}
 use Rattle.gr_record.specs.Reading.{bad_field_from, kind_of, space_at, names_in, naming, is_naming_ok, event_at, header_at}
 use Rattle.gr_record.specs.Laws.{SpelledIsRead, SpelledHeaderIsRead, NoSpellingBeginsAnother}
-use Rattle.gr_record.proofs.Places.{names_length, names_again, naming_back, each_in_range}
+use Rattle.gr_record.proofs.Places.{names_length, names_again, naming_back, each_in_range, IsNameOf}
 use Rattle.gr_record.proofs.Numbers.{two_again, four_again, space_back, space_fits, scope_back, scope_fits, order_back, order_fits}
 
 named_again : (b : Bool) (x : List Name) → b ≡ true → cond b (Some x) None ≡ Some x
 named_again true x e = refl
 named_again false x e = absurd cc
 
-module _ (h : Header) (most : h.items ≤ 256) (rest : List ℕ) where
+module _ (h : Header) (most : h.items ≤ 1024) (rest : List ℕ) where
   -- the names that are read behind the fields
-  names_read : (kind : Kind) (names : List Name) → length names ≤ places h.version → IsNamingOk kind names → naming kind (names_in (places h.version) (names_bytes (places h.version) names ++ rest)) ≡ Some names
-  names_read kind names few ok = rw (names_again (places h.version) names rest few (each_in_range kind names ok)) (named_again (is_naming_ok kind names) names (naming_back kind names ok))
+  names_read : (kind : Kind) (names : List Name) → length names ≤ places h.version → IsNamingOk kind names → All (IsNameOf h.version) names → naming h.version kind (names_in (places h.version) (names_bytes (places h.version) names ++ rest)) ≡ Some names
+  names_read kind names few ok range = rw (names_again (places h.version) names rest few (each_in_range kind names ok)) (named_again (is_naming_ok h.version kind names) names (naming_back h.version kind names ok range))
 
-  again : (item word : ℕ) (kind : Kind) (space : Space) (names : List Name) → length names ≤ places h.version → item < h.items → word < 4294967296 → IsNamingOk kind names → IsKindOk kind item space word
+  again : (item word : ℕ) (kind : Kind) (space : Space) (names : List Name) → length names ≤ places h.version → item < h.items → word < 4294967296 → IsNamingOk kind names → All (IsNameOf h.version) names → IsKindOk kind item space word
       → event_at h (event_spelling h.version (record { item = item; kind = kind; space = space; word = word; names = names }) ++ rest) ≡ Ok (record { item = item; kind = kind; space = space; word = word; names = names })
   unfolding event_at bad_field_from kind_of space_at
-  again item word Read space names few lt fits naming ok =
-      rw (space_fits space, names_read Read names few naming, two_again item (omega arith), four_again word fits, lt-leb h.items item lt, space_back space) refl
-  again item word Write space names few lt fits naming ok =
-      rw (space_fits space, names_read Write names few naming, two_again item (omega arith), four_again word fits, lt-leb h.items item lt, space_back space) refl
-  again item word (Load scope order) space names few lt fits naming ok =
-      rw (space_fits space, scope_fits scope, order_fits order, scope_back scope, order_back order, ok, names_read (Load scope order) names few naming, two_again item (omega arith), four_again word fits, lt-leb h.items item lt, space_back space) refl
-  again item word (Store scope order) space names few lt fits naming ok =
-      rw (space_fits space, scope_fits scope, order_fits order, scope_back scope, order_back order, ok, names_read (Store scope order) names few naming, two_again item (omega arith), four_again word fits, lt-leb h.items item lt, space_back space) refl
-  again item word (Rmw scope order) space names few lt fits naming ok =
-      rw (space_fits space, scope_fits scope, order_fits order, scope_back scope, order_back order, names_read (Rmw scope order) names few naming, two_again item (omega arith), four_again word fits, lt-leb h.items item lt, space_back space) refl
-  again item word (Barrier true true) space names few lt fits naming ok =
-      rw (ok, names_read (Barrier true true) names few naming, two_again item (omega arith), four_again word fits, lt-leb h.items item lt) refl
-  again item word (Barrier true false) space names few lt fits naming ok =
-      rw (ok, names_read (Barrier true false) names few naming, two_again item (omega arith), four_again word fits, lt-leb h.items item lt) refl
-  again item word (Barrier false true) space names few lt fits naming ok =
-      rw (ok, names_read (Barrier false true) names few naming, two_again item (omega arith), four_again word fits, lt-leb h.items item lt) refl
-  again item word (Barrier false false) space names few lt fits naming ok =
-      rw (ok, names_read (Barrier false false) names few naming, two_again item (omega arith), four_again word fits, lt-leb h.items item lt) refl
-  again item word (End true) space names few lt fits naming ok =
+  again item word Read space names few lt fits naming range ok =
+      rw (space_fits space, names_read Read names few naming range, two_again item (omega arith), four_again word fits, lt-leb h.items item lt, space_back space) refl
+  again item word Write space names few lt fits naming range ok =
+      rw (space_fits space, names_read Write names few naming range, two_again item (omega arith), four_again word fits, lt-leb h.items item lt, space_back space) refl
+  again item word (Load scope order) space names few lt fits naming range ok =
+      rw (space_fits space, scope_fits scope, order_fits order, scope_back scope, order_back order, ok, names_read (Load scope order) names few naming range, two_again item (omega arith), four_again word fits, lt-leb h.items item lt, space_back space) refl
+  again item word (Store scope order) space names few lt fits naming range ok =
+      rw (space_fits space, scope_fits scope, order_fits order, scope_back scope, order_back order, ok, names_read (Store scope order) names few naming range, two_again item (omega arith), four_again word fits, lt-leb h.items item lt, space_back space) refl
+  again item word (Rmw scope order) space names few lt fits naming range ok =
+      rw (space_fits space, scope_fits scope, order_fits order, scope_back scope, order_back order, names_read (Rmw scope order) names few naming range, two_again item (omega arith), four_again word fits, lt-leb h.items item lt, space_back space) refl
+  again item word (Barrier true true) space names few lt fits naming range ok =
+      rw (ok, names_read (Barrier true true) names few naming range, two_again item (omega arith), four_again word fits, lt-leb h.items item lt) refl
+  again item word (Barrier true false) space names few lt fits naming range ok =
+      rw (ok, names_read (Barrier true false) names few naming range, two_again item (omega arith), four_again word fits, lt-leb h.items item lt) refl
+  again item word (Barrier false true) space names few lt fits naming range ok =
+      rw (ok, names_read (Barrier false true) names few naming range, two_again item (omega arith), four_again word fits, lt-leb h.items item lt) refl
+  again item word (Barrier false false) space names few lt fits naming range ok =
+      rw (ok, names_read (Barrier false false) names few naming range, two_again item (omega arith), four_again word fits, lt-leb h.items item lt) refl
+  again item word (End true) space names few lt fits naming range ok =
       let some : 0 < h.items = omega arith in
-      rw (ok.0, ok.1, ok.2, names_read (End true) names few naming, lt-leb h.items 0 some) refl
-  again item word (End false) space names few lt fits naming ok =
+      rw (ok.0, ok.1, ok.2, names_read (End true) names few naming range, lt-leb h.items 0 some) refl
+  again item word (End false) space names few lt fits naming range ok =
       let some : 0 < h.items = omega arith in
-      rw (ok.0, ok.1, ok.2, names_read (End false) names few naming, lt-leb h.items 0 some) refl
+      rw (ok.0, ok.1, ok.2, names_read (End false) names few naming range, lt-leb h.items 0 some) refl
 
 pub spelled_is_read : SpelledIsRead
-spelled_is_read h e rest most fits = again h most rest e.item e.word e.kind e.space e.names fits.names fits.event.ok.0 fits.event.word fits.event.ok.1 fits.event.ok.2
+spelled_is_read h e rest most fits = again h most rest e.item e.word e.kind e.space e.names fits.names fits.event.ok.0 fits.event.word fits.event.ok.1 fits.range fits.event.ok.2
 
 header_again : (v : Version) (group items launch : ℕ) (rest : List ℕ) → IsHeader (record { version = v; group = group; items = items; launch = launch }) → header_at (header_spelling (record { version = v; group = group; items = items; launch = launch }) ++ rest) ≡ Ok (record { version = v; group = group; items = items; launch = launch })
 unfolding header_at
@@ -73,6 +74,12 @@ header_again Two group items launch rest fits =
     let le : items ≤ 256 = fits.items in
     let none : items ≡ 0 → ⊥ = λ e. absurd (omega arith) in
     rw (two_again group (omega arith), two_again items (omega arith), four_again launch fits.launch, lt-leb 64 group lt, ne_eqb items 0 none, le-ltb 256 items le) refl
+header_again Three group items launch rest fits =
+    let lt : group < 65535 = fits.group in
+    let some : 1 ≤ items = fits.some in
+    let le : items ≤ 1024 = fits.items in
+    let none : items ≡ 0 → ⊥ = λ e. absurd (omega arith) in
+    rw (two_again group (omega arith), two_again items (omega arith), four_again launch fits.launch, lt-leb 65535 group lt, ne_eqb items 0 none, le-ltb 1024 items le) refl
 
 pub spelled_header_is_read : SpelledHeaderIsRead
 spelled_header_is_read h rest fits = header_again h.version h.group h.items h.launch rest fits
@@ -90,6 +97,7 @@ kind_length (End cut) space = refl
 fields_and_names : (v : Version) → 12 + 8 * places v ≡ record_length v
 fields_and_names One = refl
 fields_and_names Two = refl
+fields_and_names Three = refl
 
 pub spelling_length : (v : Version) (e : Event) → length (event_spelling v e) ≡ record_length v
 spelling_length v e =

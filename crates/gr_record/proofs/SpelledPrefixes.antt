@@ -9,7 +9,7 @@ use Rattle.gr_model.specs.Streams.{is_complete}
 use Rattle.gr_record.specs.declared.error.RecordError.{RecordError}
 use Rattle.gr_record.specs.declared.header.Header.{Header}
 use Rattle.gr_record.specs.declared.header.Version.{Version}
-use Rattle.gr_record.specs.declared.header.Version.TheVariants.{One, Two}
+use Rattle.gr_record.specs.declared.header.Version.TheVariants.{One, Two, Three}
 use Rattle.gr_record.specs.declared.stop.Stop.TheVariants.{Inside, AtEnd}
 use Rattle.gr_record.specs.declared.layout.TheConstants.{HEADER_LENGTH}
 use Rattle.gr_record.specs.Versions.{record_length}
@@ -18,6 +18,7 @@ use Rattle.gr_record.specs.Reading.{header_at, event_at}
 use Rattle.gr_record.specs.Fronts.{Records, behind, step, records_of}
 use Rattle.gr_record.specs.Decoding.{close, read_from}
 use Rattle.gr_record.specs.PrefixLaws.{Runs, stop_after, SpelledPrefixIsRead}
+use Rattle.gr_record.proofs.Places.{header_items}
 use Rattle.gr_record.proofs.Loop.{short, next}
 use Rattle.gr_record.proofs.FoundPrefixes.{complete_behind}
 use Rattle.gr_record.proofs.Spelled.{spelled_is_read, spelled_header_is_read, spelling_length}
@@ -39,6 +40,7 @@ long_prefix n xs ys len = omega (arith, length-append xs ys)
 some_size : (v : Version) → 0 < record_length v
 some_size One = omega arith
 some_size Two = omega arith
+some_size Three = omega arith
 
 module _ (h : Header) (few : h.items ≤ MOST_ITEMS_OF_A_GROUP) where
   abbrev size : ℕ
@@ -77,5 +79,5 @@ pub spelled_prefix_is_read : SpelledPrefixIsRead
 unfolding read_from
 spelled_prefix_is_read limit h events prefix =
     let long : HEADER_LENGTH ≤ length (header_spelling h ++ events_spelling h.version events) = omega arith in
-    let records = records_spelled h prefix.header.items events limit prefix.runs prefix.few in
+    let records = records_spelled h (header_items h prefix.header) events limit prefix.runs prefix.few in
     rw (le-ltb (length (header_spelling h ++ events_spelling h.version events)) HEADER_LENGTH long, header_read h prefix.header, records, closed_after (is_complete events)) refl

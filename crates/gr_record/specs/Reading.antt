@@ -13,12 +13,12 @@ use Rattle.gr_model.specs.declared.event.Kind.{Kind}
 use Rattle.gr_model.specs.declared.event.Kind.TheVariants.{Read, Write, Load, Store, Rmw, Barrier, End}
 use Rattle.gr_model.specs.declared.event.Name.{Name}
 use Rattle.gr_model.specs.declared.event.Event.{Event}
-use Rattle.gr_model.specs.declared.limits.TheConstants.{MOST_GROUPS, MOST_ITEMS_OF_A_GROUP, MOST_NAMES, MOST_RECORDS}
+use Rattle.gr_model.specs.declared.limits.TheConstants.{MOST_NAMES, MOST_RECORDS}
 use Rattle.gr_model.specs.Access.{acquires, releases, is_acquire_kind}
 use Rattle.gr_record.specs.declared.header.Header.{Header}
 use Rattle.gr_record.specs.declared.header.Version.{Version}
-use Rattle.gr_record.specs.declared.header.Version.TheVariants.{One, Two}
-use Rattle.gr_record.specs.Versions.{places}
+use Rattle.gr_record.specs.declared.header.Version.TheVariants.{One, Two, Three}
+use Rattle.gr_record.specs.Versions.{places, most_groups, most_items}
 use Rattle.gr_record.specs.declared.error.RecordError.{RecordError}
 use Rattle.gr_record.specs.declared.error.RecordError.TheVariants as errors
 
@@ -28,15 +28,15 @@ field i n bytes = little_number n (drop i bytes)
 
 -- ---- headers
 
--- the version that the first four bytes say, as a number: `GRT1` or `GRT2`
+-- the version that the first four bytes say, as a number: `GRT1`, `GRT2` or `GRT3`
 abbrev pub version_of : ℕ → Option Version
-version_of magic = if magic == 0x31545247 then Some One else if magic == 0x32545247 then Some Two else None
+version_of magic = if magic == 0x31545247 then Some One else if magic == 0x32545247 then Some Two else if magic == 0x33545247 then Some Three else None
 
 -- what a whole header of this version says: group, items and launch
 abbrev pub header_behind : Option Version → List ℕ → Result Header RecordError
 header_behind None bytes = Err errors.BadMagic
 header_behind (Some version) bytes =
-    if nat_le MOST_GROUPS (field 4 2 bytes) || (field 6 2 bytes == 0) || nat_lt MOST_ITEMS_OF_A_GROUP (field 6 2 bytes) then Err errors.BadHeader
+    if nat_le (most_groups version) (field 4 2 bytes) || (field 6 2 bytes == 0) || nat_lt (most_items version) (field 6 2 bytes) then Err errors.BadHeader
     else Ok (record { version = version; group = field 4 2 bytes; items = field 6 2 bytes; launch = field 8 4 bytes })
 
 -- what a whole header says
@@ -122,9 +122,9 @@ is_order_ok (Rmw scope order) = true
 is_order_ok (Barrier global local) = true
 is_order_ok (End cut) = true
 
--- a name that some launch could have
-abbrev pub is_in_range : Name → Bool
-is_in_range name = nat_lt name.at.group MOST_GROUPS && nat_lt name.at.item MOST_ITEMS_OF_A_GROUP && nat_lt name.release MOST_RECORDS
+-- a name that some launch could have whose streams are of this version
+abbrev pub is_in_range : Version → Name → Bool
+is_in_range v name = nat_lt name.at.group (most_groups v) && nat_lt name.at.item (most_items v) && nat_lt name.release MOST_RECORDS
 
 -- by group, then by item, then by number
 abbrev pub is_below : Name → Name → Bool
@@ -137,18 +137,18 @@ is_below_first m [] = true
 is_below_first m (n ∷ names) = is_below m n
 
 -- each is in range, and below the next
-abbrev pub are_in_order : List Name → Bool
-are_in_order [] = true
-are_in_order (n ∷ names) = is_in_range n && is_below_first n names && are_in_order names
+abbrev pub are_in_order : Version → List Name → Bool
+are_in_order v [] = true
+are_in_order v (n ∷ names) = is_in_range v n && is_below_first n names && are_in_order v names
 
 -- names stand only at an acquire, and are names that one acquire may have
-abbrev pub is_naming_ok : Kind → List Name → Bool
-is_naming_ok kind [] = true
-is_naming_ok kind (n ∷ names) = is_acquire_kind kind && nat_le (length (n ∷ names)) MOST_NAMES && are_in_order (n ∷ names)
+abbrev pub is_naming_ok : Version → Kind → List Name → Bool
+is_naming_ok v kind [] = true
+is_naming_ok v kind (n ∷ names) = is_acquire_kind kind && nat_le (length (n ∷ names)) MOST_NAMES && are_in_order v (n ∷ names)
 
--- the names that a record of this kind has, if it may have them
-abbrev pub naming : Kind → List Name → Option (List Name)
-naming kind names = if is_naming_ok kind names then Some names else None
+-- the names that a record of this kind has in a stream of this version, if it may have them
+abbrev pub naming : Version → Kind → List Name → Option (List Name)
+naming v kind names = if is_naming_ok v kind names then Some names else None
 
 abbrev pub unless_bad : {X : Type 0} → Option ℕ → Result X RecordError → Result X RecordError
 unless_bad (Some place) next = Err (errors.BadField place)
@@ -165,6 +165,6 @@ event_at h bytes =
     if nat_lt 6 (slice_index bytes 0) then Err errors.BadKind
     else unless_bad (bad_field bytes)
     (if not (is_order_ok (kind_of bytes)) then Err errors.BadOrder
-    else unless_bad_names (naming (kind_of bytes) (names_at h.version bytes)) (λ names.
+    else unless_bad_names (naming h.version (kind_of bytes) (names_at h.version bytes)) (λ names.
     if nat_le h.items (field 4 2 bytes) then Err errors.UnknownItem
     else Ok (record { item = field 4 2 bytes; kind = kind_of bytes; space = space_at bytes; word = field 8 4 bytes; names = names })))

@@ -1,6 +1,6 @@
 -- The one spelling of a header and of each event, as bytes. Numbers are little endian.
 -- Source: docs/FORMATS.md, "Stream".
-use Rattle.std.specs.Prelude.{ℕ, ◌+◌, ◌*◌, ◌^◌, ◌<◌, ◌≤◌, Bool, List, [], ◌∷◌, ◌++◌, length, replicate, Option, Some, None, zero, suc, if◌then◌else◌}
+use Rattle.std.specs.Prelude.{ℕ, ◌+◌, ◌*◌, ◌^◌, ◌<◌, ◌≤◌, Bool, List, [], ◌∷◌, ◌++◌, length, replicate, Option, Some, None, All, zero, suc, if◌then◌else◌}
 use Rattle.std.specs.List.{flat_map}
 use Rattle.byteorder.specs.Endian.{little_bytes}
 use Rattle.gr_model.specs.declared.event.Space.{Space}
@@ -13,12 +13,12 @@ use Rattle.gr_model.specs.declared.event.Kind.{Kind}
 use Rattle.gr_model.specs.declared.event.Kind.TheVariants.{Read, Write, Load, Store, Rmw, Barrier, End}
 use Rattle.gr_model.specs.declared.event.Name.{Name}
 use Rattle.gr_model.specs.declared.event.Event.{Event}
-use Rattle.gr_model.specs.declared.limits.TheConstants.{MOST_GROUPS, MOST_ITEMS_OF_A_GROUP}
 use Rattle.gr_model.specs.Events.{IsEventOk}
+use Rattle.gr_model.specs.NameLists.{IsNameWithin}
 use Rattle.gr_record.specs.declared.header.Header.{Header}
 use Rattle.gr_record.specs.declared.header.Version.{Version}
-use Rattle.gr_record.specs.declared.header.Version.TheVariants.{One, Two}
-use Rattle.gr_record.specs.Versions.{places}
+use Rattle.gr_record.specs.declared.header.Version.TheVariants.{One, Two, Three}
+use Rattle.gr_record.specs.Versions.{places, most_groups, most_items}
 
 -- a byte for a space, a scope, an order, a truth
 abbrev pub space_byte : Space → ℕ
@@ -71,10 +71,11 @@ fields_bytes e = kind_bytes e.kind e.space ++ little_bytes 2 e.item ++ 0 ∷ 0 �
 abbrev pub event_spelling : Version → Event → List ℕ
 event_spelling v e = fields_bytes e ++ names_bytes (places v) e.names
 
--- `GRT1` or `GRT2`
+-- `GRT1`, `GRT2` or `GRT3`
 abbrev pub version_byte : Version → ℕ
 version_byte One = 0x31
 version_byte Two = 0x32
+version_byte Three = 0x33
 
 -- these four bytes, then group, items and launch
 abbrev pub header_spelling : Header → List ℕ
@@ -85,9 +86,9 @@ events_spelling v es = flat_map (event_spelling v) es
 
 -- a header that a stream may begin with
 pub record IsHeader (h : Header) : Type 0 where
-  pub group : h.group < MOST_GROUPS
+  pub group : h.group < most_groups h.version
   pub some : 1 ≤ h.items
-  pub items : h.items ≤ MOST_ITEMS_OF_A_GROUP
+  pub items : h.items ≤ most_items h.version
   pub launch : h.launch < 2 ^ 32
 
 -- an event that a stream of so many items may have: a group may have it, and its word is a number of 4 bytes
@@ -95,7 +96,8 @@ pub record IsEvent (items : ℕ) (e : Event) : Type 0 where
   pub ok : IsEventOk e items
   pub word : e.word < 2 ^ 32
 
--- a record that the stream of this header may have: it has room for the names
+-- a record that the stream of this header may have: it has room for the names, and they are those of a launch of its version
 pub record IsRecord (h : Header) (e : Event) : Type 0 where
   pub event : IsEvent h.items e
   pub names : length e.names ≤ places h.version
+  pub range : All (IsNameWithin (most_groups h.version) (most_items h.version)) e.names

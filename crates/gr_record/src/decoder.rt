@@ -64,7 +64,7 @@ fn records_in(version: Version, bytes: usize) -> usize
 {
     match version {
         Version::One => bytes / RECORD_LENGTH,
-        Version::Two => bytes / LONG_RECORD_LENGTH,
+        Version::Two | Version::Three => bytes / LONG_RECORD_LENGTH,
     }
 }
 

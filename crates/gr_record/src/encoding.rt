@@ -19,11 +19,12 @@ fn byte_of_version(version: Version) -> u8
     match version {
         Version::One => b'1',
         Version::Two => b'2',
+        Version::Three => b'3',
     }
 }
 
 /// Writes the 12 bytes of a header (docs/FORMATS.md, "Stream").
-/// Requires: the header is in range: `group` is below `MOST_GROUPS`, and `items` is 1 to `MOST_ITEMS_OF_A_GROUP`.
+/// Requires: the header is in range: `group` is below its version's `most_groups`, and `items` is 1 to its `most_items`.
 pub fn encode_header(header: &Header, bytes: &mut [u8; HEADER_LENGTH])
     requires { IsHeader header.now }
     ensures { bytes.new ≡ header_spelling header.now }
@@ -135,7 +136,7 @@ pub fn encode_event(event: &Event, bytes: &mut [u8; RECORD_LENGTH])
     encode_name(name_at(event.names.as_slice(), 0), &mut bytes[12..]);
 }
 
-/// Writes the 44 bytes of a record of a stream of version 2 (docs/FORMATS.md, "Stream").
+/// Writes the 44 bytes of a record of a stream of version 2 or 3 (docs/FORMATS.md, "Stream").
 /// Requires: the record is in range: some group may have it, as `event_ok` with `MOST_ITEMS_OF_A_GROUP` tells.
 pub fn encode_event2(event: &Event, bytes: &mut [u8; LONG_RECORD_LENGTH])
     requires { IsEventOk event.now MOST_ITEMS_OF_A_GROUP }

@@ -1,18 +1,22 @@
 //! What stands before the records of a stream (docs/FORMATS.md, "Stream").
 
 ghost use Rattle.std.specs.Prelude.{◌≡◌, ◌<◌, ◌≤◌};
-ghost use Rattle.gr_record.specs.Versions.{places, record_length};
+ghost use Rattle.gr_record.specs.Versions.{places, record_length, most_groups, most_items};
 
 use crate::layout::{LONG_RECORD_LENGTH, RECORD_LENGTH};
-use gr_model::limits::MOST_NAMES;
+use gr_model::limits::{FEW_GROUPS, FEW_ITEMS_OF_A_GROUP, MOST_GROUPS, MOST_ITEMS_OF_A_GROUP, MOST_NAMES};
 
-/// The version of a stream, which says how many names its records have room for.
+/// The version of a stream, which says how many names its records have room for, and how large its launch may be.
 #[derive(Clone, Copy, Debug, PartialEq, Eq)]
 pub enum Version {
-    /// A record has room for one name.
+    /// A record has room for one name. The launch has at most `FEW_GROUPS` groups, each of at most `FEW_ITEMS_OF_A_GROUP`
+    /// items.
     One,
-    /// A record has room for `MOST_NAMES` names.
+    /// A record has room for `MOST_NAMES` names. The launch is as with version 1.
     Two,
+    /// Records are those of version 2, of a launch of at most `MOST_GROUPS` groups, each of at most `MOST_ITEMS_OF_A_GROUP`
+    /// items.
+    Three,
 }
 
 /// The header of a stream: its version, its work-group, how many work-items that has, and the launch that it is of.
@@ -20,9 +24,9 @@ pub enum Version {
 pub struct Header {
     /// The version of the stream.
     pub version: Version,
-    /// The number of the work-group, below `gr_model::limits::MOST_GROUPS`.
+    /// The number of the work-group, below the version's `most_groups`.
     pub group: u16,
-    /// How many work-items the group has: 1 to `gr_model::limits::MOST_ITEMS_OF_A_GROUP`.
+    /// How many work-items the group has: 1 to the version's `most_items`.
     pub items: u16,
     /// A number that all streams of one launch have.
     pub launch: u32,
@@ -35,7 +39,29 @@ impl Version {
     {
         match self {
             Version::One => 1,
-            Version::Two => MOST_NAMES,
+            Version::Two | Version::Three => MOST_NAMES,
+        }
+    }
+
+    /// How many work-groups a launch may have.
+    pub fn most_groups(self) -> usize
+        ensures groups { result ≡ most_groups self }
+        ensures few { result ≤ MOST_GROUPS }
+    {
+        match self {
+            Version::One | Version::Two => FEW_GROUPS,
+            Version::Three => MOST_GROUPS,
+        }
+    }
+
+    /// How many work-items a work-group may have.
+    pub fn most_items(self) -> u16
+        ensures items { result ≡ most_items self }
+        ensures few { result ≤ MOST_ITEMS_OF_A_GROUP }
+    {
+        match self {
+            Version::One | Version::Two => FEW_ITEMS_OF_A_GROUP,
+            Version::Three => MOST_ITEMS_OF_A_GROUP,
         }
     }
 
@@ -47,7 +73,7 @@ impl Version {
     {
         match self {
             Version::One => RECORD_LENGTH,
-            Version::Two => LONG_RECORD_LENGTH,
+            Version::Two | Version::Three => LONG_RECORD_LENGTH,
         }
     }
 }

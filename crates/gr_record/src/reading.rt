@@ -4,7 +4,7 @@
 //! "Faults of a whole record").
 
 ghost use Rattle.std.specs.Prelude.{◌≡◌, ◌≤◌, ◌*◌, ◌||◌, ◌==◌, IsTrue, None, Some, if◌then◌else◌, [], length, nat_le, nat_lt, take};
-ghost use Rattle.gr_record.specs.Versions.{record_length};
+ghost use Rattle.gr_record.specs.Versions.{record_length, most_groups, most_items};
 ghost use Rattle.gr_record.specs.Reading.{version_of, header_at, header_behind, is_field_ok, bad_field, space_of, scope_of, order_of, kind_of, space_at, are_unused, name_in, names_in, names_at, is_order_ok, naming, event_at};
 
 use crate::error::RecordError;
@@ -12,7 +12,7 @@ use crate::header::{Header, Version};
 use crate::layout::{FIELDS_LENGTH, HEADER_LENGTH, NAME_LENGTH, RECORD_LENGTH};
 use byteorder::{ByteOrder, LittleEndian};
 use gr_model::event::{Event, ItemId, Kind, Name, Order, Scope, Space};
-use gr_model::limits::{MOST_GROUPS, MOST_ITEMS_OF_A_GROUP, MOST_NAMES};
+use gr_model::limits::MOST_NAMES;
 use gr_model::names::Names;
 
 /// The bytes `GRT1` as one number.
@@ -20,6 +20,9 @@ const MAGIC_ONE: u32 = 0x3154_5247;
 
 /// The bytes `GRT2` as one number.
 const MAGIC_TWO: u32 = 0x3254_5247;
+
+/// The bytes `GRT3` as one number.
+const MAGIC_THREE: u32 = 0x3354_5247;
 
 const READ: u8 = 0;
 
@@ -48,6 +51,7 @@ fn read_version(magic: u32) -> Option<Version>
     match magic {
         MAGIC_ONE => Some(Version::One),
         MAGIC_TWO => Some(Version::Two),
+        MAGIC_THREE => Some(Version::Three),
         _ => None,
     }
 }
@@ -65,11 +69,11 @@ pub(crate) fn read_header(bytes: &[u8]) -> Result<Header, RecordError>
     read_launch(version, bytes)
 }
 
-/// Whether no launch has a group of this number, or none with so many items.
-fn is_out_of_range(group: u16, items: u16) -> bool
-    ensures { result ≡ nat_le MOST_GROUPS group || (items == 0) || nat_lt MOST_ITEMS_OF_A_GROUP items }
+/// Whether no launch of this version has a group of this number, or none with so many items.
+fn is_out_of_range(version: Version, group: u16, items: u16) -> bool
+    ensures { result ≡ nat_le (most_groups version) group || (items == 0) || nat_lt (most_items version) items }
 {
-    usize::from(group) >= MOST_GROUPS || items == 0 || items > MOST_ITEMS_OF_A_GROUP
+    usize::from(group) >= version.most_groups() || items == 0 || items > version.most_items()
 }
 
 /// What a whole header of this version says of group, items and launch, or its fault.
@@ -81,7 +85,7 @@ fn read_launch(version: Version, bytes: &[u8]) -> Result<Header, RecordError>
     let group = LittleEndian::read_u16(&bytes[4..]);
     let items = LittleEndian::read_u16(&bytes[6..]);
     let launch = LittleEndian::read_u32(&bytes[8..]);
-    if is_out_of_range(group, items) {
+    if is_out_of_range(version, group, items) {
         return Err(RecordError::BadHeader);
     }
     Ok(Header {
@@ -287,14 +291,14 @@ pub fn order_fits(kind: Kind) -> bool
 }
 
 /// The names as those of a record of this kind, or `None` if it may not have them: names stand only at an acquire, and
-/// are at most `MOST_NAMES`, in strictly ascending order, and each in range.
-pub fn naming(kind: Kind, names: &[Name]) -> Option<Names>
-    ensures { result ≡ naming kind names.now }
+/// are at most `MOST_NAMES`, in strictly ascending order, and each in the range of a launch of this version.
+pub fn naming(version: Version, kind: Kind, names: &[Name]) -> Option<Names>
+    ensures { result ≡ naming version kind names.now }
 {
     if names.is_empty() {
         Some(Names::none())
     } else if kind.is_acquire() {
-        Names::new(names)
+        Names::within(names, version.most_groups(), version.most_items())
     } else {
         None
     }
@@ -305,10 +309,10 @@ pub fn naming(kind: Kind, names: &[Name]) -> Option<Names>
 #[inline(never)]
 fn read_used(version: Version, bytes: &[u8]) -> Option<Names>
     requires { length bytes.now ≡ record_length version }
-    ensures { result ≡ naming (kind_of bytes.now) (names_at version bytes.now) }
+    ensures { result ≡ naming version (kind_of bytes.now) (names_at version bytes.now) }
 {
     let (names, used) = read_names(&bytes[FIELDS_LENGTH..], version.places());
-    naming(read_kind(bytes), &names[..used])
+    naming(version, read_kind(bytes), &names[..used])
 }
 
 /// Whether the kind of a whole record may have its names, which then stand in `names`. It stands apart from `put_names`,
@@ -317,7 +321,7 @@ fn read_used(version: Version, bytes: &[u8]) -> Option<Names>
 #[inline(always)]
 fn put_used(version: Version, bytes: &[u8], names: &mut Names) -> bool
     requires { length bytes.now ≡ record_length version }
-    ensures { naming (kind_of bytes.now) (names_at version bytes.now) ≡ (if result then Some names.new else None) }
+    ensures { naming version (kind_of bytes.now) (names_at version bytes.now) ≡ (if result then Some names.new else None) }
 {
     let Some(used) = read_used(version, bytes) else {
         return false;
@@ -332,7 +336,7 @@ fn put_used(version: Version, bytes: &[u8], names: &mut Names) -> bool
 fn put_names(version: Version, bytes: &[u8], names: &mut Names) -> bool
     requires length { length bytes.now ≡ record_length version }
     requires none { names.old ≡ [] }
-    ensures { naming (kind_of bytes.now) (names_at version bytes.now) ≡ (if result then Some names.new else None) }
+    ensures { naming version (kind_of bytes.now) (names_at version bytes.now) ≡ (if result then Some names.new else None) }
 {
     are_unused(&bytes[FIELDS_LENGTH..], version.places()) || put_used(version, bytes, names)
 }

@@ -92,7 +92,7 @@ pub(crate) fn launch_of<'a, A: Allocator + Copy>(
         return Err(Fault::MissingGroup(group));
     }
     let sizes = sizes_of(alloc, &streams)?;
-    let shape = match Shape::new(sizes) {
+    let shape = match Shape::of_launch(sizes) {
         Ok(shape) => shape,
         Err(error) => return Err(Fault::Shape(error)),
     };

@@ -27,7 +27,7 @@ pub struct Report<A: Allocator = Global> {
     /// How many work-groups there are.
     pub groups: u16,
     /// How many work-items there are in all.
-    pub items: u16,
+    pub items: u32,
     /// How many records there are, ends included.
     pub records: u64,
 }

@@ -9,4 +9,4 @@ pub returns-clause-held : goal.returns-clause-held
 returns-clause-held g c =
     let q : Sequence = record { taken = c.self.inside.lanes.streams; handled = c.self.inside.handled } in
     let held = held_at q c.self.inside.frontier c.self.inside.held c.self.invariant.kept.state in
-    subst (λ (v : Sequence). IsAtRest v.taken v.handled → IsHeld v.taken c.from.result) c.self.view_is (subst (λ n. IsAtRest q.taken q.handled → IsHeld q.taken n) (sym c.from.ensures) held)
+    subst (λ (v : Sequence). IsAtRest v.taken v.handled → IsHeld v.taken c.self.inside.held) c.self.view_is held
