@@ -11,7 +11,6 @@ use gr_order::steps::Ready;
 use std::alloc::{Allocator, Global};
 use std::marker::Model;
 
-
 /// The steps that may have become ready, and whether memory was too short for one of them.
 #[derive(Drop)]
 #[derive_where(Debug)]

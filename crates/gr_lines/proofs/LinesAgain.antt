@@ -14,31 +14,36 @@ use Rattle.gr_model.specs.Access.{is_acquire_kind}
 use Rattle.gr_model.specs.Events.{IsNamingOk, IsKindOk, end_of}
 use Rattle.gr_record.specs.declared.header.Header.{Header}
 use Rattle.gr_record.specs.declared.header.Version.{Version}
-use Rattle.gr_record.specs.declared.header.Version.TheVariants.{One, Two, Three}
+use Rattle.gr_record.specs.declared.header.Version.TheVariants.{One, Two, Three, Four}
 use Rattle.gr_model.specs.NameLists.{IsNameInRange}
 use Rattle.gr_lines.specs.declared.line.Line.TheVariants as lines
 use Rattle.gr_record.specs.Versions.{most_groups, most_items}
-use Rattle.gr_record.specs.Reading.{is_order_ok}
+use Rattle.gr_record.specs.Reading.{is_order_ok, is_naming_ok}
 use Rattle.gr_record.specs.Spelling.{IsHeader}
 use Rattle.gr_lines.specs.LineText.{space_word, scope_word, order_word, flags_word, version_words, name_words, names_words, later_text, line_text}
 use Rattle.gr_lines.specs.LineReading.{same, IsWord, first_of, header_said, version_said, name_said, names_said, kind_said, atomic_said, barrier_said, event_said, checked, ◌>>=◌, line_said}
 use Rattle.gr_lines.specs.LineLaws.{TextIsRead}
 use Rattle.gr_lines.proofs.LineNumbers.{same_self, number_back}
 use Rattle.gr_lines.proofs.LineWords.{decimal_word, no_key, key_word, space_is_word, scope_is_word, order_is_word, flags_are_word, space_again, scope_again, order_again, flags_again, short_again, first_of_more, first_of_last}
-use Rattle.gr_record.proofs.Places.{header_group, header_items, naming_back, few_names, each_in_range}
+use Rattle.gr_record.proofs.Places.{header_group, header_items, items_within, naming_back, few_names, each_in_range}
 
 third_not_second : same (codes "v3") (codes "v2") ≡ false
 unfolding same
 third_not_second = refl
 
+fourth_not_earlier : (same (codes "v4") (codes "v2") ≡ false) × (same (codes "v4") (codes "v3") ≡ false)
+unfolding same
+fourth_not_earlier = (refl, refl)
+
 version_again : (v : Version) (word : List ℕ) → IsWord word → ((first_of (word ++ later_text (version_words v))).0 ≡ word) × (version_said (first_of (word ++ later_text (version_words v))).1 ≡ Some v)
 version_again One word is = let w = first_of_last word is in rw w (refl, refl)
 version_again Two word is = let w = first_of_more word (codes "v2") [] is in rw (w, same_self (codes "v2")) (refl, refl)
 version_again Three word is = let w = first_of_more word (codes "v3") [] is in rw (w, third_not_second, same_self (codes "v3")) (refl, refl)
+version_again Four word is = let w = first_of_more word (codes "v4") [] is in rw (w, fourth_not_earlier.0, fourth_not_earlier.1, same_self (codes "v4")) (refl, refl)
 
-header_again : (h : Header) → IsHeader h → line_said (line_text (lines.Header h)) ≡ Some (lines.Header h)
+header_again : (v : Version) (h : Header) → IsHeader h → line_said v (line_text (lines.Header h)) ≡ Some (lines.Header h)
 unfolding line_said header_said
-header_again h ok =
+header_again v h ok =
     let few : h.group < 65535 = header_group h ok in
     let group : h.group < most_groups h.version = ok.group in
     let some : 1 ≤ h.items = ok.some in
@@ -98,7 +103,7 @@ atomic_again key kind item space word scope order names is ok =
     let w0 = first_of_more (scope_word scope) (order_word order) (names_words names) (scope_is_word scope) in
     let w1 = word_before (order_word order) (names_words names) (order_is_word order) in
     let said = names_again names 4 (few_names kind names ok) (each_in_range kind names ok) in
-    rw (w0, w1, scope_again scope, order_again order, is, said, naming_back Three kind names ok (each_in_range kind names ok)) refl
+    rw (w0, w1, scope_again scope, order_again order, is, said, naming_back Four kind names ok (each_in_range kind names ok)) refl
 
 module _ (item word : ℕ) (space : Space) (fits : word < 2 ^ 32) where
   abbrev place_words : List (List ℕ) → List (List ℕ)
@@ -158,36 +163,42 @@ module _ (item word : ℕ) (space : Space) (fits : word < 2 ^ 32) where
 
 -- ---- the whole line
 
-checked_again : (e : Event) → e.item < 1024 → is_order_ok e.kind ≡ true → checked e ≡ Some e
-checked_again e lt order = rw (lt-ltb e.item 1024 lt, order) refl
+checked_again : (v : Version) (e : Event) → e.item < most_items v → is_order_ok e.kind ≡ true → is_naming_ok v e.kind e.names ≡ true → checked v e ≡ Some e
+checked_again v e lt order named = rw (lt-ltb e.item (most_items v) lt, order, named) refl
 
-event_line : (e : Event) (key : List ℕ) (words : List (List ℕ)) → e.item < 1024 → is_order_ok e.kind ≡ true → event_said e.item (key ++ later_text words) ≡ Some e
-    → line_said (decimal e.item ++ later_text (key ∷ words)) ≡ Some (lines.Event e)
-unfolding line_said
-event_line e key words lt order is =
-    let w = first_of_more (decimal e.item) key words (decimal_word e.item (omega arith)) in
-    rw (w, no_key e.item (codes "group") (omega arith) refl, no_key e.item (codes "end") (omega arith) refl, short_again e.item (omega arith), is) (ap (λ (o : Option Event). o >>= λ x. Some (lines.Event x)) (checked_again e lt order))
+few_items : (v : Version) → most_items v ≤ 1024
+few_items v = items_within v
 
-end_again : (cut : Bool) → line_said (line_text (lines.Event (end_of cut))) ≡ Some (lines.Event (end_of cut))
-unfolding line_said same
-end_again true = rw (first_of_more (codes "end") (codes "cut") [] (key_word (codes "end") refl)) refl
-end_again false = rw (first_of_last (codes "end") (key_word (codes "end") refl)) refl
+-- a line of a stream of one version
+module _ (v : Version) where
+  event_line : (e : Event) (key : List ℕ) (words : List (List ℕ)) → e.item < most_items v → is_order_ok e.kind ≡ true → is_naming_ok v e.kind e.names ≡ true → event_said e.item (key ++ later_text words) ≡ Some e
+      → line_said v (decimal e.item ++ later_text (key ∷ words)) ≡ Some (lines.Event e)
+  unfolding line_said
+  event_line e key words lt order named is =
+      let few = few_items v in
+      let w = first_of_more (decimal e.item) key words (decimal_word e.item (omega arith)) in
+      rw (w, no_key e.item (codes "group") (omega arith) refl, no_key e.item (codes "end") (omega arith) refl, short_again e.item (omega arith), is) (ap (λ (o : Option Event). o >>= λ x. Some (lines.Event x)) (checked_again v e lt order named))
 
-event_again : (item word : ℕ) (kind : Kind) (space : Space) (names : List Name) → item < 1024 → word < 2 ^ 32 → IsNamingOk kind names → IsKindOk kind item space word
-    → line_said (line_text (lines.Event (record { item = item; kind = kind; space = space; word = word; names = names }))) ≡ Some (lines.Event (record { item = item; kind = kind; space = space; word = word; names = names }))
-event_again item word Read space [] lt fits naming ok = event_line _ (codes "r") (space_word space ∷ decimal word ∷ []) lt refl (read_again item word space fits)
-event_again item word Read space (n ∷ names) lt fits naming ok = absurd (none_named Read n names naming refl)
-event_again item word Write space [] lt fits naming ok = event_line _ (codes "w") (space_word space ∷ decimal word ∷ []) lt refl (write_again item word space fits)
-event_again item word Write space (n ∷ names) lt fits naming ok = absurd (none_named Write n names naming refl)
-event_again item word (Load scope order) space names lt fits naming ok = event_line _ (codes "ld") (space_word space ∷ decimal word ∷ scope_word scope ∷ order_word order ∷ names_words names) lt (ap not ok) (load_again item word space fits scope order names naming)
-event_again item word (Store scope order) space names lt fits naming ok = event_line _ (codes "st") (space_word space ∷ decimal word ∷ scope_word scope ∷ order_word order ∷ names_words names) lt (ap not ok) (store_again item word space fits scope order names naming)
-event_again item word (Rmw scope order) space names lt fits naming ok = event_line _ (codes "rmw") (space_word space ∷ decimal word ∷ scope_word scope ∷ order_word order ∷ names_words names) lt refl (rmw_again item word space fits scope order names naming)
-event_again item word (Barrier global local) space [] lt fits naming ok = rw ok (event_line _ (codes "bar") (decimal word ∷ flags_word global local ∷ []) lt refl (barrier_again item word space fits global local))
-event_again item word (Barrier global local) space (n ∷ names) lt fits naming ok = absurd (none_named (Barrier global local) n names naming refl)
-event_again item word (End true) space [] lt fits naming ok = rw (ok.0, ok.1, ok.2) (end_again true)
-event_again item word (End false) space [] lt fits naming ok = rw (ok.0, ok.1, ok.2) (end_again false)
-event_again item word (End cut) space (n ∷ names) lt fits naming ok = absurd (none_named (End cut) n names naming refl)
+  end_again : (cut : Bool) → line_said v (line_text (lines.Event (end_of cut))) ≡ Some (lines.Event (end_of cut))
+  unfolding line_said same
+  end_again true = rw (first_of_more (codes "end") (codes "cut") [] (key_word (codes "end") refl)) refl
+  end_again false = rw (first_of_last (codes "end") (key_word (codes "end") refl)) refl
+
+  event_again : (item word : ℕ) (kind : Kind) (space : Space) (names : List Name) → item < most_items v → word < 2 ^ 32 → IsNamingOk kind names → is_naming_ok v kind names ≡ true → IsKindOk kind item space word
+      → line_said v (line_text (lines.Event (record { item = item; kind = kind; space = space; word = word; names = names }))) ≡ Some (lines.Event (record { item = item; kind = kind; space = space; word = word; names = names }))
+  event_again item word Read space [] lt fits naming named ok = event_line _ (codes "r") (space_word space ∷ decimal word ∷ []) lt refl named (read_again item word space fits)
+  event_again item word Read space (n ∷ names) lt fits naming named ok = absurd (none_named Read n names naming refl)
+  event_again item word Write space [] lt fits naming named ok = event_line _ (codes "w") (space_word space ∷ decimal word ∷ []) lt refl named (write_again item word space fits)
+  event_again item word Write space (n ∷ names) lt fits naming named ok = absurd (none_named Write n names naming refl)
+  event_again item word (Load scope order) space names lt fits naming named ok = event_line _ (codes "ld") (space_word space ∷ decimal word ∷ scope_word scope ∷ order_word order ∷ names_words names) lt (ap not ok) named (load_again item word space fits scope order names naming)
+  event_again item word (Store scope order) space names lt fits naming named ok = event_line _ (codes "st") (space_word space ∷ decimal word ∷ scope_word scope ∷ order_word order ∷ names_words names) lt (ap not ok) named (store_again item word space fits scope order names naming)
+  event_again item word (Rmw scope order) space names lt fits naming named ok = event_line _ (codes "rmw") (space_word space ∷ decimal word ∷ scope_word scope ∷ order_word order ∷ names_words names) lt refl named (rmw_again item word space fits scope order names naming)
+  event_again item word (Barrier global local) space [] lt fits naming named ok = rw ok (event_line _ (codes "bar") (decimal word ∷ flags_word global local ∷ []) lt refl named (barrier_again item word space fits global local))
+  event_again item word (Barrier global local) space (n ∷ names) lt fits naming named ok = absurd (none_named (Barrier global local) n names naming refl)
+  event_again item word (End true) space [] lt fits naming named ok = rw (ok.0, ok.1, ok.2) (end_again true)
+  event_again item word (End false) space [] lt fits naming named ok = rw (ok.0, ok.1, ok.2) (end_again false)
+  event_again item word (End cut) space (n ∷ names) lt fits naming named ok = absurd (none_named (End cut) n names naming refl)
 
 pub text_is_read : TextIsRead
-text_is_read (lines.Header h) ok = header_again h ok
-text_is_read (lines.Event e) ok = event_again e.item e.word e.kind e.space e.names ok.ok.0 ok.word ok.ok.1 ok.ok.2
+text_is_read v (lines.Header h) ok = header_again v h ok
+text_is_read v (lines.Event e) (ok, range) = event_again v e.item e.word e.kind e.space e.names ok.ok.0 ok.word ok.ok.1 (naming_back v e.kind e.names ok.ok.1 range) ok.ok.2

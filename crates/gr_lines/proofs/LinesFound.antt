@@ -13,11 +13,12 @@ use Rattle.gr_model.specs.declared.limits.TheConstants.{MOST_NAMES}
 use Rattle.gr_model.specs.Events.{IsKindOk, IsNamingOk, end_of}
 use Rattle.gr_record.proofs.Places.{naming_found}
 use Rattle.gr_record.specs.declared.header.Version.{Version}
-use Rattle.gr_record.specs.declared.header.Version.TheVariants.{One, Two, Three}
+use Rattle.gr_record.specs.declared.header.Version.TheVariants.{One, Two, Three, Four}
 use Rattle.gr_record.specs.declared.header.Header.{Header}
 use Rattle.gr_lines.specs.declared.line.Line.{Line}
 use Rattle.gr_lines.specs.declared.line.Line.TheVariants as lines
 use Rattle.gr_record.specs.Reading.{is_order_ok, naming}
+use Rattle.gr_record.specs.Versions.{most_items}
 use Rattle.gr_record.specs.Spelling.{IsHeader}
 use Rattle.gr_lines.specs.LineText.{space_word, scope_word, order_word, flags_word, version_words, names_words, first_word, later_words, later_text, line_text}
 use Rattle.gr_lines.specs.LineReading.{same, number_of, short_of, behind_space, first_of, ◌>>=◌, at_end, space_said, scope_said, order_said, flags_said, header_said, version_said, name_said, names_said, kind_said, atomic_said, barrier_said, event_said, checked, end_said, line_said}
@@ -120,8 +121,12 @@ version_found (Some rest) v e =
     elim (cases_Bool (same rest (codes "v2"))) [
       | inl two ↦ ap (λ (x : List ℕ). 32 ∷ x) (same_is rest (codes "v2") two) ∙ ap (λ (x : Version). later_text (version_words x)) (some_is Two v (rw two at e))
       | inr other ↦
-          let g = guard_some _ (Some Three) v (rw other at e) in
-          ap (λ (x : List ℕ). 32 ∷ x) (same_is rest (codes "v3") g.0) ∙ ap (λ (x : Version). later_text (version_words x)) (some_is Three v g.1)
+          elim (cases_Bool (same rest (codes "v3"))) [
+            | inl three ↦ ap (λ (x : List ℕ). 32 ∷ x) (same_is rest (codes "v3") three) ∙ ap (λ (x : Version). later_text (version_words x)) (some_is Three v (rw (other, three) at e))
+            | inr neither ↦
+                let g = guard_some _ (Some Four) v (rw (other, neither) at e) in
+                ap (λ (x : List ℕ). 32 ∷ x) (same_is rest (codes "v4") g.0) ∙ ap (λ (x : Version). later_text (version_words x)) (some_is Four v g.1)
+          ]
     ]
 
 header_found : (bytes : List ℕ) (h : Header) → header_said bytes ≡ Some h → IsHeader h × (bytes ≡ decimal h.group ++ later_text (codes "items" ∷ decimal h.items ∷ codes "launch" ∷ decimal h.launch ∷ version_words h.version))
@@ -184,11 +189,11 @@ names_found (Some rest) (suc most) names e =
     let ih = names_found b.0.1 most c.0 c.1 in
     ap (λ (x : List ℕ). 32 ∷ x) (name_found rest b.0 (names_words c.0) b.1 ih) ∙ ap (λ (x : List Name). later_text (names_words x)) (some_is (b.0.0 ∷ c.0) names c.2)
 
-named_found : (kind : Kind) (said names : List Name) → naming Three kind said ≡ Some names → (said ≡ names) × IsNamingOk kind names
+named_found : (kind : Kind) (said names : List Name) → naming Four kind said ≡ Some names → (said ≡ names) × IsNamingOk kind names
 named_found kind said names e =
     let g = guard_some _ (Some said) names e in
     let same_names = some_is said names g.1 in
-    (same_names, subst (IsNamingOk kind) same_names (naming_found Three kind said g.0).0)
+    (same_names, subst (IsNamingOk kind) same_names (naming_found Four kind said g.0).0)
 
 -- ---- events
 
@@ -348,44 +353,54 @@ event_found item bytes e h =
 
 -- ---- whole lines
 
-line_of_event : (bytes rest : List ℕ) (item : ℕ) (x e : Event) → (first_of bytes).0 ≡ decimal item → (first_of bytes).1 ≡ Some rest → Said item rest x → checked x ≡ Some e → IsSaid (lines.Event e) × (bytes ≡ line_text (lines.Event e))
-line_of_event bytes rest item x e first behind said check =
+line_of_event : (v : Version) (bytes rest : List ℕ) (item : ℕ) (x e : Event) → (first_of bytes).0 ≡ decimal item → (first_of bytes).1 ≡ Some rest → Said item rest x → checked v x ≡ Some e → IsSaid v (lines.Event e) × (bytes ≡ line_text (lines.Event e))
+line_of_event v bytes rest item x e first behind said check =
     let g = guard_some _ _ _ check in
-    let p = and_parts _ _ g.0 in
+    let q = and_parts _ _ g.0 in
+    let p = and_parts _ _ q.0 in
     let text : bytes ≡ decimal item ++ later_text (said.next ∷ said.words) = joined bytes (decimal item) rest said.next said.words (more bytes (decimal item) rest first behind) said.text in
     let whole : bytes ≡ line_text (lines.Event x) = text ∙ ap (λ (w : List ℕ). w ++ later_text (said.next ∷ said.words)) (sym said.first) ∙ ap (λ (ws : List (List ℕ)). first_word x.kind x.item ++ later_text ws) (sym said.later) in
-    subst (λ (y : Event). IsSaid (lines.Event y) × (bytes ≡ line_text (lines.Event y))) (some_is x e g.1)
-    (record { ok = (ltb-true _ _ p.0, said.naming, said.ok p.1); word = said.word }, whole)
+    subst (λ (y : Event). IsSaid v (lines.Event y) × (bytes ≡ line_text (lines.Event y))) (some_is x e g.1)
+    ((record { ok = (ltb-true _ _ p.0, said.naming, said.ok p.1); word = said.word }, (naming_found v x.kind x.names q.1).1), whole)
 
-end_by : (bytes : List ℕ) (e : Event) (rest : Option (List ℕ)) → bytes ≡ codes "end" ++ behind_space rest → end_said rest ≡ Some e → IsSaid (lines.Event e) × (bytes ≡ line_text (lines.Event e))
-end_by bytes e None text h =
-    subst (λ (y : Event). IsSaid (lines.Event y) × (bytes ≡ line_text (lines.Event y))) (some_is (end_of false) e h) (record { ok = (omega arith, tt, (refl, refl, refl)); word = omega arith }, text)
-end_by bytes e (Some rest) text h =
+some_items : (v : Version) → 0 < most_items v
+some_items One = omega arith
+some_items Two = omega arith
+some_items Three = omega arith
+some_items Four = omega arith
+
+end_is_said : (v : Version) (cut : Bool) → IsSaid v (lines.Event (end_of cut))
+end_is_said v cut = (record { ok = (some_items v, tt, (refl, refl, refl)); word = omega arith }, λ k d lt. absurd (omega arith))
+
+end_by : (v : Version) (bytes : List ℕ) (e : Event) (rest : Option (List ℕ)) → bytes ≡ codes "end" ++ behind_space rest → end_said rest ≡ Some e → IsSaid v (lines.Event e) × (bytes ≡ line_text (lines.Event e))
+end_by v bytes e None text h =
+    subst (λ (y : Event). IsSaid v (lines.Event y) × (bytes ≡ line_text (lines.Event y))) (some_is (end_of false) e h) (end_is_said v false, text)
+end_by v bytes e (Some rest) text h =
     let g = guard_some _ _ _ h in
     let cut : bytes ≡ codes "end" ++ later_text (codes "cut" ∷ []) = text ∙ ap (λ (x : List ℕ). codes "end" ++ 32 ∷ x) (same_is rest (codes "cut") g.0) in
-    subst (λ (y : Event). IsSaid (lines.Event y) × (bytes ≡ line_text (lines.Event y))) (some_is (end_of true) e g.1) (record { ok = (omega arith, tt, (refl, refl, refl)); word = omega arith }, cut)
+    subst (λ (y : Event). IsSaid v (lines.Event y) × (bytes ≡ line_text (lines.Event y))) (some_is (end_of true) e g.1) (end_is_said v true, cut)
 
-end_found : (bytes : List ℕ) (e : Event) → (first_of bytes).0 ≡ codes "end" → end_said (first_of bytes).1 ≡ Some e → IsSaid (lines.Event e) × (bytes ≡ line_text (lines.Event e))
-end_found bytes e first h = end_by bytes e (first_of bytes).1 (first_found bytes ∙ ap (λ (x : List ℕ). x ++ behind_space (first_of bytes).1) first) h
+end_found : (v : Version) (bytes : List ℕ) (e : Event) → (first_of bytes).0 ≡ codes "end" → end_said (first_of bytes).1 ≡ Some e → IsSaid v (lines.Event e) × (bytes ≡ line_text (lines.Event e))
+end_found v bytes e first h = end_by v bytes e (first_of bytes).1 (first_found bytes ∙ ap (λ (x : List ℕ). x ++ behind_space (first_of bytes).1) first) h
 
 pub read_is_text : ReadIsText
 unfolding line_said
-read_is_text bytes l h =
-    choose _ _ _ l h (IsSaid l × (bytes ≡ line_text l))
+read_is_text v bytes l h =
+    choose _ _ _ l h (IsSaid v l × (bytes ≡ line_text l))
     (λ key header.
     let b = bind_some _ _ _ header in
     let g = bind_some _ _ _ b.2 in
     let f = header_found b.0 g.0 g.1 in
     let text : bytes ≡ line_text (lines.Header g.0) = joined bytes (codes "group") b.0 (decimal g.0.group) (codes "items" ∷ decimal g.0.items ∷ codes "launch" ∷ decimal g.0.launch ∷ version_words g.0.version) (more bytes (codes "group") b.0 (same_is _ _ key) b.1) f.1 in
-    subst (λ (x : Line). IsSaid x × (bytes ≡ line_text x)) (some_is _ l g.2) (f.0, text))
-    (λ other. choose _ _ _ l other (IsSaid l × (bytes ≡ line_text l))
+    subst (λ (x : Line). IsSaid v x × (bytes ≡ line_text x)) (some_is _ l g.2) (f.0, text))
+    (λ other. choose _ _ _ l other (IsSaid v l × (bytes ≡ line_text l))
     (λ key end.
     let x = bind_some _ _ _ end in
-    subst (λ (y : Line). IsSaid y × (bytes ≡ line_text y)) (some_is _ l x.2) (end_found bytes x.0 (same_is _ _ key) x.1))
+    subst (λ (y : Line). IsSaid v y × (bytes ≡ line_text y)) (some_is _ l x.2) (end_found v bytes x.0 (same_is _ _ key) x.1))
     (λ event.
     let i = bind_some _ _ _ event in
     let b = bind_some _ _ _ i.2 in
     let x = bind_some _ _ _ b.2 in
     let c = bind_some _ _ _ x.2 in
     let item = short_found _ i.0 i.1 in
-    subst (λ (y : Line). IsSaid y × (bytes ≡ line_text y)) (some_is _ l c.2) (line_of_event bytes b.0 i.0 x.0 c.0 item.0 b.1 (event_found i.0 b.0 x.0 x.1) c.1)))
+    subst (λ (y : Line). IsSaid v y × (bytes ≡ line_text y)) (some_is _ l c.2) (line_of_event v bytes b.0 i.0 x.0 c.0 item.0 b.1 (event_found i.0 b.0 x.0 x.1) c.1)))

@@ -3,7 +3,7 @@
 use Rattle.std.specs.Prelude.{◌≡◌, ◌≢◌, ℕ, zero, suc, ◌^◌, ◌<◌, Bool, true, false, ◌&&◌, List, [], ◌∷◌, Option, Some, None, nat_eq, nat_lt, nat_le, ◌==◌, codes, decimal, All, length, slice_index, if◌then◌else◌}
 use Rattle.std.specs.Cmp.Lexicographic.{pointwise}
 use Rattle.std.specs.Str.Parse.{digits_value}
-use Rattle.gr_model.specs.declared.limits.TheConstants.{MOST_ITEMS_OF_A_GROUP, MOST_NAMES}
+use Rattle.gr_model.specs.declared.limits.TheConstants.{MOST_NAMES}
 use Rattle.gr_model.specs.declared.event.Kind.{Kind}
 use Rattle.gr_model.specs.declared.event.Kind.TheVariants.{Read, Write, Load, Store, Rmw, Barrier}
 use Rattle.gr_model.specs.declared.event.Name.{Name}
@@ -13,9 +13,9 @@ use Rattle.gr_record.specs.declared.header.Header.{Header}
 use Rattle.gr_lines.specs.declared.line.Line.{Line}
 use Rattle.gr_lines.specs.declared.line.Line.TheVariants as lines
 use Rattle.gr_record.specs.declared.header.Version.{Version}
-use Rattle.gr_record.specs.declared.header.Version.TheVariants.{One, Two, Three}
+use Rattle.gr_record.specs.declared.header.Version.TheVariants.{One, Two, Three, Four}
 use Rattle.gr_record.specs.Versions.{most_groups, most_items}
-use Rattle.gr_record.specs.Reading.{is_order_ok, naming}
+use Rattle.gr_record.specs.Reading.{is_order_ok, is_naming_ok, naming}
 use Rattle.gr_model.specs.declared.event.Space.{Space}
 use Rattle.gr_model.specs.declared.event.Space.TheVariants.{Global, Local}
 use Rattle.gr_model.specs.declared.event.Scope.{Scope}
@@ -101,7 +101,7 @@ header_made version group items launch =
 -- what stands behind the launch: the version, but for the first
 abbrev pub version_said : Option (List ℕ) → Option Version
 version_said None = Some One
-version_said (Some bytes) = if same bytes (codes "v2") then Some Two else if same bytes (codes "v3") then Some Three else None
+version_said (Some bytes) = if same bytes (codes "v2") then Some Two else if same bytes (codes "v3") then Some Three else if same bytes (codes "v4") then Some Four else None
 
 -- what stands behind `group`
 unfoldable pub header_said : List ℕ → Option Header
@@ -145,7 +145,7 @@ unfoldable pub atomic_said : List ℕ → ℕ → Space → ℕ → List ℕ →
 atomic_said kind item space word bytes =
     let scope = first_of bytes in scope.1 >>= λ b.
     let order = first_of b in
-    scope_said scope.0 >>= λ s. order_said order.0 >>= λ o. kind_said kind s o >>= λ k. names_said order.1 MOST_NAMES >>= λ said. naming Three k said >>= λ names.
+    scope_said scope.0 >>= λ s. order_said order.0 >>= λ o. kind_said kind s o >>= λ k. names_said order.1 MOST_NAMES >>= λ said. naming Four k said >>= λ names.
     Some (record { item = item; kind = k; space = space; word = word; names = names })
 
 unfoldable pub barrier_said : ℕ → List ℕ → List ℕ → Option Event
@@ -165,18 +165,18 @@ event_said item bytes =
     else if same kind.0 (codes "w") then at_end third.1 (Some (record { item = item; kind = Write; space = space; word = word; names = [] }))
     else third.1 >>= λ d. atomic_said kind.0 item space word d)
 
--- an event that some stream may have
-abbrev pub checked : Event → Option Event
-checked e = if nat_lt e.item MOST_ITEMS_OF_A_GROUP && is_order_ok e.kind then Some e else None
+-- an event that a stream of this version may have
+abbrev pub checked : Version → Event → Option Event
+checked v e = if nat_lt e.item (most_items v) && is_order_ok e.kind && is_naming_ok v e.kind e.names then Some e else None
 
 -- what stands behind `end`
 abbrev pub end_said : Option (List ℕ) → Option Event
 end_said None = Some (end_of false)
 end_said (Some bytes) = if same bytes (codes "cut") then Some (end_of true) else None
 
-unfoldable pub line_said : List ℕ → Option Line
-line_said bytes =
+unfoldable pub line_said : Version → List ℕ → Option Line
+line_said v bytes =
     let first = first_of bytes in
     if same first.0 (codes "group") then (first.1 >>= λ b. header_said b >>= λ h. Some (lines.Header h))
     else if same first.0 (codes "end") then (end_said first.1 >>= λ e. Some (lines.Event e))
-    else short_of first.0 >>= λ item. first.1 >>= λ b. event_said item b >>= λ x. checked x >>= λ e. Some (lines.Event e)
+    else short_of first.0 >>= λ item. first.1 >>= λ b. event_said item b >>= λ x. checked v x >>= λ e. Some (lines.Event e)

@@ -16,7 +16,7 @@ use Rattle.gr_model.specs.declared.limits.TheConstants.{MOST_ITEMS_OF_A_GROUP}
 use Rattle.gr_model.specs.Events.{IsEventOk}
 use Rattle.gr_record.specs.declared.header.Header.{Header}
 use Rattle.gr_record.specs.declared.header.Version.{Version}
-use Rattle.gr_record.specs.declared.header.Version.TheVariants.{One, Two, Three}
+use Rattle.gr_record.specs.declared.header.Version.TheVariants.{One, Two, Three, Four}
 use Rattle.gr_lines.specs.declared.line.Line.{Line}
 use Rattle.gr_lines.specs.declared.line.Line.TheVariants as lines
 use Rattle.gr_record.specs.Spelling.{IsHeader}
@@ -84,6 +84,7 @@ abbrev pub version_words : Version → List (List ℕ)
 version_words One = []
 version_words Two = codes "v2" ∷ []
 version_words Three = codes "v3" ∷ []
+version_words Four = codes "v4" ∷ []
 
 abbrev pub header_words : Header → List (List ℕ)
 header_words h = decimal h.group ∷ codes "items" ∷ decimal h.items ∷ codes "launch" ∷ decimal h.launch ∷ version_words h.version

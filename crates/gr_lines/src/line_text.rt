@@ -160,6 +160,7 @@ fn push_header<A: Allocator>(text: &mut String<A>, header: &Header) -> Result<()
         Version::One => Ok(()),
         Version::Two => push_word(text, "v2"),
         Version::Three => push_word(text, "v3"),
+        Version::Four => push_word(text, "v4"),
     }
 }
 

@@ -6,11 +6,12 @@ ghost use Rattle.gr_lines.specs.LineReading.{behind_space, space_said, scope_sai
 ghost use Rattle.gr_lines.specs.declared.line.Line.{Line};
 ghost use Rattle.gr_lines.specs.LineText.{line_text};
 ghost use Rattle.gr_lines.specs.LineLaws.{IsSaid};
+ghost use Rattle.gr_record.specs.declared.header.Version.TheVariants.{Two};
 
 use crate::line::Line;
 use crate::words::{is_word, parse_number, parse_short, split_word};
 use gr_model::event::{Event, ItemId, Kind, Name, Order, Scope, Space};
-use gr_model::limits::{MOST_ITEMS_OF_A_GROUP, MOST_NAMES};
+use gr_model::limits::MOST_NAMES;
 use gr_model::names::Names;
 use gr_record::header::{Header, Version};
 use gr_record::reading::{naming, order_fits};
@@ -106,6 +107,7 @@ fn parse_version(bytes: Option<&[u8]>) -> Option<Version>
         None => Some(Version::One),
         Some(word) if is_word(word, "v2") => Some(Version::Two),
         Some(word) if is_word(word, "v3") => Some(Version::Three),
+        Some(word) if is_word(word, "v4") => Some(Version::Four),
         Some(_) => None,
     }
 }
@@ -199,7 +201,7 @@ fn parse_atomic(kind: &[u8], item: u16, space: Space, word: u32, bytes: &[u8]) -
     let order = parse_order(order)?;
     let kind = parse_kind(kind, scope, order)?;
     let (names, used) = parse_names(rest)?;
-    let names = naming(Version::Three, kind, &names[..used])?;
+    let names = naming(Version::Four, kind, &names[..used])?;
     Some(Event {
         item,
         kind,
@@ -271,21 +273,24 @@ fn parse_event(item: u16, bytes: &[u8]) -> Option<Event>
     parse_atomic(kind, item, space, word, rest?)
 }
 
-/// The event, if some stream may have it.
-fn check(event: Event) -> Option<Event>
-    ensures { result ≡ checked event }
+/// The event, if some stream of this version may have it.
+fn check(version: Version, event: Event) -> Option<Event>
+    ensures { result ≡ checked version event }
 {
-    if event.item < MOST_ITEMS_OF_A_GROUP && order_fits(event.kind) {
+    if event.item < version.most_items()
+        && order_fits(event.kind)
+        && naming(version, event.kind, event.names.as_slice()).is_some()
+    {
         Some(event)
     } else {
         None
     }
 }
 
-/// What a line says, word by word.
+/// What a line of a stream of this version says, word by word.
 #[tactic(auto, unfolding(crate::specs::LineReading::line_said))]
-fn read_line(line: &[u8]) -> Option<Line>
-    ensures { result ≡ line_said line.now }
+fn read_line(version: Version, line: &[u8]) -> Option<Line>
+    ensures { result ≡ line_said version line.now }
 {
     let (first, rest) = split_word(line);
     if is_word(first, "group") {
@@ -300,16 +305,27 @@ fn read_line(line: &[u8]) -> Option<Line>
     }
     let item = parse_short(first)?;
     let event = parse_event(item, rest?)?;
-    Some(Line::Event(check(event)?))
+    Some(Line::Event(check(version, event)?))
 }
 
-/// What a line says, given without its line feed, or `None` if the text form has no such line (docs/FORMATS.md, "Text
-/// form").
+/// What a line says, given without its line feed, or `None` if the text form of a stream of versions 1 and 2 has no such
+/// line (docs/FORMATS.md, "Text form").
 pub fn parse_line(line: &[u8]) -> Option<Line>
     // What is read has this line.
-    ensures found { IfSome result (λ l. IsSaid l × (line.now ≡ line_text l)) }
+    ensures found { IfSome result (λ l. IsSaid Two l × (line.now ≡ line_text l)) }
     // What has this line is read.
-    ensures only { (l : Line) → IsSaid l → line.now ≡ line_text l → result ≡ Some l }
+    ensures only { (l : Line) → IsSaid Two l → line.now ≡ line_text l → result ≡ Some l }
 {
-    read_line(line)
+    parse_line_of(Version::Two, line)
+}
+
+/// What a line says, given without its line feed, or `None` if the text form of a stream of this version has no such line
+/// (docs/FORMATS.md, "Text form"). A header is read whatever its own version is.
+pub fn parse_line_of(version: Version, line: &[u8]) -> Option<Line>
+    // What is read has this line.
+    ensures found { IfSome result (λ l. IsSaid version l × (line.now ≡ line_text l)) }
+    // What has this line is read.
+    ensures only { (l : Line) → IsSaid version l → line.now ≡ line_text l → result ≡ Some l }
+{
+    read_line(version, line)
 }

@@ -6,7 +6,9 @@ ghost use Rattle.std.specs.Prelude.{◌≤◌, ◌≡◌, ◌↔◌, IsTrue, IsS
 ghost use Rattle.gr_model.specs.NameLists.{NameBelow, AreAscending, AreFewNames, AreNames, AreNamesWithin};
 
 use crate::event::{ItemId, Name};
-use crate::limits::{FEW_GROUPS, FEW_ITEMS_OF_A_GROUP, MOST_GROUPS, MOST_ITEMS_OF_A_GROUP, MOST_NAMES};
+use crate::limits::{
+    FEW_GROUPS, FEW_ITEMS_OF_A_GROUP, MOST_GROUPS, MOST_ITEMS_OF_A_GROUP, MOST_NAMES,
+};
 use std::marker::Model;
 
 /// What stands in the places that are not used.

@@ -6,7 +6,9 @@ ghost use Rattle.std.specs.Prelude.{◌≡◌, ◌↔◌, ◌+◌, ◌<◌, ◌�
 ghost use Rattle.gr_model.specs.Shapes.{IsShape, IsShapeWithin, IsSizeWithin, IsSmallShape, HasItem, IsFirstBadSize, IsFaultWithin, IsShapeFault, IsSmallShapeFault};
 
 use crate::event::ItemId;
-use crate::limits::{FEW_GROUPS, FEW_ITEMS_OF_A_GROUP, MOST_GROUPS, MOST_ITEMS, MOST_ITEMS_OF_A_GROUP};
+use crate::limits::{
+    FEW_GROUPS, FEW_ITEMS_OF_A_GROUP, MOST_GROUPS, MOST_ITEMS, MOST_ITEMS_OF_A_GROUP,
+};
 use crate::memory::Memory;
 use std::alloc::{Allocator, Global};
 use std::marker::Model;

@@ -7,7 +7,7 @@ use Rattle.gr_model.specs.declared.event.Name.{Name}
 use Rattle.gr_model.specs.Events.{IsKindOk, IsEventOk}
 use Rattle.gr_record.specs.declared.header.Header.{Header}
 use Rattle.gr_record.specs.declared.header.Version.{Version}
-use Rattle.gr_record.specs.declared.header.Version.TheVariants.{One, Two, Three}
+use Rattle.gr_record.specs.declared.header.Version.TheVariants.{One, Two, Three, Four}
 use Rattle.gr_record.specs.declared.error.RecordError.{RecordError}
 use Rattle.gr_record.specs.Versions.{places, record_length, most_groups, most_items}
 use Rattle.gr_record.specs.Spelling.{kind_bytes, names_bytes, version_byte, header_spelling, IsHeader}
@@ -130,7 +130,8 @@ module _ (b0 b1 b2 b3 b4 b5 b6 b7 b8 b9 b10 b11 : ℕ) (rest : List ℕ) where
       → take (record_length v) cells ≡ b0 ∷ b1 ∷ b2 ∷ b3 ∷ b4 ∷ b5 ∷ b6 ∷ b7 ∷ b8 ∷ b9 ∷ b10 ∷ b11 ∷ names_bytes (places v) (names_in (places v) rest)
   names_taken One fits long = ap (λ (x : List ℕ). b0 ∷ b1 ∷ b2 ∷ b3 ∷ b4 ∷ b5 ∷ b6 ∷ b7 ∷ b8 ∷ b9 ∷ b10 ∷ b11 ∷ x) (names_prefix 1 rest fits (omega arith))
   names_taken Two fits long = ap (λ (x : List ℕ). b0 ∷ b1 ∷ b2 ∷ b3 ∷ b4 ∷ b5 ∷ b6 ∷ b7 ∷ b8 ∷ b9 ∷ b10 ∷ b11 ∷ x) (names_prefix 4 rest fits (omega arith))
-  names_taken Three fits long = ap (λ (x : List ℕ). b0 ∷ b1 ∷ b2 ∷ b3 ∷ b4 ∷ b5 ∷ b6 ∷ b7 ∷ b8 ∷ b9 ∷ b10 ∷ b11 ∷ x) (names_prefix 4 rest fits (omega arith))
+  names_taken Three fits long = ap (λ (x : List ℕ). b0 ∷ b1 ∷ b2 ∷ b3 ∷ b4 ∷ b5 ∷ b6 ∷ b7 ∷ b8 ∷ b9 ∷ b10 ∷ b11 ∷ x) (names_prefix 1 rest fits (omega arith))
+  names_taken Four fits long = ap (λ (x : List ℕ). b0 ∷ b1 ∷ b2 ∷ b3 ∷ b4 ∷ b5 ∷ b6 ∷ b7 ∷ b8 ∷ b9 ∷ b10 ∷ b11 ∷ x) (names_prefix 4 rest fits (omega arith))
 
 -- an end has no item and no word
 no_end : (b : ℕ) → (not (6 == 6) || (b == 0)) ≡ true → b ≡ 0
@@ -163,6 +164,7 @@ some_fields : (v : Version) → 12 ≤ record_length v
 some_fields One = omega arith
 some_fields Two = omega arith
 some_fields Three = omega arith
+some_fields Four = omega arith
 
 said_ok : (h : Header) (bytes : List ℕ) (e : Event) → record_length h.version ≤ length bytes → Accepted h bytes e → IsEventOk (said h bytes) h.items
 said_ok h (b0 ∷ b1 ∷ b2 ∷ b3 ∷ b4 ∷ b5 ∷ b6 ∷ b7 ∷ b8 ∷ b9 ∷ b10 ∷ b11 ∷ rest) e len a =
@@ -218,6 +220,9 @@ no_version v e = absurd cc
 magic_three : (a b c d : ℕ) → a < 256 → b < 256 → c < 256 → d < 256 → a + 256 * (b + 256 * (c + 256 * (d + 0))) ≡ 861164103 → (a ≡ 71) × (b ≡ 82) × (c ≡ 84) × (d ≡ 51)
 magic_three a b c d p q r s k = (omega arith, omega arith, omega arith, omega arith)
 
+magic_four : (a b c d : ℕ) → a < 256 → b < 256 → c < 256 → d < 256 → a + 256 * (b + 256 * (c + 256 * (d + 0))) ≡ 877941319 → (a ≡ 71) × (b ≡ 82) × (c ≡ 84) × (d ≡ 52)
+magic_four a b c d p q r s k = (omega arith, omega arith, omega arith, omega arith)
+
 -- the four bytes of a version
 magic : (a b c d : ℕ) → a < 256 → b < 256 → c < 256 → d < 256 → (v : Version) → version_of (a + 256 * (b + 256 * (c + 256 * (d + 0)))) ≡ Some v → (a ≡ 71) × (b ≡ 82) × (c ≡ 84) × (d ≡ version_byte v)
 magic a b c d p q r s v e =
@@ -239,7 +244,14 @@ magic a b c d p q r s v e =
                       let is : Three ≡ v = some_version Three v (rw (other, neither, three) at e) in
                       let m = magic_three a b c d p q r s (eqb-true _ _ three) in
                       (m.0, m.1, m.2, m.3 ∙ ap version_byte is)
-                  | inr none ↦ absurd (no_version v (rw (other, neither, none) at e))
+                  | inr none ↦
+                      elim (cases_Bool (n == 877941319)) [
+                        | inl four_is ↦
+                            let is : Four ≡ v = some_version Four v (rw (other, neither, none, four_is) at e) in
+                            let m = magic_four a b c d p q r s (eqb-true _ _ four_is) in
+                            (m.0, m.1, m.2, m.3 ∙ ap version_byte is)
+                        | inr last ↦ absurd (no_version v (rw (other, neither, none, last) at e))
+                      ]
                 ]
           ]
     ]

@@ -10,7 +10,7 @@ use Rattle.gr_model.specs.NameLists.{IsNameInRange, IsNameWithin, NameBelow, Are
 use Rattle.gr_model.specs.declared.limits.TheConstants.{MOST_GROUPS, MOST_ITEMS_OF_A_GROUP}
 use Rattle.gr_model.proofs.Bounds.{names_within}
 use Rattle.gr_record.specs.declared.header.Version.{Version}
-use Rattle.gr_record.specs.declared.header.Version.TheVariants.{One, Two, Three}
+use Rattle.gr_record.specs.declared.header.Version.TheVariants.{One, Two, Three, Four}
 use Rattle.gr_record.specs.Versions.{most_groups, most_items}
 use Rattle.gr_record.specs.declared.header.Header.{Header}
 use Rattle.gr_record.specs.Spelling.{IsHeader, names_bytes}
@@ -92,11 +92,13 @@ pub groups_within : (v : Version) → most_groups v ≤ MOST_GROUPS
 groups_within One = omega arith
 groups_within Two = omega arith
 groups_within Three = omega arith
+groups_within Four = omega arith
 
 pub items_within : (v : Version) → most_items v ≤ MOST_ITEMS_OF_A_GROUP
 items_within One = omega arith
 items_within Two = omega arith
 items_within Three = omega arith
+items_within Four = omega arith
 
 -- of whatever version, a header's group and items are those that some launch may have
 pub header_group : (h : Header) → IsHeader h → h.group < MOST_GROUPS

@@ -12,7 +12,7 @@ use Rattle.gr_model.specs.Events.{IsNamingOk, IsKindOk}
 use Rattle.gr_record.specs.declared.error.RecordError.{RecordError}
 use Rattle.gr_record.specs.declared.header.Header.{Header}
 use Rattle.gr_record.specs.declared.header.Version.{Version}
-use Rattle.gr_record.specs.declared.header.Version.TheVariants.{One, Two, Three}
+use Rattle.gr_record.specs.declared.header.Version.TheVariants.{One, Two, Three, Four}
 use Rattle.gr_record.specs.Versions.{places, record_length}
 use Rattle.gr_record.specs.Spelling.{kind_bytes, names_bytes, event_spelling, header_spelling, IsHeader}
 use Rattle.gr_record.specs.Reading.{bad_field_from, kind_of, space_at, names_in, naming, is_naming_ok, event_at, header_at}
@@ -80,6 +80,12 @@ header_again Three group items launch rest fits =
     let le : items ≤ 1024 = fits.items in
     let none : items ≡ 0 → ⊥ = λ e. absurd (omega arith) in
     rw (two_again group (omega arith), two_again items (omega arith), four_again launch fits.launch, lt-leb 65535 group lt, ne_eqb items 0 none, le-ltb 1024 items le) refl
+header_again Four group items launch rest fits =
+    let lt : group < 65535 = fits.group in
+    let some : 1 ≤ items = fits.some in
+    let le : items ≤ 1024 = fits.items in
+    let none : items ≡ 0 → ⊥ = λ e. absurd (omega arith) in
+    rw (two_again group (omega arith), two_again items (omega arith), four_again launch fits.launch, lt-leb 65535 group lt, ne_eqb items 0 none, le-ltb 1024 items le) refl
 
 pub spelled_header_is_read : SpelledHeaderIsRead
 spelled_header_is_read h rest fits = header_again h.version h.group h.items h.launch rest fits
@@ -98,6 +104,7 @@ fields_and_names : (v : Version) → 12 + 8 * places v ≡ record_length v
 fields_and_names One = refl
 fields_and_names Two = refl
 fields_and_names Three = refl
+fields_and_names Four = refl
 
 pub spelling_length : (v : Version) (e : Event) → length (event_spelling v e) ≡ record_length v
 spelling_length v e =

@@ -9,7 +9,7 @@ use Rattle.gr_model.specs.Streams.{is_complete}
 use Rattle.gr_record.specs.declared.error.RecordError.{RecordError}
 use Rattle.gr_record.specs.declared.header.Header.{Header}
 use Rattle.gr_record.specs.declared.header.Version.{Version}
-use Rattle.gr_record.specs.declared.header.Version.TheVariants.{One, Two, Three}
+use Rattle.gr_record.specs.declared.header.Version.TheVariants.{One, Two, Three, Four}
 use Rattle.gr_record.specs.declared.stop.Stop.TheVariants.{Inside, AtEnd}
 use Rattle.gr_record.specs.declared.layout.TheConstants.{HEADER_LENGTH}
 use Rattle.gr_record.specs.Versions.{record_length}
@@ -41,6 +41,7 @@ some_size : (v : Version) → 0 < record_length v
 some_size One = omega arith
 some_size Two = omega arith
 some_size Three = omega arith
+some_size Four = omega arith
 
 module _ (h : Header) (few : h.items ≤ MOST_ITEMS_OF_A_GROUP) where
   abbrev size : ℕ

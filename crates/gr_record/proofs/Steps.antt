@@ -9,7 +9,7 @@ use Rattle.gr_record.specs.declared.error.RecordError.{RecordError}
 use Rattle.gr_record.specs.declared.error.RecordError.TheVariants as errors
 use Rattle.gr_record.specs.declared.header.Header.{Header}
 use Rattle.gr_record.specs.declared.header.Version.{Version}
-use Rattle.gr_record.specs.declared.header.Version.TheVariants.{One, Two, Three}
+use Rattle.gr_record.specs.declared.header.Version.TheVariants.{One, Two, Three, Four}
 use Rattle.gr_record.specs.declared.part.Part.{Part}
 use Rattle.gr_record.specs.declared.part.Part.TheVariants as parts
 use Rattle.gr_record.specs.declared.stop.Stop.{Stop}
@@ -210,11 +210,13 @@ few_records : (v : Version) (m : ℕ) → records_in v m ≤ m / RECORD_LENGTH
 few_records One m = omega arith
 few_records Two m = omega arith
 few_records Three m = omega arith
+few_records Four m = omega arith
 
 record_less : (v : Version) (n m : ℕ) → n ≡ record_length v + m → records_in v m + 1 ≤ records_in v n
 record_less One n m e = omega arith
 record_less Two n m e = omega arith
 record_less Three n m e = omega arith
+record_less Four n m e = omega arith
 
 -- a header that was read stays
 abbrev pub Stays : Option Header → Option Header → Type 0

@@ -7,7 +7,7 @@ use Rattle.gr_record.specs.declared.error.RecordError.{RecordError}
 use Rattle.gr_record.specs.declared.error.RecordError.TheVariants as errors
 use Rattle.gr_record.specs.declared.header.Header.{Header}
 use Rattle.gr_record.specs.declared.header.Version.{Version}
-use Rattle.gr_record.specs.declared.header.Version.TheVariants.{One, Two, Three}
+use Rattle.gr_record.specs.declared.header.Version.TheVariants.{One, Two, Three, Four}
 use Rattle.gr_record.specs.declared.part.Part.{Part}
 use Rattle.gr_record.specs.declared.part.Part.TheVariants as parts
 use Rattle.gr_record.specs.declared.stop.Stop.{Stop}
@@ -145,7 +145,8 @@ pub record Continues (d : Standing) (more : List ℕ) (listed : List Part) (e : 
 abbrev pub records_in : Version → ℕ → ℕ
 records_in One bytes = bytes / RECORD_LENGTH
 records_in Two bytes = bytes / LONG_RECORD_LENGTH
-records_in Three bytes = bytes / LONG_RECORD_LENGTH
+records_in Three bytes = bytes / RECORD_LENGTH
+records_in Four bytes = bytes / LONG_RECORD_LENGTH
 
 -- a header may be that of the version with the shorter records
 abbrev pub units_in : Option Header → ℕ → ℕ

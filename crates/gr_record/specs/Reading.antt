@@ -17,7 +17,7 @@ use Rattle.gr_model.specs.declared.limits.TheConstants.{MOST_NAMES, MOST_RECORDS
 use Rattle.gr_model.specs.Access.{acquires, releases, is_acquire_kind}
 use Rattle.gr_record.specs.declared.header.Header.{Header}
 use Rattle.gr_record.specs.declared.header.Version.{Version}
-use Rattle.gr_record.specs.declared.header.Version.TheVariants.{One, Two, Three}
+use Rattle.gr_record.specs.declared.header.Version.TheVariants.{One, Two, Three, Four}
 use Rattle.gr_record.specs.Versions.{places, most_groups, most_items}
 use Rattle.gr_record.specs.declared.error.RecordError.{RecordError}
 use Rattle.gr_record.specs.declared.error.RecordError.TheVariants as errors
@@ -28,9 +28,9 @@ field i n bytes = little_number n (drop i bytes)
 
 -- ---- headers
 
--- the version that the first four bytes say, as a number: `GRT1`, `GRT2` or `GRT3`
+-- the version that the first four bytes say, as a number: `GRT1` to `GRT4`
 abbrev pub version_of : ℕ → Option Version
-version_of magic = if magic == 0x31545247 then Some One else if magic == 0x32545247 then Some Two else if magic == 0x33545247 then Some Three else None
+version_of magic = if magic == 0x31545247 then Some One else if magic == 0x32545247 then Some Two else if magic == 0x33545247 then Some Three else if magic == 0x34545247 then Some Four else None
 
 -- what a whole header of this version says: group, items and launch
 abbrev pub header_behind : Option Version → List ℕ → Result Header RecordError

@@ -17,7 +17,7 @@ use Rattle.gr_model.specs.Events.{IsEventOk}
 use Rattle.gr_model.specs.NameLists.{IsNameWithin}
 use Rattle.gr_record.specs.declared.header.Header.{Header}
 use Rattle.gr_record.specs.declared.header.Version.{Version}
-use Rattle.gr_record.specs.declared.header.Version.TheVariants.{One, Two, Three}
+use Rattle.gr_record.specs.declared.header.Version.TheVariants.{One, Two, Three, Four}
 use Rattle.gr_record.specs.Versions.{places, most_groups, most_items}
 
 -- a byte for a space, a scope, an order, a truth
@@ -71,11 +71,12 @@ fields_bytes e = kind_bytes e.kind e.space ++ little_bytes 2 e.item ++ 0 ∷ 0 �
 abbrev pub event_spelling : Version → Event → List ℕ
 event_spelling v e = fields_bytes e ++ names_bytes (places v) e.names
 
--- `GRT1`, `GRT2` or `GRT3`
+-- `GRT1` to `GRT4`
 abbrev pub version_byte : Version → ℕ
 version_byte One = 0x31
 version_byte Two = 0x32
 version_byte Three = 0x33
+version_byte Four = 0x34
 
 -- these four bytes, then group, items and launch
 abbrev pub header_spelling : Header → List ℕ
@@ -96,8 +97,12 @@ pub record IsEvent (items : ℕ) (e : Event) : Type 0 where
   pub ok : IsEventOk e items
   pub word : e.word < 2 ^ 32
 
+-- names of a launch whose streams are of this version
+abbrev pub AreNamesOf : Version → List Name → Type 0
+AreNamesOf v names = All (IsNameWithin (most_groups v) (most_items v)) names
+
 -- a record that the stream of this header may have: it has room for the names, and they are those of a launch of its version
 pub record IsRecord (h : Header) (e : Event) : Type 0 where
   pub event : IsEvent h.items e
   pub names : length e.names ≤ places h.version
-  pub range : All (IsNameWithin (most_groups h.version) (most_items h.version)) e.names
+  pub range : AreNamesOf h.version e.names

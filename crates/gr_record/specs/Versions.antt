@@ -3,26 +3,30 @@
 use Rattle.std.specs.Prelude.{ℕ}
 use Rattle.gr_model.specs.declared.limits.TheConstants.{FEW_GROUPS, FEW_ITEMS_OF_A_GROUP, MOST_GROUPS, MOST_ITEMS_OF_A_GROUP, MOST_NAMES}
 use Rattle.gr_record.specs.declared.header.Version.{Version}
-use Rattle.gr_record.specs.declared.header.Version.TheVariants.{One, Two, Three}
+use Rattle.gr_record.specs.declared.header.Version.TheVariants.{One, Two, Three, Four}
 use Rattle.gr_record.specs.declared.layout.TheConstants.{RECORD_LENGTH, LONG_RECORD_LENGTH}
 
 abbrev pub places : Version → ℕ
 places One = 1
 places Two = MOST_NAMES
-places Three = MOST_NAMES
+places Three = 1
+places Four = MOST_NAMES
 
 -- how many groups its launch may have, and how many items each of them
 abbrev pub most_groups : Version → ℕ
 most_groups One = FEW_GROUPS
 most_groups Two = FEW_GROUPS
 most_groups Three = MOST_GROUPS
+most_groups Four = MOST_GROUPS
 
 abbrev pub most_items : Version → ℕ
 most_items One = FEW_ITEMS_OF_A_GROUP
 most_items Two = FEW_ITEMS_OF_A_GROUP
 most_items Three = MOST_ITEMS_OF_A_GROUP
+most_items Four = MOST_ITEMS_OF_A_GROUP
 
 abbrev pub record_length : Version → ℕ
 record_length One = RECORD_LENGTH
 record_length Two = LONG_RECORD_LENGTH
-record_length Three = LONG_RECORD_LENGTH
+record_length Three = RECORD_LENGTH
+record_length Four = LONG_RECORD_LENGTH

@@ -63,8 +63,8 @@ fn records_in(version: Version, bytes: usize) -> usize
     ensures { result ≡ records_in version bytes }
 {
     match version {
-        Version::One => bytes / RECORD_LENGTH,
-        Version::Two | Version::Three => bytes / LONG_RECORD_LENGTH,
+        Version::One | Version::Three => bytes / RECORD_LENGTH,
+        Version::Two | Version::Four => bytes / LONG_RECORD_LENGTH,
     }
 }
 

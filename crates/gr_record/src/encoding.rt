@@ -20,6 +20,7 @@ fn byte_of_version(version: Version) -> u8
         Version::One => b'1',
         Version::Two => b'2',
         Version::Three => b'3',
+        Version::Four => b'4',
     }
 }
 
@@ -114,7 +115,7 @@ fn encode_name(name: Option<Name>, bytes: &mut [u8])
     }
 }
 
-/// Writes the 20 bytes of a record of a stream of version 1 (docs/FORMATS.md, "Stream").
+/// Writes the 20 bytes of a record of a stream of version 1 or 3 (docs/FORMATS.md, "Stream").
 /// Requires: the record is in range: some group may have it, as `event_ok` with `MOST_ITEMS_OF_A_GROUP` tells. It has
 /// at most one name.
 ///
@@ -136,7 +137,7 @@ pub fn encode_event(event: &Event, bytes: &mut [u8; RECORD_LENGTH])
     encode_name(name_at(event.names.as_slice(), 0), &mut bytes[12..]);
 }
 
-/// Writes the 44 bytes of a record of a stream of version 2 or 3 (docs/FORMATS.md, "Stream").
+/// Writes the 44 bytes of a record of a stream of version 2 or 4 (docs/FORMATS.md, "Stream").
 /// Requires: the record is in range: some group may have it, as `event_ok` with `MOST_ITEMS_OF_A_GROUP` tells.
 pub fn encode_event2(event: &Event, bytes: &mut [u8; LONG_RECORD_LENGTH])
     requires { IsEventOk event.now MOST_ITEMS_OF_A_GROUP }

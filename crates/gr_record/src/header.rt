@@ -4,7 +4,9 @@ ghost use Rattle.std.specs.Prelude.{◌≡◌, ◌<◌, ◌≤◌};
 ghost use Rattle.gr_record.specs.Versions.{places, record_length, most_groups, most_items};
 
 use crate::layout::{LONG_RECORD_LENGTH, RECORD_LENGTH};
-use gr_model::limits::{FEW_GROUPS, FEW_ITEMS_OF_A_GROUP, MOST_GROUPS, MOST_ITEMS_OF_A_GROUP, MOST_NAMES};
+use gr_model::limits::{
+    FEW_GROUPS, FEW_ITEMS_OF_A_GROUP, MOST_GROUPS, MOST_ITEMS_OF_A_GROUP, MOST_NAMES,
+};
 
 /// The version of a stream, which says how many names its records have room for, and how large its launch may be.
 #[derive(Clone, Copy, Debug, PartialEq, Eq)]
@@ -14,9 +16,11 @@ pub enum Version {
     One,
     /// A record has room for `MOST_NAMES` names. The launch is as with version 1.
     Two,
-    /// Records are those of version 2, of a launch of at most `MOST_GROUPS` groups, each of at most `MOST_ITEMS_OF_A_GROUP`
+    /// A record has room for one name. The launch has at most `MOST_GROUPS` groups, each of at most `MOST_ITEMS_OF_A_GROUP`
     /// items.
     Three,
+    /// A record has room for `MOST_NAMES` names. The launch is as with version 3.
+    Four,
 }
 
 /// The header of a stream: its version, its work-group, how many work-items that has, and the launch that it is of.
@@ -38,8 +42,8 @@ impl Version {
         ensures { result ≡ places self }
     {
         match self {
-            Version::One => 1,
-            Version::Two | Version::Three => MOST_NAMES,
+            Version::One | Version::Three => 1,
+            Version::Two | Version::Four => MOST_NAMES,
         }
     }
 
@@ -50,7 +54,7 @@ impl Version {
     {
         match self {
             Version::One | Version::Two => FEW_GROUPS,
-            Version::Three => MOST_GROUPS,
+            Version::Three | Version::Four => MOST_GROUPS,
         }
     }
 
@@ -61,7 +65,7 @@ impl Version {
     {
         match self {
             Version::One | Version::Two => FEW_ITEMS_OF_A_GROUP,
-            Version::Three => MOST_ITEMS_OF_A_GROUP,
+            Version::Three | Version::Four => MOST_ITEMS_OF_A_GROUP,
         }
     }
 
@@ -72,8 +76,8 @@ impl Version {
         ensures few { result ≤ LONG_RECORD_LENGTH }
     {
         match self {
-            Version::One => RECORD_LENGTH,
-            Version::Two | Version::Three => LONG_RECORD_LENGTH,
+            Version::One | Version::Three => RECORD_LENGTH,
+            Version::Two | Version::Four => LONG_RECORD_LENGTH,
         }
     }
 }

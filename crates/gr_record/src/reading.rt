@@ -24,6 +24,9 @@ const MAGIC_TWO: u32 = 0x3254_5247;
 /// The bytes `GRT3` as one number.
 const MAGIC_THREE: u32 = 0x3354_5247;
 
+/// The bytes `GRT4` as one number.
+const MAGIC_FOUR: u32 = 0x3454_5247;
+
 const READ: u8 = 0;
 
 const WRITE: u8 = 1;
@@ -52,6 +55,7 @@ fn read_version(magic: u32) -> Option<Version>
         MAGIC_ONE => Some(Version::One),
         MAGIC_TWO => Some(Version::Two),
         MAGIC_THREE => Some(Version::Three),
+        MAGIC_FOUR => Some(Version::Four),
         _ => None,
     }
 }

@@ -46,3 +46,13 @@ returns-in-Three g c =
     let said = five_words old (string_bytes c.push_number.new.text) (string_bytes c.push_word.new.text) (string_bytes c.push_number-2.new.text) (string_bytes c.push_word-2.new.text) (string_bytes c.push_number-3.new.text)
     (decimal h.group) (codes "items") (decimal h.items) (codes "launch") (decimal h.launch) group c.in_ok-push_word.ensures items c.in_ok-push_word-2.ensures c.in_ok-push_number-3.ensures in
     on_ok_weaker c.push_word-in-Three.result (λ is. word_more old (decimal h.group ∷ codes "items" ∷ decimal h.items ∷ codes "launch" ∷ decimal h.launch ∷ []) (string_bytes c.push_number-3.new.text) (string_bytes c.push_word-in-Three.new.text) (codes "v3") said is ∙ ap (λ (v : Version). old ++ later_text (decimal h.group ∷ codes "items" ∷ decimal h.items ∷ codes "launch" ∷ decimal h.launch ∷ version_words v)) (sym c.in-Three.is)) c.push_word-in-Three.ensures
+
+pub returns-in-Four : goal.returns-in-Four
+returns-in-Four g c =
+    let old = string_bytes c.args.text.now in
+    let h = c.args.header.now in
+    let group = c.in_ok-push_number.ensures ∙ ap (λ (n : ℕ). old ++ spaced (decimal n)) c.from.ensures in
+    let items = c.in_ok-push_number-2.ensures ∙ ap (λ (n : ℕ). string_bytes c.push_word.new.text ++ spaced (decimal n)) c.from-2.ensures in
+    let said = five_words old (string_bytes c.push_number.new.text) (string_bytes c.push_word.new.text) (string_bytes c.push_number-2.new.text) (string_bytes c.push_word-2.new.text) (string_bytes c.push_number-3.new.text)
+    (decimal h.group) (codes "items") (decimal h.items) (codes "launch") (decimal h.launch) group c.in_ok-push_word.ensures items c.in_ok-push_word-2.ensures c.in_ok-push_number-3.ensures in
+    on_ok_weaker c.push_word-in-Four.result (λ is. word_more old (decimal h.group ∷ codes "items" ∷ decimal h.items ∷ codes "launch" ∷ decimal h.launch ∷ []) (string_bytes c.push_number-3.new.text) (string_bytes c.push_word-in-Four.new.text) (codes "v4") said is ∙ ap (λ (v : Version). old ++ later_text (decimal h.group ∷ codes "items" ∷ decimal h.items ∷ codes "launch" ∷ decimal h.launch ∷ version_words v)) (sym c.in-Four.is)) c.push_word-in-Four.ensures
