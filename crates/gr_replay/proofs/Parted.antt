@@ -5,7 +5,8 @@ use Rattle.std.proofs.lemmas.List.{length-append, nil_from_length}
 use Rattle.gr_record.specs.declared.fault.Fault.{Fault}
 use Rattle.gr_record.specs.Laws.{AreBytes}
 use Rattle.gr_record.specs.Spelling.{events_spelling, header_spelling}
-use Rattle.gr_text.specs.Wholes.{IsWhole, WholeStream}
+use Rattle.gr_text.specs.Dumps.{WholeStream}
+use Rattle.gr_text.specs.Wholes.{IsWhole}
 use Rattle.gr_text.proofs.Streaming.{events_found, header_found}
 use Rattle.gr_intake.specs.Joined.{Flat, ◌>>=◌, joined_at, joined_of, stream_at}
 use Rattle.gr_replay.specs.Laws.{BytesAreInputs, joined}

@@ -9,9 +9,10 @@ use Rattle.gr_record.specs.declared.fault.Fault.{Fault}
 use Rattle.gr_record.specs.declared.fault.Fault.TheVariants as faults
 use Rattle.gr_record.specs.Laws.{AreBytes}
 use Rattle.gr_record.specs.Spelling.{events_spelling}
+use Rattle.gr_record.proofs.Places.{header_items}
 use Rattle.gr_record.specs.WholeStreams.{front_records_at, stream_spelling}
-use Rattle.gr_text.specs.Dumps.{upgraded, upgraded_header}
-use Rattle.gr_text.specs.Wholes.{IsWhole, WholeStream, bytes_of, upgraded_stream}
+use Rattle.gr_text.specs.Dumps.{WholeStream, upgraded, upgraded_header}
+use Rattle.gr_text.specs.Wholes.{IsWhole, bytes_of, upgraded_stream}
 use Rattle.gr_text.proofs.SpelledStreams.{events_before, header_before}
 use Rattle.gr_text.proofs.UpgradedStreams.{twice, upgraded_are_streams}
 use Rattle.gr_intake.specs.Joined.{Flat, ◌>>=◌, joined_of}
@@ -116,7 +117,7 @@ whole_is s whole =
     record {
       behind = events;
       header = header_before s.header events prefix.header;
-      records = ap (front_records_at s.header) (sym (append-nil events)) ∙ events_before s.header prefix.header.items s.events [] prefix.runs whole.ended prefix.few;
+      records = ap (front_records_at s.header) (sym (append-nil events)) ∙ events_before s.header (header_items s.header prefix.header) s.events [] prefix.runs whole.ended prefix.few;
     }
 
 wholes_are : (ss : List WholeStream) → All IsWhole ss → AreStreamsOf (map spelled ss) (map flat_of ss)

@@ -27,8 +27,9 @@ use Rattle.gr_lines.proofs.LinesFound.{read_is_text}
 use Rattle.gr_text.specs.declared.place.Place.{Place}
 use Rattle.gr_text.specs.declared.place.Place.TheVariants.{Outside, Inside}
 use Rattle.gr_text.specs.Lines.{lines_of}
-use Rattle.gr_text.specs.Texts.{◌>>=◌, version_behind, lines_bytes, whole_line, record_at, line_at, over_at, said_from, said_in}
-use Rattle.gr_text.specs.Wholes.{WholeStream, IsWhole, parts_in, bytes_of, text_of, IsTextOf, PackedAreStreams}
+use Rattle.gr_text.specs.Texts.{◌>>=◌, version_at, version_behind, lines_bytes, whole_line, record_at, line_at, over_at, said_from, said_in}
+use Rattle.gr_text.specs.Dumps.{WholeStream, parts_in}
+use Rattle.gr_text.specs.Wholes.{IsWhole, bytes_of, text_of, IsTextOf, PackedAreStreams}
 use Rattle.gr_text.proofs.DumpedStreams.{all_before, all_none}
 
 -- ---- a text from its lines
@@ -125,7 +126,7 @@ same_taken x y e = cc
 -- what is taken at a place was said, and what follows behind it follows the place
 record Taken (place : Place) (said : Option Line) (x : Line × Place) : Type 0 where
   line : said ≡ Some x.0
-  follow : IsSaid x.0 → (xs : List Line) → Follow x.1 xs → Follow place (x.0 ∷ xs)
+  follow : IsSaid (version_at place) x.0 → (xs : List Line) → Follow x.1 xs → Follow place (x.0 ∷ xs)
 
 or_parts : (x y : Bool) → (x || y) ≡ false → (x ≡ false) × (y ≡ false)
 or_parts true y e = absurd cc
@@ -136,10 +137,10 @@ record_taken n h left e x k = by_item (nat_le h.items e.item || nat_lt (places h
   where
     by_end : (b : Bool) → is_end e ≡ b → e.item < h.items → length e.names ≤ places h.version → 1 ≤ left → taken (lines.Event e, cond b Outside (Inside h (left - 1))) ≡ taken x → Taken (Inside h left) (Some (lines.Event e)) x
     by_end true end lt room some k =
-        let one : Taken (Inside h left) (Some (lines.Event e)) (lines.Event e, Outside) = record { line = refl; follow = λ said xs s. ends h left e xs (record { event = record { ok = (lt, said.ok.1, said.ok.2); word = said.word }; names = room }) end some s } in
+        let one : Taken (Inside h left) (Some (lines.Event e)) (lines.Event e, Outside) = record { line = refl; follow = λ said xs s. ends h left e xs (record { event = record { ok = (lt, said.0.ok.1, said.0.ok.2); word = said.0.word }; names = room; range = said.1 }) end some s } in
         subst (Taken (Inside h left) (Some (lines.Event e))) (same_taken (lines.Event e, Outside) x k) one
     by_end false on lt room some k =
-        let one : Taken (Inside h left) (Some (lines.Event e)) (lines.Event e, Inside h (left - 1)) = record { line = refl; follow = λ said xs r. goes_on h left e xs (record { event = record { ok = (lt, said.ok.1, said.ok.2); word = said.word }; names = room }) on some r } in
+        let one : Taken (Inside h left) (Some (lines.Event e)) (lines.Event e, Inside h (left - 1)) = record { line = refl; follow = λ said xs r. goes_on h left e xs (record { event = record { ok = (lt, said.0.ok.1, said.0.ok.2); word = said.0.word }; names = room; range = said.1 }) on some r } in
         subst (Taken (Inside h left) (Some (lines.Event e))) (same_taken (lines.Event e, Inside h (left - 1)) x k) one
 
     by_room : (b : Bool) → (left == 0) ≡ b → e.item < h.items → length e.names ≤ places h.version → cond b (Err (faults.LongStream n)) (taken (lines.Event e, cond (is_end e) Outside (Inside h (left - 1)))) ≡ taken x → Taken (Inside h left) (Some (lines.Event e)) x
@@ -181,19 +182,19 @@ Later n ls = (behind : Place) (ys : List Line) → said_from (n + 1) behind ls �
 said_found : (ls : List (List ℕ)) (n : ℕ) (place : Place) (xs : List Line) → said_from n place ls ≡ Ok xs → Said place ls xs
 unfolding said_from
 said_found [] n place xs k = over place xs k
-said_found (l ∷ ls) n place xs k = by_line (line_at n place (line_said l)) refl k (λ behind ys h. said_found ls (n + 1) behind ys h)
+said_found (l ∷ ls) n place xs k = by_line (line_at n place (line_said (version_at place) l)) refl k (λ behind ys h. said_found ls (n + 1) behind ys h)
   where
-    by_rest : (x : Line × Place) → Taken place (line_said l) x → (r : Result (List Line) Fault) → said_from (n + 1) x.1 ls ≡ r → (r >>= λ ys. all (x.0 ∷ ys)) ≡ Ok xs → Later n ls → Said place (l ∷ ls) xs
+    by_rest : (x : Line × Place) → Taken place (line_said (version_at place) l) x → (r : Result (List Line) Fault) → said_from (n + 1) x.1 ls ≡ r → (r >>= λ ys. all (x.0 ∷ ys)) ≡ Ok xs → Later n ls → Said place (l ∷ ls) xs
     by_rest x one (Err f) is k later = cc
     by_rest x one (Ok ys) is k later =
         let more = later x.1 ys is in
-        let t = read_is_text l x.0 one.line in
+        let t = read_is_text (version_at place) l x.0 one.line in
         let whole : Said place (l ∷ ls) (x.0 ∷ ys) = record { text = ap₂ (λ (a : List ℕ) (b : List (List ℕ)). a ∷ b) t.1 more.text; follow = one.follow t.0 ys more.follow } in
         subst (Said place (l ∷ ls)) (same_all (x.0 ∷ ys) xs k) whole
 
-    by_line : (r : Result (Line × Place) Fault) → line_at n place (line_said l) ≡ r → (r >>= λ x. said_from (n + 1) x.1 ls >>= λ ys. all (x.0 ∷ ys)) ≡ Ok xs → Later n ls → Said place (l ∷ ls) xs
+    by_line : (r : Result (Line × Place) Fault) → line_at n place (line_said (version_at place) l) ≡ r → (r >>= λ x. said_from (n + 1) x.1 ls >>= λ ys. all (x.0 ∷ ys)) ≡ Ok xs → Later n ls → Said place (l ∷ ls) xs
     by_line (Err f) is k later = cc
-    by_line (Ok x) is k later = by_rest x (line_taken n place (line_said l) x is) (said_from (n + 1) x.1 ls) refl k later
+    by_line (Ok x) is k later = by_rest x (line_taken n place (line_said (version_at place) l) x is) (said_from (n + 1) x.1 ls) refl k later
 
 -- ---- bytes
 

@@ -23,16 +23,17 @@ use Rattle.gr_record.specs.WholeStreams.{front_header_at, front_records_at, stre
 use Rattle.gr_record.proofs.FoundPrefixes.{is_at_end, records_found}
 use Rattle.gr_lines.specs.declared.line.Line.{Line}
 use Rattle.gr_lines.specs.declared.line.Line.TheVariants as lines
+use Rattle.gr_text.specs.declared.forming.Form.TheVariants.{Text}
 use Rattle.gr_text.specs.Texts.{◌>>=◌, whole_line}
-use Rattle.gr_text.specs.Dumps.{at_place, dumped, stream_at, streams_at, streams_in}
-use Rattle.gr_text.specs.Wholes.{WholeStream, IsWhole, bytes_of, parts_in}
+use Rattle.gr_text.specs.Dumps.{WholeStream, parts_in, at_place, dumped, formed, stream_at, streams_at, streams_in}
+use Rattle.gr_text.specs.Wholes.{IsWhole, bytes_of}
 use Rattle.gr_text.specs.Writes.{Writes}
 use Rattle.gr_text.specs.Partial.{Front, behind_end, front_at, front_behind, lines_before, text_before_fault, WholeStreamsStandWhole, IsRefusedAtHeader, IsRefusedBehind, StandsBefore, RefusedIsToldUpToItsFault}
-use Rattle.gr_text.proofs.DumpedStreams.{all_before, all_none, none, stream_found}
+use Rattle.gr_text.proofs.DumpedStreams.{all_before, all_none, none, stream_found, streams_text}
 use Rattle.gr_text.proofs.Streaming.{header_found}
 
 abbrev Found : Type 0
-Found = List Line × List ℕ
+Found = WholeStream × List ℕ
 
 abbrev found : Found → Result Found Fault
 found x = Ok x
@@ -46,21 +47,21 @@ lost f = Err f
 same_error : (p q : ℕ) (d e : RecordError) → lost (faults.Stream p d) ≡ lost (faults.Stream q e) → (p ≡ q) × (d ≡ e)
 same_error p q d e h = (cc, cc)
 
-abbrev all : List Line → Result (List Line) Fault
+abbrev all : List WholeStream → Result (List WholeStream) Fault
 all x = Ok x
 
-same_all : (x y : List Line) → all x ≡ all y → x ≡ y
+same_all : (x y : List WholeStream) → all x ≡ all y → x ≡ y
 same_all x y e = cc
 
 -- the records of a stream of this header, as the stream at a place
 abbrev streamed : ℕ → Header → Result (List Event × List ℕ) RecordError → Result Found Fault
-streamed place h r = at_place place r >>= λ y. found (lines.Header h ∷ map lines.Event y.0, y.1)
+streamed place h r = at_place place r >>= λ y. found (record { header = h; events = y.0 }, y.1)
 
 -- ---- one stream
 
 -- a whole stream stands whole before its fault, and the bytes behind its end are left
 record StandsWhole (x : Found) (front : Front) : Type 0 where
-  lines : front.lines ≡ x.0
+  lines : front.lines ≡ parts_in x.0
   behind : front.behind ≡ Some x.1
 
 stands_whole : (place : ℕ) (bytes : List ℕ) (x : Found) → stream_at place bytes ≡ Ok x → StandsWhole x (front_at bytes)
@@ -70,8 +71,8 @@ stands_whole place bytes x e = by_header (front_header_at bytes) e
     by_stop : (h : Header) (stop : Stop) (events : List Event) (rest : List ℕ) → streamed place h (up_to stop events rest) ≡ Ok x → StandsWhole x (record { lines = lines.Header h ∷ map lines.Event events; behind = behind_end stop rest })
     by_stop h Inside events rest k = absurd cc
     by_stop h AtEnd events rest k =
-        let same = same_found (lines.Header h ∷ map lines.Event events, rest) x k in
-        record { lines = ap (λ (y : Found). y.0) same; behind = ap (λ (y : Found). Some y.1) same }
+        let same = same_found (record { header = h; events = events }, rest) x k in
+        record { lines = ap (λ (y : Found). parts_in y.0) same; behind = ap (λ (y : Found). Some y.1) same }
     by_stop h (AtFault d) events rest k = absurd cc
 
     by_header : (r : Result (Header × List ℕ) RecordError) → (at_place place r >>= λ h. streamed place h.0 (front_records_at h.0 h.1)) ≡ Ok x → StandsWhole x (front_behind r)
@@ -132,25 +133,25 @@ nothing_left : (most : ℕ) → lines_before (suc most) [] ≡ []
 unfolding lines_before front_header_at
 nothing_left most = refl
 
-all_stand : (most place : ℕ) (bytes : List ℕ) (xs : List Line) → streams_at most place bytes ≡ Ok xs → lines_before most bytes ≡ xs
+all_stand : (most place : ℕ) (bytes : List ℕ) (xs : List WholeStream) → streams_at most place bytes ≡ Ok xs → lines_before most bytes ≡ flat_map parts_in xs
 unfolding streams_at lines_before
-all_stand zero place bytes xs e = same_all [] xs e
+all_stand zero place bytes xs e = ap (flat_map parts_in) (same_all [] xs e)
 all_stand (suc most) place bytes xs e = by_length (length bytes == 0) refl e (λ rest ys k. all_stand most (place + 1) rest ys k)
   where
-    by_rest : (x : Found) → StandsWhole x (front_at bytes) → (r : Result (List Line) Fault) → streams_at most (place + 1) x.1 ≡ r → (r >>= λ ys. all (x.0 ++ ys)) ≡ Ok xs
-        → ((rest : List ℕ) (ys : List Line) → streams_at most (place + 1) rest ≡ Ok ys → lines_before most rest ≡ ys) → lines_before (suc most) bytes ≡ xs
+    by_rest : (x : Found) → StandsWhole x (front_at bytes) → (r : Result (List WholeStream) Fault) → streams_at most (place + 1) x.1 ≡ r → (r >>= λ ys. all (x.0 ∷ ys)) ≡ Ok xs
+        → ((rest : List ℕ) (ys : List WholeStream) → streams_at most (place + 1) rest ≡ Ok ys → lines_before most rest ≡ flat_map parts_in ys) → lines_before (suc most) bytes ≡ flat_map parts_in xs
     by_rest x one (Err f) is k later = absurd cc
     by_rest x one (Ok ys) is k later =
-        one_more most bytes (Some x.1) one.behind ∙ ap (λ (v : List Line). v ++ lines_before most x.1) one.lines ∙ ap (λ (v : List Line). x.0 ++ v) (later x.1 ys is) ∙ same_all (x.0 ++ ys) xs k
+        one_more most bytes (Some x.1) one.behind ∙ ap (λ (v : List Line). v ++ lines_before most x.1) one.lines ∙ ap (λ (v : List Line). parts_in x.0 ++ v) (later x.1 ys is) ∙ ap (flat_map parts_in) (same_all (x.0 ∷ ys) xs k)
 
-    by_stream : (r : Result Found Fault) → stream_at place bytes ≡ r → (r >>= λ s. streams_at most (place + 1) s.1 >>= λ ys. all (s.0 ++ ys)) ≡ Ok xs
-        → ((rest : List ℕ) (ys : List Line) → streams_at most (place + 1) rest ≡ Ok ys → lines_before most rest ≡ ys) → lines_before (suc most) bytes ≡ xs
+    by_stream : (r : Result Found Fault) → stream_at place bytes ≡ r → (r >>= λ s. streams_at most (place + 1) s.1 >>= λ ys. all (s.0 ∷ ys)) ≡ Ok xs
+        → ((rest : List ℕ) (ys : List WholeStream) → streams_at most (place + 1) rest ≡ Ok ys → lines_before most rest ≡ flat_map parts_in ys) → lines_before (suc most) bytes ≡ flat_map parts_in xs
     by_stream (Err f) is k later = absurd cc
     by_stream (Ok x) is k later = by_rest x (stands_whole place bytes x is) (streams_at most (place + 1) x.1) refl k later
 
-    by_length : (b : Bool) → (length bytes == 0) ≡ b → cond b (all []) (stream_at place bytes >>= λ s. streams_at most (place + 1) s.1 >>= λ ys. all (s.0 ++ ys)) ≡ Ok xs
-        → ((rest : List ℕ) (ys : List Line) → streams_at most (place + 1) rest ≡ Ok ys → lines_before most rest ≡ ys) → lines_before (suc most) bytes ≡ xs
-    by_length true is k later = ap (lines_before (suc most)) (none bytes (eqb-true (length bytes) 0 is)) ∙ nothing_left most ∙ same_all [] xs k
+    by_length : (b : Bool) → (length bytes == 0) ≡ b → cond b (all []) (stream_at place bytes >>= λ s. streams_at most (place + 1) s.1 >>= λ ys. all (s.0 ∷ ys)) ≡ Ok xs
+        → ((rest : List ℕ) (ys : List WholeStream) → streams_at most (place + 1) rest ≡ Ok ys → lines_before most rest ≡ flat_map parts_in ys) → lines_before (suc most) bytes ≡ flat_map parts_in xs
+    by_length true is k later = ap (lines_before (suc most)) (none bytes (eqb-true (length bytes) 0 is)) ∙ nothing_left most ∙ ap (flat_map parts_in) (same_all [] xs k)
     by_length false is k later = by_stream (stream_at place bytes) refl k later
 
 record StandsAt (place p : ℕ) (e : RecordError) (bytes : List ℕ) (xs : List Line) : Type 0 where
@@ -163,7 +164,7 @@ record StandsAt (place p : ℕ) (e : RecordError) (bytes : List ℕ) (xs : List 
   front : IsRefusedAtHeader e rest lines ⊎ IsRefusedBehind e rest lines
   is : xs ≡ flat_map parts_in streams ++ lines
 
-abbrev none_listed : Fault → Result (List Line) Fault
+abbrev none_listed : Fault → Result (List WholeStream) Fault
 none_listed f = Err f
 
 failed : (f g : Fault) → none_listed f ≡ none_listed g → f ≡ g
@@ -180,26 +181,26 @@ unfolding streams_at
 stands_at p e zero place bytes fits k = absurd cc
 stands_at p e (suc most) place bytes fits k = by_length (length bytes == 0) k (λ rest fits_rest c. stands_at p e most (place + 1) rest fits_rest c)
   where
-    by_rest : (x : Found) → stream_at place bytes ≡ Ok x → (r : Result (List Line) Fault) → streams_at most (place + 1) x.1 ≡ r → (r >>= λ ys. all (x.0 ++ ys)) ≡ Err (faults.Stream p e) → Later p e most place → StandsAt place p e bytes (lines_before (suc most) bytes)
+    by_rest : (x : Found) → stream_at place bytes ≡ Ok x → (r : Result (List WholeStream) Fault) → streams_at most (place + 1) x.1 ≡ r → (r >>= λ ys. all (x.0 ∷ ys)) ≡ Err (faults.Stream p e) → Later p e most place → StandsAt place p e bytes (lines_before (suc most) bytes)
     by_rest x one (Ok ys) is c later = absurd cc
     by_rest x one (Err f) is c later =
         let s = stream_found place bytes fits x one in
         let w = stands_whole place bytes x one in
         let more = later x.1 s.fits (is ∙ ap Err (failed f (faults.Stream p e) c)) in
         record {
-          streams = s.stream ∷ more.streams;
-          whole = all_before IsWhole s.stream more.streams s.whole more.whole;
+          streams = x.0 ∷ more.streams;
+          whole = all_before IsWhole x.0 more.streams s.whole more.whole;
           count = omega (arith, more.count);
           rest = more.rest;
-          parts = s.spelled ∙ ap (λ (v : List ℕ). stream_spelling s.stream.header s.stream.events ++ v) more.parts ∙ sym (append_assoc (stream_spelling s.stream.header s.stream.events) (bytes_of more.streams) more.rest);
+          parts = s.spelled ∙ ap (λ (v : List ℕ). stream_spelling x.0.header x.0.events ++ v) more.parts ∙ sym (append_assoc (stream_spelling x.0.header x.0.events) (bytes_of more.streams) more.rest);
           lines = more.lines;
           front = more.front;
           is =
-              one_more most bytes (Some x.1) w.behind ∙ ap (λ (v : List Line). v ++ lines_before most x.1) (w.lines ∙ s.parts) ∙ ap (λ (v : List Line). parts_in s.stream ++ v) more.is
-              ∙ sym (append_assoc (parts_in s.stream) (flat_map parts_in more.streams) more.lines);
+              one_more most bytes (Some x.1) w.behind ∙ ap (λ (v : List Line). v ++ lines_before most x.1) w.lines ∙ ap (λ (v : List Line). parts_in x.0 ++ v) more.is
+              ∙ sym (append_assoc (parts_in x.0) (flat_map parts_in more.streams) more.lines);
         }
 
-    by_stream : (r : Result Found Fault) → stream_at place bytes ≡ r → (r >>= λ s. streams_at most (place + 1) s.1 >>= λ ys. all (s.0 ++ ys)) ≡ Err (faults.Stream p e) → Later p e most place → StandsAt place p e bytes (lines_before (suc most) bytes)
+    by_stream : (r : Result Found Fault) → stream_at place bytes ≡ r → (r >>= λ s. streams_at most (place + 1) s.1 >>= λ ys. all (s.0 ∷ ys)) ≡ Err (faults.Stream p e) → Later p e most place → StandsAt place p e bytes (lines_before (suc most) bytes)
     by_stream (Err f) is c later =
         let s = stands_refused place bytes fits p e (is ∙ failed_stream f (faults.Stream p e) c) in
         record {
@@ -214,7 +215,7 @@ stands_at p e (suc most) place bytes fits k = by_length (length bytes == 0) k (�
         }
     by_stream (Ok x) is c later = by_rest x is (streams_at most (place + 1) x.1) refl c later
 
-    by_length : (b : Bool) → cond b (all []) (stream_at place bytes >>= λ s. streams_at most (place + 1) s.1 >>= λ ys. all (s.0 ++ ys)) ≡ Err (faults.Stream p e) → Later p e most place → StandsAt place p e bytes (lines_before (suc most) bytes)
+    by_length : (b : Bool) → cond b (all []) (stream_at place bytes >>= λ s. streams_at most (place + 1) s.1 >>= λ ys. all (s.0 ∷ ys)) ≡ Err (faults.Stream p e) → Later p e most place → StandsAt place p e bytes (lines_before (suc most) bytes)
     by_length true c later = absurd cc
     by_length false c later = by_stream (stream_at place bytes) refl c later
 
@@ -229,14 +230,14 @@ same_done x y e = cc
 pub whole_streams_stand_whole : WholeStreamsStandWhole
 whole_streams_stand_whole bytes text e = by_streams (streams_in bytes) refl e
   where
-    by_streams : (r : Result (List Line) Fault) → streams_in bytes ≡ r → (r >>= λ xs. done (flat_map whole_line xs)) ≡ Ok text → text_before_fault bytes ≡ text
+    by_streams : (r : Result (List WholeStream) Fault) → streams_in bytes ≡ r → (r >>= λ xs. done (flat_map (formed Text) xs)) ≡ Ok text → text_before_fault bytes ≡ text
     by_streams (Err f) is k = absurd cc
-    by_streams (Ok xs) is k = ap (flat_map whole_line) (all_stand (length bytes) 0 bytes xs is) ∙ same_done (flat_map whole_line xs) text k
+    by_streams (Ok xs) is k = ap (flat_map whole_line) (all_stand (length bytes) 0 bytes xs is) ∙ sym (streams_text xs) ∙ same_done (flat_map (formed Text) xs) text k
 
 pub refused_is_told : RefusedIsToldUpToItsFault
 refused_is_told bytes place e fits k = by_streams (streams_in bytes) refl k
   where
-    by_streams : (r : Result (List Line) Fault) → streams_in bytes ≡ r → (r >>= λ xs. done (flat_map whole_line xs)) ≡ Err (faults.Stream place e) → StandsBefore place e bytes (text_before_fault bytes)
+    by_streams : (r : Result (List WholeStream) Fault) → streams_in bytes ≡ r → (r >>= λ xs. done (flat_map (formed Text) xs)) ≡ Err (faults.Stream place e) → StandsBefore place e bytes (text_before_fault bytes)
     by_streams (Ok xs) is c = absurd cc
     by_streams (Err f) is c =
         let same : f ≡ faults.Stream place e = cc in

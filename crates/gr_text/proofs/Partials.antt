@@ -17,6 +17,7 @@ use Rattle.gr_record.specs.Spelling.{IsHeader}
 use Rattle.gr_record.specs.Versions.{record_length}
 use Rattle.gr_record.proofs.Found.{read_is_spelled}
 use Rattle.gr_record.proofs.Loop.{next, short, too_many}
+use Rattle.gr_record.proofs.Places.{header_items}
 use Rattle.gr_lines.specs.declared.line.Line.{Line}
 use Rattle.gr_lines.specs.declared.line.Line.TheVariants as lines
 use Rattle.gr_text.specs.Texts.{whole_line}
@@ -29,7 +30,7 @@ pub in_range : (h : Header) → IsHeader h → (bytes : List ℕ) → AreBytes b
 in_range h ok bytes fits len (Err d) is = tt
 in_range h ok bytes fits len (Ok e) is =
     let read = (read_is_spelled h e bytes fits (omega (arith, len)) (sym is)).1.event.ok in
-    (omega (arith, read.0, ok.items), read.1, read.2)
+    let few = header_items h ok in (omega (arith, read.0, few), read.1, read.2)
 
 -- a text with the lines of the records that are read
 abbrev pub text_with : List ℕ → Records → List ℕ

@@ -16,9 +16,9 @@ use Rattle.gr_model.specs.declared.event.Event.{Event}
 use Rattle.gr_model.specs.NameLists.{IsNameInRange}
 use Rattle.gr_record.specs.declared.header.Header.{Header}
 use Rattle.gr_record.specs.declared.header.Version.{Version}
-use Rattle.gr_record.specs.declared.header.Version.TheVariants.{One, Two}
-use Rattle.gr_record.specs.Versions.{places}
-use Rattle.gr_record.proofs.Places.{each_in_range}
+use Rattle.gr_record.specs.declared.header.Version.TheVariants.{One, Two, Three, Four}
+use Rattle.gr_record.specs.Versions.{most_items, places}
+use Rattle.gr_record.proofs.Places.{each_in_range, header_group, header_items}
 use Rattle.gr_model.specs.declared.limits.TheConstants.{MOST_ITEMS_OF_A_GROUP, MOST_RECORDS}
 use Rattle.gr_model.specs.Events.{IsNamingOk, is_end}
 use Rattle.gr_model.specs.Streams.{is_complete}
@@ -34,7 +34,8 @@ use Rattle.gr_lines.proofs.LinesAgain.{text_is_read}
 use Rattle.gr_text.specs.declared.place.Place.TheVariants.{Outside, Inside}
 use Rattle.gr_text.specs.Lines.{lines_of}
 use Rattle.gr_text.specs.Texts.{whole_line, packed, said_from}
-use Rattle.gr_text.specs.Wholes.{WholeStream, IsWhole, parts_in, WholeStreamsArePacked, DumpedIsPackedAgain}
+use Rattle.gr_text.specs.Dumps.{WholeStream, parts_in}
+use Rattle.gr_text.specs.Wholes.{IsWhole, WholeStreamsArePacked, DumpedIsPackedAgain}
 use Rattle.gr_text.proofs.DumpedStreams.{dumped_are_streams}
 use Rattle.gr_text.proofs.PackedStreams.{streams_bytes}
 
@@ -92,8 +93,8 @@ flags_above true true = refl
 
 name_above : (n : Name) (ws : List (List ℕ)) → IsNameInRange n → AreAbove ws → AreAbove (name_words n ++ ws)
 name_above n ws ok h =
-    let group : n.at.group < 64 = ok.0 in
-    let item : n.at.item < 256 = ok.1 in
+    let group : n.at.group < 65535 = ok.0 in
+    let item : n.at.item < 1024 = ok.1 in
     let release : n.release < 16777216 = ok.2 in
     (refl, (number_above n.at.group (omega arith), (number_above n.at.item (omega arith), (number_above n.release (omega arith), h))))
 
@@ -107,7 +108,7 @@ names_above kind names ok = each_above names (each_in_range kind names ok)
 atomic_above : (word : List ℕ) (kind : Kind) (scope : Scope) (order : Order) (e : Event) → Above word → e.word < 2 ^ 32 → IsNamingOk kind e.names → AreAbove (atomic_words word scope order e)
 atomic_above word kind scope order e is lt naming = (is, (space_above e.space, (number_above e.word lt, (scope_above scope, (order_above order, names_above kind e.names naming)))))
 
-event_above : (kind : Kind) (e : Event) → e.item < 256 → e.word < 2 ^ 32 → IsNamingOk kind e.names → Above (first_word kind e.item ++ later_text (later_words kind e))
+event_above : (kind : Kind) (e : Event) → e.item < 1024 → e.word < 2 ^ 32 → IsNamingOk kind e.names → Above (first_word kind e.item ++ later_text (later_words kind e))
 event_above Read e item word naming = above-append (decimal e.item) _ (number_above e.item (omega arith)) (later_above (later_words Read e) (refl, (space_above e.space, (number_above e.word word, tt))))
 event_above Write e item word naming = above-append (decimal e.item) _ (number_above e.item (omega arith)) (later_above (later_words Write e) (refl, (space_above e.space, (number_above e.word word, tt))))
 event_above (Load scope order) e item word naming = above-append (decimal e.item) _ (number_above e.item (omega arith)) (later_above (later_words (Load scope order) e) (atomic_above (codes "ld") (Load scope order) scope order e refl word naming))
@@ -120,13 +121,15 @@ event_above (End false) e item word naming = refl
 version_above : (v : Version) → AreAbove (version_words v)
 version_above One = tt
 version_above Two = (refl, tt)
+version_above Three = (refl, tt)
+version_above Four = (refl, tt)
 
-line_above : (x : Line) → IsSaid x → Above (line_text x)
+line_above : (x : Line) → IsSaid Four x → Above (line_text x)
 line_above (lines.Header h) ok =
-    let group : h.group < 64 = ok.group in
-    let items : h.items ≤ 256 = ok.items in
+    let group : h.group < 65535 = header_group h ok in
+    let items : h.items ≤ 1024 = header_items h ok in
     later_above (header_words h) (number_above h.group (omega arith), (refl, (number_above h.items (omega arith), (refl, (number_above h.launch ok.launch, version_above h.version)))))
-line_above (lines.Event e) ok = event_above e.kind e ok.ok.0 ok.word ok.ok.1
+line_above (lines.Event e) (ok, range) = event_above e.kind e ok.ok.0 ok.word ok.ok.1
 
 -- ---- the lines of a text
 
@@ -142,7 +145,7 @@ line_before (b ∷ l) rest h =
 
 abbrev AreSaid : List Line → Type 0
 AreSaid [] = ⊤
-AreSaid (x ∷ xs) = IsSaid x × AreSaid xs
+AreSaid (x ∷ xs) = IsSaid Four x × AreSaid xs
 
 said-append : (xs ys : List Line) → AreSaid xs → AreSaid ys → AreSaid (xs ++ ys)
 said-append [] ys h k = k
@@ -156,27 +159,27 @@ lines_back : (xs : List Line) → AreSaid xs → lines_of (flat_map whole_line x
 lines_back [] h = no_text
 lines_back (x ∷ xs) h = line_before (line_text x) (flat_map whole_line xs) (line_above x h.0) ∙ ap (λ (v : List (List ℕ)). line_text x ∷ v) (lines_back xs h.1)
 
-event_said : (items : ℕ) (e : Event) → items ≤ MOST_ITEMS_OF_A_GROUP → IsEvent items e → IsEvent MOST_ITEMS_OF_A_GROUP e
-event_said items e few ok = record { ok = (omega (arith, ok.ok.0), ok.ok.1, ok.ok.2); word = ok.word }
+event_said : (items most : ℕ) (e : Event) → items ≤ most → IsEvent items e → IsEvent most e
+event_said items most e few ok = record { ok = (omega (arith, ok.ok.0), ok.ok.1, ok.ok.2); word = ok.word }
 
 events_said : (h : Header) (es : List Event) → h.items ≤ MOST_ITEMS_OF_A_GROUP → Runs h es → AreSaid (map lines.Event es)
 events_said h [] few runs = tt
-events_said h (e ∷ es) few runs = (event_said h.items e few runs.0.event, events_said h es few runs.2)
+events_said h (e ∷ es) few runs = let ok = runs.0.event in ((event_said h.items MOST_ITEMS_OF_A_GROUP e few ok, each_in_range e.kind e.names ok.ok.1), events_said h es few runs.2)
 
 streams_said : (ss : List WholeStream) → All IsWhole ss → AreSaid (flat_map parts_in ss)
 streams_said [] whole = tt
 streams_said (s ∷ ss) whole =
     let w = whole 0 s (omega arith) in
-    (w.prefix.header, said-append (map lines.Event s.events) (flat_map parts_in ss) (events_said s.header s.events w.prefix.header.items w.prefix.runs) (streams_said ss (λ k d lt. whole (suc k) d (omega arith))))
+    (w.prefix.header, said-append (map lines.Event s.events) (flat_map parts_in ss) (events_said s.header s.events (header_items s.header w.prefix.header) w.prefix.runs) (streams_said ss (λ k d lt. whole (suc k) d (omega arith))))
 
 -- ---- line by line
 
-events_back : (es : List Event) (n : ℕ) (h : Header) (left : ℕ) (rest : List Line) → h.items ≤ MOST_ITEMS_OF_A_GROUP → Runs h es → IsTrue (is_complete es) → length es ≤ left → ((m : ℕ) → said_from m Outside (map line_text rest) ≡ Ok rest)
+events_back : (es : List Event) (n : ℕ) (h : Header) (left : ℕ) (rest : List Line) → h.items ≤ most_items h.version → Runs h es → IsTrue (is_complete es) → length es ≤ left → ((m : ℕ) → said_from m Outside (map line_text rest) ≡ Ok rest)
     → said_from n (Inside h left) (map line_text (map lines.Event es ++ rest)) ≡ Ok (map lines.Event es ++ rest)
 unfolding said_from
 events_back [] n h left rest few runs complete le behind = absurd (true≢false (sym complete))
 events_back (e ∷ es) n h left rest few runs complete le behind =
-    let read = text_is_read (lines.Event e) (event_said h.items e few runs.0.event) in
+    let read = text_is_read h.version (lines.Event e) (event_said h.items (most_items h.version) e few runs.0.event, runs.0.range) in
     let there : nat_le h.items e.item ≡ false = lt-leb h.items e.item runs.0.event.ok.0 in
     let room : nat_lt (places h.version) (length e.names) ≡ false = le-ltb _ _ runs.0.names in
     let some : (left == 0) ≡ false = ne_eqb left 0 (λ none. absurd (omega arith)) in
@@ -194,7 +197,7 @@ unfolding said_from
 streams_back [] n whole = refl
 streams_back (s ∷ ss) n whole =
     let w = whole 0 s (omega arith) in
-    let read = text_is_read (lines.Header s.header) w.prefix.header in
+    let read = text_is_read One (lines.Header s.header) w.prefix.header in
     let later = events_back s.events (n + 1) s.header MOST_RECORDS (flat_map parts_in ss) w.prefix.header.items w.prefix.runs w.ended w.prefix.few (λ m. streams_back ss m (λ k d lt. whole (suc k) d (omega arith))) in
     rw (read, later) refl
 

@@ -26,31 +26,31 @@ use Rattle.gr_text.specs.Texts.{◌>>=◌, HasRoom, line_bytes, version_at, vers
 -- ---- one line
 
 -- what was parsed is what the line says
-pub parsed_is_said : (r : Option Line) (line : List ℕ) → IfSome r (λ l. IsSaid l × (line ≡ line_text l)) → ((l : Line) → IsSaid l → line ≡ line_text l → r ≡ Some l) → r ≡ line_said line
-parsed_is_said (Some l) line found only = sym (ap line_said found.1 ∙ text_is_read l found.0)
-parsed_is_said None line found only =
-    none (line_said line) refl
+pub parsed_is_said : (v : Version) (r : Option Line) (line : List ℕ) → IfSome r (λ l. IsSaid v l × (line ≡ line_text l)) → ((l : Line) → IsSaid v l → line ≡ line_text l → r ≡ Some l) → r ≡ line_said v line
+parsed_is_said v (Some l) line found only = sym (ap (line_said v) found.1 ∙ text_is_read v l found.0)
+parsed_is_said v None line found only =
+    none (line_said v line) refl
   where
-    none : (o : Option Line) → line_said line ≡ o → None ≡ line_said line
+    none : (o : Option Line) → line_said v line ≡ o → None ≡ line_said v line
     none None is = sym is
-    none (Some l) is = let t = read_is_text line l is in let no : None ≡ Some l = only l t.0 t.1 in absurd cc
+    none (Some l) is = let t = read_is_text v line l is in let no : None ≡ Some l = only l t.0 t.1 in absurd cc
 
-abbrev AsSaid : Result (Line × Place) Fault → Type 0
-AsSaid r = IfOk r (λ x. IsSaid x.0)
+abbrev AsSaid : Version → Result (Line × Place) Fault → Type 0
+AsSaid v r = IfOk r (λ x. IsSaid v x.0)
 
-record_said : (n : ℕ) (h : Header) (left : ℕ) (e : Event) → IsSaid (lines.Event e) → AsSaid (record_at n h left e)
+record_said : (n : ℕ) (h : Header) (left : ℕ) (e : Event) → IsSaid h.version (lines.Event e) → AsSaid h.version (record_at n h left e)
 record_said n h left e said = by_item (nat_le h.items e.item || nat_lt (places h.version) (length e.names))
   where
-    by_room : (b : Bool) → AsSaid (cond b (Err (faults.LongStream n)) (Ok (lines.Event e, cond (is_end e) Outside (Inside h (left - 1)))))
+    by_room : (b : Bool) → AsSaid h.version (cond b (Err (faults.LongStream n)) (Ok (lines.Event e, cond (is_end e) Outside (Inside h (left - 1)))))
     by_room true = tt
     by_room false = said
 
-    by_item : (b : Bool) → AsSaid (cond b (Err (faults.BadLine n)) (cond (left == 0) (Err (faults.LongStream n)) (Ok (lines.Event e, cond (is_end e) Outside (Inside h (left - 1))))))
+    by_item : (b : Bool) → AsSaid h.version (cond b (Err (faults.BadLine n)) (cond (left == 0) (Err (faults.LongStream n)) (Ok (lines.Event e, cond (is_end e) Outside (Inside h (left - 1))))))
     by_item true = tt
     by_item false = by_room (left == 0)
 
 -- what a place takes was said
-pub taken_is_said : (n : ℕ) (place : Place) (r : Option Line) → IfSome r IsSaid → AsSaid (line_at n place r)
+pub taken_is_said : (n : ℕ) (place : Place) (r : Option Line) → IfSome r (IsSaid (version_at place)) → AsSaid (version_at place) (line_at n place r)
 taken_is_said n Outside None h = tt
 taken_is_said n (Inside g left) None h = tt
 taken_is_said n Outside (Some (lines.Header x)) h = h
@@ -134,13 +134,13 @@ module _ (prefix : List ℕ) (n : ℕ) (place : Place) (total : Result (List ℕ
   over_inside h left so_far is = sym so_far ∙ rw is refl
 
   module _ (line : List ℕ) (ls : List (List ℕ)) (so_far : bytes_behind prefix (version_at place) (said_from n place (line ∷ ls)) ≡ total) where
-    pub line_fails : (f : Fault) → line_at n place (line_said line) ≡ Err f → total ≡ Err f
+    pub line_fails : (f : Fault) → line_at n place (line_said (version_at place) line) ≡ Err f → total ≡ Err f
     unfolding said_from
     line_fails f is = sym so_far ∙ rw is refl
 
-    pub line_goes_on : (x : Line) (behind : Place) → line_at n place (line_said line) ≡ Ok (x, behind) → bytes_behind (prefix ++ line_bytes (version_at place) x) (version_at behind) (said_from (n + 1) behind ls) ≡ total
+    pub line_goes_on : (x : Line) (behind : Place) → line_at n place (line_said (version_at place) line) ≡ Ok (x, behind) → bytes_behind (prefix ++ line_bytes (version_at place) x) (version_at behind) (said_from (n + 1) behind ls) ≡ total
     unfolding said_from
     line_goes_on x behind is =
         let v = version_at place in
         let one : bytes_behind prefix v (said_from n place (line ∷ ls)) ≡ bytes_behind prefix v (said_from (n + 1) behind ls >>= λ xs. Ok (x ∷ xs)) = rw is refl in
-        rw (← leads_to n place (line_said line) x behind is) (sym (regroup prefix v x (said_from (n + 1) behind ls)) ∙ (sym one ∙ so_far))
+        rw (← leads_to n place (line_said (version_at place) line) x behind is) (sym (regroup prefix v x (said_from (n + 1) behind ls)) ∙ (sym one ∙ so_far))

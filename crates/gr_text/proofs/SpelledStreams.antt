@@ -20,10 +20,12 @@ use Rattle.gr_record.specs.Spelling.{IsHeader, event_spelling, events_spelling, 
 use Rattle.gr_record.specs.WholeStreams.{front_header_at, front_records_at, stream_spelling}
 use Rattle.gr_record.proofs.FoundPrefixes.{complete_behind}
 use Rattle.gr_record.proofs.Loop.{next}
+use Rattle.gr_record.proofs.Places.{header_items}
 use Rattle.gr_record.proofs.Spelled.{spelled_is_read, spelled_header_is_read, spelling_length}
-use Rattle.gr_text.specs.Dumps.{stream_at, streams_at, dumped}
-use Rattle.gr_text.specs.Wholes.{WholeStream, IsWhole, parts_in, bytes_of, text_of, WholeStreamsAreDumped, PackedIsDumpedAgain}
+use Rattle.gr_text.specs.Dumps.{WholeStream, stream_at, streams_at, dumped}
+use Rattle.gr_text.specs.Wholes.{IsWhole, bytes_of, text_of, WholeStreamsAreDumped, PackedIsDumpedAgain}
 use Rattle.gr_text.proofs.PackedStreams.{packed_are_streams}
+use Rattle.gr_text.proofs.DumpedStreams.{streams_text}
 use Rattle.gr_text.proofs.Streaming.{nothing_left}
 
 abbrev ended_with : List Event → List ℕ → Records
@@ -66,14 +68,14 @@ header_before h rest ok =
     let long : HEADER_LENGTH ≤ length (header_spelling h ++ rest) = omega arith in
     rw (le-ltb (length (header_spelling h ++ rest)) HEADER_LENGTH long, spelled_header_is_read h rest ok) refl
 
-stream_before : (place : ℕ) (s : WholeStream) (rest : List ℕ) → IsWhole s → stream_at place (stream_spelling s.header s.events ++ rest) ≡ Ok (parts_in s, rest)
+stream_before : (place : ℕ) (s : WholeStream) (rest : List ℕ) → IsWhole s → stream_at place (stream_spelling s.header s.events ++ rest) ≡ Ok (s, rest)
 unfolding stream_at
 stream_before place s rest whole =
     let prefix = whole.prefix in
-    let records = events_before s.header prefix.header.items s.events rest prefix.runs whole.ended prefix.few in
+    let records = events_before s.header (header_items s.header prefix.header) s.events rest prefix.runs whole.ended prefix.few in
     rw (append_assoc (header_spelling s.header) (events_spelling s.header.version s.events) rest, header_before s.header (events_spelling s.header.version s.events ++ rest) prefix.header, records) refl
 
-pub streams_before : (ss : List WholeStream) (most place : ℕ) → All IsWhole ss → length (bytes_of ss) ≤ most → streams_at most place (bytes_of ss) ≡ Ok (flat_map parts_in ss)
+pub streams_before : (ss : List WholeStream) (most place : ℕ) → All IsWhole ss → length (bytes_of ss) ≤ most → streams_at most place (bytes_of ss) ≡ Ok ss
 unfolding streams_at
 streams_before [] most place whole le = nothing_left most place [] refl
 streams_before (s ∷ ss) zero place whole le = absurd (omega arith)
@@ -85,7 +87,7 @@ streams_before (s ∷ ss) (suc most) place whole le =
     rw (some, one, ih) refl
 
 pub whole_streams_are_dumped : WholeStreamsAreDumped
-whole_streams_are_dumped ss whole = let all = streams_before ss (length (bytes_of ss)) 0 whole (omega arith) in rw all refl
+whole_streams_are_dumped ss whole = let all = streams_before ss (length (bytes_of ss)) 0 whole (omega arith) in rw all (ap (λ (v : List ℕ). Ok v) (streams_text ss))
 
 pub packed_is_dumped_again : PackedIsDumpedAgain
 packed_is_dumped_again text bytes e =

@@ -3,7 +3,6 @@ use Rattle.std.proofs.Common.{◌≡◌, ℕ, zero, suc, ◌+◌, ◌-◌, ◌<�
 use Rattle.std.specs.Prelude.{◌==◌}
 use Rattle.std.proofs.lemmas.Bool.{ltb-false}
 use Rattle.std.proofs.lemmas.List.{append-nil, get_or-append-add}
-use Rattle.std.proofs.lemmas.List.Concat.{flat_map-append}
 use Rattle.std.specs.List.{flat_map}
 use Rattle.gr_input.specs.Faults.{Fails}
 use Rattle.gr_input.proofs.Outside.{fails_through}
@@ -17,8 +16,6 @@ use Rattle.gr_record.specs.declared.fault.Fault.{Fault}
 use Rattle.gr_record.specs.declared.fault.Fault.TheVariants as faults
 use Rattle.gr_record.specs.declared.header.Header.{Header}
 use Rattle.gr_record.specs.declared.layout.TheConstants.{HEADER_LENGTH}
-use Rattle.gr_lines.specs.declared.line.Line.{Line}
-use Rattle.gr_lines.specs.declared.line.Line.TheVariants as lines
 use Rattle.gr_record.specs.declared.stop.Stop.{Stop}
 use Rattle.gr_record.specs.declared.stop.Stop.TheVariants.{Inside, AtEnd, AtFault}
 use Rattle.gr_record.specs.Faults.{stream_fault}
@@ -26,6 +23,7 @@ use Rattle.gr_record.specs.Fronts.{Records, records_of}
 use Rattle.gr_record.specs.PrefixLaws.{Runs}
 use Rattle.gr_record.specs.Laws.{AreBytes}
 use Rattle.gr_record.specs.Reading.{header_at}
+use Rattle.gr_record.specs.Versions.{places}
 use Rattle.gr_record.specs.Spelling.{IsHeader, header_spelling, events_spelling}
 use Rattle.gr_record.specs.WholeStreams as record_spec
 use Rattle.gr_record.specs.WholeStreams.{front_header_at, front_records_at, up_to}
@@ -35,7 +33,7 @@ use Rattle.gr_record.proofs.Places.{bytes_drop}
 use Rattle.std.proofs.lemmas.List.{take-append-drop}
 use Rattle.gr_text.specs.declared.forming.Form.{Form}
 use Rattle.gr_text.specs.Texts.{◌>>=◌}
-use Rattle.gr_text.specs.Dumps.{stream_at, streams_at, formed, with_stream}
+use Rattle.gr_text.specs.Dumps.{WholeStream, stream_at, streams_at, formed, formed_event, formed_header, with_stream}
 
 -- ---- one stream
 
@@ -54,10 +52,10 @@ module _ (form : Form) (text : List ℕ) (place : ℕ) (bytes : List ℕ) where
     unfolding stream_at
     records_fail e h = fault_at-fails place e (front_records_at header rest) (with_stream form text (stream_at place bytes)) h (λ k. rw (found, k) refl)
 
-    pub one_stream : (events : List Event) (after : List ℕ) → front_records_at header rest ≡ Ok (events, after) → with_stream form text (stream_at place bytes) ≡ Ok (text ++ formed form (lines.Header header) ++ flat_map (formed form) (map lines.Event events), after)
+    pub one_stream : (events : List Event) (after : List ℕ) → front_records_at header rest ≡ Ok (events, after) → with_stream form text (stream_at place bytes) ≡ Ok (text ++ formed_header form header ++ flat_map (formed_event form header.version) events, after)
     unfolding stream_at
     one_stream events after k =
-        rw (found, k) (ap (λ (v : List ℕ). Ok (v, after)) (sym (append_assoc text (formed form (lines.Header header)) (flat_map (formed form) (map lines.Event events)))))
+        rw (found, k) (ap (λ (v : List ℕ). Ok (v, after)) (sym (append_assoc text (formed_header form header) (flat_map (formed_event form header.version) events))))
 
 -- ---- what is read is spelled so
 
@@ -112,16 +110,16 @@ events_found h bytes fits events rest e = by_stop read.stop refl e
     by_stop Inside is k = cc
     by_stop (AtFault d) is k = cc
 
--- what some stream may have has a line
-pub runs_have_lines : (h : Header) → h.items ≤ MOST_ITEMS_OF_A_GROUP → (events : List Event) → Runs h events → All (λ e. IsEventOk e MOST_ITEMS_OF_A_GROUP) events
+-- what some stream may have has a line, and room for its names there
+pub runs_have_lines : (h : Header) → h.items ≤ MOST_ITEMS_OF_A_GROUP → (events : List Event) → Runs h events → All (λ e. IsEventOk e MOST_ITEMS_OF_A_GROUP × (length e.names ≤ places h.version)) events
 runs_have_lines h few [] runs k d lt = absurd (omega arith)
-runs_have_lines h few (e ∷ es) runs zero d lt = let ok = runs.0.event.ok in (omega (arith, ok.0), ok.1, ok.2)
+runs_have_lines h few (e ∷ es) runs zero d lt = let ok = runs.0.event.ok in ((omega (arith, ok.0), ok.1, ok.2), runs.0.names)
 runs_have_lines h few (e ∷ es) runs (suc k) d lt = runs_have_lines h few es runs.2 k d (omega arith)
 
 -- ---- the loop over streams
 
 -- a text before that of what the streams say
-abbrev pub texts_behind : Form → List ℕ → Result (List Line) Fault → Result (List ℕ) Fault
+abbrev pub texts_behind : Form → List ℕ → Result (List WholeStream) Fault → Result (List ℕ) Fault
 texts_behind form prefix r = r >>= λ xs. Ok (prefix ++ flat_map (formed form) xs)
 
 pub nothing_left : (most place : ℕ) (bytes : List ℕ) → (length bytes == 0) ≡ true → streams_at most place bytes ≡ Ok []
@@ -129,9 +127,9 @@ unfolding streams_at
 nothing_left zero place bytes e = refl
 nothing_left (suc most) place bytes e = rw e refl
 
-regroup : (form : Form) (prefix : List ℕ) (xs : List Line) (r : Result (List Line) Fault) → texts_behind form prefix (r >>= λ ys. Ok (xs ++ ys)) ≡ texts_behind form (prefix ++ flat_map (formed form) xs) r
-regroup form prefix xs (Ok ys) = ap (λ (v : List ℕ). Ok v) (ap (λ (v : List ℕ). prefix ++ v) (flat_map-append (formed form) xs ys) ∙ sym (append_assoc prefix (flat_map (formed form) xs) (flat_map (formed form) ys)))
-regroup form prefix xs (Err f) = refl
+regroup : (form : Form) (prefix : List ℕ) (s : WholeStream) (r : Result (List WholeStream) Fault) → texts_behind form prefix (r >>= λ ss. Ok (s ∷ ss)) ≡ texts_behind form (prefix ++ formed form s) r
+regroup form prefix s (Ok ss) = ap (λ (v : List ℕ). Ok v) (sym (append_assoc prefix (formed form s) (flat_map (formed form) ss)))
+regroup form prefix s (Err f) = refl
 
 abbrev pair : List ℕ × List ℕ → Result (List ℕ × List ℕ) Fault
 pair x = Ok x
@@ -151,26 +149,26 @@ module _ (form : Form) (prefix : List ℕ) (stop i : ℕ) (bytes : List ℕ) (to
       sym so_far ∙ one
 
   module _ (lt : i < stop) (some : (length bytes == 0) ≡ false) where
-    step : (s : Result (List Line × List ℕ) Fault) → stream_at i bytes ≡ s → texts_behind form prefix (s >>= λ x. streams_at (stop - (i + 1)) (i + 1) x.1 >>= λ xs. Ok (x.0 ++ xs)) ≡ total
+    step : (s : Result (WholeStream × List ℕ) Fault) → stream_at i bytes ≡ s → texts_behind form prefix (s >>= λ x. streams_at (stop - (i + 1)) (i + 1) x.1 >>= λ xs. Ok (x.0 ∷ xs)) ≡ total
     unfolding streams_at
     step s is =
         let k : stop - i ≡ suc (stop - (i + 1)) = omega arith in
-        let one : texts_behind form prefix (streams_at (stop - i) i bytes) ≡ texts_behind form prefix (s >>= λ x. streams_at (stop - (i + 1)) (i + 1) x.1 >>= λ xs. Ok (x.0 ++ xs)) = rw (k, some, is) refl in
+        let one : texts_behind form prefix (streams_at (stop - i) i bytes) ≡ texts_behind form prefix (s >>= λ x. streams_at (stop - (i + 1)) (i + 1) x.1 >>= λ xs. Ok (x.0 ∷ xs)) = rw (k, some, is) refl in
         sym one ∙ so_far
 
     pub stream_fails : (f : Fault) → Fails f (with_stream form prefix (stream_at i bytes)) → Fails f total
     stream_fails f h = fails_through f (with_stream form prefix (stream_at i bytes)) total h (λ e. by_stream (stream_at i bytes) refl e)
       where
-        by_stream : (s : Result (List Line × List ℕ) Fault) → stream_at i bytes ≡ s → with_stream form prefix s ≡ Err f → total ≡ Err f
+        by_stream : (s : Result (WholeStream × List ℕ) Fault) → stream_at i bytes ≡ s → with_stream form prefix s ≡ Err f → total ≡ Err f
         by_stream (Ok x) is k = cc
         by_stream (Err d) is k = let same : d ≡ f = cc in sym (step (Err d) is) ∙ ap (λ (v : Fault). Err v) same
 
     pub goes_on : (text after : List ℕ) → with_stream form prefix (stream_at i bytes) ≡ Ok (text, after) → texts_behind form text (streams_at (stop - (i + 1)) (i + 1) after) ≡ total
     goes_on text after e = by_stream (stream_at i bytes) refl e
       where
-        by_stream : (s : Result (List Line × List ℕ) Fault) → stream_at i bytes ≡ s → with_stream form prefix s ≡ Ok (text, after) → texts_behind form text (streams_at (stop - (i + 1)) (i + 1) after) ≡ total
+        by_stream : (s : Result (WholeStream × List ℕ) Fault) → stream_at i bytes ≡ s → with_stream form prefix s ≡ Ok (text, after) → texts_behind form text (streams_at (stop - (i + 1)) (i + 1) after) ≡ total
         by_stream (Err d) is k = cc
         by_stream (Ok (xs, rest)) is k =
-            let same = same_pair (prefix ++ flat_map (formed form) xs, rest) (text, after) k in
+            let same = same_pair (prefix ++ formed form xs, rest) (text, after) k in
             subst (λ (y : List ℕ × List ℕ). texts_behind form y.0 (streams_at (stop - (i + 1)) (i + 1) y.1) ≡ total) same
             (sym (regroup form prefix xs (streams_at (stop - (i + 1)) (i + 1) rest)) ∙ step (Ok (xs, rest)) is)

@@ -1,33 +1,59 @@
 -- Streams that are upgraded are whole streams, of the same groups, items, launches and records.
-use Rattle.std.proofs.Common.{◌≡◌, ℕ, suc, List, [], ◌∷◌, ◌++◌, length, map, All, Result, Ok, Err, refl, sym, ap, ap₂, ◌∙◌, arith}
+use Rattle.std.proofs.Common.{◌≡◌, ◌≤◌, ℕ, suc, List, [], ◌∷◌, ◌++◌, length, map, All, Result, Ok, Err, refl, sym, ap, ap₂, ◌∙◌, arith}
 use Rattle.std.specs.List.{flat_map}
-use Rattle.std.proofs.lemmas.List.Concat.{flat_map-append}
 use Rattle.gr_model.specs.declared.event.Event.{Event}
 use Rattle.gr_record.specs.declared.fault.Fault.{Fault}
 use Rattle.gr_record.specs.declared.header.Header.{Header}
-use Rattle.gr_record.specs.declared.header.Version.TheVariants.{Two}
+use Rattle.gr_record.specs.declared.header.Version.{Version}
+use Rattle.gr_record.specs.declared.header.Version.TheVariants.{One, Two, Three, Four}
+use Rattle.gr_record.specs.Versions.{most_groups, most_items, places}
+use Rattle.gr_record.specs.WholeStreams.{stream_spelling}
 use Rattle.gr_record.specs.PrefixLaws.{Runs}
-use Rattle.gr_record.specs.Spelling.{event_spelling, events_spelling, header_spelling}
-use Rattle.gr_record.proofs.Places.{few_names}
-use Rattle.gr_lines.specs.declared.line.Line.{Line}
-use Rattle.gr_lines.specs.declared.line.Line.TheVariants as lines
+use Rattle.gr_record.specs.Spelling.{IsHeader, IsRecord}
+use Rattle.gr_text.specs.declared.forming.Form.TheVariants.{Long}
 use Rattle.gr_text.specs.Texts.{◌>>=◌}
-use Rattle.gr_text.specs.Dumps.{long_bytes, streams_in, upgraded, upgraded_header}
-use Rattle.gr_text.specs.Wholes.{WholeStream, IsWhole, parts_in, bytes_of, upgraded_stream, UpgradedAreStreams, WholeStreamsAreUpgraded, UpgradedStays}
+use Rattle.gr_text.specs.Dumps.{WholeStream, formed, raised, streams_in, upgraded, upgraded_header}
+use Rattle.gr_text.specs.Wholes.{IsWhole, bytes_of, upgraded_stream, UpgradedAreStreams, WholeStreamsAreUpgraded, UpgradedStays}
 use Rattle.gr_text.proofs.DumpedStreams.{all_before, all_none, streams_found}
 use Rattle.gr_text.proofs.SpelledStreams.{streams_before}
 
+-- ---- an upgraded version has the same limits, and room for all names
+
+same_limits : (v : Version) → (most_groups (raised v) ≡ most_groups v) × (most_items (raised v) ≡ most_items v)
+same_limits One = (refl, refl)
+same_limits Two = (refl, refl)
+same_limits Three = (refl, refl)
+same_limits Four = (refl, refl)
+
+roomier : (v : Version) → places v ≤ places (raised v)
+roomier One = omega arith
+roomier Two = omega arith
+roomier Three = omega arith
+roomier Four = omega arith
+
+raised_twice : (v : Version) → raised (raised v) ≡ raised v
+raised_twice One = refl
+raised_twice Two = refl
+raised_twice Three = refl
+raised_twice Four = refl
+
 -- ---- the same streams are whole
+
+record_upgraded : (h : Header) (e : Event) → IsRecord h e → IsRecord (upgraded_header h) e
+record_upgraded h e is = record { event = is.event; names = omega (arith, is.names, roomier h.version); range = rw ((same_limits h.version).0, (same_limits h.version).1) is.range }
 
 runs_upgraded : (h : Header) (es : List Event) → Runs h es → Runs (upgraded_header h) es
 runs_upgraded h [] runs = tt
-runs_upgraded h (e ∷ es) runs = (record { event = runs.0.event; names = few_names e.kind e.names runs.0.event.ok.1 }, runs.1, runs_upgraded h es runs.2)
+runs_upgraded h (e ∷ es) runs = (record_upgraded h e runs.0, runs.1, runs_upgraded h es runs.2)
+
+header_upgraded : (h : Header) → IsHeader h → IsHeader (upgraded_header h)
+header_upgraded h is = record { group = rw (same_limits h.version).0 is.group; some = is.some; items = rw (same_limits h.version).1 is.items; launch = is.launch }
 
 whole_upgraded : (s : WholeStream) → IsWhole s → IsWhole (upgraded_stream s)
 whole_upgraded s w =
     let f = w.prefix in
     record {
-      prefix = record { header = record { group = f.header.group; some = f.header.some; items = f.header.items; launch = f.header.launch }; runs = runs_upgraded s.header s.events f.runs; few = f.few };
+      prefix = record { header = header_upgraded s.header f.header; runs = runs_upgraded s.header s.events f.runs; few = f.few };
       ended = w.ended;
     }
 
@@ -37,14 +63,9 @@ all_upgraded (s ∷ ss) whole = all_before IsWhole (upgraded_stream s) (map upgr
 
 -- ---- their bytes
 
-events_long : (es : List Event) → flat_map long_bytes (map lines.Event es) ≡ events_spelling Two es
-events_long [] = refl
-events_long (e ∷ es) = ap (λ (v : List ℕ). event_spelling Two e ++ v) (events_long es)
-
-streams_long : (ss : List WholeStream) → flat_map long_bytes (flat_map parts_in ss) ≡ bytes_of (map upgraded_stream ss)
+streams_long : (ss : List WholeStream) → flat_map (formed Long) ss ≡ bytes_of (map upgraded_stream ss)
 streams_long [] = refl
-streams_long (s ∷ ss) =
-    flat_map-append long_bytes (parts_in s) (flat_map parts_in ss) ∙ ap₂ (λ (a b : List ℕ). header_spelling (upgraded_header s.header) ++ a ++ b) (events_long s.events) (streams_long ss)
+streams_long (s ∷ ss) = ap (λ (v : List ℕ). stream_spelling (upgraded_header s.header) s.events ++ v) (streams_long ss)
 
 abbrev done : List ℕ → Result (List ℕ) Fault
 done x = Ok x
@@ -55,12 +76,12 @@ same_done x y e = cc
 pub upgraded_are_streams : UpgradedAreStreams
 upgraded_are_streams bytes out fits e = by_streams (streams_in bytes) refl e
   where
-    by_streams : (r : Result (List Line) Fault) → streams_in bytes ≡ r → (r >>= λ xs. done (flat_map long_bytes xs)) ≡ Ok out
+    by_streams : (r : Result (List WholeStream) Fault) → streams_in bytes ≡ r → (r >>= λ ss. done (flat_map (formed Long) ss)) ≡ Ok out
         → (ss : List WholeStream) × All IsWhole ss × (bytes ≡ bytes_of ss) × All IsWhole (map upgraded_stream ss) × (out ≡ bytes_of (map upgraded_stream ss))
     by_streams (Err f) is k = cc
-    by_streams (Ok xs) is k =
-        let f = streams_found (length bytes) 0 bytes fits (omega arith) xs is in
-        (f.streams, f.whole, f.spelled, all_upgraded f.streams f.whole, sym (same_done (flat_map long_bytes xs) out k) ∙ ap (flat_map long_bytes) f.parts ∙ streams_long f.streams)
+    by_streams (Ok ss) is k =
+        let f = streams_found (length bytes) 0 bytes fits (omega arith) ss is in
+        (ss, f.whole, f.spelled, all_upgraded ss f.whole, sym (same_done (flat_map (formed Long) ss) out k) ∙ streams_long ss)
 
 pub whole_streams_are_upgraded : WholeStreamsAreUpgraded
 whole_streams_are_upgraded ss whole =
@@ -71,7 +92,7 @@ whole_streams_are_upgraded ss whole =
 
 pub twice : (ss : List WholeStream) → map upgraded_stream (map upgraded_stream ss) ≡ map upgraded_stream ss
 twice [] = refl
-twice (s ∷ ss) = ap (λ (v : List WholeStream). upgraded_stream s ∷ v) (twice ss)
+twice (s ∷ ss) = ap₂ (λ (v : Version) (rest : List WholeStream). record { header = record { version = v; group = s.header.group; items = s.header.items; launch = s.header.launch }; events = s.events } ∷ rest) (raised_twice s.header.version) (twice ss)
 
 pub upgraded_stays : UpgradedStays
 upgraded_stays bytes out fits e =

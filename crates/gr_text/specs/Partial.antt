@@ -18,8 +18,8 @@ use Rattle.gr_record.specs.PrefixLaws.{IsPrefix}
 use Rattle.gr_record.specs.Spelling.{events_spelling}
 use Rattle.gr_record.specs.WholeStreams.{front_header_at, front_records_at, stream_spelling}
 use Rattle.gr_text.specs.Texts.{whole_line}
-use Rattle.gr_text.specs.Dumps.{dumped}
-use Rattle.gr_text.specs.Wholes.{WholeStream, IsWhole, bytes_of, parts_in, text_of}
+use Rattle.gr_text.specs.Dumps.{WholeStream, parts_in, dumped}
+use Rattle.gr_text.specs.Wholes.{IsWhole, bytes_of, text_of}
 
 -- ---- one stream
 

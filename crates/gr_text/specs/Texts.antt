@@ -59,6 +59,11 @@ line_at n (Inside h left) (Some (lines.Event e)) = record_at n h left e
 
 -- ---- the lines from a place on
 
+-- the version of the stream at a place; outside of streams a header is due, which says its own
+abbrev pub version_at : Place → Version
+version_at Outside = One
+version_at (Inside h left) = h.version
+
 -- behind the last line, which no stream may need to be followed
 abbrev pub over_at : Place → Result (List Line) Fault
 over_at Outside = Ok []
@@ -67,16 +72,11 @@ over_at (Inside h left) = Err faults.NoEnd
 -- what the lines say, the first of which is line n
 unfoldable pub said_from : ℕ → Place → List (List ℕ) → Result (List Line) Fault
 said_from n place [] = over_at place
-said_from n place (l ∷ ls) = line_at n place (line_said l) >>= λ x. said_from (n + 1) x.1 ls >>= λ xs. Ok (x.0 ∷ xs)
+said_from n place (l ∷ ls) = line_at n place (line_said (version_at place) l) >>= λ x. said_from (n + 1) x.1 ls >>= λ xs. Ok (x.0 ∷ xs)
 
 -- what a text says
 abbrev pub said_in : List ℕ → Result (List Line) Fault
 said_in text = said_from 1 Outside (lines_of text)
-
--- the version of the stream at a place; outside of streams a header is due, and any version will do
-abbrev pub version_at : Place → Version
-version_at Outside = One
-version_at (Inside h left) = h.version
 
 -- the version of the stream behind a line in one of this version
 abbrev pub version_behind : Version → Line → Version

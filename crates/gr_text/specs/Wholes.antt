@@ -12,20 +12,12 @@ use Rattle.gr_record.specs.PrefixLaws.{IsPrefix}
 use Rattle.gr_record.specs.Laws.{AreBytes}
 use Rattle.gr_record.specs.WholeStreams.{stream_spelling}
 use Rattle.gr_text.specs.Texts.{packed, whole_line}
-use Rattle.gr_text.specs.Dumps.{dumped, upgraded, upgraded_header}
-
--- a header, and the records behind it
-pub record WholeStream : Type 0 where
-  pub header : Header
-  pub events : List Event
+use Rattle.gr_text.specs.Dumps.{WholeStream, parts_in, dumped, upgraded, upgraded_header}
 
 -- all in range and not too many, and the last record is an end, and no other
 pub record IsWhole (s : WholeStream) : Type 0 where
   pub prefix : IsPrefix MOST_RECORDS s.header s.events
   pub ended : IsTrue (is_complete s.events)
-
-abbrev pub parts_in : WholeStream → List Line
-parts_in s = lines.Header s.header ∷ map lines.Event s.events
 
 -- the bytes of streams, one after another
 abbrev pub bytes_of : List WholeStream → List ℕ
@@ -63,13 +55,13 @@ WholeStreamsArePacked = (ss : List WholeStream) → All IsWhole ss → packed (t
 abbrev pub DumpedIsPackedAgain : Type 0
 DumpedIsPackedAgain = (bytes text : List ℕ) → AreBytes bytes → dumped bytes ≡ Ok text → packed text ≡ Ok bytes
 
--- ---- the same streams in version 2
+-- ---- the same streams, upgraded
 
 -- a stream with the same group, items and launch, and the same records
 abbrev pub upgraded_stream : WholeStream → WholeStream
 upgraded_stream s = record { header = upgraded_header s.header; events = s.events }
 
--- bytes that are upgraded are those of whole streams, and what is written is the bytes of the same streams in version 2
+-- bytes that are upgraded are those of whole streams, and what is written is the bytes of the same streams, upgraded
 abbrev pub UpgradedAreStreams : Type 0
 UpgradedAreStreams = (bytes out : List ℕ) → AreBytes bytes → upgraded bytes ≡ Ok out → (ss : List WholeStream) × All IsWhole ss × (bytes ≡ bytes_of ss) × All IsWhole (map upgraded_stream ss) × (out ≡ bytes_of (map upgraded_stream ss))
 

@@ -1,16 +1,16 @@
-//! From the bytes of streams to another form of the same streams: their text, or their bytes in version 2.
+//! From the bytes of streams to another form of the same streams: their text, or their bytes upgraded.
 
-ghost use Rattle.std.specs.Prelude.{◌≡◌, ◌++◌, All, IfErr, OnOk, map};
+ghost use Rattle.std.specs.Prelude.{◌≡◌, ◌≤◌, ◌++◌, All, IfErr, OnOk, length};
 ghost use Rattle.std.specs.List.{flat_map};
 ghost use Rattle.gr_input.specs.Faults.{Gives};
 ghost use Rattle.gr_lines.specs.LineText.{IsLine};
-ghost use Rattle.gr_lines.specs.declared.line.Line.TheVariants as lines;
 ghost use Rattle.gr_model.specs.Events.{IsEventOk};
 ghost use Rattle.gr_model.specs.declared.limits.TheConstants.{MOST_ITEMS_OF_A_GROUP};
 ghost use Rattle.gr_record.specs.Faults.{IsOfValues};
 ghost use Rattle.gr_record.specs.Spelling.{IsHeader};
 ghost use Rattle.gr_text.specs.Texts.{whole_line};
-ghost use Rattle.gr_text.specs.Dumps.{upgraded_header, formed, formed_of, stream_at, with_stream};
+ghost use Rattle.gr_record.specs.Versions.{places};
+ghost use Rattle.gr_text.specs.Dumps.{raised, upgraded_header, formed_header, formed_event, formed_of, stream_at, with_stream};
 
 use crate::packing::{push_header, push_record};
 use gr_lines::line::Line;
@@ -27,7 +27,7 @@ use std::alloc::Allocator;
 pub enum Form {
     /// Their text.
     Text,
-    /// Their bytes in version 2.
+    /// Their bytes, where those of version 1 become streams of version 2.
     Long,
 }
 
@@ -47,12 +47,23 @@ pub(crate) fn push_line<A: Allocator + Copy>(
     Ok(())
 }
 
-/// The header of the same stream in version 2.
+/// The version that a stream of this one is upgraded to: version 2 for version 1, and no other for the rest.
+fn raise(version: Version) -> Version
+    ensures version { result ≡ raised version }
+    ensures room { places version ≤ places result }
+{
+    match version {
+        Version::One => Version::Two,
+        Version::Two | Version::Three | Version::Four => version,
+    }
+}
+
+/// The header of the same stream, upgraded.
 fn upgrade_header(header: Header) -> Header
     ensures { result ≡ upgraded_header header }
 {
     Header {
-        version: Version::Two,
+        version: raise(header.version),
         group: header.group,
         items: header.items,
         launch: header.launch,
@@ -68,7 +79,7 @@ fn push_first<A: Allocator + Copy>(
     header: Header,
 ) -> Result<(), Memory>
     requires { IsHeader header }
-    ensures { OnOk result (output.new.items ≡ output.old.items ++ formed form (lines.Header header)) }
+    ensures { OnOk result (output.new.items ≡ output.old.items ++ formed_header form header) }
 {
     match form {
         Form::Text => push_line(alloc, output, &Line::Header(header)),
@@ -76,36 +87,38 @@ fn push_first<A: Allocator + Copy>(
     }
 }
 
-/// Adds a record in a form.
-/// Requires: the record is in range.
+/// Adds a record of a stream of this version in a form.
+/// Requires: the record is in range, and the stream has room for its names.
 fn push_event<A: Allocator + Copy>(
     alloc: A,
     form: Form,
+    version: Version,
     output: &mut Vec<u8, A>,
     event: &Event,
 ) -> Result<(), Memory>
-    requires { IsEventOk event.now MOST_ITEMS_OF_A_GROUP }
-    ensures { OnOk result (output.new.items ≡ output.old.items ++ formed form (lines.Event event.now)) }
+    requires { IsEventOk event.now MOST_ITEMS_OF_A_GROUP × (length event.now.names ≤ places version) }
+    ensures { OnOk result (output.new.items ≡ output.old.items ++ formed_event form version event.now) }
 {
     match form {
         Form::Text => push_line(alloc, output, &Line::Event(*event)),
-        Form::Long => push_record(output, Version::Two, event),
+        Form::Long => push_record(output, raise(version), event),
     }
 }
 
-/// Adds records in a form.
-/// Requires: each record is in range.
+/// Adds records of a stream of this version in a form.
+/// Requires: each record is in range, and the stream has room for its names.
 fn push_events<A: Allocator + Copy>(
     alloc: A,
     form: Form,
+    version: Version,
     output: &mut Vec<u8, A>,
     events: &[Event],
 ) -> Result<(), Memory>
-    requires { All (λ e. IsEventOk e MOST_ITEMS_OF_A_GROUP) events.now }
-    ensures { OnOk result (output.new.items ≡ output.old.items ++ flat_map (formed form) (map lines.Event events.now)) }
+    requires { All (λ e. IsEventOk e MOST_ITEMS_OF_A_GROUP × (length e.names ≤ places version)) events.now }
+    ensures { OnOk result (output.new.items ≡ output.old.items ++ flat_map (formed_event form version) events.now) }
 {
     for event in events {
-        push_event(alloc, form, output, event)?;
+        push_event(alloc, form, version, output, event)?;
     }
     Ok(())
 }
@@ -131,7 +144,7 @@ fn push_stream<'a, A: Allocator + Copy>(
         Ok(found) => found,
         Err(error) => return Err(Fault::of_stream(place, error)),
     };
-    push_events(alloc, form, output, events.as_slice())?;
+    push_events(alloc, form, header.version, output, events.as_slice())?;
     Ok(rest)
 }
 

@@ -33,12 +33,12 @@ pub(crate) fn push_record<A: Allocator>(
     ensures { OnOk result (bytes.new.items ≡ bytes.old.items ++ event_spelling version event.now) }
 {
     match version {
-        Version::One => {
+        Version::One | Version::Three => {
             let mut unit = [0; RECORD_LENGTH];
             encode_event(event, &mut unit);
             bytes.extend_from_slice(&unit)?;
         }
-        Version::Two => {
+        Version::Two | Version::Four => {
             let mut unit = [0; LONG_RECORD_LENGTH];
             encode_event2(event, &mut unit);
             bytes.extend_from_slice(&unit)?;
@@ -69,7 +69,7 @@ fn push_bytes<A: Allocator>(
     version: Version,
     line: &Line,
 ) -> Result<(), Memory>
-    requires said { IsSaid line.now }
+    requires said { IsSaid version line.now }
     requires names { HasRoom version line.now }
     ensures { OnOk result (bytes.new.items ≡ bytes.old.items ++ line_bytes version line.now) }
 {

@@ -6,7 +6,7 @@ ghost use Rattle.gr_lines.specs.LineReading.{line_said};
 ghost use Rattle.gr_text.specs.Texts.{HasRoom, version_at, record_at, line_at};
 
 use gr_lines::line::Line;
-use gr_lines::parsing::parse_line;
+use gr_lines::parsing::parse_line_of;
 use gr_model::event::Event;
 use gr_model::limits::MOST_RECORDS;
 use gr_record::fault::Fault;
@@ -22,7 +22,7 @@ pub enum Place {
 }
 
 impl Place {
-    /// The version of the stream at this place; `One` before a header, where any will do.
+    /// The version of the stream at this place; `One` before a header, which says its own.
     pub(crate) fn version(&self) -> Version
         ensures { result ≡ version_at self.now }
     {
@@ -84,9 +84,9 @@ fn take_said(number: u64, place: Place, line: Option<Line>) -> Result<(Line, Pla
 /// `BadLine` with the number if the place needs another line; else `LongStream` with the number if the line is one
 /// record more than a stream may have.
 pub fn take_line(number: u64, place: Place, line: &[u8]) -> Result<(Line, Place), Fault>
-    ensures exact { result ≡ line_at number place (line_said line.now) }
-    ensures said { IfOk result (λ x. IsSaid x.0) }
+    ensures exact { result ≡ line_at number place (line_said (version_at place) line.now) }
+    ensures said { IfOk result (λ x. IsSaid (version_at place) x.0) }
     ensures room { IfOk result (λ x. HasRoom (version_at place) x.0) }
 {
-    take_said(number, place, parse_line(line))
+    take_said(number, place, parse_line_of(place.version(), line))
 }

@@ -1,5 +1,6 @@
 use Rattle.std.proofs.Common.{arith}
 use Rattle.gr_record.specs.Laws.{AreBytes}
+use Rattle.gr_record.proofs.Places.{header_items}
 use Rattle.gr_text.proofs.Streaming.{header_fails, records_fail, one_stream, header_found, events_found, runs_have_lines}
 use Rattle.gr_text.proofs.forming.push_stream.Goals as goal
 
@@ -19,7 +20,7 @@ pub push_events-requires : goal.push_events-requires
 push_events-requires g c =
     let fits : AreBytes c.args.bytes.now = λ i. let b = c.type_inv.bytes i in omega arith in
     let h = header_found c.args.bytes.now fits _ _ c.in-Ok.ensures.exact in
-    rw c.as_slice.ensures.value (runs_have_lines _ h.header.items _ (events_found _ _ h.fits _ _ c.in-Ok-read_front_records.ensures).runs)
+    rw c.as_slice.ensures.value (runs_have_lines _ (header_items _ h.header) _ (events_found _ _ h.fits _ _ c.in-Ok-read_front_records.ensures).runs)
 
 pub returns-clause-exact : goal.returns-clause-exact
 returns-clause-exact g c =
