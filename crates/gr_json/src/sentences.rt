@@ -7,9 +7,9 @@ use gr_record::fault::Fault;
 /// What is wrong in a stream.
 fn wrong_in_stream(error: RecordError) -> &'static str {
     match error {
-        RecordError::BadMagic => "it begins neither with GRT1 nor with GRT2",
+        RecordError::BadMagic => "it begins with none of GRT1, GRT2, GRT3 and GRT4",
         RecordError::BadHeader => {
-            "the header's group is above 63, or its number of work-items is 0 or above 256"
+            "the header's group or its number of work-items is not one that its version has"
         }
         RecordError::BadKind => "byte 0 of the record is above 6",
         RecordError::BadField(_) => {
@@ -35,9 +35,9 @@ fn wrong_in_stream(error: RecordError) -> &'static str {
 fn wrong_in_shape(error: ShapeError) -> &'static str {
     match error {
         ShapeError::NoGroups => "there is no stream",
-        ShapeError::TooManyGroups => "there are more than 64 groups",
-        ShapeError::BadItems(_) => "the group has no work-items, or more than 256",
-        ShapeError::TooManyItems => "there are more than 16384 work-items in all",
+        ShapeError::TooManyGroups => "there are more groups than a launch may have",
+        ShapeError::BadItems(_) => "the group has no work-items, or more than it may have",
+        ShapeError::TooManyItems => "there are more work-items in all than a launch may have",
     }
 }
 
@@ -81,10 +81,10 @@ fn right_in_stream(error: RecordError) -> &'static str {
             "each file begins with the header of a stream; a trace as text is packed first, by gpurace pack"
         }
         RecordError::BadHeader => {
-            "a launch has at most 64 groups, from 0 on, each with 1 to 256 work-items; a larger one is recorded with fewer or smaller groups"
+            "groups count from 0, to 63 in GRT1 and GRT2 and to 65534 in GRT3 and GRT4; a group has 1 to 256 work-items there, and 1 to 1024 here"
         }
         RecordError::BadKind => {
-            "kinds are 0 to 6; often the records before it have not the length that the header's version has, 20 bytes in GRT1 and 44 in GRT2"
+            "kinds are 0 to 6; often the records before it have not the length that the header's version has, 20 bytes in GRT1 and GRT3 and 44 in GRT2 and GRT4"
         }
         RecordError::BadField(place) => right_at(place),
         RecordError::BadOrder => {
@@ -114,13 +114,13 @@ fn right_in_shape(error: ShapeError) -> &'static str {
     match error {
         ShapeError::NoGroups => "there is one stream at least; often the program before failed",
         ShapeError::TooManyGroups => {
-            "a launch has at most 64 groups; a larger one is recorded with fewer groups"
+            "a launch has at most 65535 groups; a larger one is recorded with fewer groups"
         }
         ShapeError::BadItems(_) => {
-            "a group has 1 to 256 work-items; a larger launch is recorded with smaller groups"
+            "a group has 1 to 1024 work-items; a larger launch is recorded with smaller groups"
         }
         ShapeError::TooManyItems => {
-            "a launch has at most 16384 work-items; a larger one is recorded with fewer or smaller groups"
+            "a launch has at most 67107840 work-items; a larger one is recorded with fewer or smaller groups"
         }
     }
 }

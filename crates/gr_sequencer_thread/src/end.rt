@@ -134,7 +134,7 @@ fn report_of<A: Allocator + Copy>(
         cut: Rows::of(cut),
         held: sequencer.held(),
         groups: shape.groups(),
-        items: shape.total() as u16,
+        items: shape.total(),
         records: records_of(shape, sequencer),
     })
 }

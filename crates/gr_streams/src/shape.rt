@@ -58,7 +58,7 @@ pub(crate) fn shape_of<A: Allocator>(alloc: A, headers: Vec<Header, A>) -> Resul
         return Err(Fault::MissingGroup(group));
     }
     let sizes = sizes_of(alloc, &headers)?;
-    match Shape::new(sizes) {
+    match Shape::of_launch(sizes) {
         Ok(shape) => Ok(shape),
         Err(error) => Err(Fault::Shape(error)),
     }

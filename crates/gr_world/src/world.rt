@@ -179,7 +179,7 @@ impl<A: Allocator + Copy> World<A> {
             cut: Rows::of(cut),
             held: self.sequencer.held(),
             groups: self.sent.shape().groups(),
-            items: self.sent.shape().total() as u16,
+            items: self.sent.shape().total(),
             records: self.records(),
         })
     }
