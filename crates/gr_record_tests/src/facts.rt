@@ -56,6 +56,32 @@ fn read_event_of_a_record_with_byte_6() {
     prove!(read_event(header, &write).is_err());
 }
 
+/// A name of group 64 is none of version 1, and one of version 3.
+#[test]
+fn naming_of_group_64() {
+    let far = Name {
+        at: ItemId { group: 64, item: 0 },
+        release: 0,
+    };
+    let acquire = Kind::Load(Scope::Device, Order::Acquire);
+    prove!(naming(Version::One, acquire, &[far]).is_none());
+    prove!(naming(Version::Three, acquire, &[far]).is_some());
+}
+
+/// Of group 300 all bits are written.
+#[test]
+fn header_of_group_300() {
+    let header = Header {
+        version: Version::Three,
+        group: 300,
+        items: 1,
+        launch: 0,
+    };
+    let mut bytes = [0; 12];
+    encode_header(&header, &mut bytes);
+    prove!(bytes[5] == 1);
+}
+
 /// A stream has an end.
 #[test]
 #[tactic(auto, unfolding(gr_record::specs::Decoding::read_from))]
@@ -66,14 +92,24 @@ fn finish_of_nothing() {
 /// A relaxed load has no names.
 #[test]
 fn naming_of_a_relaxed_load() {
-    prove!(naming(Kind::Load(Scope::Device, Order::Relaxed), &[NAME]).is_none());
+    prove!(naming(
+        Version::One,
+        Kind::Load(Scope::Device, Order::Relaxed),
+        &[NAME]
+    )
+    .is_none());
 }
 
 /// Names that descend are no names of an event.
 #[test]
 fn naming_of_names_out_of_order() {
     let later = Name { release: 1, ..NAME };
-    prove!(naming(Kind::Load(Scope::Device, Order::Acquire), &[later, NAME]).is_none());
+    prove!(naming(
+        Version::One,
+        Kind::Load(Scope::Device, Order::Acquire),
+        &[later, NAME]
+    )
+    .is_none());
 }
 
 /// The first line of a site tells its place.

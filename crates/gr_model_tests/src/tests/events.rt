@@ -3,6 +3,7 @@
 use gr_model::event::{
     Event, EventId, ItemId, Kind, Name, Order, Scope, Space, Word, event_ok, word_of,
 };
+use gr_model::limits::{FEW_GROUPS, FEW_ITEMS_OF_A_GROUP};
 use gr_model::names::Names;
 use std::process::Abort;
 use std::test::Fail;
@@ -247,5 +248,5 @@ fn orders_kinds_and_names_tell_what_they_are(rt: HostRuntime) {
         "words and events ascend"
     );
     let at = ItemId { group: 64, item: 0 };
-    assert!(rt; !Name { at, release: 0 }.is_in_range());
+    assert!(rt; !Name { at, release: 0 }.is_within(FEW_GROUPS, FEW_ITEMS_OF_A_GROUP));
 }

@@ -7,7 +7,7 @@ use crate::route::three_senders::write;
 use gr_clocks::access::Access;
 use gr_clocks::clock::Clock;
 use gr_model::event::{Event, ItemId, Sent, Word};
-use gr_model::limits::MOST_GROUPS;
+use gr_model::limits::FEW_GROUPS;
 use gr_model::memory::Memory;
 use gr_model::shape::Shape;
 use gr_route::intake::{Intake, IntakeSeat, TakerSeat};
@@ -92,13 +92,13 @@ fn an_intake_queue_of_one_place(rt: HostRuntime) {
     assert!(rt; growths.is_ok(), "the queue grows: {growths:?}");
 }
 
-/// A seat for each work-group that a launch may have.
+/// A seat for each of 64 work-groups.
 fn split_all(alloc: Global, queue: &Intake, taker: &mut TakerSeat) -> Result<Vec<IntakeSeat>, Fail>
     requires { taker.old.queue ≡ queue.now.queue }
     ensures { OnOk result (taker.new.queue ≡ queue.now.queue) }
 {
     let mut seats = Vec::new(alloc);
-    for group in 0..MOST_GROUPS as u16 {
+    for group in 0..FEW_GROUPS as u16 {
         let seat = queue.split(taker, group, 1).ok_or("a group's first split")?;
         seats.push(seat)?;
     }
