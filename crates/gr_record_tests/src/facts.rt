@@ -8,7 +8,7 @@ use gr_model::event::{Event, ItemId, Kind, Name, Order, Scope, Space, Word};
 use gr_model::names::Names;
 use gr_places::places::{PlaceLine, Placed, place_of};
 use gr_record::decoder::Decoder;
-use gr_record::encoding::encode_event;
+use gr_record::encoding::{encode_event, encode_header};
 use gr_record::header::{Header, Version};
 use gr_record::reading::{naming, read_event};
 use gr_report::report::Report;
