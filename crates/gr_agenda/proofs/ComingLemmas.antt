@@ -1,8 +1,9 @@
 -- What is so of the list of steps and of those that wait where a group comes: no step may be made that could not be.
-use Rattle.std.proofs.Common.{◌≡◌, ℕ, List, [], Vec, filter, filter_map, slice_get, Some, None, Option, sym, ap, ◌∙◌, subst, inl, inr, ⊎_elim, true≢false}
+use Rattle.std.proofs.Common.{◌≡◌, ℕ, List, [], ◌∷◌, length, arith, Vec, filter, filter_map, slice_get, Some, None, Option, sym, ap, ◌∙◌, subst, inl, inr, ⊎_elim, true≢false}
 use Rattle.std.proofs.lemmas.Bool.{cases_eq}
 use Rattle.gr_model.specs.declared.event.Event.{Event}
 use Rattle.gr_model.specs.declared.event.ItemId.{ItemId}
+use Rattle.gr_model.specs.declared.event.Name.{Name}
 use Rattle.gr_model.specs.Barriers.{IsDivergent, arrivals, mark_of}
 use Rattle.gr_model.specs.Groups.{CanAdd}
 use Rattle.gr_model.specs.Groups as model
@@ -16,8 +17,24 @@ use Rattle.gr_order.specs.declared.steps.Ready.TheVariants.{Group, Item}
 use Rattle.gr_order.specs.Answers.{CanMake}
 use Rattle.gr_order.specs.Sequences.{Sequence, with_group}
 use Rattle.gr_agenda.specs.Kept.{AreUndiverged, IsKept}
-use Rattle.gr_agenda.specs.Lists.{Steps}
+use Rattle.gr_agenda.specs.Lists.{IsWaiting, Steps}
 use Rattle.gr_agenda.proofs.TakeFrames.{Takes, arrived_meets, held_was, ready_was, still_held}
+
+-- ---- lists that grow
+
+-- where all stay who wait, nothing that is ready is missing
+pub kept_wider : {Z : Type 0} (q : Sequence) (t : Steps) (lists lists2 : List (Vec ItemId Z)) → IsKept q t lists → ((n : Name) (i : ItemId) → IsWaiting lists n i → IsWaiting lists2 n i) → IsKept q t lists2
+kept_wider q t lists lists2 kept wider = record {
+  ready = kept.ready;
+  waits = λ d n held. ⊎_elim (λ stands. inl stands) (λ noted. inr (noted.0, noted.1, wider noted.0 d.at noted.2)) (kept.waits d n held);
+}
+
+-- in no lists nobody waits
+pub none_waits : {Z : Type 0} (lists : List (Vec ItemId Z)) (n : Name) (i : ItemId) → length lists ≡ 0 → IsWaiting lists n i → ⊥
+none_waits [] n i none there = absurd cc
+none_waits (list ∷ lists) n i none there = absurd (omega arith)
+
+-- ---- a group comes
 
 module _ (q : Sequence) (g n : ℕ) (prefixes : ArePrefixes q.taken) (lawful : IsLawful q.taken q.handled) (can : CanAdd q.taken g n) where
   abbrev more : Streams

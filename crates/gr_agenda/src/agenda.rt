@@ -79,6 +79,22 @@ fn no_lists<A: Allocator + Copy>(alloc: A) -> Result<Vec<Vec<ItemId, A>, A>, Mem
     Ok(lists)
 }
 
+/// The lists for those that wait, made where there are none yet: before the first group nobody waits.
+///
+/// # Errors
+/// `Memory`: out of memory.
+fn filled<A: Allocator + Copy>(
+    alloc: A,
+    lists: Vec<Vec<ItemId, A>, A>,
+) -> Result<Vec<Vec<ItemId, A>, A>, Memory>
+    ensures { IfOk result (λ v. (n : AnyName) (i : AnyItem) → IsWaiting lists.items n i → IsWaiting v.items n i) }
+{
+    if lists.is_empty() {
+        return no_lists(alloc);
+    }
+    Ok(lists)
+}
+
 /// Of each group no instance that is known not to be divergent.
 ///
 /// # Errors
@@ -313,7 +329,8 @@ impl<A: Allocator + Copy> Agenda<A> {
         ensures { IfOk result (λ a. a ≡ nothing shape) }
     {
         let order = Order::new(alloc, shape)?;
-        Agenda::of_order(alloc, order)
+        let waiting = no_lists(alloc)?;
+        Agenda::of_order(alloc, order, waiting)
     }
 
     /// The agenda of a launch of which no group has come.
@@ -324,19 +341,22 @@ impl<A: Allocator + Copy> Agenda<A> {
         ensures { IfOk result (λ a. a ≡ nothing []) }
     {
         let order = Order::without_groups(alloc)?;
-        Agenda::of_order(alloc, order)
+        Agenda::of_order(alloc, order, Vec::new(alloc))
     }
 
-    /// The agenda of an order of which nothing was taken.
+    /// The agenda of an order of which nothing was taken, with lists for those that wait.
     ///
     /// # Errors
     /// `Memory`: out of memory.
-    fn of_order(alloc: A, order: Order<A>) -> Result<Agenda<A>, Memory>
+    fn of_order(
+        alloc: A,
+        order: Order<A>,
+        waiting: Vec<Vec<ItemId, A>, A>,
+    ) -> Result<Agenda<A>, Memory>
         requires { order ≡ nothing order.taken.sizes }
         ensures { IfOk result (λ a. a ≡ order) }
     {
         let undiverged = no_instances(alloc)?;
-        let waiting = no_lists(alloc)?;
         let worklist = Worklist::new(alloc)?;
         Ok(Agenda {
             order,
@@ -365,10 +385,11 @@ impl<A: Allocator + Copy> Agenda<A> {
         // brings the order's invariant into the proof
         let _taken = order.lanes();
         let order = order.with_group(alloc, group, items)?;
+        let lists = filled(alloc, waiting)?;
         Ok(Agenda {
             order,
             worklist,
-            waiting,
+            waiting: lists,
             undiverged,
         })
     }

@@ -97,7 +97,7 @@ contains_push (z ∷ xs) x y (suc k, lt, is) =
 pub headers_push : (cs : List Coming) (c : Coming) → headers_of (cs ++ c ∷ []) ≡ headers_of cs ++ c.header ∷ []
 headers_push cs c = map-append (λ (x : Coming). x.header) cs (c ∷ [])
 
-apart_headers : (g : ℕ) (cs : List Coming) → Apart g cs → (h : Header) → Contains (headers_of cs) h → h.group ≢ g
+pub apart_headers : (g : ℕ) (cs : List Coming) → Apart g cs → (h : Header) → Contains (headers_of cs) h → h.group ≢ g
 apart_headers g [] apart h (k, lt, is) = absurd (omega (arith, lt))
 apart_headers g (c ∷ cs) apart h (zero, lt, is) = λ same. apart.0 (ap (λ (x : Header). x.group) is ∙ same)
 apart_headers g (c ∷ cs) apart h (suc k, lt, is) = apart_headers g cs apart.1 h (k, omega (arith, lt), is)

@@ -114,7 +114,7 @@ some_items items (e ∷ es) accepted = let good = accepted.good 0 e refl in omeg
 
 module _ (s : Streams) (cs : List Coming) (count : length s.lists ≡ length s.sizes) (groups : AreGroupsOf s.sizes (headers_of cs)) (are : AreStreams (come s cs)) where
   -- each stream's group has items
-  size_of_stream : (f : Flat) → Contains (come s cs) f → 0 < size_of s f.header.group
+  pub size_of_stream : (f : Flat) → Contains (come s cs) f → 0 < size_of s f.header.group
   size_of_stream f has =
       let some = some_items f.header.items f.events (All-contains (λ (x : Flat). IsAccepted x.header.items x.events) (come s cs) f are.accepted has) in
       omega (arith, some, (its_group s cs groups f has).1)

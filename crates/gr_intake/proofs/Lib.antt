@@ -5,6 +5,7 @@ pub mod StepLemmas
 pub mod Reporting
 pub mod Faults
 pub mod Judged
+pub mod Headers
 pub mod Comings
 mod Turns
 mod Rounds

@@ -1,9 +1,10 @@
 //! What was read of a joined input, one header or record after the other, and what was taken of it at once.
 
-ghost use Rattle.std.specs.Prelude.{◌≡◌, ◌++◌, ◌∷◌, [], ◌<◌, ℕ, List, false, IfErr, IfOk, None, Some, Ok, Err, OnOk, IsTrue, IsFalse, length};
+ghost use Rattle.std.specs.Prelude.{◌≡◌, ◌↔◌, ◌++◌, ◌∷◌, [], ◌<◌, ℕ, List, AllPairs, false, IfErr, IfOk, None, Some, Ok, Err, OnOk, IsTrue, IsFalse, length};
 ghost use Rattle.std.specs.List.{list_any};
 ghost use Rattle.std.specs.Prelude.{not, ◌==◌};
 ghost use Rattle.gr_input.specs.Faults.{Fails};
+ghost use Rattle.gr_model.specs.Shapes.{HasItem};
 ghost use Rattle.gr_record.specs.declared.layout.TheConstants.{HEADER_LENGTH};
 ghost use Rattle.gr_record.specs.Faults.{IsOfValues};
 ghost use Rattle.gr_record.specs.Reading.{header_at};
@@ -12,6 +13,8 @@ ghost use Rattle.gr_intake.specs.Intakes.{IsBetween, IsIntake, IsKeptOpen, IsNew
 
 use crate::open::Open;
 use gr_backlog::backlog::Backlog;
+use gr_model::event::ItemId;
+use gr_model::growing::GrowingShape;
 use gr_model::memory::Memory;
 use gr_record::error::RecordError;
 use gr_record::fault::Fault;
@@ -33,20 +36,22 @@ pub struct Intake<A: Allocator = Global> {
     pub(crate) current: Option<Open<A>>,
 }
 
-/// Whether one of the streams is of this group.
-fn has_group<A: Allocator>(streams: &[Backlog<A>], group: u16) -> bool
-    ensures { result ≡ list_any (λ s. s.header.group == group) streams.now }
+/// Whether a group has come.
+fn has_group<A: Allocator>(shape: &GrowingShape<A>, group: u16) -> bool
+    ensures { IsTrue result ↔ HasItem shape.now (record { group = group; item = 0 }) }
 {
-    streams.iter().any(|stream| stream.header().group == group)
+    shape.has(ItemId { group, item: 0 })
 }
 
-/// Whether one of the streams is of another launch.
+/// Whether streams of one launch are of another launch than this.
 fn has_other_launch<A: Allocator>(streams: &[Backlog<A>], launch: u32) -> bool
+    requires { AllPairs (λ s t. s.header.launch ≡ t.header.launch) streams.now }
     ensures { result ≡ list_any (λ s. not (s.header.launch == launch)) streams.now }
 {
-    streams
-        .iter()
-        .any(|stream| stream.header().launch != launch)
+    match streams.first() {
+        None => false,
+        Some(stream) => stream.header().launch != launch,
+    }
 }
 
 impl<A: Allocator + Copy> Intake<A> {
@@ -71,14 +76,15 @@ impl<A: Allocator + Copy> Intake<A> {
     /// # Errors
     /// `SameGroup`, and else `OtherLaunch`.
     fn check(&self, header: Header) -> Result<(), Fault>
-        requires { IsBetween self.now }
+        requires intake { IsIntake self.now }
+        requires none { IsBetween self.now }
         ensures group { OnOk result (list_any (λ s. s.header.group == header.group) self.now.streams.items ≡ false) }
         ensures launch { OnOk result (list_any (λ s. not (s.header.launch == header.launch)) self.now.streams.items ≡ false) }
         ensures fault { IfErr result (λ f. (unit more : List ℕ) → length unit ≡ HEADER_LENGTH → header_at unit ≡ Ok header → Fails f (behind self.now (unit ++ more))) }
         ensures values { IfErr result IsOfValues }
     {
         let place = self.streams.len() as u64;
-        if has_group(&self.streams, header.group) {
+        if has_group(self.sequencer.shape(), header.group) {
             return Err(Fault::SameGroup(place));
         }
         if has_other_launch(&self.streams, header.launch) {
@@ -93,6 +99,7 @@ impl<A: Allocator + Copy> Intake<A> {
     /// The header's fault, `SameGroup`, and else `OtherLaunch`.
     fn header_of(&self, unit: &[u8]) -> Result<Header, Fault>
         requires all { length unit.now ≡ HEADER_LENGTH }
+        requires intake { IsIntake self.now }
         requires none { IsBetween self.now }
         ensures header { IfOk result (λ h. header_at unit.now ≡ Ok h) }
         ensures group { IfOk result (λ h. list_any (λ s. s.header.group == h.group) self.now.streams.items ≡ false) }

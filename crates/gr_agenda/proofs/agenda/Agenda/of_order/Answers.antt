@@ -3,6 +3,6 @@ use Rattle.gr_agenda.proofs.agenda.Agenda.of_order.Goals as goal
 
 pub invariant_of-result : goal.invariant_of-result
 invariant_of-result g c = (
-  kept_nothing c.args.order.taken.sizes c.args.order c.requires c.in_ok-worklist.worklist c.in_ok-waiting.waiting.items,
+  kept_nothing c.args.order.taken.sizes c.args.order c.requires c.in_ok-worklist.worklist c.args.waiting.items,
   c.in_ok-undiverged.ensures c.args.order.taken,
 )
