@@ -1,6 +1,6 @@
 #!/usr/bin/env python3
-"""Large traces for performance runs, one version 1 file per group (g00, g01, ..) in DIR;
-it prints how many racy words their report must have.
+"""Large traces for performance runs, one file per group (g00, g01, ..) in DIR, of version 1, or 3
+where the launch is too large for it; of more than 64 groups DIR/joined alone. It prints how many racy words their report must have.
 
 kernel_traces.py KERNEL DIR [--groups N] [--items N] [--iterations N] [--records N] [--variant V] [--joined]
 
@@ -10,6 +10,8 @@ kernel_traces.py KERNEL DIR [--groups N] [--items N] [--iterations N] [--records
              left out, the upper half of each group's words races
   messages   a ring of groups by device release and acquire with names, acknowledged: no race;
              variant noack: every message word races; variant grp: messages and flags race
+  lastblock  each group sums up in local memory, writes its part and counts itself by a device
+             read-modify-write that names the one before; the last group reads all parts: no race
   sparse     random items and words, own or read only, and up to eight planted races
 
 `--records N` picks the iterations for about N records in all.
@@ -27,6 +29,7 @@ from pathlib import Path
 assert sys.byteorder == 'little' and array('I').itemsize == 4
 READ, WRITE, LOCAL_READ, LOCAL_WRITE = 0x0000, 0x0001, 0x0100, 0x0101
 BAR_GLOBAL, BAR_LOCAL, BAR_BOTH = 0x0105, 0x0205, 0x0305
+RMW_BOTH = 0x04020004
 RMW_RELAXED, STORE_RELEASE, LOAD_ACQUIRE = 0x01020004, 0x03020003, 0x02020002
 TO_GROUP = 0x00010000 ^ 0x00020000  # turns device into group scope
 FREE = 0xffffffff
@@ -35,11 +38,11 @@ DATA = 1 << 20                      # global words from here on are the kernels'
 
 class Stream:
     """The records of one group; `head` is bytes 0 to 3 of a record as a number."""
-    templates = {}
+    templates, magic = {}, b'GRT1'
 
     def __init__(self, group, items):
         self.group, self.items, self.everyone = group, items, tuple(range(items))
-        self.parts, self.records, self.blocks = [b'GRT1' + struct.pack('<HHI', group, items, 7)], 0, {}
+        self.parts, self.records, self.blocks = [self.magic + struct.pack('<HHI', group, items, 7)], 0, {}
 
     def step(self, head, words, items=None):
         """One record of each of the items (all of them, if not told), with these words."""
@@ -142,7 +145,7 @@ def messages(streams, groups, items, iterations, variant):
     store, load = STORE_RELEASE ^ scope, LOAD_ACQUIRE ^ scope
     acks = variant != 'noack'
     per = 1 + acks                          # releases of item 0 per iteration
-    flag, ack, message = 0, 64, DATA        # the first words of each
+    flag, ack, message = 0, max(64, groups), DATA        # the first words of each
     for s in streams:
         g, left, right = s.group, (s.group - 1) % groups, (s.group + 1) % groups
         own, theirs = (range(message + h * items, message + (h + 1) * items) for h in (g, left))
@@ -166,6 +169,28 @@ def messages(streams, groups, items, iterations, variant):
     if variant == 'grp' and iterations:
         racy |= set(range(flag, flag + groups)) | (set(range(ack, ack + groups)) if iterations > 1 else set())
     return globals_of(racy)
+
+
+def lastblock(streams, groups, items, iterations, variant):
+    part, count, total = DATA, 1, 2
+    for s in streams:
+        for _ in range(iterations):
+            s.same(LOCAL_WRITE, range(items))
+            s.barrier(BAR_LOCAL, 1)
+            s.same(LOCAL_READ, tuple((i + 1) % items for i in range(items)))
+            s.barrier(BAR_LOCAL, 2)
+        s.one(WRITE, 0, part + s.group)
+        if s.group:
+            s.one(RMW_BOTH, 0, count, (s.group - 1, 0, 0))
+        else:
+            s.one(RMW_BOTH, 0, count)
+        s.barrier(BAR_BOTH, 3)
+        if s.group == groups - 1:
+            for start in range(0, groups, items):
+                words = range(part + start, part + min(start + items, groups))
+                s.step(READ, words, tuple(range(len(words))))
+            s.one(WRITE, 0, total)
+    return []
 
 
 def sparse(streams, groups, items, iterations, variant):
@@ -194,11 +219,12 @@ def sparse(streams, groups, items, iterations, variant):
 
 
 KERNELS = {'matmul': (matmul, ()), 'histogram': (histogram, ('grp',)), 'reduction': (reduction, ('missing',)),
-           'messages': (messages, ('noack', 'grp')), 'sparse': (sparse, ())}
+           'messages': (messages, ('noack', 'grp')), 'lastblock': (lastblock, ()), 'sparse': (sparse, ())}
 
 
 def make(kernel, groups, items, iterations, variant=None):
     """The streams, the racy words that their report must have, and the number of records."""
+    Stream.magic = b'GRT3' if groups > 64 or items > 256 else b'GRT1'
     streams = [Stream(g, items) for g in range(groups)]
     races = KERNELS[kernel][0](streams, groups, items, iterations, variant)
     blobs = [s.close() for s in streams]
@@ -218,17 +244,18 @@ def main():
     given = options.parse_args()
     if given.variant not in (None, *KERNELS[given.kernel][1]):
         options.error(f'variants of {given.kernel}: {KERNELS[given.kernel][1]}')
-    if not (1 <= given.groups <= 64 and 1 <= given.items <= 256):
-        options.error('groups are 1 to 64, items 1 to 256')
+    if not (1 <= given.groups <= 65535 and 1 <= given.items <= 1024):
+        options.error('groups are 1 to 65535, items 1 to 1024')
     start = time.monotonic()
     if given.records:
         one, ten = (make(given.kernel, given.groups, given.items, n, given.variant)[2] for n in (0, 16))
         given.iterations = max(1, round((given.records - one) / ((ten - one) / 16)))
     blobs, races, records = make(given.kernel, given.groups, given.items, given.iterations, given.variant)
     given.dir.mkdir(parents=True, exist_ok=True)
-    for g, blob in enumerate(blobs):
-        (given.dir / f'g{g:02}').write_bytes(blob)
-    if given.joined:
+    if given.groups <= 64:
+        for g, blob in enumerate(blobs):
+            (given.dir / f'g{g:02}').write_bytes(blob)
+    if given.joined or given.groups > 64:
         (given.dir / 'joined').write_bytes(b''.join(blobs))
     print(f'{given.kernel}: {records} records, {sum(map(len, blobs))} bytes, {len(races)} races, '
           f'{given.iterations} iterations, {time.monotonic() - start:.1f} s')

@@ -40,10 +40,10 @@ module _ (s : Streams) (cs : List Coming) (count : length s.lists ≡ length s.s
   -- a group that isn't there is that of no stream
   pub group_new : (g : ℕ) → (HasItem s.sizes (record { group = g; item = 0 }) → ⊥) → list_any (λ c. c.header.group == g) cs ≡ false
   group_new g free = none_like g cs (λ h has same.
-    let there = groups.there h has in
-    let stream = stream_of_header s cs h has in
-    let some : 0 < size_of s h.group = subst (λ (x : Header). 0 < size_of s x.group) stream.2 (size_of_stream s cs count groups are stream.0 stream.1) in
-    free (subst (λ n. HasItem s.sizes (record { group = n; item = 0 })) same (there.0, some)))
+      let there = groups.there h has in
+      let stream = stream_of_header s cs h has in
+      let some : 0 < size_of s h.group = subst (λ (x : Header). 0 < size_of s x.group) stream.2 (size_of_stream s cs count groups are stream.0 stream.1) in
+      free (subst (λ n. HasItem s.sizes (record { group = n; item = 0 })) same (there.0, some)))
 
 -- ---- launches
 
