@@ -3,12 +3,12 @@ use Rattle.std.proofs.Common.{◌≡◌, ◌≢◌, ◌⊎◌, ℕ, ◌+◌, ◌
 use Rattle.std.proofs.Math.ListN.{get_or-eq_default}
 use Rattle.std.proofs.Math.Nat.{mod-lt}
 use Rattle.std.proofs.lemmas.Bool.{cases_eq, cases_lt}
-use Rattle.std.proofs.lemmas.List.{drop_all, get_or-map, get_or-set_other, get_or-set_same, get_or-replicate, get_or_append_left, get_or_push, length-append, length-map, length-replicate, length-set, take_all}
+use Rattle.std.proofs.lemmas.List.{drop_all, get_or-map, get_or-set_other, get_or-set_same, get_or_append_left, get_or_push, length-append, length-map, length-set, take_all}
 use Rattle.std.proofs.lemmas.Option.{slice_get-get_or}
 use Rattle.atomic_table.specs.Seated.{TableId}
 use Rattle.gr_model.specs.declared.limits.TheConstants.{MOST_GROUPS}
 use Rattle.gr_model.specs.Configs.{Settings}
-use Rattle.gr_route.specs.IntakeRule.{no_sizes}
+use Rattle.gr_route.proofs.Sizes.{each_has_place, none_has_size}
 use Rattle.gr_route.specs.IntakeSeats.{Taker}
 use Rattle.gr_sender.specs.Senders.{Sending}
 use Rattle.gr_sequencer_thread.specs.Feeds.{AreSeated, intakes_of}
@@ -58,17 +58,14 @@ seating t g n = record { queue = t.queue; popped = t.popped; sizes = set t.sizes
 
 pub none_seated : (sizes : List ℕ) (takers : List Taker) → AreUnseated takers → AreSeatedBelow 0 sizes takers
 none_seated sizes takers un = record {
-  wide = λ q d lt. ap length (un q d lt) ∙ length-replicate {A = ℕ} MOST_GROUPS 0;
+  wide = λ q d lt. ap length (un q d lt) ∙ each_has_place;
   seated = λ q g d lt below. absurd (omega (arith, below));
   later = λ q g d lt after. zero_at q g d lt;
   others = λ q g d lt other. zero_at q g d lt;
 }
   where
     zero_at : (q g : ℕ) (d : Taker) → q < length takers → get_or (get_or takers q d).sizes g 0 ≡ 0
-    zero_at q g d lt = ap (λ (l : List ℕ). get_or l g 0) (un q d lt) ∙ ⊎_elim
-        (λ (below : g < MOST_GROUPS). get_or-replicate MOST_GROUPS g 0 0 below)
-        (λ (above : MOST_GROUPS ≤ g). get_or-eq_default no_sizes 0 {n = g} (let len : length no_sizes ≡ MOST_GROUPS = length-replicate {A = ℕ} MOST_GROUPS 0 in let le : length no_sizes ≤ g = omega (arith, above, len) in le))
-        (cases_lt g MOST_GROUPS)
+    zero_at q g d lt = ap (λ (l : List ℕ). get_or l g 0) (un q d lt) ∙ none_has_size g
 
 module _ (n : ℕ) (sizes : List ℕ) (takers : List Taker) (was : AreSeatedBelow n sizes takers) (few : n < MOST_GROUPS) (some : 0 < length takers) (t : Taker) (at : t ≡ get_or takers (n % length takers) t) where
   abbrev pub new : List Taker

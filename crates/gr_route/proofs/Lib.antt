@@ -1,4 +1,5 @@
 pub mod PrefixLemmas
+pub mod Sizes
 pub mod GroupLemmas
 pub mod IntakeSteps
 pub mod Views

@@ -22,7 +22,8 @@ seat_of group items pushed = record { pushes = true; group = group; items = item
 abbrev pub taker_of : List Sent → List ℕ → List Joined → IntakeView
 taker_of popped sizes joined = record { pushes = false; group = 0; items = 0; pushed = []; pops = true; popped = popped; sizes = sizes; joined = joined }
 
-abbrev pub no_sizes : List ℕ
+-- where no group has had a seat
+unfoldable pub no_sizes : List ℕ
 no_sizes = replicate MOST_GROUPS 0
 
 abbrev pub first_view : IntakeView

@@ -6,7 +6,7 @@ use Rattle.atomic_table.specs.Seated.{TableId}
 use Rattle.crossbeam_queue.specs.Passes.{Pass, view}
 use Rattle.gr_model.specs.declared.event.Event.{Event}
 use Rattle.gr_model.specs.declared.event.Sent.{Sent}
-use Rattle.gr_model.specs.declared.limits.TheConstants.{MOST_RECORDS}
+use Rattle.gr_model.specs.declared.limits.TheConstants.{MOST_GROUPS, MOST_RECORDS}
 use Rattle.gr_model.specs.Events.{IsEventOk}
 use Rattle.gr_model.specs.Streams.{IsPrefix, events_of, is_complete}
 use Rattle.gr_route.specs.declared.intake_rule.IntakeView.{IntakeView}
@@ -82,6 +82,7 @@ pub record IsSeatPass (pass : Pass Sent IntakeView) (group items : ℕ) : Type 0
 pub record IsTakerPass (pass : Pass Sent IntakeView) (sizes : List ℕ) : Type 0 where
   pub idle : pass.me.1 ≡ []
   pub known : view pass ≡ taker_of (view pass).popped sizes (view pass).joined
+  pub places : length sizes ≡ MOST_GROUPS
 
 -- ---- laws
 

@@ -5,7 +5,7 @@
 //! intake queue"). What a seat knows is in its pass, a value without bytes, which the queue's rule keeps true. Contracts
 //! don't see what the queue holds: docs/QUEUES.md, "Full and empty", has what `Full` and `None` say of it.
 
-ghost use Rattle.std.specs.Prelude.{◌≡◌, ◌≢◌, ◌<◌, ◌≤◌, [], ◌∷◌, ◌++◌, length, slice_index, slice_set, IfOk, IfErr, OnOk, IfSome, IfNone, IsTrue, IsFalse};
+ghost use Rattle.std.specs.Prelude.{◌≡◌, ◌≢◌, ◌<◌, ◌≤◌, [], ◌∷◌, ◌++◌, length, replicate, slice_index, slice_set, IfOk, IfErr, OnOk, IfSome, IfNone, IsTrue, IsFalse};
 ghost use Rattle.crossbeam_queue.specs.Fifo.{Forks, Held};
 ghost use Rattle.crossbeam_queue.specs.Passes.{view as known, IsSamePass, IsPassOf};
 ghost use Rattle.gr_model.specs.Events.{IsEventOk};
@@ -79,21 +79,38 @@ impl IntakeSeat {
 /// The seat that pops. Contracts see its queue, what it popped, which work-groups have had a seat, and what the seats
 /// that were joined back had pushed.
 #[derive(Drop)]
-pub struct TakerSeat {
+pub struct TakerSeat<A: Allocator = Global> {
     pass: Pass<Sent, IntakeView>,
-    // The number of items of each group that has had a seat, and 0 of another.
-    sizes: [u16; MOST_GROUPS],
+    // The number of items of each group that has had a seat, and 0 of another; with a place for each group that may be, so that
+    // a split takes no memory.
+    sizes: Vec<u16, A>,
 }
 
-impl Model for TakerSeat {
+impl<A: Allocator> Model for TakerSeat<A> {
     ghost use Rattle.crossbeam_queue.specs.Passes.{view as known};
     ghost use Rattle.gr_route.specs.IntakeSeats.{IsTakerPass, Taker};
 
     ghost Value = { Taker };
 
-    ghost view = { λ s. record { queue = s.pass.table_id; popped = (known s.pass).popped; sizes = s.sizes; joined = (known s.pass).joined } };
+    ghost view = { λ s. record { queue = s.pass.table_id; popped = (known s.pass).popped; sizes = s.sizes.items; joined = (known s.pass).joined } };
 
-    ghost invariant = { λ s. IsTakerPass s.pass s.sizes };
+    ghost invariant = { λ s. IsTakerPass s.pass s.sizes.items };
+}
+
+/// So many zeros.
+fn zeros<A: Allocator>(alloc: A, count: usize) -> Result<Vec<u16, A>, Memory>
+    ensures { IfOk result (λ v. v.items ≡ replicate count 0) }
+{
+    let zeros = vec![in alloc; 0; count]?;
+    Ok(zeros)
+}
+
+/// The sizes where no group has had a seat.
+fn none_seated<A: Allocator>(alloc: A) -> Result<Vec<u16, A>, Memory>
+    ensures sizes { IfOk result (λ v. v.items ≡ no_sizes) }
+    ensures places { IfOk result (λ v. length v.items ≡ MOST_GROUPS) }
+{
+    zeros(alloc, MOST_GROUPS)
 }
 
 /// Splits off the seat of a group.
@@ -132,17 +149,14 @@ impl<A: Allocator + Copy> Intake<A> {
     /// assert_eq!(rt; queue.pop(&rt, &mut taker), Some(Sent { group: 5, event }));
     /// queue.join_back(&mut taker, seat);
     /// ```
-    pub fn new(alloc: A, capacity: u32) -> Result<(Intake<A>, TakerSeat), Memory>
+    pub fn new(alloc: A, capacity: u32) -> Result<(Intake<A>, TakerSeat<A>), Memory>
         requires { (0 < capacity) × (capacity ≤ MOST_PLACES) }
         ensures room { IfOk result (λ made. made.0.places ≡ capacity) }
         ensures seat { IfOk result (λ made. made.1 ≡ record { queue = made.0.queue; popped = []; sizes = no_sizes; joined = [] }) }
     {
         let (queue, pass) = RuledArrayQueue::ruled(alloc, capacity as usize)?;
-        let seat = TakerSeat {
-            pass,
-            sizes: [0; MOST_GROUPS],
-        };
-        Ok((Intake { queue }, seat))
+        let sizes = none_seated(alloc)?;
+        Ok((Intake { queue }, TakerSeat { pass, sizes }))
     }
 }
 
@@ -151,7 +165,7 @@ impl<A: Allocator> Intake<A> {
     /// Requires: the taker's seat is of this queue, `group` is below `MOST_GROUPS`, and `items` is 1 to
     /// `MOST_ITEMS_OF_A_GROUP`.
     #[tactic(auto, using(crate::proofs::IntakeSteps::splits_as))]
-    pub fn split(&self, taker: &mut TakerSeat, group: u16, items: u16) -> Option<IntakeSeat>
+    pub fn split(&self, taker: &mut TakerSeat<A>, group: u16, items: u16) -> Option<IntakeSeat>
         requires queue { taker.old.queue ≡ self.now.queue }
         requires group { group < MOST_GROUPS }
         requires items { (0 < items) × (items ≤ MOST_ITEMS_OF_A_GROUP) }
@@ -206,7 +220,7 @@ impl<A: Allocator> Intake<A> {
     /// Pops an event: of its work-group, the first that was not popped yet. Answers `None` only if the queue was empty
     /// at some moment of the call.
     /// Requires: the seat is of this queue.
-    pub fn pop<R: Wait>(&self, rt: &R, taker: &mut TakerSeat) -> Option<Sent>
+    pub fn pop<R: Wait>(&self, rt: &R, taker: &mut TakerSeat<A>) -> Option<Sent>
         requires { taker.old.queue ≡ self.now.queue }
 
         ensures some { IfSome result (λ sent. taker.new ≡ record taker.old { popped = taker.old.popped ++ sent ∷ [] }) }
@@ -223,7 +237,7 @@ impl<A: Allocator> Intake<A> {
     /// Takes a work-group's seat back, and with it the list of what that pushed. What was popped of the group is a
     /// prefix of this list, and all of it if the end was popped.
     /// Requires: both seats are of this queue.
-    pub fn join_back(&self, taker: &mut TakerSeat, seat: IntakeSeat)
+    pub fn join_back(&self, taker: &mut TakerSeat<A>, seat: IntakeSeat)
         requires taker { taker.old.queue ≡ self.now.queue }
         requires seat { seat.queue ≡ self.now.queue }
         ensures joined { taker.new ≡ record taker.old { joined = taker.old.joined ++ record { group = seat.group; items = seat.items; pushed = seat.pushed } ∷ [] } }

@@ -20,7 +20,7 @@ use std::sync::{Arc, Wait};
 #[derive(Drop)]
 pub struct Inlet<A: Allocator = Global> {
     queue: Arc<Intake<A>, A>,
-    seat: TakerSeat,
+    seat: TakerSeat<A>,
 }
 
 impl<A: Allocator> Model for Inlet<A> {
