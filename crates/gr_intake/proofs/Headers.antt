@@ -1,5 +1,5 @@
 -- Whether a group has come, and of which launch the streams are, without a look at each stream.
-use Rattle.std.proofs.Common.{◌≡◌, ℕ, suc, ◌<◌, Bool, true, false, None, List, [], ◌∷◌, ◌++◌, append-nil, All, AllPairs, Contains, get_or, length, sym, ap, ◌∙◌, subst, refl, arith, inl, inr}
+use Rattle.std.proofs.Common.{◌≡◌, ℕ, suc, ◌<◌, Bool, true, false, None, Some, slice_get, List, [], ◌∷◌, ◌++◌, append-nil, All, AllPairs, Contains, get_or, length, sym, ap, ◌∙◌, subst, refl, arith, inl, inr}
 use Rattle.std.specs.Prelude.{not, ◌==◌}
 use Rattle.std.specs.List.{list_any}
 use Rattle.std.proofs.lemmas.Bool.{cases_Bool, eq-eqb, eqb-true, ne_eqb}
@@ -63,9 +63,15 @@ none_other launch (c ∷ cs) same =
     rw here (none_other launch cs (λ k d lt. same (suc k) d (omega (arith, lt))))
 
 -- the first is of another launch just where one of them is
-pub first_of_other : (launch : ℕ) (c : Coming) (cs : List Coming) → AreOfOneLaunch (c ∷ cs) → list_any (λ c. not (c.header.launch == launch)) (c ∷ cs) ≡ not (c.header.launch == launch)
+first_of_other : (launch : ℕ) (c : Coming) (cs : List Coming) → AreOfOneLaunch (c ∷ cs) → list_any (λ c. not (c.header.launch == launch)) (c ∷ cs) ≡ not (c.header.launch == launch)
 first_of_other launch c cs same =
     elim (cases_Bool (c.header.launch == launch)) [
       | inl is ↦ rw is (none_other launch cs (λ k d lt. sym (same 0 (suc k) d (omega arith) (omega (arith, lt))) ∙ eqb-true c.header.launch launch is))
       | inr other ↦ rw other refl
     ]
+
+pub of_first : (launch : ℕ) (cs : List Coming) (c : Coming) → AreOfOneLaunch cs → slice_get cs 0 ≡ Some c → list_any (λ c. not (c.header.launch == launch)) cs ≡ not (c.header.launch == launch)
+of_first launch [] c same at = absurd cc
+of_first launch (d ∷ cs) c same at =
+    let is : d ≡ c = cc in
+    subst (λ (x : Coming). list_any (λ y. not (y.header.launch == launch)) (d ∷ cs) ≡ not (x.header.launch == launch)) is (first_of_other launch d cs same)

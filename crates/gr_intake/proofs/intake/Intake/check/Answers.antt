@@ -29,7 +29,7 @@ returns-then-has_other_launch-clause-fault g c = λ unit more all is.
     let cs = c.args.self.now.streams.items in
     let h = c.args.header in
     let read = none_goes_on c.args.self.now c.requires.none c.requires.intake in
-    let free = λ has. absurd (true≢false (sym (c.has_group.ensures.1 has) ∙ c.if-has_group.false)) in
+    let free : HasItem c.shape.result.now (record { group = h.group; item = 0 }) → ⊥ = λ has. absurd (true≢false (sym (c.has_group.ensures.1 has) ∙ c.if-has_group.false)) in
     let new = group_new s cs read.sequence.prefixes.count (of_whole s.sizes cs read.groups) read.streams h.group (subst (λ (sizes : List ℕ). HasItem sizes (record { group = h.group; item = 0 }) → ⊥) c.shape.ensures.sizes free) in
     let other : list_any (λ f. f.header.group == h.group) (come s cs) ≡ false = any_come (λ x. x.group == h.group) s cs ∙ new in
     let launch : list_any (λ f. not (f.header.launch == h.launch)) (come s cs) ≡ true = any_come (λ x. not (x.launch == h.launch)) s cs ∙ (ap (λ (xs : List Coming). list_any (λ x. not (x.header.launch == h.launch)) xs) (sym c.deref.ensures.value) ∙ (sym c.has_other_launch.ensures ∙ c.if-has_other_launch.true)) in
@@ -42,7 +42,7 @@ returns-clause-group g c =
     let cs = c.args.self.now.streams.items in
     let h = c.args.header in
     let read = none_goes_on c.args.self.now c.requires.none c.requires.intake in
-    let free = λ has. absurd (true≢false (sym (c.has_group.ensures.1 has) ∙ c.if-has_group.false)) in
+    let free : HasItem c.shape.result.now (record { group = h.group; item = 0 }) → ⊥ = λ has. absurd (true≢false (sym (c.has_group.ensures.1 has) ∙ c.if-has_group.false)) in
     group_new s cs read.sequence.prefixes.count (of_whole s.sizes cs read.groups) read.streams h.group (subst (λ (sizes : List ℕ). HasItem sizes (record { group = h.group; item = 0 }) → ⊥) c.shape.ensures.sizes free)
 
 pub has_other_launch-requires : goal.has_other_launch-requires
