@@ -23,8 +23,8 @@ const MOST_STREAMS: usize = MOST_GROUPS + 1;
 pub enum Look {
     /// By their first byte alone.
     Quick,
-    /// As whole records, up to the end of the stream at hand.
-    Whole,
+    /// As whole records in the stream of this number, from 0, and up to its end; those before by their first byte.
+    Whole(u64),
 }
 
 /// What stands at the front of bytes.
@@ -55,6 +55,8 @@ pub struct Account {
     pub passed: u64,
     /// Whether what stands next is not of a stream.
     pub is_stopped: bool,
+    /// Whether that is the end of the stream that was looked at.
+    pub is_at_end: bool,
     header: Option<Header>,
     bytes: Vec<u8>,
 }
@@ -77,13 +79,13 @@ fn header_at(bytes: &[u8]) -> Front {
 }
 
 /// The record at the front of bytes, in the stream of this header.
-fn record_at(header: Header, bytes: &[u8], look: Look) -> Front {
+fn record_at(header: Header, bytes: &[u8], is_whole: bool) -> Front {
     let length = header.version.record_length();
     if bytes.len() < length {
         return Front::Little;
     }
     let (record, _) = bytes.split_at(length);
-    if look == Look::Whole && read_event(header, record).is_err() {
+    if is_whole && read_event(header, record).is_err() {
         return Front::Refused;
     }
     match record.first() {
@@ -103,6 +105,7 @@ impl Account {
             all_records: 0,
             passed: 0,
             is_stopped: false,
+            is_at_end: false,
             header: None,
             bytes: Vec::new(alloc),
         }
@@ -114,6 +117,14 @@ impl Account {
     /// `Memory`: out of memory.
     pub fn take(&mut self, piece: &[u8]) -> Result<(), Memory> {
         self.pass(Look::Quick)?;
+        self.keep(piece)
+    }
+
+    /// Takes bytes that were read.
+    ///
+    /// # Errors
+    /// `Memory`: out of memory.
+    pub fn keep(&mut self, piece: &[u8]) -> Result<(), Memory> {
         self.bytes.extend_from_slice(piece)?;
         Ok(())
     }
@@ -136,6 +147,14 @@ impl Account {
         Ok(())
     }
 
+    /// Whether the records at hand are looked at as whole ones.
+    fn is_whole(&self, look: Look) -> bool {
+        match look {
+            Look::Quick => false,
+            Look::Whole(stream) => self.starts.len() as u64 > stream,
+        }
+    }
+
     /// What stands at this place of the bytes at hand.
     fn front(&self, at: usize, look: Look) -> Front {
         let Some(rest) = self.bytes.get(at..) else {
@@ -143,7 +162,7 @@ impl Account {
         };
         match self.header {
             None => header_at(rest),
-            Some(header) => record_at(header, rest, look),
+            Some(header) => record_at(header, rest, self.is_whole(look)),
         }
     }
 
@@ -184,7 +203,11 @@ impl Account {
                 self.count();
                 length
             }
-            Front::Ends(_) if look == Look::Whole => 0,
+            Front::Ends(_) if self.is_whole(look) => {
+                self.is_stopped = true;
+                self.is_at_end = true;
+                0
+            }
             Front::Ends(length) => {
                 self.count();
                 self.header = None;

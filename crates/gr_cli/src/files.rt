@@ -141,7 +141,10 @@ impl Files {
     }
 
     /// Adds a name as it is.
-    fn add_name(&mut self, alloc: Global, name: &str) -> Result<(), Memory> {
+    ///
+    /// # Errors
+    /// `Memory`: out of memory.
+    pub fn add_name(&mut self, alloc: Global, name: &str) -> Result<(), Memory> {
         self.names.push(String::from_str(alloc, name)?)?;
         Ok(())
     }
