@@ -10,12 +10,14 @@ mod held;
 mod line;
 mod named;
 mod plan;
+mod progress;
 mod reading;
 mod refused;
 mod source;
 mod table;
 mod text_fault;
 mod told;
+mod watched;
 
 use crate::held::Held;
 use crate::plan::plan_of;
@@ -23,6 +25,7 @@ use crate::reading::Reading;
 use crate::refused::refuse;
 use crate::table::Table;
 use crate::told::tell;
+use crate::watched::Cleared;
 use gr_command::execute::{execute, fail};
 use gr_command::status::USAGE;
 use gr_model::memory::Memory;
@@ -69,7 +72,10 @@ where
     H: Threads + Wait + Clock + Copy + Send + 'static,
 {
     let alloc = rt.alloc();
-    let Ok(mut writer) = BufWriter::new(alloc, io::writer(&rt)) else {
+    let Ok(progress) = table.another_progress() else {
+        return fail(&Fault::Memory, errors);
+    };
+    let Ok(mut writer) = BufWriter::new(alloc, Cleared::new(io::writer(&rt), progress)) else {
         return fail(&Fault::Memory, errors);
     };
     execute(
@@ -77,7 +83,7 @@ where
         alloc,
         words,
         reading,
-        move |name| table.open(rt, name),
+        move |name| table.open_watched(rt, name),
         &mut writer,
         errors,
     )
@@ -93,6 +99,9 @@ where
         Ok(plan) => plan,
         Err(refusal) => return refuse(&refusal, &mut rt.stderr()),
     };
+    if plan.watch(rt, alloc).is_err() {
+        return fail(&Fault::Memory, &mut rt.stderr());
+    }
     let asked = match &plan.words {
         None => words,
         Some(asked) => asked.as_slice(),
@@ -100,6 +109,9 @@ where
     let mut errors = Held::new(rt.stderr());
     let (reading, table) = (&mut plan.reading, &plan.files.table);
     let status = perform(handle, rt, asked, reading, table, &mut errors);
+    if let Some(progress) = &plan.files.table.progress {
+        progress.clear();
+    }
     let _ = tell(rt, alloc, &mut plan, first_of(words), &mut errors);
     status
 }

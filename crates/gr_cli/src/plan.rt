@@ -3,8 +3,10 @@
 use crate::files::{Files, Kind, kind_of, paths_of_streams};
 use crate::line::{Line, Taking, is_option, taking_of};
 use crate::named::{Naming, Unnamed, naming_in, word_in};
+use crate::progress::Progress;
 use crate::reading::Reading;
 use crate::source::Source;
+use crate::table::file_size;
 use clap::error::ErrorKind;
 use gr_arguments::request::Request;
 use gr_arguments::request_of;
@@ -13,6 +15,8 @@ use gr_model::memory::Memory;
 use gr_record::fault::Fault;
 use std::alloc::Global;
 use std::fs::File;
+use std::io::IsTerminal;
+use std::sync::Arc;
 
 /// What is done about the words of a command line.
 #[derive(Drop)]
@@ -104,6 +108,45 @@ pub fn plan_of(rt: HostRuntime, alloc: Global, words: &[String]) -> Result<Plan,
         Taking::Joined => Ok(joined(rt, alloc, &line)?),
         Taking::Each(leading) => each(rt, alloc, words, &line, leading),
     }
+}
+
+impl Plan {
+    /// How many bytes are read, where that is known.
+    fn size(&self, rt: HostRuntime) -> Option<u64> {
+        if self.files.names.is_empty() {
+            return size_of_all(rt, self.given.as_slice());
+        }
+        let mut size: u64 = 0;
+        for name in &self.files.names {
+            size = size.saturating_add(self.files.table.size_of(rt, name.as_str())?);
+        }
+        Some(size)
+    }
+
+    /// Has it told how far the reading is, where standard error is a terminal.
+    ///
+    /// # Errors
+    /// `Memory`: out of memory.
+    pub fn watch(&mut self, rt: HostRuntime, alloc: Global) -> Result<(), Memory> {
+        if rt.stderr().is_terminal() {
+            let progress = Arc::new(alloc, Progress::new(rt, self.size(rt)))?;
+            self.reading.progress = Some(Arc::try_clone(&progress)?);
+            self.files.table.progress = Some(progress);
+        }
+        Ok(())
+    }
+}
+
+/// How many bytes these files have, or standard input where there are none.
+fn size_of_all(rt: HostRuntime, names: &[String]) -> Option<u64> {
+    if names.is_empty() {
+        return file_size(rt, "/dev/stdin");
+    }
+    let mut size: u64 = 0;
+    for name in names {
+        size = size.saturating_add(file_size(rt, name.as_str())?);
+    }
+    Some(size)
 }
 
 /// Adds a word.

@@ -1,10 +1,12 @@
 //! The input of a command that reads all of it as one: standard input, or files one after another.
 
 use crate::account::Account;
+use crate::progress::Progress;
 use crate::source::Source;
 use gr_model::memory::Memory;
 use std::alloc::Global;
 use std::io::{self, Read};
+use std::sync::Arc;
 
 /// Where a file of the input begins.
 #[derive(Clone, Copy)]
@@ -29,6 +31,8 @@ pub struct Reading {
     pub account: Option<Account>,
     /// All bytes that were read, where they are a text.
     pub text: Option<Vec<u8>>,
+    /// Who tells how far the reading is.
+    pub progress: Option<Arc<Progress>>,
 }
 
 impl Reading {
@@ -49,6 +53,7 @@ impl Reading {
             } else {
                 None
             },
+            progress: None,
         }
     }
 
@@ -65,8 +70,12 @@ impl Reading {
             })?;
         }
         self.read = self.read.saturating_add(piece.len() as u64);
-        if let Some(account) = &mut self.account {
-            account.take(piece)?;
+        let records = match &mut self.account {
+            None => 0,
+            Some(account) => taken(account, piece)?,
+        };
+        if let Some(progress) = &self.progress {
+            progress.add(piece.len() as u64, records);
         }
         if let Some(text) = &mut self.text {
             text.extend_from_slice(piece)?;
@@ -84,6 +93,13 @@ impl Reading {
         }
         found
     }
+}
+
+/// Takes bytes into an account, and tells how many records were passed.
+fn taken(account: &mut Account, piece: &[u8]) -> Result<u64, Memory> {
+    let before = account.all_records;
+    account.take(piece)?;
+    Ok(account.all_records.saturating_sub(before))
 }
 
 impl Read for Reading {

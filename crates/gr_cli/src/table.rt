@@ -1,9 +1,11 @@
 //! What the names of a command line's files open.
 
+use crate::progress::Progress;
 use crate::source::{Kept, Source};
+use crate::watched::Watched;
 use gr_model::memory::Memory;
 use std::alloc::Global;
-use std::fs::File;
+use std::fs::{self, File};
 use std::io::{self, Read, Seek, SeekFrom};
 use std::sync::Arc;
 
@@ -41,6 +43,8 @@ struct Entry {
 #[derive(Drop)]
 pub struct Table {
     entries: Vec<Entry>,
+    /// Who tells how far the reading is.
+    pub progress: Option<Arc<Progress>>,
 }
 
 /// A part of a file.
@@ -53,11 +57,20 @@ fn open_part(rt: HostRuntime, path: &str, start: u64, end: Option<u64>) -> io::R
     }
 }
 
+/// How many bytes the file of a path has.
+pub fn file_size(rt: HostRuntime, path: &str) -> Option<u64> {
+    match fs::metadata(&rt, path) {
+        Ok(metadata) if metadata.is_file() => Some(metadata.len()),
+        Ok(_) | Err(_) => None,
+    }
+}
+
 impl Table {
     /// No names.
     pub fn new(alloc: Global) -> Table {
         Table {
             entries: Vec::new(alloc),
+            progress: None,
         }
     }
 
@@ -83,6 +96,48 @@ impl Table {
     /// Whether the table has a name.
     pub fn has(&self, name: &str) -> bool {
         self.origin_of(name).is_some()
+    }
+
+    /// Who tells how far the reading is, once more.
+    ///
+    /// # Errors
+    /// `Memory`: out of memory.
+    pub fn another_progress(&self) -> Result<Option<Arc<Progress>>, Memory> {
+        match &self.progress {
+            None => Ok(None),
+            Some(progress) => Ok(Some(Arc::try_clone(progress)?)),
+        }
+    }
+
+    /// Opens a name, and has it told how far the reading is.
+    ///
+    /// # Errors
+    /// Those of the file.
+    pub fn open_watched(&self, rt: HostRuntime, name: &str) -> io::Result<Watched> {
+        let source = self.open(rt, name)?;
+        match self.another_progress() {
+            Ok(progress) => Ok(Watched::new(source, progress)),
+            Err(Memory) => Err(io::Error::from(io::ErrorKind::OutOfMemory)),
+        }
+    }
+
+    /// How many bytes a name opens, where that is known.
+    pub fn size_of(&self, rt: HostRuntime, name: &str) -> Option<u64> {
+        match self.origin_of(name) {
+            None => file_size(rt, name),
+            Some(Origin::Kept {
+                bytes: _,
+                start,
+                end,
+            }) => Some(end.saturating_sub(*start) as u64),
+            Some(Origin::Part { path, start, end }) => {
+                let end = match end {
+                    None => file_size(rt, path.as_str())?,
+                    Some(end) => *end,
+                };
+                Some(end.saturating_sub(*start))
+            }
+        }
     }
 
     /// Opens a name: what the table has of it, or else the file of this path.

@@ -267,25 +267,35 @@ fn tell_unread(
     command: &str,
     errors: &mut Held,
 ) -> io::Result<()> {
-    let found = match unread(rt, plan.sides.as_slice()) {
-        Some(found) => Some(found),
-        None => match unread(rt, plan.files.names.as_slice()) {
-            Some(found) => Some(found),
-            None => unread(rt, plan.given.as_slice()),
-        },
+    if let Some((name, error)) = unread(rt, plan.sides.as_slice()) {
+        pass_or_forget(command, errors)?;
+        return put_error(alloc, errors, name, &error);
+    }
+    let files = if plan.files.names.is_empty() {
+        plan.given.as_slice()
+    } else {
+        plan.files.names.as_slice()
     };
-    let Some((name, error)) = found else {
+    let Some((name, error)) = unread(rt, files) else {
         return errors.pass();
     };
-    if keeps_line(command) {
-        errors.pass()?;
-    } else {
-        errors.forget();
-    }
+    pass_or_forget(command, errors)?;
     if kind_of(rt, name) == Kind::Folder {
-        return writeln!(errors, "gpurace: {name}: a folder without a stream, which is a file whose name ends in .gpurace");
+        return writeln!(
+            errors,
+            "gpurace: {name}: no stream in this folder: no file whose name ends in .gpurace"
+        );
     }
     put_error(alloc, errors, name, &error)
+}
+
+/// Passes on the line of a file that can't be read, or forgets it where the file is told in its place.
+fn pass_or_forget(command: &str, errors: &mut Held) -> io::Result<()> {
+    if keeps_line(command) {
+        return errors.pass();
+    }
+    errors.forget();
+    Ok(())
 }
 
 /// Passes on the line of a fault that is held back, with what is told beside it.
