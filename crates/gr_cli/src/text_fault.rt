@@ -246,7 +246,8 @@ fn bad_word<'a>(bad: &BadLine<'a>) -> Option<BadWord<'a>> {
         let (word, after) = split_word(bytes);
         match behind(word, due, names) {
             None => {
-                let word = Some(word);
+                let is_empty = number == 1 && bytes.is_empty();
+                let word = if is_empty { None } else { Some(word) };
                 return Some(BadWord { number, word, due });
             }
             Some(next) => due = next,

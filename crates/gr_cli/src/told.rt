@@ -63,18 +63,22 @@ fn subject_of(line: &str) -> Subject {
     }
 }
 
-/// Why a file can't be read, if so: it is opened, and a byte is read of what can be read again.
-fn error_of(rt: HostRuntime, name: &str) -> Option<io::Error> {
-    let kind = kind_of(rt, name);
-    if kind == Kind::Input || kind == Kind::Pipe {
-        return None;
+/// Why a file can't be opened, if so. Pipes are left as they are.
+fn error_of_opening(rt: HostRuntime, name: &str) -> Option<io::Error> {
+    match kind_of(rt, name) {
+        Kind::Input | Kind::Pipe => None,
+        Kind::File | Kind::Folder | Kind::Missing => File::open(&rt, name).err(),
     }
-    match File::open(&rt, name) {
-        Err(error) => Some(error),
-        Ok(mut file) => {
+}
+
+/// Why a file that can be opened can't be read, if so.
+fn error_of_reading(rt: HostRuntime, name: &str) -> Option<io::Error> {
+    match kind_of(rt, name) {
+        Kind::File | Kind::Folder => {
             let mut byte = [0u8; 1];
-            file.read(&mut byte).err()
+            File::open(&rt, name).ok()?.read(&mut byte).err()
         }
+        Kind::Input | Kind::Pipe | Kind::Missing => None,
     }
 }
 
@@ -93,10 +97,20 @@ fn put_error(alloc: Global, errors: &mut Held, name: &str, error: &io::Error) ->
     writeln!(errors, "gpurace: {name}: {message}")
 }
 
-/// The first of these files that can't be read, and why.
-fn unread<'a>(rt: HostRuntime, names: &'a [String]) -> Option<(&'a str, io::Error)> {
+/// The first of these files that can't be opened, and why.
+fn unopened(rt: HostRuntime, names: &[String]) -> Option<(&str, io::Error)> {
     for name in names {
-        if let Some(error) = error_of(rt, name.as_str()) {
+        if let Some(error) = error_of_opening(rt, name.as_str()) {
+            return Some((name.as_str(), error));
+        }
+    }
+    None
+}
+
+/// The first of these files that can be opened and not read, and why.
+fn unread(rt: HostRuntime, names: &[String]) -> Option<(&str, io::Error)> {
+    for name in names {
+        if let Some(error) = error_of_reading(rt, name.as_str()) {
             return Some((name.as_str(), error));
         }
     }
@@ -259,6 +273,23 @@ fn keeps_line(command: &str) -> bool {
     }
 }
 
+/// The files of which one can't be opened or read: side files, and those of streams.
+fn files_of(alloc: Global, plan: &Plan) -> Result<Vec<String>, Memory> {
+    let mut names = Vec::new(alloc);
+    for name in &plan.sides {
+        names.push(String::from_str(alloc, name.as_str())?)?;
+    }
+    for name in &plan.files.names {
+        if !plan.files.table.has(name.as_str()) {
+            names.push(String::from_str(alloc, name.as_str())?)?;
+        }
+    }
+    for name in &plan.given {
+        names.push(String::from_str(alloc, name.as_str())?)?;
+    }
+    Ok(names)
+}
+
 /// Tells which file can't be read, and why.
 fn tell_unread(
     rt: HostRuntime,
@@ -267,20 +298,19 @@ fn tell_unread(
     command: &str,
     errors: &mut Held,
 ) -> io::Result<()> {
-    if let Some((name, error)) = unread(rt, plan.sides.as_slice()) {
+    let Ok(names) = files_of(alloc, plan) else {
+        return errors.pass();
+    };
+    if let Some((name, error)) = unopened(rt, names.as_slice()) {
         pass_or_forget(command, errors)?;
         return put_error(alloc, errors, name, &error);
     }
-    let files = if plan.files.names.is_empty() {
-        plan.given.as_slice()
-    } else {
-        plan.files.names.as_slice()
-    };
-    let Some((name, error)) = unread(rt, files) else {
+    let Some((name, error)) = unread(rt, names.as_slice()) else {
         return errors.pass();
     };
     pass_or_forget(command, errors)?;
-    if kind_of(rt, name) == Kind::Folder {
+    let is_side = plan.sides.iter().any(|side| side.as_str() == name);
+    if kind_of(rt, name) == Kind::Folder && !is_side {
         return writeln!(
             errors,
             "gpurace: {name}: no stream in this folder: no file whose name ends in .gpurace"

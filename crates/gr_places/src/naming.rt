@@ -1,6 +1,6 @@
 //! The word of memory that a text as `NAME[INDEX]` says.
 
-ghost use Rattle.std.specs.Prelude.{◌≡◌, ℕ, MatchOption, map};
+ghost use Rattle.std.specs.Prelude.{◌≡◌, ◌≢◌, ℕ, ◌^◌, ◌<◌, ◌++◌, List, MatchOption, map};
 ghost use Rattle.gr_model.specs.declared.event.Word.{Word as AnyWord};
 ghost use Rattle.gr_places.specs.Naming as spec;
 ghost use Rattle.gr_places.specs.SideLines.{buffer_line, element};
@@ -9,13 +9,28 @@ use crate::buffers::{BufferLine, Element, element_of};
 use gr_lines::words::parse_number;
 use gr_model::event::Word;
 
+/// The bytes behind these at the front, if they stand there.
+fn behind<'a>(bytes: &'a [u8], front: &[u8]) -> Option<&'a [u8]>
+    ensures { MatchOption result ((rest : List ℕ) → bytes.entry.now ≢ front.now ++ rest) (λ rest. bytes.entry.now ≡ front.now ++ rest.now) }
+{
+    bytes.strip_prefix(front)
+}
+
+/// The bytes before these at the end, if they stand there.
+fn before<'a>(bytes: &'a [u8], end: &[u8]) -> Option<&'a [u8]>
+    ensures { MatchOption result ((rest : List ℕ) → bytes.entry.now ≢ rest ++ end.now) (λ rest. bytes.entry.now ≡ rest.now ++ end.now) }
+{
+    bytes.strip_suffix(end)
+}
+
 /// The index in a text that is this name with an index behind it.
 fn index_behind(name: &str, text: &str) -> Option<u32>
-    ensures { MatchOption result ((k : ℕ) → ¬ spec.IsText name.now k text.now) (λ k. spec.IsText name.now k text.now) }
+    ensures { MatchOption result ((k : ℕ) → k < 2 ^ 32 → ¬ spec.IsText name.now k text.now) (λ k. spec.IsText name.now k text.now) }
 {
-    let rest = text.as_bytes().strip_prefix(name.as_bytes())?;
-    let digits = rest.strip_prefix(b"[".as_slice())?;
-    parse_number(digits.strip_suffix(b"]".as_slice())?)
+    let indexed = behind(text.as_bytes(), name.as_bytes())?;
+    let closed = behind(indexed, b"[")?;
+    let digits = before(closed, b"]")?;
+    parse_number(digits)
 }
 
 /// The number behind the first by as many, if it is below 2^32 and one of so many.
