@@ -19,18 +19,17 @@ number_of (Local g n) = n
 
 -- the word's buffer and its place in it, by the first line that has it, are what the text says
 pub record IsSaid (lines : List BufferSaid) (text : List ℕ) (w : Word) : Type 0 where
-  pub name : List ℕ
-  pub index : ℕ
-  pub element : element_of lines w ≡ Some (record { name = name; index = index })
-  pub text : IsText name index text
+  pub said : ElementSaid
+  pub is_element : element_of lines w ≡ Some said
+  pub is_text : IsText said.name said.index text
   pub small : number_of w < 2 ^ 32
 
 -- the same, and the word is at this index of this line, which has this name
 pub record IsSaidIn (lines : List BufferSaid) (line : BufferSaid) (text : List ℕ) (w : Word) : Type 0 where
   pub index : ℕ
   pub at_index : index_in line w ≡ Some index
-  pub element : element_of lines w ≡ Some (record { name = line.name; index = index })
-  pub text : IsText line.name index text
+  pub is_element : element_of lines w ≡ Some (record { name = line.name; index = index })
+  pub is_text : IsText line.name index text
   pub small : number_of w < 2 ^ 32
 
 -- ---- how the word is found
@@ -48,6 +47,6 @@ abbrev pub word_at : BufferSaid → ℕ → Option Word
 word_at b k = word_from b.first b.words k
 
 -- a word of a buffer with this name and this index was found
-abbrev pub is_element : Option Element → List ℕ → ℕ → Bool
-is_element None name k = false
-is_element (Some e) name k = (e.index == k) && same e.name.now name
+abbrev pub is_same : Option Element → List ℕ → ℕ → Bool
+is_same None name k = false
+is_same (Some e) name k = (e.index == k) && same e.name.now name

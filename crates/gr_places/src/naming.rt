@@ -62,7 +62,7 @@ fn word_at(line: &BufferLine<'_>, index: u32) -> Option<Word>
 
 /// Whether a word of a buffer has this name and this index.
 fn is_element(found: Option<Element<'_>>, name: &str, index: u32) -> bool
-    ensures { result ≡ spec.is_element found name.now index }
+    ensures { result ≡ spec.is_same found.entry name.now index }
 {
     match found {
         None => false,
