@@ -8,9 +8,13 @@ use Rattle.gr_model.specs.declared.event.Word.TheVariants.{Global, Local}
 use Rattle.gr_places.specs.declared.buffers.Element.{Element}
 use Rattle.gr_places.specs.SideLines.{BufferSaid, ElementSaid, element_of, index_in}
 
+-- an index in brackets
+abbrev pub in_brackets : ℕ → List ℕ
+in_brackets k = 91 ∷ (decimal k ++ (93 ∷ []))
+
 -- the text is the name, and the index in brackets
 abbrev pub IsText : List ℕ → ℕ → List ℕ → Type 0
-IsText name k text = text ≡ name ++ 91 ∷ decimal k ++ 93 ∷ []
+IsText name k text = text ≡ name ++ in_brackets k
 
 -- the number of a word
 abbrev pub number_of : Word → ℕ
