@@ -11,6 +11,9 @@ RACE = header(0, 2) + access(0, 1, 0, 16) + access(1, 0, 0, 16) + END
 CUT_OFF = RACE[:31]
 TEXT = b"group 0 items 2 launch 7\n0 w g 16\n1 r g 16\nend\n"
 READ_FAULT = b"gpurace: read fault\n"
+NO_FILE = b"gpurace: missing: No such file or directory\n"
+NO_STREAM = b"gpurace: folder: no stream in this folder: no file whose name ends in .gpurace\n"
+IS_FOLDER = b"gpurace: folder: Is a directory\n"
 WRITE_FAULT = b"gpurace: write fault\n"
 
 # commands on standard input, and their status on a race
@@ -41,6 +44,11 @@ SIDES = ("explain --long g 16", "explain --long --json g 16", "races", "races --
 
 # words for which help or the version is written
 HELP = ("--help", "-h", "help", "--version", "replay --help", "help run")
+
+
+def read_fault(words, told):
+    """What a command says where a file can't be read, of which this is told: some say it in place of the line of the fault."""
+    return READ_FAULT + told if words.split()[0] in ("explain", "run") else told
 
 
 class FaultTest(ProgramTest):
@@ -109,21 +117,22 @@ class Inputs(FaultTest):
     def test_files_that_are_missing_or_can_not_be_read(self):
         for words in FILES:
             for names in (["missing"], ["folder"], ["cut", "missing"], ["race", "missing"], ["folder", "missing"]):
+                told = NO_FILE if "missing" in names else NO_STREAM
                 with self.subTest(words=words, names=names):
-                    self.assert_run(self.gpurace(*words.split(), *names), b"", 5, READ_FAULT)
+                    self.assert_run(self.gpurace(*words.split(), *names), b"", 5, read_fault(words, told))
 
     def test_a_file_that_is_refused_before_one_that_can_not_be_read(self):
         for words in FILES:
             if not words.startswith(("run", "check")):
                 with self.subTest(words=words):
-                    self.assert_run(self.gpurace(*words.split(), "cut", "folder"), b"", 5, READ_FAULT)
+                    self.assert_run(self.gpurace(*words.split(), "cut", "folder"), b"", 5, read_fault(words, NO_STREAM))
 
     def test_side_files_that_are_missing_or_can_not_be_read(self):
         for words in SIDES:
             for option in ("--places", "--buffers"):
-                for name in ("missing", "folder"):
+                for name, told in (("missing", NO_FILE), ("folder", IS_FOLDER)):
                     with self.subTest(words=words, option=option, name=name):
-                        self.assert_run(self.gpurace(*words.split(), option, name, "cut"), b"", 5, READ_FAULT)
+                        self.assert_run(self.gpurace(*words.split(), option, name, "cut"), b"", 5, read_fault(words, told))
 
     def test_files_are_read_from_standard_input(self):
         for words, status in FILES.items():
@@ -175,7 +184,7 @@ class Threads(FaultTest):
         for threads in range(3):
             with self.subTest(threads=threads):
                 self.assert_run(self.run_with_room_for(threads, 1, "cut"), b"", 4, b"gpurace: no thread\n")
-        self.assert_run(self.run_with_room_for(3, 1, "cut"), b"", 2, b"gpurace: stream 0: truncated\n")
+        self.assert_run(self.run_with_room_for(3, 1, "cut"), b"", 2, b"gpurace: stream 0: truncated\ngpurace: cut: stream 0, at its record 0\n")
 
     def test_room_for_each_thread(self):
         for workers in (1, 4):

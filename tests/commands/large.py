@@ -205,8 +205,9 @@ class Groups(ProgramTest):
         stream[12 + 63 * 20 + 11] = 1  # a word of its end
         self.put("group63", bytes(stream))
         fault = b"gpurace: stream 63: bad field 11\n"
-        self.assert_run(self.gpurace("run", *self.names), b"", 2, fault)
-        self.assert_run(self.gpurace("races", *self.names), b"", 2, fault)
+        told = fault + b"gpurace: group63: stream 63, at its record 63\n"
+        self.assert_run(self.gpurace("run", *self.names), b"", 2, told)
+        self.assert_run(self.gpurace("races", *self.names), b"", 2, told)
         wrong = "this byte of the record has a value that a record of its kind may not have there"
         right = "the bytes 4, 5 and 8 to 11 of an end are 0, since an end is of no work-item and has no word"
         text = f"file group63\nrecord 63 byte 1272\nwrong: {wrong}\nright: {right}\n"

@@ -22,13 +22,18 @@ exact for the trace: it names each word that has a race, each divergent barrier,
 release it names, and no other.";
 
 const AFTER_HELP: &str = "\
+Files: FILE is a file with one stream, a file with several, a folder as gpurace-record leaves it, or - for standard input.
+Without a command, `gpurace FILE..` reports on the trace in the files.
+
 Examples:
+  gpurace group0.gpurace group1.gpurace
   gpurace replay < trace.gpurace
   gpurace pack < trace.txt | gpurace replay
-  gpurace dump < trace.gpurace > trace.txt
+  gpurace dump trace.gpurace > trace.txt
   gpurace explain g 16 group0.gpurace group1.gpurace
   gpurace explain --long g 16 group0.gpurace group1.gpurace
-  gpurace races group0.gpurace group1.gpurace
+  gpurace explain --long launches/000-sum 'partial[10]'
+  gpurace races launches/000-sum
   gpurace history g 16 group0.gpurace group1.gpurace
   gpurace run --workers 4 group0.gpurace group1.gpurace
   gpurace check group0.gpurace group1.gpurace
@@ -43,18 +48,18 @@ Exit status:
   5  reading or writing failed";
 
 const REPLAY: &str =
-    "Reports on the trace on standard input, as in `replay < FILE`; done without a command too";
+    "Reports on the trace in files, as in `replay FILE..`, or on standard input; done without a command too";
 
 const AFTER_REPLAY: &str = "\
 Example:
-  cat group*.gpurace | gpurace replay
+  gpurace replay group*.gpurace
   gpurace 1
   groups 1 items 2 records 3
   race global 16
   end races 1 diverge 0 unmatched 0 held 0";
 
 const PACK: &str =
-    "Writes the bytes of the trace whose text is on standard input, as in `pack < TEXT > FILE`";
+    "Writes the bytes of the trace whose text is in a file, or on standard input, as in `pack < TEXT > FILE`";
 
 const AFTER_PACK: &str = "\
 Example, with a text of two work-items, of which item 0 writes word 16 of global memory and item 1 reads it:
@@ -64,10 +69,10 @@ Example, with a text of two work-items, of which item 0 writes word 16 of global
   1 r g 16
   end";
 
-const DUMP: &str = "Writes the text of the trace on standard input, as in `dump < FILE`";
+const DUMP: &str = "Writes the text of the trace in files, as in `dump FILE..`, or on standard input";
 
 const LONG_DUMP: &str = "\
-Writes the text of the trace on standard input, a line for each header and each record, as in `dump < FILE`.
+Writes the text of the trace in files, as in `dump FILE..`, or on standard input, a line for each header and each record.
 
 Of a trace that is refused nothing is written; with --partial the lines of all headers and records that stand before the fault
 are. The status is that of the fault either way, and standard error says where and why.";
@@ -82,7 +87,7 @@ Example:
 const PARTIAL: &str = "Writes of a trace that is refused what stands before the fault";
 
 const UPGRADE: &str =
-    "Writes the trace on standard input as streams of version 2, as in `upgrade < OLD > NEW`";
+    "Writes the trace in files, or on standard input, as streams of version 2, as in `upgrade < OLD > NEW`";
 
 const AFTER_UPGRADE: &str = "\
 Example:
@@ -104,7 +109,10 @@ word, and with --places the place in the source of each of these records and bar
 
 The pair is found without clocks, in time that grows with the accesses to the word times the records of the launch: a trace
 of 100,000 records takes seconds, one of a million may take minutes. Accesses that are held back by an unmatched acquire are
-not judged; what is held, and all else that is no race, replay and run tell.";
+not judged; what is held, and all else that is no race, replay and run tell.
+
+Where a file of buffers is given, or a folder has one, a word may be given by its name in place of SPACE and WORD, as in
+`gpurace explain FOLDER 'partial[10]'`.";
 
 const AFTER_EXPLAIN: &str = "\
 Examples:
@@ -143,7 +151,8 @@ const SPACE: &str =
 
 const WORD: &str = "The number of the word, below 4294967296";
 
-const FILES: &str = "The streams of the launch, one in each file";
+const FILES: &str =
+    "The streams of the launch: files with one or several, a folder of them, or - for standard input";
 
 const RACES: &str = "Tells of all races, kind by kind, with two accesses that race";
 
@@ -251,7 +260,7 @@ Tells of one word all accesses to it, in an order in which they may have happene
 ordered. Two accesses of different work-items of which neither is ordered behind the other race, unless both read or both are
 atomic with inclusive scope. Accesses that are held are left out.
 
-The accesses are told as GROUP ITEM INDEX; an item's records are counted from 0.";
+The accesses are told as GROUP ITEM INDEX; an item's records are counted from 0. A word may be given by its name, as of explain.";
 
 const AFTER_HISTORY: &str = "\
 Examples:

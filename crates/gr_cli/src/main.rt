@@ -1,16 +1,120 @@
 //! `gpurace`: reports the data races and the divergent barriers of an OpenCL kernel launch, from its trace.
 //!
-//! All that the program decides stands in `gr_command`; `main` hands in the words, standard input, output and error, and what
-//! opens a file.
+//! All that the program decides stands in `gr_command`. `main` hands in words, input, output and error, and what opens a file. What
+//! files stand for that people give (`plan`), and what is told beside the line of a fault (`told`), stands here.
 #![tactic(auto)]
 
+mod account;
+mod files;
+mod held;
+mod line;
+mod named;
+mod plan;
+mod progress;
+mod reading;
+mod refused;
+mod source;
+mod table;
+mod text_fault;
+mod told;
+mod watched;
+
+use crate::held::Held;
+use crate::plan::plan_of;
+use crate::reading::Reading;
+use crate::refused::refuse;
+use crate::table::Table;
+use crate::told::tell;
+use crate::watched::Cleared;
 use gr_command::execute::{execute, fail};
 use gr_command::status::USAGE;
+use gr_model::memory::Memory;
 use gr_record::fault::Fault;
-use std::fs::File;
-use std::io::{BufWriter, ErrorKind, Write};
+use std::alloc::Global;
+use std::io::{BufWriter, ErrorKind, IsTerminal, Write};
 use std::process::ExitCode;
+use std::sync::Wait;
+use std::thread::Threads;
+use std::time::Clock;
 use std::{env, io};
+
+/// The words behind the program's name. Where there are none, and a terminal would have to be typed on, they ask for help.
+fn words_or_help(
+    rt: HostRuntime,
+    alloc: Global,
+    words: Vec<String>,
+) -> Result<Vec<String>, Memory> {
+    let mut words = words;
+    if words.is_empty() && rt.stdin().is_terminal() {
+        words.push(String::from_str(alloc, "--help")?)?;
+    }
+    Ok(words)
+}
+
+/// The first word, or none.
+fn first_of(words: &[String]) -> &str {
+    match words.first() {
+        None => "",
+        Some(word) => word.as_str(),
+    }
+}
+
+/// Does what these words ask for, with this input, and gives the exit status. Only a run in threads uses `handle`.
+fn perform<H>(
+    handle: H,
+    rt: HostRuntime,
+    words: &[String],
+    reading: &mut Reading,
+    table: &Table,
+    errors: &mut Held,
+) -> u8
+where
+    H: Threads + Wait + Clock + Copy + Send + 'static,
+{
+    let alloc = rt.alloc();
+    let Ok(progress) = table.another_progress() else {
+        return fail(&Fault::Memory, errors);
+    };
+    let Ok(mut writer) = BufWriter::new(alloc, Cleared::new(io::writer(&rt), progress)) else {
+        return fail(&Fault::Memory, errors);
+    };
+    execute(
+        handle,
+        alloc,
+        words,
+        reading,
+        move |name| table.open_watched(rt, name),
+        &mut writer,
+        errors,
+    )
+}
+
+/// Does what the words of the command line ask for, and gives the exit status. Only a run in threads uses `handle`.
+fn run<H>(handle: H, rt: HostRuntime, words: &[String]) -> u8
+where
+    H: Threads + Wait + Clock + Copy + Send + 'static,
+{
+    let alloc = rt.alloc();
+    let mut plan = match plan_of(rt, alloc, words) {
+        Ok(plan) => plan,
+        Err(refusal) => return refuse(&refusal, &mut rt.stderr()),
+    };
+    if plan.watch(rt, alloc).is_err() {
+        return fail(&Fault::Memory, &mut rt.stderr());
+    }
+    let asked = match &plan.words {
+        None => words,
+        Some(asked) => asked.as_slice(),
+    };
+    let mut errors = Held::new(rt.stderr());
+    let (reading, table) = (&mut plan.reading, &plan.files.table);
+    let status = perform(handle, rt, asked, reading, table, &mut errors);
+    if let Some(progress) = &plan.files.table.progress {
+        progress.clear();
+    }
+    let _ = tell(rt, alloc, &mut plan, first_of(words), &mut errors);
+    status
+}
 
 fn main(rt: HostRuntime) -> ExitCode {
     let alloc = rt.alloc();
@@ -28,18 +132,8 @@ fn main(rt: HostRuntime) -> ExitCode {
     let Ok(words) = words.skip(1).collect::<Vec<String>>(alloc) else {
         return ExitCode::from(fail(&Fault::Memory, &mut errors));
     };
-    let Ok(mut writer) = BufWriter::new(alloc, io::writer(&rt)) else {
+    let Ok(words) = words_or_help(rt, alloc, words) else {
         return ExitCode::from(fail(&Fault::Memory, &mut errors));
     };
-    let mut reader = rt.stdin();
-    let status = execute(
-        rt,
-        alloc,
-        words.as_slice(),
-        &mut reader,
-        |name| File::open(&rt, name),
-        &mut writer,
-        &mut errors,
-    );
-    ExitCode::from(status)
+    ExitCode::from(run(rt, rt, words.as_slice()))
 }

@@ -2,3 +2,4 @@ pub mod IndexLemmas
 pub mod Reading
 pub mod OpeningLemmas
 pub mod FileLemmas
+pub mod NamingLemmas

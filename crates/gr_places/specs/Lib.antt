@@ -4,3 +4,4 @@ pub mod Sides
 pub mod FaultText
 pub mod Files
 pub mod Opening
+pub mod Naming

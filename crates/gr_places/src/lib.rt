@@ -9,6 +9,7 @@ pub mod fault;
 pub mod files;
 pub mod index;
 mod lines;
+pub mod naming;
 pub mod opening;
 pub mod places;
 pub mod sides;

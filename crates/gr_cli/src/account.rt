@@ -1,0 +1,263 @@
+//! What of the streams in a series of bytes was read: where each begins, and how many records there were.
+
+use gr_model::limits::MOST_GROUPS;
+use gr_model::memory::Memory;
+use gr_record::error::RecordError;
+use gr_record::header::Header;
+use gr_record::layout::HEADER_LENGTH;
+use gr_record::reading::read_event;
+use gr_record::stream::read_front_header;
+use std::alloc::Global;
+
+/// The first byte of a record that is an end; no record has a greater one.
+const END: u8 = 6;
+
+/// How many bytes say that a header begins.
+const MAGIC_LENGTH: usize = 4;
+
+/// How many streams are told apart, at most: one more than a launch may have.
+const MOST_STREAMS: usize = MOST_GROUPS + 1;
+
+/// How records are looked at.
+#[derive(Clone, Copy, PartialEq, Eq)]
+pub enum Look {
+    /// By their first byte alone.
+    Quick,
+    /// As whole records in the stream of this number, from 0, and up to its end; those before by their first byte.
+    Whole(u64),
+}
+
+/// What stands at the front of bytes.
+#[derive(Clone, Copy)]
+enum Front {
+    /// Fewer bytes than a header or a record has.
+    Little,
+    /// What is no header, or a record that is refused.
+    Refused,
+    /// A header.
+    Begins(Header),
+    /// A record of so many bytes.
+    Record(usize),
+    /// An end of so many bytes.
+    Ends(usize),
+}
+
+/// What was read of a series of bytes that has streams, one after another.
+#[derive(Drop)]
+pub struct Account {
+    /// Where each stream begins that was met.
+    pub starts: Vec<u64>,
+    /// How many records of the stream at hand were passed.
+    pub records: u64,
+    /// How many records were passed in all.
+    pub all_records: u64,
+    /// How many bytes were passed.
+    pub passed: u64,
+    /// Whether what stands next is not of a stream.
+    pub is_stopped: bool,
+    /// Whether that is the end of the stream that was looked at.
+    pub is_at_end: bool,
+    header: Option<Header>,
+    bytes: Vec<u8>,
+}
+
+/// Whether the bytes begin as a header does.
+pub fn begins_stream(bytes: &[u8]) -> bool {
+    match bytes.get(..MAGIC_LENGTH) {
+        None => false,
+        Some(magic) => magic == b"GRT1".as_slice() || magic == b"GRT2".as_slice(),
+    }
+}
+
+/// The header at the front of bytes.
+fn header_at(bytes: &[u8]) -> Front {
+    match read_front_header(bytes) {
+        Ok((header, _)) => Front::Begins(header),
+        Err(RecordError::Truncated) => Front::Little,
+        Err(_) => Front::Refused,
+    }
+}
+
+/// The record at the front of bytes, in the stream of this header.
+fn record_at(header: Header, bytes: &[u8], is_whole: bool) -> Front {
+    let length = header.version.record_length();
+    if bytes.len() < length {
+        return Front::Little;
+    }
+    let (record, _) = bytes.split_at(length);
+    if is_whole && read_event(header, record).is_err() {
+        return Front::Refused;
+    }
+    match record.first() {
+        None => Front::Little,
+        Some(kind) if *kind > END => Front::Refused,
+        Some(kind) if *kind == END => Front::Ends(length),
+        Some(_) => Front::Record(length),
+    }
+}
+
+impl Account {
+    /// The account of bytes of which none was read.
+    pub fn new(alloc: Global) -> Account {
+        Account {
+            starts: Vec::new(alloc),
+            records: 0,
+            all_records: 0,
+            passed: 0,
+            is_stopped: false,
+            is_at_end: false,
+            header: None,
+            bytes: Vec::new(alloc),
+        }
+    }
+
+    /// Takes bytes that were read, and passes what was taken before.
+    ///
+    /// # Errors
+    /// `Memory`: out of memory.
+    pub fn take(&mut self, piece: &[u8]) -> Result<(), Memory> {
+        self.pass(Look::Quick)?;
+        self.keep(piece)
+    }
+
+    /// Takes bytes that were read.
+    ///
+    /// # Errors
+    /// `Memory`: out of memory.
+    pub fn keep(&mut self, piece: &[u8]) -> Result<(), Memory> {
+        self.bytes.extend_from_slice(piece)?;
+        Ok(())
+    }
+
+    /// Passes the headers and records that are whole.
+    ///
+    /// # Errors
+    /// `Memory`: out of memory.
+    pub fn pass(&mut self, look: Look) -> Result<(), Memory> {
+        let mut at: usize = 0;
+        for _ in 0..self.bytes.len() {
+            let n = self.pass_front(at, look)?;
+            if n == 0 {
+                break;
+            }
+            at = at.saturating_add(n);
+        }
+        let at = at.min(self.bytes.len());
+        self.bytes.drain(..at);
+        Ok(())
+    }
+
+    /// Whether the records at hand are looked at as whole ones.
+    fn is_whole(&self, look: Look) -> bool {
+        match look {
+            Look::Quick => false,
+            Look::Whole(stream) => self.starts.len() as u64 > stream,
+        }
+    }
+
+    /// What stands at this place of the bytes at hand.
+    fn front(&self, at: usize, look: Look) -> Front {
+        let Some(rest) = self.bytes.get(at..) else {
+            return Front::Little;
+        };
+        match self.header {
+            None => header_at(rest),
+            Some(header) => record_at(header, rest, self.is_whole(look)),
+        }
+    }
+
+    /// Whether a stream begins at this place of the bytes at hand.
+    fn begins_at(&self, at: usize) -> bool {
+        match self.bytes.get(at..) {
+            None => false,
+            Some(rest) => self.header.is_none() && begins_stream(rest),
+        }
+    }
+
+    /// Notes that a stream begins here, once.
+    fn note_start(&mut self) -> Result<(), Memory> {
+        let is_noted = self.starts.last().copied() == Some(self.passed);
+        if !is_noted && self.starts.len() < MOST_STREAMS {
+            self.starts.push(self.passed)?;
+        }
+        Ok(())
+    }
+
+    /// Passes the header or the record at this place of the bytes at hand, and tells how long it is: 0 where none is passed.
+    fn pass_front(&mut self, at: usize, look: Look) -> Result<usize, Memory> {
+        if self.begins_at(at) {
+            self.note_start()?;
+        }
+        let n = match self.front(at, look) {
+            Front::Little => 0,
+            Front::Refused => {
+                self.is_stopped = true;
+                0
+            }
+            Front::Begins(header) => {
+                self.header = Some(header);
+                self.records = 0;
+                HEADER_LENGTH
+            }
+            Front::Record(length) => {
+                self.count();
+                length
+            }
+            Front::Ends(_) if self.is_whole(look) => {
+                self.is_stopped = true;
+                self.is_at_end = true;
+                0
+            }
+            Front::Ends(length) => {
+                self.count();
+                self.header = None;
+                length
+            }
+        };
+        self.passed = self.passed.saturating_add(n as u64);
+        Ok(n)
+    }
+
+    /// Counts a record.
+    fn count(&mut self) {
+        self.records = self.records.saturating_add(1);
+        self.all_records = self.all_records.saturating_add(1);
+    }
+
+    /// Whether a header stands next, and no record.
+    pub fn is_at_header(&self) -> bool {
+        self.header.is_none()
+    }
+
+    /// The bytes at hand.
+    pub fn bytes(&self) -> &[u8] {
+        self.bytes.as_slice()
+    }
+
+    /// Whether a header begins in the record that stands next.
+    pub fn has_header_inside(&self) -> bool {
+        let Some(header) = self.header else {
+            return false;
+        };
+        for at in 0..header.version.record_length() {
+            if is_header_from(self.bytes.as_slice(), at) {
+                return true;
+            }
+        }
+        false
+    }
+}
+
+/// Whether a header stands at this place; what is missing of it behind the bytes is taken for right.
+fn is_header_from(bytes: &[u8], at: usize) -> bool {
+    let Some(rest) = bytes.get(at..) else {
+        return false;
+    };
+    if !begins_stream(rest) {
+        return false;
+    }
+    match read_front_header(rest) {
+        Ok(_) | Err(RecordError::Truncated) => true,
+        Err(_) => false,
+    }
+}

@@ -1,0 +1,31 @@
+//! What is told where nothing is done about the words of a command line.
+
+use crate::plan::Refusal;
+use gr_command::execute::fail;
+use gr_command::status::{USAGE, status_of_sides_fault};
+use gr_places::sides_fault::{SidesFault, write_sides_fault};
+use std::io::Write;
+
+/// Tells why nothing is done, and gives the exit status. That standard error fails is passed over.
+pub fn refuse<E: Write>(refusal: &Refusal, errors: &mut E) -> u8 {
+    match refusal {
+        Refusal::Run(fault) => fail(fault, errors),
+        Refusal::BadBuffers(line) => {
+            let fault = SidesFault::Buffers(*line);
+            let _ = write_sides_fault(&fault, errors);
+            status_of_sides_fault(&fault)
+        }
+        Refusal::NoBuffers(name) => {
+            let _ = writeln!(
+                errors,
+                "error: {name} is the name of a word, and there is no file of buffers that says which: give a folder that has one, \
+                or --buffers FILE"
+            );
+            USAGE
+        }
+        Refusal::NoWord(name, buffers) => {
+            let _ = writeln!(errors, "error: no word is {name}, by the file of buffers {buffers}");
+            USAGE
+        }
+    }
+}

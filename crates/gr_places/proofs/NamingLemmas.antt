@@ -1,0 +1,241 @@
+-- Texts as NAME[INDEX], and the words of buffers that they say.
+use Rattle.std.proofs.Common.{◌≡◌, ◌≢◌, ℕ, ◌+◌, ◌-◌, ◌^◌, ◌<◌, ◌≤◌, Bool, true, false, cond, List, [], ◌∷◌, ◌++◌, Option, Some, None, refl, sym, ap, subst, ◌∙◌, length, arith, nat_eq, take, drop, get_or, map, MatchOption}
+use Rattle.std.specs.Prelude.{◌&&◌, decimal, nat_le, nat_lt}
+use Rattle.std.specs.List.{find}
+use Rattle.std.specs.Option.{is_some, option_map, option_and_then}
+use Rattle.std.specs.Cmp.Lexicographic.{pointwise, same_text, other_text}
+use Rattle.std.proofs.lemmas.Bool.{and_parts, eq-eqb, eqb-true, le-leb, leb-true, lt-ltb, ltb-true}
+use Rattle.std.proofs.lemmas.List.{append_cancel_left, append_cancel_right, drop_at, length-append, take-append-drop, take_at}
+use Rattle.gr_lines.specs.LineReading as reading
+use Rattle.gr_lines.proofs.LineNumbers.{chosen, number_back, number_found, same_is, same_self}
+use Rattle.gr_model.specs.declared.event.Word.{Word}
+use Rattle.gr_model.specs.declared.event.Word.TheVariants.{Global, Local}
+use Rattle.gr_places.specs.declared.buffers.BufferLine.{BufferLine}
+use Rattle.gr_places.specs.declared.buffers.Element.{Element}
+use Rattle.gr_places.specs.SideLines.{BufferSaid, ElementSaid, buffer_line, element, element_of, index_from, index_in, index_within}
+use Rattle.gr_places.proofs.Reading.{element_found, made}
+use Rattle.gr_places.specs.Naming.{IsSaid, IsSaidIn, IsText, in_brackets, is_same, number_at, number_of, word_at, word_from}
+
+-- ---- options
+
+pub match_more : {X : Type 0} (A B : Type 0) (P Q : X → Type 0) (o : Option X) → (A → B) → ((x : X) → P x → Q x) → MatchOption o A P → MatchOption o B Q
+match_more A B P Q None f g m = f m
+match_more A B P Q (Some x) f g m = g x m
+
+pub when_none : {X : Type 0} (A : Type 0) (P : X → Type 0) (o : Option X) → o ≡ None → MatchOption o A P → A
+when_none A P None e m = m
+when_none A P (Some x) e m = absurd cc
+
+pub when_some : {X : Type 0} (A : Type 0) (P : X → Type 0) (o : Option X) (x : X) → o ≡ Some x → MatchOption o A P → P x
+when_some A P None x e m = absurd cc
+when_some A P (Some y) x e m = let same : y ≡ x = cc in subst P same m
+
+pub is_none : {X : Type 0} (A : Type 0) (P : X → Type 0) (o : Option X) → o ≡ None → A → MatchOption o A P
+is_none A P None e a = a
+is_none A P (Some x) e a = absurd cc
+
+from_map : {X Y : Type 0} (g : X → Y) (o : Option X) (y : Y) → option_map g o ≡ Some y → (x : X) × (o ≡ Some x) × (g x ≡ y)
+from_map g None y e = absurd cc
+from_map g (Some x) y e = (x, refl, cc)
+
+chosen_of : {X : Type 0} (b : Bool) (o : Option X) (y : X) → cond b o None ≡ Some y → (b ≡ true) × (o ≡ Some y)
+chosen_of true o y e = (refl, e)
+chosen_of false o y e = absurd cc
+
+not_both : {X : Type 0} (o : Option X) (x : X) → o ≡ None → o ≡ Some x → ⊥
+not_both o x p q = absurd cc
+
+-- ---- bytes behind and before others
+
+pub no_front : (s p : List ℕ) → pointwise nat_eq (take (length p) s) p ≡ false → (rest : List ℕ) → s ≢ p ++ rest
+no_front s p e rest is = other_text (take (length p) s) p (sym e) (ap (take (length p)) is ∙ take_at p rest (length p) refl)
+
+pub front : (s p x : List ℕ) → pointwise nat_eq (take (length p) s) p ≡ true → x ≡ drop (length p) s → s ≡ p ++ x
+front s p x e is =
+    sym (take-append-drop (length p) s)
+    ∙ ap (λ (l : List ℕ). l ++ drop (length p) s) (same_text (take (length p) s) p (sym e))
+    ∙ ap (λ (l : List ℕ). p ++ l) (sym is)
+
+pub no_end : (s p : List ℕ) → pointwise nat_eq (drop (length s - length p) s) p ≡ false → (rest : List ℕ) → s ≢ rest ++ p
+no_end s p e rest is =
+    let many = ap (λ (l : List ℕ). length l) is ∙ length-append rest p in
+    other_text (drop (length s - length p) s) p (sym e) (ap (drop (length s - length p)) is ∙ drop_at rest p (length s - length p) (omega (arith, many)))
+
+pub end : (s p x : List ℕ) → pointwise nat_eq (drop (length s - length p) s) p ≡ true → x ≡ take (length s - length p) s → s ≡ x ++ p
+end s p x e is =
+    sym (take-append-drop (length s - length p) s)
+    ∙ ap (λ (l : List ℕ). take (length s - length p) s ++ l) (same_text (drop (length s - length p) s) p (sym e))
+    ∙ ap (λ (l : List ℕ). l ++ p) (sym is)
+
+-- ---- a name and an index
+
+-- behind the name stands the bracket
+pub not_open : (name text indexed : List ℕ) → text ≡ name ++ indexed → ((rest : List ℕ) → indexed ≢ (91 ∷ []) ++ rest) → (k : ℕ) → ¬ IsText name k text
+not_open name text indexed is none k t = none (decimal k ++ (93 ∷ [])) (append_cancel_left name indexed (in_brackets k) (sym is ∙ t))
+
+-- what stands behind the bracket
+pub behind_open : (name text indexed closed : List ℕ) → text ≡ name ++ indexed → indexed ≡ (91 ∷ []) ++ closed → (k : ℕ) → IsText name k text → closed ≡ decimal k ++ (93 ∷ [])
+behind_open name text indexed closed is opened k t =
+    append_cancel_left (91 ∷ []) closed (decimal k ++ (93 ∷ [])) (sym opened ∙ append_cancel_left name indexed (in_brackets k) (sym is ∙ t))
+
+-- the text is what its parts are
+pub is_whole : (name text indexed closed digits : List ℕ) (k : ℕ) → text ≡ name ++ indexed → indexed ≡ (91 ∷ []) ++ closed → closed ≡ digits ++ (93 ∷ []) → digits ≡ decimal k → IsText name k text
+is_whole name text indexed closed digits k is opened shut number =
+    let inner : closed ≡ decimal k ++ (93 ∷ []) = shut ∙ ap (λ (l : List ℕ). l ++ (93 ∷ [])) number in
+    let outer : indexed ≡ in_brackets k = opened ∙ ap (λ (l : List ℕ). 91 ∷ l) inner in
+    is ∙ ap (λ (l : List ℕ). name ++ l) outer
+
+-- a name with an index says one index
+pub one_index : (name text : List ℕ) (k j : ℕ) → k < 2 ^ 32 → j < 2 ^ 32 → IsText name k text → IsText name j text → k ≡ j
+one_index name text k j kl jl a b =
+    let both : in_brackets k ≡ in_brackets j = append_cancel_left name (in_brackets k) (in_brackets j) (sym a ∙ b) in
+    let closed : decimal k ++ (93 ∷ []) ≡ decimal j ++ (93 ∷ []) = append_cancel_left (91 ∷ []) (decimal k ++ (93 ∷ [])) (decimal j ++ (93 ∷ [])) both in
+    let digits = append_cancel_right (decimal k) (decimal j) (93 ∷ []) closed in
+    let some : Some k ≡ Some j = sym (number_back k kl) ∙ ap reading.number_of digits ∙ number_back j jl in
+    cc
+
+-- ---- a word and its place in a line
+
+within_found : (f words n k : ℕ) → index_within f words n ≡ Some k → (f ≤ n) × (n - f < words) × (n - f ≡ k)
+within_found f words n k e =
+    let c = chosen (nat_le f n && nat_lt (n - f) words) (n - f) k e in
+    let p = and_parts (nat_le f n) (nat_lt (n - f) words) c.0 in
+    (leb-true f n p.0, ltb-true (n - f) words p.1, c.1)
+
+number_made : (f words n k : ℕ) → index_within f words n ≡ Some k → n < 2 ^ 32 → number_at f words k ≡ Some n
+number_made f words n k e lt =
+    let w = within_found f words n k e in
+    let at = w.0 in let among = w.1 in let is = w.2 in
+    let sum : f + k ≡ n = omega (arith, at, is) in
+    rw (lt-ltb k words (omega (arith, among, is)), lt-ltb (f + k) (2 ^ 32) (omega (arith, sum, lt))) (ap (λ (m : ℕ). Some m) sum)
+
+index_made : (f words k n : ℕ) → number_at f words k ≡ Some n → (index_within f words n ≡ Some k) × (n < 2 ^ 32)
+index_made f words k n e =
+    let c = chosen (nat_lt k words && nat_lt (f + k) (2 ^ 32)) (f + k) n e in
+    let p = and_parts (nat_lt k words) (nat_lt (f + k) (2 ^ 32)) c.0 in
+    let among : k < words = ltb-true k words p.0 in
+    let small : f + k < 2 ^ 32 = ltb-true (f + k) (2 ^ 32) p.1 in
+    let is : f + k ≡ n = c.1 in
+    let back : n - f ≡ k = omega (arith, is) in
+    (rw (le-leb f n (omega (arith, is)), lt-ltb (n - f) words (omega (arith, among, back))) (ap (λ (m : ℕ). Some m) back), omega (arith, small, is))
+
+word_made : (first : Word) (words k : ℕ) (w : Word) → index_from first words w ≡ Some k → number_of w < 2 ^ 32 → word_from first words k ≡ Some w
+word_made (Global f) words k (Global n) e lt = ap (option_map Global) (number_made f words n k e lt)
+word_made (Global f) words k (Local h n) e lt = absurd cc
+word_made (Local g f) words k (Global n) e lt = absurd cc
+word_made (Local g f) words k (Local h n) e lt =
+    let c = chosen_of _ (index_within f words n) k e in
+    ap (option_map (Local g)) (number_made f words n k c.1 lt) ∙ ap (λ (it : ℕ). Some (Local it n)) (eqb-true g h c.0)
+
+pub word_of_index : (b : BufferSaid) (w : Word) (k : ℕ) → index_in b w ≡ Some k → number_of w < 2 ^ 32 → word_at b k ≡ Some w
+word_of_index b w k e lt = word_made b.first b.words k w e lt
+
+index_back : (first : Word) (words k : ℕ) (w : Word) → word_from first words k ≡ Some w → (index_from first words w ≡ Some k) × (number_of w < 2 ^ 32)
+index_back (Global f) words k w e =
+    let m = from_map Global (number_at f words k) w e in
+    subst (λ (v : Word). (index_from (Global f) words v ≡ Some k) × (number_of v < 2 ^ 32)) m.2 (index_made f words k m.0 m.1)
+index_back (Local g f) words k w e =
+    let m = from_map (Local g) (number_at f words k) w e in
+    let i = index_made f words k m.0 m.1 in
+    subst (λ (v : Word). (index_from (Local g f) words v ≡ Some k) × (number_of v < 2 ^ 32)) m.2 (rw (eq-eqb g g refl) i.0, i.1)
+
+pub index_of_word : (b : BufferSaid) (w : Word) (k : ℕ) → word_at b k ≡ Some w → (index_in b w ≡ Some k) × (number_of w < 2 ^ 32)
+index_of_word b w k e = index_back b.first b.words k w e
+
+index_below : (first : Word) (words k : ℕ) (w : Word) → index_from first words w ≡ Some k → number_of w < 2 ^ 32 → k < 2 ^ 32
+index_below (Global f) words k (Global n) e lt = let i = within_found f words n k e in let is = i.2 in omega (arith, is, lt)
+index_below (Global f) words k (Local h n) e lt = absurd cc
+index_below (Local g f) words k (Global n) e lt = absurd cc
+index_below (Local g f) words k (Local h n) e lt =
+    let c = chosen_of _ (index_within f words n) k e in
+    let i = within_found f words n k c.1 in let is = i.2 in omega (arith, is, lt)
+
+pub small_index : (b : BufferSaid) (w : Word) (k : ℕ) → index_in b w ≡ Some k → number_of w < 2 ^ 32 → k < 2 ^ 32
+small_index b w k e lt = index_below b.first b.words k w e lt
+
+-- ---- the buffer of a word
+
+-- what is the same is the element
+pub same_element : (o : Option Element) (name : List ℕ) (k : ℕ) → is_same o name k ≡ true → option_map element o ≡ Some (record { name = name; index = k })
+same_element None name k e = absurd cc
+same_element (Some it) name k e =
+    let p = and_parts _ _ e in
+    let n = same_is it.name.now name p.1 in
+    let i = eqb-true it.index k p.0 in
+    rw (n, i) refl
+
+-- the element is the same
+pub element_same : (o : Option Element) (name : List ℕ) (k : ℕ) → option_map element o ≡ Some (record { name = name; index = k }) → is_same o name k ≡ true
+element_same None name k e = absurd cc
+element_same (Some it) name k e =
+    let same : element it ≡ record { name = name; index = k } = cc in
+    let n : it.name.now ≡ name = ap (λ (x : ElementSaid). x.name) same in
+    let i : it.index ≡ k = ap (λ (x : ElementSaid). x.index) same in
+    rw (eq-eqb it.index k i, n, same_self name) refl
+
+-- a line that is found is one of them, and passes
+found_line : (test : BufferLine → Bool) (lines : List BufferLine) (b : BufferLine) → find test lines ≡ Some b → (j : ℕ) × (j < length lines) × ((d : BufferLine) → get_or lines j d ≡ b) × (test b ≡ true)
+found_line test [] b e = absurd cc
+found_line test (l ∷ lines) b e = here (test l) refl e (found_line test lines b)
+  where
+    here : (t : Bool) → test l ≡ t → cond t (Some l) (find test lines) ≡ Some b → (find test lines ≡ Some b → (j : ℕ) × (j < length lines) × ((d : BufferLine) → get_or lines j d ≡ b) × (test b ≡ true)) → (j : ℕ) × (j < length (l ∷ lines)) × ((d : BufferLine) → get_or (l ∷ lines) j d ≡ b) × (test b ≡ true)
+    here true is f again = let same : l ≡ b = cc in (0, omega arith, (λ d. same), subst (λ (it : BufferLine). test it ≡ true) same is)
+    here false is f again = let more = again f in let lt = more.1 in (more.0 + 1, omega (arith, lt), (λ d. more.2 d), more.3)
+
+-- ---- how an index is read
+
+pub read_index : (name text digits : List ℕ) (o : Option ℕ) → o ≡ reading.number_of digits → ((k : ℕ) → IsText name k text → digits ≡ decimal k) → ((k : ℕ) → digits ≡ decimal k → IsText name k text) → MatchOption o ((k : ℕ) → k < 2 ^ 32 → ¬ IsText name k text) (λ k. IsText name k text)
+read_index name text digits None is only whole = λ k lt t. not_both (reading.number_of digits) k (sym is) (ap reading.number_of (only k t) ∙ number_back k lt)
+read_index name text digits (Some n) is only whole = let found = number_found digits n (sym is) in whole n found.0
+
+-- ---- the word of a line
+
+pub no_index : (lines : List BufferSaid) (line : BufferSaid) (text : List ℕ) → ((k : ℕ) → k < 2 ^ 32 → ¬ IsText line.name k text) → (w : Word) → ¬ IsSaidIn lines line text w
+no_index lines line text none w s = none s.index (small_index line w s.index s.at_index s.small) s.is_text
+
+pub no_word : (lines : List BufferSaid) (line : BufferSaid) (text : List ℕ) (k : ℕ) → k < 2 ^ 32 → IsText line.name k text → word_at line k ≡ None → (w : Word) → ¬ IsSaidIn lines line text w
+no_word lines line text k lt t none w s =
+    let same = one_index line.name text s.index k (small_index line w s.index s.at_index s.small) lt s.is_text t in
+    not_both (word_at line k) w none (ap (word_at line) (sym same) ∙ word_of_index line w s.index s.at_index s.small)
+
+same_word : (o : Option Word) (v w : Word) → o ≡ Some v → o ≡ Some w → w ≡ v
+same_word o v w p q = cc
+
+false_true : (b : Bool) → b ≡ false → b ≡ true → ⊥
+false_true b p q = absurd cc
+
+pub other_word : (lines : List BufferSaid) (line : BufferSaid) (text : List ℕ) (k : ℕ) (v : Word) (o : Option Element) → k < 2 ^ 32 → IsText line.name k text → word_at line k ≡ Some v → option_map element o ≡ element_of lines v → is_same o line.name k ≡ false → (w : Word) → ¬ IsSaidIn lines line text w
+other_word lines line text k v o lt t at found other w s =
+    let same = one_index line.name text s.index k (small_index line w s.index s.at_index s.small) lt s.is_text t in
+    let word = same_word (word_at line k) v w at (ap (word_at line) (sym same) ∙ word_of_index line w s.index s.at_index s.small) in
+    let is : option_map element o ≡ Some (record { name = line.name; index = k }) =
+      found ∙ ap (element_of lines) (sym word) ∙ s.is_element ∙ ap (λ (i : ℕ). Some (record { name = line.name; index = i })) same in
+    false_true (is_same o line.name k) other (element_same o line.name k is)
+
+pub this_word : (lines : List BufferSaid) (line : BufferSaid) (text : List ℕ) (k : ℕ) (v : Word) (o : Option Element) → IsText line.name k text → word_at line k ≡ Some v → option_map element o ≡ element_of lines v → is_same o line.name k ≡ true → IsSaidIn lines line text v
+this_word lines line text k v o t at found same =
+    let i = index_of_word line v k at in
+    record { index = k; at_index = i.0; is_element = sym found ∙ same_element o line.name k same; is_text = t; small = i.1 }
+
+-- ---- the word of all lines
+
+pub said_whole : (lines : List BufferSaid) (line : BufferSaid) (text : List ℕ) (w : Word) → IsSaidIn lines line text w → IsSaid lines text w
+said_whole lines line text w s =
+    record { said = record { name = line.name; index = s.index }; is_element = s.is_element; is_text = s.is_text; small = s.small }
+
+and_then_some : {X Y : Type 0} (f : X → Option Y) (o : Option X) (y : Y) → option_and_then f o ≡ Some y → (x : X) × (o ≡ Some x) × (f x ≡ Some y)
+and_then_some f None y e = absurd cc
+and_then_some f (Some x) y e = (x, refl, e)
+
+abbrev has : Word → BufferLine → Bool
+has w l = is_some (index_in (buffer_line l) w)
+
+pub said_in_line : (lines : List BufferLine) (text : List ℕ) (w : Word) → IsSaid (map buffer_line lines) text w → (b : BufferLine) × (j : ℕ) × (j < length lines) × IsSaidIn (map buffer_line lines) (buffer_line (get_or lines j b)) text w
+said_in_line lines text w s =
+    let found = and_then_some (made w) (find (has w) lines) s.said (element_found lines w (find (has w) lines) refl ∙ s.is_element) in
+    let b = found.0 in
+    let at = from_map (λ (k : ℕ). record { name = b.name.now; index = k }) (index_in (buffer_line b) w) s.said found.2 in
+    let line = found_line (has w) lines b found.1 in
+    let here : IsSaidIn (map buffer_line lines) (buffer_line b) text w =
+      record { index = at.0; at_index = at.1; is_element = s.is_element ∙ ap (λ (e : ElementSaid). Some e) (sym at.2); is_text = subst (λ (e : ElementSaid). IsText e.name e.index text) (sym at.2) s.is_text; small = s.small } in
+    (b, line.0, line.1, subst (λ (l : BufferLine). IsSaidIn (map buffer_line lines) (buffer_line l) text w) (sym (line.2 b)) here)

@@ -1,0 +1,99 @@
+//! The word of memory that a text as `NAME[INDEX]` says.
+
+ghost use Rattle.std.specs.Prelude.{◌≡◌, ◌≢◌, ℕ, ◌^◌, ◌<◌, ◌++◌, List, MatchOption, map};
+ghost use Rattle.gr_model.specs.declared.event.Word.{Word as AnyWord};
+ghost use Rattle.gr_places.specs.Naming as spec;
+ghost use Rattle.gr_places.specs.SideLines.{buffer_line, element};
+
+use crate::buffers::{BufferLine, Element, element_of};
+use gr_lines::words::parse_number;
+use gr_model::event::Word;
+
+/// The bytes behind these at the front, if they stand there.
+fn behind<'a>(bytes: &'a [u8], front: &[u8]) -> Option<&'a [u8]>
+    ensures { MatchOption result ((rest : List ℕ) → bytes.entry.now ≢ front.now ++ rest) (λ rest. bytes.entry.now ≡ front.now ++ rest.now) }
+{
+    bytes.strip_prefix(front)
+}
+
+/// The bytes before these at the end, if they stand there.
+fn before<'a>(bytes: &'a [u8], end: &[u8]) -> Option<&'a [u8]>
+    ensures { MatchOption result ((rest : List ℕ) → bytes.entry.now ≢ rest ++ end.now) (λ rest. bytes.entry.now ≡ rest.now ++ end.now) }
+{
+    bytes.strip_suffix(end)
+}
+
+/// The index in a text that is this name with an index behind it.
+fn index_behind(name: &str, text: &str) -> Option<u32>
+    ensures { MatchOption result ((k : ℕ) → k < 2 ^ 32 → ¬ spec.IsText name.now k text.now) (λ k. spec.IsText name.now k text.now) }
+{
+    let indexed = behind(text.as_bytes(), name.as_bytes())?;
+    let closed = behind(indexed, b"[")?;
+    let digits = before(closed, b"]")?;
+    parse_number(digits)
+}
+
+/// The number behind the first by as many, if it is below 2^32 and one of so many.
+fn number_at(first: u32, words: u32, index: u32) -> Option<u32>
+    ensures { result ≡ spec.number_at first words index }
+{
+    if index < words {
+        first.checked_add(index)
+    } else {
+        None
+    }
+}
+
+/// The word at this place of a buffer, if it has one.
+fn word_at(line: &BufferLine<'_>, index: u32) -> Option<Word>
+    ensures { result ≡ spec.word_at (buffer_line line.now) index }
+{
+    match line.first {
+        Word::Global(first) => match number_at(first, line.words, index) {
+            None => None,
+            Some(number) => Some(Word::Global(number)),
+        },
+        Word::Local(group, first) => match number_at(first, line.words, index) {
+            None => None,
+            Some(number) => Some(Word::Local(group, number)),
+        },
+    }
+}
+
+/// Whether a word of a buffer has this name and this index.
+fn is_element(found: Option<Element<'_>>, name: &str, index: u32) -> bool
+    ensures { result ≡ spec.is_same found.entry name.now index }
+{
+    match found {
+        None => false,
+        Some(found) => found.index == index && found.name == name,
+    }
+}
+
+/// The word of this line that the text says, where the first line that has the word is one of this name.
+fn word_in<'a>(lines: &[BufferLine<'a>], line: &BufferLine<'a>, text: &str) -> Option<Word>
+    ensures { MatchOption result ((w : AnyWord) → ¬ spec.IsSaidIn (map buffer_line lines.now) (buffer_line line.now) text.now w) (λ w. spec.IsSaidIn (map buffer_line lines.now) (buffer_line line.now) text.now w) }
+{
+    let index = index_behind(line.name, text)?;
+    let word = word_at(line, index)?;
+    if is_element(element_of(lines, word), line.name, index) {
+        Some(word)
+    } else {
+        None
+    }
+}
+
+/// The word that a text as `NAME[INDEX]` says: one of which the buffer has this name, and the place in it is this index, in
+/// decimal digits without leading zeros. Of several, as those of local memory of several groups, it is one of the first line.
+/// `None` where no word is said so.
+pub fn word_said(lines: &[BufferLine<'_>], text: &str) -> Option<Word>
+    ensures { MatchOption result ((w : AnyWord) → ¬ spec.IsSaid (map buffer_line lines.now) text.now w) (λ w. spec.IsSaid (map buffer_line lines.now) text.now w) }
+{
+    for line in lines {
+        let word = word_in(lines, line, text);
+        if word.is_some() {
+            return word;
+        }
+    }
+    None
+}
