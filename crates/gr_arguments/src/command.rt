@@ -69,7 +69,8 @@ Example, with a text of two work-items, of which item 0 writes word 16 of global
   1 r g 16
   end";
 
-const DUMP: &str = "Writes the text of the trace in files, as in `dump FILE..`, or on standard input";
+const DUMP: &str =
+    "Writes the text of the trace in files, as in `dump FILE..`, or on standard input";
 
 const LONG_DUMP: &str = "\
 Writes the text of the trace in files, as in `dump FILE..`, or on standard input, a line for each header and each record.
@@ -147,7 +148,7 @@ With --long: a file of lines g FIRST WORDS NAME or l GROUP FIRST WORDS NAME: whi
 const JSON: &str = "Writes JSON, an object a line, in place of text";
 
 const SPACE: &str =
-    "g for global memory, or l with a group from 0 to 63, as l3, for its local memory";
+    "g for global memory, or l with a group from 0 to 65534, as l3, for its local memory";
 
 const WORD: &str = "The number of the word, below 4294967296";
 

@@ -18,7 +18,7 @@ pub fn number_of(text: &str) -> Option<u32>
     text.parse::<u32>().ok()
 }
 
-/// The group of a space of local memory: `l` and the group's number, from 0 to 63.
+/// The group of a space of local memory: `l` and the group's number, from 0 to 65534.
 pub fn group_of(space: &str) -> Option<u16>
     ensures { MatchOption result ((g : ℕ) → ¬ IsGroupOf space.now g) (λ g. IsGroupOf space.now g) }
 {
@@ -30,7 +30,7 @@ pub fn group_of(space: &str) -> Option<u16>
     }
 }
 
-/// The word that a space, `g` or `l` with a group from 0 to 63 as in `l3`, and a number name.
+/// The word that a space, `g` or `l` with a group from 0 to 65534 as in `l3`, and a number name.
 pub fn word_named(space: &str, number: &str) -> Option<Word>
     ensures { MatchOption result ((w : AnyWord) → ¬ Names space.now number.now w) (λ w. Names space.now number.now w) }
 {

@@ -65,7 +65,12 @@ pub struct Account {
 pub fn begins_stream(bytes: &[u8]) -> bool {
     match bytes.get(..MAGIC_LENGTH) {
         None => false,
-        Some(magic) => magic == b"GRT1".as_slice() || magic == b"GRT2".as_slice(),
+        Some(magic) => {
+            magic == b"GRT1".as_slice()
+                || magic == b"GRT2".as_slice()
+                || magic == b"GRT3".as_slice()
+                || magic == b"GRT4".as_slice()
+        }
     }
 }
 

@@ -19,7 +19,9 @@ pub struct Watched {
 /// How many records as many bytes of a stream of this version have.
 fn records_in(version: Version, bytes: u64) -> u64 {
     let records = bytes.saturating_sub(HEADER_LENGTH as u64);
-    records.checked_div(version.record_length() as u64).unwrap_or(0)
+    records
+        .checked_div(version.record_length() as u64)
+        .unwrap_or(0)
 }
 
 impl Watched {
@@ -38,7 +40,8 @@ impl Watched {
         let Some(progress) = &self.progress else {
             return;
         };
-        if self.read == 0 && piece.starts_with(b"GRT2") {
+        if self.read == 0 && (piece.starts_with(b"GRT2") || piece.starts_with(b"GRT4")) {
+            // version 4 has records of the same length
             self.version = Version::Two;
         }
         let before = records_in(self.version, self.read);

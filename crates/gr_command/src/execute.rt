@@ -49,7 +49,7 @@ use std::thread::Threads;
 use std::time::Clock;
 
 const MISNAMED: &[u8] = b"\
-error: SPACE and WORD name no word of memory: SPACE is g, or l with a group from 0 to 63 as in l3, and WORD is a number \
+error: SPACE and WORD name no word of memory: SPACE is g, or l with a group from 0 to 65534 as in l3, and WORD is a number \
 below 4294967296 in decimal digits\n\n\
 Usage: gpurace explain [OPTIONS] <SPACE> <WORD> <FILE>...\n\n\
 For more information, try '--help'.\n";
@@ -65,7 +65,7 @@ Usage: gpurace races [OPTIONS] <FILE>...\n\n\
 For more information, try '--help'.\n";
 
 const UNNAMED: &[u8] = b"\
-error: SPACE and WORD name no word of memory: SPACE is g, or l with a group from 0 to 63 as in l3, and WORD is a number \
+error: SPACE and WORD name no word of memory: SPACE is g, or l with a group from 0 to 65534 as in l3, and WORD is a number \
 below 4294967296 in decimal digits\n\n\
 Usage: gpurace history [OPTIONS] <SPACE> <WORD> <FILE>...\n\n\
 For more information, try '--help'.\n";
