@@ -22,7 +22,7 @@ FILES = ("explain g 16", "explain --long g 16", "races", "races --causes", "hist
 JSON = ("explain --json g 16", "explain --long --json g 16", "races --json", "races --json --causes", "run --json", "check --json", "history --json g 16", "why-held --json 0 0 0")
 
 # words for which help is written, and words that are no command's
-WORDS = ("--help", "help run", "--version", "--quiet", "explain l64 16 race", "run --workers many race")
+WORDS = ("--help", "help run", "--version", "--quiet", "explain l65535 16 race", "run --workers many race")
 
 # more than any of them allocates
 MOST = 5_000

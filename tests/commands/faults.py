@@ -96,7 +96,7 @@ class Outputs(FaultTest):
                 self.assert_run(self.gpurace(*words, stdout=full), None, 5, WRITE_FAULT)
 
     def test_errors_that_can_not_be_told_keep_their_status(self):
-        for words, given, status in ((["--quiet"], b"", 3), (["explain", "l64", "16", "race"], b"", 3), (["replay"], CUT_OFF, 2)):
+        for words, given, status in ((["--quiet"], b"", 3), (["explain", "l65535", "16", "race"], b"", 3), (["replay"], CUT_OFF, 2)):
             with self.subTest(words=words), open("/dev/full", "wb") as full:
                 self.assert_run(self.gpurace(*words, given=given, stdout=full, stderr=full), None, status, None)
 
