@@ -14,7 +14,7 @@ pub(crate) struct Told {
     pub(crate) cut: [Option<u16>; 2],
     pub(crate) held: u64,
     pub(crate) groups: u16,
-    pub(crate) items: u16,
+    pub(crate) items: u32,
     pub(crate) records: u64,
 }
 
