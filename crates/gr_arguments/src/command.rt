@@ -69,7 +69,8 @@ Example, with a text of two work-items, of which item 0 writes word 16 of global
   1 r g 16
   end";
 
-const DUMP: &str = "Writes the text of the trace in files, as in `dump FILE..`, or on standard input";
+const DUMP: &str =
+    "Writes the text of the trace in files, as in `dump FILE..`, or on standard input";
 
 const LONG_DUMP: &str = "\
 Writes the text of the trace in files, as in `dump FILE..`, or on standard input, a line for each header and each record.

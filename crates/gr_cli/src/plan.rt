@@ -303,8 +303,18 @@ fn push_path(
 fn sides_of(alloc: Global, line: &Line<'_>, files: &Files) -> Result<Vec<String>, Memory> {
     let mut sides = Vec::new(alloc);
     if takes_sides(line) {
-        push_path(alloc, &mut sides, line.value_of("--places"), files.places.as_ref())?;
-        push_path(alloc, &mut sides, line.value_of("--buffers"), files.buffers.as_ref())?;
+        push_path(
+            alloc,
+            &mut sides,
+            line.value_of("--places"),
+            files.places.as_ref(),
+        )?;
+        push_path(
+            alloc,
+            &mut sides,
+            line.value_of("--buffers"),
+            files.buffers.as_ref(),
+        )?;
     }
     Ok(sides)
 }

@@ -65,9 +65,15 @@ impl Progress {
     fn tell(&self, passed: u64) -> io::Result<()> {
         let bytes = self.bytes.load(Ordering::SeqCst);
         let records = self.records.load(Ordering::SeqCst);
-        let rate = records.saturating_mul(1000).checked_div(passed).unwrap_or(0);
+        let rate = records
+            .saturating_mul(1000)
+            .checked_div(passed)
+            .unwrap_or(0);
         let alloc = self.rt.alloc();
-        let part = match self.total.and_then(|total| bytes.saturating_mul(100).checked_div(total)) {
+        let part = match self
+            .total
+            .and_then(|total| bytes.saturating_mul(100).checked_div(total))
+        {
             None => String::new(alloc),
             Some(part) => format!(in alloc; ", {part} %")?,
         };

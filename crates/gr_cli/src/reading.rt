@@ -48,11 +48,7 @@ impl Reading {
             } else {
                 Some(Account::new(alloc))
             },
-            text: if is_text {
-                Some(Vec::new(alloc))
-            } else {
-                None
-            },
+            text: if is_text { Some(Vec::new(alloc)) } else { None },
             progress: None,
         }
     }

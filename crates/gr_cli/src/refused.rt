@@ -24,7 +24,10 @@ pub fn refuse<E: Write>(refusal: &Refusal, errors: &mut E) -> u8 {
             USAGE
         }
         Refusal::NoWord(name, buffers) => {
-            let _ = writeln!(errors, "error: no word is {name}, by the file of buffers {buffers}");
+            let _ = writeln!(
+                errors,
+                "error: no word is {name}, by the file of buffers {buffers}"
+            );
             USAGE
         }
     }

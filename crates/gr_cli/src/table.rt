@@ -125,11 +125,13 @@ impl Table {
     pub fn size_of(&self, rt: HostRuntime, name: &str) -> Option<u64> {
         match self.origin_of(name) {
             None => file_size(rt, name),
-            Some(Origin::Kept {
-                bytes: _,
-                start,
-                end,
-            }) => Some(end.saturating_sub(*start) as u64),
+            Some(
+                Origin::Kept {
+                    bytes: _,
+                    start,
+                    end,
+                },
+            ) => Some(end.saturating_sub(*start) as u64),
             Some(Origin::Part { path, start, end }) => {
                 let end = match end {
                     None => file_size(rt, path.as_str())?,

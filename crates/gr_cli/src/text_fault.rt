@@ -304,7 +304,10 @@ fn put_shown<W: Write>(writer: &mut W, word: &[u8]) -> io::Result<()> {
 /// Those of the writer.
 pub fn tell_word<W: Write>(writer: &mut W, line: u64, bad: &BadLine<'_>) -> io::Result<()> {
     let Some(found) = bad_word(bad) else {
-        return writeln!(writer, "gpurace: line {line}: its names do not ascend by group, item and number");
+        return writeln!(
+            writer,
+            "gpurace: line {line}: its names do not ascend by group, item and number"
+        );
     };
     let number = found.number;
     write!(writer, "gpurace: line {line}, word {number}: ")?;

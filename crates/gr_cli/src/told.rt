@@ -148,7 +148,10 @@ fn put_spot<W: Write>(
         } else if account.is_at_header() {
             writeln!(errors, "gpurace: {name}: stream {stream}, at its header")?;
         } else {
-            writeln!(errors, "gpurace: {name}: stream {stream}, at its record {record}")?;
+            writeln!(
+                errors,
+                "gpurace: {name}: stream {stream}, at its record {record}"
+            )?;
         }
     }
     if account.has_header_inside() {
@@ -166,8 +169,14 @@ fn put_text<W: Write>(errors: &mut W, name: Option<&str>, bytes: &[u8]) -> io::R
         return Ok(());
     }
     match name {
-        None => writeln!(errors, "gpurace: the input is a text, of which gpurace pack makes a trace"),
-        Some(name) => writeln!(errors, "gpurace: {name} is a text, of which gpurace pack makes a trace"),
+        None => writeln!(
+            errors,
+            "gpurace: the input is a text, of which gpurace pack makes a trace"
+        ),
+        Some(name) => writeln!(
+            errors,
+            "gpurace: {name} is a text, of which gpurace pack makes a trace"
+        ),
     }
 }
 
@@ -257,7 +266,10 @@ fn tell_line<W: Write>(plan: &Plan, errors: &mut W, number: u64) -> io::Result<(
         return Ok(());
     };
     if begins_stream(text.as_slice()) {
-        return writeln!(errors, "gpurace: the input is a trace already, and no text of one");
+        return writeln!(
+            errors,
+            "gpurace: the input is a trace already, and no text of one"
+        );
     }
     match bad_line(text.as_slice(), number) {
         None => Ok(()),

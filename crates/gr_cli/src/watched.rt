@@ -19,7 +19,9 @@ pub struct Watched {
 /// How many records as many bytes of a stream of this version have.
 fn records_in(version: Version, bytes: u64) -> u64 {
     let records = bytes.saturating_sub(HEADER_LENGTH as u64);
-    records.checked_div(version.record_length() as u64).unwrap_or(0)
+    records
+        .checked_div(version.record_length() as u64)
+        .unwrap_or(0)
 }
 
 impl Watched {

@@ -215,7 +215,7 @@ other_word lines line text k v o lt t at found other w s =
     let same = one_index line.name text s.index k (small_index line w s.index s.at_index s.small) lt s.is_text t in
     let word = same_word (word_at line k) v w at (ap (word_at line) (sym same) ∙ word_of_index line w s.index s.at_index s.small) in
     let is : option_map element o ≡ Some (record { name = line.name; index = k }) =
-      found ∙ ap (element_of lines) (sym word) ∙ s.is_element ∙ ap (λ (i : ℕ). Some (record { name = line.name; index = i })) same in
+    found ∙ ap (element_of lines) (sym word) ∙ s.is_element ∙ ap (λ (i : ℕ). Some (record { name = line.name; index = i })) same in
     false_true (is_same o line.name k) other (element_same o line.name k is)
 
 pub this_word : (lines : List BufferSaid) (line : BufferSaid) (text : List ℕ) (k : ℕ) (v : Word) (o : Option Element) → IsText line.name k text → word_at line k ≡ Some v → option_map element o ≡ element_of lines v → is_same o line.name k ≡ true → IsSaidIn lines line text v
@@ -243,7 +243,7 @@ said_in_line lines text w s =
     let at = from_map (λ (k : ℕ). record { name = b.name.now; index = k }) (index_in (buffer_line b) w) s.said found.2 in
     let line = found_line (has w) lines b found.1 in
     let here : IsSaidIn (map buffer_line lines) (buffer_line b) text w =
-      record { index = at.0; at_index = at.1; is_element = s.is_element ∙ ap (λ (e : ElementSaid). Some e) (sym at.2); is_text = subst (λ (e : ElementSaid). IsText e.name e.index text) (sym at.2) s.is_text; small = s.small } in
+    record { index = at.0; at_index = at.1; is_element = s.is_element ∙ ap (λ (e : ElementSaid). Some e) (sym at.2); is_text = subst (λ (e : ElementSaid). IsText e.name e.index text) (sym at.2) s.is_text; small = s.small } in
     (b, line.0, line.1, subst (λ (l : BufferLine). IsSaidIn (map buffer_line lines) (buffer_line l) text w) (sym (line.2 b)) here)
 
 pub no_option : {X : Type 0} (o : Option X) → is_some o ≡ false → o ≡ None

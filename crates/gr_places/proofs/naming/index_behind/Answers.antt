@@ -29,5 +29,5 @@ returns c =
     let opened = when_some _ _ c.behind-2.result _ c.in_ok-closed.was c.behind-2.ensures in
     let shut = when_some _ _ c.before-2.result _ c.in_ok-digits.was c.before-2.ensures in
     read_index c.args.name.now c.args.text.now digits c.parse_number.result c.parse_number.ensures
-      (λ k t. append_cancel_right digits (decimal k) (93 ∷ []) (sym shut ∙ behind_open c.args.name.now c.args.text.now indexed closed named opened k t))
-      (λ k number. is_whole c.args.name.now c.args.text.now indexed closed digits k named opened shut number)
+    (λ k t. append_cancel_right digits (decimal k) (93 ∷ []) (sym shut ∙ behind_open c.args.name.now c.args.text.now indexed closed named opened k t))
+    (λ k number. is_whole c.args.name.now c.args.text.now indexed closed digits k named opened shut number)
