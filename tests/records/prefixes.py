@@ -7,26 +7,30 @@ TRUNCATED = b"gpurace: stream 0: truncated\n"
 
 
 class Prefixes(ProgramTest):
-    def assert_refused(self, stream, commands):
-        """Each beginning of a stream, but none of it and all of it, is refused as truncated by these commands and by `run`."""
+    def assert_refused(self, stream, size, commands):
+        """Each beginning of a stream with records of this size, but none of it and all of it, is refused as truncated by these commands and by
+        `run`."""
         for length in range(1, len(stream)):
             with self.subTest(bytes=length):
                 for command in commands:
                     self.assert_run(self.gpurace(command, given=stream[:length]), b"", 2, TRUNCATED)
-                self.assert_run(self.gpurace("run", self.put("stream", stream[:length])), b"", 2, TRUNCATED)
+                self.put("stream", stream[:length])
+                where = f"record {(length - 12) // size}" if length >= 12 else "header"
+                self.assert_run(self.gpurace("run", "stream"), b"", 2, TRUNCATED + f"gpurace: stream: stream 0, at its {where}\n".encode())
 
     def test_each_prefix_of_a_race(self):
         stream = pack(RACE.decode())
         self.assertEqual(len(stream), 72)
-        self.assert_refused(stream, ("replay", "dump", "upgrade"))
+        self.assert_refused(stream, 20, ("replay", "dump", "upgrade"))
 
     def test_each_prefix_in_version_2(self):
         stream = pack(RACE.decode().replace("launch 7", "launch 7 v2"))
         self.assertEqual(len(stream), 144)
-        self.assert_refused(stream, ("replay",))
+        self.assert_refused(stream, 44, ("replay",))
 
     def test_a_file_of_nothing_is_no_stream(self):
-        self.assert_run(self.gpurace("run", self.put("stream", b"")), b"", 2, TRUNCATED)
+        self.put("stream", b"")
+        self.assert_run(self.gpurace("run", "stream"), b"", 2, TRUNCATED + b"gpurace: stream: stream 0, at its header\n")
 
     def test_the_lines_before_the_break_are_dumped_in_part(self):
         stream = pack(RACE.decode())

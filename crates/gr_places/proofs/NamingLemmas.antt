@@ -1,5 +1,5 @@
 -- Texts as NAME[INDEX], and the words of buffers that they say.
-use Rattle.std.proofs.Common.{◌≡◌, ◌≢◌, ℕ, ◌+◌, ◌-◌, ◌^◌, ◌<◌, ◌≤◌, Bool, true, false, cond, List, [], ◌∷◌, ◌++◌, Option, Some, None, refl, sym, ap, subst, ◌∙◌, length, arith, nat_eq, take, drop, get_or, map, MatchOption}
+use Rattle.std.proofs.Common.{◌≡◌, ◌≢◌, ℕ, suc, ◌+◌, ◌-◌, ◌^◌, ◌<◌, ◌≤◌, Bool, true, false, cond, List, [], ◌∷◌, ◌++◌, Option, Some, None, refl, sym, ap, subst, ◌∙◌, length, arith, nat_eq, take, drop, get_or, map, MatchOption}
 use Rattle.std.specs.Prelude.{◌&&◌, decimal, nat_le, nat_lt}
 use Rattle.std.specs.List.{find}
 use Rattle.std.specs.Option.{is_some, option_map, option_and_then}
@@ -164,6 +164,12 @@ same_element (Some it) name k e =
     let i = eqb-true it.index k p.0 in
     rw (n, i) refl
 
+-- what a test of both parts answers
+pub same_when : (o : Option Element) (it : Element) (name : List ℕ) (k : ℕ) (r : Bool) → o ≡ Some it → nat_eq it.index k ≡ true → r ≡ pointwise nat_eq it.name.now name → r ≡ is_same o name k
+unfolding reading.same
+same_when None it name k r e i is = absurd cc
+same_when (Some x) it name k r e i is = let same : x ≡ it = cc in subst (λ (y : Element). r ≡ is_same (Some y) name k) (sym same) (rw i is)
+
 -- the element is the same
 pub element_same : (o : Option Element) (name : List ℕ) (k : ℕ) → option_map element o ≡ Some (record { name = name; index = k }) → is_same o name k ≡ true
 element_same None name k e = absurd cc
@@ -180,7 +186,7 @@ found_line test (l ∷ lines) b e = here (test l) refl e (found_line test lines 
   where
     here : (t : Bool) → test l ≡ t → cond t (Some l) (find test lines) ≡ Some b → (find test lines ≡ Some b → (j : ℕ) × (j < length lines) × ((d : BufferLine) → get_or lines j d ≡ b) × (test b ≡ true)) → (j : ℕ) × (j < length (l ∷ lines)) × ((d : BufferLine) → get_or (l ∷ lines) j d ≡ b) × (test b ≡ true)
     here true is f again = let same : l ≡ b = cc in (0, omega arith, (λ d. same), subst (λ (it : BufferLine). test it ≡ true) same is)
-    here false is f again = let more = again f in let lt = more.1 in (more.0 + 1, omega (arith, lt), (λ d. more.2 d), more.3)
+    here false is f again = let more = again f in let lt = more.1 in (suc more.0, omega (arith, lt), (λ d. more.2 d), more.3)
 
 -- ---- how an index is read
 
@@ -239,3 +245,7 @@ said_in_line lines text w s =
     let here : IsSaidIn (map buffer_line lines) (buffer_line b) text w =
     record { index = at.0; at_index = at.1; is_element = s.is_element ∙ ap (λ (e : ElementSaid). Some e) (sym at.2); is_text = subst (λ (e : ElementSaid). IsText e.name e.index text) (sym at.2) s.is_text; small = s.small } in
     (b, line.0, line.1, subst (λ (l : BufferLine). IsSaidIn (map buffer_line lines) (buffer_line l) text w) (sym (line.2 b)) here)
+
+pub no_option : {X : Type 0} (o : Option X) → is_some o ≡ false → o ≡ None
+no_option None e = refl
+no_option (Some x) e = absurd cc
