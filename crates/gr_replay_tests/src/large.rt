@@ -94,7 +94,7 @@ fn greatest_launch(alloc: Global) -> Result<String, AllocError> {
 }
 
 /// How many groups, items and records are reported of these traces, and whether word 16 alone races.
-fn reported(alloc: Global, traces: &Traces) -> Option<(u16, u16, u64, bool)> {
+fn reported(alloc: Global, traces: &Traces) -> Option<(u16, u32, u64, bool)> {
     let report = detect(alloc, traces).ok()?;
     let is_raced = report.races.as_slice() == [Word::Global(16)].as_slice();
     Some((report.groups, report.items, report.records, is_raced))

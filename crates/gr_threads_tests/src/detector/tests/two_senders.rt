@@ -64,7 +64,7 @@ pub(crate) fn names_the_shared_words<A: Allocator>(report: &Report<A>) -> bool {
 
 /// What the report of the two senders tells: how many groups, items and records there are, whether its races are those of
 /// the shared words, and whether it is the report of `detect`.
-type Told = (u16, u16, u64, bool, bool);
+type Told = (u16, u32, u64, bool, bool);
 
 /// What a report of the two senders tells.
 fn told(alloc: Global, report: &Report) -> Result<Told, Fail> {
