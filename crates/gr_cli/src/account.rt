@@ -57,6 +57,8 @@ pub struct Account {
     pub is_stopped: bool,
     /// Whether that is the end of the stream that was looked at.
     pub is_at_end: bool,
+    /// Whether each record is looked at as a whole one.
+    judges: bool,
     header: Option<Header>,
     bytes: Vec<u8>,
 }
@@ -102,8 +104,8 @@ fn record_at(header: Header, bytes: &[u8], is_whole: bool) -> Front {
 }
 
 impl Account {
-    /// The account of bytes of which none was read.
-    pub fn new(alloc: Global) -> Account {
+    /// The account of bytes of which none was read. Where it judges, records are looked at as whole ones, whatever the look.
+    pub fn new(alloc: Global, judges: bool) -> Account {
         Account {
             starts: Vec::new(alloc),
             records: 0,
@@ -111,6 +113,7 @@ impl Account {
             passed: 0,
             is_stopped: false,
             is_at_end: false,
+            judges,
             header: None,
             bytes: Vec::new(alloc),
         }
@@ -122,6 +125,9 @@ impl Account {
     /// `Memory`: out of memory.
     pub fn take(&mut self, piece: &[u8]) -> Result<(), Memory> {
         self.pass(Look::Quick)?;
+        if self.is_stopped {
+            return Ok(());
+        }
         self.keep(piece)
     }
 
@@ -152,8 +158,8 @@ impl Account {
         Ok(())
     }
 
-    /// Whether the records at hand are looked at as whole ones.
-    fn is_whole(&self, look: Look) -> bool {
+    /// Whether the look ends with the stream at hand.
+    fn ends_here(&self, look: Look) -> bool {
         match look {
             Look::Quick => false,
             Look::Whole(stream) => self.starts.len() as u64 > stream,
@@ -167,7 +173,7 @@ impl Account {
         };
         match self.header {
             None => header_at(rest),
-            Some(header) => record_at(header, rest, self.is_whole(look)),
+            Some(header) => record_at(header, rest, self.judges || self.ends_here(look)),
         }
     }
 
@@ -208,7 +214,7 @@ impl Account {
                 self.count();
                 length
             }
-            Front::Ends(_) if self.is_whole(look) => {
+            Front::Ends(_) if self.ends_here(look) => {
                 self.is_stopped = true;
                 self.is_at_end = true;
                 0

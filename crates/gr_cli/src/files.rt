@@ -74,7 +74,7 @@ fn fault_of(error: &io::Error) -> Fault {
 /// # Errors
 /// `Read` where the reader fails; `Memory`.
 fn starts_of<R: Read>(alloc: Global, reader: &mut R) -> Result<Vec<u64>, Fault> {
-    let mut account = Account::new(alloc);
+    let mut account = Account::new(alloc, false);
     let mut piece = [0u8; PIECE_LENGTH];
     for _ in 0..u64::MAX {
         match reader.read(&mut piece) {

@@ -4,7 +4,7 @@ use crate::files::{Files, Kind, kind_of, paths_of_streams};
 use crate::line::{Line, Taking, is_option, taking_of};
 use crate::named::{Naming, Unnamed, naming_in, word_in};
 use crate::progress::Progress;
-use crate::reading::Reading;
+use crate::reading::{Keeping, Reading};
 use crate::source::Source;
 use crate::table::file_size;
 use clap::error::ErrorKind;
@@ -79,17 +79,17 @@ fn line_of<'a>(
 }
 
 /// The input of a command without files: standard input.
-fn standard_input(rt: HostRuntime, alloc: Global, is_text: bool) -> Result<Reading, Memory> {
+fn standard_input(rt: HostRuntime, alloc: Global, keeping: Keeping) -> Result<Reading, Memory> {
     let mut sources = Vec::new(alloc);
     sources.push(Source::Input(rt.stdin()))?;
-    Ok(Reading::new(alloc, sources, is_text))
+    Ok(Reading::new(alloc, sources, keeping))
 }
 
 /// What is done about words that are left as they are.
-fn as_given(rt: HostRuntime, alloc: Global, is_text: bool) -> Result<Plan, Memory> {
+fn as_given(rt: HostRuntime, alloc: Global, keeping: Keeping) -> Result<Plan, Memory> {
     Ok(Plan {
         words: None,
-        reading: standard_input(rt, alloc, is_text)?,
+        reading: standard_input(rt, alloc, keeping)?,
         given: Vec::new(alloc),
         files: Files::new(alloc),
         sides: Vec::new(alloc),
@@ -102,7 +102,7 @@ fn as_given(rt: HostRuntime, alloc: Global, is_text: bool) -> Result<Plan, Memor
 /// Why nothing is done.
 pub fn plan_of(rt: HostRuntime, alloc: Global, words: &[String]) -> Result<Plan, Refusal> {
     let Some(line) = line_of(rt, alloc, words)? else {
-        return Ok(as_given(rt, alloc, false)?);
+        return Ok(as_given(rt, alloc, Keeping::Last)?);
     };
     match line.taking {
         Taking::Joined => Ok(joined(rt, alloc, &line)?),
@@ -157,15 +157,24 @@ fn push(alloc: Global, words: &mut Vec<String>, word: &str) -> Result<(), Memory
 
 // ---- files that are read as one
 
+/// What is kept of the input of a command that reads its files as one.
+fn keeping_of(command: &str) -> Keeping {
+    match command {
+        "pack" => Keeping::Text,
+        "replay" => Keeping::Last,
+        _ => Keeping::Fault,
+    }
+}
+
 /// What is done about the words of a command that reads its files as one.
 fn joined(rt: HostRuntime, alloc: Global, line: &Line<'_>) -> Result<Plan, Fault> {
-    let is_text = line.command == "pack";
+    let keeping = keeping_of(line.command);
     if line.values.is_empty() {
-        return Ok(as_given(rt, alloc, is_text)?);
+        return Ok(as_given(rt, alloc, keeping)?);
     }
     let mut given = Vec::new(alloc);
     for name in &line.values {
-        add_given(rt, alloc, &mut given, name, is_text)?;
+        add_given(rt, alloc, &mut given, name, keeping)?;
     }
     let sources = sources_of(rt, alloc, given.as_slice())?;
     let mut words = Vec::new(alloc);
@@ -175,7 +184,7 @@ fn joined(rt: HostRuntime, alloc: Global, line: &Line<'_>) -> Result<Plan, Fault
     }
     Ok(Plan {
         words: Some(words),
-        reading: Reading::new(alloc, sources, is_text),
+        reading: Reading::new(alloc, sources, keeping),
         given,
         files: Files::new(alloc),
         sides: Vec::new(alloc),
@@ -188,9 +197,9 @@ fn add_given(
     alloc: Global,
     given: &mut Vec<String>,
     name: &str,
-    is_text: bool,
+    keeping: Keeping,
 ) -> Result<(), Fault> {
-    if !is_text && kind_of(rt, name) == Kind::Folder {
+    if keeping != Keeping::Text && kind_of(rt, name) == Kind::Folder {
         let paths = paths_of_streams(rt, alloc, name)?;
         if !paths.is_empty() {
             return Ok(add_all(given, paths)?);
@@ -273,7 +282,7 @@ fn each(
         return by_name(rt, alloc, line, &naming);
     }
     if !is_taken(alloc, words)? {
-        return Ok(as_given(rt, alloc, false)?);
+        return Ok(as_given(rt, alloc, Keeping::Last)?);
     }
     let values = line.values.as_slice();
     let (before, names) = values.split_at(leading.min(values.len()));
@@ -329,7 +338,7 @@ fn with_words(
 ) -> Result<Plan, Memory> {
     Ok(Plan {
         words,
-        reading: standard_input(rt, alloc, false)?,
+        reading: standard_input(rt, alloc, Keeping::Last)?,
         given: Vec::new(alloc),
         sides: sides_of(alloc, line, &files)?,
         files,

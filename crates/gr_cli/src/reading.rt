@@ -17,6 +17,17 @@ struct Begin {
     byte: u64,
 }
 
+/// What is kept of an input, to tell where a fault of it is.
+#[derive(Clone, Copy, Debug, PartialEq, Eq)]
+pub enum Keeping {
+    /// The text.
+    Text,
+    /// Where its streams begin, and what was read last: of an input that is judged while it is read.
+    Last,
+    /// The same up to its first record at fault: of one that is judged once all of it was read.
+    Fault,
+}
+
 /// The input, with an account of what was read of it.
 #[derive(Drop)]
 pub struct Reading {
@@ -36,19 +47,20 @@ pub struct Reading {
 }
 
 impl Reading {
-    /// The input that these files have, one after another: a text, or streams.
-    pub fn new(alloc: Global, sources: Vec<Source>, is_text: bool) -> Reading {
+    /// The input that these files have, one after another.
+    pub fn new(alloc: Global, sources: Vec<Source>, keeping: Keeping) -> Reading {
+        let (account, text) = match keeping {
+            Keeping::Text => (None, Some(Vec::new(alloc))),
+            Keeping::Last => (Some(Account::new(alloc, false)), None),
+            Keeping::Fault => (Some(Account::new(alloc, true)), None),
+        };
         Reading {
             sources,
             at: 0,
             read: 0,
             begins: Vec::new(alloc),
-            account: if is_text {
-                None
-            } else {
-                Some(Account::new(alloc))
-            },
-            text: if is_text { Some(Vec::new(alloc)) } else { None },
+            account,
+            text,
             progress: None,
         }
     }

@@ -119,7 +119,7 @@ fn unread(rt: HostRuntime, names: &[String]) -> Option<(&str, io::Error)> {
 
 /// The account of a reader's one stream, up to its first record at fault.
 fn account_of<R: Read>(alloc: Global, reader: &mut R) -> Result<Account, Memory> {
-    let mut account = Account::new(alloc);
+    let mut account = Account::new(alloc, false);
     let mut piece = [0u8; PIECE_LENGTH];
     for _ in 0..u64::MAX {
         let Ok(n) = reader.read(&mut piece) else {

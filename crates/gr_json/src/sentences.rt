@@ -97,7 +97,7 @@ fn right_in_stream(error: RecordError) -> &'static str {
             "bytes 4 and 5 are the work-item by its place in the group, from 0; often it is the global number that was written"
         }
         RecordError::AfterEnd => {
-            "each file has one stream, and its end is its last record; several streams one after another are read by gpurace replay"
+            "behind the end of a stream the file is over, or the header of the next stream stands there"
         }
         RecordError::Truncated => {
             "the last record is an end, whose byte 1 is 1 where records were lost; often the producer was stopped, or is still writing"

@@ -1,4 +1,4 @@
-use Rattle.std.proofs.Common.{◌≡◌, ◌++◌, List, [], ◌∷◌, ℕ, sym, ◌∙◌, ap}
+use Rattle.std.proofs.Common.{◌++◌, List, [], ◌∷◌, ℕ, sym, ◌∙◌, ap}
 use Rattle.std.specs.Prelude.{decimal}
 use Rattle.std.proofs.lemmas.List.{append_cancel_right}
 use Rattle.gr_places.proofs.NamingLemmas.{behind_open, is_none, is_whole, not_open, read_index, when_none, when_some}
