@@ -23,7 +23,7 @@ use std::test::*;
 fn pushed_and_popped<R: Wait, A: Allocator + Copy>(
     rt: &R,
     queue: &Intake<A>,
-    taker: &mut TakerSeat,
+    taker: &mut TakerSeat<A>,
     seat: &mut IntakeSeat,
 ) -> Option<(Option<Event>, [Option<Sent>; 2])>
     requires queues { (taker.old.queue ≡ queue.now.queue) × (seat.old.queue ≡ queue.now.queue) }
@@ -55,7 +55,7 @@ type IntakeAnswers = (
 fn split_push_and_join<R: Wait, A: Allocator + Copy>(
     rt: &R,
     queue: &Intake<A>,
-    taker: &mut TakerSeat,
+    taker: &mut TakerSeat<A>,
 ) -> Option<IntakeAnswers>
     requires { taker.old.queue ≡ queue.now.queue }
 {
