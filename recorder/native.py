@@ -12,7 +12,7 @@ import time
 HERE = os.path.dirname(os.path.realpath(__file__))
 sys.path.insert(0, os.path.join(HERE, "..", "tools", "recorder"))
 from launches import Launch, info_of, unrecorded  # noqa: E402
-from streams import Piped, end_streams  # noqa: E402
+from streams import Piped, end_files, end_streams  # noqa: E402
 
 NEEDED = [("g++", "g++"), ("make", "make"), ("clang-15", "clang-15"), ("llvm-config-15", "llvm-15-dev"),
           ("/usr/include/CL/cl_layer.h", "opencl-headers"), ("ld", "binutils"),
@@ -121,8 +121,10 @@ class Judge(threading.Thread):
         for name in ended:
             path = os.path.join(self.folder, name)
             self.seen.add(name)
-            piped = self.piped.get(name)
+            piped, info = self.piped.get(name), info_of(path)
             try:
+                if info["cut"] and not piped:  # some groups may never have begun
+                    end_files(path, info)
                 self.launches.append(Launch(self.program, path, self.is_kept, self.is_window_wanted, piped))
             except Exception as fault:  # told by `finish`; the program does not wait for it
                 self.fault = fault

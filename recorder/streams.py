@@ -3,14 +3,14 @@ import atexit
 import glob
 import os
 import shutil
-import struct
 import subprocess
 import sys
 
-from launches import info_of, streams_of
+from findings import HEADER, RECORD_FORMS, mapped, streams_in, streams_of
+from launches import info_of, kept_of
 
-HEADER = struct.Struct("<4sHHI")
-RECORD_BYTES = {b"GRT1": 20, b"GRT2": 44}
+JOINED = "groups.gpurace"  # of a launch of many groups, whose streams stand there as they ended
+MOST_GROUPS, MOST_ITEMS = 64, 256  # that the versions 1 and 2 have
 DIES_WITH_US = ["setpriv", "--pdeathsig", "KILL", "sh", "-c", '[ "$PPID" = "$0" ] && exec "$@"', str(os.getpid())]
 
 
@@ -22,7 +22,7 @@ def start(words, **more):
 
 
 class Piped:
-    """gpurace reads the streams of a launch while it is recorded: of each group its file, and then its pipe."""
+    """gpurace reads the streams of a launch while it is recorded: of each group, or of all, the file, and then the pipe."""
 
     def __init__(self, program, folder):
         self.folder, streams = folder, streams_of(folder)
@@ -30,7 +30,8 @@ class Piped:
         self.reads = [start(["cat", *filter(os.path.exists, (stream, stream + ".pipe"))]) for stream in streams]
         files = [read.stdout.fileno() for read in self.reads]
         words = [program, "run", "--capacity", "65536", "--queues", "4", *(f"/dev/fd/{file}" for file in files)]
-        self.run = start(words, pass_fds=files)
+        is_joined = os.path.join(folder, JOINED) in streams
+        self.run = start([program, "replay"], stdin=files[0]) if is_joined else start(words, pass_fds=files)
         atexit.register(lambda: [process.kill() for process in (self.run, *self.reads)])
         for read in self.reads:
             read.stdout.close()
@@ -71,24 +72,51 @@ def end_streams(folder):
 
 def end_files(folder, info):
     """Ends the streams that have no end; answers how many groups and items of each there are, and how many records."""
-    groups = int(info["groups"][0])
-    kept = int(info["window"][0].split()[1]) if info["window"] else groups
-    x, y, z = map(int, info["local"][0].split())
+    kept, (x, y, z) = kept_of(info), map(int, info["local"][0].split())
     items, launch = x * y * z + (1 if info["copying-item"] else 0), int(info["launch"][0])
-    paths = [os.path.join(folder, f"group{group:02}.gpurace") for group in range(kept)]
-    return kept, items, sum(end_stream(path, group, items, launch) for group, path in enumerate(paths))
+    form = b"GRT1" if kept <= MOST_GROUPS and items <= MOST_ITEMS else b"GRT3"
+    heads = [HEADER.pack(form, group, items, launch) for group in range(kept)]
+    if kept > MOST_GROUPS:
+        return kept, items, end_joined(folder, heads)
+    return kept, items, sum(end_stream(os.path.join(folder, f"group{at:02}.gpurace"), head) for at, head in enumerate(heads))
 
 
-def end_stream(path, group, items, launch):
-    """Ends a stream that has no end, and answers how many records it has."""
+def end_joined(folder, heads):
+    """As `end_stream`, of the file of all. A stream that was not joined has a part of it in a file, or nothing."""
+    path, came, end, records = os.path.join(folder, JOINED), set(), 0, 0
+    data = mapped(path) if os.path.exists(path) else b""
+    for stream in streams_in(data):
+        if stream.end is None:  # it was being joined
+            with open(part_of(folder, stream.group), "ab") as part:
+                part.write(b"" if part.tell() else data[stream.start:])
+            break
+        came.add(stream.group)
+        end, records = stream.end, records + stream.records
+    with open(path, "ab") as joined:
+        joined.truncate(end)
+        for group in set(range(len(heads))) - came:
+            part = part_of(folder, group)
+            records += end_stream(part, heads[group])
+            with open(part, "rb") as given:
+                shutil.copyfileobj(given, joined)
+            os.remove(part)
+    return records
+
+
+def part_of(folder, group):
+    return os.path.join(folder, f"group{group:02}.part")
+
+
+def end_stream(path, begun):
+    """Ends a stream that has no end, and answers how many records it has. One without a header has not more than this."""
     with open(path, "r+b" if os.path.exists(path) else "w+b") as stream:
         head = stream.read(HEADER.size)
-        if len(head) < HEADER.size or head[:4] not in RECORD_BYTES:
-            head = HEADER.pack(b"GRT1", group, items, launch)
+        if len(head) < HEADER.size or head[:4] not in RECORD_FORMS:
+            head = begun
             stream.truncate(0)
             stream.seek(0)
             stream.write(head)
-        size = RECORD_BYTES[head[:4]]
+        size = RECORD_FORMS[head[:4]].size
         records = (stream.seek(0, os.SEEK_END) - HEADER.size) // size
         if records:
             stream.seek(HEADER.size + (records - 1) * size)
