@@ -10,7 +10,8 @@ import threading
 import time
 
 HERE = os.path.dirname(os.path.realpath(__file__))
-sys.path.insert(0, os.path.join(HERE, "..", "tools", "recorder"))
+TOOLS = os.path.join(HERE, "..", "tools")
+sys.path.insert(0, os.path.join(TOOLS, "recorder"))
 from launches import Launch, info_of, unrecorded  # noqa: E402
 from streams import Piped, end_files, end_streams  # noqa: E402
 
@@ -43,7 +44,8 @@ def build(say):
     parts = [os.path.join(out, part) for part in ("layer.so", "instrument-kernels")]
     source = os.path.join(HERE, "src")
     sources = [os.path.join(folder, name) for folder, _, names in os.walk(source) for name in names]
-    newest = max(map(os.path.getmtime, sources + [os.path.join(HERE, "Makefile")]))
+    sources += [os.path.join(HERE, "Makefile"), os.path.join(TOOLS, "recorder", "window.h"), os.path.join(TOOLS, "gpurace_trace.h")]
+    newest = max(map(os.path.getmtime, sources))
     if all(os.path.exists(part) and os.path.getmtime(part) >= newest for part in parts):
         return out
     say("building the recorder, which takes a minute the first time")

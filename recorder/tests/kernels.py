@@ -380,12 +380,9 @@ def kind_of(values):
     return "q" if values == (0, 0, 0, 0) else "f" if isinstance(values, tuple) else "i" if max(values) < 2 ** 31 else "I"
 
 
-def main(wanted):
-    """Launches all, or those that are wanted; `--opencl12` before these compiles the text that OpenCL C 1.2 has."""
-    device, is_old = Device(), wanted[:1] == ["--opencl12"]
-    wanted = wanted[1:] if is_old else wanted
-    program = device.build(OF_OPENCL12) if is_old else device.build(TEXT, "-cl-std=CL3.0")
-    for case in cases():
+def launch_all(device, program, those, wanted):
+    """Launches the cases, or those that are wanted, and says what is wrong in what they compute."""
+    for case in those:
         if wanted and case.kernel not in wanted:
             continue
         arguments = [Buffer(device, value, kind_of(value)) if isinstance(value, (list, tuple)) else value for value in case.arguments]
@@ -397,6 +394,13 @@ def main(wanted):
             if found != wanted_values:
                 first = next(k for k, pair in enumerate(zip(found, wanted_values)) if pair[0] != pair[1])
                 print(f"{case.kernel}: wrong result: argument {at} has {found[first]} at {first}, not {wanted_values[first]}", flush=True)
+
+
+def main(wanted):
+    """Launches all, or those that are wanted; `--opencl12` before these compiles the text that OpenCL C 1.2 has."""
+    device, is_old = Device(), wanted[:1] == ["--opencl12"]
+    program = device.build(OF_OPENCL12) if is_old else device.build(TEXT, "-cl-std=CL3.0")
+    launch_all(device, program, cases(), wanted[1:] if is_old else wanted)
 
 
 if __name__ == "__main__":
