@@ -2,7 +2,6 @@
 launches meanwhile."""
 import os
 import shutil
-import signal
 import subprocess
 import sys
 import tempfile
@@ -12,8 +11,9 @@ import time
 HERE = os.path.dirname(os.path.realpath(__file__))
 TOOLS = os.path.join(HERE, "..", "tools")
 sys.path.insert(0, os.path.join(TOOLS, "recorder"))
-from launches import Launch, info_of, unrecorded  # noqa: E402
-from streams import Piped, end_files, end_streams  # noqa: E402
+from launch_files import end_files, end_streams, info_of  # noqa: E402
+from launches import Launch, unrecorded  # noqa: E402
+from streams import Piped  # noqa: E402
 
 NEEDED = [("g++", "g++"), ("make", "make"), ("clang-15", "clang-15"), ("llvm-config-15", "llvm-15-dev"),
           ("/usr/include/CL/cl_layer.h", "opencl-headers"), ("ld", "binutils"),
@@ -44,7 +44,7 @@ def build(say):
     parts = [os.path.join(out, part) for part in ("layer.so", "instrument-kernels")]
     source = os.path.join(HERE, "src")
     sources = [os.path.join(folder, name) for folder, _, names in os.walk(source) for name in names]
-    sources += [os.path.join(HERE, "Makefile"), os.path.join(TOOLS, "recorder", "window.h"), os.path.join(TOOLS, "gpurace_trace.h")]
+    sources += [os.path.join(HERE, "Makefile"), os.path.join(TOOLS, "recorder", "window.h")]
     newest = max(map(os.path.getmtime, sources))
     if all(os.path.exists(part) and os.path.getmtime(part) >= newest for part in parts):
         return out

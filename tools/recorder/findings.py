@@ -6,18 +6,14 @@ are of other buffers or other places of the source are shown. Of the streams onl
 A launch of many groups has one file of joined streams, which `races` and `explain` have to take as they take the files of groups.
 """
 import collections
-import glob
 import json
-import mmap
 import os
 import re
-import struct
 import subprocess
 
-WRITE, BARRIER, END = 1, 5, 6
-HEADER = struct.Struct("<4sHHI")
-SHORT, LONG = struct.Struct("<BBBBHxxI8x"), struct.Struct("<BBBBHxxI32x")  # names are passed over
-RECORD_FORMS = {b"GRT1": SHORT, b"GRT2": LONG, b"GRT3": SHORT, b"GRT4": LONG}
+from launch_files import HEADER, RECORD_FORMS, mapped, streams_in, streams_of
+
+WRITE, BARRIER = 1, 5
 SMALL = 1 << 22      # bytes of streams that are given to gpurace in one piece
 KINDS = ["read", "write", "atomic load", "atomic store", "atomic read-modify-write"]
 SCOPES = ["", "work-group scope", "device scope"]
@@ -38,7 +34,6 @@ Barrier = collections.namedtuple("Barrier", "index site flags")
 Race = collections.namedtuple("Race", "space words runs first second said")  # a kind, or a word of it; lines that say it
 Run = collections.namedtuple("Run", "group first last")  # of words; the group is None where they are global
 Buffer = collections.namedtuple("Buffer", "group first last name")
-Stream = collections.namedtuple("Stream", "group start end records")  # in the bytes of a file; the end is None where it has none
 
 
 def findings(program, folder):
@@ -59,50 +54,12 @@ def findings(program, folder):
     return ran.returncode, report, told
 
 
-def streams_of(folder):
-    """The files of a launch's streams, in order."""
-    return sorted(glob.glob(os.path.join(glob.escape(folder), "*.gpurace")))
-
-
 def replay(program, streams):
     """gpurace's report on the streams in these files. Large ones are never in memory as a whole."""
     if sum(map(os.path.getsize, streams)) <= SMALL:
         return subprocess.run([program, "replay"], input=b"".join(map(mapped, streams)), capture_output=True)
     with subprocess.Popen(["cat", *streams], stdout=subprocess.PIPE) as joined:
         return subprocess.run([program, "replay"], stdin=joined.stdout, capture_output=True)
-
-
-def mapped(path):
-    """The bytes of a file, which come into memory when they are looked at."""
-    with open(path, "rb") as given:
-        return mmap.mmap(given.fileno(), 0, access=mmap.ACCESS_READ) if os.path.getsize(path) else b""
-
-
-def streams_in(data):
-    """The streams that stand one behind another in the bytes of a file. Behind one without an end there is none."""
-    at = 0
-    while data[at:at + 4] in RECORD_FORMS and at + HEADER.size <= len(data):
-        form, group, _, _ = HEADER.unpack_from(data, at)
-        start, size = at + HEADER.size, RECORD_FORMS[form].size
-        records = records_of(data, start, size)
-        end = start + records * size
-        if end > len(data) or records == 0 or data[end - size] != END:
-            yield Stream(group, at, None, (len(data) - start) // size)
-            return
-        yield Stream(group, at, end, records)
-        at = end
-
-
-def records_of(data, start, size):
-    """How many records begin there, up to an end or that of the bytes."""
-    records, step = 0, 256
-    while start + records * size < len(data):
-        kinds = data[start + records * size:start + (records + step) * size:size]
-        found = kinds.find(END)
-        if found >= 0:
-            return records + found + 1
-        records, step = records + len(kinds), min(2 * step, 1 << 20)
-    return records
 
 
 def races_of(program, folder, streams):
@@ -172,12 +129,12 @@ class Group:
     """What is read of a group's stream: the barriers of each item, and what some of its events do."""
 
     def __init__(self, stream, events):
-        self.items = struct.unpack_from("<H", stream, 6)[0]
+        form, _, self.items, _ = HEADER.unpack_from(stream)
         self.barriers = [[] for _ in range(self.items)]
         self.accesses = {}
         shown = [{event.index: event for event in events if event.item == item} for item in range(self.items)]
         count = [0] * self.items
-        for kind, space, scope, order, item, site in RECORD_FORMS[bytes(stream[:4])].iter_unpack(stream[HEADER.size:]):
+        for kind, space, scope, order, item, site in RECORD_FORMS[form].iter_unpack(stream[HEADER.size:]):
             if kind == BARRIER:
                 self.barriers[item].append(Barrier(count[item], site, space))
             elif count[item] in shown[item]:

@@ -1,8 +1,8 @@
 """Recorded launches: what their folders say, and what gpurace finds in them."""
-import collections
 import os
 
 from findings import findings, source_line
+from launch_files import info_of, kept_of, windows_of
 
 FOUND, INCOMPLETE = 1, 2
 MOST_PLACES = 3  # of one kind that are told
@@ -11,27 +11,6 @@ MOST_PLACES = 3  # of one kind that are told
 def count(number, what):
     ending = "" if number == 1 else "es" if what.endswith("ch") else "s"
     return f"{number} {what}{ending}"
-
-
-def info_of(folder, name="info.txt"):
-    """The lines of the file by their first words; a folder without info.txt is not whole."""
-    path = os.path.join(folder, name)
-    info = collections.defaultdict(list)
-    with open(path, errors="replace") if os.path.exists(path) else open(os.devnull) as lines:
-        for line in lines:
-            key, _, value = line.rstrip("\n").partition(" ")
-            info[key].append(value)
-    return info
-
-
-def windows_of(info):
-    """The first group and the number of groups of each part of the launch that was recorded."""
-    return [tuple(map(int, line.split())) for line in info["window"] or ["0 " + info["groups"][0]]]
-
-
-def kept_of(info):
-    """How many groups the trace has."""
-    return sum(number for _, number in windows_of(info))
 
 
 class Launch:

@@ -36,8 +36,8 @@ public:
         Window window;
         window.parts_.clear();
         for (const Part &part : parts_) {
-            const uint64_t there = groups - std::min(groups, part.first), room = GPURACE_MOST_WIDE_GROUPS - window.count();
-            const uint64_t count = std::min({part.count, there, room});
+            const uint64_t there = groups - std::min(groups, part.first);
+            const uint64_t count = std::min({part.count, there, GPURACE_MOST_WIDE_GROUPS - window.count()});
             if (count > 0) window.parts_.push_back({part.first, count});
         }
         return window;
@@ -67,7 +67,8 @@ public:
     // Lines of info.txt.
     std::string lines() const {
         std::string text;
-        for (const Part &part : parts_) text += "window " + std::to_string(part.first) + " " + std::to_string(part.count) + "\n";
+        for (const Part &part : parts_)
+            text += "window " + std::to_string(part.first) + " " + std::to_string(part.count) + "\n";
         return text;
     }
 
@@ -79,7 +80,9 @@ private:
 };
 
 // Whether a launch of so many recorded groups, of so many items at most, fits the versions 1 and 2 of the stream.
-inline bool fits_first_versions(uint64_t groups, uint64_t items) { return groups <= GPURACE_MOST_GROUPS && items <= GPURACE_MOST_ITEMS; }
+inline bool fits_first_versions(uint64_t groups, uint64_t items) {
+    return groups <= GPURACE_MOST_GROUPS && items <= GPURACE_MOST_ITEMS;
+}
 
 } // namespace gpurace
 #endif

@@ -89,9 +89,8 @@ bool begin_folder(Launch &launch, std::string &error) {
 void end_folder(Launch &launch, double seconds) {
     const Request &request = launch.request;
     const std::string folder = request.folder + "/", part = folder + "info.part";
-    const uint64_t items = request.range.items_of_group() + request.kernel->has_copies;
+    const uint64_t items = request.range.items_of_group() + request.kernel->has_copies, kept = request.window.count();
     std::ostringstream info;
-    const uint64_t kept = request.window.count();
     info << shape_of(request) << "items " << kept * items << "\nrecords " << launch.records << '\n';
     for (uint64_t group = 0; group < kept; group++)
         if (launch.is_cut[group]) info << "cut " << group << '\n';

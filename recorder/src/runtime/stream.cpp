@@ -32,25 +32,19 @@ int open_pipe(const std::string &path) {
     }
 }
 
-// Writes all of it, and answers 0 or what went wrong.
+// Writes all of it, and answers 0 or what went wrong. Where nobody reads a pipe any more, the signal of that does not
+// reach the program.
 int write_all(int file, const char *bytes, size_t count) {
-    while (count > 0) {
-        const ssize_t done = write(file, bytes, count);
-        if (done < 0 && errno == EINTR) continue;
-        if (done <= 0) return done < 0 ? errno : ENOSPC;
-        bytes += done;
-        count -= size_t(done);
-    }
-    return 0;
-}
-
-// As `write_all`; where nobody reads a pipe any more, the signal of that does not reach the program.
-int write_to_pipe(int file, const char *bytes, size_t count) {
     sigset_t broken, before;
     sigemptyset(&broken);
     sigaddset(&broken, SIGPIPE);
     pthread_sigmask(SIG_BLOCK, &broken, &before);
-    const int error = write_all(file, bytes, count);
+    int error = 0;
+    for (ssize_t done; !error && count > 0; bytes += done, count -= size_t(done)) {
+        done = write(file, bytes, count);
+        if (done <= 0) error = done == 0 ? ENOSPC : errno == EINTR ? 0 : errno;
+        done = std::max<ssize_t>(done, 0);
+    }
     const timespec now{};
     if (error == EPIPE && !sigismember(&before, SIGPIPE)) sigtimedwait(&broken, nullptr, &now);
     pthread_sigmask(SIG_SETMASK, &before, nullptr);
@@ -67,16 +61,17 @@ int append_to(const std::string &path, const char *bytes, size_t count) {
 int copy_to(int file, const std::string &path) {
     char bytes[1 << 16];
     const int from = open(path.c_str(), O_RDONLY | O_CLOEXEC);
-    ssize_t count = -1;
-    int error = 0;
-    while (!error && from >= 0 && (count = read(from, bytes, sizeof bytes)) > 0)
-        error = write_to_pipe(file, bytes, size_t(count));
+    int error = from < 0 ? errno : 0;
+    for (ssize_t count = 1; !error && count > 0;) {
+        count = read(from, bytes, sizeof bytes);
+        error = count < 0 ? errno : write_all(file, bytes, size_t(count));
+    }
     if (from >= 0) close(from);
-    return count < 0 ? EIO : error;
+    return error;
 }
 
-// Of the stream that begins at `start` the disk may not have all. Its last whole record there becomes the end, whose room
-// is there already; answers how many records it has then.
+// The disk has no room for all of the stream that begins at `start`. Its last whole record there becomes the end; this
+// answers how many records it has then.
 uint32_t end_early(const std::string &path, off_t start, uint32_t record_bytes) {
     const int file = open(path.c_str(), O_WRONLY | O_CLOEXEC);
     const off_t first = start + off_t(HEADER_BYTES), size = off_t(record_bytes);
@@ -123,24 +118,19 @@ void Streams::open_pipes() {
         if (states[group] != ENDED) mkfifo((path + ".pipe").c_str(), 0666);
     }
     if (are_joined) mkfifo((joined_path_ + ".pipe").c_str(), 0666);
-    std::ofstream(folder + "/piped.txt") << '\n';
-}
-
-int Streams::joined_file() {
-    if (joined_ >= 0 && is_pipe_ == are_piped) return joined_;
     if (joined_ >= 0) close(joined_);
-    is_pipe_ = are_piped;
-    return joined_ = is_pipe_ ? open_pipe(joined_path_ + ".pipe") : open_to_append(joined_path_);
+    joined_ = -1;
+    std::ofstream(folder + "/piped.txt") << '\n';
 }
 
 int Streams::join(const std::string &part, const char *bytes, size_t count, uint32_t record_bytes, uint32_t &records) {
     const std::unique_lock<std::shared_mutex> held(lock);
-    const int file = joined_file();
-    const off_t start = file < 0 ? 0 : lseek(file, 0, SEEK_END);
-    int error = file < 0 ? EPIPE : part.empty() ? 0 : copy_to(file, part);
-    if (!error) error = write_to_pipe(file, bytes, count);
+    if (joined_ < 0) joined_ = are_piped ? open_pipe(joined_path_ + ".pipe") : open_to_append(joined_path_);
+    const off_t start = lseek(joined_, 0, SEEK_END);
+    int error = joined_ < 0 ? EPIPE : part.empty() ? 0 : copy_to(joined_, part);
+    if (!error) error = write_all(joined_, bytes, count);
     if (!part.empty()) unlink(part.c_str());
-    if (error && !is_pipe_) records = end_early(joined_path_, start, record_bytes);
+    if (error && !are_piped) records = end_early(joined_path_, std::max(off_t(0), start), record_bytes);
     return error;
 }
 
@@ -212,7 +202,7 @@ int Stream::write_out(bool is_last) {
         is_piped_ = true;
         pipe_ = open_pipe(path_ + ".pipe");
     }
-    return pipe_ < 0 ? EPIPE : write_to_pipe(pipe_, bytes_.get(), used_);
+    return pipe_ < 0 ? EPIPE : write_all(pipe_, bytes_.get(), used_);
 }
 
 void Stream::flush(bool is_last) {
@@ -226,16 +216,13 @@ void Stream::close(bool is_cut) {
     if (!bytes_) return;
     put(END | uint64_t(is_cut) << 8, 0, nullptr, 0);
     const bool is_joined = streams_.are_joined, is_in_memory = is_joined && !has_file_;
-    if (is_in_memory) counted_.fetch_add(untold_, std::memory_order_relaxed);
-    else flush(true);
+    if (!is_in_memory) flush(true);
     if (error_ && !is_piped_) records_ = end_early(path_, 0, record_bytes_);
-    if (is_joined) {
-        const int error = streams_.join(is_in_memory ? "" : path_, bytes_.get(), used_, record_bytes_, records_);
-        if (!error_) error_ = error;
-    }
+    const std::string part = is_in_memory ? "" : path_;
+    const int error = is_joined ? streams_.join(part, bytes_.get(), used_, record_bytes_, records_) : 0;
+    if (!error_) error_ = error;
+    counted_.fetch_add(untold_, std::memory_order_relaxed);
     bytes_.reset();
-    if (pipe_ >= 0) ::close(pipe_);
-    pipe_ = -1;
 }
 
 } // namespace gpurace

@@ -13,32 +13,28 @@ constexpr uint32_t MOST_RECORDS = 16777216; // of a stream, its end included
 
 std::string stream_header(bool is_wide, bool has_names, uint32_t group, uint64_t items, uint32_t launch);
 
-// The files of the streams: one for each group, or one in which the streams are joined, each as its group ends. Where they
-// are full, what comes goes on through pipes, NAME.pipe beside NAME. The judge begins when it sees piped.txt, and wants the
-// headers of all streams first: that of a stream that is not begun is a file.
+// The files of the streams: one for each group, or one to which each is joined when its group ends. Where they are full
+// they go on as pipes, NAME.pipe beside NAME. The judge begins when it sees piped.txt, and wants the headers of all
+// streams first: that of a stream that is not begun is a file.
 struct Streams {
     enum State : char { TO_BEGIN, BEGUN, ENDED };
     Streams(std::string folder, std::vector<std::string> headers);
     ~Streams();
     std::string path_of(uint32_t group) const; // of joined ones: what memory has no room for, until the group ends
     void open_pipes();
-    // Joins a stream that has ended: a part that is a file, and then these bytes. Answers 0 or what went wrong; the
-    // stream has `records` then.
+    // Joins a stream: its part that is a file, and these bytes. Answers 0 or what went wrong; it has `records` then.
     int join(const std::string &part, const char *bytes, size_t count, uint32_t record_bytes, uint32_t &records);
 
     const std::string folder;
     const std::vector<std::string> headers;
     const bool are_joined;
-    std::shared_mutex lock; // held alone while pipes are made or streams joined, shared while one is written to its file
+    std::shared_mutex lock; // held alone while pipes are made or one is joined, and shared while one is written
     std::vector<State> states;
     std::atomic<bool> are_piped{false};
 
 private:
     const std::string joined_path_;
-    int joined_ = -1; // the file of the joined streams, or its pipe
-    bool is_pipe_ = false;
-
-    int joined_file();
+    int joined_ = -1; // the file of the joined streams, or its pipe, once it is open
 };
 
 // The side file `places`, to which the groups append by turns. Where the disk is full it ends behind a whole line.
