@@ -68,7 +68,7 @@ def cases():
     # all words of the two tiles of each group
     tiles = [Case(f"product_{name}", [matrix(ROWS, INNER), matrix(INNER, COLUMNS), [0] * (ROWS * COLUMNS), INNER], races, results, (COLUMNS, ROWS), (4, 4),
                   say=say) for name, races, results, say in (
-                      ("right", 0, {2: product()}, ()), ("wrong", 32 * 1000, {}, ("s[0..15] of 1000 groups", "t[0..15] of 1000 groups")))]
+                      ("right", 0, {2: product()}, ()), ("wrong", 32 * 1000, {}, ("race on s[", "race on t[", "one with CLK_LOCAL_MEM_FENCE would order them")))]
     # the parts of the groups that are not the last one, and where nobody is ordered the count itself
     blocks = [Case(f"last_block_{name}", [[1] * (2 * BLOCKS), [0] * BLOCKS, [0], [0]], races, {3: [2 * BLOCKS]}, (2 * BLOCKS,), (2,))
               for name, races in (("right", 0), ("relaxed", BLOCKS - 1), ("scope", BLOCKS))]
