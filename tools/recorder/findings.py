@@ -43,10 +43,8 @@ def findings(program, folder):
     if ran.returncode not in (0, 1):
         return ran.returncode, [], [ran.stderr.decode().strip()]
     report = ran.stdout.decode().splitlines()
-    lines = [line.split() for line in report]
-    races, told = [], []
-    if any(line[0] == "race" for line in lines):
-        races, told = races_of(program, folder, streams)
+    lines = [line.split() for line in report if not line.startswith("race ")]
+    races, told = races_of(program, folder, streams) if len(lines) < len(report) else ([], [])
     if races or any(line[0] in ("cut", "diverge", "unmatched") for line in lines):
         further = [further_of(program, folder, streams, race) for race in races]
         launch = Launch(folder, streams, lines, races + sum(further, []))
