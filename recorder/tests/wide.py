@@ -42,8 +42,16 @@ kernel void long_streams(global int *out, int each) { // more than a group has i
     for (int at = 0; at < each; at++) out[get_global_id(0)] = at;
 }
 """
+COPIES = """
+kernel void copies(global const int *in, global int *out) { // with the one that copies a group has as many items as it can have
+    local int tile[1023];
+    event_t copy = async_work_group_copy(tile, in + get_group_id(0) * 1023, 1023, 0);
+    wait_group_events(1, &copy);
+    out[get_global_id(0)] = tile[1022 - get_local_id(0)];
+}
+"""
 BOTH_ORDERS = "memory_order_acq_rel"
-TEXT = LONG + "".join(text for _, text in (
+TEXT = LONG + COPIES + "".join(text for _, text in (
     both("far", FAR, {"word": "g"}, {"wrong": {"word": "g == 300 ? 0 : g"}})
     + both("product", PRODUCT, {"second": "barrier(CLK_LOCAL_MEM_FENCE);"}, {"wrong": {"second": ""}})
     + both("last_block", LAST_BLOCK, {"order": BOTH_ORDERS, "scope": DEVICE},
@@ -80,6 +88,7 @@ def cases():
     for case in far:
         case.size, case.local = (4 * FAR_GROUPS,), (4,)
     yield from far + tiles + blocks + gathers + trees
+    yield Case("copies", [list(range(2046)), [0] * 2046], 0, {1: list(range(1022, -1, -1)) + list(range(2045, 1022, -1))}, (2046,), (1023,))
     yield Case("long_streams", [[0] * 140, 5000], 0, {0: [4999] * 140}, (140,), (2,))
 
 
