@@ -119,6 +119,10 @@ def end_joined(folder, heads):
         joined.truncate(end)
         for group in set(range(len(heads))) - came:
             part = part_of(folder, group)
+            if not os.path.exists(part):
+                joined.write(heads[group] + cut_end(heads[group]))
+                records += 1
+                continue
             records += end_stream(part, heads[group])
             with open(part, "rb") as given:
                 shutil.copyfileobj(given, joined)
@@ -147,8 +151,13 @@ def end_stream(path, begun):
                 return records
         stream.truncate(HEADER.size + records * size)
         stream.seek(0, os.SEEK_END)
-        stream.write(bytes([6, 1]) + bytes(10) + b"\xff" * (size - 12))
+        stream.write(cut_end(head))
         return records + 1
+
+
+def cut_end(head):
+    """The end of a stream of which records were lost."""
+    return bytes([END, 1]) + bytes(10) + b"\xff" * (RECORD_FORMS[head[:4]].size - 12)
 
 
 def end_lines(path):
