@@ -380,10 +380,12 @@ def kind_of(values):
     return "q" if values == (0, 0, 0, 0) else "f" if isinstance(values, tuple) else "i" if max(values) < 2 ** 31 else "I"
 
 
-def launch_all(device, program, those, wanted):
-    """Launches the cases, or those that are wanted, and says what is wrong in what they compute."""
+def main(text, older_text, those, wanted):
+    """Launches all, or those that are wanted; `--opencl12` before these compiles the text that OpenCL C 1.2 has."""
+    device, is_old = Device(), wanted[:1] == ["--opencl12"]
+    program = device.build(older_text) if is_old else device.build(text, "-cl-std=CL3.0")
     for case in those:
-        if wanted and case.kernel not in wanted:
+        if len(wanted) > is_old and case.kernel not in wanted:
             continue
         arguments = [Buffer(device, value, kind_of(value)) if isinstance(value, (list, tuple)) else value for value in case.arguments]
         status = device.launch(device.kernel(program, case.kernel), case.size, case.local, arguments, case.offset)
@@ -396,12 +398,5 @@ def launch_all(device, program, those, wanted):
                 print(f"{case.kernel}: wrong result: argument {at} has {found[first]} at {first}, not {wanted_values[first]}", flush=True)
 
 
-def main(wanted):
-    """Launches all, or those that are wanted; `--opencl12` before these compiles the text that OpenCL C 1.2 has."""
-    device, is_old = Device(), wanted[:1] == ["--opencl12"]
-    program = device.build(OF_OPENCL12) if is_old else device.build(TEXT, "-cl-std=CL3.0")
-    launch_all(device, program, cases(), wanted[1:] if is_old else wanted)
-
-
 if __name__ == "__main__":
-    main(sys.argv[1:])
+    main(TEXT, OF_OPENCL12, cases(), sys.argv[1:])

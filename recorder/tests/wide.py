@@ -2,8 +2,8 @@
 launches all of them, or those that are named, and checks what they compute."""
 import sys
 
-from kernels import DEVICE, LAST_BLOCK, RELAXED, TREE, Case, both, launch_all
-from opencl import Device, Local
+from kernels import DEVICE, LAST_BLOCK, RELAXED, TREE, Case, both, main
+from opencl import Local
 
 FAR = """
 kernel void far_%(name)s(global int *out) { // each group has a word of its own, or one has that of another
@@ -51,13 +51,14 @@ kernel void copies(global const int *in, global int *out) { // with the one that
 }
 """
 BOTH_ORDERS = "memory_order_acq_rel"
-TEXT = LONG + COPIES + "".join(text for _, text in (
+OF_OPENCL12 = LONG + COPIES + "".join(text for _, text in (
     both("far", FAR, {"word": "g"}, {"wrong": {"word": "g == 300 ? 0 : g"}})
     + both("product", PRODUCT, {"second": "barrier(CLK_LOCAL_MEM_FENCE);"}, {"wrong": {"second": ""}})
-    + both("last_block", LAST_BLOCK, {"order": BOTH_ORDERS, "scope": DEVICE},
-           {"relaxed": {"order": RELAXED, "scope": DEVICE}, "scope": {"order": BOTH_ORDERS, "scope": "memory_scope_work_group"}})
-    + both("gather", GATHER, {"order": "memory_order_acquire"}, {"relaxed": {"order": RELAXED}})
     + both("tree", TREE, {"least": "0"}, {"wrong": {"least": "8"}})))
+TEXT = OF_OPENCL12 + "".join(text for _, text in (
+    both("last_block", LAST_BLOCK, {"order": BOTH_ORDERS, "scope": DEVICE},
+         {"relaxed": {"order": RELAXED, "scope": DEVICE}, "scope": {"order": BOTH_ORDERS, "scope": "memory_scope_work_group"}})
+    + both("gather", GATHER, {"order": "memory_order_acquire"}, {"relaxed": {"order": RELAXED}})))
 FAR_GROUPS, BLOCKS, ROWS, COLUMNS, INNER, LARGEST = 400, 2000, 160, 100, 8, 1024
 
 
@@ -93,5 +94,4 @@ def cases():
 
 
 if __name__ == "__main__":
-    device = Device()
-    launch_all(device, device.build(TEXT, "-cl-std=CL3.0"), cases(), sys.argv[1:])
+    main(TEXT, OF_OPENCL12, cases(), sys.argv[1:])
