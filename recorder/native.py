@@ -2,7 +2,6 @@
 launches meanwhile."""
 import os
 import shutil
-import signal
 import subprocess
 import sys
 import tempfile
@@ -10,9 +9,11 @@ import threading
 import time
 
 HERE = os.path.dirname(os.path.realpath(__file__))
-sys.path.insert(0, os.path.join(HERE, "..", "tools", "recorder"))
-from launches import Launch, info_of, unrecorded  # noqa: E402
-from streams import Piped, end_streams  # noqa: E402
+TOOLS = os.path.join(HERE, "..", "tools")
+sys.path.insert(0, os.path.join(TOOLS, "recorder"))
+from launch_files import end_files, end_streams, info_of  # noqa: E402
+from launches import Launch, unrecorded  # noqa: E402
+from streams import Piped  # noqa: E402
 
 NEEDED = [("g++", "g++"), ("make", "make"), ("clang-15", "clang-15"), ("llvm-config-15", "llvm-15-dev"),
           ("/usr/include/CL/cl_layer.h", "opencl-headers"), ("ld", "binutils"),
@@ -43,7 +44,8 @@ def build(say):
     parts = [os.path.join(out, part) for part in ("layer.so", "instrument-kernels")]
     source = os.path.join(HERE, "src")
     sources = [os.path.join(folder, name) for folder, _, names in os.walk(source) for name in names]
-    newest = max(map(os.path.getmtime, sources + [os.path.join(HERE, "Makefile")]))
+    sources += [os.path.join(HERE, "Makefile"), os.path.join(TOOLS, "recorder", "window.h")]
+    newest = max(map(os.path.getmtime, sources))
     if all(os.path.exists(part) and os.path.getmtime(part) >= newest for part in parts):
         return out
     say("building the recorder, which takes a minute the first time")
@@ -121,8 +123,10 @@ class Judge(threading.Thread):
         for name in ended:
             path = os.path.join(self.folder, name)
             self.seen.add(name)
-            piped = self.piped.get(name)
+            piped, info = self.piped.get(name), info_of(path)
             try:
+                if info["cut"] and not piped:  # some groups may never have begun
+                    end_files(path, info)
                 self.launches.append(Launch(self.program, path, self.is_kept, self.is_window_wanted, piped))
             except Exception as fault:  # told by `finish`; the program does not wait for it
                 self.fault = fault

@@ -1,5 +1,5 @@
 /*
- * Writing traces for gpurace, in either version of the stream (docs/FORMATS.md, "Stream"). docs/PRODUCER.md says how a runtime makes a
+ * Writing traces for gpurace, in each version of the stream (docs/FORMATS.md, "Stream"). docs/PRODUCER.md says how a runtime makes a
  * trace with it; tools/producer_threads.c is one that does.
  *
  * A trace of a launch is one stream for each of its work-groups: a header, the records of the group's work-items, and an
@@ -10,6 +10,9 @@
  *     gpurace_plain(&stream, 0, GPURACE_WRITE, GPURACE_GLOBAL, 16);         item 0 writes word 16
  *     gpurace_plain(&stream, 1, GPURACE_READ, GPURACE_GLOBAL, 16);
  *     gpurace_stream_close(&stream, 0);
+ *
+ * That is a stream of version 2, for launches of up to 64 groups of up to 256 items. The streams of a larger one are begun with
+ * gpurace_stream_open_as and GPURACE_VERSION_4, all of them, since an acquire in version 2 can't name a release of group 64.
  *
  * Each call answers GPURACE_OK, or the first thing that is wrong with it, and has then written nothing and counted nothing.
  * Numbers are taken as 64 bits and refused where they are out of range; none is cut to fit. A stream in which a call was
@@ -27,9 +30,9 @@
 
 /*
  * The version of this header. Version 1 was the set of functions gpurace_encode_.., which did not check their arguments; version 2
- * wrote streams of version 1, whose records have room for one name.
+ * wrote streams of version 1, whose records have room for one name, and version 3 those of versions 1 and 2.
  */
-#define GPURACE_TRACE_VERSION 3
+#define GPURACE_TRACE_VERSION 4
 
 #include <limits.h>
 #include <stdint.h>
@@ -37,18 +40,20 @@
 #include <string.h>
 
 #define GPURACE_HEADER_BYTES 12
-#define GPURACE_RECORD_BYTES 44 /* of version 2; a record of version 1 has 20 */
+#define GPURACE_RECORD_BYTES 44 /* of versions 2 and 4; a record of versions 1 and 3 has 20 */
 
-/* Limits: groups and items are counted from 0, records include the end. */
+/* Limits: groups and items are counted from 0, records include the end. Versions 3 and 4 have the wide ones. */
 #define GPURACE_MOST_GROUPS 64
 #define GPURACE_MOST_ITEMS 256
+#define GPURACE_MOST_WIDE_GROUPS 65535
+#define GPURACE_MOST_WIDE_ITEMS 1024
 #define GPURACE_MOST_RECORDS 16777216
 
-/* How many releases a record of version 2 has room for; one of version 1 has room for one. */
+/* How many releases a record of versions 2 and 4 has room for; one of versions 1 and 3 has room for one. */
 #define GPURACE_NAMES_OF_RECORD 4
 
-/* The version of a stream: what its records have room for, and how many bytes one takes (20 or 44). */
-enum gpurace_version { GPURACE_VERSION_1 = 1, GPURACE_VERSION_2 = 2 };
+/* The version of a stream: how many groups and items there are, how many names a record has room for, and its bytes. */
+enum gpurace_version { GPURACE_VERSION_1 = 1, GPURACE_VERSION_2 = 2, GPURACE_VERSION_3 = 3, GPURACE_VERSION_4 = 4 };
 
 enum gpurace_kind {
     GPURACE_READ = 0,
@@ -107,8 +112,8 @@ struct gpurace_stream {
     gpurace_write *write;
     void *context;
     uint32_t group, items, records, names_of_record;
-    uint32_t releases[GPURACE_MOST_ITEMS];
-    unsigned char is_open, is_broken, lost;
+    uint32_t releases[GPURACE_MOST_WIDE_ITEMS];
+    unsigned char is_open, is_broken, lost, is_wide;
 };
 
 /* An access, as the checks and the spelling of a record see it. */
@@ -127,10 +132,10 @@ static inline const char *gpurace_status_text(enum gpurace_status status) {
     switch (status) {
     case GPURACE_OK: return "done";
     case GPURACE_NOT_OPEN: return "the stream is not open";
-    case GPURACE_BAD_GROUP: return "the group is not 0 to 63";
-    case GPURACE_BAD_ITEMS: return "the number of items is not 1 to 256";
+    case GPURACE_BAD_GROUP: return "the group is not one that the version has: 0 to 63, or 0 to 65534 in versions 3 and 4";
+    case GPURACE_BAD_ITEMS: return "the number of items is not 1 to 256, or 1 to 1024 in versions 3 and 4";
     case GPURACE_BAD_LAUNCH: return "the launch is not below 2^32";
-    case GPURACE_BAD_VERSION: return "the version is neither 1 nor 2";
+    case GPURACE_BAD_VERSION: return "the version is not 1 to 4";
     case GPURACE_BAD_ITEM: return "the item is not below the stream's number of items";
     case GPURACE_BAD_KIND: return "the kind is not one that the call writes";
     case GPURACE_BAD_SPACE: return "the space is neither global nor local";
@@ -138,7 +143,7 @@ static inline const char *gpurace_status_text(enum gpurace_status status) {
     case GPURACE_BAD_WORD: return "the word is not below 2^32";
     case GPURACE_BAD_SITE: return "the site is not below 2^32";
     case GPURACE_BAD_FLAGS: return "the flags are not 0 to 3";
-    case GPURACE_BAD_NAME: return "a name's group is not below 64, its item not below 256, or its release not below 2^24";
+    case GPURACE_BAD_NAME: return "a name's group or item is not one that the version has, or its release not below 2^24";
     case GPURACE_TOO_MANY_RECORDS: return "the stream has no room for the record and its end";
     case GPURACE_WRITE_FAILED: return "the bytes could not be written";
     }
@@ -194,8 +199,12 @@ static inline enum gpurace_status gpurace_check(const struct gpurace_stream *str
     return access->word > UINT32_MAX ? GPURACE_BAD_WORD : GPURACE_OK;
 }
 
-static inline int gpurace_is_name(const struct gpurace_name *name) {
-    return name->group < GPURACE_MOST_GROUPS && name->item < GPURACE_MOST_ITEMS && name->release < GPURACE_MOST_RECORDS;
+static inline uint64_t gpurace_most_groups(int is_wide) { return is_wide ? GPURACE_MOST_WIDE_GROUPS : GPURACE_MOST_GROUPS; }
+static inline uint64_t gpurace_most_items(int is_wide) { return is_wide ? GPURACE_MOST_WIDE_ITEMS : GPURACE_MOST_ITEMS; }
+
+static inline int gpurace_is_name(const struct gpurace_stream *stream, const struct gpurace_name *name) {
+    return name->group < gpurace_most_groups(stream->is_wide) && name->item < gpurace_most_items(stream->is_wide) &&
+           name->release < GPURACE_MOST_RECORDS;
 }
 
 /* Whether a name stands before another: by group, then by item, then by the number of the release. */
@@ -274,9 +283,10 @@ static inline uint64_t gpurace_records_of_acquire(const struct gpurace_stream *s
     return distinct > stream->names_of_record ? (distinct - 1) / stream->names_of_record + 1 : 1;
 }
 
-static inline enum gpurace_status gpurace_check_names(const struct gpurace_name *names, size_t count) {
+static inline enum gpurace_status gpurace_check_names(const struct gpurace_stream *stream, const struct gpurace_name *names,
+                                                      size_t count) {
     for (size_t at = 0; at < count; at++)
-        if (!gpurace_is_name(names + at))
+        if (!gpurace_is_name(stream, names + at))
             return GPURACE_BAD_NAME;
     return GPURACE_OK;
 }
@@ -291,18 +301,19 @@ static inline void gpurace_count_release(struct gpurace_stream *stream, uint64_t
     }
 }
 
-/* Begins the stream of a group (0 to 63) of so many items (1 to 256) in a version, and writes its header. All streams of a launch
- * give the same number of it; their versions may differ. */
+/* Begins the stream of a group (0 to 63) of so many items (1 to 256) in a version, and writes its header; versions 3 and 4 have
+ * groups 0 to 65534 of 1 to 1024 items. All streams of a launch give the same number of it; their versions may differ. */
 static inline enum gpurace_status gpurace_stream_open_as(struct gpurace_stream *stream, enum gpurace_version version,
                                                          gpurace_write *write, void *context, uint64_t group, uint64_t items,
                                                          uint64_t launch) {
-    unsigned char bytes[GPURACE_HEADER_BYTES];
+    unsigned char bytes[GPURACE_HEADER_BYTES] = {'G', 'R', 'T', (unsigned char)('0' + version)};
+    const int is_wide = version == GPURACE_VERSION_3 || version == GPURACE_VERSION_4;
     memset(stream, 0, sizeof *stream);
-    if (version != GPURACE_VERSION_1 && version != GPURACE_VERSION_2)
+    if (!is_wide && version != GPURACE_VERSION_1 && version != GPURACE_VERSION_2)
         return GPURACE_BAD_VERSION;
-    if (group >= GPURACE_MOST_GROUPS)
+    if (group >= gpurace_most_groups(is_wide))
         return GPURACE_BAD_GROUP;
-    if (items < 1 || items > GPURACE_MOST_ITEMS)
+    if (items < 1 || items > gpurace_most_items(is_wide))
         return GPURACE_BAD_ITEMS;
     if (launch > UINT32_MAX)
         return GPURACE_BAD_LAUNCH;
@@ -310,9 +321,9 @@ static inline enum gpurace_status gpurace_stream_open_as(struct gpurace_stream *
     stream->context = context;
     stream->group = (uint32_t)group;
     stream->items = (uint32_t)items;
-    stream->names_of_record = version == GPURACE_VERSION_1 ? 1 : GPURACE_NAMES_OF_RECORD;
+    stream->names_of_record = version == GPURACE_VERSION_1 || version == GPURACE_VERSION_3 ? 1 : GPURACE_NAMES_OF_RECORD;
+    stream->is_wide = (unsigned char)is_wide;
     stream->is_open = 1;
-    memcpy(bytes, version == GPURACE_VERSION_1 ? "GRT1" : "GRT2", 4);
     gpurace_put(bytes + 4, group, 2);
     gpurace_put(bytes + 6, items, 2);
     gpurace_put(bytes + 8, launch, 4);
@@ -371,7 +382,7 @@ static inline enum gpurace_status gpurace_acquire(struct gpurace_stream *stream,
         return gpurace_refuse(stream, GPURACE_BAD_KIND);
     enum gpurace_status status = gpurace_check(stream, &access, gpurace_records_of_acquire(stream, names, count));
     if (status == GPURACE_OK)
-        status = gpurace_check_names(names, count);
+        status = gpurace_check_names(stream, names, count);
     return status == GPURACE_OK ? gpurace_put_acquire(stream, &access, names, count) : gpurace_refuse(stream, status);
 }
 
@@ -386,7 +397,7 @@ static inline enum gpurace_status gpurace_acquire_release(struct gpurace_stream 
     const struct gpurace_access access = {GPURACE_RMW, space, (unsigned)scope, GPURACE_BOTH, item, word};
     enum gpurace_status status = gpurace_check(stream, &access, gpurace_records_of_acquire(stream, names, count));
     if (status == GPURACE_OK)
-        status = gpurace_check_names(names, count);
+        status = gpurace_check_names(stream, names, count);
     if (status != GPURACE_OK)
         return gpurace_refuse(stream, status);
     status = gpurace_put_acquire(stream, &access, names, count);

@@ -42,7 +42,7 @@ static void refuses_headers(void) {
     struct sink sink = {0, 1000, {0}};
     struct gpurace_stream stream;
     const size_t wide_group = 65536;
-    expect("version 3", gpurace_stream_open_as(&stream, (enum gpurace_version)3, put, &sink, 0, 1, 7), GPURACE_BAD_VERSION);
+    expect("version 5", gpurace_stream_open_as(&stream, (enum gpurace_version)5, put, &sink, 0, 1, 7), GPURACE_BAD_VERSION);
     expect("group 65536", gpurace_stream_open(&stream, put, &sink, wide_group, 1, 7), GPURACE_BAD_GROUP);
     expect("group 64", gpurace_stream_open(&stream, put, &sink, 64, 1, 7), GPURACE_BAD_GROUP);
     expect("group 2^32", gpurace_stream_open(&stream, put, &sink, past_32_bits, 1, 7), GPURACE_BAD_GROUP);
@@ -55,6 +55,43 @@ static void refuses_headers(void) {
     expect_number("bytes of refused headers", sink.length, 0);
     expect("the greatest header", gpurace_stream_open(&stream, put, &sink, 63, 256, past_32_bits - 1), GPURACE_OK);
     expect_number("bytes of a header", sink.length, GPURACE_HEADER_BYTES);
+}
+
+/* The header of a wide version has 16 bits for the group and for the items. */
+static void refuses_wide_headers(enum gpurace_version version, unsigned char digit) {
+    struct sink sink = {0, 1000, {0}};
+    struct gpurace_stream stream;
+    const unsigned char greatest[] = {'G', 'R', 'T', digit, 0xfe, 0xff, 0, 4, 0xff, 0xff, 0xff, 0xff};
+    expect("wide group 65535", gpurace_stream_open_as(&stream, version, put, &sink, 65535, 1, 7), GPURACE_BAD_GROUP);
+    expect("wide group 2^32", gpurace_stream_open_as(&stream, version, put, &sink, past_32_bits, 1, 7), GPURACE_BAD_GROUP);
+    expect("no wide items", gpurace_stream_open_as(&stream, version, put, &sink, 0, 0, 7), GPURACE_BAD_ITEMS);
+    expect("1025 items", gpurace_stream_open_as(&stream, version, put, &sink, 0, 1025, 7), GPURACE_BAD_ITEMS);
+    expect("wide launch 2^32", gpurace_stream_open_as(&stream, version, put, &sink, 0, 1, past_32_bits), GPURACE_BAD_LAUNCH);
+    expect_number("bytes of refused wide headers", sink.length, 0);
+    expect("the greatest wide header", gpurace_stream_open_as(&stream, version, put, &sink, 65534, 1024, past_32_bits - 1), GPURACE_OK);
+    expect_number("a wide header that differs", (uint64_t)(memcmp(sink.last, greatest, sizeof greatest) != 0), 0);
+}
+
+/* What a stream of version 2 refuses is taken by a wide one, up to its own limits. */
+static void takes_wide_records(enum gpurace_version version, size_t record) {
+    struct sink sink = {0, 1000, {0}};
+    struct gpurace_stream stream;
+    const enum gpurace_space space = GPURACE_GLOBAL;
+    const enum gpurace_scope device = GPURACE_DEVICE;
+    const struct gpurace_name refused[] = {{65535, 0, 0}, {0, 1024, 0}, {0, 0, 16777216}};
+    const struct gpurace_name good = {65534, 1023, 16777215};
+    const unsigned char named[] = {0xfe, 0xff, 0xff, 3, 0xff, 0xff, 0xff, 0};
+    struct gpurace_name name = {0, 0, 0};
+    expect("header", gpurace_stream_open_as(&stream, version, put, &sink, 65534, 1024, 7), GPURACE_OK);
+    expect("item 1024", gpurace_barrier(&stream, 1024, 1, 3), GPURACE_BAD_ITEM);
+    for (size_t at = 0; at < sizeof refused / sizeof *refused; at++)
+        expect("wide name", gpurace_acquire(&stream, 0, GPURACE_LOAD, space, device, 16, refused + at, 1), GPURACE_BAD_NAME);
+    expect("release", gpurace_release(&stream, 1023, GPURACE_STORE, space, device, 16, &name), GPURACE_OK);
+    expect_number("its item", sink.last[4] + 256u * sink.last[5], 1023);
+    expect_number("its name", name.group * 10000 + name.item * 10 + name.release, 655350230);
+    expect("the greatest name", gpurace_acquire(&stream, 1023, GPURACE_LOAD, space, device, 16, &good, 1), GPURACE_OK);
+    expect_number("a name that differs", (uint64_t)(memcmp(sink.last + 12, named, sizeof named) != 0), 0);
+    expect_number("bytes of two records", sink.length, GPURACE_HEADER_BYTES + 2 * record);
 }
 
 static void refuses_accesses(struct gpurace_stream *s) {
@@ -183,11 +220,17 @@ static void fails_with_the_writer(void) {
 
 int main(void) {
     refuses_headers();
+    refuses_wide_headers(GPURACE_VERSION_3, '3');
+    refuses_wide_headers(GPURACE_VERSION_4, '4');
     refuses_records();
     keeps_room_for_the_end();
     tells_names();
     orders_names(GPURACE_VERSION_1, 20, 4, 2);
     orders_names(GPURACE_VERSION_2, GPURACE_RECORD_BYTES, 1, 2);
+    orders_names(GPURACE_VERSION_3, 20, 4, 2);
+    orders_names(GPURACE_VERSION_4, GPURACE_RECORD_BYTES, 1, 2);
+    takes_wide_records(GPURACE_VERSION_3, 20);
+    takes_wide_records(GPURACE_VERSION_4, GPURACE_RECORD_BYTES);
     fills_a_record_with_names();
     fails_with_the_writer();
     return failures == 0 ? 0 : 1;

@@ -1,11 +1,11 @@
 """Whether two recordings of a kernel have the same records of each work-item, at the same places of the source. Names of releases are not
 compared, since they depend on the run."""
-import glob
 import os
-import struct
+
+from launch_files import END, HEADER, RECORD_FORMS, mapped, streams_in, streams_of
 
 GRAINS = {"": 4, "half": 2, "byte": 1}
-SIZES, BARRIER = {b"GRT1": 20, b"GRT2": 44}, 5
+BARRIER = 5
 
 
 def buffers_of(folder):
@@ -38,16 +38,16 @@ def recording(folder):
                 return name, (word - first) * grain
         return "nowhere", word
 
-    for name in glob.glob(os.path.join(folder, "group*.gpurace")):
-        with open(name, "rb") as stream:
-            data = stream.read()
-        size, group = SIZES[data[:4]], struct.unpack_from("<H", data, 4)[0]
-        for at in range(12, len(data) - size, size):
-            kind, memory, scope, order, item, _, word = struct.unpack_from("<BBBBHHI", data, at)
-            records = items.setdefault((group, item), [])
-            is_barrier = kind == BARRIER
-            place = places.get(word if is_barrier else (group, item, len(records)))
-            records.append((kind, memory, scope, order, None if is_barrier else where(memory, group, word), place))
+    for data in map(mapped, streams_of(folder)):
+        for stream in streams_in(data):
+            form, body = data[stream.start:stream.start + 4], memoryview(data)[stream.start + HEADER.size:stream.end]
+            for kind, memory, scope, order, item, word in RECORD_FORMS[form].iter_unpack(body):
+                if kind == END:
+                    continue
+                records = items.setdefault((stream.group, item), [])
+                is_barrier = kind == BARRIER
+                place = places.get(word if is_barrier else (stream.group, item, len(records)))
+                records.append((kind, memory, scope, order, None if is_barrier else where(memory, stream.group, word), place))
     return items
 
 

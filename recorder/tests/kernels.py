@@ -380,13 +380,12 @@ def kind_of(values):
     return "q" if values == (0, 0, 0, 0) else "f" if isinstance(values, tuple) else "i" if max(values) < 2 ** 31 else "I"
 
 
-def main(wanted):
+def main(text, older_text, those, wanted):
     """Launches all, or those that are wanted; `--opencl12` before these compiles the text that OpenCL C 1.2 has."""
     device, is_old = Device(), wanted[:1] == ["--opencl12"]
-    wanted = wanted[1:] if is_old else wanted
-    program = device.build(OF_OPENCL12) if is_old else device.build(TEXT, "-cl-std=CL3.0")
-    for case in cases():
-        if wanted and case.kernel not in wanted:
+    program = device.build(older_text) if is_old else device.build(text, "-cl-std=CL3.0")
+    for case in those:
+        if len(wanted) > is_old and case.kernel not in wanted:
             continue
         arguments = [Buffer(device, value, kind_of(value)) if isinstance(value, (list, tuple)) else value for value in case.arguments]
         status = device.launch(device.kernel(program, case.kernel), case.size, case.local, arguments, case.offset)
@@ -400,4 +399,4 @@ def main(wanted):
 
 
 if __name__ == "__main__":
-    main(sys.argv[1:])
+    main(TEXT, OF_OPENCL12, cases(), sys.argv[1:])

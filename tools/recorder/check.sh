@@ -104,10 +104,13 @@ expect "releases, and a load that acquires" 0 "sum_all: nothing found (6 groups 
 # of the six releases that the load is to name, four are of groups that are not recorded
 expect "a window of hand-overs" 0 "sum_all: nothing found (2 groups" "hand-overs from groups outside the window, not recorded: 4" \
     -- --opencl20 --groups 4:2 --build-options "-DORDER=memory_order_release -DACQUIRES" sum_all.sim
-expect "a large launch" 2 "not recorded: it has 128 work-groups, and a trace has room for 64; --groups 0:64 records 64 of them" \
-    -- large.sim
-expect "a large window" 2 "not recorded: it has 128 work-groups, and a trace has room for 64; --groups 1:64 records" \
+# each group has a record of each of its 64 items, and its end
+expect "a large launch" 0 "large: nothing found (128 groups of 64 work-items, 8320 records)" -- large.sim
+expect "a large window" 0 "large: nothing found (65 groups of 64 work-items, 4225 records)" "groups 1 to 65 of 128 (as 0 to 64)" \
     -- --groups 1:65 large.sim
+expect "two windows" 0 "large: nothing found (16 groups of 64 work-items, 1040 records)" \
+    "groups 0 to 7, 96 to 103 of 128 (as 0 to 7, 8 to 15)" -- --groups 0:8,96:8 large.sim
+expect "windows in disorder" 3 "several in ascending order" -- --groups 96:8,0:8 large.sim
 expect "a window of it" 0 "large: nothing found (32 groups of 64 work-items, 2080 records)" "groups 96 to 127 of 128" \
     -- --groups 96:32 large.sim
 expect "a copy that is waited for" 0 "copy_tiles: nothing found" -- --build-options -DWAIT=1 copy_tiles.sim

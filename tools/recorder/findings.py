@@ -3,16 +3,18 @@
 `findings(program, folder)` is all that others call. Which words race, which two accesses do, and where in the source
 these stand, is what `gpurace races` says; of further words of a kind of races, `gpurace explain` says it, and those that
 are of other buffers or other places of the source are shown. Of the streams only barriers and shown accesses are read.
+A launch of many groups has one file of joined streams, which `races` and `explain` have to take as they take the files of groups.
 """
 import collections
 import json
 import os
 import re
-import struct
 import subprocess
 
+from launch_files import HEADER, RECORD_FORMS, mapped, streams_in, streams_of
+
 WRITE, BARRIER = 1, 5
-RECORD_FORMS = {b"GRT1": struct.Struct("<BBBBHxxI8x"), b"GRT2": struct.Struct("<BBBBHxxI32x")}  # names are passed over
+SMALL = 1 << 22      # bytes of streams that are given to gpurace in one piece
 KINDS = ["read", "write", "atomic load", "atomic store", "atomic read-modify-write"]
 SCOPES = ["", "work-group scope", "device scope"]
 ORDERS = ["", "relaxed", "acquire", "release", "acquire and release"]
@@ -24,6 +26,7 @@ MOST_RUNS = 5        # of words of a buffer
 MOST_EXPLAINED = 5   # further words of a kind
 MOST_BYTES = 500000  # of streams of which words are explained; each takes a part of a second
 MOST_COLUMNS = 160   # of a line of source
+MOST_DIVERGENT = 100  # groups with divergent barriers that are looked at
 
 Event = collections.namedtuple("Event", "group item index")
 Access = collections.namedtuple("Access", "kind scope order")
@@ -35,25 +38,26 @@ Buffer = collections.namedtuple("Buffer", "group first last name")
 
 def findings(program, folder):
     """The status of the report on the launch in the folder, its lines, and what they mean as lines of text."""
-    streams = {name: read(folder, name) for name in sorted(os.listdir(folder)) if name.endswith(".gpurace")}
-    ran = subprocess.run([program, "replay"], input=b"".join(streams.values()), capture_output=True)
+    streams = streams_of(folder)
+    ran = replay(program, streams)
     if ran.returncode not in (0, 1):
         return ran.returncode, [], [ran.stderr.decode().strip()]
     report = ran.stdout.decode().splitlines()
-    lines = [line.split() for line in report]
-    races, told = [], []
-    if any(line[0] == "race" for line in lines):
-        races, told = races_of(program, folder, streams)
+    lines = [line.split() for line in report if not line.startswith("race ")]
+    races, told = races_of(program, folder, streams) if len(lines) < len(report) else ([], [])
     if races or any(line[0] in ("cut", "diverge", "unmatched") for line in lines):
         further = [further_of(program, folder, streams, race) for race in races]
-        launch = Launch(folder, streams.values(), lines, races + sum(further, []))
+        launch = Launch(folder, streams, lines, races + sum(further, []))
         told = [text for kind in zip(races, further) for text in launch.kind_told(*kind)] + told + launch.others()
     return ran.returncode, report, told
 
 
-def read(folder, name):
-    with open(os.path.join(folder, name), "rb") as given:
-        return given.read()
+def replay(program, streams):
+    """gpurace's report on the streams in these files. Large ones are never in memory as a whole."""
+    if sum(map(os.path.getsize, streams)) <= SMALL:
+        return subprocess.run([program, "replay"], input=b"".join(map(mapped, streams)), capture_output=True)
+    with subprocess.Popen(["cat", *streams], stdout=subprocess.PIPE) as joined:
+        return subprocess.run([program, "replay"], stdin=joined.stdout, capture_output=True)
 
 
 def races_of(program, folder, streams):
@@ -62,7 +66,7 @@ def races_of(program, folder, streams):
     for name in ("places", "buffers"):
         if os.path.exists(os.path.join(folder, name)):
             words += ["--" + name, os.path.join(folder, name)]
-    words += [os.path.join(folder, name) for name in streams]
+    words += streams
     ran, as_json = subprocess.run(words, capture_output=True), subprocess.run([*words, "--json"], capture_output=True)
     if (ran.returncode, as_json.returncode) != (1, 1):
         return [], ["the races could not be told: " + ran.stderr.decode(errors="replace").strip()]
@@ -98,22 +102,22 @@ def pair_of(text):
 
 def further_of(program, folder, streams, race):
     """Further words of the kind as races of their own: the first of each buffer, and then the first of each run."""
-    if sum(map(len, streams.values())) > MOST_BYTES:
+    if sum(map(os.path.getsize, streams)) > MOST_BYTES:
         return []
     buffers, first_of = buffers_of(folder), {}
     pieces = [piece for run in race.runs for piece in parts(run, buffers)]
     for part, buffer in pieces:
         first_of.setdefault(buffer and buffer.name, part)
     words = list(dict.fromkeys([*first_of.values(), *(part for part, _ in pieces)]))  # the first is shown already
-    found = [explained(program, folder, streams, race.space, part) for part in words[1:1 + MOST_EXPLAINED]]
+    found = [explained(program, streams, race.space, part) for part in words[1:1 + MOST_EXPLAINED]]
     return [other for other in found if other]
 
 
-def explained(program, folder, streams, space, run):
+def explained(program, streams, space, run):
     """The first word of the run as a race of its own, by `gpurace explain`; None where that has failed."""
     group, word, _ = run
     words = [program, "explain", "g" if group is None else f"l{group}", str(word)]
-    ran = subprocess.run(words + [os.path.join(folder, name) for name in streams], capture_output=True)
+    ran = subprocess.run(words + streams, capture_output=True)
     if ran.returncode != 1:
         return None
     return Race(space, 1, [Run(group, word, word)], *pair_of(ran.stdout.decode()), {})
@@ -123,12 +127,12 @@ class Group:
     """What is read of a group's stream: the barriers of each item, and what some of its events do."""
 
     def __init__(self, stream, events):
-        self.items = struct.unpack_from("<H", stream, 6)[0]
+        form, _, self.items, _ = HEADER.unpack_from(stream)
         self.barriers = [[] for _ in range(self.items)]
         self.accesses = {}
         shown = [{event.index: event for event in events if event.item == item} for item in range(self.items)]
         count = [0] * self.items
-        for kind, space, scope, order, item, site in RECORD_FORMS[stream[:4]].iter_unpack(memoryview(stream)[12:]):
+        for kind, space, scope, order, item, site in RECORD_FORMS[form].iter_unpack(stream[HEADER.size:]):
             if kind == BARRIER:
                 self.barriers[item].append(Barrier(count[item], site, space))
             elif count[item] in shown[item]:
@@ -146,14 +150,16 @@ class Launch:
     def __init__(self, folder, streams, report, races):
         self.folder = folder
         self.report = report
-        self.streams = {struct.unpack_from("<H", stream, 4)[0]: stream for stream in streams}
+        self.streams = {stream.group: memoryview(data)[stream.start:stream.end] for data in map(mapped, streams)
+                        for stream in streams_in(data)}
         self.divergent = {(int(line[1]), int(line[2])): line[3] for line in report if line[0] == "diverge"}
+        self.looked_at = set(list(dict.fromkeys(group for group, _ in self.divergent))[:MOST_DIVERGENT])
         events = {event for race in races for event in (race.first, race.second)}
-        numbers = {event.group for event in events} | {group for group, _ in self.divergent}
+        numbers = {event.group for event in events} | self.looked_at
         self.groups = {group: Group(self.streams[group], [event for event in events if event.group == group])
                        for group in numbers}
         self.buffers = buffers_of(folder)
-        self.equal = [equal_of(*line.split()) for line in lines_of(folder, "equal")]
+        self.equal = by_group(equal_of(*line.split()) for line in lines_of(folder, "equal"))
         words = [line.split() for line in lines_of(folder, "info.txt")]
         self.copying = {tuple(map(int, line[1:])) for line in words if line[:1] == ["copying-item"]}  # (group, item)
         self.places = self.find_places({"%d %d %d" % event for event in events})
@@ -162,6 +168,8 @@ class Launch:
         """The places of sites, by their numbers as text, and of these events and unmatched acquires, by "GROUP ITEM INDEX"."""
         keys = keys | {" ".join(line[1:4]) for line in self.report if line[0] == "unmatched"}
         found = {}
+        if not keys and not self.divergent:
+            return found
         for line in lines_of(self.folder, "places"):
             fields = line.split(" ", 3)
             is_event = len(fields) == 4 and fields[1][:1].isdigit()
@@ -189,8 +197,8 @@ class Launch:
     def is_equal(self, race):
         """Whether both accesses are stores, and each of the words has got one value by all stores to it (the file `equal`)."""
         is_store = all(self.groups[event.group].accesses[event].kind == WRITE for event in (race.first, race.second))
-        return is_store and all(any(equal.group == run.group and equal.first <= run.first and run.last <= equal.last
-                                    for equal in self.equal) for run in race.runs)
+        return is_store and all(any(equal.first <= run.first and run.last <= equal.last for equal in self.equal[run.group])
+                                for run in race.runs)
 
     def sight(self, race):
         """The buffer of the race's first word, and the places of its two accesses, whichever comes first."""
@@ -260,12 +268,14 @@ class Launch:
             place = self.places.get(f"{group} {item} {index}", "unknown")
             told.append(f"{place}: acquire by group {group}, item {item}, without its release ({cause})")
         for (group, instance), cause in self.divergent.items():
-            alike[cause, self.came(group, instance)].append((group, instance))
+            if group in self.looked_at:
+                alike[cause, self.came(group, instance)].append((group, instance))
         for (cause, came), instances in alike.items():
             is_cut = instances[0][0] in cut and cause == "missing"
             doubt = ", or theirs is among the records that were lost" if is_cut else ""
             told += self.divergence_told(cause, came, instances, doubt)
-        return told
+        more = len(self.divergent) - sum(map(len, alike.values()))
+        return told + ([f"and {more} more divergent barriers, of further groups"] if more else [])
 
     def came(self, number, instance):
         """The items of a group by the place of their barrier: the place or None, how many, and the first."""
@@ -303,7 +313,15 @@ def source_line(folder, place):
 
 
 def buffers_of(folder):
-    return [buffer_of(*said.groups()) for said in map(BUFFER.fullmatch, lines_of(folder, "buffers")) if said]
+    """The buffers by their groups; those of global memory have None."""
+    return by_group(buffer_of(*said.groups()) for said in map(BUFFER.fullmatch, lines_of(folder, "buffers")) if said)
+
+
+def by_group(those):
+    found = collections.defaultdict(list)
+    for it in those:
+        found[it.group].append(it)
+    return found
 
 
 def buffer_of(group, first, words, name):
@@ -320,7 +338,7 @@ def parts(run, buffers):
     """A run of words, cut where a buffer begins or ends; each part with its buffer, or None."""
     first = run.first
     while first <= run.last:
-        here = [buffer for buffer in buffers if buffer.group == run.group and first <= buffer.last]
+        here = [buffer for buffer in buffers[run.group] if first <= buffer.last]
         inside = next((buffer for buffer in here if buffer.first <= first), None)
         end = inside.last if inside else min((buffer.first - 1 for buffer in here), default=run.last)
         yield Run(run.group, first, min(run.last, end)), inside

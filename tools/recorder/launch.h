@@ -3,16 +3,12 @@
 #ifndef GPURACE_RECORDER_LAUNCH_H
 #define GPURACE_RECORDER_LAUNCH_H
 
-#include "../gpurace_trace.h"
+#include "window.h"
 
-#include <algorithm>
 #include <array>
-#include <cstdint>
 #include <map>
-#include <string>
 #include <unordered_map>
 #include <utility>
-#include <vector>
 
 namespace gpurace {
 
@@ -84,7 +80,7 @@ struct Launch {
     uint32_t number = 0;
     std::string kernel, source;
     Size global, local, groups;
-    uint64_t window_first = 0, window_count = 0;
+    Window window;                              // the groups that are recorded
     std::map<uint32_t, Group> group;            // those that have begun, by their numbers in the launch
     std::vector<std::string> places;
     std::unordered_map<const void *, uint32_t> place_of;  // by instruction
@@ -94,8 +90,7 @@ struct Launch {
     std::array<std::map<uint32_t, Buffer>, 2> buffers;    // by space, by number
     Losses losses;
 
-    bool is_window() const { return window_count < groups.count(); }
-    bool is_in_window(uint64_t number) const { return number >= window_first && number - window_first < window_count; }
+    bool is_in_window(uint64_t number) const { return window.number_of(number) != Window::NONE; }
 };
 
 // The releases whose release sequences the value of each atomic word belongs to. The simulator runs one thing at a time, so
@@ -139,7 +134,7 @@ private:
 struct Settings {
     std::string out, kernel;
     long launch = -1;
-    uint64_t first = 0, count = UINT64_MAX;
+    Window groups;
     bool quiet = false;
 
     static Settings from_environment();

@@ -1,34 +1,16 @@
 """Recorded launches: what their folders say, and what gpurace finds in them."""
-import collections
-import glob
 import os
-import subprocess
 
 from findings import findings, source_line
+from launch_files import info_of, kept_of, windows_of
 
 FOUND, INCOMPLETE = 1, 2
-SMALL = 1 << 22  # bytes of streams that are given to gpurace in one piece
 MOST_PLACES = 3  # of one kind that are told
 
 
 def count(number, what):
     ending = "" if number == 1 else "es" if what.endswith("ch") else "s"
     return f"{number} {what}{ending}"
-
-
-def info_of(folder, name="info.txt"):
-    """The lines of the file by their first words; a folder without info.txt is not whole."""
-    path = os.path.join(folder, name)
-    info = collections.defaultdict(list)
-    with open(path, errors="replace") if os.path.exists(path) else open(os.devnull) as lines:
-        for line in lines:
-            key, _, value = line.rstrip("\n").partition(" ")
-            info[key].append(value)
-    return info
-
-
-def streams_of(folder):
-    return sorted(glob.glob(os.path.join(glob.escape(folder), "*.gpurace")))
 
 
 class Launch:
@@ -47,7 +29,7 @@ class Launch:
         self.judge(program, is_window_wanted, piped)
 
     def judge(self, program, is_window_wanted, piped):
-        status, self.report, self.told = self.read_pipes(program, piped) if piped else replayed(program, self.folder)
+        status, self.report, self.told = self.read_pipes(program, piped) if piped else findings(program, self.folder)
         self.told = out_of_bounds(self.info, self.folder) + self.told
         self.status = FOUND if self.info["out-of-bounds"] and status == 0 else status if status in (0, FOUND) else INCOMPLETE
         self.found = {0: "nothing found", FOUND: "FOUND"}.get(self.status, "the trace was refused")
@@ -56,16 +38,15 @@ class Launch:
         if self.status == 0 and (self.info["cut"] or (self.info["window"] and not is_window_wanted)):
             self.status, self.found = INCOMPLETE, "nothing found in what was recorded"
         x, y, z = map(int, self.info["local"][0].split())
-        groups = len(streams_of(self.folder))
-        self.size = f" ({count(groups, 'group')} of {count(x * y * z, 'work-item')}, {self.info['records'][0]} records)"
+        self.size = f" ({count(kept_of(self.info), 'group')} of {count(x * y * z, 'work-item')}, {self.info['records'][0]} records)"
         self.told += [f"note: {loss}" for loss in losses(self.info)]
 
     def read_pipes(self, program, piped):
-        """As `replayed`, of a launch that was judged while it was recorded. What is found is told by what stands in files."""
+        """As `findings`, of a launch that was judged while it was recorded. What is found is told by what stands in files."""
         status, report = piped.finish(self.info)
         if status == 0:
             return status, report, []
-        in_files = replayed(program, self.folder)
+        in_files = findings(program, self.folder)
         if status != FOUND:  # not all has come
             self.info["cut"].append("")
             return in_files
@@ -81,16 +62,6 @@ class Launch:
         first = told_of.setdefault((self.kernel, *self.told), self.number)
         for line in self.told if first == self.number else [f"the same as in launch {first}"] if self.told else []:
             yield f"    {line}"
-
-
-def replayed(program, folder):
-    """As `findings`, but that streams in which nothing is found are never in memory as a whole."""
-    files = streams_of(folder)
-    if sum(map(os.path.getsize, files)) > SMALL:
-        with subprocess.Popen(["cat", *files], stdout=subprocess.PIPE) as joined:
-            if subprocess.run([program, "replay"], stdin=joined.stdout, capture_output=True).returncode == 0:
-                return 0, [], []
-    return findings(program, folder)
 
 
 def out_of_bounds(info, folder):
@@ -125,8 +96,12 @@ def losses(info):
     if info["places-cut"]:
         yield f"some places are not known: {info['places-cut'][0]}"
     if info["window"]:
-        first, number = map(int, info["window"][0].split())
-        yield f"the report is of groups {first} to {first + number - 1} of {info['groups'][0]} (as 0 to {number - 1})"
+        groups, numbers, next_number = [], [], 0
+        for first, number in windows_of(info):
+            groups.append(f"{first} to {first + number - 1}")
+            numbers.append(f"{next_number} to {next_number + number - 1}")
+            next_number += number
+        yield f"the report is of groups {', '.join(groups)} of {info['groups'][0]} (as {', '.join(numbers)})"
 
 
 def unrecorded(folder):

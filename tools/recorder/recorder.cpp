@@ -78,9 +78,7 @@ public:
         launch_->global = size_of(invocation->getGlobalSize());
         launch_->local = size_of(invocation->getLocalSize());
         launch_->groups = size_of(invocation->getNumGroups());
-        const uint64_t groups = launch_->groups.count();
-        launch_->window_first = settings_.first;
-        launch_->window_count = settings_.first < groups ? std::min(settings_.count, groups - settings_.first) : 0;
+        launch_->window = settings_.groups.within(launch_->groups.count());
         const std::string refusal = refusal_of(*launch_);
         if (refusal.empty()) return name_global_buffers(kernel);
         write_launch(*launch_, settings_, refusal);
@@ -168,15 +166,11 @@ private:
     // Why a trace can't have the launch, or nothing.
     static std::string refusal_of(const Launch &launch) {
         const uint64_t items = launch.local.count(), groups = launch.groups.count();
-        if (items > GPURACE_MOST_ITEMS)
+        if (items > GPURACE_MOST_WIDE_ITEMS)
             return "a work-group has " + std::to_string(items) + " work-items, and a trace has room for " +
-                   std::to_string(GPURACE_MOST_ITEMS);
-        if (launch.window_count == 0)
+                   std::to_string(GPURACE_MOST_WIDE_ITEMS);
+        if (launch.window.count() == 0)
             return "it has " + std::to_string(groups) + " work-groups, and none of the window";
-        const std::string most = std::to_string(GPURACE_MOST_GROUPS);
-        if (launch.window_count > GPURACE_MOST_GROUPS)
-            return "it has " + std::to_string(groups) + " work-groups, and a trace has room for " + most + "; --groups " +
-                   std::to_string(launch.window_first) + ":" + most + " records " + most + " of them";
         return "";
     }
 

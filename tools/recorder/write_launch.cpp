@@ -3,7 +3,6 @@
 #include "launch.h"
 
 #include <cerrno>
-#include <cinttypes>
 #include <cstdlib>
 #include <cstring>
 #include <fstream>
@@ -43,8 +42,7 @@ public:
         lay_out_buffers();
         number_releases();
         std::ofstream places(folder_ + "/places");
-        for (uint64_t at = 0; at < launch_.window_count; at++)
-            if (!write_stream(uint32_t(at), places)) return false;
+        if (!write_streams(places)) return false;
         for (size_t site = 0; site < launch_.site_places.size(); site++)
             places << site + 1 << ' ' << launch_.places[launch_.site_places[site]] << '\n';
         std::ofstream(folder_ + "/kernel.cl") << launch_.source;
@@ -58,6 +56,7 @@ private:
     const Settings &settings_;
     std::string folder_;
     uint64_t records_ = 0, items_ = 0, added_loads_ = 0;
+    bool is_wide_ = false;
     std::set<uint32_t> cut_;
     // of each item with releases, the number of the first record of each of its release operations
     std::map<std::pair<uint32_t, uint16_t>, std::vector<uint64_t>> first_record_;
@@ -118,16 +117,18 @@ private:
         for (const Release &release : launch_.names[size_t(record.names)]) {
             const auto found = first_record_.find({release.group, release.item});
             if (found != first_record_.end() && release.number < found->second.size())
-                names.push_back({release.group - launch_.window_first, release.item, found->second[release.number] + word});
+                names.push_back({launch_.window.number_of(release.group), release.item, found->second[release.number] + word});
         }
         return names;
     }
 
-    // The version of a group's stream: the second, whose records have room for several names, where an acquire has several.
+    // The version of a group's stream: one whose records have room for several names, where an acquire has several, and a wide
+    // one where the launch does not fit the others.
     gpurace_version version(const Group &group) const {
         for (const Record &record : group.records)
-            if (record.names >= 0 && launch_.names[size_t(record.names)].size() > 1) return GPURACE_VERSION_2;
-        return GPURACE_VERSION_1;
+            if (record.names >= 0 && launch_.names[size_t(record.names)].size() > 1)
+                return is_wide_ ? GPURACE_VERSION_4 : GPURACE_VERSION_2;
+        return is_wide_ ? GPURACE_VERSION_3 : GPURACE_VERSION_1;
     }
 
     gpurace_status put(gpurace_stream &stream, const Record &record, uint64_t at) const {
@@ -168,25 +169,41 @@ private:
         return GPURACE_OK;
     }
 
-    bool write_stream(uint32_t number, std::ostream &places) {
-        Group &group = launch_.group[uint32_t(number + launch_.window_first)];
+    // Each group has a file, and where there are many groups all have one.
+    bool write_streams(std::ostream &places) {
+        const uint64_t count = launch_.window.count();
+        uint64_t items = launch_.local.count();
+        for (const auto &[number, group] : launch_.group) items = std::max<uint64_t>(items, group.streamed_items());
+        is_wide_ = !fits_first_versions(count, items);
+        std::ofstream joined;
+        if (count > GPURACE_MOST_GROUPS) joined.open(folder_ + "/groups.gpurace", std::ios::binary);
+        for (uint32_t number = 0; number < count; number++) {
+            std::ostringstream name;
+            name << folder_ << "/group" << std::setw(2) << std::setfill('0') << number << ".gpurace";
+            std::ofstream own;
+            if (!joined.is_open()) own.open(name.str(), std::ios::binary);
+            std::ofstream &out = joined.is_open() ? joined : own;
+            if (!write_stream(number, out, places) || !out.flush().good()) return false;
+        }
+        return true;
+    }
+
+    bool write_stream(uint32_t number, std::ostream &out, std::ostream &places) {
+        Group &group = launch_.group[uint32_t(launch_.window.group_of(number))];
         if (group.items == 0) group.items = uint32_t(launch_.local.count()); // it never began: the kernel was stopped
         const uint32_t items = group.streamed_items();
-        std::ostringstream name;
-        name << folder_ << "/group" << std::setw(2) << std::setfill('0') << number << ".gpurace";
-        std::ofstream out(name.str(), std::ios::binary);
         gpurace_stream stream;
-        gpurace_status status = gpurace_stream_open_as(&stream, version(group), write_bytes, static_cast<std::ostream *>(&out), number,
-                                                       items, launch_.number);
+        gpurace_status status = gpurace_stream_open_as(&stream, version(group), write_bytes, &out, number, items, launch_.number);
         if (status == GPURACE_OK) status = put_records(stream, group, places);
         const bool is_cut = !group.is_complete || group.is_full || status == GPURACE_TOO_MANY_RECORDS;
         if (status == GPURACE_TOO_MANY_RECORDS) status = GPURACE_OK;
         if (status == GPURACE_OK) status = gpurace_stream_close(&stream, is_cut);
-        if (status != GPURACE_OK) std::fprintf(stderr, "gpurace-recorder: %s: %s\n", name.str().c_str(), gpurace_status_text(status));
+        if (status != GPURACE_OK)
+            std::fprintf(stderr, "gpurace-recorder: %s: group %u: %s\n", folder_.c_str(), number, gpurace_status_text(status));
         if (is_cut) cut_.insert(number);
         records_ += stream.records;
         items_ += items;
-        return status == GPURACE_OK && out.flush().good();
+        return status == GPURACE_OK;
     }
 
     std::string name_of(uint32_t number, const Buffer &buffer) const {
@@ -197,7 +214,7 @@ private:
         std::ofstream out(folder_ + "/buffers");
         for (const auto &[number, buffer] : launch_.buffers[GPURACE_GLOBAL])
             if (buffer.bytes > 0) out << "g " << buffer.first << ' ' << buffer.words() << ' ' << name_of(number, buffer) << '\n';
-        for (uint64_t group = 0; group < launch_.window_count; group++)
+        for (uint64_t group = 0; group < launch_.window.count(); group++)
             for (const auto &[number, buffer] : launch_.buffers[GPURACE_LOCAL])
                 if (buffer.bytes > 0)
                     out << "l " << group << ' ' << buffer.first << ' ' << buffer.words() << ' ' << name_of(number, buffer) << '\n';
@@ -212,11 +229,12 @@ private:
             out << "not-recorded " << refusal << '\n';
             return out.flush().good();
         }
-        if (launch_.is_window()) out << "window " << launch_.window_first << ' ' << launch_.window_count << '\n';
+        if (launch_.window.count() < launch_.groups.count()) out << launch_.window.lines();
         out << "items " << items_ << "\nrecords " << records_ << '\n';
         for (const uint32_t group : cut_) out << "cut " << group << '\n';
         for (const auto &[number, group] : launch_.group)
-            if (group.is_kept && group.has_copies) out << "copying-item " << number - launch_.window_first << ' ' << group.items << '\n';
+            if (group.is_kept && group.has_copies)
+                out << "copying-item " << launch_.window.number_of(number) << ' ' << group.items << '\n';
         write_losses(out);
         return out.flush().good();
     }
@@ -240,17 +258,16 @@ Settings Settings::from_environment() {
     char rest = 0;
     if (!launch.empty() && std::sscanf(launch.c_str(), "%9ld%c", &settings.launch, &rest) != 1)
         refuse_setting("GPURACE_LAUNCH", "a number");
-    if (!groups.empty() && (std::sscanf(groups.c_str(), "%9" SCNu64 ":%9" SCNu64 "%c", &settings.first, &settings.count, &rest) != 2 ||
-                            settings.count == 0))
-        refuse_setting("GPURACE_GROUPS", "FIRST:COUNT, as 0:8");
+    if (!groups.empty() && !settings.groups.parse(groups)) refuse_setting("GPURACE_GROUPS", Window::FORM);
     return settings;
 }
 
 void write_launch(Launch &launch, const Settings &settings, const std::string &refusal) {
     std::string reason = refusal;
     for (const auto &[number, group] : launch.group)
-        if (group.streamed_items() > GPURACE_MOST_ITEMS)
-            reason = "its asynchronous copies need one more work-item in a group than the 256 that a trace has room for";
+        if (group.streamed_items() > GPURACE_MOST_WIDE_ITEMS)
+            reason = "its asynchronous copies need one more work-item in a group than the " + std::to_string(GPURACE_MOST_WIDE_ITEMS) +
+                     " that a trace has room for";
     Writer writer(launch, settings);
     const bool is_written = writer.write(reason);
     const std::string told = !is_written        ? writer.folder() + " could not be written: " + std::strerror(errno)

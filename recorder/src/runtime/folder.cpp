@@ -24,8 +24,8 @@ std::string shape_of(const Request &request) {
     std::ostringstream text;
     text << "kernel " << request.kernel->name << "\nlaunch " << request.number << '\n' << sizes("global ", range.global)
          << sizes("local ", range.local) << "groups " << range.group_count() << '\n';
-    if (request.kept < range.group_count()) text << "window " << request.first << ' ' << request.kept << '\n';
-    for (uint64_t group = 0; request.kernel->has_copies && group < request.kept; group++)
+    if (request.window.count() < range.group_count()) text << request.window.lines();
+    for (uint64_t group = 0; request.kernel->has_copies && group < request.window.count(); group++)
         text << "copying-item " << group << ' ' << range.items_of_group() << '\n';
     return text.str();
 }
@@ -38,7 +38,7 @@ std::string buffers_of(const Launch &launch) {
     for (const Span &span : launch.spans) line("g", span);
     const std::vector<Entry> &entries = launch.request.entries;
     const std::vector<Span> locals = spans_of(entries, lay_out_locals(entries, 1 << 12).addresses, LOCAL);
-    for (uint64_t group = 0; group < launch.request.kept; group++)
+    for (uint64_t group = 0; group < launch.request.window.count(); group++)
         for (const Span &span : locals) line("l " + std::to_string(group), span);
     return text.str();
 }
@@ -89,10 +89,10 @@ bool begin_folder(Launch &launch, std::string &error) {
 void end_folder(Launch &launch, double seconds) {
     const Request &request = launch.request;
     const std::string folder = request.folder + "/", part = folder + "info.part";
-    const uint64_t items = request.range.items_of_group() + request.kernel->has_copies;
+    const uint64_t items = request.range.items_of_group() + request.kernel->has_copies, kept = request.window.count();
     std::ostringstream info;
-    info << shape_of(request) << "items " << request.kept * items << "\nrecords " << launch.records << '\n';
-    for (uint64_t group = 0; group < request.kept; group++)
+    info << shape_of(request) << "items " << kept * items << "\nrecords " << launch.records << '\n';
+    for (uint64_t group = 0; group < kept; group++)
         if (launch.is_cut[group]) info << "cut " << group << '\n';
     if (launch.places.error()) info << "places-cut " << std::strerror(launch.places.error()) << '\n';
     for (const std::string &note : request.program->notes) info << "note " << note << '\n';

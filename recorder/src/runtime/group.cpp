@@ -47,17 +47,17 @@ void Group::put(uint32_t item, uint32_t &index, const Site &site, uint64_t head,
     }
     stream->put(head, word, names, count);
     const uint32_t number = index++;
-    if (places.empty() || (head & 0xff) >= BARRIER) return;
-    if (places_used + PLACE_NUMBERS + site.place.size() > places.size()) flush_places();
-    char *at = append(append(append(places.data() + places_used, window), item), number);
+    if (!places || (head & 0xff) >= BARRIER) return;
+    if (places_used + PLACE_NUMBERS + site.place.size() > PLACES_ROOM) flush_places();
+    char *at = append(append(append(places.get() + places_used, window), item), number);
     std::memcpy(at, site.place.data(), site.place.size());
     at += site.place.size();
     *at++ = '\n';
-    places_used = size_t(at - places.data());
+    places_used = size_t(at - places.get());
 }
 
 void Group::flush_places() {
-    if (!launch->pipes.are_open) launch->places.append(places.data(), places_used);
+    if (!launch->streams.are_piped) launch->places.append(places.get(), places_used);
     places_used = 0;
 }
 
@@ -67,8 +67,8 @@ std::unique_ptr<Group> Group::begin(Launch &launch, uint64_t number, Pool &pool,
     group->launch = &launch;
     group->number = number;
     group->random = &random;
-    group->window = uint32_t(number - request.first);
-    group->is_recorded = number >= request.first && number - request.first < request.kept;
+    group->window = uint32_t(request.window.number_of(number));
+    group->is_recorded = request.window.number_of(number) != Window::NONE;
     group->place_memory(pool);
     if (!group->memory) return nullptr;
     group->begin_items(pool);
@@ -103,10 +103,10 @@ void Group::place_memory(Pool &pool) {
 }
 
 void Group::open_stream() {
-    stream.emplace(stream_path(launch->request.folder, window), window, launch->pipes);
-    if (!stream->open(launch->has_names, launch->written)) launch->is_over = true;
+    stream.emplace(window, launch->has_names, launch->streams, launch->written);
+    if (!stream->open()) launch->is_over = true;
     stored.emplace(words_of(spans));
-    if (settings().writes_places) places.resize(PLACES_ROOM);
+    if (settings().writes_places) places.reset(new char[PLACES_ROOM]);
 }
 
 void Group::begin_items(Pool &pool) {
@@ -154,7 +154,7 @@ void Group::begin_item(Item &item, uint64_t each, const uint64_t at[3], const ui
 // Where all items stand at barriers or have ended, they go on: a divergent barrier is what items do.
 bool Group::sweep() {
     if (launch->written > settings().most_records) launch->is_over = true;
-    if (launch->written > settings().most_pending) launch->pipes.open(launch->request.folder);
+    if (launch->written > settings().most_pending) launch->streams.open_pipes();
     for (size_t at = order.size(); at > 1; at--) std::swap(order[at - 1], order[random->below(uint32_t(at))]);
     size_t ended = 0, standing = 0;
     bool is_moved = false, is_idle = true;

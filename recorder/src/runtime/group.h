@@ -75,7 +75,7 @@ struct Group {
     uint8_t *memory = nullptr, *stacks = nullptr;
     std::optional<Stream> stream;             // of a group that is recorded
     std::optional<StoredValues> stored;       // in local memory
-    std::vector<char> places;
+    std::unique_ptr<char[]> places;           // lines of it
     size_t places_used = 0;
     uint32_t copier_records = 0;
 

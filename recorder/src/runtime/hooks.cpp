@@ -88,7 +88,7 @@ __attribute__((noinline)) void note_stored(Group &group, uint32_t item, int spac
     const uint32_t grain = part.span->grain;
     if ((part.address - part.span->address) % grain) value = nullptr;
     for (uint64_t word = part.first_word(), last = part.last_word(); word <= last; word++) {
-        if (value) values.note(word, group.window << 16 | item, word_at(value, grain)), value += grain;
+        if (value) values.note(word, group.window << 10 | item, word_at(value, grain)), value += grain;
         else values.note_unknown(word);
     }
 }

@@ -21,10 +21,12 @@ std::vector<uint64_t> addresses_of(const std::vector<Entry> &entries) {
 
 std::vector<std::string> headers_of(const Request &request) {
     const Kernel &kernel = *request.kernel;
+    const uint64_t count = request.window.count(), more = kernel.has_copies;
+    const bool is_wide = !fits_first_versions(count, request.range.items_of_group() + more);
     std::vector<std::string> headers;
-    for (uint64_t group = 0; group < request.kept; group++) {
-        const uint64_t items = request.range.items_of(request.first + group) + kernel.has_copies;
-        headers.push_back(stream_header(uint32_t(group), items, request.number, kernel.has_names));
+    for (uint32_t group = 0; group < count; group++) {
+        const uint64_t items = request.range.items_of(request.window.group_of(group)) + more;
+        headers.push_back(stream_header(is_wide, kernel.has_names, group, items, request.number));
     }
     return headers;
 }
@@ -98,9 +100,8 @@ Launch::Launch(const Request &given)
     : request(given), seed(settings().seed + given.number * 1000003ull), sites(given.program->sites.data()),
       has_names(given.kernel->has_names), spans(spans_of(given.entries, addresses_of(given.entries), GLOBAL)),
       locals(lay_out_locals(given.entries, 0)),
-      stored(given.kept ? words_of(spans) : 0), stored_in_locals(given.kept), pipes(headers_of(given)),
-      losses(given.program->sites.size()),
-      is_cut(given.kept, true),
+      stored(given.is_recorded() ? words_of(spans) : 0), stored_in_locals(given.window.count()),
+      streams(given.folder, headers_of(given)), losses(given.program->sites.size()), is_cut(given.window.count(), true),
       stack_bytes(PAGE + (RUNTIME_BYTES + given.program->frame_bytes + PAGE - 1) / PAGE * PAGE) {
     uint32_t most = 0;
     for (const Site &site : given.program->sites) most = std::max(most, site.bytes);
@@ -144,7 +145,7 @@ void Launch::run_workers() {
 
 Result Launch::run() {
     Result result;
-    if (request.kept > 0 && !begin_folder(*this, result.error)) return result;
+    if (request.is_recorded() && !begin_folder(*this, result.error)) return result;
     const double start = seconds_now();
     run_workers();
     result.has_run = !has_failed || next_group > 1;
@@ -154,7 +155,7 @@ Result Launch::run() {
     result.is_timed_out = is_timed_out;
     if (has_failed) result.error = "there is no memory for its work-items";
     write_prints();
-    if (request.kept > 0) end_folder(*this, result.seconds);
+    if (request.is_recorded()) end_folder(*this, result.seconds);
     return result;
 }
 

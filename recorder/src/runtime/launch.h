@@ -1,6 +1,7 @@
 // A launch of a kernel that runs on the host's threads, and is recorded meanwhile.
 #pragma once
 
+#include "../../../tools/recorder/window.h"
 #include "memory.h"
 #include "settings.h"
 #include "stored_values.h"
@@ -34,8 +35,10 @@ struct Request {
     std::vector<std::vector<char>> arguments;    // the values; of local memory 8 bytes of room
     Range range;
     uint32_t number = 0;                         // of the launch
-    uint64_t first = 0, kept = 0;                // the groups that are recorded: `kept` of them from `first` on
+    Window window;                               // the groups that are recorded
     std::string folder;
+
+    bool is_recorded() const { return window.count() > 0; }
 };
 
 struct Result {
@@ -78,7 +81,7 @@ public:
     StoredValues stored;                    // in global memory
     std::vector<std::string> stored_in_locals; // by group: the lines of what was stored there
     Places places;
-    Pipes pipes;
+    Streams streams;
     Losses losses;
     std::vector<uint8_t> zeros;             // what a load out of every buffer takes
     std::atomic<uint64_t> next_group{0};    // that no thread has begun

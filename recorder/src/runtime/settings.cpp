@@ -29,14 +29,8 @@ uint64_t number_setting(const char *name, uint64_t otherwise) {
 }
 
 Settings::Settings() {
-    const std::string groups = setting("GROUPS");
-    unsigned long from = 0, number = 0;
-    char rest = 0;
-    if (groups.empty()) return;
-    if (std::sscanf(groups.c_str(), "%9lu:%9lu%c", &from, &number, &rest) != 2 || number == 0)
-        refuse("GROUPS", "FIRST:COUNT, as 0:8");
-    first = from;
-    count = std::min(count, uint64_t(number));
+    const std::string text = setting("GROUPS");
+    if (!text.empty() && !groups.parse(text)) refuse("GROUPS", Window::FORM);
 }
 
 const Settings &settings() {

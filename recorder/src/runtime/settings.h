@@ -1,9 +1,9 @@
 // What the user has set, by variables of the environment (README.md has what each means).
 #pragma once
 
-#include <cstdint>
+#include "../../../tools/recorder/window.h"
+
 #include <random>
-#include <string>
 #include <thread>
 
 namespace gpurace {
@@ -17,8 +17,8 @@ struct Settings {
                       build_options = setting("BUILD_OPTIONS"), kept_builds = setting("KEPT_BUILDS"),
                       builtins = setting("BUILTINS", "/usr/share/pocl"), clang = setting("CLANG", "clang-15");
     const uint64_t launch = number_setting("LAUNCH", UINT64_MAX); // the one that is recorded, or all
-    uint64_t first = 0, count = 64;                               // the groups that are recorded
-    const uint64_t most_items = number_setting("MAX_GROUP_SIZE", 256);
+    Window groups;                                                // those that are recorded
+    const uint64_t most_items = number_setting("MAX_GROUP_SIZE", GPURACE_MOST_WIDE_ITEMS);
     const uint64_t most_records = number_setting("MOST_RECORDS", UINT64_MAX);
     const double timeout = double(number_setting("TIMEOUT"));
     const bool writes_places = setting("PLACES", "1") == "1", keeps_code = setting("KEEP_CODE") == "1",

@@ -33,7 +33,7 @@ Watcher &watcher() {
 // The launch's threads stay in their kernel and call the runtime no more, so that what they have can be written.
 void Watcher::write_and_end(Launch &stopped) {
     stopped.abandon();
-    if (stopped.request.kept > 0) end_folder(stopped, 0);
+    if (stopped.request.is_recorded()) end_folder(stopped, 0);
     std::fflush(nullptr);
     if (was_interrupted) {
         std::signal(SIGINT, SIG_DFL);

@@ -1,5 +1,6 @@
 #include "stream.h"
 
+#include "../../../tools/recorder/window.h"
 #include "../sites.h"
 #include "settings.h"
 
@@ -15,71 +16,130 @@
 namespace gpurace {
 namespace {
 
-// Writes all of it, and answers 0 or what went wrong.
-int write_all(int file, const char *bytes, size_t count) {
-    while (count > 0) {
-        const ssize_t done = write(file, bytes, count);
-        if (done < 0 && errno == EINTR) continue;
-        if (done <= 0) return done < 0 ? errno : ENOSPC;
-        bytes += done;
-        count -= size_t(done);
-    }
-    return 0;
+constexpr size_t HEADER_BYTES = 12;
+
+int open_to_append(const std::string &path) {
+    return open(path.c_str(), O_WRONLY | O_CREAT | O_APPEND | O_CLOEXEC, 0666);
 }
 
 // Opens a pipe to write to; -1 where the judge ends before it has opened it.
 int open_pipe(const std::string &path) {
     for (;;) {
-        const int file = ::open(path.c_str(), O_WRONLY | O_NONBLOCK | O_CLOEXEC);
+        const int file = open(path.c_str(), O_WRONLY | O_NONBLOCK | O_CLOEXEC);
         if (file >= 0) fcntl(file, F_SETFL, 0); // from here on it waits for the judge
         if (file >= 0 || errno != ENXIO || !is_judge_there()) return file;
         usleep(1000);
     }
 }
 
-// As `write_all`; where nobody reads any more, the signal of that does not reach the program.
-int write_to_pipe(int file, const char *bytes, size_t count) {
+// Writes all of it, and answers 0 or what went wrong. Where nobody reads a pipe any more, the signal of that does not
+// reach the program.
+int write_all(int file, const char *bytes, size_t count) {
     sigset_t broken, before;
     sigemptyset(&broken);
     sigaddset(&broken, SIGPIPE);
     pthread_sigmask(SIG_BLOCK, &broken, &before);
-    const int error = write_all(file, bytes, count);
+    int error = 0;
+    for (ssize_t done; !error && count > 0; bytes += done, count -= size_t(done)) {
+        done = write(file, bytes, count);
+        if (done <= 0) error = done == 0 ? ENOSPC : errno == EINTR ? 0 : errno;
+        done = std::max<ssize_t>(done, 0);
+    }
     const timespec now{};
     if (error == EPIPE && !sigismember(&before, SIGPIPE)) sigtimedwait(&broken, nullptr, &now);
     pthread_sigmask(SIG_SETMASK, &before, nullptr);
     return error;
 }
 
-} // namespace
-
-std::string stream_path(const std::string &folder, uint64_t group) {
-    return folder + (group < 10 ? "/group0" : "/group") + std::to_string(group) + ".gpurace";
+int append_to(const std::string &path, const char *bytes, size_t count) {
+    const int file = open_to_append(path);
+    const int error = file < 0 ? errno : write_all(file, bytes, count);
+    if (file >= 0) close(file);
+    return error;
 }
 
-std::string stream_header(uint32_t group, uint64_t items, uint32_t launch, bool has_names) {
+int copy_to(int file, const std::string &path) {
+    char bytes[1 << 16];
+    const int from = open(path.c_str(), O_RDONLY | O_CLOEXEC);
+    int error = from < 0 ? errno : 0;
+    for (ssize_t count = 1; !error && count > 0;) {
+        count = read(from, bytes, sizeof bytes);
+        error = count < 0 ? errno : write_all(file, bytes, size_t(count));
+    }
+    if (from >= 0) close(from);
+    return error;
+}
+
+// The disk has no room for all of the stream that begins at `start`. Its last whole record there becomes the end; this
+// answers how many records it has then.
+uint32_t end_early(const std::string &path, off_t start, uint32_t record_bytes) {
+    const int file = open(path.c_str(), O_WRONLY | O_CLOEXEC);
+    const off_t first = start + off_t(HEADER_BYTES), size = off_t(record_bytes);
+    off_t records = file < 0 ? 0 : std::max(off_t(0), lseek(file, 0, SEEK_END) - first) / size;
+    char end[44];
+    std::memset(end, 0xff, sizeof end);
+    std::memset(end, 0, 12);
+    end[0] = END, end[1] = 1;
+    const off_t bytes = records ? first + records * size : start;
+    if (file < 0 || ftruncate(file, bytes) != 0) records = 0;
+    if (records && pwrite(file, end, size_t(size), bytes - size) != size) records = 0;
+    if (file >= 0) close(file);
+    return uint32_t(records);
+}
+
+} // namespace
+
+std::string stream_header(bool is_wide, bool has_names, uint32_t group, uint64_t items, uint32_t launch) {
     const uint16_t shape[] = {uint16_t(group), uint16_t(items)};
-    std::string header(has_names ? "GRT2" : "GRT1");
+    std::string header("GRT");
+    header += char('1' + has_names + 2 * is_wide);
     return header.append(reinterpret_cast<const char *>(shape), 4).append(reinterpret_cast<const char *>(&launch), 4);
 }
 
-void Pipes::open(const std::string &folder) {
-    if (are_open) return;
+Streams::Streams(std::string folder_, std::vector<std::string> headers_)
+    : folder(std::move(folder_)), headers(std::move(headers_)), are_joined(headers.size() > GPURACE_MOST_GROUPS),
+      states(headers.size(), TO_BEGIN), joined_path_(folder + "/groups.gpurace") {}
+
+Streams::~Streams() {
+    if (joined_ >= 0) close(joined_);
+}
+
+std::string Streams::path_of(uint32_t group) const {
+    return folder + (group < 10 ? "/group0" : "/group") + std::to_string(group) + (are_joined ? ".part" : ".gpurace");
+}
+
+void Streams::open_pipes() {
+    if (are_piped) return;
     const std::unique_lock<std::shared_mutex> held(lock);
-    if (are_open.exchange(true)) return;
-    for (size_t group = 0; group < states.size(); group++) {
-        const std::string path = stream_path(folder, group);
+    if (are_piped.exchange(true)) return;
+    for (uint32_t group = 0; !are_joined && group < states.size(); group++) {
+        const std::string path = path_of(group);
         if (states[group] == TO_BEGIN) std::ofstream(path, std::ios::binary) << headers[group];
         if (states[group] != ENDED) mkfifo((path + ".pipe").c_str(), 0666);
     }
+    if (are_joined) mkfifo((joined_path_ + ".pipe").c_str(), 0666);
+    if (joined_ >= 0) close(joined_);
+    joined_ = -1;
     std::ofstream(folder + "/piped.txt") << '\n';
 }
 
+int Streams::join(const std::string &part, const char *bytes, size_t count, uint32_t record_bytes, uint32_t &records) {
+    const std::unique_lock<std::shared_mutex> held(lock);
+    if (joined_ < 0) joined_ = are_piped ? open_pipe(joined_path_ + ".pipe") : open_to_append(joined_path_);
+    const off_t start = lseek(joined_, 0, SEEK_END);
+    int error = joined_ < 0 ? EPIPE : part.empty() ? 0 : copy_to(joined_, part);
+    if (!error) error = write_all(joined_, bytes, count);
+    if (!part.empty()) unlink(part.c_str());
+    if (error && !are_piped) records = end_early(joined_path_, std::max(off_t(0), start), record_bytes);
+    return error;
+}
+
 Places::~Places() {
-    if (file_ >= 0) ::close(file_);
+    if (file_ >= 0) close(file_);
 }
 
 bool Places::open(const std::string &path) {
-    file_ = ::open(path.c_str(), O_WRONLY | O_CREAT | O_TRUNC | O_APPEND | O_CLOEXEC, 0666);
+    file_ = open_to_append(path);
     if (file_ < 0) error_ = errno;
     return file_ >= 0;
 }
@@ -93,20 +153,25 @@ bool Places::append(const char *text, size_t bytes) {
     return error_ == 0;
 }
 
+Stream::Stream(uint32_t group, bool has_names, Streams &streams, std::atomic<uint64_t> &counted)
+    : group_(group), record_bytes_(has_names ? 44 : 20), streams_(streams), path_(streams.path_of(group)),
+      counted_(counted) {}
+
 Stream::~Stream() {
-    if (file_ >= 0) ::close(file_);
+    if (pipe_ >= 0) ::close(pipe_);
 }
 
-bool Stream::open(bool has_names, std::atomic<uint64_t> &counted) {
-    counted_ = &counted;
-    record_bytes_ = has_names ? 44 : 20;
+bool Stream::open() {
     bytes_.reset(new char[ROOM]);
-    const std::shared_lock<std::shared_mutex> held(pipes_.lock);
-    if (pipes_.are_open) return true; // its header stands there
-    pipes_.states[group_] = Pipes::BEGUN;
-    file_ = ::open(path_.c_str(), O_WRONLY | O_CREAT | O_TRUNC | O_CLOEXEC, 0666);
-    error_ = file_ < 0 ? errno : write_all(file_, pipes_.headers[group_].data(), HEADER_BYTES);
-    written_ = error_ ? 0 : HEADER_BYTES;
+    std::memcpy(bytes_.get(), streams_.headers[group_].data(), HEADER_BYTES);
+    used_ = HEADER_BYTES;
+    if (streams_.are_joined) return true;
+    const std::shared_lock<std::shared_mutex> held(streams_.lock);
+    if (!streams_.are_piped) { // or its header stands there
+        streams_.states[group_] = Streams::BEGUN;
+        error_ = append_to(path_, bytes_.get(), used_);
+    }
+    used_ = 0;
     return error_ == 0;
 }
 
@@ -128,46 +193,36 @@ void Stream::put(uint64_t head, uint32_t word, const Name *names, size_t count) 
 
 int Stream::write_out(bool is_last) {
     if (!is_piped_) {
-        const std::shared_lock<std::shared_mutex> held(pipes_.lock);
-        if (!pipes_.are_open && is_last) pipes_.states[group_] = Pipes::ENDED;
-        if (!pipes_.are_open) return write_all(file_, bytes_.get(), used_);
+        std::shared_lock<std::shared_mutex> held(streams_.lock, std::defer_lock);
+        if (!streams_.are_joined) held.lock();
+        if (!streams_.are_piped && is_last) streams_.states[group_] = Streams::ENDED;
+        if (!streams_.are_piped || streams_.are_joined) return append_to(path_, bytes_.get(), used_);
     }
     if (!is_piped_) {
         is_piped_ = true;
-        if (file_ >= 0) ::close(file_);
-        file_ = open_pipe(path_ + ".pipe");
+        pipe_ = open_pipe(path_ + ".pipe");
     }
-    return file_ < 0 ? EPIPE : write_to_pipe(file_, bytes_.get(), used_);
+    return pipe_ < 0 ? EPIPE : write_all(pipe_, bytes_.get(), used_);
 }
 
 void Stream::flush(bool is_last) {
     if (!error_) error_ = write_out(is_last);
-    if (!error_) written_ += used_;
-    counted_->fetch_add(untold_, std::memory_order_relaxed);
+    counted_.fetch_add(untold_, std::memory_order_relaxed);
     used_ = untold_ = 0;
+    has_file_ = true;
 }
 
 void Stream::close(bool is_cut) {
     if (!bytes_) return;
     put(END | uint64_t(is_cut) << 8, 0, nullptr, 0);
-    flush(true);
-    if (error_ && !is_piped_) end_early();
+    const bool is_joined = streams_.are_joined, is_in_memory = is_joined && !has_file_;
+    if (!is_in_memory) flush(true);
+    if (error_ && !is_piped_) records_ = end_early(path_, 0, record_bytes_);
+    const std::string part = is_in_memory ? "" : path_;
+    const int error = is_joined ? streams_.join(part, bytes_.get(), used_, record_bytes_, records_) : 0;
+    if (!error_) error_ = error;
+    counted_.fetch_add(untold_, std::memory_order_relaxed);
     bytes_.reset();
-    if (file_ >= 0) ::close(file_);
-    file_ = -1;
-}
-
-// The last whole record that the disk has becomes the end; its room is there already.
-void Stream::end_early() {
-    const uint64_t records = written_ < HEADER_BYTES ? 0 : (written_ - HEADER_BYTES) / record_bytes_;
-    records_ = uint32_t(records);
-    if (records == 0) return;
-    char end[44];
-    std::memset(end, 0xff, sizeof end);
-    std::memset(end, 0, 12);
-    end[0] = END, end[1] = 1;
-    const off_t bytes = off_t(HEADER_BYTES + records * record_bytes_), size = off_t(record_bytes_);
-    if (ftruncate(file_, bytes) != 0 || pwrite(file_, end, size_t(size), bytes - size) != size) records_ = 0;
 }
 
 } // namespace gpurace

@@ -1,4 +1,4 @@
-// The files that grow while a launch runs: a stream for each group, and `places` for all of them.
+// The files that grow while a launch runs: its streams, and `places`.
 #pragma once
 
 #include "release_sequences.h"
@@ -11,22 +11,31 @@ namespace gpurace {
 
 constexpr uint32_t MOST_RECORDS = 16777216; // of a stream, its end included
 
-std::string stream_path(const std::string &folder, uint64_t group);
+std::string stream_header(bool is_wide, bool has_names, uint32_t group, uint64_t items, uint32_t launch);
 
-// Where the files of a launch are full, its streams go on through pipes, NAME.pipe beside NAME. The judge begins when
-// it sees piped.txt, and wants the headers of all streams first: that of a stream that is not begun is a file.
-struct Pipes {
+// The files of the streams: one for each group, or one to which each is joined when its group ends. Where they are full
+// they go on as pipes, NAME.pipe beside NAME. The judge begins when it sees piped.txt, and wants the headers of all
+// streams first: that of a stream that is not begun is a file.
+struct Streams {
     enum State : char { TO_BEGIN, BEGUN, ENDED };
-    explicit Pipes(std::vector<std::string> headers) : states(headers.size(), TO_BEGIN), headers(std::move(headers)) {}
-    void open(const std::string &folder);
+    Streams(std::string folder, std::vector<std::string> headers);
+    ~Streams();
+    std::string path_of(uint32_t group) const; // of joined ones: what memory has no room for, until the group ends
+    void open_pipes();
+    // Joins a stream: its part that is a file, and these bytes. Answers 0 or what went wrong; it has `records` then.
+    int join(const std::string &part, const char *bytes, size_t count, uint32_t record_bytes, uint32_t &records);
 
-    std::shared_mutex lock; // held alone while the pipes are made, and shared while a stream is written to its file
-    std::vector<State> states;
+    const std::string folder;
     const std::vector<std::string> headers;
-    std::atomic<bool> are_open{false};
-};
+    const bool are_joined;
+    std::shared_mutex lock; // held alone while pipes are made or one is joined, and shared while one is written
+    std::vector<State> states;
+    std::atomic<bool> are_piped{false};
 
-std::string stream_header(uint32_t group, uint64_t items, uint32_t launch, bool has_names);
+private:
+    const std::string joined_path_;
+    int joined_ = -1; // the file of the joined streams, or its pipe, once it is open
+};
 
 // The side file `places`, to which the groups append by turns. Where the disk is full it ends behind a whole line.
 class Places {
@@ -45,10 +54,10 @@ private:
 // A group's stream. Records stand in a buffer until it is full; where they can't be written the stream is ended as cut.
 class Stream {
 public:
-    ~Stream();
-    Stream(std::string path, uint32_t group, Pipes &pipes) : path_(std::move(path)), group_(group), pipes_(pipes) {}
     // `counted` is told of records as they are written.
-    bool open(bool has_names, std::atomic<uint64_t> &counted);
+    Stream(uint32_t group, bool has_names, Streams &streams, std::atomic<uint64_t> &counted);
+    ~Stream();
+    bool open();
     void put(uint64_t head, uint32_t word, const Name *names, size_t count);
     void close(bool is_cut);
     uint32_t records() const { return records_; }
@@ -56,21 +65,19 @@ public:
     int error() const { return error_; }
 
 private:
-    static constexpr size_t ROOM = 1 << 17, HEADER_BYTES = 12;
+    static constexpr size_t ROOM = 1 << 17;
+    const uint32_t group_, record_bytes_;
+    Streams &streams_;
     const std::string path_;
-    const uint32_t group_;
-    Pipes &pipes_;
-    bool is_piped_ = false;
-    int file_ = -1, error_ = 0;
-    uint32_t records_ = 0, record_bytes_ = 20, untold_ = 0;
-    uint64_t written_ = 0;
+    bool is_piped_ = false, has_file_ = false;
+    int pipe_ = -1, error_ = 0;
+    uint32_t records_ = 0, untold_ = 0;
     std::unique_ptr<char[]> bytes_; // null where it is not open
     size_t used_ = 0;
-    std::atomic<uint64_t> *counted_ = nullptr;
+    std::atomic<uint64_t> &counted_;
 
     void flush(bool is_last);
     int write_out(bool is_last);
-    void end_early();
 };
 
 } // namespace gpurace

@@ -192,6 +192,15 @@ divergent barrier, number 0 of group 0, and 1 more alike: some work-items never 
         tile[l] += tile[l + 8];
     no barrier: work-item 2
 """),
+    # as a launch of many groups has them
+    "streams in one file": Case(
+        ["group 1 items 2 launch 7\n0 bar 3 l\n1 w g 1\nend\n" "group 2 items 1 launch 7\nend\n"
+         "group 0 items 2 launch 7\n0 bar 3 l\n1 bar 3 l\nend cut\n"], {"places": "3 b.cl:1:2\n"}, 1, """\
+records of 1 of 3 groups were lost (the first is group 0): a group did more than a trace has room for, or was stopped
+divergent barrier, number 0 of group 1: some work-items never reach it
+    b.cl:1:2: work-item 0
+    no barrier: work-item 1
+"""),
     "an acquire without its release": Case(
         ["group 0 items 2 launch 7 v2\n0 w g 1\n1 ld g 2 dev acq < 0 0 0\n1 r g 1\nend\n"],
         {**SIDES, "places": "0 1 0 kernel.cl:3:9\n0 1 0 late.cl:1:1\n0 1 1 kernel.cl:5:9\n"}, 1, """\

@@ -1,0 +1,171 @@
+"""The files of a recorded launch: what info.txt says, and its streams, also how those are ended whose program died."""
+import collections
+import glob
+import mmap
+import os
+import shutil
+import struct
+import sys
+
+JOINED = "groups.gpurace"  # of a launch of many groups, whose streams stand there as they ended
+END = 6
+MOST_GROUPS, MOST_ITEMS = 64, 256  # that the versions 1 and 2 have
+HEADER = struct.Struct("<4sHHI")
+SHORT, LONG = struct.Struct("<BBBBHxxI8x"), struct.Struct("<BBBBHxxI32x")  # names are passed over
+RECORD_FORMS = {b"GRT1": SHORT, b"GRT2": LONG, b"GRT3": SHORT, b"GRT4": LONG}
+Stream = collections.namedtuple("Stream", "group start end records")  # in the bytes of a file; the end is None where it has none
+
+
+def info_of(folder, name="info.txt"):
+    """The lines of the file by their first words; a folder without info.txt is not whole."""
+    path = os.path.join(folder, name)
+    info = collections.defaultdict(list)
+    with open(path, errors="replace") if os.path.exists(path) else open(os.devnull) as lines:
+        for line in lines:
+            key, _, value = line.rstrip("\n").partition(" ")
+            info[key].append(value)
+    return info
+
+
+def windows_of(info):
+    """The first group and the number of groups of each part of the launch that was recorded."""
+    return [tuple(map(int, line.split())) for line in info["window"] or ["0 " + info["groups"][0]]]
+
+
+def kept_of(info):
+    """How many groups the trace has."""
+    return sum(number for _, number in windows_of(info))
+
+
+def streams_of(folder):
+    """The files of a launch's streams, in order."""
+    return sorted(glob.glob(os.path.join(glob.escape(folder), "*.gpurace")))
+
+
+def mapped(path):
+    """The bytes of a file, which come into memory when they are looked at."""
+    with open(path, "rb") as given:
+        return mmap.mmap(given.fileno(), 0, access=mmap.ACCESS_READ) if os.path.getsize(path) else b""
+
+
+def streams_in(data):
+    """The streams that stand one behind another in the bytes of a file. Behind one without an end there is none."""
+    at = 0
+    while data[at:at + 4] in RECORD_FORMS and at + HEADER.size <= len(data):
+        form, group, _, _ = HEADER.unpack_from(data, at)
+        start, size = at + HEADER.size, RECORD_FORMS[form].size
+        records = records_of(data, start, size)
+        end = start + records * size
+        if end > len(data) or records == 0 or data[end - size] != END:
+            yield Stream(group, at, None, (len(data) - start) // size)
+            return
+        yield Stream(group, at, end, records)
+        at = end
+
+
+def records_of(data, start, size):
+    """How many records begin there, up to an end or that of the bytes."""
+    records, step = 0, 256
+    while start + records * size < len(data):
+        kinds = data[start + records * size:start + (records + step) * size:size]
+        found = kinds.find(END)
+        if found >= 0:
+            return records + found + 1
+        records, step = records + len(kinds), min(2 * step, 1 << 20)
+    return records
+
+
+def end_streams(folder):
+    """Makes a launch whole whose program died: its streams end as cut behind their last whole record."""
+    begun = info_of(folder, "begun.txt")
+    if not begun["kernel"]:
+        return
+    try:
+        kept, items, records = end_files(folder, begun)
+        end_lines(os.path.join(folder, "places"))
+        with open(os.path.join(folder, "begun.txt")) as text:
+            lines = text.read()
+        cut = "".join(f"cut {group}\n" for group in range(kept))
+        with open(os.path.join(folder, "info.txt"), "w") as out:
+            out.write(lines + f"items {kept * items}\nrecords {records}\n" + cut)
+        os.remove(os.path.join(folder, "begun.txt"))
+    except OSError as error:
+        print(f"gpurace-record: {folder}: {error.strerror}", file=sys.stderr)
+
+
+def end_files(folder, info):
+    """Ends the streams that have no end; answers how many groups and items of each there are, and how many records."""
+    kept, (x, y, z) = kept_of(info), map(int, info["local"][0].split())
+    items, launch = x * y * z + (1 if info["copying-item"] else 0), int(info["launch"][0])
+    form = b"GRT1" if kept <= MOST_GROUPS and items <= MOST_ITEMS else b"GRT3"
+    heads = [HEADER.pack(form, group, items, launch) for group in range(kept)]
+    if kept > MOST_GROUPS:
+        return kept, items, end_joined(folder, heads)
+    return kept, items, sum(end_stream(os.path.join(folder, f"group{at:02}.gpurace"), head) for at, head in enumerate(heads))
+
+
+def end_joined(folder, heads):
+    """As `end_stream`, of the file of all. A stream that was not joined has a part of it in a file, or nothing."""
+    path, came, end, records = os.path.join(folder, JOINED), set(), 0, 0
+    data = mapped(path) if os.path.exists(path) else b""
+    for stream in streams_in(data):
+        if stream.end is None:  # it was being joined
+            with open(part_of(folder, stream.group), "ab") as part:
+                part.write(b"" if part.tell() else data[stream.start:])
+            break
+        came.add(stream.group)
+        end, records = stream.end, records + stream.records
+    with open(path, "ab") as joined:
+        joined.truncate(end)
+        for group in set(range(len(heads))) - came:
+            part = part_of(folder, group)
+            if not os.path.exists(part):
+                joined.write(heads[group] + cut_end(heads[group]))
+                records += 1
+                continue
+            records += end_stream(part, heads[group])
+            with open(part, "rb") as given:
+                shutil.copyfileobj(given, joined)
+            os.remove(part)
+    return records
+
+
+def part_of(folder, group):
+    return os.path.join(folder, f"group{group:02}.part")
+
+
+def end_stream(path, begun):
+    """Ends a stream that has no end, and answers how many records it has. One without a header has not more than this."""
+    with open(path, "r+b" if os.path.exists(path) else "w+b") as stream:
+        head = stream.read(HEADER.size)
+        if len(head) < HEADER.size or head[:4] not in RECORD_FORMS:
+            head = begun
+            stream.truncate(0)
+            stream.seek(0)
+            stream.write(head)
+        size = RECORD_FORMS[head[:4]].size
+        records = (stream.seek(0, os.SEEK_END) - HEADER.size) // size
+        if records:
+            stream.seek(HEADER.size + (records - 1) * size)
+            if stream.read(1) == b"\6":
+                return records
+        stream.truncate(HEADER.size + records * size)
+        stream.seek(0, os.SEEK_END)
+        stream.write(cut_end(head))
+        return records + 1
+
+
+def cut_end(head):
+    """The end of a stream of which records were lost."""
+    return bytes([END, 1]) + bytes(10) + b"\xff" * (RECORD_FORMS[head[:4]].size - 12)
+
+
+def end_lines(path):
+    """Cuts a file of lines behind its last whole one."""
+    if not os.path.exists(path):
+        return
+    with open(path, "r+b") as lines:
+        size = lines.seek(0, os.SEEK_END)
+        lines.seek(max(0, size - 65536))
+        last = lines.read().rfind(b"\n")
+        lines.truncate(max(0, size - 65536) + last + 1)
