@@ -1,10 +1,10 @@
 //! Which word of a line of a text is at fault, and what is due in its place (docs/FORMATS.md, "Text form").
 
 use gr_lines::line::Line;
-use gr_lines::parsing::parse_line;
+use gr_lines::parsing::parse_line_of;
 use gr_lines::words::{is_word, parse_number, split_word};
-use gr_model::limits::{MOST_GROUPS, MOST_ITEMS_OF_A_GROUP, MOST_RECORDS};
-use gr_record::header::Header;
+use gr_model::limits::MOST_RECORDS;
+use gr_record::header::{Header, Version};
 use gr_text::lines::split_line;
 use std::io::{self, Write};
 
@@ -85,10 +85,21 @@ pub fn bad_line(text: &[u8], number: u64) -> Option<BadLine<'_>> {
 
 /// The header of the stream that is at hand behind a line.
 fn header_behind(header: Option<Header>, line: &[u8]) -> Option<Header> {
-    match parse_line(line) {
+    // a line of a stream of any version is one of version 4
+    match parse_line_of(Version::Four, line) {
         Some(Line::Header(header)) => Some(header),
         Some(Line::Event(event)) if event.kind.is_end() => None,
         Some(Line::Event(_)) | None => header,
+    }
+}
+
+impl BadLine<'_> {
+    /// The version of the stream that the line is in, or the header of which it is.
+    fn version(&self) -> Version {
+        match self.header {
+            None => version_said(self.line),
+            Some(header) => header.version,
+        }
     }
 }
 
@@ -165,31 +176,44 @@ fn behind_order(word: &[u8], verb: Verb, names: usize) -> Option<Due> {
     if_so(is_among(word, verb.orders()), due)
 }
 
-/// What is due behind a word of a header.
-fn behind_in_header(word: &[u8], due: Due) -> Option<Due> {
+/// The version that the line of a header says at its end.
+fn version_said(line: &[u8]) -> Version {
+    if line.ends_with(b" v4") {
+        Version::Four
+    } else if line.ends_with(b" v3") {
+        Version::Three
+    } else if line.ends_with(b" v2") {
+        Version::Two
+    } else {
+        Version::One
+    }
+}
+
+/// What is due behind a word of a header of this version.
+fn behind_in_header(word: &[u8], due: Due, version: Version) -> Option<Due> {
     match due {
         Due::Group => if_so(is_word(word, "group"), Due::GroupNumber),
-        Due::GroupNumber => if_so(is_below(word, MOST_GROUPS), Due::Items),
+        Due::GroupNumber => if_so(is_below(word, version.most_groups()), Due::Items),
         Due::Items => if_so(is_word(word, "items"), Due::ItemsNumber),
         Due::ItemsNumber => {
             let is_some = !is_word(word, "0");
-            let is_few = is_below(word, MOST_ITEMS_OF_A_GROUP as usize + 1);
+            let is_few = is_below(word, version.most_items() as usize + 1);
             if_so(is_some && is_few, Due::Launch)
         }
         Due::Launch => if_so(is_word(word, "launch"), Due::LaunchNumber),
         Due::LaunchNumber => if_so(parse_number(word).is_some(), Due::Version),
-        Due::Version => if_so(is_word(word, "v2"), Due::Nothing),
+        Due::Version => if_so(is_among(word, &["v2", "v3", "v4"]), Due::Nothing),
         _ => None,
     }
 }
 
-/// What is due behind a word of a name.
-fn behind_in_name(word: &[u8], due: Due) -> Option<Due> {
+/// What is due behind a word of a name in a stream of this version.
+fn behind_in_name(word: &[u8], due: Due, version: Version) -> Option<Due> {
     match due {
         Due::Name(left) => if_so(left > 0 && is_word(word, "<"), Due::NameGroup(left)),
-        Due::NameGroup(left) => if_so(is_below(word, MOST_GROUPS), Due::NameItem(left)),
+        Due::NameGroup(left) => if_so(is_below(word, version.most_groups()), Due::NameItem(left)),
         Due::NameItem(left) => {
-            let is_right = is_below(word, MOST_ITEMS_OF_A_GROUP as usize);
+            let is_right = is_below(word, version.most_items() as usize);
             if_so(is_right, Due::NameNumber(left))
         }
         Due::NameNumber(left) => {
@@ -200,22 +224,22 @@ fn behind_in_name(word: &[u8], due: Due) -> Option<Due> {
     }
 }
 
-/// What is due behind a word, in a stream whose records have room for so many names; none where the word is at fault.
-fn behind(word: &[u8], due: Due, names: usize) -> Option<Due> {
+/// What is due behind a word, in a stream of this version; none where the word is at fault.
+fn behind(word: &[u8], due: Due, version: Version) -> Option<Due> {
     match due {
         Due::Item(items) => behind_item(word, items),
         Due::Verb => behind_verb(word),
         Due::Space(verb) => if_so(is_among(word, &["g", "l"]), Due::Word(verb)),
         Due::Word(verb) => behind_word(word, verb),
         Due::Scope(verb) => if_so(is_among(word, &["grp", "dev"]), Due::Order(verb)),
-        Due::Order(verb) => behind_order(word, verb, names),
+        Due::Order(verb) => behind_order(word, verb, version.places()),
         Due::Site => if_so(parse_number(word).is_some(), Due::Flags),
         Due::Flags => if_so(is_among(word, &["-", "g", "l", "gl"]), Due::Nothing),
         Due::Cut => if_so(is_word(word, "cut"), Due::Nothing),
         Due::Name(_) | Due::NameGroup(_) | Due::NameItem(_) | Due::NameNumber(_) => {
-            behind_in_name(word, due)
+            behind_in_name(word, due, version)
         }
-        _ => behind_in_header(word, due),
+        _ => behind_in_header(word, due, version),
     }
 }
 
@@ -229,9 +253,9 @@ fn may_end(due: Due) -> bool {
 
 /// The first word at fault of a line; none where each word is one that its place needs.
 fn bad_word<'a>(bad: &BadLine<'a>) -> Option<BadWord<'a>> {
-    let (mut due, names) = match bad.header {
-        None => (Due::Group, 0),
-        Some(header) => (Due::Item(header.items), header.version.places()),
+    let mut due = match bad.header {
+        None => Due::Group,
+        Some(header) => Due::Item(header.items),
     };
     let mut rest = Some(bad.line);
     for number in 1..u64::MAX {
@@ -244,7 +268,7 @@ fn bad_word<'a>(bad: &BadLine<'a>) -> Option<BadWord<'a>> {
             };
         };
         let (word, after) = split_word(bytes);
-        match behind(word, due, names) {
+        match behind(word, due, bad.version()) {
             None => {
                 let is_empty = number == 1 && bytes.is_empty();
                 let word = if is_empty { None } else { Some(word) };
@@ -257,18 +281,20 @@ fn bad_word<'a>(bad: &BadLine<'a>) -> Option<BadWord<'a>> {
     None
 }
 
-/// Writes what is due.
-fn put_due<W: Write>(writer: &mut W, due: Due) -> io::Result<()> {
+/// Writes what is due in a stream of this version.
+fn put_due<W: Write>(writer: &mut W, due: Due, version: Version) -> io::Result<()> {
     match due {
         Due::Group => writer.write_all(b"the header of a stream, which begins with group"),
-        Due::GroupNumber | Due::NameGroup(_) => write!(writer, "a group below {MOST_GROUPS}"),
+        Due::GroupNumber | Due::NameGroup(_) => {
+            write!(writer, "a group below {}", version.most_groups())
+        }
         Due::Items => writer.write_all(b"items"),
-        Due::ItemsNumber => write!(writer, "a number from 1 to {MOST_ITEMS_OF_A_GROUP}"),
+        Due::ItemsNumber => write!(writer, "a number from 1 to {}", version.most_items()),
         Due::Launch => writer.write_all(b"launch"),
         Due::LaunchNumber | Due::Word(_) | Due::Site => {
             writer.write_all(b"a number below 4294967296")
         }
-        Due::Version => writer.write_all(b"v2 or the end of the line"),
+        Due::Version => writer.write_all(b"v2, v3, v4 or the end of the line"),
         Due::Item(items) => write!(writer, "an item below {items}, or end"),
         Due::Verb => writer.write_all(b"r, w, ld, st, rmw or bar"),
         Due::Space(_) => writer.write_all(b"g or l"),
@@ -278,7 +304,7 @@ fn put_due<W: Write>(writer: &mut W, due: Due) -> io::Result<()> {
         Due::Order(_) => writer.write_all(b"rlx, acq, rel or both"),
         Due::Name(0) | Due::Nothing => writer.write_all(b"the end of the line"),
         Due::Name(_) => writer.write_all(b"< or the end of the line"),
-        Due::NameItem(_) => write!(writer, "an item below {MOST_ITEMS_OF_A_GROUP}"),
+        Due::NameItem(_) => write!(writer, "an item below {}", version.most_items()),
         Due::NameNumber(_) => write!(writer, "a release below {MOST_RECORDS}"),
         Due::Flags => writer.write_all(b"-, g, l or gl"),
         Due::Cut => writer.write_all(b"cut or the end of the line"),
@@ -317,6 +343,6 @@ pub fn tell_word<W: Write>(writer: &mut W, line: u64, bad: &BadLine<'_>) -> io::
         Some(word) => put_shown(writer, word)?,
     }
     writer.write_all(b"; due is ")?;
-    put_due(writer, found.due)?;
+    put_due(writer, found.due, bad.version())?;
     writer.write_all(b"\n")
 }

@@ -58,8 +58,8 @@ fn subject_of(line: &str) -> Subject {
         };
     }
     match number_in(line, "gpurace: line ") {
-        Some(number) => Subject::Line(number),
-        None => Subject::Other,
+        Some(number) if line.ends_with(": bad line\n") => Subject::Line(number),
+        _ => Subject::Other,
     }
 }
 
