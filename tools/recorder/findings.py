@@ -3,7 +3,7 @@
 `findings(program, folder)` is all that others call. Which words race, which two accesses do, and where in the source
 these stand, is what `gpurace races` says; of further words of a kind of races, `gpurace explain` says it, and those that
 are of other buffers or other places of the source are shown. Of the streams only barriers and shown accesses are read.
-A launch of many groups has one file of joined streams, which `races` and `explain` have to take as they take the files of groups.
+A launch of many groups has one file of joined streams, which gpurace takes as it takes the files of groups.
 """
 import collections
 import json
