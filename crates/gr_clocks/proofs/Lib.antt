@@ -1,6 +1,7 @@
 pub mod RowLemmas
 pub mod TallyLemmas
 pub mod BlockLemmas
+pub mod PageLemmas
 pub mod OwnLemmas
 pub mod GroupLemmas
 pub mod JoinLemmas

@@ -142,7 +142,7 @@ shared_more met size n groups more x count each last is p below =
     (cases_eq p n))
 
 -- groups that share a clock which has counted nothing
-module _ (sizes : List ℕ) (zero : Counts) (groups : List GroupClocks) (is_zero : IsZero sizes zero) (count : length groups ≡ length sizes) (shared : (p : ℕ) → p < length sizes → IsShared zero p (slice_index sizes p) (get_or groups p no_group)) where
+module _ (sizes : List ℕ) (zero : Counts) (groups : List GroupClocks) (is_zero : (j : ItemId) → count_of zero j ≡ 0) (count : length groups ≡ length sizes) (shared : (p : ℕ) → p < length sizes → IsShared zero p (slice_index sizes p) (get_or groups p no_group)) where
   row_is : (p : ℕ) → get_or (table_of groups) p [] ≡ (get_or groups p no_group).clocks
   row_is p = get_or-map (λ (g : GroupClocks). g.clocks) groups p no_group
 
@@ -165,7 +165,7 @@ module _ (sizes : List ℕ) (zero : Counts) (groups : List GroupClocks) (is_zero
     clocks = λ i j has.
         let there = row_of_item (table_of groups) i (subst (λ (ns : List ℕ). HasItem ns i) (sym zero_sizes) has) in
         let is = (shared i.group has.0).each i.item (subst (λ (cs : List Counts). i.item < length cs) (row_is i.group) there.1) in
-        ap (λ (cs : List Counts). count_of (get_or cs i.item []) j) (row_is i.group) ∙ is j ∙ is_zero.zero j;
+        ap (λ (cs : List Counts). count_of (get_or cs i.item []) j) (row_is i.group) ∙ is j ∙ is_zero j;
   }
 
 -- ---- a barrier

@@ -2,6 +2,7 @@ pub mod Blocks
 pub mod Rows
 pub mod Counts
 pub mod Owned
+pub mod Pages
 pub mod Groups
 pub mod Tables
 pub mod ItemClocks

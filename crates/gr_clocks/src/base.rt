@@ -1,55 +1,141 @@
-//! The counts of all items, in blocks of one work-group each, which clocks share. There may be no block of a group of which
-//! nothing is counted.
+//! The counts of all items, which clocks share. There may be no count of an item of which nothing is counted.
 
-ghost use Rattle.std.specs.Prelude.{◌≡◌, ◌<◌, ◌≤◌, All, IfOk, OnOk, IsOkUnless, length};
+ghost use Rattle.std.specs.Prelude.{◌≡◌, ◌+◌, ◌/◌, ◌<◌, ◌≤◌, All, IfOk, OnOk, IsOkUnless, length};
 ghost use Rattle.gr_clocks.specs.declared.clock.ClockError.TheVariants.{Memory as OutOfMemory};
 ghost use Rattle.gr_model.specs.declared.event.ItemId.{ItemId as AnyItem};
-ghost use Rattle.gr_clocks.specs.Counts.{count_of, CountSame, IsZero, IsJoin};
+ghost use Rattle.gr_clocks.specs.Counts.{count_of, CountSame, IsJoin};
 ghost use Rattle.gr_clocks.specs.Owned.{IsRaisedBy, IsRaisedTo};
+ghost use Rattle.gr_clocks.specs.Pages.{page_of, page_at, in_page, whole};
 
-use crate::block::Block;
 use crate::clock::{ClockError, LARGEST_COUNT};
+use crate::page::Page;
+use crate::pages::{Pages, in_page};
 use gr_model::event::ItemId;
-use gr_model::shape::Shape;
 use std::alloc::{Allocator, Global};
 use std::marker::Model;
+use std::sync::Arc;
 
 /// The counts of all items. Contracts see one list of counts for each work-group.
 #[derive(Drop)]
 #[derive_where(Debug)]
 pub(crate) struct Base<A: Allocator = Global> {
-    blocks: Vec<Block<A>, A>,
+    pages: Pages<A>,
 }
 
 impl<A: Allocator> Model for Base<A> {
     ghost use Rattle.gr_clocks.specs.Counts.{Counts};
+    ghost use Rattle.gr_clocks.specs.Pages.{whole};
 
     ghost Value = { Counts };
 
-    ghost view = { λ b. b.blocks.items };
+    ghost view = { λ b. whole b.pages };
 }
 
-impl<A: Allocator + Copy> Base<A> {
-    /// The counts of a shape's items, of which nothing is counted.
-    pub(crate) fn zero(alloc: A, shape: &Shape<A>) -> Result<Base<A>, ClockError>
-        ensures zero { IfOk result (λ b. IsZero shape.now b) }
-        ensures memory { IsOkUnless result ClockError.Memory }
-    {
-        let mut blocks = Vec::new(alloc);
-        for group in 0..shape.groups() {
-            blocks.push(Block::zero(alloc, shape.items(group))?)?;
+/// Makes pages until there are so many.
+#[tactic(auto, using(crate::proofs::PageLemmas::push_page))]
+fn reach<A: Allocator + Clone>(pages: &mut Pages<A>, count: usize) -> Result<(), ClockError>
+    ensures same { OnOk result (CountSame (whole pages.new) (whole pages.old)) }
+    ensures there { OnOk result (count ≤ length pages.new) }
+    ensures memory { IsOkUnless result ClockError.Memory }
+{
+    if pages.len() < count {
+        let none = Arc::new(pages.alloc()?, Page::none(pages.alloc()?))?;
+        while pages.len() < count {
+            pages.push(Arc::try_clone(&none)?)?;
         }
-        Ok(Base { blocks })
     }
+    Ok(())
+}
+
+/// The same pages once more, shared.
+fn copy_of<A: Allocator + Clone>(pages: &Pages<A>) -> Result<Pages<A>, ClockError>
+    ensures copy { IfOk result (λ p. p ≡ pages.now) }
+    ensures memory { IsOkUnless result ClockError.Memory }
+{
+    let mut copy = Pages::none(pages.alloc()?);
+    for place in 0..pages.len() {
+        copy.push(pages.shared(place)?)?;
+    }
+    Ok(copy)
+}
+
+/// The page with this count of an item, where it is greater than the one there.
+fn raised_to<A: Allocator + Clone>(
+    page: &Page<A>,
+    item: ItemId,
+    count: u32,
+) -> Result<Page<A>, ClockError>
+    requires { count ≤ LARGEST_COUNT }
+    ensures raised { IfOk result (λ p. IsRaisedTo page.now item count p) }
+    ensures memory { IsOkUnless result ClockError.Memory }
+{
+    let mut raised = page.copy()?;
+    raised.raise_to(item, count)?;
+    Ok(raised)
+}
+
+/// The page with these counts of a group's items, each where it is greater than the one there.
+fn raised_by<A: Allocator + Clone>(
+    page: &Page<A>,
+    group: u16,
+    counts: Vec<u32, A>,
+) -> Result<Page<A>, ClockError>
+    requires { All (λ n. n ≤ LARGEST_COUNT) counts.items }
+    ensures raised { IfOk result (λ p. IsRaisedBy page.now group counts.items p) }
+    ensures memory { IsOkUnless result ClockError.Memory }
+{
+    let mut raised = page.copy()?;
+    raised.raise_by(group, counts)?;
+    Ok(raised)
+}
+
+/// The page at a place that has the greater count of each item, where the other pages are no more: that of one of the two, where
+/// no count of the other is above it.
+#[tactic(auto, using(crate::proofs::PageLemmas::join_of_none, crate::proofs::PageLemmas::join_of_greater, crate::proofs::PageLemmas::join_of_lesser))]
+fn joined_page<A: Allocator + Clone>(
+    mine: &Pages<A>,
+    theirs: &Pages<A>,
+    place: usize,
+) -> Result<Arc<Page<A>, A>, ClockError>
+    requires { place < length mine.now }
+    ensures join { IfOk result (λ p. IsJoin (page_at mine.now place) (page_at theirs.now place) p.value) }
+    ensures memory { IsOkUnless result ClockError.Memory }
+{
+    if place >= theirs.len() {
+        return mine.shared(place);
+    }
+    if mine.at(place).is_within(theirs.at(place)) {
+        return theirs.shared(place);
+    }
+    if theirs.at(place).is_within(mine.at(place)) {
+        return mine.shared(place);
+    }
+    let page = mine.at(place).joined(theirs.at(place))?;
+    let page = Arc::new(mine.alloc()?, page)?;
+    Ok(page)
+}
+
+/// The greater count of each item, where the other pages are no more.
+fn merged<A: Allocator + Clone>(mine: &Pages<A>, theirs: &Pages<A>) -> Result<Pages<A>, ClockError>
+    requires { length theirs.now ≤ length mine.now }
+    ensures join { IfOk result (λ p. IsJoin (whole mine.now) (whole theirs.now) (whole p)) }
+    ensures memory { IsOkUnless result ClockError.Memory }
+{
+    let mut pages = Pages::none(mine.alloc()?);
+    for place in 0..mine.len() {
+        pages.push(joined_page(mine, theirs, place)?)?;
+    }
+    Ok(pages)
 }
 
 impl<A: Allocator> Base<A> {
     /// No counts at all.
+    #[tactic(auto, using(crate::proofs::PageLemmas::count_none))]
     pub(crate) fn none(alloc: A) -> Base<A>
         ensures { (i : AnyItem) → count_of result i ≡ 0 }
     {
         Base {
-            blocks: Vec::new(alloc),
+            pages: Pages::none(alloc),
         }
     }
 
@@ -59,18 +145,20 @@ impl<A: Allocator> Base<A> {
         A: Clone,
         ensures memory { IsOkUnless result ClockError.Memory }
     {
-        let alloc = self.blocks.allocator().clone()?;
-        Ok(alloc)
+        self.pages.alloc()
     }
 
     /// How many events of the item are counted; 0 where there is no such item.
+    #[tactic(auto, using(crate::proofs::PageLemmas::count_whole, crate::proofs::PageLemmas::count_past))]
     pub(crate) fn get(&self, item: ItemId) -> u32
         ensures count { result ≡ count_of self.now item }
         ensures limit { result ≤ LARGEST_COUNT }
     {
-        match self.blocks.get(item.group as usize) {
-            None => 0,
-            Some(block) => block.get(item.item),
+        let place = usize::from(item.group / 256);
+        if place < self.pages.len() {
+            self.pages.at(place).get(in_page(item))
+        } else {
+            0
         }
     }
 
@@ -81,30 +169,12 @@ impl<A: Allocator> Base<A> {
         ensures copy { IfOk result (λ b. b ≡ self.now) }
         ensures memory { IsOkUnless result ClockError.Memory }
     {
-        let alloc = self.alloc()?;
-        let mut blocks = Vec::with_capacity(alloc, self.blocks.len())?;
-        for block in &self.blocks {
-            blocks.push(block.copy()?)?;
-        }
-        Ok(Base { blocks })
-    }
-
-    /// Has blocks for so many groups, and counts what it did.
-    fn reach(&mut self, groups: usize) -> Result<(), ClockError>
-    where
-        A: Clone,
-        ensures same { OnOk result (CountSame self.new self.old) }
-        ensures there { OnOk result (groups ≤ length self.new) }
-        ensures memory { IsOkUnless result ClockError.Memory }
-    {
-        while self.blocks.len() < groups {
-            let block = Block::empty(self.alloc()?)?;
-            self.blocks.push(block)?;
-        }
-        Ok(())
+        let pages = copy_of(&self.pages)?;
+        Ok(Base { pages })
     }
 
     /// Takes this count of an item, where it is greater than the one there.
+    #[tactic(auto, using(crate::proofs::PageLemmas::raised_behind))]
     pub(crate) fn raise_to(&mut self, item: ItemId, count: u32) -> Result<(), ClockError>
     where
         A: Clone,
@@ -112,16 +182,14 @@ impl<A: Allocator> Base<A> {
         ensures raised { OnOk result (IsRaisedTo self.old item count self.new) }
         ensures memory { IsOkUnless result ClockError.Memory }
     {
-        let group = item.group as usize;
-        self.reach(group + 1)?;
-        if self.blocks[group].get(item.item) < count {
-            let block = self.blocks[group].with(item.item, count)?;
-            self.blocks[group] = block;
-        }
-        Ok(())
+        let place = usize::from(item.group / 256);
+        reach(&mut self.pages, place + 1)?;
+        let page = raised_to(self.pages.at(place), in_page(item), count)?;
+        self.pages.put(place, page)
     }
 
     /// Takes these counts of a group's items, each where it is greater than the one there.
+    #[tactic(auto, using(crate::proofs::PageLemmas::raised_all_behind))]
     pub(crate) fn raise_by(&mut self, group: u16, counts: Vec<u32, A>) -> Result<(), ClockError>
     where
         A: Clone,
@@ -129,45 +197,24 @@ impl<A: Allocator> Base<A> {
         ensures raised { OnOk result (IsRaisedBy self.old group counts.items self.new) }
         ensures memory { IsOkUnless result ClockError.Memory }
     {
-        let group = group as usize;
-        let block = Block::of(self.alloc()?, counts)?;
-        self.reach(group + 1)?;
-        let joined = self.blocks[group].joined(&block)?;
-        self.blocks[group] = joined;
-        Ok(())
+        let place = usize::from(group / 256);
+        reach(&mut self.pages, place + 1)?;
+        let page = raised_by(self.pages.at(place), group % 256, counts)?;
+        self.pages.put(place, page)
     }
 
-    /// The greater count of each item, where the other counts have blocks of no more groups.
-    fn merged(&self, other: &Base<A>) -> Result<Base<A>, ClockError>
-    where
-        A: Clone,
-        requires { length other.now ≤ length self.now }
-        ensures join { IfOk result (λ b. IsJoin self.now other.now b) }
-        ensures memory { IsOkUnless result ClockError.Memory }
-    {
-        let mut blocks = Vec::with_capacity(self.alloc()?, self.blocks.len())?;
-        for group in 0..self.blocks.len() {
-            let mine = &self.blocks[group];
-            let joined = match other.blocks.get(group) {
-                None => mine.copy()?,
-                Some(theirs) => mine.joined(theirs)?,
-            };
-            blocks.push(joined)?;
-        }
-        Ok(Base { blocks })
-    }
-
-    /// The greater count of each item, in blocks that are shared where one of the two's has it.
+    /// The greater count of each item, in pages that are shared where one of the two's has it.
     pub(crate) fn joined(&self, other: &Base<A>) -> Result<Base<A>, ClockError>
     where
         A: Clone,
         ensures join { IfOk result (λ b. IsJoin self.now other.now b) }
         ensures memory { IsOkUnless result ClockError.Memory }
     {
-        if self.blocks.len() < other.blocks.len() {
-            other.merged(self)
-        } else {
-            self.merged(other)
+        if self.pages.len() < other.pages.len() {
+            let pages = merged(&other.pages, &self.pages)?;
+            return Ok(Base { pages });
         }
+        let pages = merged(&self.pages, &other.pages)?;
+        Ok(Base { pages })
     }
 }

@@ -8,6 +8,8 @@ mod block;
 pub mod clock;
 pub mod clocks;
 mod group;
+mod page;
+mod pages;
 pub mod snapshot;
 mod table;
 pub mod tally;

@@ -1,5 +1,5 @@
 use Rattle.std.proofs.Common.{◌≡◌, take}
-use Rattle.gr_clocks.proofs.base.Base.copy.Given as goal
+use Rattle.gr_clocks.proofs.page.Page.copy.Given as goal
 
 abbrev pub invariant-loop-block : goal.invariant-loop-block
 invariant-loop-block g l = l.blocks.items ≡ take l.block-index l.self

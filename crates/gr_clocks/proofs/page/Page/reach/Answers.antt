@@ -1,7 +1,7 @@
 use Rattle.std.proofs.Common.{◌≡◌, ◌∙◌, ◌∷◌, ◌++◌, ℕ, [], List, ap}
 use Rattle.gr_clocks.specs.Counts.{Counts, count_of}
 use Rattle.gr_clocks.proofs.BlockLemmas.{push_empty}
-use Rattle.gr_clocks.proofs.base.Base.reach.Goals as goal
+use Rattle.gr_clocks.proofs.page.Page.reach.Goals as goal
 
 pub loop-self-preserved : goal.loop-self-preserved
 loop-self-preserved g c =

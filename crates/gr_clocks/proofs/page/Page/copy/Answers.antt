@@ -1,6 +1,6 @@
 use Rattle.std.proofs.Common.{◌≡◌, ◌∙◌, ◌<◌, ◌∷◌, ◌++◌, ℕ, [], List, ap, arith, get_or, length, sym, take}
 use Rattle.std.proofs.lemmas.List.{take_all, take_more}
-use Rattle.gr_clocks.proofs.base.Base.copy.Goals as goal
+use Rattle.gr_clocks.proofs.page.Page.copy.Goals as goal
 
 pub loop-block-init : goal.loop-block-init
 loop-block-init g c = c.in_ok-blocks.ensures.items

@@ -1,6 +1,6 @@
 use Rattle.std.proofs.Common.{◌-◌, length}
 use Rattle.gr_clocks.specs.Counts.{CountSame}
-use Rattle.gr_clocks.proofs.base.Base.reach.Given as goal
+use Rattle.gr_clocks.proofs.page.Page.reach.Given as goal
 
 abbrev pub invariant-loop-self : goal.invariant-loop-self
 invariant-loop-self g l = CountSame l.self l.initial.self

@@ -4,8 +4,8 @@ use Rattle.std.proofs.lemmas.List.{get_or_read}
 use Rattle.gr_clocks.specs.Counts.{Counts}
 use Rattle.gr_clocks.specs.Blocks.{IsRowJoin}
 use Rattle.gr_clocks.proofs.BlockLemmas.{join_past, rows_joined_more}
-use Rattle.gr_clocks.proofs.base.Base.merged.Goals as goal
-use Rattle.gr_clocks.proofs.base.Base.merged.Goals.{in-None+in_ok-joined-in-None, in-Some+in_ok-joined-in-Some}
+use Rattle.gr_clocks.proofs.page.Page.merged.Goals as goal
+use Rattle.gr_clocks.proofs.page.Page.merged.Goals.{in-None+in_ok-joined-in-None, in-Some+in_ok-joined-in-Some}
 
 pub loop-group-preserved : goal.loop-group-preserved
 loop-group-preserved g c =

@@ -1,6 +1,6 @@
 use Rattle.std.proofs.Common.{◌≡◌, ℕ, ◌<◌, length, get_or, []}
 use Rattle.gr_clocks.specs.Blocks.{IsRowJoin}
-use Rattle.gr_clocks.proofs.base.Base.merged.Given as goal
+use Rattle.gr_clocks.proofs.page.Page.merged.Given as goal
 
 abbrev pub invariant-loop-group : goal.invariant-loop-group
 invariant-loop-group g l = record {

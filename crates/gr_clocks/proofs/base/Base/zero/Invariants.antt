@@ -1,5 +1,0 @@
-use Rattle.std.proofs.Common.{◌≡◌, ℕ, ◌<◌, length, get_or, [], replicate, slice_index}
-use Rattle.gr_clocks.proofs.base.Base.zero.Given as goal
-
-abbrev pub invariant-loop-group : goal.invariant-loop-group
-invariant-loop-group g l = record { count : length l.blocks.items ≡ l.group; zero : (p : ℕ) → p < l.group → get_or l.blocks.items p [] ≡ replicate (slice_index l.shape p) 0 }
