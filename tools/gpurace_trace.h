@@ -30,9 +30,9 @@
 
 /*
  * The version of this header. Version 1 was the set of functions gpurace_encode_.., which did not check their arguments; version 2
- * wrote streams of version 1, whose records have room for one name, and version 3 those of versions 1 and 2.
+ * wrote streams of version 1, whose records have room for one name, version 3 those of versions 1 and 2, and version 4 no sites.
  */
-#define GPURACE_TRACE_VERSION 4
+#define GPURACE_TRACE_VERSION 5
 
 #include <limits.h>
 #include <stdint.h>
@@ -48,6 +48,9 @@
 #define GPURACE_MOST_WIDE_GROUPS 65535
 #define GPURACE_MOST_WIDE_ITEMS 1024
 #define GPURACE_MOST_RECORDS 16777216
+
+/* Places in the source that the records of versions 3 and 4 can tell: lines of the file `sites`. */
+#define GPURACE_MOST_SITES 65535
 
 /* How many releases a record of versions 2 and 4 has room for; one of versions 1 and 3 has room for one. */
 #define GPURACE_NAMES_OF_RECORD 4
@@ -111,7 +114,7 @@ struct gpurace_name {
 struct gpurace_stream {
     gpurace_write *write;
     void *context;
-    uint32_t group, items, records, names_of_record;
+    uint32_t group, items, records, names_of_record, site;
     uint32_t releases[GPURACE_MOST_WIDE_ITEMS];
     unsigned char is_open, is_broken, lost, is_wide;
 };
@@ -141,7 +144,7 @@ static inline const char *gpurace_status_text(enum gpurace_status status) {
     case GPURACE_BAD_SPACE: return "the space is neither global nor local";
     case GPURACE_BAD_SCOPE: return "the scope is neither group nor device";
     case GPURACE_BAD_WORD: return "the word is not below 2^32";
-    case GPURACE_BAD_SITE: return "the site is not below 2^32";
+    case GPURACE_BAD_SITE: return "the site is not below 2^32, or as a place in the source not 0 to 65535 in version 3 or 4";
     case GPURACE_BAD_FLAGS: return "the flags are not 0 to 3";
     case GPURACE_BAD_NAME: return "a name's group or item is not one that the version has, or its release not below 2^24";
     case GPURACE_TOO_MANY_RECORDS: return "the stream has no room for the record and its end";
@@ -235,7 +238,7 @@ static inline enum gpurace_status gpurace_put_record(struct gpurace_stream *stre
     bytes[2] = (unsigned char)access->scope;
     bytes[3] = (unsigned char)access->order;
     gpurace_put(bytes + 4, access->item, 2);
-    gpurace_put(bytes + 6, 0, 2);
+    gpurace_put(bytes + 6, stream->site, 2);
     gpurace_put(bytes + 8, access->word, 4);
     memset(bytes + 12, 0xff, sizeof bytes - 12);
     for (size_t at = 0; at < count; at++) {
@@ -336,6 +339,19 @@ static inline enum gpurace_status gpurace_stream_open(struct gpurace_stream *str
     return gpurace_stream_open_as(stream, GPURACE_VERSION_2, write, context, group, items, launch);
 }
 
+/*
+ * The records written from here on stand at this site in the source: its number is a line of the file `sites`, from 1; 0 where
+ * none is told, as at first. Streams of versions 1 and 2 have no room for others.
+ */
+static inline enum gpurace_status gpurace_at(struct gpurace_stream *stream, uint64_t site) {
+    if (!stream->is_open)
+        return GPURACE_NOT_OPEN;
+    if (site > (stream->is_wide ? GPURACE_MOST_SITES : 0))
+        return GPURACE_BAD_SITE;
+    stream->site = (uint32_t)site;
+    return GPURACE_OK;
+}
+
 /* A plain read or write (GPURACE_READ, GPURACE_WRITE) of a word. */
 static inline enum gpurace_status gpurace_plain(struct gpurace_stream *stream, uint64_t item, enum gpurace_kind kind,
                                                 enum gpurace_space space, uint64_t word) {
@@ -405,7 +421,7 @@ static inline enum gpurace_status gpurace_acquire_release(struct gpurace_stream 
     return status;
 }
 
-/* A work-group barrier. The site is any number that tells the barriers of the kernel's text apart. */
+/* A work-group barrier. Its site is any number that tells the barriers of the kernel's text apart. */
 static inline enum gpurace_status gpurace_barrier(struct gpurace_stream *stream, uint64_t item, uint64_t site, uint64_t flags) {
     const struct gpurace_access barrier = {GPURACE_BARRIER, GPURACE_GLOBAL, 0, 0, item, site};
     const enum gpurace_status status = gpurace_ready(stream, item, 1);
@@ -427,6 +443,7 @@ static inline enum gpurace_status gpurace_stream_close(struct gpurace_stream *st
     if (!stream->is_open)
         return GPURACE_NOT_OPEN;
     stream->is_open = 0;
+    stream->site = 0;
     if (stream->is_broken)
         return GPURACE_WRITE_FAILED;
     return gpurace_put_record(stream, &end, cut || stream->lost ? 1 : 0, NULL, 0);

@@ -85,7 +85,6 @@ struct Launch {
     std::vector<std::string> places;
     std::unordered_map<const void *, uint32_t> place_of;  // by instruction
     std::unordered_map<const void *, uint32_t> site_of;   // by debug location
-    std::vector<uint32_t> site_places;                    // of each site, from 1, its place
     std::vector<std::vector<Release>> names;
     std::array<std::map<uint32_t, Buffer>, 2> buffers;    // by space, by number
     Losses losses;

@@ -280,8 +280,7 @@ private:
                     (given & CLK_LOCAL_MEM_FENCE ? GPURACE_LOCAL_FENCE : GPURACE_NO_FENCE);
         }
         const void *location = call->getDebugLoc().get();
-        auto [site, is_new] = launch_->site_of.emplace(location ? location : call, uint32_t(launch_->site_of.size() + 1));
-        if (is_new) launch_->site_places.push_back(place_of(call));
+        const auto [site, is_new] = launch_->site_of.emplace(location ? location : call, uint32_t(launch_->site_of.size() + 1));
         Group &group = group_of(item->getWorkGroup());
         group.last_barrier = {site->second, 0, place_of(call), flags, -1, item_of(item), GPURACE_BARRIER, 0, 0, 0};
         group.has_barrier = true;

@@ -79,10 +79,5 @@ private:
     std::vector<Part> parts_{{0, UINT64_MAX}}; // all groups
 };
 
-// Whether a launch of so many recorded groups, of so many items at most, fits the versions 1 and 2 of the stream.
-inline bool fits_first_versions(uint64_t groups, uint64_t items) {
-    return groups <= GPURACE_MOST_GROUPS && items <= GPURACE_MOST_ITEMS;
-}
-
 } // namespace gpurace
 #endif

@@ -1,4 +1,4 @@
-// Writes a launch as a folder: a stream for each work-group, the side files `places` and `buffers` (docs/FORMATS.md), the text
+// Writes a launch as a folder: a stream for each work-group, the side files `sites` and `buffers` (docs/FORMATS.md), the text
 // of the kernel, and at last info.txt: a folder without it is not whole.
 #include "launch.h"
 
@@ -41,12 +41,11 @@ public:
         if (!refusal.empty()) return write_info(refusal);
         lay_out_buffers();
         number_releases();
-        std::ofstream places(folder_ + "/places");
-        if (!write_streams(places)) return false;
-        for (size_t site = 0; site < launch_.site_places.size(); site++)
-            places << site + 1 << ' ' << launch_.places[launch_.site_places[site]] << '\n';
+        if (!write_streams()) return false;
+        std::ofstream sites(folder_ + "/sites");
+        for (const std::string &place : launch_.places) sites << place << '\n';
         std::ofstream(folder_ + "/kernel.cl") << launch_.source;
-        return places.flush().good() && write_buffers() && write_info("");
+        return sites.flush().good() && write_buffers() && write_info("");
     }
     const std::string &folder() const { return folder_; }
     uint64_t records() const { return records_; }
@@ -56,7 +55,6 @@ private:
     const Settings &settings_;
     std::string folder_;
     uint64_t records_ = 0, items_ = 0, added_loads_ = 0;
-    bool is_wide_ = false;
     std::set<uint32_t> cut_;
     // of each item with releases, the number of the first record of each of its release operations
     std::map<std::pair<uint32_t, uint16_t>, std::vector<uint64_t>> first_record_;
@@ -122,13 +120,11 @@ private:
         return names;
     }
 
-    // The version of a group's stream: one whose records have room for several names, where an acquire has several, and a wide
-    // one where the launch does not fit the others.
+    // The version of a group's stream: one whose records have room for several names, where an acquire has several.
     gpurace_version version(const Group &group) const {
         for (const Record &record : group.records)
-            if (record.names >= 0 && launch_.names[size_t(record.names)].size() > 1)
-                return is_wide_ ? GPURACE_VERSION_4 : GPURACE_VERSION_2;
-        return is_wide_ ? GPURACE_VERSION_3 : GPURACE_VERSION_1;
+            if (record.names >= 0 && launch_.names[size_t(record.names)].size() > 1) return GPURACE_VERSION_4;
+        return GPURACE_VERSION_3;
     }
 
     gpurace_status put(gpurace_stream &stream, const Record &record, uint64_t at) const {
@@ -149,32 +145,26 @@ private:
         }
     }
 
-    // Puts the records of a group, and for each access a line of `places`. Answers what stopped it, or GPURACE_OK.
-    gpurace_status put_records(gpurace_stream &stream, const Group &group, std::ostream &places) {
-        std::vector<uint64_t> index(group.items + 1, 0);
+    // Puts the records of a group. Answers what stopped it, or GPURACE_OK.
+    gpurace_status put_records(gpurace_stream &stream, const Group &group) {
         for (const Record &record : group.records) {
             if (record.item == group.items && !group.has_copies) continue;
+            // a place without room for its number is not told
+            gpurace_at(&stream, record.place < GPURACE_MOST_SITES ? record.place + 1 : 0);
             const uint64_t count = record.is_access() ? words(record) : 1;
             for (uint64_t at = 0; at < count; at++) {
                 const uint32_t before = stream.records;
                 const gpurace_status status = put(stream, record, at);
                 if (status != GPURACE_OK) return status;
                 added_loads_ += stream.records - before - 1;
-                for (uint32_t written = before; written < stream.records; written++, index[record.item]++)
-                    if (record.is_access())
-                        places << stream.group << ' ' << record.item << ' ' << index[record.item] << ' '
-                               << launch_.places[record.place] << '\n';
             }
         }
         return GPURACE_OK;
     }
 
     // Each group has a file, and where there are many groups all have one.
-    bool write_streams(std::ostream &places) {
+    bool write_streams() {
         const uint64_t count = launch_.window.count();
-        uint64_t items = launch_.local.count();
-        for (const auto &[number, group] : launch_.group) items = std::max<uint64_t>(items, group.streamed_items());
-        is_wide_ = !fits_first_versions(count, items);
         std::ofstream joined;
         if (count > GPURACE_MOST_GROUPS) joined.open(folder_ + "/groups.gpurace", std::ios::binary);
         for (uint32_t number = 0; number < count; number++) {
@@ -183,18 +173,18 @@ private:
             std::ofstream own;
             if (!joined.is_open()) own.open(name.str(), std::ios::binary);
             std::ofstream &out = joined.is_open() ? joined : own;
-            if (!write_stream(number, out, places) || !out.flush().good()) return false;
+            if (!write_stream(number, out) || !out.flush().good()) return false;
         }
         return true;
     }
 
-    bool write_stream(uint32_t number, std::ostream &out, std::ostream &places) {
+    bool write_stream(uint32_t number, std::ostream &out) {
         Group &group = launch_.group[uint32_t(launch_.window.group_of(number))];
         if (group.items == 0) group.items = uint32_t(launch_.local.count()); // it never began: the kernel was stopped
         const uint32_t items = group.streamed_items();
         gpurace_stream stream;
         gpurace_status status = gpurace_stream_open_as(&stream, version(group), write_bytes, &out, number, items, launch_.number);
-        if (status == GPURACE_OK) status = put_records(stream, group, places);
+        if (status == GPURACE_OK) status = put_records(stream, group);
         const bool is_cut = !group.is_complete || group.is_full || status == GPURACE_TOO_MANY_RECORDS;
         if (status == GPURACE_TOO_MANY_RECORDS) status = GPURACE_OK;
         if (status == GPURACE_OK) status = gpurace_stream_close(&stream, is_cut);

@@ -2,6 +2,7 @@
 //! is standard input.
 
 use crate::account::{Account, Look};
+use crate::sited::Sited;
 use crate::table::{Origin, Table};
 use gr_input::read_all;
 use gr_model::memory::Memory;
@@ -54,10 +55,23 @@ pub struct Files {
     pub table: Table,
     /// Whether they are others than those that are given.
     pub is_changed: bool,
-    /// The first folder with a file of places.
+    /// What has the places of a folder: the first file of places, or its sites.
     pub places: Option<String>,
     /// The first folder with a file of buffers.
     pub buffers: Option<String>,
+    /// How the files are read.
+    how: How,
+    /// Who makes the places of the folder at hand from its sites.
+    sited: Option<Sited>,
+}
+
+/// How files are read.
+#[derive(Clone, Copy, Debug, Default)]
+pub struct How {
+    /// Pipes are read as they come, and so have one stream each; else all of a pipe is read at first.
+    pub may_wait: bool,
+    /// The places of a folder are wanted.
+    pub wants_places: bool,
 }
 
 /// The fault of reading.
@@ -69,12 +83,11 @@ fn fault_of(error: &io::Error) -> Fault {
     }
 }
 
-/// Where the streams begin that a reader has, one after another.
+/// Reads all streams that a reader has, one after another.
 ///
 /// # Errors
 /// `Read` where the reader fails; `Memory`.
-fn starts_of<R: Read>(alloc: Global, reader: &mut R) -> Result<Vec<u64>, Fault> {
-    let mut account = Account::new(alloc, false);
+fn read_streams<R: Read>(account: &mut Account, reader: &mut R) -> Result<(), Fault> {
     let mut piece = [0u8; PIECE_LENGTH];
     for _ in 0..u64::MAX {
         match reader.read(&mut piece) {
@@ -86,8 +99,7 @@ fn starts_of<R: Read>(alloc: Global, reader: &mut R) -> Result<Vec<u64>, Fault> 
             break;
         }
     }
-    account.pass(Look::Quick)?;
-    Ok(account.starts)
+    Ok(account.pass(Look::Quick)?)
 }
 
 /// The name of the stream that begins at this byte of a file with several.
@@ -105,39 +117,44 @@ fn path_below(alloc: Global, folder: &str, name: &str) -> Result<String, Memory>
 }
 
 impl Files {
-    /// No files.
-    pub fn new(alloc: Global) -> Files {
+    /// No files, and how those that come are read.
+    pub fn new(alloc: Global, how: How) -> Files {
         Files {
             names: Vec::new(alloc),
             table: Table::new(alloc),
             is_changed: false,
             places: None,
             buffers: None,
+            how,
+            sited: None,
         }
     }
 
-    /// Adds the streams of what is given by this name. Where `may_wait` is set pipes are read as they come, and so have one
-    /// stream each; else all of a pipe is read.
+    /// Adds the streams of what is given by this name.
     ///
     /// # Errors
     /// `Read` where standard input or a pipe can't be read; `Memory`.
-    pub fn add(
-        &mut self,
-        rt: HostRuntime,
-        alloc: Global,
-        name: &str,
-        may_wait: bool,
-    ) -> Result<(), Fault> {
+    pub fn add(&mut self, rt: HostRuntime, alloc: Global, name: &str) -> Result<(), Fault> {
         match kind_of(rt, name) {
             Kind::Input => self.add_bytes(alloc, name, &mut rt.stdin()),
             Kind::File => self.add_file(rt, alloc, name),
             Kind::Folder => self.add_folder(rt, alloc, name),
-            Kind::Pipe if !may_wait => match File::open(&rt, name) {
+            Kind::Pipe if !self.how.may_wait => match File::open(&rt, name) {
                 Err(_) => Ok(self.add_name(alloc, name)?),
                 Ok(mut pipe) => self.add_bytes(alloc, name, &mut pipe),
             },
             Kind::Pipe | Kind::Missing => Ok(self.add_name(alloc, name)?),
         }
+    }
+
+    /// Where the streams begin that a reader has, one after another.
+    fn starts_of<R: Read>(&mut self, alloc: Global, reader: &mut R) -> Result<Vec<u64>, Fault> {
+        let mut account = Account::new(alloc, false);
+        account.sited = self.sited.take();
+        let outcome = read_streams(&mut account, reader);
+        self.sited = account.sited.take();
+        outcome?;
+        Ok(account.starts)
     }
 
     /// Adds a name as it is.
@@ -180,7 +197,7 @@ impl Files {
     ) -> Result<(), Fault> {
         let bytes = read_all(alloc, reader)?;
         let mut rest = bytes.as_slice();
-        let starts = starts_of(alloc, &mut rest)?;
+        let starts = self.starts_of(alloc, &mut rest)?;
         let length = bytes.len();
         let bytes = shared(alloc, bytes)?;
         if starts.len() < 2 {
@@ -203,7 +220,7 @@ impl Files {
         let Ok(mut file) = File::open(&rt, path) else {
             return Ok(self.add_name(alloc, path)?);
         };
-        let starts = match starts_of(alloc, &mut file) {
+        let starts = match self.starts_of(alloc, &mut file) {
             Ok(starts) => starts,
             Err(Fault::Memory) => return Err(Fault::Memory),
             Err(_) => Vec::new(alloc),
@@ -237,17 +254,41 @@ impl Files {
         if paths.is_empty() {
             return Ok(self.add_name(alloc, folder)?);
         }
-        for path in &paths {
-            self.add_file(rt, alloc, path.as_str())?;
-        }
-        self.is_changed = true;
         if self.places.is_none() {
             self.places = side_file(rt, alloc, folder, "places")?;
         }
         if self.buffers.is_none() {
             self.buffers = side_file(rt, alloc, folder, "buffers")?;
         }
-        Ok(())
+        self.is_changed = true;
+        let sites = if self.how.wants_places && self.places.is_none() {
+            side_file(rt, alloc, folder, "sites")?
+        } else {
+            None
+        };
+        if let Some(sites) = &sites {
+            self.sited = Some(Sited::new(alloc, read_file(rt, alloc, sites.as_str())?)?);
+        }
+        for path in &paths {
+            self.add_file(rt, alloc, path.as_str())?;
+        }
+        match (self.sited.take(), sites) {
+            (Some(sited), Some(sites)) => self.add_places(alloc, sites, sited.places),
+            _ => Ok(()),
+        }
+    }
+
+    /// Adds the places that a file of sites gives, by the name of that file.
+    fn add_places(&mut self, alloc: Global, sites: String, places: Vec<u8>) -> Result<(), Fault> {
+        self.places = Some(copy_of(alloc, sites.as_str())?);
+        let end = places.len();
+        let bytes = shared(alloc, places)?;
+        let origin = Origin::Kept {
+            bytes,
+            start: 0,
+            end,
+        };
+        Ok(self.table.add(sites, origin)?)
     }
 }
 
@@ -259,6 +300,17 @@ fn copy_of(alloc: Global, text: &str) -> Result<String, Memory> {
 /// Bytes that may have several owners.
 fn shared(alloc: Global, bytes: Vec<u8>) -> Result<Arc<Vec<u8>>, Memory> {
     Ok(Arc::new(alloc, bytes)?)
+}
+
+/// All bytes of a file.
+///
+/// # Errors
+/// `Read` where it can't be read; `Memory`.
+fn read_file(rt: HostRuntime, alloc: Global, path: &str) -> Result<Vec<u8>, Fault> {
+    match File::open(&rt, path) {
+        Err(error) => Err(fault_of(&error)),
+        Ok(mut file) => read_all(alloc, &mut file),
+    }
 }
 
 /// The path of a side file of a folder, if it is there.

@@ -13,6 +13,7 @@ mod plan;
 mod progress;
 mod reading;
 mod refused;
+mod sited;
 mod source;
 mod table;
 mod text_fault;

@@ -1,6 +1,6 @@
 //! What is done about the words of a command line: the words that `gr_command` is given, its input, and what names open.
 
-use crate::files::{Files, Kind, kind_of, paths_of_streams};
+use crate::files::{Files, How, Kind, kind_of, paths_of_streams};
 use crate::line::{Line, Taking, is_option, taking_of};
 use crate::named::{Naming, Unnamed, naming_in, word_in};
 use crate::progress::Progress;
@@ -91,7 +91,7 @@ fn as_given(rt: HostRuntime, alloc: Global, keeping: Keeping) -> Result<Plan, Me
         words: None,
         reading: standard_input(rt, alloc, keeping)?,
         given: Vec::new(alloc),
-        files: Files::new(alloc),
+        files: Files::new(alloc, How::default()),
         sides: Vec::new(alloc),
     })
 }
@@ -186,7 +186,7 @@ fn joined(rt: HostRuntime, alloc: Global, line: &Line<'_>) -> Result<Plan, Fault
         words: Some(words),
         reading: Reading::new(alloc, sources, keeping),
         given,
-        files: Files::new(alloc),
+        files: Files::new(alloc, How::default()),
         sides: Vec::new(alloc),
     })
 }
@@ -352,11 +352,15 @@ fn files_of(
     line: &Line<'_>,
     names: &[&str],
 ) -> Result<Files, Fault> {
-    let mut files = Files::new(alloc);
+    let how = How {
+        may_wait: line.command == "run",
+        wants_places: takes_sides(line) && line.value_of("--places").is_none(),
+    };
+    let mut files = Files::new(alloc, how);
     let is_whole = names.iter().all(|name| kind_of(rt, name) != Kind::Missing);
     for name in names {
         if is_whole {
-            files.add(rt, alloc, name, line.command == "run")?;
+            files.add(rt, alloc, name)?;
         } else {
             files.add_name(alloc, name)?;
         }

@@ -4,8 +4,10 @@ use crate::progress::Progress;
 use crate::source::{Kept, Source};
 use crate::watched::Watched;
 use gr_model::memory::Memory;
+use indexmap::IndexMap;
 use std::alloc::Global;
 use std::fs::{self, File};
+use std::hash::{BuildHasherDefault, FoldHasher};
 use std::io::{self, Read, Seek, SeekFrom};
 use std::sync::Arc;
 
@@ -32,17 +34,10 @@ pub enum Origin {
     },
 }
 
-/// A name, and what it opens.
-#[derive(Drop)]
-struct Entry {
-    name: String,
-    origin: Origin,
-}
-
 /// The names that open something else than the whole file of this path.
 #[derive(Drop)]
 pub struct Table {
-    entries: Vec<Entry>,
+    origins: IndexMap<String, Origin, BuildHasherDefault<FoldHasher>>,
     /// Who tells how far the reading is.
     pub progress: Option<Arc<Progress>>,
 }
@@ -69,7 +64,7 @@ impl Table {
     /// No names.
     pub fn new(alloc: Global) -> Table {
         Table {
-            entries: Vec::new(alloc),
+            origins: IndexMap::new(alloc),
             progress: None,
         }
     }
@@ -79,18 +74,15 @@ impl Table {
     /// # Errors
     /// `Memory`: out of memory.
     pub fn add(&mut self, name: String, origin: Origin) -> Result<(), Memory> {
-        self.entries.push(Entry { name, origin })?;
+        if !self.has(name.as_str()) {
+            self.origins.insert(name, origin)?;
+        }
         Ok(())
     }
 
     /// What a name opens, if it is one of the table.
     fn origin_of(&self, name: &str) -> Option<&Origin> {
-        for entry in &self.entries {
-            if entry.name.as_str() == name {
-                return Some(&entry.origin);
-            }
-        }
-        None
+        self.origins.get(name)
     }
 
     /// Whether the table has a name.

@@ -45,8 +45,7 @@ std::string buffers_of(const Launch &launch) {
 
 std::string sites_of(const Launch &launch) {
     std::string text;
-    for (size_t site = 0; site < launch.request.program->sites.size(); site++)
-        if (launch.sites[site].kind == BARRIER) text += std::to_string(site) + " " + launch.sites[site].place + "\n";
+    for (const Site &site : launch.request.program->sites) text += site.place + "\n";
     return text;
 }
 
@@ -74,14 +73,13 @@ void write_losses(std::ostream &out, Launch &launch) {
 
 bool begin_folder(Launch &launch, std::string &error) {
     const Request &request = launch.request;
-    const std::string folder = request.folder + "/", sites = sites_of(launch);
+    const std::string folder = request.folder + "/";
     std::error_code fault;
     bool is_written = std::filesystem::create_directories(request.folder, fault) &&
                       write_file(folder + "begun.txt", shape_of(request)) &&
-                      write_file(folder + "buffers", buffers_of(launch)) && launch.places.open(folder + "places");
+                      write_file(folder + "buffers", buffers_of(launch)) && write_file(folder + "sites", sites_of(launch));
     for (const Source &source : request.program->sources)
         is_written = is_written && write_file(folder + source.name, source.text);
-    is_written = is_written && launch.places.append(sites.data(), sites.size());
     if (!is_written) error = request.folder + " could not be written: " + std::strerror(errno);
     return is_written;
 }
@@ -94,7 +92,6 @@ void end_folder(Launch &launch, double seconds) {
     info << shape_of(request) << "items " << kept * items << "\nrecords " << launch.records << '\n';
     for (uint64_t group = 0; group < kept; group++)
         if (launch.is_cut[group]) info << "cut " << group << '\n';
-    if (launch.places.error()) info << "places-cut " << std::strerror(launch.places.error()) << '\n';
     for (const std::string &note : request.program->notes) info << "note " << note << '\n';
     write_losses(info, launch);
     std::string equal = launch.stored.lines("g");

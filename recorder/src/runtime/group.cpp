@@ -1,6 +1,5 @@
 #include "group.h"
 
-#include <charconv>
 #include <cstring>
 
 namespace gpurace {
@@ -8,13 +7,6 @@ namespace {
 
 constexpr uint32_t SHORT_TURN = 24, LONG_TURN = 2048; // calls of the runtime, at most
 constexpr uint32_t MOST_STILL = 16;                   // sweeps, after which a group may be one that waits
-constexpr size_t PLACES_ROOM = 1 << 16, PLACE_NUMBERS = 40;
-
-char *append(char *at, uint32_t number) {
-    at = std::to_chars(at, at + 10, number).ptr;
-    *at++ = ' ';
-    return at;
-}
 
 // The main function of an item's fiber.
 void run_item(void *state) {
@@ -38,27 +30,14 @@ void settle(Item &item) {
     pending.bytes = 0;
 }
 
-void Group::put(uint32_t item, uint32_t &index, const Site &site, uint64_t head, uint32_t word, const Name *names,
-                size_t count) {
+void Group::put(uint32_t &records, const Site &site, uint64_t head, uint32_t word, const Name *names, size_t count) {
     if (stream->is_full()) { // who acquires from what is lost must not be recorded either
         launch->is_over = true;
         is_cut = true;
         return;
     }
-    stream->put(head, word, names, count);
-    const uint32_t number = index++;
-    if (!places || (head & 0xff) >= BARRIER) return;
-    if (places_used + PLACE_NUMBERS + site.place.size() > PLACES_ROOM) flush_places();
-    char *at = append(append(append(places.get() + places_used, window), item), number);
-    std::memcpy(at, site.place.data(), site.place.size());
-    at += site.place.size();
-    *at++ = '\n';
-    places_used = size_t(at - places.get());
-}
-
-void Group::flush_places() {
-    if (!launch->streams.are_piped) launch->places.append(places.get(), places_used);
-    places_used = 0;
+    stream->put(head | launch->site_number(site) << 48, word, names, count);
+    records++;
 }
 
 std::unique_ptr<Group> Group::begin(Launch &launch, uint64_t number, Pool &pool, Random &random) try {
@@ -106,7 +85,6 @@ void Group::open_stream() {
     stream.emplace(window, launch->has_names, launch->streams, launch->written);
     if (!stream->open()) launch->is_over = true;
     stored.emplace(words_of(spans));
-    if (settings().writes_places) places.reset(new char[PLACES_ROOM]);
 }
 
 void Group::begin_items(Pool &pool) {
@@ -186,7 +164,6 @@ void Group::close_files(bool cut) {
     if (!is_recorded) return;
     is_recorded = false;
     stream->close(cut || is_cut);
-    flush_places();
     launch->stored_in_locals[window] = stored->lines("l " + std::to_string(window));
     launch->records += stream->records();
     launch->is_cut[window] = cut || is_cut || stream->error() != 0;

@@ -75,8 +75,6 @@ struct Group {
     uint8_t *memory = nullptr, *stacks = nullptr;
     std::optional<Stream> stream;             // of a group that is recorded
     std::optional<StoredValues> stored;       // in local memory
-    std::unique_ptr<char[]> places;           // lines of it
-    size_t places_used = 0;
     uint32_t copier_records = 0;
 
     // Null where there is no room.
@@ -93,10 +91,9 @@ struct Group {
         is_cut = true;
         return false;
     }
-    // A record of an item, whose number among the item's is `index`.
-    void put(uint32_t item, uint32_t &index, const Site &site, uint64_t head, uint32_t word,
-             const Name *names = nullptr, size_t count = 0);
-    void flush_places();
+    // A record of an item, which has so many.
+    void put(uint32_t &records, const Site &site, uint64_t head, uint32_t word, const Name *names = nullptr,
+             size_t count = 0);
 
 private:
     void place_memory(Pool &pool);

@@ -103,7 +103,7 @@ struct Accessor {
         if (!group.records_now()) return;
         const uint64_t head = head_of(item, uint8_t(kind), uint8_t(space));
         for (uint64_t word = part.first_word(), last = part.last_word(); word <= last; word++)
-            group.put(item, records, site, head, uint32_t(word));
+            group.put(records, site, head, uint32_t(word));
     }
 };
 
@@ -224,10 +224,10 @@ HOOK void gr_barrier(void *state, uint32_t number, uint32_t flags) {
     const uint8_t traced = uint8_t((flags & 1) << 1 | (flags >> 1 & 1)); // a trace has global memory first
     if (group.records_now()) {
         const Site &site = group.launch->sites[number];
-        group.put(item.number, item.records, site, head_of(item.number, BARRIER, traced), number);
+        group.put(item.records, site, head_of(item.number, BARRIER, traced), number);
         const uint32_t copier = uint32_t(group.items.size());
         if (item.number == 0 && group.launch->request.kernel->has_copies)
-            group.put(copier, group.copier_records, site, head_of(copier, BARRIER, traced), number);
+            group.put(group.copier_records, site, head_of(copier, BARRIER, traced), number);
     }
     item.last_site = UINT32_MAX;
     item.state = STANDS;
@@ -341,10 +341,10 @@ void put_atomic(Item &item, const Site &site, const Span &span, uint64_t address
     for (uint64_t word = first; word <= last; word++) { // a release of several words is several records
         size_t at = 0;
         for (; names.size() - at > NAMES_OF_RECORD; at += NAMES_OF_RECORD) {
-            group.put(item.number, item.records, site, load, uint32_t(word), &names[at], NAMES_OF_RECORD);
+            group.put(item.records, site, load, uint32_t(word), &names[at], NAMES_OF_RECORD);
             group.launch->losses.added.fetch_add(1, std::memory_order_relaxed);
         }
-        group.put(item.number, item.records, site, head, uint32_t(word), names.data() + at, names.size() - at);
+        group.put(item.records, site, head, uint32_t(word), names.data() + at, names.size() - at);
         for (Name &name : names) name.number++;
     }
     if (releases(record.order)) item.releases += uint32_t(last - first + 1);

@@ -22,11 +22,10 @@ std::vector<uint64_t> addresses_of(const std::vector<Entry> &entries) {
 std::vector<std::string> headers_of(const Request &request) {
     const Kernel &kernel = *request.kernel;
     const uint64_t count = request.window.count(), more = kernel.has_copies;
-    const bool is_wide = !fits_first_versions(count, request.range.items_of_group() + more);
     std::vector<std::string> headers;
     for (uint32_t group = 0; group < count; group++) {
         const uint64_t items = request.range.items_of(request.window.group_of(group)) + more;
-        headers.push_back(stream_header(is_wide, kernel.has_names, group, items, request.number));
+        headers.push_back(stream_header(kernel.has_names, group, items, request.number));
     }
     return headers;
 }

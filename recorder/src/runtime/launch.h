@@ -80,7 +80,6 @@ public:
     ReleaseSequences sequences;
     StoredValues stored;                    // in global memory
     std::vector<std::string> stored_in_locals; // by group: the lines of what was stored there
-    Places places;
     Streams streams;
     Losses losses;
     std::vector<uint8_t> zeros;             // what a load out of every buffer takes
@@ -97,6 +96,11 @@ public:
     void abandon();
     // The `number`th group to begin.
     uint64_t group_at(uint64_t number) const;
+    // The line of the file `sites` that has this site; 0 where a record has no room for its number.
+    uint64_t site_number(const Site &site) const {
+        const size_t number = size_t(&site - sites) + 1;
+        return number <= UINT16_MAX ? number : 0;
+    }
 
 private:
     std::vector<class Worker *> workers_;

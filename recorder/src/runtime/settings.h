@@ -21,8 +21,8 @@ struct Settings {
     const uint64_t most_items = number_setting("MAX_GROUP_SIZE", GPURACE_MOST_WIDE_ITEMS);
     const uint64_t most_records = number_setting("MOST_RECORDS", UINT64_MAX);
     const double timeout = double(number_setting("TIMEOUT"));
-    const bool writes_places = setting("PLACES", "1") == "1", keeps_code = setting("KEEP_CODE") == "1",
-               as_gpu = setting("AS_GPU") == "1", is_seeded = !setting("SEED").empty();
+    const bool keeps_code = setting("KEEP_CODE") == "1", as_gpu = setting("AS_GPU") == "1",
+               is_seeded = !setting("SEED").empty();
     const uint64_t seed = is_seeded ? number_setting("SEED") : std::random_device()();
     const unsigned processors = std::max(1u, std::thread::hardware_concurrency());
     const unsigned threads = is_seeded ? 1 : unsigned(number_setting("THREADS", processors));

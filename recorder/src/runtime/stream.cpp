@@ -89,10 +89,10 @@ uint32_t end_early(const std::string &path, off_t start, uint32_t record_bytes) 
 
 } // namespace
 
-std::string stream_header(bool is_wide, bool has_names, uint32_t group, uint64_t items, uint32_t launch) {
+std::string stream_header(bool has_names, uint32_t group, uint64_t items, uint32_t launch) {
     const uint16_t shape[] = {uint16_t(group), uint16_t(items)};
     std::string header("GRT");
-    header += char('1' + has_names + 2 * is_wide);
+    header += has_names ? '4' : '3';
     return header.append(reinterpret_cast<const char *>(shape), 4).append(reinterpret_cast<const char *>(&launch), 4);
 }
 
@@ -132,25 +132,6 @@ int Streams::join(const std::string &part, const char *bytes, size_t count, uint
     if (!part.empty()) unlink(part.c_str());
     if (error && !are_piped) records = end_early(joined_path_, std::max(off_t(0), start), record_bytes);
     return error;
-}
-
-Places::~Places() {
-    if (file_ >= 0) close(file_);
-}
-
-bool Places::open(const std::string &path) {
-    file_ = open_to_append(path);
-    if (file_ < 0) error_ = errno;
-    return file_ >= 0;
-}
-
-bool Places::append(const char *text, size_t bytes) {
-    const std::lock_guard<std::mutex> held(lock_);
-    if (error_ || bytes == 0) return error_ == 0;
-    error_ = write_all(file_, text, bytes);
-    if (error_ && ftruncate(file_, off_t(bytes_)) != 0) error_ = errno;
-    bytes_ += error_ ? 0 : bytes;
-    return error_ == 0;
 }
 
 Stream::Stream(uint32_t group, bool has_names, Streams &streams, std::atomic<uint64_t> &counted)

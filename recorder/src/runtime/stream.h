@@ -1,4 +1,4 @@
-// The files that grow while a launch runs: its streams, and `places`.
+// The files that grow while a launch runs: its streams.
 #pragma once
 
 #include "release_sequences.h"
@@ -11,7 +11,7 @@ namespace gpurace {
 
 constexpr uint32_t MOST_RECORDS = 16777216; // of a stream, its end included
 
-std::string stream_header(bool is_wide, bool has_names, uint32_t group, uint64_t items, uint32_t launch);
+std::string stream_header(bool has_names, uint32_t group, uint64_t items, uint32_t launch);
 
 // The files of the streams: one for each group, or one to which each is joined when its group ends. Where they are full
 // they go on as pipes, NAME.pipe beside NAME. The judge begins when it sees piped.txt, and wants the headers of all
@@ -35,20 +35,6 @@ struct Streams {
 private:
     const std::string joined_path_;
     int joined_ = -1; // the file of the joined streams, or its pipe, once it is open
-};
-
-// The side file `places`, to which the groups append by turns. Where the disk is full it ends behind a whole line.
-class Places {
-public:
-    ~Places();
-    bool open(const std::string &path);
-    bool append(const char *text, size_t bytes);
-    int error() const { return error_; }
-
-private:
-    std::mutex lock_;
-    int file_ = -1, error_ = 0;
-    uint64_t bytes_ = 0;
 };
 
 // A group's stream. Records stand in a buffer until it is full; where they can't be written the stream is ended as cut.

@@ -1,0 +1,148 @@
+//! Where in the source the records of a folder stand: by the sites that they tell, and the folder's file `sites`.
+
+use gr_model::event::{EventId, ItemId, Kind};
+use gr_model::memory::Memory;
+use gr_record::header::Header;
+use gr_record::reading::read_event;
+use gr_text::lines::split_line;
+use itoa::Buffer;
+use std::alloc::Global;
+
+/// The byte of a record at which its site begins.
+const SITE: usize = 6;
+
+/// Makes the lines of a file of places (docs/FORMATS.md, "Side files") of records as they pass.
+#[derive(Drop)]
+pub struct Sited {
+    /// The file of sites.
+    sites: Vec<u8>,
+    /// Where each line of it begins, and where it ends.
+    lines: Vec<(usize, usize)>,
+    /// Of each item of the group at hand how many records have passed.
+    passed: Vec<u32>,
+    /// Those barriers that have a line.
+    barriers: Vec<u32>,
+    /// The lines of places.
+    pub places: Vec<u8>,
+}
+
+/// Where the lines of a text begin and end.
+fn lines_of(alloc: Global, text: &[u8]) -> Result<Vec<(usize, usize)>, Memory> {
+    let mut lines = Vec::new(alloc);
+    let mut rest = text;
+    for _ in 0..text.len() {
+        if rest.is_empty() {
+            break;
+        }
+        let start = text.len().saturating_sub(rest.len());
+        let (line, after) = split_line(rest);
+        lines.push((start, start.saturating_add(line.len())))?;
+        rest = after;
+    }
+    Ok(lines)
+}
+
+/// The site that a record tells; 0 where it tells none.
+fn site_of(record: &[u8]) -> usize {
+    match (record.get(SITE), record.get(SITE.saturating_add(1))) {
+        (Some(low), Some(high)) => usize::from(u16::from_le_bytes([*low, *high])),
+        _ => 0,
+    }
+}
+
+/// Adds a number and a blank to a text.
+fn push_number(text: &mut Vec<u8>, number: u32) -> Result<(), Memory> {
+    text.extend_from_slice(Buffer::new().format(number).as_bytes())?;
+    text.push(b' ')?;
+    Ok(())
+}
+
+impl Sited {
+    /// Of a folder whose file of sites has this text. No record has passed.
+    ///
+    /// # Errors
+    /// `Memory`: out of memory.
+    pub fn new(alloc: Global, sites: Vec<u8>) -> Result<Sited, Memory> {
+        Ok(Sited {
+            lines: lines_of(alloc, sites.as_slice())?,
+            sites,
+            passed: Vec::new(alloc),
+            barriers: Vec::new(alloc),
+            places: Vec::new(alloc),
+        })
+    }
+
+    /// Begins the stream of this header.
+    ///
+    /// # Errors
+    /// `Memory`: out of memory.
+    pub fn begin(&mut self, header: &Header) -> Result<(), Memory> {
+        self.passed.clear();
+        self.passed.resize(usize::from(header.items), 0)?;
+        Ok(())
+    }
+
+    /// Adds the line of a record in the stream of this header, if it tells its site.
+    ///
+    /// # Errors
+    /// `Memory`: out of memory.
+    pub fn pass(&mut self, header: &Header, record: &[u8]) -> Result<(), Memory> {
+        let Ok(event) = read_event(*header, record) else {
+            return Ok(());
+        };
+        let index = self.next_index(event.item);
+        let at = ItemId {
+            group: header.group,
+            item: event.item,
+        };
+        match (self.place_of(site_of(record)), event.kind) {
+            (None, _) => Ok(()),
+            (Some(place), Kind::Barrier { .. }) => self.add_barrier(event.word, place),
+            (Some(place), _) => self.add_event(EventId { at, index }, place),
+        }
+    }
+
+    /// The index of an item's next record.
+    fn next_index(&mut self, item: u16) -> u32 {
+        match self.passed.get_mut(usize::from(item)) {
+            None => 0,
+            Some(passed) => {
+                let index = *passed;
+                *passed = index.saturating_add(1);
+                index
+            }
+        }
+    }
+
+    /// Where the place of a site stands among the sites.
+    fn place_of(&self, site: usize) -> Option<(usize, usize)> {
+        self.lines.get(site.checked_sub(1)?).copied()
+    }
+
+    /// Adds the line of an event.
+    fn add_event(&mut self, event: EventId, place: (usize, usize)) -> Result<(), Memory> {
+        push_number(&mut self.places, u32::from(event.at.group))?;
+        push_number(&mut self.places, u32::from(event.at.item))?;
+        push_number(&mut self.places, event.index)?;
+        self.end_line(place)
+    }
+
+    /// Adds the line of barriers, once.
+    fn add_barrier(&mut self, barrier: u32, place: (usize, usize)) -> Result<(), Memory> {
+        if self.barriers.contains(&barrier) {
+            return Ok(());
+        }
+        self.barriers.push(barrier)?;
+        push_number(&mut self.places, barrier)?;
+        self.end_line(place)
+    }
+
+    /// Ends a line with a place.
+    fn end_line(&mut self, (start, end): (usize, usize)) -> Result<(), Memory> {
+        if let Some(place) = self.sites.get(start..end) {
+            self.places.extend_from_slice(place)?;
+        }
+        self.places.push(b'\n')?;
+        Ok(())
+    }
+}
