@@ -1,6 +1,6 @@
 //! What of the streams in a series of bytes was read: where each begins, and how many records there were.
 
-use crate::sited::Sited;
+use crate::seen::Seen;
 use gr_model::limits::MOST_GROUPS;
 use gr_model::memory::Memory;
 use gr_record::error::RecordError;
@@ -58,8 +58,8 @@ pub struct Account {
     pub is_stopped: bool,
     /// Whether that is the end of the stream that was looked at.
     pub is_at_end: bool,
-    /// Who is told of each record, if it is told where in the source records stand.
-    pub sited: Option<Sited>,
+    /// Who sees the headers and records that are passed.
+    pub seen: Seen,
     /// Whether each record is looked at as a whole one.
     judges: bool,
     header: Option<Header>,
@@ -116,7 +116,7 @@ impl Account {
             passed: 0,
             is_stopped: false,
             is_at_end: false,
-            sited: None,
+            seen: Seen::default(),
             judges,
             header: None,
             bytes: Vec::new(alloc),
@@ -215,7 +215,7 @@ impl Account {
             }
             Front::Record(length) => {
                 self.count();
-                self.tell_site(at, length)?;
+                self.show(at, length)?;
                 length
             }
             Front::Ends(_) if self.ends_here(look) => {
@@ -237,17 +237,14 @@ impl Account {
     fn begin(&mut self, header: Header) -> Result<(), Memory> {
         self.header = Some(header);
         self.records = 0;
-        match &mut self.sited {
-            None => Ok(()),
-            Some(sited) => sited.begin(&header),
-        }
+        self.seen.begin(&header)
     }
 
-    /// Tells of the record at this place of the bytes at hand where in the source it stands.
-    fn tell_site(&mut self, at: usize, length: usize) -> Result<(), Memory> {
+    /// Shows the record at this place of the bytes at hand.
+    fn show(&mut self, at: usize, length: usize) -> Result<(), Memory> {
         let record = self.bytes.get(at..at.saturating_add(length));
-        match (&mut self.sited, &self.header, record) {
-            (Some(sited), Some(header), Some(record)) => sited.pass(header, record),
+        match (&self.header, record) {
+            (Some(header), Some(record)) => self.seen.pass(header, record),
             _ => Ok(()),
         }
     }

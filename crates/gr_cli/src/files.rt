@@ -2,6 +2,7 @@
 //! is standard input.
 
 use crate::account::{Account, Look};
+use crate::seen::Seen;
 use crate::sited::Sited;
 use crate::table::{Origin, Table};
 use gr_input::read_all;
@@ -10,6 +11,7 @@ use gr_record::fault::Fault;
 use std::alloc::Global;
 use std::fs::{self, File};
 use std::io::{self, ErrorKind, Read};
+use std::mem;
 use std::sync::Arc;
 
 /// How many bytes are read at once.
@@ -61,8 +63,8 @@ pub struct Files {
     pub buffers: Option<String>,
     /// How the files are read.
     how: How,
-    /// Who makes the places of the folder at hand from its sites.
-    sited: Option<Sited>,
+    /// Who sees the headers and records.
+    pub seen: Seen,
 }
 
 /// How files are read.
@@ -126,7 +128,7 @@ impl Files {
             places: None,
             buffers: None,
             how,
-            sited: None,
+            seen: Seen::default(),
         }
     }
 
@@ -150,9 +152,9 @@ impl Files {
     /// Where the streams begin that a reader has, one after another.
     fn starts_of<R: Read>(&mut self, alloc: Global, reader: &mut R) -> Result<Vec<u64>, Fault> {
         let mut account = Account::new(alloc, false);
-        account.sited = self.sited.take();
+        account.seen = mem::take(&mut self.seen);
         let outcome = read_streams(&mut account, reader);
-        self.sited = account.sited.take();
+        self.seen = mem::take(&mut account.seen);
         outcome?;
         Ok(account.starts)
     }
@@ -267,12 +269,12 @@ impl Files {
             None
         };
         if let Some(sites) = &sites {
-            self.sited = Some(Sited::new(alloc, read_file(rt, alloc, sites.as_str())?)?);
+            self.seen.sited = Some(Sited::new(alloc, read_file(rt, alloc, sites.as_str())?)?);
         }
         for path in &paths {
             self.add_file(rt, alloc, path.as_str())?;
         }
-        match (self.sited.take(), sites) {
+        match (self.seen.sited.take(), sites) {
             (Some(sited), Some(sites)) => self.add_places(alloc, sites, sited.places),
             _ => Ok(()),
         }

@@ -13,7 +13,9 @@ mod plan;
 mod progress;
 mod reading;
 mod refused;
+mod seen;
 mod sited;
+mod sought;
 mod source;
 mod table;
 mod text_fault;
@@ -114,6 +116,9 @@ where
         progress.clear();
     }
     let _ = tell(rt, alloc, &mut plan, first_of(words), &mut errors);
+    if status == 0 {
+        let _ = plan.files.seen.tell(&mut errors);
+    }
     status
 }
 

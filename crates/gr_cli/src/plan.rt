@@ -5,6 +5,7 @@ use crate::line::{Line, Taking, is_option, taking_of};
 use crate::named::{Naming, Unnamed, naming_in, word_in};
 use crate::progress::Progress;
 use crate::reading::{Keeping, Reading};
+use crate::sought::Sought;
 use crate::source::Source;
 use crate::table::file_size;
 use clap::error::ErrorKind;
@@ -286,7 +287,7 @@ fn each(
     }
     let values = line.values.as_slice();
     let (before, names) = values.split_at(leading.min(values.len()));
-    let files = files_of(rt, alloc, line, names)?;
+    let files = files_of(rt, alloc, line, sought_by(before), names)?;
     if !files.is_changed {
         return Ok(with_words(rt, alloc, line, None, files)?);
     }
@@ -345,11 +346,20 @@ fn with_words(
     })
 }
 
-/// The streams of these files. Where one is missing they stay as they are, so that it is told as ever.
+/// The word that is asked for by the words before the files, if they are two.
+fn sought_by(before: &[&str]) -> Option<Sought> {
+    match before {
+        [space, number] => Sought::new(space, number),
+        _ => None,
+    }
+}
+
+/// The streams of these files, in which this word is looked for. Where one is missing they stay as they are, so that it is told as ever.
 fn files_of(
     rt: HostRuntime,
     alloc: Global,
     line: &Line<'_>,
+    sought: Option<Sought>,
     names: &[&str],
 ) -> Result<Files, Fault> {
     let how = How {
@@ -357,6 +367,7 @@ fn files_of(
         wants_places: takes_sides(line) && line.value_of("--places").is_none(),
     };
     let mut files = Files::new(alloc, how);
+    files.seen.sought = sought;
     let is_whole = names.iter().all(|name| kind_of(rt, name) != Kind::Missing);
     for name in names {
         if is_whole {
@@ -452,7 +463,7 @@ fn by_name(
     let values = line.values.as_slice();
     let (values, _) = values.split_at(naming.behind_files.min(values.len()));
     let (_, names) = values.split_at(naming.first_file.min(values.len()));
-    let files = files_of(rt, alloc, line, names)?;
+    let files = files_of(rt, alloc, line, None, names)?;
     let Some(buffers) = buffers_of(alloc, line, &files)? else {
         return Err(Refusal::NoBuffers(copy_of(alloc, naming.name)?));
     };

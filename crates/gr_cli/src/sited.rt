@@ -1,9 +1,8 @@
 //! Where in the source the records of a folder stand: by the sites that they tell, and the folder's file `sites`.
 
-use gr_model::event::{EventId, ItemId, Kind};
+use gr_model::event::{Event, EventId, ItemId, Kind};
 use gr_model::memory::Memory;
 use gr_record::header::Header;
-use gr_record::reading::read_event;
 use gr_text::lines::split_line;
 use itoa::Buffer;
 use std::alloc::Global;
@@ -82,19 +81,14 @@ impl Sited {
         Ok(())
     }
 
-    /// Adds the line of a record in the stream of this header, if it tells its site.
+    /// Adds the line of a group's record, which says this event, if it tells its site.
     ///
     /// # Errors
     /// `Memory`: out of memory.
-    pub fn pass(&mut self, header: &Header, record: &[u8]) -> Result<(), Memory> {
-        let Ok(event) = read_event(*header, record) else {
-            return Ok(());
-        };
-        let index = self.next_index(event.item);
-        let at = ItemId {
-            group: header.group,
-            item: event.item,
-        };
+    pub fn pass(&mut self, group: u16, event: &Event, record: &[u8]) -> Result<(), Memory> {
+        let item = event.item;
+        let index = self.next_index(item);
+        let at = ItemId { group, item };
         match (self.place_of(site_of(record)), event.kind) {
             (None, _) => Ok(()),
             (Some(place), Kind::Barrier { .. }) => self.add_barrier(event.word, place),

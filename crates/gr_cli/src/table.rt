@@ -1,14 +1,14 @@
 //! What the names of a command line's files open.
 
 use crate::progress::Progress;
-use crate::source::{Kept, Source};
+use crate::source::{Kept, Part, Source};
 use crate::watched::Watched;
 use gr_model::memory::Memory;
 use indexmap::IndexMap;
 use std::alloc::Global;
 use std::fs::{self, File};
 use std::hash::{BuildHasherDefault, FoldHasher};
-use std::io::{self, Read, Seek, SeekFrom};
+use std::io;
 use std::sync::Arc;
 
 /// What a name opens that is no path of a whole file.
@@ -37,19 +37,10 @@ pub enum Origin {
 /// The names that open something else than the whole file of this path.
 #[derive(Drop)]
 pub struct Table {
+    alloc: Global,
     origins: IndexMap<String, Origin, BuildHasherDefault<FoldHasher>>,
     /// Who tells how far the reading is.
     pub progress: Option<Arc<Progress>>,
-}
-
-/// A part of a file.
-fn open_part(rt: HostRuntime, path: &str, start: u64, end: Option<u64>) -> io::Result<Source> {
-    let mut file = File::open(&rt, path)?;
-    file.seek(SeekFrom::Start(start))?;
-    match end {
-        None => Ok(Source::Whole(file)),
-        Some(end) => Ok(Source::Part(file.take(end.saturating_sub(start)))),
-    }
 }
 
 /// How many bytes the file of a path has.
@@ -64,6 +55,7 @@ impl Table {
     /// No names.
     pub fn new(alloc: Global) -> Table {
         Table {
+            alloc,
             origins: IndexMap::new(alloc),
             progress: None,
         }
@@ -141,7 +133,11 @@ impl Table {
     pub fn open(&self, rt: HostRuntime, name: &str) -> io::Result<Source> {
         match self.origin_of(name) {
             None => Ok(Source::Whole(File::open(&rt, name)?)),
-            Some(Origin::Part { path, start, end }) => open_part(rt, path.as_str(), *start, *end),
+            Some(Origin::Part { path, start, end }) => {
+                let end = end.unwrap_or(u64::MAX);
+                let part = Part::open(rt, self.alloc, path.as_str(), *start, end)?;
+                Ok(Source::Part(part))
+            }
             Some(Origin::Kept { bytes, start, end }) => {
                 let bytes = Arc::try_clone(bytes)?;
                 Ok(Source::Kept(Kept::new(bytes, *start, *end)))

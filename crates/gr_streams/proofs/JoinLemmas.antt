@@ -1,7 +1,6 @@
 -- The senders and the receipts of streams, one stream after the other.
 use Rattle.std.proofs.Common.{◌≡◌, ◌≢◌, ℕ, suc, ◌+◌, ◌-◌, ◌<◌, List, [], ◌∷◌, ◌++◌, length, map, get_or, Contains, Option, Some, Result, Ok, Err, refl, sym, ap, ◌∙◌, subst, arith, inl, inr, eq-or-lt_of_le, ⊎_elim}
 use Rattle.std.specs.Prelude.{All}
-use Rattle.std.specs.List.{SameBelow, ShiftedDown}
 use Rattle.std.proofs.lemmas.Bool.{cases_lt}
 use Rattle.std.proofs.Math.Seq.{get_or-append_seam}
 use Rattle.std.proofs.lemmas.List.{get_or_append_left, length-append}
@@ -17,27 +16,36 @@ use Rattle.gr_streams.specs.Sources.{ArePlaced, AreServed, Begun, HasSender}
 
 -- ---- a sender is taken from the others
 
-module _ (old new : List Sending) (i : ℕ) (below : SameBelow old new i) (down : ShiftedDown old new i) (count : length new + 1 ≡ length old) (lt : i < length old) where
+-- the last has come into its place
+module _ (old new : List Sending) (i : ℕ) (moved : (d : Sending) → i + 1 < length old → get_or new i d ≡ get_or old (length old - 1) d) (same : (k : ℕ) (d : Sending) → k ≢ i → k + 1 < length old → get_or new k d ≡ get_or old k d) (count : length new + 1 ≡ length old) (lt : i < length old) where
   pub fewer : (s : Sending) → Contains new s → Contains old s
   fewer s (k, there, is) =
       elim (cases_lt k i) [
-        | inl before ↦ (k, omega arith, sym (below k s before) ∙ is)
-        | inr behind ↦ (k + 1, omega arith, sym (down k s behind) ∙ is)
+        | inl before ↦ (k, omega arith, sym (same k s (λ e. omega (arith, e, before)) (omega arith)) ∙ is)
+        | inr from ↦
+            ⊎_elim
+            (λ (here : i ≡ k). (length old - 1, omega arith, sym (moved s (omega arith)) ∙ (ap (λ n. get_or new n s) here ∙ is)))
+            (λ (behind : i < k). (k, omega arith, sym (same k s (λ e. omega (arith, e, behind)) (omega arith)) ∙ is))
+            (eq-or-lt_of_le from)
       ]
 
   pub others : (taken : Sending) (group : ℕ) → taken ≡ get_or old i taken → taken.group ≡ group → (g : ℕ) → g ≢ group → HasSender old g → HasSender new g
   others taken group at of g other (s, (k, there, is), group_is) =
       elim (cases_lt k i) [
-        | inl before ↦ (s, (k, omega arith, below k s before ∙ is), group_is)
+        | inl before ↦ (s, (k, omega arith, same k s (λ e. omega (arith, e, before)) (omega arith) ∙ is), group_is)
         | inr from ↦
             ⊎_elim
-            (λ (same : i ≡ k).
-            let s_is : s ≡ get_or old i s = sym is ∙ ap (λ n. get_or old n s) (sym same) in
+            (λ (here : i ≡ k).
+            let s_is : s ≡ get_or old i s = sym is ∙ ap (λ n. get_or old n s) (sym here) in
             let one : get_or old i s ≡ get_or old i taken = get_or_from_slice_get old i (get_or old i taken) s (slice_get-get_or old i taken lt) in
             absurd (other (sym group_is ∙ (ap (λ (x : Sending). x.group) (s_is ∙ (one ∙ sym at)) ∙ of))))
             (λ (behind : i < k).
-            let back : (k - 1) + 1 ≡ k = omega arith in
-            (s, (k - 1, omega arith, down (k - 1) s (omega arith) ∙ (ap (λ n. get_or old n s) back ∙ is)), group_is))
+            elim (cases_lt (k + 1) (length old)) [
+              | inl inside ↦ (s, (k, omega arith, same k s (λ e. omega (arith, e, behind)) inside ∙ is), group_is)
+              | inr last ↦
+                  let end : length old - 1 ≡ k = omega (arith, last, there) in
+                  (s, (i, omega arith, moved s (omega arith) ∙ (ap (λ n. get_or old n s) end ∙ is)), group_is)
+            ])
             (eq-or-lt_of_le from)
       ]
 

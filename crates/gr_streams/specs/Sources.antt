@@ -16,7 +16,7 @@ use Rattle.gr_streams.specs.Records.{events_at}
 use Rattle.gr_streams.specs.Sending.{Tells}
 use Rattle.gr_streams.specs.declared.thread.OfReader.{OfReader}
 use Rattle.gr_streams.specs.declared.thread.Work.{Work}
-use Rattle.gr_streams.specs.declared.thread.Work.TheVariants.{Started, Refused}
+use Rattle.gr_streams.specs.declared.thread.Work.TheVariants.{Started, Over, Joining}
 use Rattle.gr_streams.specs.declared.source.Source.{Source}
 
 -- the bytes of the stream, its header included, where they are known
@@ -52,10 +52,11 @@ pub record IsEndOf (begun : Begun) (receipt : Seat) (fault : Option Fault) : Typ
 abbrev pub begun_of : {T A : Type 0} → (T → Option (List ℕ)) → OfReader T A → Begun
 begun_of remaining p = record { place = p.place; header = p.source.value.header; bytes = known_of remaining p.source.value; sender = p.sender.value }
 
--- a thread reads it, or else reading it has left this
+-- a thread reads it, or else reading it has left this; none is being joined while others look
 abbrev pub IsWorkOf : {T A : Type 0} → (T → Option (List ℕ)) → OfReader T A → Work T A → Type 0
 IsWorkOf remaining p (Started handle) = handle.promise ≡ p
-IsWorkOf remaining p (Refused ended) = IsEndOf (begun_of remaining p) ended.receipt ended.fault
+IsWorkOf remaining p (Over ended) = IsEndOf (begun_of remaining p) ended.receipt ended.fault
+IsWorkOf remaining p Joining = ⊥
 
 -- ---- the streams of a run
 

@@ -1,6 +1,6 @@
 //! The readers' threads, from their start to their join.
 
-ghost use Rattle.std.specs.Prelude.{◌≡◌, ◌≢◌, ◌≤◌, ◌++◌, ◌∷◌, [], ℕ, List, All, Contains, IfOk, IfSome, Result, map, vec_capacity, vec_len};
+ghost use Rattle.std.specs.Prelude.{◌≡◌, ◌≢◌, ◌<◌, ◌≤◌, ◌++◌, ◌∷◌, [], ℕ, List, All, Contains, IfOk, IfSome, Result, map, vec_capacity, vec_len};
 ghost use Rattle.gr_model.specs.declared.event.Event.{Event as AnyEvent};
 ghost use Rattle.gr_record.specs.declared.fault.Fault.{Fault as AnyFault};
 ghost use Rattle.gr_record.specs.declared.fault.Fault.TheVariants as faults;
@@ -13,6 +13,7 @@ ghost use Rattle.gr_streams.specs.Sources.{AreBegun, AreOfRun, AreReadOf, AreRec
 use crate::forward::Ended;
 use crate::source::Source;
 use crate::thread::ReaderThread;
+use gr_model::limits::FEW_GROUPS;
 use gr_model::memory::Memory;
 use gr_record::fault::Fault;
 use gr_sender::receipt::Receipt;
@@ -21,7 +22,7 @@ use std::alloc::Allocator;
 use std::io::Read;
 use std::sync::atomic::AtomicBool;
 use std::sync::{Arc, Wait};
-use std::thread::Threads;
+use std::thread::{self, Threads};
 use std::time::Clock;
 
 /// Room for what is kept of the readers once the run has started, when no memory can be asked for any more.
@@ -54,12 +55,26 @@ fn take_sender<A: Allocator>(senders: &mut Vec<Sender<A>, A>, group: u16) -> Sen
     ensures fewer { (s : Sending) → Contains senders.new.items s → Contains senders.old.items s }
 {
     match senders.iter().position(|sender| sender.group() == group) {
-        Some(place) => senders.remove(place),
+        Some(place) => senders.swap_remove(place),
         None => unreachable!(),
     }
 }
 
-/// Starts a thread for each reader, with the sender of its stream's group.
+/// How many of so many streams are read side by side: all of a small launch, since each may wait for another's producer, and of a
+/// greater one as many as there are processors.
+fn most_readers<R: Threads>(rt: &R, streams: usize) -> u64
+    ensures { 0 < result }
+{
+    if streams <= FEW_GROUPS {
+        return FEW_GROUPS as u64;
+    }
+    match thread::available_parallelism(rt) {
+        Ok(processors) => processors.get() as u64,
+        Err(_) => 1,
+    }
+}
+
+/// Starts a thread for each reader, with the sender of its stream's group, once enough of those before it have ended.
 /// Requires: the streams are of different groups, and each has a sender, which has sent nothing; there is room.
 pub(crate) fn start_all<R, A, T>(
     rt: R,
@@ -84,8 +99,12 @@ where
     let mut senders = senders;
     let mut threads = threads;
     let mut place: u64 = 0;
+    let most = most_readers(&rt, sources.len());
     for source in sources {
         let sender = take_sender(&mut senders, source.header.group);
+        if place >= most {
+            threads[(place - most) as usize].settle(&rt);
+        }
         threads.push_reserved(ReaderThread::start(rt, alloc, place, source, sender, abandoned));
         place += 1;
     }

@@ -12,6 +12,7 @@ use gr_sender::sender::Sender;
 use std::alloc::{Allocator, Global};
 use std::io::Read;
 use std::marker::Model;
+use std::mem;
 use std::snapshot::Snapshot;
 use std::sync::atomic::{AtomicBool, Ordering};
 use std::sync::{Arc, Wait};
@@ -38,8 +39,10 @@ impl<T: Read, A: Allocator> Promise<Ended> for OfReader<T, A> {
 pub(crate) enum Work<T: Read, A: Allocator = Global> {
     /// By a thread.
     Started(PromisedHandle<Ended, OfReader<T, A>>),
-    /// No thread could be started. This is what is left of the stream.
-    Refused(Ended),
+    /// No more. This is what is left of the stream.
+    Over(Ended),
+    /// Its thread is being joined.
+    Joining,
 }
 
 /// A reader's thread. Contracts see the stream that is read.
@@ -89,7 +92,7 @@ where
         let begun = Snapshot::of(&promise);
         let forward = Forward::new(alloc, sender);
         let Ok(theirs) = Arc::try_clone(abandoned) else {
-            let work = Work::Refused(forward.fail(&rt, Fault::Threads));
+            let work = Work::Over(forward.fail(&rt, Fault::Threads));
             return ReaderThread { begun, work };
         };
         let read = move || read_on(rt, place, source, forward, theirs);
@@ -97,7 +100,7 @@ where
             Ok(handle) => Work::Started(handle),
             Err(refused) => {
                 abandoned.store(true, Ordering::SeqCst);
-                Work::Refused((refused.value)())
+                Work::Over((refused.value)())
             }
         };
         ReaderThread { begun, work }
@@ -105,6 +108,16 @@ where
 }
 
 impl<T: Read, A: Allocator> ReaderThread<T, A> {
+    /// Waits until the stream's reading has ended. Its thread has then ended too.
+    pub(crate) fn settle<R: Threads>(&mut self, rt: &R)
+        ensures { self.new ≡ self.old }
+    {
+        self.work = match mem::replace(&mut self.work, Work::Joining) {
+            Work::Started(handle) => Work::Over(handle.join(rt)),
+            over => over,
+        };
+    }
+
     /// Waits until the stream's reading has ended.
     pub(crate) fn join<R: Threads>(self, rt: &R) -> Ended
         ensures { IsEndOf self result.receipt result.fault }
@@ -112,7 +125,8 @@ impl<T: Read, A: Allocator> ReaderThread<T, A> {
         let ReaderThread { begun: _, work } = self;
         match work {
             Work::Started(handle) => handle.join(rt),
-            Work::Refused(ended) => ended,
+            Work::Over(ended) => ended,
+            Work::Joining => unreachable!(),
         }
     }
 }

@@ -1,0 +1,64 @@
+//! What is seen in the records of files while their streams are looked up.
+
+use crate::sited::Sited;
+use crate::sought::Sought;
+use gr_model::memory::Memory;
+use gr_record::header::Header;
+use gr_record::reading::read_event;
+use std::io::{self, Write};
+
+/// Who sees each record.
+#[derive(Drop, Default)]
+pub struct Seen {
+    /// Who makes the places of a folder from its sites, if these are wanted.
+    pub sited: Option<Sited>,
+    /// Who looks for a word, if one is asked for.
+    pub sought: Option<Sought>,
+}
+
+impl Seen {
+    /// Passes the header of a stream.
+    ///
+    /// # Errors
+    /// `Memory`: out of memory.
+    pub fn begin(&mut self, header: &Header) -> Result<(), Memory> {
+        if let Some(sought) = &mut self.sought {
+            sought.begin(header.group);
+        }
+        match &mut self.sited {
+            None => Ok(()),
+            Some(sited) => sited.begin(header),
+        }
+    }
+
+    /// Passes a record of the stream of this header, which is no end.
+    ///
+    /// # Errors
+    /// `Memory`: out of memory.
+    pub fn pass(&mut self, header: &Header, record: &[u8]) -> Result<(), Memory> {
+        if self.sited.is_none() && self.sought.is_none() {
+            return Ok(());
+        }
+        let Ok(event) = read_event(*header, record) else {
+            return Ok(());
+        };
+        if let Some(sought) = &mut self.sought {
+            sought.pass(header.group, &event);
+        }
+        match &mut self.sited {
+            None => Ok(()),
+            Some(sited) => sited.pass(header.group, &event, record),
+        }
+    }
+
+    /// Tells of a word that was looked for and is not there.
+    ///
+    /// # Errors
+    /// Those of the writer.
+    pub fn tell<W: Write>(&self, errors: &mut W) -> io::Result<()> {
+        match &self.sought {
+            None => Ok(()),
+            Some(sought) => sought.tell(errors),
+        }
+    }
+}
