@@ -1,9 +1,9 @@
 -- What one record more makes of the index of each item.
-use Rattle.std.proofs.Common.{◌≡◌, ℕ, zero, suc, ◌+◌, ◌-◌, ◌<◌, ◌≤◌, Bool, true, false, not, ◌&&◌, ◌==◌, cond, List, [], ◌∷◌, ◌++◌, length, filter, Some, None, Err, nat_cmp, slice_get, get_or, set, is_some, Option, sub-one, refl, sym, ap, ◌∙◌, subst, ⊎_elim, arith, append-nil, IsTrue}
+use Rattle.std.proofs.Common.{◌≡◌, ℕ, zero, suc, ◌+◌, ◌-◌, ◌<◌, ◌≤◌, Bool, true, false, not, ◌&&◌, ◌==◌, cond, List, [], ◌∷◌, ◌++◌, length, filter, Some, None, Err, nat_cmp, slice_get, get_or, set, take, is_some, Option, sub-one, refl, sym, ap, ◌∙◌, subst, ⊎_elim, arith, append-nil, IsTrue}
 use Rattle.std.proofs.lemmas.Bool.{cases_lt, cases_eq, eq-eqb, ne_eqb, false_from_ne_true}
-use Rattle.std.proofs.lemmas.List.{length-set, get_or-set_same, get_or-set_other, get_or_past, length_push}
+use Rattle.std.proofs.lemmas.List.{get_or-set_other, get_or-set_same, get_or-take, get_or_past, length-set, length-take-le, length_push}
 use Rattle.std.proofs.lemmas.List.Elements.{filter-append}
-use Rattle.std.proofs.lemmas.Option.{get_or_from_slice_get, slice_get_within}
+use Rattle.std.proofs.lemmas.Option.{get_or_from_slice_get, slice_get-get_or, slice_get_past, slice_get_within}
 use Rattle.std.proofs.lemmas.List.Sorted.{searched}
 use Rattle.std.specs.List.Sorted.{IsBinarySearchResult}
 use Rattle.gr_model.specs.declared.event.Event.{Event}
@@ -17,7 +17,7 @@ use Rattle.gr_model.specs.Events.{IsEventOk, is_end, is_end_kind}
 use Rattle.gr_model.specs.Streams.{IsPrefix, AreGood, Streams, event_at, is_complete, is_of, place_of, places_from, trace_of}
 use Rattle.gr_model.proofs.Places.{places_from-append}
 use Rattle.gr_model.proofs.StreamPrefixes.{prefix_push}
-use Rattle.gr_lanes.specs.Indices.{EndsCut, Index, end_in, end_of, end_of_kind, index_of, no_index, with_if, with_event, indexed, record_of, AreIndices, AreRising}
+use Rattle.gr_lanes.specs.Indices.{EndsCut, Index, end_in, end_of, end_of_kind, index_of, no_index, with_if, with_event, indexed, record_of, AreIndices, AreRising, Closes, IsNumberKept, IsPlaceKept, IsSpent}
 
 -- an element more at the end of a list
 pub places_more : {X : Type 0} (test : X → Bool) (xs : List X) (x : X) → places_from test 0 (xs ++ x ∷ []) ≡ with_if (test x) (places_from test 0 xs) (length xs)
@@ -86,49 +86,84 @@ end_is_of x i end = elim (x.item == i) as (λ b. (b && not (is_end x)) ≡ false
 is_of_item : (x : Event) (i : ℕ) → is_end x ≡ false → is_of i x ≡ (x.item == i)
 is_of_item x i on = elim (x.item == i) as (λ b. (b && not (is_end x)) ≡ b) [ true ↦ ap not on | false ↦ refl ]
 
-module _ (lanes : List Index) (list : List Event) (x : Event) (are : AreIndices lanes list) (ok : IsEventOk x (length lanes)) where
+module _ {size forgotten : ℕ} (lanes : List Index) (list : List Event) (x : Event) (are : AreIndices size forgotten lanes list) (ok : IsEventOk x size) (open_list : ¬ IsTrue (is_complete list)) where
+  pub item_there : x.item < length lanes
+  item_there = omega (arith, ok.0, are.whole open_list)
+
   pub few_events : (get_or lanes x.item no_index).count < 4_294_967_295
   few_events =
-      let same : (get_or lanes x.item no_index).count ≡ length (filter (is_of x.item) list) = ap (λ (l : Index). l.count) (are.each x.item ok.0) in
+      let same : (get_or lanes x.item no_index).count ≡ length (filter (is_of x.item) list) = ap (λ (l : Index). l.count) (are.each x.item item_there) in
       omega (arith, few-places (is_of x.item) 0 list, length-places (is_of x.item) 0 list, are.prefix.few)
 
   abbrev event : Index
   event = with_event (get_or lanes x.item no_index) x (is_release x) (is_barrier x)
 
-  pub indices_more : ¬ IsTrue (is_complete list) → length list < MOST_RECORDS → AreIndices (indexed lanes x) (list ++ x ∷ [])
-  indices_more open_list room = by_end (is_end x) refl
-    where
-      prefix : IsPrefix (length lanes) (list ++ x ∷ [])
-      prefix = prefix_push (length lanes) list x are.prefix ok (false_from_ne_true (is_complete list) open_list) room
+  pub size_more : length (indexed lanes x) ≡ length lanes
+  size_more = elim (is_end x) as (λ b. length (cond b lanes (set lanes x.item event)) ≡ length lanes) [
+    | true ↦ refl
+    | false ↦ length-set lanes x.item event
+  ]
 
+  pub indices_more : length list < MOST_RECORDS → AreIndices size forgotten (indexed lanes x) (list ++ x ∷ [])
+  indices_more room = record {
+    prefix = prefix_push size list x are.prefix ok (false_from_ne_true (is_complete list) open_list) room;
+    few = omega (arith, size_more, are.few);
+    each = by_end (is_end x) refl;
+    gone = λ i past within. absurd (omega (arith, past, within, size_more, are.whole open_list));
+    whole = λ _. size_more ∙ are.whole open_list;
+  }
+    where
       here : is_end x ≡ false → get_or (set lanes x.item event) x.item no_index ≡ index_of (list ++ x ∷ []) x.item
       here on =
-          get_or-set_same lanes x.item event no_index ok.0 ∙ (ap (λ l. with_event l x (is_release x) (is_barrier x)) (are.each x.item ok.0)
+          get_or-set_same lanes x.item event no_index item_there ∙ (ap (λ l. with_event l x (is_release x) (is_barrier x)) (are.each x.item item_there)
           ∙ sym (index_here list x x.item (is_of_item x x.item on ∙ eq-eqb x.item x.item refl)))
 
       other : is_end x ≡ false → (i : ℕ) → (i ≡ x.item → ⊥) → i < length lanes → get_or (set lanes x.item event) i no_index ≡ index_of (list ++ x ∷ []) i
       other on i apart within = get_or-set_other lanes x.item i event no_index apart ∙ (are.each i within ∙ sym (index_other list x i (is_of_item x i on ∙ ne_eqb x.item i (λ e. apart (sym e)))))
 
-      by_end : (b : Bool) → is_end x ≡ b → AreIndices (cond b lanes (set lanes x.item event)) (list ++ x ∷ [])
-      by_end true end = record { prefix = prefix; each = λ i within. are.each i within ∙ sym (index_other list x i (end_is_of x i end)) }
-      by_end false on =
-          let size : length (set lanes x.item event) ≡ length lanes = length-set lanes x.item event in record {
-            prefix = subst (λ n. IsPrefix n (list ++ x ∷ [])) (sym size) prefix;
-            each = λ i within. ⊎_elim
-                (λ (same : i ≡ x.item). subst (λ n. get_or (set lanes x.item event) n no_index ≡ index_of (list ++ x ∷ []) n) (sym same) (here on))
-                (λ (apart : i ≡ x.item → ⊥). other on i apart (omega arith))
-                (cases_eq i x.item);
-          }
-
-  pub size_more : length (indexed lanes x) ≡ length lanes
-  size_more = elim (is_end x) as (λ b. length (cond b lanes (set lanes x.item (with_event (get_or lanes x.item no_index) x (is_release x) (is_barrier x)))) ≡ length lanes) [
-    | true ↦ refl
-    | false ↦ length-set lanes x.item (with_event (get_or lanes x.item no_index) x (is_release x) (is_barrier x))
-  ]
+      by_end : (b : Bool) → is_end x ≡ b → (i : ℕ) → i < length (cond b lanes (set lanes x.item event)) → get_or (cond b lanes (set lanes x.item event)) i no_index ≡ index_of (list ++ x ∷ []) i
+      by_end true end i within = are.each i within ∙ sym (index_other list x i (end_is_of x i end))
+      by_end false on i within = ⊎_elim
+          (λ (same : i ≡ x.item). subst (λ n. get_or (set lanes x.item event) n no_index ≡ index_of (list ++ x ∷ []) n) (sym same) (here on))
+          (λ (apart : i ≡ x.item → ⊥). other on i apart (omega (arith, within, length-set lanes x.item event)))
+          (cases_eq i x.item)
 
 -- items without events
-pub no_events : (lanes : List Index) → ((i : ℕ) → get_or lanes i no_index ≡ no_index) → AreIndices lanes []
-no_events lanes none = record { prefix = record { few = omega arith; good = λ p x at. cc }; each = λ i within. none i }
+pub no_events : {size forgotten : ℕ} (lanes : List Index) → length lanes ≡ size → ((i : ℕ) → get_or lanes i no_index ≡ no_index) → AreIndices size forgotten lanes []
+no_events lanes count none = record {
+  prefix = record { few = omega arith; good = λ p x at. cc };
+  few = omega (arith, count);
+  each = λ i within. none i;
+  gone = λ i past within. absurd (omega (arith, past, within, count));
+  whole = λ _. count;
+}
+
+-- the last ones go, which are spent
+pub indices_close : {size forgotten : ℕ} {old new : List Index} {list : List Event} → AreIndices size forgotten old list → IsTrue (is_complete list) → Closes forgotten old new → AreIndices size forgotten new list
+indices_close {size} {forgotten} {old} {new} {list} are ended closes =
+    let count : length (take closes.count old) ≡ closes.count = length-take-le closes.count old closes.within in
+    subst (λ (l : List Index). AreIndices size forgotten l list) (sym closes.front) (record {
+      prefix = are.prefix;
+      few = omega (arith, are.few, count, closes.within);
+      each = λ i there. get_or-take closes.count old i no_index (omega (arith, there, count)) ∙ are.each i (omega (arith, there, count, closes.within));
+      gone = λ i past within. ⊎_elim
+          (λ (lt : i < length old). subst (IsSpent forgotten) (are.each i lt) (closes.spent i (omega (arith, past, count)) lt))
+          (λ (ge : length old ≤ i). are.gone i ge within)
+          (cases_lt i (length old));
+      whole = λ open_list. absurd (open_list ended);
+    })
+
+-- one instance more is forgotten, to which all items came: none of them has gone
+pub indices_forget : {size forgotten : ℕ} {lanes : List Index} {list : List Event} → AreIndices size forgotten lanes list → ((i : ℕ) → i < size → (p : ℕ) × (slice_get (places_from is_barrier 0 (filter (is_of i) list)) forgotten ≡ Some p)) → AreIndices size (forgotten + 1) lanes list
+indices_forget {size} {forgotten} {lanes} {list} are came = record {
+  prefix = are.prefix;
+  few = are.few;
+  each = are.each;
+  gone = λ i past within.
+      let at = came i within in
+      absurd (let there = slice_get_within (places_from is_barrier 0 (filter (is_of i) list)) forgotten at.0 at.1 in omega (arith, there, (are.gone i past within).barriers));
+  whole = are.whole;
+}
 
 -- ---- what is read by an index
 
@@ -177,30 +212,111 @@ not_found xs x i search rises k at =
     let value : get_or xs k 0 ≡ x = get_or_from_slice_get xs k x 0 at in
     ⊎_elim (λ (lt : k < i). let below = missed.1 k lt in omega arith) (λ (ge : i ≤ k). let above = missed.2 k ge within in omega arith) (cases_lt k i)
 
--- each item has its index, also one that the group lacks: it has no events
-module _ (lanes : List Index) (list : List Event) (are : AreIndices lanes list) (i : ℕ) where
-  pub index_at : get_or lanes i no_index ≡ index_of list i
-  index_at = ⊎_elim (are.each i) (λ past. get_or_past lanes i no_index past ∙ lacking past) (cases_lt i (length lanes))
-    where
-      lacking : length lanes ≤ i → no_index ≡ index_of list i
-      lacking past =
-          let none : [] ≡ filter (is_of i) list = sym (no_trace (length lanes) list are.prefix i past) in
-          λ d. record { count = length (none d); releases = places_from is_release 0 (none d); barriers = places_from is_barrier 0 (none d); released = filter is_release (none d); arrived = filter is_barrier (none d) }
+-- where all items came to the least instance that is not forgotten, those whose lanes are there did
+pub came_at : {size forgotten : ℕ} (lanes : List Index) (list : List Event) → AreIndices size forgotten lanes list → ((i : ℕ) → i < size → (p : ℕ) × (slice_get (places_from is_barrier 0 (filter (is_of i) list)) forgotten ≡ Some p)) → (i : ℕ) → i < length lanes → (p : ℕ) × (slice_get (get_or lanes i no_index).barriers forgotten ≡ Some p)
+came_at {size} {forgotten} lanes list are came i there = subst (λ (l : Index). (p : ℕ) × (slice_get l.barriers forgotten ≡ Some p)) (sym (are.each i there)) (came i (omega (arith, there, are.few)))
+
+-- each item has its index, also one that the group lacks, which has no events; or it has gone
+module _ {size forgotten : ℕ} (lanes : List Index) (list : List Event) (are : AreIndices size forgotten lanes list) (i : ℕ) where
+  abbrev lane : Index
+  lane = get_or lanes i no_index
+
+  abbrev barriers : List ℕ
+  barriers = places_from is_barrier 0 (filter (is_of i) list)
+
+  lacking : length lanes ≤ i → size ≤ i → lane ≡ index_of list i
+  lacking past beyond =
+      let none : [] ≡ filter (is_of i) list = sym (no_trace size list are.prefix i beyond) in
+      let same : no_index ≡ index_of list i = λ d. record { count = length (none d); releases = places_from is_release 0 (none d); barriers = places_from is_barrier 0 (none d); released = filter is_release (none d); arrived = filter is_barrier (none d) } in
+      get_or_past lanes i no_index past ∙ same
+
+  by_lane : {B : Type 0} → (lane ≡ index_of list i → B) → (lane ≡ no_index → IsSpent forgotten (index_of list i) → B) → B
+  by_lane there gone = ⊎_elim
+      (λ (lt : i < length lanes). there (are.each i lt))
+      (λ (past : length lanes ≤ i). ⊎_elim
+      (λ (within : i < size). gone (get_or_past lanes i no_index past) (are.gone i past within))
+      (λ (beyond : size ≤ i). there (lacking past beyond))
+      (cases_lt i size))
+      (cases_lt i (length lanes))
 
   few_that : (test : Event → Bool) → length (places_from test 0 (filter (is_of i) list)) < 4_294_967_296
   few_that test = omega (arith, few-places test 0 (filter (is_of i) list), length-places (is_of i) 0 list, few-places (is_of i) 0 list, are.prefix.few)
 
-  pub few_releases : length (get_or lanes i no_index).releases < 4_294_967_296
-  few_releases = subst (λ (l : Index). length l.releases < 4_294_967_296) (sym index_at) (few_that is_release)
+  -- the releases
 
-  pub releases_rise : AreRising (get_or lanes i no_index).releases
-  releases_rise = subst (λ (l : Index). AreRising l.releases) (sym index_at) (places_rise is_release 0 (filter (is_of i) list))
+  pub releases_at : lane.releases ≡ places_from is_release 0 (filter (is_of i) list)
+  releases_at = by_lane (ap (λ (l : Index). l.releases)) (λ none spent. ap (λ (l : Index). l.releases) none ∙ sym spent.releases)
 
-  pub few_barriers : length (get_or lanes i no_index).barriers < 4_294_967_296
-  few_barriers = subst (λ (l : Index). length l.barriers < 4_294_967_296) (sym index_at) (few_that is_barrier)
+  pub released_at : lane.released ≡ filter is_release (filter (is_of i) list)
+  released_at = by_lane (ap (λ (l : Index). l.released)) (λ none spent.
+      ap (λ (l : Index). l.released) none ∙ sym (empty (filter is_release (filter (is_of i) list)) (omega (arith, ap length spent.releases, length-places is_release 0 (filter (is_of i) list)))))
+    where
+      empty : (l : List Event) → length l ≡ 0 → l ≡ []
+      empty [] is = refl
+      empty (x ∷ l) is = absurd (omega arith)
 
-  pub barriers_rise : AreRising (get_or lanes i no_index).barriers
-  barriers_rise = subst (λ (l : Index). AreRising l.barriers) (sym index_at) (places_rise is_barrier 0 (filter (is_of i) list))
+  pub few_releases : length lane.releases < 4_294_967_296
+  few_releases = subst (λ (l : List ℕ). length l < 4_294_967_296) (sym releases_at) (few_that is_release)
+
+  pub releases_rise : AreRising lane.releases
+  releases_rise = subst AreRising (sym releases_at) (places_rise is_release 0 (filter (is_of i) list))
+
+  -- the barriers: of an item that has gone they are forgotten
+
+  pub number_kept : (n : ℕ) → IsNumberKept forgotten barriers n → IsNumberKept forgotten lane.barriers n
+  number_kept n kept = by_lane
+      (λ there. subst (λ (l : Index). IsNumberKept forgotten l.barriers n) (sym there) kept)
+      (λ none spent. subst (λ (l : Index). IsNumberKept forgotten l.barriers n) (sym none) (λ p at. cc))
+
+  past_all : IsSpent forgotten (index_of list i) → (n : ℕ) → IsNumberKept forgotten barriers n → length barriers ≤ n
+  past_all spent n kept = ⊎_elim
+      (λ (lt : n < length barriers). let least = kept (get_or barriers n 0) (slice_get-get_or barriers n 0 lt) in absurd (omega (arith, lt, least, spent.barriers)))
+      (λ (ge : length barriers ≤ n). ge)
+      (cases_lt n (length barriers))
+
+  pub barrier_place_at : (n : ℕ) → IsNumberKept forgotten barriers n → slice_get lane.barriers n ≡ slice_get barriers n
+  barrier_place_at n kept = by_lane
+      (ap (λ (l : Index). slice_get l.barriers n))
+      (λ none spent. ap (λ (l : Index). slice_get l.barriers n) none ∙ sym (slice_get_past barriers n (past_all spent n kept)))
+
+  pub barrier_event_at : (n : ℕ) → IsNumberKept forgotten barriers n → slice_get lane.arrived n ≡ slice_get (filter is_barrier (filter (is_of i) list)) n
+  barrier_event_at n kept = by_lane
+      (ap (λ (l : Index). slice_get l.arrived n))
+      (λ none spent. ap (λ (l : Index). slice_get l.arrived n) none
+      ∙ sym (slice_get_past (filter is_barrier (filter (is_of i) list)) n (omega (arith, past_all spent n kept, length-places is_barrier 0 (filter (is_of i) list)))))
+
+  pub place_kept : (p : ℕ) → IsPlaceKept forgotten barriers p → IsPlaceKept forgotten lane.barriers p
+  place_kept p kept = by_lane
+      (λ there. subst (λ (l : Index). IsPlaceKept forgotten l.barriers p) (sym there) kept)
+      (λ none spent. subst (λ (l : Index). IsPlaceKept forgotten l.barriers p) (sym none) (λ k at. cc))
+
+  pub number_at : (p : ℕ) → IsPlaceKept forgotten barriers p → (k : ℕ) → slice_get lane.barriers k ≡ Some p → slice_get barriers k ≡ Some p
+  number_at p kept k at = by_lane
+      (λ there. subst (λ (l : Index). slice_get l.barriers k ≡ Some p) there at)
+      (λ none spent. absurd (let lacks : slice_get [] k ≡ Some p = subst (λ (l : Index). slice_get l.barriers k ≡ Some p) none at in cc))
+
+  pub number_of : (p : ℕ) → IsPlaceKept forgotten barriers p → (k : ℕ) → slice_get barriers k ≡ Some p → slice_get lane.barriers k ≡ Some p
+  number_of p kept k at = by_lane
+      (λ there. subst (λ (l : Index). slice_get l.barriers k ≡ Some p) (sym there) at)
+      (λ none spent. absurd (let within = slice_get_within barriers k p at in omega (arith, within, kept k at, spent.barriers)))
+
+  pub few_barriers : length lane.barriers < 4_294_967_296
+  few_barriers = by_lane
+      (λ there. subst (λ (l : Index). length l.barriers < 4_294_967_296) (sym there) (few_that is_barrier))
+      (λ none spent. subst (λ (l : Index). length l.barriers < 4_294_967_296) (sym none) (omega arith))
+
+  pub barriers_rise : AreRising lane.barriers
+  barriers_rise = by_lane
+      (λ there. subst (λ (l : Index). AreRising l.barriers) (sym there) (places_rise is_barrier 0 (filter (is_of i) list)))
+      (λ none spent. subst (λ (l : Index). AreRising l.barriers) (sym none) (λ a b le within. absurd (omega arith)))
+
+  pub counts_at : ((length lanes ≤ i) × (i < size) → ⊥) → length lane.barriers ≡ length (filter is_barrier (filter (is_of i) list))
+  counts_at isnt =
+      let is : lane ≡ index_of list i = ⊎_elim (are.each i) (λ (past : length lanes ≤ i). ⊎_elim (λ (within : i < size). absurd (isnt (past, within))) (lacking past) (cases_lt i size)) (cases_lt i (length lanes)) in
+      ap (λ (l : Index). length l.barriers) is ∙ length-places is_barrier 0 (filter (is_of i) list)
+
+  pub counts_gone : length lanes ≤ i → i < size → forgotten ≡ length (filter is_barrier (filter (is_of i) list))
+  counts_gone past within = sym (are.gone i past within).barriers ∙ length-places is_barrier 0 (filter (is_of i) list)
 
 -- ---- the records of releases and barriers
 

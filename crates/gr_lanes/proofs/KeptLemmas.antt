@@ -7,7 +7,7 @@ use Rattle.std.proofs.lemmas.Option.{slice_get-get_or, slice_get-map, slice_get_
 use Rattle.std.specs.List.{list_all}
 use Rattle.std.proofs.lemmas.List.Folds.{list_all_at}
 use Rattle.std.specs.Prelude.{option_map}
-use Rattle.std.proofs.lemmas.List.{drop_more, get_or-map, get_or_append_left, get_or_at, get_or_past, get_or_push, get_or_read, get_or-set_other, get_or-set_same, length-map, length-take-le, length_push, length-set, map-set, map_more, set_at}
+use Rattle.std.proofs.lemmas.List.{drop_more, get_or-map, get_or_append_left, get_or_at, get_or_past, get_or_push, get_or_read, get_or-set_other, get_or-set_same, get_or-take, length-map, length-take-le, length_push, length-set, map-set, map_more, set_at, take-map}
 use Rattle.gr_model.specs.declared.event.Event.{Event}
 use Rattle.gr_lanes.specs.declared.bare.Bare.{Bare}
 use Rattle.gr_model.specs.declared.event.Kind.{Kind}
@@ -16,8 +16,8 @@ use Rattle.gr_model.specs.Access.{is_release, is_release_kind}
 use Rattle.gr_model.specs.Barriers.{is_barrier, mark_of_kind}
 use Rattle.gr_model.specs.Events.{is_end, is_end_kind}
 use Rattle.gr_lanes.specs.Takes.{IsMereAccess}
-use Rattle.gr_lanes.specs.Indices.{AreRising, Index, IsNumberKept, indexed, no_index, with_barrier, with_event}
-use Rattle.gr_lanes.specs.Kept.{AreLanes, Arrives, CameWith, GroupIndex, IsLane, Kept, NoneDiffersIn, forgetting_one, is_as_first, kept_with, nothing_kept, of_item, with_indices}
+use Rattle.gr_lanes.specs.Indices.{AreRising, Closes, Index, IsNumberKept, IsSpent, indexed, no_index, with_barrier, with_event}
+use Rattle.gr_lanes.specs.Kept.{AreLanes, Arrives, CameWith, GroupIndex, HasNothing, IsLane, Kept, NoneDiffersIn, forgetting_one, is_as_first, kept_with, nothing_kept, of_item, with_indices}
 use Rattle.gr_lanes.proofs.LaneLemmas.{barrier_at, barriers_count, lane_forgets, lane_more, lane_with, rising_rest, said_alike, said_count}
 
 -- what contracts see of lanes
@@ -198,6 +198,25 @@ module _ {forgotten : ℕ} (firsts : List Bare) (ks : List Kept) (are : AreLanes
           let here : slice_get k.index.barriers forgotten ≡ Some at.0 = ap (λ (l : Index). slice_get l.barriers forgotten) (sym (index_is ks i)) ∙ at.1 in
           subst (IsLane (forgotten + 1) (drop 1 firsts) i) (sym (get_or-map (forgetting_one forgotten) ks i nothing_kept nothing_kept within))
           (lane_forgets (are i within) (slice_get_within k.index.barriers forgotten at.0 here))
+
+-- ---- the last items go
+
+module _ {forgotten : ℕ} (firsts : List Bare) (ks : List Kept) (are : AreLanes forgotten firsts ks) (n : ℕ) (within : n ≤ length ks) {new : List Kept} (is : new ≡ take n ks) where
+  pub left_lanes : AreLanes forgotten firsts new
+  left_lanes = subst (AreLanes forgotten firsts) (sym is) (λ i there.
+      let lt : i < n = omega (arith, there, length-take-le n ks within) in
+      subst (IsLane forgotten firsts i) (sym (get_or-take n ks i nothing_kept lt)) (are i (omega (arith, lt, within))))
+
+  pub left_closes : {s : GroupIndex} → seen_of forgotten ks ≡ s → ((i : ℕ) → n ≤ i → i < length ks → HasNothing (get_or ks i nothing_kept)) → Closes s.forgotten s.indices (indices_of new)
+  left_closes view nothing = subst (λ (l : GroupIndex). Closes l.forgotten l.indices (indices_of new)) view (record {
+    count = n;
+    within = omega (arith, within, length-map ks (λ (k : Kept). k.index));
+    front = ap indices_of is ∙ sym (take-map (λ (k : Kept). k.index) n ks);
+    spent = λ i past there.
+        let lt : i < length ks = omega (arith, there, length-map ks (λ (k : Kept). k.index)) in
+        let none = nothing i past lt in
+        subst (IsSpent forgotten) (sym (index_is ks i)) (record { releases = none.releases; barriers = omega (arith, barriers_count (are i lt), ap length none.barriers) });
+  })
 
 -- ---- what a record is
 

@@ -1,5 +1,5 @@
 -- An index of each item's events in its group's list, and of its releases and barriers among its events.
-use Rattle.std.specs.Prelude.{◌≡◌, ◌≢◌, ℕ, ◌<◌, ◌≤◌, ◌+◌, Option, Bool, List, [], ◌∷◌, ◌++◌, length, map, filter, false, true, MatchOption, None, Some, slice_get, slice_index, slice_index_or, slice_set, if◌then◌else◌}
+use Rattle.std.specs.Prelude.{◌≡◌, ◌≢◌, ℕ, ◌<◌, ◌≤◌, ◌+◌, Option, Bool, List, [], ◌∷◌, ◌++◌, length, map, filter, false, true, MatchOption, None, Some, IsTrue, slice_get, slice_index, slice_index_or, slice_set, take, if◌then◌else◌}
 use Rattle.gr_model.specs.declared.event.Event.{Event}
 use Rattle.gr_model.specs.declared.report.Divergence.{Divergence}
 use Rattle.gr_model.specs.declared.event.ItemId.{ItemId}
@@ -8,7 +8,7 @@ use Rattle.gr_model.specs.declared.event.Kind.TheVariants.{End}
 use Rattle.gr_model.specs.Access.{is_release}
 use Rattle.gr_model.specs.Barriers.{is_barrier}
 use Rattle.gr_model.specs.Events.{is_end}
-use Rattle.gr_model.specs.Streams.{Streams, ArePrefixes, IsPrefix, is_of, places_from, trace_of}
+use Rattle.gr_model.specs.Streams.{Streams, ArePrefixes, IsPrefix, is_complete, is_of, places_from, trace_of}
 use Rattle.gr_lanes.specs.Remembered.{Remembered}
 
 -- how many events an item has, the places of its releases and its barriers among them, and the records of these
@@ -94,10 +94,26 @@ IsKeptOf forgotten list item number = IsNumberKept forgotten (places_from is_bar
 abbrev pub IsIndexKeptOf : ℕ → List Event → ℕ → ℕ → Type 0
 IsIndexKeptOf forgotten list item index = IsPlaceKept forgotten (places_from is_barrier 0 (filter (is_of item) list)) index
 
--- each item has its index in the list, and its group may have such a list
-pub record AreIndices (lanes : List Index) (list : List Event) : Type 0 where
-  pub prefix : IsPrefix (length lanes) list
+-- an item of whom nothing more is asked than how many barriers it has: it has no releases, and all its barriers are forgotten
+pub record IsSpent (forgotten : ℕ) (i : Index) : Type 0 where
+  pub releases : i.releases ≡ []
+  pub barriers : length i.barriers ≡ forgotten
+
+-- the group may have such a list, and each of its items has its index in it; the last ones may have gone, those that are spent, where no
+-- more is taken of the group
+pub record AreIndices (size forgotten : ℕ) (lanes : List Index) (list : List Event) : Type 0 where
+  pub prefix : IsPrefix size list
+  pub few : length lanes ≤ size
   pub each : (i : ℕ) → i < length lanes → slice_index_or lanes i no_index ≡ index_of list i
+  pub gone : (i : ℕ) → length lanes ≤ i → i < size → IsSpent forgotten (index_of list i)
+  pub whole : ¬ IsTrue (is_complete list) → length lanes ≡ size
+
+-- the last ones of these have gone, all of them spent
+pub record Closes (forgotten : ℕ) (old new : List Index) : Type 0 where
+  pub count : ℕ
+  pub within : count ≤ length old
+  pub front : new ≡ take count old
+  pub spent : (i : ℕ) → count ≤ i → i < length old → IsSpent forgotten (slice_index_or old i no_index)
 
 -- what a kind of record says of its stream where it is an end: whether it was cut
 abbrev pub end_of_kind : Kind → Option Bool
@@ -113,9 +129,9 @@ end_in [] = None
 end_in (x ∷ []) = end_of x
 end_in (x ∷ y ∷ xs) = end_in (y ∷ xs)
 
--- what is kept of a group: the indices of its items, how many records were taken, and what its end says once it was taken
-pub record IsKept (lanes : List Index) (list : List Event) (taken : ℕ) (end : Option Bool) : Type 0 where
-  pub indices : AreIndices lanes list
+-- what is kept of a group of so many items: their indices, how many records were taken, and what its end says once it was taken
+pub record IsKept (size forgotten : ℕ) (lanes : List Index) (list : List Event) (taken : ℕ) (end : Option Bool) : Type 0 where
+  pub indices : AreIndices size forgotten lanes list
   pub count : taken ≡ length list
   pub ending : end ≡ end_in list
 

@@ -67,6 +67,11 @@ pub record IsLane (forgotten : ℕ) (firsts : List Bare) (i : ℕ) (k : Kept) : 
   pub within : k.alike - forgotten ≤ length firsts
   pub few : length k.index.barriers ≤ k.index.count
 
+-- a lane of which nothing more is asked than how many barriers the item has
+pub record HasNothing (k : Kept) : Type 0 where
+  pub releases : k.index.releases ≡ []
+  pub barriers : k.barriers ≡ []
+
 abbrev pub AreLanes : ℕ → List Bare → List Kept → Type 0
 AreLanes forgotten firsts lanes = (i : ℕ) → i < length lanes → IsLane forgotten firsts i (slice_index_or lanes i nothing_kept)
 

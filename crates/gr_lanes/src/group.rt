@@ -1,7 +1,8 @@
 //! What was taken of one work-group: how many records, what its end says, and what is kept of its items.
 //!
 //! Invariant: the records are a prefix of a list that the group may have, and of each item the index of its events in it is
-//! kept. The list itself exists in proofs alone.
+//! kept. Once the end was taken, the last items may have gone: those that have no releases, and whose barriers are forgotten.
+//! The list itself exists in proofs alone.
 
 ghost use Rattle.std.specs.Prelude.{◌≡◌, ◌↔◌, ◌∷◌, ◌++◌, ◌<◌, ◌≤◌, ◌+◌, ℕ, [], true, Some, IsTrue, IfOk, OnOk, OnErr, filter, length, slice_get, slice_index_or};
 ghost use Rattle.gr_model.specs.declared.limits.TheConstants.{MOST_RECORDS};
@@ -27,6 +28,8 @@ use std::marker::Model;
 #[derive(Drop)]
 #[derive_where(Debug)]
 pub(crate) struct Group<A: Allocator = Global> {
+    /// How many items the group has.
+    size: u16,
     list: History<Event>,
     taken: u32,
     /// Whether its stream was cut, once its end was taken.
@@ -37,14 +40,13 @@ pub(crate) struct Group<A: Allocator = Global> {
 }
 
 impl<A: Allocator> Model for Group<A> {
-    ghost use Rattle.std.specs.Prelude.{length};
     ghost use Rattle.gr_lanes.specs.Indices.{GroupList, IsKept};
 
     ghost Value = { GroupList };
 
-    ghost view = { λ g. record { size = length g.items.indices; list = g.list; forgotten = g.items.forgotten; decided = g.decided.items } };
+    ghost view = { λ g. record { size = g.size; list = g.list; forgotten = g.items.forgotten; decided = g.decided.items } };
 
-    ghost invariant = { λ g. IsKept g.items.indices g.list g.taken g.end };
+    ghost invariant = { λ g. IsKept g.size g.items.forgotten g.items.indices g.list g.taken g.end };
 }
 
 /// Whether a stream was cut whose end this record is, if it is an end.
@@ -77,12 +79,13 @@ impl<A: Allocator + Copy> Group<A> {
     ///
     /// # Errors
     /// `Memory`: out of memory.
-    pub(crate) fn new(alloc: A, items: u16) -> Result<Group<A>, Memory>
-        ensures { IfOk result (λ g. g ≡ record { size = items; list = []; forgotten = 0; decided = [] }) }
+    pub(crate) fn new(alloc: A, size: u16) -> Result<Group<A>, Memory>
+        ensures { IfOk result (λ g. g ≡ record { size = size; list = []; forgotten = 0; decided = [] }) }
     {
-        let items = Items::new(alloc, items)?;
+        let items = Items::new(alloc, size)?;
         let list = History::new();
         Ok(Group {
+            size,
             list,
             taken: 0,
             end: None,
@@ -93,13 +96,6 @@ impl<A: Allocator + Copy> Group<A> {
 }
 
 impl<A: Allocator> Group<A> {
-    /// How many items the group has.
-    pub(crate) fn size(&self) -> usize
-        ensures { result ≡ self.now.size }
-    {
-        self.items.len()
-    }
-
     /// How many records were taken of it.
     pub(crate) fn taken(&self) -> u32
         ensures { result ≡ length self.now.list }
@@ -171,7 +167,8 @@ impl<A: Allocator> Group<A> {
         requires { self.now.forgotten ≤ number }
         ensures { IsTrue result → (b : BareOf) × ((i : ℕ) → i < self.now.size → CameWith (slice_get (filter model_barriers.is_barrier (filter (is_of i) self.now.list)) number) (slice_get (places_from model_barriers.is_barrier 0 (filter (is_of i) self.now.list)) number) (is_complete self.now.list) i b) }
     {
-        self.items.none_differs(number, self.is_complete())
+        self.items.len() == usize::from(self.size)
+            && self.items.none_differs(number, self.is_complete())
     }
 
     /// The number among an item's releases of the event with this index, or `None` where that is no release.
@@ -194,6 +191,9 @@ impl<A: Allocator> Group<A> {
     pub(crate) fn barrier_count(&self, item: u16) -> u32
         ensures { result ≡ length (filter model_barriers.is_barrier (filter (is_of item) self.now.list)) }
     {
+        if item < self.size && self.items.len() <= usize::from(item) {
+            return self.items.forgotten();
+        }
         self.items.barrier_count(item)
     }
 
@@ -250,5 +250,15 @@ impl<A: Allocator> Group<A> {
         self.decided.push(divergence)?;
         self.items.forget();
         Ok(())
+    }
+
+    /// Frees what is kept of the last items, where no more is taken of the group, and nothing more is asked of them than how many
+    /// barriers they have.
+    pub(crate) fn close(&mut self)
+        ensures { self.new ≡ self.old }
+    {
+        if self.end.is_some() {
+            self.items.close();
+        }
     }
 }

@@ -6,8 +6,8 @@
 ghost use Rattle.std.specs.Prelude.{◌≡◌, ◌≢◌, ◌<◌, ◌≤◌, ◌+◌, ℕ, [], true, Some, IsTrue, IfOk, MatchOption, OnOk, OnErr, length, map, slice_get, slice_index_or};
 ghost use Rattle.std.specs.List.{list_all};
 ghost use Rattle.gr_model.specs.Barriers as model;
-ghost use Rattle.gr_lanes.specs.Indices.{AreRising, IsNumberKept, IsPlaceKept, indexed, no_index, with_barrier};
-ghost use Rattle.gr_lanes.specs.Kept.{NoneDiffersIn, forgetting_one, is_as_first, with_indices};
+ghost use Rattle.gr_lanes.specs.Indices.{AreRising, Closes, IsNumberKept, IsPlaceKept, indexed, no_index, with_barrier};
+ghost use Rattle.gr_lanes.specs.Kept.{HasNothing, NoneDiffersIn, forgetting_one, is_as_first, nothing_kept, with_indices};
 ghost use Rattle.gr_lanes.specs.Takes.{IsMereAccess};
 
 use crate::bare::Bare;
@@ -57,6 +57,18 @@ fn forget_one<A: Allocator>(lanes: &mut [Lane<A>], forgotten: u32)
     for lane in lanes.iter_mut() {
         lane.forget(forgotten);
     }
+}
+
+/// How many lanes are left without the last ones that are spent.
+fn lanes_left<A: Allocator>(lanes: &[Lane<A>]) -> usize
+    ensures within { result ≤ length lanes.now }
+    ensures spent { (i : ℕ) → result ≤ i → i < length lanes.now → HasNothing (slice_index_or lanes.now i nothing_kept) }
+{
+    let mut left = lanes.len();
+    while left > 0 && lanes[left - 1].is_spent() {
+        left -= 1;
+    }
+    left
 }
 
 impl<A: Allocator + Copy> Items<A> {
@@ -245,5 +257,15 @@ impl<A: Allocator> Items<A> {
         forget_one(&mut self.lanes, self.forgotten);
         let _ = self.firsts.pop_front();
         self.forgotten += 1;
+    }
+
+    /// Frees the lanes of the last items, of whom nothing more is asked than how many barriers they have.
+    pub(crate) fn close(&mut self)
+        ensures lanes { Closes self.old.forgotten self.old.indices self.new.indices }
+        ensures forgotten { self.new.forgotten ≡ self.old.forgotten }
+    {
+        let left = lanes_left(&self.lanes);
+        self.lanes.truncate(left);
+        self.lanes.shrink_to_fit();
     }
 }

@@ -5,10 +5,10 @@
 //! instance said, which the group keeps once: a lane counts how many of its first barriers do or are forgotten, and has what
 //! those behind them said.
 
-ghost use Rattle.std.specs.Prelude.{◌≡◌, ◌≢◌, ◌<◌, ◌≤◌, ◌-◌, ℕ, Some, None, [], false, true, MatchOption, OnOk, OnErr, length, map, slice_get};
+ghost use Rattle.std.specs.Prelude.{◌≡◌, ◌≢◌, ◌<◌, ◌≤◌, ◌-◌, ℕ, Some, None, [], false, true, IsTrue, MatchOption, OnOk, OnErr, length, map, slice_get};
 ghost use Rattle.gr_lanes.specs.Indices.{AreRising};
 ghost use Rattle.gr_lanes.specs.Kept as kept;
-ghost use Rattle.gr_lanes.specs.Kept.{alike_more, apart_more, Arrives, forgetting_one, IsLane, kept_with, nothing_kept};
+ghost use Rattle.gr_lanes.specs.Kept.{alike_more, apart_more, Arrives, forgetting_one, HasNothing, IsLane, kept_with, nothing_kept};
 
 use crate::bare::Bare;
 use gr_model::event::Event;
@@ -136,6 +136,13 @@ impl<A: Allocator> Lane<A> {
         ensures { result ≡ length self.now.barriers }
     {
         self.barriers.len() as u32
+    }
+
+    /// Whether the item has no release, and no barrier that is not forgotten.
+    pub(crate) fn is_spent(&self) -> bool
+        ensures { IsTrue result → HasNothing self.now }
+    {
+        self.releases.is_empty() && self.barriers.is_empty()
     }
 
     /// The record of the barrier with this number, of this item, where so many are forgotten and these are the firsts of the

@@ -362,4 +362,15 @@ impl<A: Allocator> Lanes<A> {
         self.groups[usize::from(divergence.group)].decide(divergence)?;
         Ok(())
     }
+
+    /// Frees what is kept of a group's last items, where no more is taken of the group, and nothing more is asked of them than how
+    /// many barriers they have.
+    pub fn close(&mut self, group: u16)
+        ensures { self.new ≡ self.old }
+    {
+        let place = usize::from(group);
+        if place < self.groups.len() {
+            self.groups[place].close();
+        }
+    }
 }

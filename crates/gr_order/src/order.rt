@@ -323,12 +323,12 @@ impl<A: Allocator> Order<A> {
         self.frontier.raise(at);
     }
 
-    /// Takes the next record of a group. It is one that some group may have, whatever its item.
+    /// Takes the next record of a group. No memory is freed.
     ///
     /// # Errors
     /// The first of `UnknownGroup`, `AfterEnd` with the group, `UnknownItem` and `Memory` that is there. Nothing is then
     /// taken.
-    pub fn take(&mut self, group: u16, event: Event) -> Result<(), SeqError>
+    fn take_next(&mut self, group: u16, event: Event) -> Result<(), SeqError>
         requires good { IsEventButItem event }
         requires room { length (list_of self.old.taken group) < MOST_RECORDS }
         ensures ok { OnOk result (CanTake self.old.taken group event × (self.new ≡ taking self.old group event)) }
@@ -352,6 +352,35 @@ impl<A: Allocator> Order<A> {
                 Err(SeqError::Memory)
             }
         }
+    }
+
+    /// Frees what is kept of a group and not asked for any more: once its end was taken and no event of its items waits.
+    #[inline(always)]
+    fn close(&mut self, group: u16)
+        ensures unchanged { self.new ≡ self.old }
+        ensures sequence { IsSequence self.new }
+    {
+        if self.lanes.is_complete(group) && self.windows.free(group) {
+            self.lanes.close(group);
+        }
+    }
+
+    /// Takes the next record of a group. It is one that some group may have, whatever its item.
+    ///
+    /// # Errors
+    /// The first of `UnknownGroup`, `AfterEnd` with the group, `UnknownItem` and `Memory` that is there. Nothing is then
+    /// taken.
+    pub fn take(&mut self, group: u16, event: Event) -> Result<(), SeqError>
+        requires good { IsEventButItem event }
+        requires room { length (list_of self.old.taken group) < MOST_RECORDS }
+        ensures ok { OnOk result (CanTake self.old.taken group event × (self.new ≡ taking self.old group event)) }
+        ensures err { IfErr result (λ e. IsTakeFault self.old.taken group event e) }
+        ensures unchanged { OnErr result (self.new ≡ self.old) }
+        ensures sequence { IsSequence self.new }
+    {
+        self.take_next(group, event)?;
+        self.close(group);
+        Ok(())
     }
 
     /// Handles an item's next event, where all that it waits for was handled and it is no barrier of a convergent or
@@ -406,8 +435,8 @@ impl<A: Allocator> Order<A> {
         forget_if_passed(&mut self.lanes, &self.frontier, &mut self.lagging, group);
     }
 
-    /// Handles an event that may be handled.
-    pub fn handle_event(&mut self, event: EventId)
+    /// Handles an event that may be handled. No memory is freed.
+    fn handle_and_forget(&mut self, event: EventId)
         requires { IsReady self.old.taken self.old.handled event }
         ensures step { HandlesEvent self.old event self.new }
         ensures sequence { IsSequence self.new }
@@ -417,6 +446,16 @@ impl<A: Allocator> Order<A> {
         if is_passed {
             self.forget_behind(event.at.group);
         }
+    }
+
+    /// Handles an event that may be handled.
+    pub fn handle_event(&mut self, event: EventId)
+        requires { IsReady self.old.taken self.old.handled event }
+        ensures step { HandlesEvent self.old event self.new }
+        ensures sequence { IsSequence self.new }
+    {
+        self.handle_and_forget(event);
+        self.close(event.at.group);
     }
 
     /// Handles the barriers of a group's least convergent instance that was not handled, where the event before each of
@@ -440,8 +479,8 @@ impl<A: Allocator> Order<A> {
         }
     }
 
-    /// Handles the barriers of a group's instance that may meet.
-    pub fn meet_instance(&mut self, group: u16)
+    /// Handles the barriers of a group's instance that may meet. No memory is freed.
+    fn meet_next(&mut self, group: u16)
         requires { CanMeet self.old.taken self.old.handled group }
         ensures step { MeetsNext self.old group self.new }
         ensures sequence { IsSequence self.new }
@@ -452,6 +491,16 @@ impl<A: Allocator> Order<A> {
         count_next_events(&mut self.frontier, group, size);
         self.windows.pop_group(group, size);
         self.held -= u64::from(size);
+    }
+
+    /// Handles the barriers of a group's instance that may meet.
+    pub fn meet_instance(&mut self, group: u16)
+        requires { CanMeet self.old.taken self.old.handled group }
+        ensures step { MeetsNext self.old group self.new }
+        ensures sequence { IsSequence self.new }
+    {
+        self.meet_next(group);
+        self.close(group);
     }
 
     /// A step of a group that is ready, if there is one.

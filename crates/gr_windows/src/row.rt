@@ -1,4 +1,7 @@
 //! The events of the work-items of one group that wait.
+//!
+//! Invariant: it is counted of how many items events wait. Where that is none, the windows can be freed: there are then no
+//! windows, and of each item no event waits.
 
 ghost use Rattle.std.specs.Prelude.{◌≡◌, ◌-◌, ◌<◌, ◌++◌, ◌∷◌, [], IfOk, OnOk, OnErr, drop, length, replicate, slice_get, slice_index_or, slice_set, take};
 
@@ -12,16 +15,24 @@ use std::marker::Model;
 #[derive(Drop)]
 #[derive_where(Debug)]
 pub(crate) struct Row<A: Allocator = Global> {
+    /// How many items the group has.
+    size: u16,
+    /// Of how many items events wait.
+    busy: u16,
+    /// The window of each item; none once they were freed.
     windows: Vec<Window<A>, A>,
 }
 
 impl<A: Allocator> Model for Row<A> {
     ghost use Rattle.std.specs.Prelude.{List};
     ghost use Rattle.gr_model.specs.declared.event.Event.{Event};
+    ghost use Rattle.gr_windows.specs.Rows.{IsRowKept, padded};
 
     ghost Value = { List (List Event) };
 
-    ghost view = { λ r. r.windows.items };
+    ghost view = { λ r. padded r.size r.windows.items };
+
+    ghost invariant = { λ r. IsRowKept r.size r.busy r.windows.items };
 }
 
 impl<A: Allocator + Copy> Row<A> {
@@ -36,7 +47,11 @@ impl<A: Allocator + Copy> Row<A> {
         for _item in 0..items {
             windows.push(Window::new(alloc))?;
         }
-        Ok(Row { windows })
+        Ok(Row {
+            size: items,
+            busy: 0,
+            windows,
+        })
     }
 }
 
@@ -54,13 +69,20 @@ impl<A: Allocator> Row<A> {
     /// Adds an event of an item behind the others.
     ///
     /// # Errors
-    /// `Memory`: out of memory. Nothing is then added.
+    /// `Memory`: out of memory, or the windows were freed. Nothing is then added.
     pub(crate) fn push(&mut self, item: u16, event: &Event) -> Result<(), Memory>
         requires { item < length self.old }
         ensures ok { OnOk result (self.new ≡ slice_set self.old item (slice_index_or self.old item [] ++ event.now ∷ [])) }
         ensures err { OnErr result (self.new ≡ self.old) }
     {
-        self.windows[usize::from(item)].push(event)
+        let place = usize::from(item);
+        if place >= self.windows.len() {
+            return Err(Memory);
+        }
+        let first = self.windows[place].is_empty();
+        self.windows[place].push(event)?;
+        self.busy += u16::from(first);
+        Ok(())
     }
 
     /// Forgets the first event of an item.
@@ -68,7 +90,11 @@ impl<A: Allocator> Row<A> {
         requires { item < length self.old }
         ensures { self.new ≡ slice_set self.old item (drop 1 (slice_index_or self.old item [])) }
     {
-        self.windows[usize::from(item)].pop_first();
+        let place = usize::from(item);
+        if place < self.windows.len() {
+            let only = self.windows[place].pop_first();
+            self.busy -= u16::from(only);
+        }
     }
 
     /// Forgets the last event of an item.
@@ -76,6 +102,22 @@ impl<A: Allocator> Row<A> {
         requires { item < length self.old }
         ensures { self.new ≡ slice_set self.old item (take (length (slice_index_or self.old item []) - 1) (slice_index_or self.old item [])) }
     {
-        self.windows[usize::from(item)].pop_last();
+        let place = usize::from(item);
+        if place < self.windows.len() {
+            let only = self.windows[place].pop_last();
+            self.busy -= u16::from(only);
+        }
+    }
+
+    /// Frees the windows where no event waits. Tells whether that is so.
+    pub(crate) fn free(&mut self) -> bool
+        ensures { self.new ≡ self.old }
+    {
+        if self.busy != 0 {
+            return false;
+        }
+        self.windows.clear();
+        self.windows.shrink_to_fit();
+        true
     }
 }

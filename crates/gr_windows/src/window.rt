@@ -1,6 +1,6 @@
 //! The events of one work-item that wait, in their order.
 
-ghost use Rattle.std.specs.Prelude.{◌≡◌, ◌-◌, ◌++◌, ◌∷◌, [], OnOk, OnErr, drop, length, slice_get, take};
+ghost use Rattle.std.specs.Prelude.{◌≡◌, ◌-◌, ◌==◌, ◌++◌, ◌∷◌, [], OnOk, OnErr, drop, length, slice_get, take};
 
 use gr_model::event::Event;
 use gr_model::memory::Memory;
@@ -43,6 +43,13 @@ impl<A: Allocator> Window<A> {
         self.events.get(place as usize).copied()
     }
 
+    /// Whether no event waits.
+    pub(crate) fn is_empty(&self) -> bool
+        ensures { result ≡ (length self.now == 0) }
+    {
+        self.events.is_empty()
+    }
+
     /// Adds an event behind the others.
     ///
     /// # Errors
@@ -56,17 +63,23 @@ impl<A: Allocator> Window<A> {
         Ok(())
     }
 
-    /// Forgets the first event.
-    pub(crate) fn pop_first(&mut self)
-        ensures { self.new ≡ drop 1 self.old }
+    /// Forgets the first event. Tells whether it was the only one.
+    pub(crate) fn pop_first(&mut self) -> bool
+        ensures rest { self.new ≡ drop 1 self.old }
+        ensures only { result ≡ (length self.old == 1) }
     {
+        let only = self.events.len() == 1;
         let _ = self.events.pop_front();
+        only
     }
 
-    /// Forgets the last event.
-    pub(crate) fn pop_last(&mut self)
-        ensures { self.new ≡ take (length self.old - 1) self.old }
+    /// Forgets the last event. Tells whether it was the only one.
+    pub(crate) fn pop_last(&mut self) -> bool
+        ensures rest { self.new ≡ take (length self.old - 1) self.old }
+        ensures only { result ≡ (length self.old == 1) }
     {
+        let only = self.events.len() == 1;
         let _ = self.events.pop_back();
+        only
     }
 }

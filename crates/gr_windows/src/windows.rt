@@ -74,7 +74,7 @@ impl<A: Allocator> Windows<A> {
     /// Adds an event of an item behind the others.
     ///
     /// # Errors
-    /// `Memory`: out of memory. Nothing is then added.
+    /// `Memory`: out of memory, or the memory of the item's group was freed. Nothing is then added.
     pub fn push(&mut self, item: ItemId, event: &Event) -> Result<(), Memory>
         requires { HasItem (map length self.old) item }
         ensures ok { OnOk result (Changes self.old item (window_of self.old item ++ event.now ∷ []) self.new) }
@@ -109,5 +109,13 @@ impl<A: Allocator> Windows<A> {
         for item in 0..items {
             self.pop_first(ItemId { group, item });
         }
+    }
+
+    /// Frees the memory of a group of whose items no event waits. Tells whether that is so. No event can be added to such a group.
+    pub fn free(&mut self, group: u16) -> bool
+        ensures { self.new ≡ self.old }
+    {
+        let place = usize::from(group);
+        place < self.rows.len() && self.rows[place].free()
     }
 }

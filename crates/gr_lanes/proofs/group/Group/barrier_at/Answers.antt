@@ -2,16 +2,15 @@ use Rattle.std.proofs.Common.{◌∙◌, ap, subst, sym}
 use Rattle.std.specs.Prelude.{filter, slice_get}
 use Rattle.gr_model.specs.Barriers.{is_barrier}
 use Rattle.gr_model.specs.Streams.{is_of, places_from}
-use Rattle.gr_lanes.specs.Indices.{GroupList, Index, IsKeptOf, IsNumberKept}
-use Rattle.gr_lanes.proofs.IndexLemmas.{index_at}
+use Rattle.gr_lanes.specs.Indices.{GroupList, IsKeptOf}
+use Rattle.gr_lanes.proofs.IndexLemmas.{barrier_place_at, number_kept}
 use Rattle.gr_lanes.proofs.group.Group.barrier_at.Goals as goal
 
 pub barrier_at-requires : goal.barrier_at-requires
-barrier_at-requires g c =
-    subst (λ (l : Index). IsNumberKept c.self.inside.items.forgotten l.barriers c.args.number) (sym (index_at c.self.inside.items.indices c.self.inside.list c.self.invariant.indices c.args.item))
-    (subst (λ (v : GroupList). IsKeptOf v.forgotten v.list c.args.item c.args.number) (sym c.self.view_is) c.requires)
+barrier_at-requires g c = number_kept c.self.inside.items.indices c.self.inside.list c.self.invariant.indices c.args.item c.args.number (subst (λ (v : GroupList). IsKeptOf v.forgotten v.list c.args.item c.args.number) (sym c.self.view_is) c.requires)
 
 pub returns : goal.returns
 returns g c =
-    c.barrier_at.ensures ∙ (ap (λ (l : Index). slice_get l.barriers c.args.number) (index_at c.self.inside.items.indices c.self.inside.list c.self.invariant.indices c.args.item)
+    c.barrier_at.ensures
+    ∙ (barrier_place_at c.self.inside.items.indices c.self.inside.list c.self.invariant.indices c.args.item c.args.number (subst (λ (v : GroupList). IsKeptOf v.forgotten v.list c.args.item c.args.number) (sym c.self.view_is) c.requires)
     ∙ ap (λ (v : GroupList). slice_get (places_from is_barrier 0 (filter (is_of c.args.item) v.list)) c.args.number) c.self.view_is)

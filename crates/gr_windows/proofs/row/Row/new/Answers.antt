@@ -1,7 +1,8 @@
-use Rattle.std.proofs.Common.{◌≡◌, ◌∙◌, ◌∷◌, ◌++◌, [], List, ap, arith, replicate}
+use Rattle.std.proofs.Common.{◌≡◌, ◌∙◌, ◌∷◌, ◌++◌, [], List, ap, arith}
 use Rattle.std.proofs.lemmas.List.{replicate_more}
 use Rattle.gr_model.specs.declared.event.Event.{Event}
 use Rattle.gr_windows.proofs.WindowLemmas.{none_of}
+use Rattle.gr_windows.proofs.RowLemmas.{new_padded}
 use Rattle.gr_windows.proofs.row.Row.new.Goals as goal
 
 pub loop-item-init : goal.loop-item-init
@@ -16,4 +17,4 @@ loop-item-preserved g c =
 pub returns : goal.returns
 returns g c =
     let whole : c.loop-item._item ≡ c.args.items = omega (arith, c.loop-item-test.false, c.loop-item.auto._item-end) in
-    c.loop-item.invariant ∙ ap none_of whole
+    new_padded c.args.items c.loop-item.windows.items (c.loop-item.invariant ∙ ap none_of whole)

@@ -12,7 +12,7 @@ use Rattle.gr_order.proofs.HeldLemmas.{held_most}
 use Rattle.gr_order.proofs.StateLemmas.{took}
 use Rattle.gr_order.proofs.TakenLemmas.{one_at_most, one_if}
 use Rattle.gr_order.proofs.WaitLemmas.{item_is_kept, waits_again, waits_more}
-use Rattle.gr_order.proofs.order.Order.take.Goals as goal
+use Rattle.gr_order.proofs.order.Order.take_next.Goals as goal
 
 pub keep-requires : goal.keep-requires
 keep-requires g c =

@@ -1,0 +1,108 @@
+-- The windows of a group's items: what is read, what is written at an item, and that those in which nothing waits can go.
+use Rattle.std.proofs.Common.{◌≡◌, ℕ, zero, suc, ◌+◌, ◌-◌, ◌<◌, ◌≤◌, ◌==◌, List, [], ◌∷◌, ◌++◌, length, get_or, set, drop, refl, sym, ◌∙◌, ap, arith, append-nil}
+use Rattle.std.specs.Int.{from_bool}
+use Rattle.std.specs.List.{sum_by}
+use Rattle.std.proofs.lemmas.Bool.{ne_eqb}
+use Rattle.std.proofs.lemmas.List.{get_or_past, get_or_read, length-drop, length-replicate, length-set, set-append_left, set-get_or}
+use Rattle.std.proofs.lemmas.List.Sums.{get_or-le-sum_by, sum_by-cons, sum_by-set}
+use Rattle.gr_model.specs.declared.event.Event.{Event}
+use Rattle.gr_windows.specs.Rows.{IsRowKept, padded, waits}
+use Rattle.gr_windows.proofs.WindowLemmas.{none_is, none_of}
+
+-- what is read
+rest_reads : (ws : List (List Event)) (n i : ℕ) → get_or (ws ++ none_of n) i [] ≡ get_or ws i []
+rest_reads [] n i = none_is n i
+rest_reads (w ∷ ws) n zero = refl
+rest_reads (w ∷ ws) n (suc i) = rest_reads ws n i
+
+pub padded_reads : (size : ℕ) (ws : List (List Event)) (i : ℕ) → get_or (padded size ws) i [] ≡ get_or ws i []
+padded_reads size ws i = rest_reads ws (size - length ws) i
+
+-- ---- in how many events wait
+
+push_waits : (l : List Event) (x : Event) → waits (l ++ x ∷ []) ≡ waits l + from_bool (length l == 0)
+push_waits [] x = refl
+push_waits (y ∷ l) x = ap (λ b. 1 + from_bool b) (sym (ne_eqb (suc (length l)) 0 (λ e. omega arith)))
+
+less_waits : (l rest : List Event) → length rest ≡ length l - 1 → waits rest + from_bool (length l == 1) ≡ waits l
+less_waits [] [] is = refl
+less_waits [] (z ∷ rest) is = absurd (omega arith)
+less_waits (x ∷ []) [] is = refl
+less_waits (x ∷ []) (z ∷ rest) is = absurd (omega arith)
+less_waits (x ∷ y ∷ l) [] is = absurd (omega arith)
+less_waits (x ∷ y ∷ l) (z ∷ rest) is = ap (λ b. 1 + from_bool b) (ne_eqb (suc (suc (length l))) 1 (λ e. omega arith))
+
+waits_most : (vs : List (List Event)) → sum_by waits vs ≤ length vs
+waits_most [] = omega arith
+waits_most ([] ∷ vs) = omega (arith, sum_by-cons waits [] vs, waits_most vs)
+waits_most ((x ∷ v) ∷ vs) = omega (arith, sum_by-cons waits (x ∷ v) vs, waits_most vs)
+
+none_waits : (vs : List (List Event)) (n : ℕ) → sum_by waits vs ≡ 0 → vs ++ none_of n ≡ none_of (length vs + n)
+none_waits [] n none = ap none_of (omega arith)
+none_waits ([] ∷ vs) n none = ap (λ t. [] ∷ t) (none_waits vs n (omega (arith, none, sum_by-cons waits [] vs))) ∙ (let e : suc (length vs + n) ≡ suc (length vs) + n = omega arith in ap none_of e)
+none_waits ((x ∷ v) ∷ vs) n none = absurd (omega (arith, none, sum_by-cons waits (x ∷ v) vs))
+
+module _ {size busy : ℕ} {ws : List (List Event)} (kept : IsRowKept size busy ws) {s : List (List Event)} (view : padded size ws ≡ s) where
+  -- where no event waits the windows can go
+  pub none_kept : busy ≡ 0 → padded size [] ≡ s
+  none_kept idle =
+      let whole : size - 0 ≡ length ws + (size - length ws) = omega (arith, kept.few) in
+      ap none_of whole ∙ (sym (none_waits ws (size - length ws) (sym kept.count ∙ idle)) ∙ view)
+
+  module _ {p item : ℕ} (same : p ≡ item) where
+    -- at an item without a window nothing waits, and nothing is forgotten
+    pub past_at : length ws ≤ p → (f : List Event → List Event) → f [] ≡ [] → s ≡ set s item (f (get_or s item []))
+    past_at past f none =
+        let empty : get_or s item [] ≡ [] = ap (λ n. get_or s n []) (sym same) ∙ (ap (λ t. get_or t p []) (sym view) ∙ (padded_reads size ws p ∙ get_or_past ws p [] past)) in
+        sym (ap (set s item) (ap f empty ∙ (none ∙ sym empty)) ∙ set-get_or s item [])
+
+    module _ (there : p < length ws) {old : List Event} (reads : old ≡ get_or ws p old) where
+      old_is : old ≡ get_or ws p []
+      old_is = get_or_read ws p old there reads []
+
+      pub same_read : {again : List Event} → again ≡ get_or ws p again → again ≡ old
+      same_read {again} is = get_or_read ws p again there is [] ∙ sym old_is
+
+      -- another list at an item
+      pub written_at : (f : List Event → List Event) (new : List Event) → new ≡ f old → padded size (set ws p new) ≡ set s item (f (get_or s item []))
+      written_at f new is =
+          ap (λ n. set ws p new ++ none_of (size - n)) (length-set ws p new) ∙ (sym (set-append_left ws (none_of (size - length ws)) p new there)
+          ∙ (ap (set (padded size ws) p) (is ∙ ap f (old_is ∙ sym (padded_reads size ws p)))
+          ∙ (ap (λ t. set t p (f (get_or t p []))) view ∙ ap (λ n. set s n (f (get_or s n []))) same)))
+
+      set_kept : (count : ℕ) (new : List Event) → count + waits old ≡ busy + waits new → IsRowKept size count (set ws p new)
+      set_kept count new changes =
+          let sum = sum_by-set waits ws p new [] there in record {
+            few = omega (arith, kept.few, length-set ws p new);
+            count = omega (arith, changes, sum, kept.count, ap waits old_is);
+          }
+
+      pub push_kept : (x : Event) (new : List Event) (b : ℕ) → new ≡ old ++ x ∷ [] → b ≡ from_bool (length old == 0) → IsRowKept size (busy + b) (set ws p new)
+      push_kept x new b is first = set_kept (busy + b) new (omega (arith, push_waits old x, ap waits is, first))
+
+      pub push_fits : (x : Event) (b : ℕ) → b ≡ from_bool (length old == 0) → busy + b ≤ size
+      push_fits x b first =
+          let kept_then = push_kept x (old ++ x ∷ []) b refl first in
+          omega (arith, kept_then.few, kept_then.count, waits_most (set ws p (old ++ x ∷ [])))
+
+      pub less_fits : (b : ℕ) → b ≡ from_bool (length old == 1) → b ≤ busy
+      less_fits b only =
+          let less = less_waits old (drop 1 old) (length-drop 1 old) in
+          omega (arith, less, only, kept.count, get_or-le-sum_by waits ws p [] there, ap waits old_is)
+
+      pub less_kept : (new : List Event) (b : ℕ) → length new ≡ length old - 1 → b ≡ from_bool (length old == 1) → IsRowKept size (busy - b) (set ws p new)
+      less_kept new b less only = set_kept (busy - b) new (omega (arith, less_fits b only, less_waits old new less, only))
+
+-- new windows
+pub new_padded : (n : ℕ) (ws : List (List Event)) → ws ≡ none_of n → padded n ws ≡ none_of n
+new_padded n ws is =
+    let count : length ws ≡ n = ap length is ∙ length-replicate n [] in
+    let none : n - length ws ≡ 0 = omega (arith, count) in
+    ap (λ m. ws ++ none_of m) none ∙ (append-nil ws ∙ is)
+
+pub new_kept : (n : ℕ) (ws : List (List Event)) → ws ≡ none_of n → IsRowKept n 0 ws
+new_kept n ws is = record { few = (let size : length ws ≡ n = ap length is ∙ length-replicate n [] in omega (arith, size)); count = sym (ap (sum_by waits) is ∙ no_waits n) }
+  where
+    no_waits : (m : ℕ) → sum_by waits (none_of m) ≡ 0
+    no_waits zero = refl
+    no_waits (suc m) = omega (arith, sum_by-cons waits [] (none_of m), no_waits m)
