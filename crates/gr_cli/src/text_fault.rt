@@ -1,8 +1,8 @@
 //! Which word of a line of a text is at fault, and what is due in its place (docs/FORMATS.md, "Text form").
 
 use gr_lines::line::Line;
-use gr_lines::parsing::parse_line_of;
-use gr_lines::words::{is_word, parse_number, split_word};
+use gr_lines::parsing::parse_sited_line;
+use gr_lines::words::{is_word, parse_number, parse_short, split_word};
 use gr_model::limits::MOST_RECORDS;
 use gr_record::header::{Header, Version};
 use gr_text::lines::split_line;
@@ -43,6 +43,8 @@ enum Due {
     Site,
     Flags,
     Cut,
+    /// The end of a record's line, before which its site may stand.
+    Last,
     Nothing,
 }
 
@@ -86,10 +88,13 @@ pub fn bad_line(text: &[u8], number: u64) -> Option<BadLine<'_>> {
 /// The header of the stream that is at hand behind a line.
 fn header_behind(header: Option<Header>, line: &[u8]) -> Option<Header> {
     // a line of a stream of any version is one of version 4
-    match parse_line_of(Version::Four, line) {
-        Some(Line::Header(header)) => Some(header),
-        Some(Line::Event(event)) if event.kind.is_end() => None,
-        Some(Line::Event(_)) | None => header,
+    let Some(sited) = parse_sited_line(Version::Four, line) else {
+        return header;
+    };
+    match sited.line {
+        Line::Header(header) => Some(header),
+        Line::Event(event) if event.kind.is_end() => None,
+        Line::Event(_) => header,
     }
 }
 
@@ -159,7 +164,7 @@ fn behind_item(word: &[u8], items: u16) -> Option<Due> {
 /// What is due behind a number of a word of memory.
 fn behind_word(word: &[u8], verb: Verb) -> Option<Due> {
     let due = if verb == Verb::Plain {
-        Due::Nothing
+        Due::Last
     } else {
         Due::Scope(verb)
     };
@@ -171,7 +176,7 @@ fn behind_order(word: &[u8], verb: Verb, names: usize) -> Option<Due> {
     let due = if is_among(word, &["acq", "both"]) {
         Due::Name(names)
     } else {
-        Due::Nothing
+        Due::Last
     };
     if_so(is_among(word, verb.orders()), due)
 }
@@ -224,9 +229,20 @@ fn behind_in_name(word: &[u8], due: Due, version: Version) -> Option<Due> {
     }
 }
 
+/// Whether a word is the site of a record.
+fn is_site(word: &[u8]) -> bool {
+    match word.split_first() {
+        Some((b'@', number)) => parse_short(number).is_some() && !is_word(number, "0"),
+        Some(_) | None => false,
+    }
+}
+
 /// What is due behind a word, in a stream of this version; none where the word is at fault.
 fn behind(word: &[u8], due: Due, version: Version) -> Option<Due> {
     match due {
+        Due::Name(_) | Due::Cut | Due::Last if version.has_sites() && is_site(word) => {
+            Some(Due::Nothing)
+        }
         Due::Item(items) => behind_item(word, items),
         Due::Verb => behind_verb(word),
         Due::Space(verb) => if_so(is_among(word, &["g", "l"]), Due::Word(verb)),
@@ -234,8 +250,8 @@ fn behind(word: &[u8], due: Due, version: Version) -> Option<Due> {
         Due::Scope(verb) => if_so(is_among(word, &["grp", "dev"]), Due::Order(verb)),
         Due::Order(verb) => behind_order(word, verb, version.places()),
         Due::Site => if_so(parse_number(word).is_some(), Due::Flags),
-        Due::Flags => if_so(is_among(word, &["-", "g", "l", "gl"]), Due::Nothing),
-        Due::Cut => if_so(is_word(word, "cut"), Due::Nothing),
+        Due::Flags => if_so(is_among(word, &["-", "g", "l", "gl"]), Due::Last),
+        Due::Cut => if_so(is_word(word, "cut"), Due::Last),
         Due::Name(_) | Due::NameGroup(_) | Due::NameItem(_) | Due::NameNumber(_) => {
             behind_in_name(word, due, version)
         }
@@ -246,7 +262,7 @@ fn behind(word: &[u8], due: Due, version: Version) -> Option<Due> {
 /// Whether a line may end where this is due.
 fn may_end(due: Due) -> bool {
     match due {
-        Due::Version | Due::Name(_) | Due::Cut | Due::Nothing => true,
+        Due::Version | Due::Name(_) | Due::Cut | Due::Last | Due::Nothing => true,
         _ => false,
     }
 }
@@ -281,8 +297,22 @@ fn bad_word<'a>(bad: &BadLine<'a>) -> Option<BadWord<'a>> {
     None
 }
 
+/// What is due where the site of a record may stand too.
+fn due_or_site(due: Due) -> Option<&'static [u8]> {
+    match due {
+        Due::Name(0) | Due::Last => Some(b"@ and a site, or the end of the line"),
+        Due::Name(_) => Some(b"<, @ and a site, or the end of the line"),
+        Due::Cut => Some(b"cut, @ and a site, or the end of the line"),
+        _ => None,
+    }
+}
+
 /// Writes what is due in a stream of this version.
 fn put_due<W: Write>(writer: &mut W, due: Due, version: Version) -> io::Result<()> {
+    match due_or_site(due) {
+        Some(text) if version.has_sites() => return writer.write_all(text),
+        Some(_) | None => {}
+    }
     match due {
         Due::Group => writer.write_all(b"the header of a stream, which begins with group"),
         Due::GroupNumber | Due::NameGroup(_) => {
@@ -302,7 +332,7 @@ fn put_due<W: Write>(writer: &mut W, due: Due, version: Version) -> io::Result<(
         Due::Order(Verb::Load) => writer.write_all(b"rlx or acq"),
         Due::Order(Verb::Store) => writer.write_all(b"rlx or rel"),
         Due::Order(_) => writer.write_all(b"rlx, acq, rel or both"),
-        Due::Name(0) | Due::Nothing => writer.write_all(b"the end of the line"),
+        Due::Name(0) | Due::Last | Due::Nothing => writer.write_all(b"the end of the line"),
         Due::Name(_) => writer.write_all(b"< or the end of the line"),
         Due::NameItem(_) => write!(writer, "an item below {}", version.most_items()),
         Due::NameNumber(_) => write!(writer, "a release below {MOST_RECORDS}"),

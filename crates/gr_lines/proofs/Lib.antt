@@ -1,4 +1,6 @@
+pub mod LineBytes
 pub mod LineNumbers
+pub mod LineSites
 pub mod LineWords
 pub mod LinesAgain
 pub mod LinesFound

@@ -1,6 +1,6 @@
 -- A number's text says that number, and no other word says one.
 use Rattle.std.proofs.Common.{◌≡◌, ℕ, ◌^◌, ◌<◌, Bool, true, false, cond, List, Option, Some, None, refl, sym, ap, subst, ◌∙◌, arith}
-use Rattle.std.specs.Prelude.{decimal}
+use Rattle.std.specs.Prelude.{decimal, IfSome}
 use Rattle.std.specs.Cmp.Lexicographic.{same_text}
 use Rattle.std.specs.Str.Parse.{digits_value}
 use Rattle.std.proofs.lemmas.Bool.{lt-ltb, ltb-true, and_parts}
@@ -33,6 +33,10 @@ number_found word n e =
     let c = chosen _ (digits_value 10 word) n e in
     let p = and_parts _ _ c.0 in
     (same_is word (decimal (digits_value 10 word)) p.1 ∙ ap decimal c.1, subst (λ (k : ℕ). k < 2 ^ 32) c.1 (ltb-true _ _ p.0))
+
+pub each_some : {X : Type 0} (o : Option X) (P : X → Type 0) → ((x : X) → o ≡ Some x → P x) → IfSome o P
+each_some None P h = tt
+each_some (Some x) P h = h x refl
 
 none_of : (o : Option ℕ) → ((n : ℕ) → o ≡ Some n → ⊥) → o ≡ None
 none_of None h = refl

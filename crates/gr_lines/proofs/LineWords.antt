@@ -123,7 +123,7 @@ short_again n lt = rw (number_back n (omega arith), lt-ltb n 65536 lt) refl
 -- ---- the first word of several
 
 pub first_of_more : (word next : List ℕ) (words : List (List ℕ)) → IsWord word → first_of (word ++ later_text (next ∷ words)) ≡ (word, Some (next ++ later_text words))
-first_of_more word next words is = first_back word (Some (next ++ later_text words)) is
+first_of_more word next words is = first_back 32 word (Some (next ++ later_text words)) is
 
 pub first_of_last : (word : List ℕ) → IsWord word → first_of (word ++ []) ≡ (word, None)
-first_of_last word is = first_back word None is
+first_of_last word is = first_back 32 word None is

@@ -28,7 +28,7 @@ use Rattle.gr_lines.proofs.FirstWords.{first_found}
 
 -- ---- steps that did not fail
 
-bind_some : {X Y : Type 0} (o : Option X) (f : X → Option Y) (y : Y) → (o >>= f) ≡ Some y → (x : X) × (o ≡ Some x) × (f x ≡ Some y)
+pub bind_some : {X Y : Type 0} (o : Option X) (f : X → Option Y) (y : Y) → (o >>= f) ≡ Some y → (x : X) × (o ≡ Some x) × (f x ≡ Some y)
 bind_some None f y e = absurd cc
 bind_some (Some x) f y e = (x, refl, e)
 
@@ -36,7 +36,7 @@ at_end_some : {X : Type 0} (rest : Option (List ℕ)) (o : Option X) (y : X) →
 at_end_some None o y e = (refl, e)
 at_end_some (Some rest) o y e = absurd cc
 
-guard_some : {X : Type 0} (b : Bool) (o : Option X) (y : X) → cond b o None ≡ Some y → (b ≡ true) × (o ≡ Some y)
+pub guard_some : {X : Type 0} (b : Bool) (o : Option X) (y : X) → cond b o None ≡ Some y → (b ≡ true) × (o ≡ Some y)
 guard_some true o y e = (refl, e)
 guard_some false o y e = absurd cc
 
@@ -44,18 +44,18 @@ either : {X : Type 0} (b : Bool) (o p : Option X) (y : X) → cond b o p ≡ Som
 either true o p y e = inl (refl, e)
 either false o p y e = inr (refl, e)
 
-some_is : {X : Type 0} (x y : X) → Some x ≡ Some y → x ≡ y
+pub some_is : {X : Type 0} (x y : X) → Some x ≡ Some y → x ≡ y
 some_is x y e = cc
 
 -- ---- words
 
-short_found : (word : List ℕ) (n : ℕ) → short_of word ≡ Some n → (word ≡ decimal n) × (n < 2 ^ 32)
+pub short_found : (word : List ℕ) (n : ℕ) → short_of word ≡ Some n → (word ≡ decimal n) × (n < 2 ^ 16)
 unfolding short_of
 short_found word n e =
     let b = bind_some _ _ _ e in
     let g = guard_some _ _ _ b.2 in
     let f = number_found word b.0 b.1 in
-    subst (λ (k : ℕ). (word ≡ decimal k) × (k < 2 ^ 32)) (some_is b.0 n g.1) f
+    subst (λ (k : ℕ). (word ≡ decimal k) × (k < 2 ^ 16)) (some_is b.0 n g.1) (f.0, ltb-true _ _ g.0)
 
 choice : {X : Type 0} (b : Bool) (x : X) (o : Option X) (y : X) → cond b (Some x) o ≡ Some y → (P : X → Type 0) → (b ≡ true → P x) → (o ≡ Some y → P y) → P y
 choice true x o y e P is rest = subst P (some_is x y e) (is refl)
@@ -100,10 +100,10 @@ flags_found word s e =
 
 -- a word, and what stands behind it
 more : (bytes word rest : List ℕ) → (first_of bytes).0 ≡ word → (first_of bytes).1 ≡ Some rest → bytes ≡ word ++ 32 ∷ rest
-more bytes word rest w r = first_found bytes ∙ ap (λ (x : List ℕ). x ++ behind_space (first_of bytes).1) w ∙ ap (λ (x : Option (List ℕ)). word ++ behind_space x) r
+more bytes word rest w r = first_found 32 bytes ∙ ap (λ (x : List ℕ). x ++ behind_space (first_of bytes).1) w ∙ ap (λ (x : Option (List ℕ)). word ++ behind_space x) r
 
 last : (bytes word : List ℕ) → (first_of bytes).0 ≡ word → (first_of bytes).1 ≡ None → bytes ≡ word ++ []
-last bytes word w r = first_found bytes ∙ ap (λ (x : List ℕ). x ++ behind_space (first_of bytes).1) w ∙ ap (λ (x : Option (List ℕ)). word ++ behind_space x) r
+last bytes word w r = first_found 32 bytes ∙ ap (λ (x : List ℕ). x ++ behind_space (first_of bytes).1) w ∙ ap (λ (x : Option (List ℕ)). word ++ behind_space x) r
 
 -- words behind a first one
 joined : (bytes word rest next : List ℕ) (words : List (List ℕ)) → bytes ≡ word ++ 32 ∷ rest → rest ≡ next ++ later_text words → bytes ≡ word ++ later_text (next ∷ words)
@@ -113,7 +113,7 @@ joined bytes word rest next words e f = e ∙ ap (λ (x : List ℕ). word ++ 32 
 
 -- a word before words that end the bytes
 last_with : (bytes word : List ℕ) (words : List (List ℕ)) → (first_of bytes).0 ≡ word → behind_space (first_of bytes).1 ≡ later_text words → bytes ≡ word ++ later_text words
-last_with bytes word words w r = first_found bytes ∙ ap (λ (x : List ℕ). x ++ behind_space (first_of bytes).1) w ∙ ap (λ (x : List ℕ). word ++ x) r
+last_with bytes word words w r = first_found 32 bytes ∙ ap (λ (x : List ℕ). x ++ behind_space (first_of bytes).1) w ∙ ap (λ (x : List ℕ). word ++ x) r
 
 version_found : (rest : Option (List ℕ)) (v : Version) → version_said rest ≡ Some v → behind_space rest ≡ later_text (version_words v)
 version_found None v e = ap (λ (x : Version). later_text (version_words x)) (some_is One v e)
@@ -245,7 +245,7 @@ atomic_found key item space word bytes e h =
     let n = bind_some _ _ _ said.2 in
     let named = named_found k.0 said.0 n.0 n.1 in
     let order_text : b.0 ≡ order_word o.0 ++ later_text (names_words n.0) =
-    first_found b.0 ∙ ap (λ (x : List ℕ). x ++ behind_space (first_of b.0).1) (order_found _ o.0 o.1) ∙ ap (λ (x : List ℕ). order_word o.0 ++ x) (names_found _ MOST_NAMES said.0 said.1 ∙ ap (λ (x : List Name). later_text (names_words x)) named.0) in
+    first_found 32 b.0 ∙ ap (λ (x : List ℕ). x ++ behind_space (first_of b.0).1) (order_found _ o.0 o.1) ∙ ap (λ (x : List ℕ). order_word o.0 ++ x) (names_found _ MOST_NAMES said.0 said.1 ∙ ap (λ (x : List Name). later_text (names_words x)) named.0) in
     record {
       scope = s.0;
       order = o.0;
@@ -381,7 +381,7 @@ end_by v bytes e (Some rest) text h =
     subst (λ (y : Event). IsSaid v (lines.Event y) × (bytes ≡ line_text (lines.Event y))) (some_is (end_of true) e g.1) (end_is_said v true, cut)
 
 end_found : (v : Version) (bytes : List ℕ) (e : Event) → (first_of bytes).0 ≡ codes "end" → end_said (first_of bytes).1 ≡ Some e → IsSaid v (lines.Event e) × (bytes ≡ line_text (lines.Event e))
-end_found v bytes e first h = end_by v bytes e (first_of bytes).1 (first_found bytes ∙ ap (λ (x : List ℕ). x ++ behind_space (first_of bytes).1) first) h
+end_found v bytes e first h = end_by v bytes e (first_of bytes).1 (first_found 32 bytes ∙ ap (λ (x : List ℕ). x ++ behind_space (first_of bytes).1) first) h
 
 pub read_is_text : ReadIsText
 unfolding line_said

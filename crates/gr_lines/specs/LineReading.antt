@@ -1,6 +1,6 @@
 -- What a line says, word by word.
 -- Source: docs/FORMATS.md, "Text form".
-use Rattle.std.specs.Prelude.{◌≡◌, ◌≢◌, ℕ, zero, suc, ◌^◌, ◌<◌, Bool, true, false, ◌&&◌, List, [], ◌∷◌, Option, Some, None, nat_eq, nat_lt, nat_le, ◌==◌, codes, decimal, All, length, slice_index, if◌then◌else◌}
+use Rattle.std.specs.Prelude.{◌≡◌, ◌≢◌, ℕ, zero, suc, ◌-◌, ◌^◌, ◌<◌, Bool, true, false, ◌&&◌, List, [], ◌∷◌, Option, Some, None, nat_eq, nat_lt, nat_le, ◌==◌, codes, decimal, All, length, take, slice_index, if◌then◌else◌}
 use Rattle.std.specs.Cmp.Lexicographic.{pointwise}
 use Rattle.std.specs.Str.Parse.{digits_value}
 use Rattle.gr_model.specs.declared.limits.TheConstants.{MOST_NAMES}
@@ -12,9 +12,10 @@ use Rattle.gr_model.specs.Events.{end_of}
 use Rattle.gr_record.specs.declared.header.Header.{Header}
 use Rattle.gr_lines.specs.declared.line.Line.{Line}
 use Rattle.gr_lines.specs.declared.line.Line.TheVariants as lines
+use Rattle.gr_lines.specs.declared.line.SitedLine.{SitedLine}
 use Rattle.gr_record.specs.declared.header.Version.{Version}
 use Rattle.gr_record.specs.declared.header.Version.TheVariants.{One, Two, Three, Four}
-use Rattle.gr_record.specs.Versions.{most_groups, most_items}
+use Rattle.gr_record.specs.Versions.{has_sites, most_groups, most_items}
 use Rattle.gr_record.specs.Reading.{is_order_ok, is_naming_ok, naming}
 use Rattle.gr_model.specs.declared.event.Space.{Space}
 use Rattle.gr_model.specs.declared.event.Space.TheVariants.{Global, Local}
@@ -33,25 +34,37 @@ number_of word = if nat_lt (digits_value 10 word) (2 ^ 32) && same word (decimal
 
 -- ---- words
 
+-- bytes of which none is this one
+abbrev pub IsWithout : ℕ → List ℕ → Type 0
+IsWithout mark bytes = All (λ b. b ≢ mark) bytes
+
 -- a word has no space
 abbrev pub IsWord : List ℕ → Type 0
-IsWord word = All (λ b. b ≢ 32) word
+IsWord word = IsWithout 32 word
 
--- the place of the first space
-pub record IsFirstSpace (bytes : List ℕ) (at : ℕ) : Type 0 where
+-- the place of the first byte that is this one
+pub record IsFirst (mark : ℕ) (bytes : List ℕ) (at : ℕ) : Type 0 where
   pub there : at < length bytes
-  pub before : (k : ℕ) → k < at → slice_index bytes k ≢ 32
-  pub space : slice_index bytes at ≡ 32
+  pub before : (k : ℕ) → k < at → slice_index bytes k ≢ mark
+  pub mark_there : slice_index bytes at ≡ mark
+
+-- a byte and what stands behind it, if it is there
+abbrev pub behind_mark : ℕ → Option (List ℕ) → List ℕ
+behind_mark mark None = []
+behind_mark mark (Some rest) = mark ∷ rest
 
 -- what stands behind a word
 abbrev pub behind_space : Option (List ℕ) → List ℕ
-behind_space None = []
-behind_space (Some rest) = 32 ∷ rest
+behind_space rest = behind_mark 32 rest
+
+-- what stands before the first byte that is this one, and what stands behind it, if there is one
+unfoldable pub cut_at : ℕ → List ℕ → List ℕ × Option (List ℕ)
+cut_at mark [] = ([], None)
+cut_at mark (b ∷ bytes) = if b == mark then ([], Some bytes) else (b ∷ (cut_at mark bytes).0, (cut_at mark bytes).1)
 
 -- the first word, and what stands behind its space, if there is one
-unfoldable pub first_of : List ℕ → List ℕ × Option (List ℕ)
-first_of [] = ([], None)
-first_of (b ∷ bytes) = if b == 32 then ([], Some bytes) else (b ∷ (first_of bytes).0, (first_of bytes).1)
+abbrev pub first_of : List ℕ → List ℕ × Option (List ℕ)
+first_of bytes = cut_at 32 bytes
 
 -- ---- words that say a thing
 
@@ -180,3 +193,28 @@ line_said v bytes =
     if same first.0 (codes "group") then (first.1 >>= λ b. header_said b >>= λ h. Some (lines.Header h))
     else if same first.0 (codes "end") then (end_said first.1 >>= λ e. Some (lines.Event e))
     else short_of first.0 >>= λ item. first.1 >>= λ b. event_said item b >>= λ x. checked v x >>= λ e. Some (lines.Event e)
+
+-- ---- the site at the end of a record's line
+
+-- the bytes before a space that ends them, if one does
+unfoldable pub unspaced : List ℕ → Option (List ℕ)
+unspaced bytes = if slice_index bytes (length bytes - 1) == 32 then Some (take (length bytes - 1) bytes) else None
+
+-- the number of a site is not 0
+unfoldable pub site_said : List ℕ → Option ℕ
+site_said word = short_of word >>= λ n. if n == 0 then None else Some n
+
+abbrev pub event_in : Line → Option Event
+event_in (lines.Header h) = None
+event_in (lines.Event e) = Some e
+
+-- what stands before and behind the first `@`
+abbrev pub sited_by : Version → List ℕ → Option (List ℕ) → Option SitedLine
+sited_by v before None = line_said v before >>= λ l. Some (record { line = l; site = 0 })
+sited_by v before (Some behind) =
+    if has_sites v then (site_said behind >>= λ s. unspaced before >>= λ front. line_said v front >>= λ l. event_in l >>= λ e. Some (record { line = lines.Event e; site = s }))
+    else None
+
+-- a line with the site at its end, behind ` @`
+unfoldable pub sited_said : Version → List ℕ → Option SitedLine
+sited_said v bytes = sited_by v (cut_at 64 bytes).0 (cut_at 64 bytes).1

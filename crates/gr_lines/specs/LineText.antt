@@ -1,6 +1,6 @@
 -- The one line of text of a header and of each event: words that a space parts.
 -- Source: docs/FORMATS.md, "Text form".
-use Rattle.std.specs.Prelude.{ℕ, Bool, true, false, List, [], ◌∷◌, ◌++◌, codes, decimal}
+use Rattle.std.specs.Prelude.{ℕ, Bool, true, false, List, [], ◌∷◌, ◌++◌, codes, decimal, ◌==◌, if◌then◌else◌}
 use Rattle.std.specs.List.{flat_map}
 use Rattle.gr_model.specs.declared.event.Space.{Space}
 use Rattle.gr_model.specs.declared.event.Space.TheVariants.{Global, Local}
@@ -19,6 +19,7 @@ use Rattle.gr_record.specs.declared.header.Version.{Version}
 use Rattle.gr_record.specs.declared.header.Version.TheVariants.{One, Two, Three, Four}
 use Rattle.gr_lines.specs.declared.line.Line.{Line}
 use Rattle.gr_lines.specs.declared.line.Line.TheVariants as lines
+use Rattle.gr_lines.specs.declared.line.SitedLine.{SitedLine}
 use Rattle.gr_record.specs.Spelling.{IsHeader}
 
 abbrev pub space_word : Space → List ℕ
@@ -98,3 +99,11 @@ line_text (lines.Event e) = first_word e.kind e.item ++ later_text (later_words 
 abbrev pub IsLine : Line → Type 0
 IsLine (lines.Header h) = IsHeader h
 IsLine (lines.Event e) = IsEventOk e MOST_ITEMS_OF_A_GROUP
+
+-- the site at the end of a line: 0 is not written
+abbrev pub site_text : ℕ → List ℕ
+site_text site = if site == 0 then [] else spaced (codes "@" ++ decimal site)
+
+-- a line with its site
+abbrev pub sited_text : SitedLine → List ℕ
+sited_text l = line_text l.line ++ site_text l.site

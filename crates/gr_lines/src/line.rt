@@ -11,3 +11,12 @@ pub enum Line {
     /// The line is that of a record.
     Event(Event),
 }
+
+/// A line with the site at its end.
+#[derive(Clone, Copy, Debug, PartialEq, Eq)]
+pub struct SitedLine {
+    /// What stands before the site.
+    pub line: Line,
+    /// The number of the site; 0 where the line has none.
+    pub site: u16,
+}

@@ -2,10 +2,10 @@
 
 ghost use Rattle.std.specs.Prelude.{◌≡◌, ◌++◌, List, ℕ, OnOk, IfOk, decimal, [], ◌∷◌};
 ghost use Rattle.std.specs.String.{string_bytes};
-ghost use Rattle.gr_lines.specs.LineText.{spaced, later_text, space_word, scope_word, order_word, flags_word, name_words, names_words, atomic_words, first_word, later_words, header_words, IsLine};
+ghost use Rattle.gr_lines.specs.LineText.{spaced, later_text, space_word, scope_word, order_word, flags_word, name_words, names_words, atomic_words, first_word, later_words, header_words, site_text, sited_text, IsLine};
 ghost use Rattle.gr_lines.specs.LineText.{line_text as text_of};
 
-use crate::line::Line;
+use crate::line::{Line, SitedLine};
 use gr_model::event::{Event, Kind, Name, Order, Scope, Space};
 use gr_model::memory::Memory;
 use gr_record::header::{Header, Version};
@@ -184,5 +184,32 @@ pub fn line_text<A: Allocator>(alloc: A, line: &Line) -> Result<String<A>, Memor
             push_later(&mut text, event)?;
         }
     }
+    Ok(text)
+}
+
+/// Adds the site at the end of a line, which is not written where it is 0.
+fn push_site<A: Allocator>(text: &mut String<A>, site: u16) -> Result<(), Memory>
+    ensures { OnOk result (string_bytes text.new ≡ string_bytes text.old ++ site_text site) }
+{
+    if site == 0 {
+        return Ok(());
+    }
+    let mut buffer = Buffer::new();
+    text.push_str(" @")?;
+    text.push_str(buffer.format(site))?;
+    Ok(())
+}
+
+/// The line of a header or of a record with the site that it says, without its line feed (docs/FORMATS.md, "Text form").
+/// Requires: the header or record is in range, as for `line_text`.
+///
+/// # Errors
+/// `Memory` if an allocation is refused.
+pub fn sited_line_text<A: Allocator>(alloc: A, line: &SitedLine) -> Result<String<A>, Memory>
+    requires { IsLine line.now.line }
+    ensures { IfOk result (λ text. string_bytes text ≡ sited_text line.now) }
+{
+    let mut text = line_text(alloc, &line.line)?;
+    push_site(&mut text, line.site)?;
     Ok(text)
 }

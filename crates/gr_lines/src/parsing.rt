@@ -2,14 +2,15 @@
 
 ghost use Rattle.std.specs.Prelude.{◌≡◌, ◌≢◌, ◌^◌, ◌<◌, ◌++◌, ℕ, List, Some, None, IfSome, MatchOption, All, decimal, ◌≤◌, take, []};
 ghost use Rattle.std.specs.Option.{option_map};
-ghost use Rattle.gr_lines.specs.LineReading.{behind_space, space_said, scope_said, order_said, flags_said, header_made, header_said, version_said, name_said, names_said, kind_said, atomic_said, barrier_said, event_said, checked, line_said};
+ghost use Rattle.gr_lines.specs.LineReading.{behind_space, space_said, scope_said, order_said, flags_said, header_made, header_said, version_said, name_said, names_said, kind_said, atomic_said, barrier_said, event_said, checked, line_said, unspaced, site_said, sited_said};
 ghost use Rattle.gr_lines.specs.declared.line.Line.{Line};
-ghost use Rattle.gr_lines.specs.LineText.{line_text};
-ghost use Rattle.gr_lines.specs.LineLaws.{IsSaid};
+ghost use Rattle.gr_lines.specs.declared.line.SitedLine.{SitedLine};
+ghost use Rattle.gr_lines.specs.LineText.{line_text, sited_text};
+ghost use Rattle.gr_lines.specs.LineLaws.{IsSaid, IsSitedSaid};
 ghost use Rattle.gr_record.specs.declared.header.Version.TheVariants.{Two};
 
-use crate::line::Line;
-use crate::words::{is_word, parse_number, parse_short, split_word};
+use crate::line::{Line, SitedLine};
+use crate::words::{is_word, parse_number, parse_short, split_at_mark, split_word};
 use gr_model::event::{Event, ItemId, Kind, Name, Order, Scope, Space};
 use gr_model::limits::MOST_NAMES;
 use gr_model::names::Names;
@@ -308,6 +309,54 @@ fn read_line(version: Version, line: &[u8]) -> Option<Line>
     Some(Line::Event(check(version, event)?))
 }
 
+/// The bytes before a space that ends them, if one does.
+#[tactic(auto, unfolding(crate::specs::LineReading::unspaced))]
+fn before_space(bytes: &[u8]) -> Option<&[u8]>
+    ensures { option_map (λ front. front.now) result ≡ unspaced bytes.now }
+{
+    if bytes.is_empty() {
+        return None;
+    }
+    let last = bytes.len() - 1;
+    if bytes[last] == b' ' {
+        Some(&bytes[..last])
+    } else {
+        None
+    }
+}
+
+/// The number of a site, which is not 0.
+#[tactic(auto, unfolding(crate::specs::LineReading::site_said))]
+fn parse_site(word: &[u8]) -> Option<u16>
+    ensures { result ≡ site_said word.now }
+{
+    let site = parse_short(word)?;
+    if site == 0 { None } else { Some(site) }
+}
+
+/// What a line of a stream of this version says, with the site at its end.
+#[tactic(auto, unfolding(crate::specs::LineReading::sited_said))]
+fn read_sited_line(version: Version, line: &[u8]) -> Option<SitedLine>
+    ensures { result ≡ sited_said version line.now }
+{
+    let (before, behind) = split_at_mark(line, b'@');
+    let Some(behind) = behind else {
+        let line = read_line(version, before)?;
+        return Some(SitedLine { line, site: 0 });
+    };
+    if !version.has_sites() {
+        return None;
+    }
+    let site = parse_site(behind)?;
+    match read_line(version, before_space(before)?)? {
+        Line::Header(_) => None,
+        Line::Event(event) => Some(SitedLine {
+            line: Line::Event(event),
+            site,
+        }),
+    }
+}
+
 /// What a line says, given without its line feed, or `None` if the text form of a stream of versions 1 and 2 has no such
 /// line (docs/FORMATS.md, "Text form").
 pub fn parse_line(line: &[u8]) -> Option<Line>
@@ -328,4 +377,15 @@ pub fn parse_line_of(version: Version, line: &[u8]) -> Option<Line>
     ensures only { (l : Line) → IsSaid version l → line.now ≡ line_text l → result ≡ Some l }
 {
     read_line(version, line)
+}
+
+/// What a line says with its site, given without its line feed, or `None` if the text form of a stream of this version has
+/// no such line (docs/FORMATS.md, "Text form"). A header is read whatever its own version is, and has no site.
+pub fn parse_sited_line(version: Version, line: &[u8]) -> Option<SitedLine>
+    // What is read has this line.
+    ensures found { IfSome result (λ l. IsSitedSaid version l × (line.now ≡ sited_text l)) }
+    // What has this line is read.
+    ensures only { (l : SitedLine) → IsSitedSaid version l → line.now ≡ sited_text l → result ≡ Some l }
+{
+    read_sited_line(version, line)
 }

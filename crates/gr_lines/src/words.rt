@@ -2,7 +2,7 @@
 
 ghost use Rattle.std.specs.Prelude.{◌≡◌, MatchOption};
 ghost use Rattle.std.specs.Option.{option_map};
-ghost use Rattle.gr_lines.specs.LineReading.{IsFirstSpace, IsWord, first_of, number_of, same, short_of};
+ghost use Rattle.gr_lines.specs.LineReading.{IsFirst, IsWithout, cut_at, first_of, number_of, same, short_of};
 
 use itoa::Buffer;
 
@@ -40,19 +40,26 @@ pub fn parse_short(word: &[u8]) -> Option<u16>
     }
 }
 
-/// The place of the first space.
-fn first_space(bytes: &[u8]) -> Option<usize>
-    ensures { MatchOption result (IsWord bytes.now) (λ at. IsFirstSpace bytes.now at) }
+/// The place of the first byte that is this one.
+fn first_place(bytes: &[u8], mark: u8) -> Option<usize>
+    ensures { MatchOption result (IsWithout mark bytes.now) (λ at. IsFirst mark bytes.now at) }
 {
-    bytes.iter().position(|byte| *byte == b' ')
+    bytes.iter().position(|byte| *byte == mark)
+}
+
+/// What stands before the first byte that is this one, and what stands behind it, if there is one.
+pub(crate) fn split_at_mark(bytes: &[u8], mark: u8) -> (&[u8], Option<&[u8]>)
+    ensures { (result.0.now, option_map (λ rest. rest.now) result.1) ≡ cut_at mark bytes.now }
+{
+    match first_place(bytes, mark) {
+        None => (bytes, None),
+        Some(at) => (&bytes[..at], Some(&bytes[at + 1..])),
+    }
 }
 
 /// The first word, and what stands behind its space, if there is one.
 pub fn split_word(bytes: &[u8]) -> (&[u8], Option<&[u8]>)
     ensures { (result.0.now, option_map (λ rest. rest.now) result.1) ≡ first_of bytes.now }
 {
-    match first_space(bytes) {
-        None => (bytes, None),
-        Some(at) => (&bytes[..at], Some(&bytes[at + 1..])),
-    }
+    split_at_mark(bytes, b' ')
 }

@@ -42,7 +42,7 @@ pub event_apart : (h : Header) (bytes : List ℕ) → event_at h bytes ≢ Err e
 unfolding event_at
 event_apart h bytes =
     guard_apart (nat_lt 6 (slice_index bytes 0)) _ _ BadKind_apart
-    (unless_bad_apart (bad_field bytes) _
+    (unless_bad_apart (bad_field h.version bytes) _
     (guard_apart (not (is_order_ok (kind_of bytes))) _ _ BadOrder_apart
     (unless_bad_names_apart (naming h.version (kind_of bytes) (names_at h.version bytes)) _
     (λ names. guard_apart (nat_le h.items (field 4 2 bytes)) _ _ UnknownItem_apart (done_apart (record { item = field 4 2 bytes; kind = kind_of bytes; space = space_at bytes; word = field 8 4 bytes; names = names }))))))

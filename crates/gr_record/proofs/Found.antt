@@ -1,7 +1,7 @@
 -- What is read is in range, and is spelled so.
-use Rattle.std.proofs.Common.{◌≡◌, ℕ, zero, suc, ◌+◌, ◌*◌, ◌<◌, ◌≤◌, Bool, true, false, cond, List, [], ◌∷◌, length, take, Option, Some, None, Result, Ok, Err, refl, ap, subst, ◌∙◌, arith, inl, inr}
+use Rattle.std.proofs.Common.{◌≡◌, ℕ, zero, suc, ◌+◌, ◌*◌, ◌/◌, ◌%◌, ◌<◌, ◌≤◌, Bool, true, false, cond, List, [], ◌∷◌, length, take, Option, Some, None, Result, Ok, Err, refl, ap, subst, ◌∙◌, arith, inl, inr}
 use Rattle.std.specs.Prelude.{nat_lt, nat_le, ◌==◌, ◌||◌, ◌&&◌, not, slice_index}
-use Rattle.std.proofs.lemmas.Bool.{eqb-true, ltb-true, leb-true, ltb-false, leb-false, and_parts, cases_Bool, not-true, not-false}
+use Rattle.std.proofs.lemmas.Bool.{eqb-true, ltb-true, leb-true, ltb-false, leb-false, and_parts, or_cases, cases_Bool, not-true, not-false}
 use Rattle.gr_model.specs.declared.event.Event.{Event}
 use Rattle.gr_model.specs.declared.event.Name.{Name}
 use Rattle.gr_model.specs.Events.{IsKindOk, IsEventOk}
@@ -9,9 +9,10 @@ use Rattle.gr_record.specs.declared.header.Header.{Header}
 use Rattle.gr_record.specs.declared.header.Version.{Version}
 use Rattle.gr_record.specs.declared.header.Version.TheVariants.{One, Two, Three, Four}
 use Rattle.gr_record.specs.declared.error.RecordError.{RecordError}
-use Rattle.gr_record.specs.Versions.{places, record_length, most_groups, most_items}
+use Rattle.gr_record.specs.Versions.{places, has_sites, record_length, most_groups, most_items}
 use Rattle.gr_record.specs.Spelling.{kind_bytes, names_bytes, version_byte, header_spelling, IsHeader}
-use Rattle.gr_record.specs.Reading.{field, is_field_ok, unless_bad, unless_bad_names, bad_field, bad_field_from, kind_of, space_at, names_in, names_at, is_order_ok, is_naming_ok, event_at, version_of, header_behind, header_at}
+use Rattle.gr_record.specs.Sites.{IsSite}
+use Rattle.gr_record.specs.Reading.{field, site_at, is_field_ok, unless_bad, unless_bad_names, bad_field, bad_field_from, kind_of, space_at, names_in, names_at, is_order_ok, is_naming_ok, event_at, version_of, header_behind, header_at}
 use Rattle.gr_record.specs.Laws.{AreBytes, ReadIsSpelled, ReadHeaderIsSpelled}
 use Rattle.gr_record.proofs.Places.{bytes_drop, names_prefix, names_few, naming_found}
 use Rattle.gr_record.proofs.Numbers.{two_low, two_high, four, space_again, scope_again, order_again, bit_again, flags_again}
@@ -51,7 +52,7 @@ said h bytes = record { item = field 4 2 bytes; kind = kind_of bytes; space = sp
 -- what is known of a record that is read
 record Accepted (h : Header) (bytes : List ℕ) (e : Event) : Type 0 where
   kind : nat_lt 6 (slice_index bytes 0) ≡ false
-  fields : bad_field bytes ≡ None
+  fields : bad_field h.version bytes ≡ None
   order : not (is_order_ok (kind_of bytes)) ≡ false
   naming : is_naming_ok h.version (kind_of bytes) (names_at h.version bytes) ≡ true
   item : nat_le h.items (field 4 2 bytes) ≡ false
@@ -70,22 +71,22 @@ accepted h bytes e is =
     record { kind = k.0; fields = f.0; order = o.0; naming = m.0; item = i.0; same = rw (← m.1) at whole }
 
 -- the fields of a record that is read
-record AreFieldsOk (bytes : List ℕ) : Type 0 where
-  one : is_field_ok (slice_index bytes 0) 1 (slice_index bytes 1) ≡ true
-  two : is_field_ok (slice_index bytes 0) 2 (slice_index bytes 2) ≡ true
-  three : is_field_ok (slice_index bytes 0) 3 (slice_index bytes 3) ≡ true
-  four : is_field_ok (slice_index bytes 0) 4 (slice_index bytes 4) ≡ true
-  five : is_field_ok (slice_index bytes 0) 5 (slice_index bytes 5) ≡ true
-  six : is_field_ok (slice_index bytes 0) 6 (slice_index bytes 6) ≡ true
-  seven : is_field_ok (slice_index bytes 0) 7 (slice_index bytes 7) ≡ true
-  eight : is_field_ok (slice_index bytes 0) 8 (slice_index bytes 8) ≡ true
-  nine : is_field_ok (slice_index bytes 0) 9 (slice_index bytes 9) ≡ true
-  ten : is_field_ok (slice_index bytes 0) 10 (slice_index bytes 10) ≡ true
-  eleven : is_field_ok (slice_index bytes 0) 11 (slice_index bytes 11) ≡ true
+record AreFieldsOk (v : Version) (bytes : List ℕ) : Type 0 where
+  one : is_field_ok v (slice_index bytes 0) 1 (slice_index bytes 1) ≡ true
+  two : is_field_ok v (slice_index bytes 0) 2 (slice_index bytes 2) ≡ true
+  three : is_field_ok v (slice_index bytes 0) 3 (slice_index bytes 3) ≡ true
+  four : is_field_ok v (slice_index bytes 0) 4 (slice_index bytes 4) ≡ true
+  five : is_field_ok v (slice_index bytes 0) 5 (slice_index bytes 5) ≡ true
+  six : is_field_ok v (slice_index bytes 0) 6 (slice_index bytes 6) ≡ true
+  seven : is_field_ok v (slice_index bytes 0) 7 (slice_index bytes 7) ≡ true
+  eight : is_field_ok v (slice_index bytes 0) 8 (slice_index bytes 8) ≡ true
+  nine : is_field_ok v (slice_index bytes 0) 9 (slice_index bytes 9) ≡ true
+  ten : is_field_ok v (slice_index bytes 0) 10 (slice_index bytes 10) ≡ true
+  eleven : is_field_ok v (slice_index bytes 0) 11 (slice_index bytes 11) ≡ true
 
-fields_ok : (bytes : List ℕ) → bad_field bytes ≡ None → AreFieldsOk bytes
+fields_ok : (v : Version) (bytes : List ℕ) → bad_field v bytes ≡ None → AreFieldsOk v bytes
 unfolding bad_field_from
-fields_ok bytes h =
+fields_ok v bytes h =
     let p1 = none_next _ _ _ h in
     let p2 = none_next _ _ _ p1.1 in
     let p3 = none_next _ _ _ p2.1 in
@@ -102,7 +103,7 @@ fields_ok bytes h =
 order_test : (b : ℕ) → (nat_le 1 b && nat_le b 4) ≡ true → (1 ≤ b) × (b ≤ 4)
 order_test b h = let p = and_parts _ _ h in (leb-true 1 b p.0, leb-true b 4 p.1)
 
-module _ (b1 b2 b3 : ℕ) (rest : List ℕ) where
+module _ (v : Version) (b1 b2 b3 : ℕ) (rest : List ℕ) where
   abbrev from : ℕ → List ℕ
   from b0 = b0 ∷ b1 ∷ b2 ∷ b3 ∷ rest
 
@@ -110,7 +111,7 @@ module _ (b1 b2 b3 : ℕ) (rest : List ℕ) where
   Again b0 = kind_bytes (kind_of (from b0)) (space_at (from b0)) ≡ b0 ∷ b1 ∷ b2 ∷ b3 ∷ []
 
   -- the first four bytes
-  kind_found : (b0 : ℕ) → nat_lt 6 b0 ≡ false → is_field_ok b0 1 b1 ≡ true → is_field_ok b0 2 b2 ≡ true → is_field_ok b0 3 b3 ≡ true → Again b0
+  kind_found : (b0 : ℕ) → nat_lt 6 b0 ≡ false → is_field_ok v b0 1 b1 ≡ true → is_field_ok v b0 2 b2 ≡ true → is_field_ok v b0 3 b3 ≡ true → Again b0
   unfolding kind_of space_at
   kind_found zero k p q r = rw (space_again b1 (ltb-true b1 2 p), eqb-true b2 0 q, eqb-true b3 0 r) refl
   kind_found (suc zero) k p q r = rw (space_again b1 (ltb-true b1 2 p), eqb-true b2 0 q, eqb-true b3 0 r) refl
@@ -137,12 +138,12 @@ module _ (b0 b1 b2 b3 b4 b5 b6 b7 b8 b9 b10 b11 : ℕ) (rest : List ℕ) where
 no_end : (b : ℕ) → (not (6 == 6) || (b == 0)) ≡ true → b ≡ 0
 no_end b h = eqb-true b 0 h
 
-module _ (b1 b2 b3 b4 b5 b6 b7 b8 b9 b10 b11 : ℕ) (rest : List ℕ) where
+module _ (v : Version) (b1 b2 b3 b4 b5 b6 b7 b8 b9 b10 b11 : ℕ) (rest : List ℕ) where
   abbrev long : ℕ → List ℕ
   long b0 = b0 ∷ b1 ∷ b2 ∷ b3 ∷ b4 ∷ b5 ∷ b6 ∷ b7 ∷ b8 ∷ b9 ∷ b10 ∷ b11 ∷ rest
 
   -- the kind may have what it has
-  kind_ok : (b0 : ℕ) → nat_lt 6 b0 ≡ false → AreFieldsOk (long b0) → is_order_ok (kind_of (long b0)) ≡ true → IsKindOk (kind_of (long b0)) (field 4 2 (long b0)) (space_at (long b0)) (field 8 4 (long b0))
+  kind_ok : (b0 : ℕ) → nat_lt 6 b0 ≡ false → AreFieldsOk v (long b0) → is_order_ok (kind_of (long b0)) ≡ true → IsKindOk (kind_of (long b0)) (field 4 2 (long b0)) (space_at (long b0)) (field 8 4 (long b0))
   unfolding kind_of space_at
   kind_ok zero k f o = tt
   kind_ok (suc zero) k f o = tt
@@ -160,6 +161,26 @@ module _ (b1 b2 b3 b4 b5 b6 b7 b8 b9 b10 b11 : ℕ) (rest : List ℕ) where
       (omega arith, refl, omega arith)
   kind_ok (suc (suc (suc (suc (suc (suc (suc b))))))) k f o = let le : suc (suc (suc (suc (suc (suc (suc b)))))) ≤ 6 = ltb-false 6 _ k in absurd (omega arith)
 
+-- the site that is read has these bytes
+record SiteFound (v : Version) (bytes : List ℕ) (b6 b7 : ℕ) : Type 0 where
+  low : site_at v bytes % 256 ≡ b6
+  high : site_at v bytes / 256 % 256 ≡ b7
+  ok : IsSite v (site_at v bytes)
+
+no_site : (b : ℕ) → ((b == 0) || false) ≡ true → b ≡ 0
+no_site b h =
+    elim (or_cases (b == 0) false h) [
+      | inl none ↦ eqb-true b 0 none
+      | inr never ↦ absurd cc
+    ]
+
+site_found : (v : Version) (b0 b1 b2 b3 b4 b5 b6 b7 : ℕ) (rest : List ℕ) → b6 < 256 → b7 < 256 → ((b6 == 0) || has_sites v) ≡ true → ((b7 == 0) || has_sites v) ≡ true → SiteFound v (b0 ∷ b1 ∷ b2 ∷ b3 ∷ b4 ∷ b5 ∷ b6 ∷ b7 ∷ rest) b6 b7
+unfolding site_at
+site_found One b0 b1 b2 b3 b4 b5 b6 b7 rest f g six seven = let z6 = no_site b6 six in let z7 = no_site b7 seven in rw (z6, z7) (record { low = refl; high = refl; ok = (omega arith, λ _. refl) })
+site_found Two b0 b1 b2 b3 b4 b5 b6 b7 rest f g six seven = let z6 = no_site b6 six in let z7 = no_site b7 seven in rw (z6, z7) (record { low = refl; high = refl; ok = (omega arith, λ _. refl) })
+site_found Three b0 b1 b2 b3 b4 b5 b6 b7 rest f g six seven = record { low = two_low b6 b7 f g; high = two_high b6 b7 f g; ok = (omega arith, λ none. absurd cc) }
+site_found Four b0 b1 b2 b3 b4 b5 b6 b7 rest f g six seven = record { low = two_low b6 b7 f g; high = two_high b6 b7 f g; ok = (omega arith, λ none. absurd cc) }
+
 some_fields : (v : Version) → 12 ≤ record_length v
 some_fields One = omega arith
 some_fields Two = omega arith
@@ -168,8 +189,8 @@ some_fields Four = omega arith
 
 said_ok : (h : Header) (bytes : List ℕ) (e : Event) → record_length h.version ≤ length bytes → Accepted h bytes e → IsEventOk (said h bytes) h.items
 said_ok h (b0 ∷ b1 ∷ b2 ∷ b3 ∷ b4 ∷ b5 ∷ b6 ∷ b7 ∷ b8 ∷ b9 ∷ b10 ∷ b11 ∷ rest) e len a =
-    let f = fields_ok (b0 ∷ b1 ∷ b2 ∷ b3 ∷ b4 ∷ b5 ∷ b6 ∷ b7 ∷ b8 ∷ b9 ∷ b10 ∷ b11 ∷ rest) a.fields in
-    (leb-false _ _ a.item, (naming_found h.version _ _ a.naming).0, kind_ok b1 b2 b3 b4 b5 b6 b7 b8 b9 b10 b11 rest b0 a.kind f (not-false _ a.order))
+    let f = fields_ok h.version (b0 ∷ b1 ∷ b2 ∷ b3 ∷ b4 ∷ b5 ∷ b6 ∷ b7 ∷ b8 ∷ b9 ∷ b10 ∷ b11 ∷ rest) a.fields in
+    (leb-false _ _ a.item, (naming_found h.version _ _ a.naming).0, kind_ok h.version b1 b2 b3 b4 b5 b6 b7 b8 b9 b10 b11 rest b0 a.kind f (not-false _ a.order))
 said_ok h _ e len a = let long = some_fields h.version in absurd (omega arith)
 
 -- what is read is a record that the group may have
@@ -180,15 +201,14 @@ pub read_is_spelled : ReadIsSpelled
 read_is_spelled h e (b0 ∷ b1 ∷ b2 ∷ b3 ∷ b4 ∷ b5 ∷ b6 ∷ b7 ∷ b8 ∷ b9 ∷ b10 ∷ b11 ∷ rest) fits len is =
     let bytes : List ℕ = b0 ∷ b1 ∷ b2 ∷ b3 ∷ b4 ∷ b5 ∷ b6 ∷ b7 ∷ b8 ∷ b9 ∷ b10 ∷ b11 ∷ rest in
     let a = accepted h bytes e is in
-    let f = fields_ok bytes a.fields in
-    let k = kind_found b1 b2 b3 (b4 ∷ b5 ∷ b6 ∷ b7 ∷ b8 ∷ b9 ∷ b10 ∷ b11 ∷ rest) b0 a.kind f.one f.two f.three in
+    let f = fields_ok h.version bytes a.fields in
+    let k = kind_found h.version b1 b2 b3 (b4 ∷ b5 ∷ b6 ∷ b7 ∷ b8 ∷ b9 ∷ b10 ∷ b11 ∷ rest) b0 a.kind f.one f.two f.three in
     let n = names_taken b0 b1 b2 b3 b4 b5 b6 b7 b8 b9 b10 b11 rest h.version (bytes_drop 12 bytes fits) len in
     let w = four b8 b9 b10 b11 (fits 8) (fits 9) (fits 10) (fits 11) _ refl in
-    let z6 : b6 ≡ 0 = eqb-true b6 0 f.six in
-    let z7 : b7 ≡ 0 = eqb-true b7 0 f.seven in
+    let s = site_found h.version b0 b1 b2 b3 b4 b5 b6 b7 (b8 ∷ b9 ∷ b10 ∷ b11 ∷ rest) (fits 6) (fits 7) f.six f.seven in
     rw (← a.same) (
-      n ∙ rw (k, z6, z7, two_low b4 b5 (fits 4) (fits 5), two_high b4 b5 (fits 4) (fits 5), w.0, w.1, w.2, w.3) refl,
-      record { event = record { ok = said_ok h bytes e len a; word = omega (arith, fits 8, fits 9, fits 10, fits 11) }; names = names_few (places h.version) rest; range = (naming_found h.version _ _ a.naming).1 },
+      n ∙ rw (k, s.low, s.high, two_low b4 b5 (fits 4) (fits 5), two_high b4 b5 (fits 4) (fits 5), w.0, w.1, w.2, w.3) refl,
+      record { event = record { ok = said_ok h bytes e len a; word = omega (arith, fits 8, fits 9, fits 10, fits 11) }; names = names_few (places h.version) rest; range = (naming_found h.version _ _ a.naming).1; site = s.ok },
     )
 read_is_spelled h e _ fits len is = let long = some_fields h.version in absurd (omega arith)
 

@@ -13,6 +13,8 @@ use Rattle.gr_record.specs.declared.stop.Stop.{Stop}
 use Rattle.gr_record.specs.declared.stop.Stop.TheVariants.{Inside, AtEnd, AtFault}
 use Rattle.gr_record.specs.declared.layout.TheConstants.{HEADER_LENGTH}
 use Rattle.gr_record.specs.Versions.{record_length}
+use Rattle.gr_record.specs.declared.header.Version.{Version}
+use Rattle.gr_record.specs.Sites.{events_of, sited, all_sited}
 use Rattle.gr_record.specs.Spelling.{event_spelling, events_spelling, header_spelling, IsRecord}
 use Rattle.gr_record.specs.Reading.{header_at, event_at}
 use Rattle.gr_record.specs.Fronts.{Records, step, records_of}
@@ -48,11 +50,16 @@ is_at_end (AtFault e) = false
 
 -- what is read is spelled so, and ends where reading stops at an end
 pub record Found (h : Header) (most : ℕ) (bytes : List ℕ) (r : Records) : Type 0 where
-  pub parts : bytes ≡ events_spelling h.version r.events ++ r.rest
-  pub runs : Runs h r.events
-  pub few : length r.events ≤ most
+  pub parts : bytes ≡ events_spelling h.version (all_sited h.version r.events bytes) ++ r.rest
+  pub runs : Runs h (all_sited h.version r.events bytes)
+  pub few : length (all_sited h.version r.events bytes) ≤ most
   pub complete : is_complete r.events ≡ is_at_end r.stop
   pub short : r.stop ≡ Inside → length r.rest < record_length h.version
+
+-- the records that are read with their sites are those that are read
+pub events_sited : (v : Version) (es : List Event) (bytes : List ℕ) → events_of (all_sited v es bytes) ≡ es
+events_sited v [] bytes = refl
+events_sited v (e ∷ es) bytes = ap (λ (x : List Event). e ∷ x) (events_sited v es (drop (record_length v) bytes))
 
 pub complete_behind : (e : Event) (es : List Event) → is_end e ≡ false → is_complete (e ∷ es) ≡ is_complete es
 complete_behind e [] on = on
@@ -63,7 +70,7 @@ module _ (h : Header) where
   size = record_length h.version
 
   -- a whole record, and what follows it
-  spelled : (e : Event) (bytes : List ℕ) → AreBytes bytes → size ≤ length bytes → event_at h (take size bytes) ≡ Ok e → (take size bytes ≡ event_spelling h.version e) × IsRecord h e
+  spelled : (e : Event) (bytes : List ℕ) → AreBytes bytes → size ≤ length bytes → event_at h (take size bytes) ≡ Ok e → (take size bytes ≡ event_spelling h.version (sited h.version e (take size bytes))) × IsRecord h (sited h.version e (take size bytes))
   spelled e bytes fits long is =
       let len : length (take size bytes) ≡ size = omega (arith, length-take size bytes) in
       let s = read_is_spelled h e (take size bytes) (bytes_take size bytes fits) (omega arith) is in
@@ -74,11 +81,12 @@ module _ (h : Header) where
   step_found most bytes fits long further found (Err e) is = record { parts = refl; runs = tt; few = omega arith; complete = refl; short = λ is_inside. absurd (fault_apart e is_inside) }
   step_found most bytes fits long further found (Ok e) is =
       let s = spelled e bytes fits long is in
-      let split : bytes ≡ event_spelling h.version e ++ drop size bytes = sym (take-append-drop size bytes) ∙ ap (λ (x : List ℕ). x ++ drop size bytes) s.0 in
+      let one : List ℕ = event_spelling h.version (sited h.version e (take size bytes)) in
+      let split : bytes ≡ one ++ drop size bytes = sym (take-append-drop size bytes) ∙ ap (λ (x : List ℕ). x ++ drop size bytes) s.0 in
       elim (cases_Bool (is_end e)) [
-        | inl end ↦ rw end (record { parts = rw (append-nil (event_spelling h.version e)) split; runs = (s.1, λ _. refl, tt); few = omega arith; complete = end; short = λ is_inside. absurd (end_apart is_inside) })
+        | inl end ↦ rw end (record { parts = rw (append-nil one) split; runs = (s.1, λ _. refl, tt); few = omega arith; complete = end; short = λ is_inside. absurd (end_apart is_inside) })
         | inr on ↦ rw on (record {
-          parts = split ∙ ap (λ (x : List ℕ). event_spelling h.version e ++ x) found.parts ∙ sym (append_assoc (event_spelling h.version e) (events_spelling h.version further.events) further.rest);
+          parts = split ∙ ap (λ (x : List ℕ). one ++ x) found.parts ∙ sym (append_assoc one (events_spelling h.version (all_sited h.version further.events (drop size bytes))) further.rest);
           runs = (s.1, λ is_inside. absurd (both_ways (is_end e) on is_inside), found.runs);
           few = omega (arith, found.few);
           complete = complete_behind e further.events on ∙ found.complete;
@@ -119,7 +127,7 @@ completed : (r : Records) → is_complete r.events ≡ is_at_end r.stop → r.st
 completed r complete end = complete ∙ ap is_at_end end
 
 under_found : (limit : ℕ) (bytes : List ℕ) → AreBytes bytes → HEADER_LENGTH ≤ length bytes → (x : Result Header RecordError) → header_at (take HEADER_LENGTH bytes) ≡ x → IsReadingOf limit bytes (under x limit bytes)
-under_found limit bytes fits long (Err e) is = record { parts = refl; prefix = refl; ended = λ is_inside. absurd cc; short = λ is_inside. absurd (fault_apart e is_inside) }
+under_found limit bytes fits long (Err e) is = record { events = refl; parts = refl; prefix = refl; ended = λ is_inside. absurd cc; short = λ is_inside. absurd (fault_apart e is_inside) }
 under_found limit bytes fits long (Ok h) is =
     let len : length (take HEADER_LENGTH bytes) ≡ HEADER_LENGTH = omega (arith, length-take HEADER_LENGTH bytes) in
     let s = read_header_is_spelled h (take HEADER_LENGTH bytes) (bytes_take HEADER_LENGTH bytes fits) (omega arith) is in
@@ -127,7 +135,8 @@ under_found limit bytes fits long (Ok h) is =
     let f = records_found h limit (drop HEADER_LENGTH bytes) (bytes_drop HEADER_LENGTH bytes fits) in
     let header : take HEADER_LENGTH bytes ≡ header_spelling h = sym (take_whole (take HEADER_LENGTH bytes) HEADER_LENGTH len) ∙ s.0 in
     record {
-      parts = sym (take-append-drop HEADER_LENGTH bytes) ∙ ap (λ (x : List ℕ). x ++ drop HEADER_LENGTH bytes) header ∙ ap (λ (x : List ℕ). header_spelling h ++ x) f.parts ∙ sym (append_assoc (header_spelling h) (events_spelling h.version r.events) r.rest);
+      events = events_sited h.version r.events (drop HEADER_LENGTH bytes);
+      parts = sym (take-append-drop HEADER_LENGTH bytes) ∙ ap (λ (x : List ℕ). x ++ drop HEADER_LENGTH bytes) header ∙ ap (λ (x : List ℕ). header_spelling h ++ x) f.parts ∙ sym (append_assoc (header_spelling h) (events_spelling h.version (all_sited h.version r.events (drop HEADER_LENGTH bytes))) r.rest);
       prefix = record { header = s.1; runs = f.runs; few = f.few };
       ended = λ e. let c = closed_stop r.stop r.rest e in (completed r f.complete c.0, c.1);
       short = λ e. f.short (closed_inside r.stop r.rest e);
@@ -137,6 +146,6 @@ pub read_prefix_is_spelled : ReadPrefixIsSpelled
 unfolding read_from
 read_prefix_is_spelled limit bytes fits =
     elim (cases_lt (length bytes) HEADER_LENGTH) [
-      | inl lt ↦ rw (lt-ltb (length bytes) HEADER_LENGTH lt) (record { parts = refl; prefix = refl; ended = λ is_inside. absurd cc; short = λ _. lt })
+      | inl lt ↦ rw (lt-ltb (length bytes) HEADER_LENGTH lt) (record { events = refl; parts = refl; prefix = refl; ended = λ is_inside. absurd cc; short = λ _. lt })
       | inr long ↦ rw (le-ltb (length bytes) HEADER_LENGTH long) (under_found limit bytes fits long (header_at (take HEADER_LENGTH bytes)) refl)
     ]

@@ -53,7 +53,7 @@ named_some v kind (n ∷ names) o groups items g i some acquire are is = named v
     subst2 P {a} {b} {c} {d} e f p = subst (λ x. P x d) e (subst (P a) f p)
 
 -- a record whose fields and names are good: its item decides
-pub judged : (h : Header) (bytes : List ℕ) (kind : Kind) (names : List Name) → nat_lt 6 (slice_index bytes 0) ≡ false → bad_field bytes ≡ None → kind ≡ kind_of bytes → is_order_ok kind ≡ true → naming h.version (kind_of bytes) (names_at h.version bytes) ≡ Some names
+pub judged : (h : Header) (bytes : List ℕ) (kind : Kind) (names : List Name) → nat_lt 6 (slice_index bytes 0) ≡ false → bad_field h.version bytes ≡ None → kind ≡ kind_of bytes → is_order_ok kind ≡ true → naming h.version (kind_of bytes) (names_at h.version bytes) ≡ Some names
     → event_at h bytes ≡ (if nat_le h.items (field 4 2 bytes) then Err errors.UnknownItem else Ok (record { item = field 4 2 bytes; kind = kind_of bytes; space = space_at bytes; word = field 8 4 bytes; names = names }))
 unfolding event_at
 judged h bytes kind names first fields is order named =

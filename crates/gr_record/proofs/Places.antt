@@ -158,11 +158,11 @@ naming_found v kind (n ∷ names) h =
 range_back : (v : Version) (n : Name) → IsNameOf v n → is_in_range v n ≡ true
 range_back v n ok = and_from _ _ (and_from _ _ (lt-ltb _ _ ok.0) (lt-ltb _ _ ok.1)) (lt-ltb _ _ ok.2)
 
-or_left : (a b : Bool) → a ≡ true → (a || b) ≡ true
+pub or_left : (a b : Bool) → a ≡ true → (a || b) ≡ true
 or_left true b h = refl
 or_left false b h = absurd cc
 
-or_right : (a b : Bool) → b ≡ true → (a || b) ≡ true
+pub or_right : (a b : Bool) → b ≡ true → (a || b) ≡ true
 or_right true b h = refl
 or_right false b h = h
 

@@ -1,5 +1,5 @@
 -- What is spelled is read: a header and the records of its stream.
-use Rattle.std.proofs.Common.{◌≡◌, ℕ, zero, suc, ◌<◌, ◌≤◌, Bool, true, false, cond, List, [], ◌∷◌, ◌++◌, length, drop, Result, Ok, refl, ap, ◌∙◌, arith, inl, inr}
+use Rattle.std.proofs.Common.{◌≡◌, ℕ, zero, suc, ◌<◌, ◌≤◌, Bool, true, false, cond, List, [], ◌∷◌, ◌++◌, length, drop, Result, Ok, refl, sym, ap, ◌∙◌, append_assoc, arith, inl, inr}
 use Rattle.std.proofs.lemmas.Bool.{le-ltb, cases_Bool}
 use Rattle.std.proofs.lemmas.List.{take_at, drop_at, length-append, append-nil}
 use Rattle.gr_model.specs.declared.event.Event.{Event}
@@ -14,7 +14,8 @@ use Rattle.gr_record.specs.declared.stop.Stop.TheVariants.{Inside, AtEnd}
 use Rattle.gr_record.specs.declared.layout.TheConstants.{HEADER_LENGTH}
 use Rattle.gr_record.specs.Versions.{record_length}
 use Rattle.gr_record.specs.Spelling.{event_spelling, events_spelling, header_spelling, IsHeader}
-use Rattle.gr_record.specs.Reading.{header_at, event_at}
+use Rattle.gr_record.specs.Sites.{Sited, events_of, all_sited}
+use Rattle.gr_record.specs.Reading.{header_at, event_at, site_at}
 use Rattle.gr_record.specs.Fronts.{Records, behind, step, records_of}
 use Rattle.gr_record.specs.Decoding.{close, read_from}
 use Rattle.gr_record.specs.PrefixLaws.{Runs, stop_after, SpelledPrefixIsRead}
@@ -23,8 +24,8 @@ use Rattle.gr_record.proofs.Loop.{short, next}
 use Rattle.gr_record.proofs.FoundPrefixes.{complete_behind}
 use Rattle.gr_record.proofs.Spelled.{spelled_is_read, spelled_header_is_read, spelling_length}
 
-abbrev Spelled : List Event → Records
-Spelled events = record { events = events; rest = []; stop = stop_after events }
+abbrev Spelled : List Sited → Records
+Spelled rs = record { events = events_of rs; rest = []; stop = stop_after (events_of rs) }
 
 -- an end is the last
 ended : (e : Event) (es : List Event) → is_end e ≡ true → es ≡ [] → stop_after (e ∷ es) ≡ AtEnd
@@ -47,27 +48,39 @@ module _ (h : Header) (few : h.items ≤ MOST_ITEMS_OF_A_GROUP) where
   abbrev size : ℕ
   size = record_length h.version
 
-  records_spelled : (events : List Event) (most : ℕ) → Runs h events → length events ≤ most → records_of h most (events_spelling h.version events) ≡ Spelled events
+  records_spelled : (rs : List Sited) (most : ℕ) → Runs h rs → length rs ≤ most → records_of h most (events_spelling h.version rs) ≡ Spelled rs
   records_spelled [] most runs le = short size (event_at h) most [] (some_size h.version)
-  records_spelled (e ∷ es) zero runs le = absurd (omega arith)
-  records_spelled (e ∷ es) (suc most) runs le =
-      let len = spelling_length h.version e in
-      let prefix : List ℕ = event_spelling h.version e in
-      let rest : List ℕ = events_spelling h.version es in
+  records_spelled (r ∷ rs) zero runs le = absurd (omega arith)
+  records_spelled (r ∷ rs) (suc most) runs le =
+      let e = r.event in
+      let len = spelling_length h.version r in
+      let prefix : List ℕ = event_spelling h.version r in
+      let rest : List ℕ = events_spelling h.version rs in
       let long = long_prefix size prefix rest len in
-      let is : event_at h prefix ≡ Ok e = rw (append-nil prefix) at (spelled_is_read h e [] few runs.0) in
+      let is : event_at h prefix ≡ Ok e = rw (append-nil prefix) at (spelled_is_read h r [] few runs.0).0 in
       let here : records_of h (suc most) (prefix ++ rest) ≡ step size (Ok e) (prefix ++ rest) (records_of h most rest)
       = next size (event_at h) most (prefix ++ rest) long
       ∙ ap (λ (x : Result Event RecordError). step size x (prefix ++ rest) (records_of h most (drop size (prefix ++ rest)))) (ap (event_at h) (take_at prefix rest size len) ∙ is)
       ∙ ap (λ (x : List ℕ). step size (Ok e) (prefix ++ rest) (records_of h most x)) (drop_at prefix rest size len) in
       elim (cases_Bool (is_end e)) [
         | inl end ↦
-            let none : es ≡ [] = runs.1 end in
-            here ∙ rw (end, drop_at prefix rest size len, ended e es end none, none) refl
+            let none : rs ≡ [] = runs.1 end in
+            here ∙ rw (end, drop_at prefix rest size len, ended e (events_of rs) end (ap events_of none), none) refl
         | inr on ↦
-            let ih = records_spelled es most runs.2 (omega arith) in
-            here ∙ rw (on, gone_on e es on) (ap (behind e) ih)
+            let ih = records_spelled rs most runs.2 (omega arith) in
+            here ∙ rw (on, gone_on e (events_of rs) on) (ap (behind e) ih)
       ]
+
+  -- the sites are read too
+  pub sites_spelled : (rs : List Sited) (rest : List ℕ) → Runs h rs → all_sited h.version (events_of rs) (events_spelling h.version rs ++ rest) ≡ rs
+  sites_spelled [] rest runs = refl
+  sites_spelled (r ∷ rs) rest runs =
+      let prefix : List ℕ = event_spelling h.version r in
+      let more : List ℕ = events_spelling h.version rs ++ rest in
+      let len = spelling_length h.version r in
+      let site : site_at h.version prefix ≡ r.site = rw (append-nil prefix) at (spelled_is_read h r [] few runs.0).1 in
+      let ih = sites_spelled rs rest runs.2 in
+      rw (append_assoc prefix (events_spelling h.version rs) rest, take_at prefix more size len, drop_at prefix more size len, site, ih) refl
 
 closed_after : (b : Bool) → close (cond b AtEnd Inside) [] ≡ cond b AtEnd Inside
 closed_after true = refl
@@ -78,7 +91,10 @@ header_read h ok = spelled_header_is_read h [] ok
 
 pub spelled_prefix_is_read : SpelledPrefixIsRead
 unfolding read_from
-spelled_prefix_is_read limit h events prefix =
-    let long : HEADER_LENGTH ≤ length (header_spelling h ++ events_spelling h.version events) = omega arith in
-    let records = records_spelled h (header_items h prefix.header) events limit prefix.runs prefix.few in
-    rw (le-ltb (length (header_spelling h ++ events_spelling h.version events)) HEADER_LENGTH long, header_read h prefix.header, records, closed_after (is_complete events)) refl
+spelled_prefix_is_read limit h rs prefix =
+    let long : HEADER_LENGTH ≤ length (header_spelling h ++ events_spelling h.version rs) = omega arith in
+    let items = header_items h prefix.header in
+    let records = records_spelled h items rs limit prefix.runs prefix.few in (
+      rw (le-ltb (length (header_spelling h ++ events_spelling h.version rs)) HEADER_LENGTH long, header_read h prefix.header, records, closed_after (is_complete (events_of rs))) refl,
+      ap (all_sited h.version (events_of rs)) (sym (append-nil (events_spelling h.version rs))) ∙ sites_spelled h items rs [] prefix.runs,
+    )

@@ -4,6 +4,7 @@ pub mod PrefixLaws
 pub mod Fronts
 pub mod Laws
 pub mod Reading
+pub mod Sites
 pub mod Spelling
 pub mod Versions
 pub mod WholeStreams

@@ -18,7 +18,7 @@ use Rattle.gr_model.specs.Access.{acquires, releases, is_acquire_kind}
 use Rattle.gr_record.specs.declared.header.Header.{Header}
 use Rattle.gr_record.specs.declared.header.Version.{Version}
 use Rattle.gr_record.specs.declared.header.Version.TheVariants.{One, Two, Three, Four}
-use Rattle.gr_record.specs.Versions.{places, most_groups, most_items}
+use Rattle.gr_record.specs.Versions.{places, has_sites, most_groups, most_items}
 use Rattle.gr_record.specs.declared.error.RecordError.{RecordError}
 use Rattle.gr_record.specs.declared.error.RecordError.TheVariants as errors
 
@@ -49,21 +49,25 @@ header_at bytes = header_behind (version_of (field 0 4 bytes)) bytes
 abbrev pub is_atomic : ℕ → Bool
 is_atomic kind = (kind == 2) || (kind == 3) || (kind == 4)
 
--- whether a byte may stand at a place from 1 to 11 of a record whose byte 0 is kind: the space, the flags of a barrier or the cut mark of an end; the scope; the order; two bytes that are 0; and an end has no item and no word
-abbrev pub is_field_ok : ℕ → ℕ → ℕ → Bool
-is_field_ok kind place byte =
+-- whether a byte may stand at a place from 1 to 11 of a record whose byte 0 is kind: the space, the flags of a barrier or the cut mark of an end; the scope; the order; two bytes that are 0 where a record says no site; and an end has no item and no word
+abbrev pub is_field_ok : Version → ℕ → ℕ → ℕ → Bool
+is_field_ok version kind place byte =
     if place == 1 then (if kind == 5 then nat_lt byte 4 else nat_lt byte 2)
     else if place == 2 then (if is_atomic kind then (byte == 1) || (byte == 2) else byte == 0)
     else if place == 3 then (if is_atomic kind then nat_le 1 byte && nat_le byte 4 else byte == 0)
-    else if (place == 6) || (place == 7) then byte == 0
+    else if (place == 6) || (place == 7) then (byte == 0) || has_sites version
     else not (kind == 6) || (byte == 0)
 
 -- the least of n places from this one on whose byte may not stand there
-unfoldable pub bad_field_from : List ℕ → ℕ → ℕ → Option ℕ
-bad_field_from bytes place n = find (λ p. not (is_field_ok (slice_index bytes 0) p (slice_index bytes p))) (range_with_len place n)
+unfoldable pub bad_field_from : Version → List ℕ → ℕ → ℕ → Option ℕ
+bad_field_from version bytes place n = find (λ p. not (is_field_ok version (slice_index bytes 0) p (slice_index bytes p))) (range_with_len place n)
 
-abbrev pub bad_field : List ℕ → Option ℕ
-bad_field bytes = bad_field_from bytes 1 11
+abbrev pub bad_field : Version → List ℕ → Option ℕ
+bad_field version bytes = bad_field_from version bytes 1 11
+
+-- the number of the site of a record: 0 where it says none
+unfoldable pub site_at : Version → List ℕ → ℕ
+site_at version bytes = if has_sites version then field 6 2 bytes else 0
 
 abbrev pub space_of : ℕ → Space
 space_of byte = if byte == 1 then Local else Global
@@ -163,7 +167,7 @@ unless_bad_names (Some names) next = next names
 unfoldable pub event_at : Header → List ℕ → Result Event RecordError
 event_at h bytes =
     if nat_lt 6 (slice_index bytes 0) then Err errors.BadKind
-    else unless_bad (bad_field bytes)
+    else unless_bad (bad_field h.version bytes)
     (if not (is_order_ok (kind_of bytes)) then Err errors.BadOrder
     else unless_bad_names (naming h.version (kind_of bytes) (names_at h.version bytes)) (λ names.
     if nat_le h.items (field 4 2 bytes) then Err errors.UnknownItem

@@ -1,4 +1,4 @@
--- The one spelling of a header and of each event, as bytes. Numbers are little endian.
+-- The one spelling of a header and of each record, as bytes. Numbers are little endian.
 -- Source: docs/FORMATS.md, "Stream".
 use Rattle.std.specs.Prelude.{ℕ, ◌+◌, ◌*◌, ◌^◌, ◌<◌, ◌≤◌, Bool, List, [], ◌∷◌, ◌++◌, length, replicate, Option, Some, None, All, zero, suc, if◌then◌else◌}
 use Rattle.std.specs.List.{flat_map}
@@ -19,6 +19,7 @@ use Rattle.gr_record.specs.declared.header.Header.{Header}
 use Rattle.gr_record.specs.declared.header.Version.{Version}
 use Rattle.gr_record.specs.declared.header.Version.TheVariants.{One, Two, Three, Four}
 use Rattle.gr_record.specs.Versions.{places, most_groups, most_items}
+use Rattle.gr_record.specs.Sites.{Sited, IsSite}
 
 -- a byte for a space, a scope, an order, a truth
 abbrev pub space_byte : Space → ℕ
@@ -64,12 +65,12 @@ names_bytes (suc n) [] = place_bytes None ++ names_bytes n []
 names_bytes (suc n) (name ∷ names) = place_bytes (Some name) ++ names_bytes n names
 
 -- the bytes 0 to 11 of a record
-abbrev pub fields_bytes : Event → List ℕ
-fields_bytes e = kind_bytes e.kind e.space ++ little_bytes 2 e.item ++ 0 ∷ 0 ∷ little_bytes 4 e.word
+abbrev pub fields_bytes : Event → ℕ → List ℕ
+fields_bytes e site = kind_bytes e.kind e.space ++ little_bytes 2 e.item ++ little_bytes 2 site ++ little_bytes 4 e.word
 
 -- a record in a stream of this version
-abbrev pub event_spelling : Version → Event → List ℕ
-event_spelling v e = fields_bytes e ++ names_bytes (places v) e.names
+abbrev pub event_spelling : Version → Sited → List ℕ
+event_spelling v r = fields_bytes r.event r.site ++ names_bytes (places v) r.event.names
 
 -- `GRT1` to `GRT4`
 abbrev pub version_byte : Version → ℕ
@@ -82,8 +83,8 @@ version_byte Four = 0x34
 abbrev pub header_spelling : Header → List ℕ
 header_spelling h = 0x47 ∷ 0x52 ∷ 0x54 ∷ version_byte h.version ∷ little_bytes 2 h.group ++ little_bytes 2 h.items ++ little_bytes 4 h.launch
 
-abbrev pub events_spelling : Version → List Event → List ℕ
-events_spelling v es = flat_map (event_spelling v) es
+abbrev pub events_spelling : Version → List Sited → List ℕ
+events_spelling v rs = flat_map (event_spelling v) rs
 
 -- a header that a stream may begin with
 pub record IsHeader (h : Header) : Type 0 where
@@ -101,8 +102,9 @@ pub record IsEvent (items : ℕ) (e : Event) : Type 0 where
 abbrev pub AreNamesOf : Version → List Name → Type 0
 AreNamesOf v names = All (IsNameWithin (most_groups v) (most_items v)) names
 
--- a record that the stream of this header may have: it has room for the names, and they are those of a launch of its version
-pub record IsRecord (h : Header) (e : Event) : Type 0 where
-  pub event : IsEvent h.items e
-  pub names : length e.names ≤ places h.version
-  pub range : AreNamesOf h.version e.names
+-- a record that the stream of this header may have: it has room for the names, they are those of a launch of its version, and the site is one that its records may say
+pub record IsRecord (h : Header) (r : Sited) : Type 0 where
+  pub event : IsEvent h.items r.event
+  pub names : length r.event.names ≤ places h.version
+  pub range : AreNamesOf h.version r.event.names
+  pub site : IsSite h.version r.site

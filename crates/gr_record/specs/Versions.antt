@@ -1,6 +1,6 @@
--- What the version of a stream says: how many names a record has room for, how many bytes it has, and how many groups and items its launch may have.
+-- What the version of a stream says: how many names a record has room for, how many bytes it has, whether it says its site, and how many groups and items its launch may have.
 -- Source: docs/FORMATS.md, "Stream".
-use Rattle.std.specs.Prelude.{ℕ}
+use Rattle.std.specs.Prelude.{ℕ, Bool, true, false}
 use Rattle.gr_model.specs.declared.limits.TheConstants.{FEW_GROUPS, FEW_ITEMS_OF_A_GROUP, MOST_GROUPS, MOST_ITEMS_OF_A_GROUP, MOST_NAMES}
 use Rattle.gr_record.specs.declared.header.Version.{Version}
 use Rattle.gr_record.specs.declared.header.Version.TheVariants.{One, Two, Three, Four}
@@ -11,6 +11,13 @@ places One = 1
 places Two = MOST_NAMES
 places Three = 1
 places Four = MOST_NAMES
+
+-- whether bytes 6 and 7 of a record are the number of its site
+abbrev pub has_sites : Version → Bool
+has_sites One = false
+has_sites Two = false
+has_sites Three = true
+has_sites Four = true
 
 -- how many groups its launch may have, and how many items each of them
 abbrev pub most_groups : Version → ℕ

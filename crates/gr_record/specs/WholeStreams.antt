@@ -8,6 +8,7 @@ use Rattle.gr_record.specs.declared.error.RecordError.{RecordError}
 use Rattle.gr_record.specs.declared.error.RecordError.TheVariants as errors
 use Rattle.gr_record.specs.declared.header.Header.{Header}
 use Rattle.gr_record.specs.declared.layout.TheConstants.{HEADER_LENGTH}
+use Rattle.gr_record.specs.Sites.{Sited}
 use Rattle.gr_record.specs.Versions.{places}
 use Rattle.gr_record.specs.Spelling.{header_spelling, events_spelling, IsHeader}
 use Rattle.gr_record.specs.Reading.{header_at}
@@ -56,8 +57,8 @@ behind_records_at h bytes = front_records_at h bytes >>= λ x. Ok x.1
 
 -- ---- what a stream is, by its spelling
 
-abbrev pub stream_spelling : Header → List Event → List ℕ
-stream_spelling h events = header_spelling h ++ events_spelling h.version events
+abbrev pub stream_spelling : Header → List Sited → List ℕ
+stream_spelling h records = header_spelling h ++ events_spelling h.version records
 
 -- a header in range, and a complete list that its group may have, with names for which there is room
 pub record IsStream (h : Header) (events : List Event) : Type 0 where

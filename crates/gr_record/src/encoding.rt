@@ -3,7 +3,8 @@
 ghost use Rattle.std.specs.Prelude.{◌≡◌, ◌≤◌, length};
 ghost use Rattle.std.specs.List.{slice_get};
 ghost use Rattle.gr_model.specs.Events.{IsEventOk};
-ghost use Rattle.gr_record.specs.declared.header.Version.TheVariants.{One, Two};
+ghost use Rattle.gr_record.specs.declared.header.Version.TheVariants.{One, Two, Three, Four};
+ghost use Rattle.gr_record.specs.Sites.{unsited};
 ghost use Rattle.gr_record.specs.Spelling.{IsHeader, header_spelling, event_spelling, kind_bytes, fields_bytes, place_bytes, space_byte, scope_byte, order_byte, bit, version_byte};
 
 use crate::header::{Header, Version};
@@ -82,12 +83,13 @@ fn bytes_of_kind(kind: Kind, space: Space) -> [u8; 4]
 }
 
 /// The bytes of a record before its names.
-fn bytes_of_fields(event: &Event) -> [u8; FIELDS_LENGTH]
-    ensures { result ≡ fields_bytes event.now }
+fn bytes_of_fields(event: &Event, site: u16) -> [u8; FIELDS_LENGTH]
+    ensures { result ≡ fields_bytes event.now site }
 {
     let mut bytes = [0; FIELDS_LENGTH];
     bytes[..4].copy_from_slice(&bytes_of_kind(event.kind, event.space));
     LittleEndian::write_u16(&mut bytes[4..], event.item);
+    LittleEndian::write_u16(&mut bytes[6..], site);
     LittleEndian::write_u32(&mut bytes[8..], event.word);
     bytes
 }
@@ -131,9 +133,20 @@ fn encode_name(name: Option<Name>, bytes: &mut [u8])
 pub fn encode_event(event: &Event, bytes: &mut [u8; RECORD_LENGTH])
     requires range { IsEventOk event.now MOST_ITEMS_OF_A_GROUP }
     requires names { length event.now.names ≤ 1 }
-    ensures { bytes.new ≡ event_spelling One event.now }
+    ensures { bytes.new ≡ event_spelling One (unsited event.now) }
 {
-    bytes[..12].copy_from_slice(&bytes_of_fields(event));
+    encode_sited(event, 0, bytes);
+}
+
+/// Writes the 20 bytes of a record that stands at this site: of a stream of version 3, or of version 1 where the site
+/// is 0 (docs/FORMATS.md, "Stream").
+/// Requires: the record is in range, as for `encode_event`.
+pub fn encode_sited(event: &Event, site: u16, bytes: &mut [u8; RECORD_LENGTH])
+    requires range { IsEventOk event.now MOST_ITEMS_OF_A_GROUP }
+    requires names { length event.now.names ≤ 1 }
+    ensures { bytes.new ≡ event_spelling Three (record { event = event.now; site = site }) }
+{
+    bytes[..12].copy_from_slice(&bytes_of_fields(event, site));
     encode_name(name_at(event.names.as_slice(), 0), &mut bytes[12..]);
 }
 
@@ -141,10 +154,20 @@ pub fn encode_event(event: &Event, bytes: &mut [u8; RECORD_LENGTH])
 /// Requires: the record is in range: some group may have it, as `event_ok` with `MOST_ITEMS_OF_A_GROUP` tells.
 pub fn encode_event2(event: &Event, bytes: &mut [u8; LONG_RECORD_LENGTH])
     requires { IsEventOk event.now MOST_ITEMS_OF_A_GROUP }
-    ensures { bytes.new ≡ event_spelling Two event.now }
+    ensures { bytes.new ≡ event_spelling Two (unsited event.now) }
+{
+    encode_sited2(event, 0, bytes);
+}
+
+/// Writes the 44 bytes of a record that stands at this site: of a stream of version 4, or of version 2 where the site
+/// is 0 (docs/FORMATS.md, "Stream").
+/// Requires: the record is in range, as for `encode_event2`.
+pub fn encode_sited2(event: &Event, site: u16, bytes: &mut [u8; LONG_RECORD_LENGTH])
+    requires { IsEventOk event.now MOST_ITEMS_OF_A_GROUP }
+    ensures { bytes.new ≡ event_spelling Four (record { event = event.now; site = site }) }
 {
     let names = event.names.as_slice();
-    bytes[..12].copy_from_slice(&bytes_of_fields(event));
+    bytes[..12].copy_from_slice(&bytes_of_fields(event, site));
     encode_name(name_at(names, 0), &mut bytes[12..20]);
     encode_name(name_at(names, 1), &mut bytes[20..28]);
     encode_name(name_at(names, 2), &mut bytes[28..36]);

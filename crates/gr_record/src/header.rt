@@ -1,7 +1,7 @@
 //! What stands before the records of a stream (docs/FORMATS.md, "Stream").
 
 ghost use Rattle.std.specs.Prelude.{◌≡◌, ◌<◌, ◌≤◌};
-ghost use Rattle.gr_record.specs.Versions.{places, record_length, most_groups, most_items};
+ghost use Rattle.gr_record.specs.Versions.{places, has_sites, record_length, most_groups, most_items};
 
 use crate::layout::{LONG_RECORD_LENGTH, RECORD_LENGTH};
 use gr_model::limits::{
@@ -16,10 +16,10 @@ pub enum Version {
     One,
     /// A record has room for `MOST_NAMES` names. The launch is as with version 1.
     Two,
-    /// A record has room for one name. The launch has at most `MOST_GROUPS` groups, each of at most `MOST_ITEMS_OF_A_GROUP`
-    /// items.
+    /// A record has room for one name, and says its site. The launch has at most `MOST_GROUPS` groups, each of at most
+    /// `MOST_ITEMS_OF_A_GROUP` items.
     Three,
-    /// A record has room for `MOST_NAMES` names. The launch is as with version 3.
+    /// A record has room for `MOST_NAMES` names, and says its site. The launch is as with version 3.
     Four,
 }
 
@@ -44,6 +44,16 @@ impl Version {
         match self {
             Version::One | Version::Three => 1,
             Version::Two | Version::Four => MOST_NAMES,
+        }
+    }
+
+    /// Whether a record says at which site it stands.
+    pub fn has_sites(self) -> bool
+        ensures { result ≡ has_sites self }
+    {
+        match self {
+            Version::One | Version::Two => false,
+            Version::Three | Version::Four => true,
         }
     }
 

@@ -4,15 +4,15 @@
 ghost use Rattle.gr_record.specs.Laws.{SpelledIsRead, SpelledHeaderIsRead, ReadIsSpelled, ReadHeaderIsSpelled, NoSpellingBeginsAnother};
 ghost use Rattle.gr_record.specs.PrefixLaws.{SpelledPrefixIsRead, ReadPrefixIsSpelled, FaultStays};
 
-/// A record or header in range is read from the bytes that spell it, whatever follows those. A header and the records
-/// behind it are read from the bytes that spell them.
+/// A record or header in range is read from the bytes that spell it, whatever follows those, and so is the record's site.
+/// A header and the records behind it are read from the bytes that spell them.
 pub fn spelled_is_read()
     ensures event { SpelledIsRead }
     ensures header { SpelledHeaderIsRead }
     ensures prefix { SpelledPrefixIsRead }
 {}
 
-/// What is read is in range, and the bytes from which it was read are those that spell it.
+/// What is read is in range, and the bytes from which it was read are those that spell it with the site that they say.
 pub fn read_is_spelled()
     ensures event { ReadIsSpelled }
     ensures header { ReadHeaderIsSpelled }
@@ -24,7 +24,7 @@ pub fn fault_stays()
     ensures { FaultStays }
 {}
 
-/// The bytes that spell a record are not the start of those that spell another.
+/// The bytes that spell a record are not the start of those that spell another, nor of those of another site.
 pub fn no_spelling_begins_another()
     ensures { NoSpellingBeginsAnother }
 {}

@@ -4,8 +4,8 @@
 //! "Faults of a whole record").
 
 ghost use Rattle.std.specs.Prelude.{◌≡◌, ◌≤◌, ◌*◌, ◌||◌, ◌==◌, IsTrue, None, Some, if◌then◌else◌, [], length, nat_le, nat_lt, take};
-ghost use Rattle.gr_record.specs.Versions.{record_length, most_groups, most_items};
-ghost use Rattle.gr_record.specs.Reading.{version_of, header_at, header_behind, is_field_ok, bad_field, space_of, scope_of, order_of, kind_of, space_at, are_unused, name_in, names_in, names_at, is_order_ok, naming, event_at};
+ghost use Rattle.gr_record.specs.Versions.{has_sites, record_length, most_groups, most_items};
+ghost use Rattle.gr_record.specs.Reading.{field, version_of, header_at, header_behind, is_field_ok, bad_field, site_at, space_of, scope_of, order_of, kind_of, space_at, are_unused, name_in, names_in, names_at, is_order_ok, naming, event_at};
 
 use crate::error::RecordError;
 use crate::header::{Header, Version};
@@ -100,45 +100,56 @@ fn read_launch(version: Version, bytes: &[u8]) -> Result<Header, RecordError>
     })
 }
 
-/// Whether a byte may stand at a place from 1 to 11 of a record of this kind.
-fn may_stand(kind: u8, place: usize, byte: u8) -> bool
-    ensures { result ≡ is_field_ok kind place byte }
+/// Whether a byte may stand at a place from 1 to 11 of a record of this version and kind.
+fn may_stand(version: Version, kind: u8, place: usize, byte: u8) -> bool
+    ensures { result ≡ is_field_ok version kind place byte }
 {
     match (place, kind) {
         (1, BARRIER) => byte < 4,
         (1, _) => byte < 2,
         (2, LOAD | STORE | RMW) => byte == 1 || byte == 2,
         (3, LOAD | STORE | RMW) => 1 <= byte && byte <= 4,
-        (2 | 3 | 6 | 7, _) => byte == 0,
+        (2 | 3, _) => byte == 0,
+        (6 | 7, _) => byte == 0 || version.has_sites(),
         _ => kind != END || byte == 0,
     }
 }
 
+/// Whether the bytes 6 and 7 of a record of this version may stand there: nearly all have no site, so these are looked at
+/// first.
+/// Requires: there are at least `RECORD_LENGTH` bytes.
+#[inline(always)]
+fn has_good_site(version: Version, bytes: &[u8]) -> bool
+    requires { RECORD_LENGTH ≤ length bytes.now }
+    ensures { result ≡ (field 6 2 bytes.now == 0) || has_sites version }
+{
+    LittleEndian::read_u16(&bytes[6..]) == 0 || version.has_sites()
+}
+
 /// Whether this is no end, and each byte from 1 to 11 may stand where it does, as in nearly all records.
 /// Requires: there are at least `RECORD_LENGTH` bytes.
-fn has_good_fields(bytes: &[u8]) -> bool
+fn has_good_fields(version: Version, bytes: &[u8]) -> bool
     requires { RECORD_LENGTH ≤ length bytes.now }
-    ensures { IsTrue result → bad_field bytes.now ≡ None }
+    ensures { IsTrue result → bad_field version bytes.now ≡ None }
 {
     let kind = bytes[0];
     kind != END
-        && may_stand(kind, 1, bytes[1])
-        && may_stand(kind, 2, bytes[2])
-        && may_stand(kind, 3, bytes[3])
-        && may_stand(kind, 6, bytes[6])
-        && may_stand(kind, 7, bytes[7])
+        && may_stand(version, kind, 1, bytes[1])
+        && may_stand(version, kind, 2, bytes[2])
+        && may_stand(version, kind, 3, bytes[3])
+        && has_good_site(version, bytes)
 }
 
 /// The least place of a byte that may not stand there, found place by place.
 /// Requires: there are at least `RECORD_LENGTH` bytes.
 #[cold]
-fn find_bad_field(bytes: &[u8]) -> Option<u8>
+fn find_bad_field(version: Version, bytes: &[u8]) -> Option<u8>
     requires { RECORD_LENGTH ≤ length bytes.now }
-    ensures { result ≡ bad_field bytes.now }
+    ensures { result ≡ bad_field version bytes.now }
 {
     let kind = bytes[0];
     for place in 1..12 {
-        if !may_stand(kind, place, bytes[place]) {
+        if !may_stand(version, kind, place, bytes[place]) {
             return Some(place as u8);
         }
     }
@@ -148,14 +159,14 @@ fn find_bad_field(bytes: &[u8]) -> Option<u8>
 /// The least place of a byte that may not stand there.
 /// Requires: there are at least `RECORD_LENGTH` bytes.
 #[inline(always)]
-fn first_bad_field(bytes: &[u8]) -> Option<u8>
+fn first_bad_field(version: Version, bytes: &[u8]) -> Option<u8>
     requires { RECORD_LENGTH ≤ length bytes.now }
-    ensures { result ≡ bad_field bytes.now }
+    ensures { result ≡ bad_field version bytes.now }
 {
-    if has_good_fields(bytes) {
+    if has_good_fields(version, bytes) {
         None
     } else {
-        find_bad_field(bytes)
+        find_bad_field(version, bytes)
     }
 }
 
@@ -345,6 +356,20 @@ fn put_names(version: Version, bytes: &[u8], names: &mut Names) -> bool
     are_unused(&bytes[FIELDS_LENGTH..], version.places()) || put_used(version, bytes, names)
 }
 
+/// The number of the site that a whole record of a stream of this version says, 0 where it says none.
+/// Requires: there are at least `RECORD_LENGTH` bytes.
+#[tactic(auto, unfolding(crate::specs::Reading::site_at))]
+pub fn site_of(version: Version, bytes: &[u8]) -> u16
+    requires { RECORD_LENGTH ≤ length bytes.now }
+    ensures { result ≡ site_at version bytes.now }
+{
+    if version.has_sites() {
+        LittleEndian::read_u16(&bytes[6..])
+    } else {
+        0
+    }
+}
+
 /// What a whole record says in the stream of this header, or its first fault.
 /// Requires: there are the bytes of a record.
 #[inline(always)]
@@ -356,7 +381,7 @@ pub fn read_event(header: Header, bytes: &[u8]) -> Result<Event, RecordError>
     if bytes[0] > END {
         return Err(RecordError::BadKind);
     }
-    if let Some(place) = first_bad_field(bytes) {
+    if let Some(place) = first_bad_field(header.version, bytes) {
         return Err(RecordError::BadField(place));
     }
     let kind = read_kind(bytes);

@@ -1,10 +1,14 @@
 -- Bytes that are read as a launch are inputs one after another, each of which is one stream.
-use Rattle.std.proofs.Common.{◌≡◌, ℕ, zero, suc, ◌≤◌, Bool, true, false, cond, List, [], ◌∷◌, ◌++◌, length, Result, Ok, Err, refl, sym, ap, ◌∙◌, arith, append_assoc, eqb-true}
+use Rattle.std.proofs.Common.{◌≡◌, ℕ, zero, suc, ◌≤◌, Bool, true, false, cond, List, [], ◌∷◌, ◌++◌, length, Result, Ok, Err, refl, sym, ap, subst, ◌∙◌, arith, append_assoc, eqb-true}
 use Rattle.std.specs.Prelude.{◌==◌}
 use Rattle.std.proofs.lemmas.List.{length-append, nil_from_length}
+use Rattle.gr_model.specs.declared.event.Event.{Event}
+use Rattle.gr_model.specs.Streams.{is_complete}
 use Rattle.gr_record.specs.declared.fault.Fault.{Fault}
 use Rattle.gr_record.specs.Laws.{AreBytes}
+use Rattle.gr_record.specs.Sites.{all_sited}
 use Rattle.gr_record.specs.Spelling.{events_spelling, header_spelling}
+use Rattle.gr_record.proofs.FoundPrefixes.{events_sited}
 use Rattle.gr_text.specs.Dumps.{WholeStream}
 use Rattle.gr_text.specs.Wholes.{IsWhole}
 use Rattle.gr_text.proofs.Streaming.{events_found, header_found}
@@ -26,12 +30,13 @@ part : (bytes : List ℕ) (f : Flat) (rest : List ℕ) → AreBytes bytes → Be
 part bytes f rest fits begins =
     let h = header_found bytes fits f.header begins.behind begins.header in
     let e = events_found f.header begins.behind h.fits f.events rest begins.records in
-    let s : WholeStream = record { header = f.header; events = f.events } in
-    let whole : IsWhole s = record { prefix = record { header = h.header; runs = e.runs; few = e.few }; ended = e.ended } in
+    let s : WholeStream = record { header = f.header; records = all_sited f.header.version f.events begins.behind } in
+    let events = events_sited f.header.version f.events begins.behind in
+    let whole : IsWhole s = record { prefix = record { header = h.header; runs = e.runs; few = e.few }; ended = ap is_complete events ∙ e.ended } in
     record {
       front = spelled s;
-      parts = h.parts ∙ (ap (λ (v : List ℕ). header_spelling f.header ++ v) e.parts ∙ sym (append_assoc (header_spelling f.header) (events_spelling f.header.version f.events) rest));
-      is = whole_is s whole;
+      parts = h.parts ∙ (ap (λ (v : List ℕ). header_spelling f.header ++ v) e.parts ∙ sym (append_assoc (header_spelling f.header) (events_spelling f.header.version s.records) rest));
+      is = subst (λ (es : List Event). IsStreamOf (spelled s) (record { header = f.header; events = es })) events (whole_is s whole);
       fits = e.fits;
     }
 

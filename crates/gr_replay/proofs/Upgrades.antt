@@ -18,7 +18,7 @@ use Rattle.gr_text.proofs.UpgradedStreams.{twice, upgraded_are_streams}
 use Rattle.gr_intake.specs.Joined.{Flat, ◌>>=◌, joined_of}
 use Rattle.gr_intake.specs.Launch.{IsLaunchOf}
 use Rattle.gr_replay.specs.Each.{ReadsEach, each_of}
-use Rattle.gr_replay.specs.Laws.{AreUpgraded, UpgradedAreOneLaunch, UpgradedHaveOneReport, UpgradedInputsAreOneLaunch, UpgradedInputsHaveOneReport}
+use Rattle.gr_replay.specs.Laws.{AreUpgraded, siteless, SitesAreNotRead, SitesAreNotJudged, UpgradedAreOneLaunch, UpgradedHaveOneReport, UpgradedInputsAreOneLaunch, UpgradedInputsHaveOneReport}
 use Rattle.gr_replay.proofs.Alone.{IsStreamOf, alone, checked, header_long}
 use Rattle.gr_replay.proofs.JoinedInputs.{AreStreamsOf, all_checked, all_of, each_checked, each_is}
 use Rattle.gr_replay.proofs.OneLaunch.{IsReadAs, read, same_read}
@@ -104,35 +104,32 @@ alike r q fs gs one other same s (seen, is, launch) =
 
 -- ---- whole streams
 
-abbrev pub flat_of : WholeStream → Flat
-flat_of s = record { header = s.header; events = s.events }
-
 abbrev pub spelled : WholeStream → List ℕ
-spelled s = stream_spelling s.header s.events
+spelled s = stream_spelling s.header s.records
 
-pub whole_is : (s : WholeStream) → IsWhole s → IsStreamOf (spelled s) (flat_of s)
+pub whole_is : (s : WholeStream) → IsWhole s → IsStreamOf (spelled s) (siteless s)
 whole_is s whole =
     let prefix = whole.prefix in
-    let events = events_spelling s.header.version s.events in
+    let events = events_spelling s.header.version s.records in
     record {
       behind = events;
       header = header_before s.header events prefix.header;
-      records = ap (front_records_at s.header) (sym (append-nil events)) ∙ events_before s.header (header_items s.header prefix.header) s.events [] prefix.runs whole.ended prefix.few;
+      records = ap (front_records_at s.header) (sym (append-nil events)) ∙ events_before s.header (header_items s.header prefix.header) s.records [] prefix.runs whole.ended prefix.few;
     }
 
-wholes_are : (ss : List WholeStream) → All IsWhole ss → AreStreamsOf (map spelled ss) (map flat_of ss)
+wholes_are : (ss : List WholeStream) → All IsWhole ss → AreStreamsOf (map spelled ss) (map siteless ss)
 wholes_are [] whole = tt
 wholes_are (s ∷ ss) whole = (whole_is s (whole 0 s (omega arith)), wholes_are ss (λ k d lt. whole (suc k) d (omega (arith, lt))))
 
-wholes_read : (ss : List WholeStream) → All IsWhole ss → joined_of (bytes_of ss) ≡ all_checked [] (map flat_of ss)
-wholes_read ss whole = ap joined_of (sym (flat_map-map (λ (b : List ℕ). b) spelled ss)) ∙ all_of (map spelled ss) (map flat_of ss) (wholes_are ss whole)
+wholes_read : (ss : List WholeStream) → All IsWhole ss → joined_of (bytes_of ss) ≡ all_checked [] (map siteless ss)
+wholes_read ss whole = ap joined_of (sym (flat_map-map (λ (b : List ℕ). b) spelled ss)) ∙ all_of (map spelled ss) (map siteless ss) (wholes_are ss whole)
 
-flats_up : (ss : List WholeStream) → map up (map flat_of ss) ≡ map flat_of (map upgraded_stream ss)
+flats_up : (ss : List WholeStream) → map up (map siteless ss) ≡ map siteless (map upgraded_stream ss)
 flats_up [] = refl
-flats_up (s ∷ ss) = ap (λ (l : List Flat). up (flat_of s) ∷ l) (flats_up ss)
+flats_up (s ∷ ss) = ap (λ (l : List Flat). up (siteless s) ∷ l) (flats_up ss)
 
-same_up : (ss ts : List WholeStream) → map upgraded_stream ss ≡ map upgraded_stream ts → map up (map flat_of ss) ≡ map up (map flat_of ts)
-same_up ss ts same = flats_up ss ∙ (ap (map flat_of) same ∙ sym (flats_up ts))
+same_up : (ss ts : List WholeStream) → map upgraded_stream ss ≡ map upgraded_stream ts → map up (map siteless ss) ≡ map up (map siteless ts)
+same_up ss ts same = flats_up ss ∙ (ap (map siteless) same ∙ sym (flats_up ts))
 
 -- ---- bytes
 
@@ -141,8 +138,8 @@ upgraded_are_one_launch bytes out s fits e =
     let w = upgraded_are_streams bytes out fits e in
     let ss = w.0 in
     let ts = map upgraded_stream ss in
-    let fs = map flat_of ss in
-    let gs = map flat_of ts in
+    let fs = map siteless ss in
+    let gs = map siteless ts in
     let one : joined_of bytes ≡ all_checked [] fs = ap joined_of w.2 ∙ wholes_read ss w.1 in
     let other : joined_of out ≡ all_checked [] gs = ap joined_of w.4 ∙ wholes_read ts w.3 in
     let same = same_up ss ts (sym (twice ss)) in
@@ -160,14 +157,14 @@ one_long s more = omega arith
 wholes_go : (ss ts : List WholeStream) → All IsWhole ss → All IsWhole ts → map upgraded_stream ss ≡ map upgraded_stream ts → Goes (bytes_of ss) (bytes_of ts)
 wholes_go [] ts whole also same f is = let long = header_long [] _ is.header in absurd (omega (arith, long))
 wholes_go (s ∷ t ∷ ss) ts whole also same f is =
-    let none = (alone (spelled s) (bytes_of (t ∷ ss)) (flat_of s) f (whole_is s (whole 0 s (omega arith))) is).1 in
+    let none = (alone (spelled s) (bytes_of (t ∷ ss)) (siteless s) f (whole_is s (whole 0 s (omega arith))) is).1 in
     absurd (omega (arith, ap length none, one_long t (bytes_of ss)))
 wholes_go (s ∷ []) [] whole also same f is = absurd cc
 wholes_go (s ∷ []) (t ∷ u ∷ ts) whole also same f is = absurd cc
 wholes_go (s ∷ []) (t ∷ []) whole also same f is =
     let first : upgraded_stream s ≡ upgraded_stream t = cc in
-    let one = (alone (spelled s) [] (flat_of s) f (whole_is s (whole 0 s (omega arith))) is).0 in
-    (flat_of t, subst (λ (b : List ℕ). IsStreamOf b (flat_of t)) (sym (append-nil (spelled t))) (whole_is t (also 0 t (omega arith))), sym (ap up one) ∙ ap flat_of first)
+    let one = (alone (spelled s) [] (siteless s) f (whole_is s (whole 0 s (omega arith))) is).0 in
+    (siteless t, subst (λ (b : List ℕ). IsStreamOf b (siteless t)) (sym (append-nil (spelled t))) (whole_is t (also 0 t (omega arith))), sym (ap up one) ∙ ap siteless first)
 
 abbrev AllGo : List (List ℕ) → List (List ℕ) → Type 0
 AllGo [] [] = Unit {0}
@@ -216,6 +213,18 @@ launch_goes inputs outs s go reads =
 
 pub upgraded_inputs_are_one_launch : UpgradedInputsAreOneLaunch
 upgraded_inputs_are_one_launch inputs outs s are = let go = all_go inputs outs are in (launch_goes inputs outs s go.0, launch_goes outs inputs s go.1)
+
+-- ---- sites
+
+pub sites_are_not_read : SitesAreNotRead
+sites_are_not_read ss ts whole also same = wholes_read ss whole ∙ ap (all_checked []) same ∙ sym (wholes_read ts also)
+
+pub sites_are_not_judged : SitesAreNotJudged
+sites_are_not_judged ss ts r whole also same =
+    let e = sites_are_not_read ss ts whole also same in (
+      (λ x. record { launch = x.launch; spelled = (x.spelled.0, sym e ∙ x.spelled.1, x.spelled.2); accepted = x.accepted; exact = x.exact }),
+      (λ x. record { launch = x.launch; spelled = (x.spelled.0, e ∙ x.spelled.1, x.spelled.2); accepted = x.accepted; exact = x.exact }),
+    )
 
 -- ---- reports
 

@@ -1,13 +1,15 @@
 -- What follows of what is read of bytes and of inputs: the launch, and its report.
 -- Source: docs/FORMATS.md, "Stream" and "Several streams", and docs/MODEL.md, "The report".
-use Rattle.std.specs.Prelude.{◌≡◌, ◌⊎◌, ◌↔◌, ℕ, List, [], ◌∷◌, All, Ok, ⊤}
+use Rattle.std.specs.Prelude.{◌≡◌, ◌⊎◌, ◌↔◌, ℕ, List, [], ◌∷◌, map, All, Ok, ⊤}
 use Rattle.std.specs.List.{flat_map}
 use Rattle.std.specs.List.Sorted.{IsPermutation}
 use Rattle.gr_model.specs.Reports.{WholeReport}
 use Rattle.gr_model.specs.Streams.{Streams}
 use Rattle.gr_record.specs.Laws.{AreBytes}
-use Rattle.gr_text.specs.Dumps.{upgraded}
-use Rattle.gr_intake.specs.Joined.{Flat}
+use Rattle.gr_record.specs.Sites.{events_of}
+use Rattle.gr_text.specs.Dumps.{WholeStream, upgraded}
+use Rattle.gr_text.specs.Wholes.{IsWhole, bytes_of}
+use Rattle.gr_intake.specs.Joined.{Flat, joined_of}
 use Rattle.gr_intake.specs.Launch.{Reads}
 use Rattle.gr_replay.specs.Each.{ReadsEach, only_stream_at}
 use Rattle.gr_replay.specs.Replays.{IsExact, IsExactOfEach}
@@ -63,6 +65,20 @@ InputsInAnyOrder = (inputs others : List (List ℕ)) (s : Streams) → IsPermuta
 -- and have its report
 abbrev pub ReportInAnyOrder : Type 0
 ReportInAnyOrder = (inputs others : List (List ℕ)) (r : WholeReport) → IsPermutation inputs others → IsExactOfEach inputs r → IsExactOfEach others r
+
+-- ---- the same streams with other sites
+
+-- a stream without the sites of its records
+abbrev pub siteless : WholeStream → Flat
+siteless s = record { header = s.header; events = events_of s.records }
+
+-- streams that differ in their sites alone are read as the same, or refused for the same
+abbrev pub SitesAreNotRead : Type 0
+SitesAreNotRead = (ss ts : List WholeStream) → All IsWhole ss → All IsWhole ts → map siteless ss ≡ map siteless ts → joined_of (bytes_of ss) ≡ joined_of (bytes_of ts)
+
+-- and have the same report
+abbrev pub SitesAreNotJudged : Type 0
+SitesAreNotJudged = (ss ts : List WholeStream) (r : WholeReport) → All IsWhole ss → All IsWhole ts → map siteless ss ≡ map siteless ts → IsExact (bytes_of ss) r ↔ IsExact (bytes_of ts) r
 
 -- ---- the same streams in version 2
 

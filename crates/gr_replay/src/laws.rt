@@ -2,7 +2,7 @@
 //! nothing.
 
 ghost use Rattle.gr_intake.specs.Laws.{JoinedAreStreams};
-ghost use Rattle.gr_replay.specs.Laws.{BytesAreInputs, BytesAreOneLaunch, BytesHaveOneReport, InputsAreJoined, InputsAreOneLaunch, InputsHaveOneReport, InputsInAnyOrder, JoinedReportIsEqual, JoinedReportIsSame, ReportInAnyOrder, UpgradedAreOneLaunch, UpgradedHaveOneReport, UpgradedInputsAreOneLaunch, UpgradedInputsHaveOneReport};
+ghost use Rattle.gr_replay.specs.Laws.{BytesAreInputs, BytesAreOneLaunch, BytesHaveOneReport, InputsAreJoined, InputsAreOneLaunch, InputsHaveOneReport, InputsInAnyOrder, JoinedReportIsEqual, JoinedReportIsSame, ReportInAnyOrder, SitesAreNotJudged, SitesAreNotRead, UpgradedAreOneLaunch, UpgradedHaveOneReport, UpgradedInputsAreOneLaunch, UpgradedInputsHaveOneReport};
 
 /// Streams that are read are complete lists that their groups may have, of groups that differ and of one launch.
 pub fn joined_are_streams()
@@ -30,6 +30,12 @@ pub fn inputs_are_joined()
 pub fn inputs_come_in_any_order()
     ensures launch { InputsInAnyOrder }
     ensures report { ReportInAnyOrder }
+{}
+
+/// Streams of which records say other sites, or none, are read as the same streams, and have the same report.
+pub fn sites_are_not_judged()
+    ensures streams { SitesAreNotRead }
+    ensures report { SitesAreNotJudged }
 {}
 
 /// Bytes and what they are upgraded to are the streams of the same launch, and have the same report. So it is with inputs of

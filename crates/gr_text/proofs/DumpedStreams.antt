@@ -8,13 +8,15 @@ use Rattle.gr_model.specs.declared.event.Event.{Event}
 use Rattle.gr_record.specs.declared.error.RecordError.{RecordError}
 use Rattle.gr_record.specs.declared.fault.Fault.{Fault}
 use Rattle.gr_record.specs.declared.header.Header.{Header}
-use Rattle.gr_lines.specs.declared.line.Line.TheVariants as lines
+use Rattle.gr_model.specs.Streams.{is_complete}
+use Rattle.gr_record.specs.Sites.{Sited, all_sited}
+use Rattle.gr_record.proofs.FoundPrefixes.{events_sited}
 use Rattle.gr_record.specs.Laws.{AreBytes}
 use Rattle.gr_record.specs.Spelling.{header_spelling, events_spelling}
 use Rattle.gr_record.specs.WholeStreams.{front_header_at, front_records_at, stream_spelling}
 use Rattle.std.proofs.lemmas.List.Concat.{flat_map-append}
 use Rattle.gr_text.specs.declared.forming.Form.TheVariants.{Text}
-use Rattle.gr_text.specs.Texts.{◌>>=◌, whole_line}
+use Rattle.gr_text.specs.Texts.{◌>>=◌, header_line, record_line, whole_line}
 use Rattle.gr_text.specs.Dumps.{WholeStream, parts_in, at_place, formed, stream_at, streams_at, streams_in}
 use Rattle.gr_text.specs.Wholes.{IsWhole, bytes_of, text_of, DumpedAreStreams}
 use Rattle.gr_text.proofs.Streaming.{header_found, events_found}
@@ -52,7 +54,7 @@ all_none P k d lt = absurd (omega arith)
 
 pub record StreamFound (bytes : List ℕ) (x : Found) : Type 0 where
   pub whole : IsWhole x.0
-  pub spelled : bytes ≡ stream_spelling x.0.header x.0.events ++ x.1
+  pub spelled : bytes ≡ stream_spelling x.0.header x.0.records ++ x.1
   pub fits : AreBytes x.1
   pub shorter : length x.1 < length bytes
 
@@ -60,21 +62,22 @@ pub stream_found : (place : ℕ) (bytes : List ℕ) → AreBytes bytes → (x : 
 unfolding stream_at
 stream_found place bytes fits x e = by_header (front_header_at bytes) refl e
   where
-    by_records : (h : Header) (mid : List ℕ) → front_header_at bytes ≡ Ok (h, mid) → (r : Result (List Event × List ℕ) RecordError) → front_records_at h mid ≡ r → (at_place place r >>= λ y. found (record { header = h; events = y.0 }, y.1)) ≡ Ok x → StreamFound bytes x
+    by_records : (h : Header) (mid : List ℕ) → front_header_at bytes ≡ Ok (h, mid) → (r : Result (List Event × List ℕ) RecordError) → front_records_at h mid ≡ r → (at_place place r >>= λ y. found (record { header = h; records = all_sited h.version y.0 mid }, y.1)) ≡ Ok x → StreamFound bytes x
     by_records h mid head (Err d) is k = cc
     by_records h mid head (Ok (es, after)) is k =
         let hf = header_found bytes fits h mid head in
         let ef = events_found h mid hf.fits es after is in
-        let spelled : bytes ≡ header_spelling h ++ events_spelling h.version es ++ after = hf.parts ∙ ap (λ (v : List ℕ). header_spelling h ++ v) ef.parts ∙ sym (append_assoc (header_spelling h) (events_spelling h.version es) after) in
-        let one : StreamFound bytes (record { header = h; events = es }, after) = record {
-          whole = record { prefix = record { header = hf.header; runs = ef.runs; few = ef.few }; ended = ef.ended };
+        let rs = all_sited h.version es mid in
+        let spelled : bytes ≡ header_spelling h ++ events_spelling h.version rs ++ after = hf.parts ∙ ap (λ (v : List ℕ). header_spelling h ++ v) ef.parts ∙ sym (append_assoc (header_spelling h) (events_spelling h.version rs) after) in
+        let one : StreamFound bytes (record { header = h; records = rs }, after) = record {
+          whole = record { prefix = record { header = hf.header; runs = ef.runs; few = ef.few }; ended = ap is_complete (events_sited h.version es mid) ∙ ef.ended };
           spelled = spelled;
           fits = ef.fits;
-          shorter = omega (arith, ap length hf.parts, ap length ef.parts, length-append (header_spelling h) mid, length-append (events_spelling h.version es) after, header_long h);
+          shorter = omega (arith, ap length hf.parts, ap length ef.parts, length-append (header_spelling h) mid, length-append (events_spelling h.version rs) after, header_long h);
         } in
-        subst (StreamFound bytes) (same_found (record { header = h; events = es }, after) x k) one
+        subst (StreamFound bytes) (same_found (record { header = h; records = rs }, after) x k) one
 
-    by_header : (r : Result (Header × List ℕ) RecordError) → front_header_at bytes ≡ r → (at_place place r >>= λ h. at_place place (front_records_at h.0 h.1) >>= λ y. found (record { header = h.0; events = y.0 }, y.1)) ≡ Ok x → StreamFound bytes x
+    by_header : (r : Result (Header × List ℕ) RecordError) → front_header_at bytes ≡ r → (at_place place r >>= λ h. at_place place (front_records_at h.0 h.1) >>= λ y. found (record { header = h.0; records = all_sited h.0.version y.0 h.1 }, y.1)) ≡ Ok x → StreamFound bytes x
     by_header (Err d) is k = cc
     by_header (Ok (h, mid)) is k = by_records h mid is (front_records_at h mid) refl k
 
@@ -103,7 +106,7 @@ streams_found (suc most) place bytes fits le xs e =
         let more = later x.1 one.fits one.shorter ys is in
         subst (StreamsFound bytes) (same_all (x.0 ∷ ys) xs k) (record {
           whole = all_before IsWhole x.0 ys one.whole more.whole;
-          spelled = one.spelled ∙ ap (λ (v : List ℕ). stream_spelling x.0.header x.0.events ++ v) more.spelled;
+          spelled = one.spelled ∙ ap (λ (v : List ℕ). stream_spelling x.0.header x.0.records ++ v) more.spelled;
         })
 
     by_stream : (r : Result Found Fault) → stream_at place bytes ≡ r → (r >>= λ s. streams_at most (place + 1) s.1 >>= λ ys. all (s.0 ∷ ys)) ≡ Ok xs → Later most place bytes → StreamsFound bytes xs
@@ -116,14 +119,14 @@ streams_found (suc most) place bytes fits le xs e =
 
 -- ---- their text
 
-events_text : (es : List Event) → flat_map (λ (e : Event). whole_line (lines.Event e)) es ≡ flat_map whole_line (map lines.Event es)
-events_text [] = refl
-events_text (e ∷ es) = ap (λ (v : List ℕ). whole_line (lines.Event e) ++ v) (events_text es)
+pub records_text : (rs : List Sited) → flat_map (λ (r : Sited). whole_line (record_line r)) rs ≡ flat_map whole_line (map record_line rs)
+records_text [] = refl
+records_text (r ∷ rs) = ap (λ (v : List ℕ). whole_line (record_line r) ++ v) (records_text rs)
 
 pub streams_text : (ss : List WholeStream) → flat_map (formed Text) ss ≡ text_of ss
 streams_text [] = refl
 streams_text (s ∷ ss) =
-    ap₂ (λ (a b : List ℕ). whole_line (lines.Header s.header) ++ a ++ b) (events_text s.events) (streams_text ss) ∙ sym (flat_map-append whole_line (parts_in s) (flat_map parts_in ss))
+    ap₂ (λ (a b : List ℕ). whole_line (header_line s.header) ++ a ++ b) (records_text s.records) (streams_text ss) ∙ sym (flat_map-append whole_line (parts_in s) (flat_map parts_in ss))
 
 abbrev done : List ℕ → Result (List ℕ) Fault
 done x = Ok x

@@ -20,11 +20,12 @@ use Rattle.gr_record.specs.Fronts.{Records, records_of}
 use Rattle.gr_record.specs.Laws.{AreBytes}
 use Rattle.gr_record.specs.Spelling.{events_spelling, header_spelling}
 use Rattle.gr_record.specs.WholeStreams.{front_header_at, front_records_at, stream_spelling, up_to}
-use Rattle.gr_record.proofs.FoundPrefixes.{is_at_end, records_found}
-use Rattle.gr_lines.specs.declared.line.Line.{Line}
-use Rattle.gr_lines.specs.declared.line.Line.TheVariants as lines
+use Rattle.gr_record.proofs.FoundPrefixes.{events_sited, is_at_end, records_found}
+use Rattle.gr_lines.specs.declared.line.SitedLine.{SitedLine}
+use Rattle.gr_model.specs.Streams.{is_complete}
+use Rattle.gr_record.specs.Sites.{Sited, all_sited}
 use Rattle.gr_text.specs.declared.forming.Form.TheVariants.{Text}
-use Rattle.gr_text.specs.Texts.{◌>>=◌, whole_line}
+use Rattle.gr_text.specs.Texts.{◌>>=◌, header_line, record_line, whole_line}
 use Rattle.gr_text.specs.Dumps.{WholeStream, parts_in, at_place, dumped, formed, stream_at, streams_at, streams_in}
 use Rattle.gr_text.specs.Wholes.{IsWhole, bytes_of}
 use Rattle.gr_text.specs.Writes.{Writes}
@@ -53,9 +54,9 @@ all x = Ok x
 same_all : (x y : List WholeStream) → all x ≡ all y → x ≡ y
 same_all x y e = cc
 
--- the records of a stream of this header, as the stream at a place
-abbrev streamed : ℕ → Header → Result (List Event × List ℕ) RecordError → Result Found Fault
-streamed place h r = at_place place r >>= λ y. found (record { header = h; events = y.0 }, y.1)
+-- the records of a stream of this header, which are read of these bytes, as the stream at a place
+abbrev streamed : ℕ → Header → List ℕ → Result (List Event × List ℕ) RecordError → Result Found Fault
+streamed place h mid r = at_place place r >>= λ y. found (record { header = h; records = all_sited h.version y.0 mid }, y.1)
 
 -- ---- one stream
 
@@ -68,16 +69,16 @@ stands_whole : (place : ℕ) (bytes : List ℕ) (x : Found) → stream_at place 
 unfolding stream_at front_records_at
 stands_whole place bytes x e = by_header (front_header_at bytes) e
   where
-    by_stop : (h : Header) (stop : Stop) (events : List Event) (rest : List ℕ) → streamed place h (up_to stop events rest) ≡ Ok x → StandsWhole x (record { lines = lines.Header h ∷ map lines.Event events; behind = behind_end stop rest })
-    by_stop h Inside events rest k = absurd cc
-    by_stop h AtEnd events rest k =
-        let same = same_found (record { header = h; events = events }, rest) x k in
+    by_stop : (h : Header) (mid : List ℕ) (stop : Stop) (events : List Event) (rest : List ℕ) → streamed place h mid (up_to stop events rest) ≡ Ok x → StandsWhole x (record { lines = header_line h ∷ map record_line (all_sited h.version events mid); behind = behind_end stop rest })
+    by_stop h mid Inside events rest k = absurd cc
+    by_stop h mid AtEnd events rest k =
+        let same = same_found (record { header = h; records = all_sited h.version events mid }, rest) x k in
         record { lines = ap (λ (y : Found). parts_in y.0) same; behind = ap (λ (y : Found). Some y.1) same }
-    by_stop h (AtFault d) events rest k = absurd cc
+    by_stop h mid (AtFault d) events rest k = absurd cc
 
-    by_header : (r : Result (Header × List ℕ) RecordError) → (at_place place r >>= λ h. streamed place h.0 (front_records_at h.0 h.1)) ≡ Ok x → StandsWhole x (front_behind r)
+    by_header : (r : Result (Header × List ℕ) RecordError) → (at_place place r >>= λ h. streamed place h.0 h.1 (front_records_at h.0 h.1)) ≡ Ok x → StandsWhole x (front_behind r)
     by_header (Err d) k = absurd cc
-    by_header (Ok (h, mid)) k = let r = records_of h MOST_RECORDS mid in by_stop h r.stop r.events r.rest k
+    by_header (Ok (h, mid)) k = let r = records_of h MOST_RECORDS mid in by_stop h mid r.stop r.events r.rest k
 
 -- of a refused stream nothing is left behind, and what stands before the fault is what is read of it
 record StandsRefused (place : ℕ) (bytes : List ℕ) (p : ℕ) (e : RecordError) (front : Front) : Type 0 where
@@ -90,26 +91,29 @@ module _ (place : ℕ) (bytes : List ℕ) (fits : AreBytes bytes) (p : ℕ) (e :
     abbrev taken : Records
     taken = records_of h MOST_RECORDS mid
 
-    refused_behind : front_records_at h mid ≡ Err e → is_at_end taken.stop ≡ false → IsRefusedBehind e bytes (lines.Header h ∷ map lines.Event taken.events)
+    abbrev told : List Sited
+    told = all_sited h.version taken.events mid
+
+    refused_behind : front_records_at h mid ≡ Err e → is_at_end taken.stop ≡ false → IsRefusedBehind e bytes (header_line h ∷ map record_line told)
     refused_behind refused apart =
         let hf = header_found bytes fits h mid head in
         let rf = records_found h MOST_RECORDS mid hf.fits in
         record {
-          stream = record { header = h; events = taken.events };
+          stream = record { header = h; records = told };
           prefix = record { header = hf.header; runs = rf.runs; few = rf.few };
-          unended = rf.complete ∙ apart;
+          unended = ap is_complete (events_sited h.version taken.events mid) ∙ rf.complete ∙ apart;
           left = taken.rest;
-          parts = hf.parts ∙ ap (λ (v : List ℕ). header_spelling h ++ v) rf.parts ∙ sym (append_assoc (header_spelling h) (events_spelling h.version taken.events) taken.rest);
+          parts = hf.parts ∙ ap (λ (v : List ℕ). header_spelling h ++ v) rf.parts ∙ sym (append_assoc (header_spelling h) (events_spelling h.version told) taken.rest);
           refused = ap (front_records_at h) (sym rf.parts) ∙ refused;
           lines = refl;
         }
 
-    refused_for : (d : RecordError) → front_records_at h mid ≡ Err d → is_at_end taken.stop ≡ false → (left : Option (List ℕ)) → left ≡ None → streamed place h (Err d) ≡ Err (faults.Stream p e) → StandsRefused place bytes p e (record { lines = lines.Header h ∷ map lines.Event taken.events; behind = left })
+    refused_for : (d : RecordError) → front_records_at h mid ≡ Err d → is_at_end taken.stop ≡ false → (left : Option (List ℕ)) → left ≡ None → streamed place h mid (Err d) ≡ Err (faults.Stream p e) → StandsRefused place bytes p e (record { lines = header_line h ∷ map record_line told; behind = left })
     refused_for d refused apart left is k =
         let same = same_error place p d e k in
         record { at = same.0; none_left = is; stands = inr (refused_behind (refused ∙ ap Err same.1) apart) }
 
-    by_stop : (stop : Stop) → taken.stop ≡ stop → streamed place h (up_to stop taken.events taken.rest) ≡ Err (faults.Stream p e) → StandsRefused place bytes p e (record { lines = lines.Header h ∷ map lines.Event taken.events; behind = behind_end stop taken.rest })
+    by_stop : (stop : Stop) → taken.stop ≡ stop → streamed place h mid (up_to stop taken.events taken.rest) ≡ Err (faults.Stream p e) → StandsRefused place bytes p e (record { lines = header_line h ∷ map record_line told; behind = behind_end stop taken.rest })
     unfolding front_records_at
     by_stop Inside is k = refused_for errors.Truncated (ap (λ (s : Stop). up_to s taken.events taken.rest) is) (ap is_at_end is) None refl k
     by_stop AtEnd is k = absurd cc
@@ -119,7 +123,7 @@ module _ (place : ℕ) (bytes : List ℕ) (fits : AreBytes bytes) (p : ℕ) (e :
   unfolding stream_at front_records_at
   stands_refused k = by_header (front_header_at bytes) refl k
     where
-      by_header : (r : Result (Header × List ℕ) RecordError) → front_header_at bytes ≡ r → (at_place place r >>= λ h. streamed place h.0 (front_records_at h.0 h.1)) ≡ Err (faults.Stream p e) → StandsRefused place bytes p e (front_behind r)
+      by_header : (r : Result (Header × List ℕ) RecordError) → front_header_at bytes ≡ r → (at_place place r >>= λ h. streamed place h.0 h.1 (front_records_at h.0 h.1)) ≡ Err (faults.Stream p e) → StandsRefused place bytes p e (front_behind r)
       by_header (Err d) is c = let same = same_error place p d e c in record { at = same.0; none_left = refl; stands = inl (is ∙ ap Err same.1, refl) }
       by_header (Ok (h, mid)) is c = by_stop h mid is (records_of h MOST_RECORDS mid).stop refl c
 
@@ -142,7 +146,7 @@ all_stand (suc most) place bytes xs e = by_length (length bytes == 0) refl e (λ
         → ((rest : List ℕ) (ys : List WholeStream) → streams_at most (place + 1) rest ≡ Ok ys → lines_before most rest ≡ flat_map parts_in ys) → lines_before (suc most) bytes ≡ flat_map parts_in xs
     by_rest x one (Err f) is k later = absurd cc
     by_rest x one (Ok ys) is k later =
-        one_more most bytes (Some x.1) one.behind ∙ ap (λ (v : List Line). v ++ lines_before most x.1) one.lines ∙ ap (λ (v : List Line). parts_in x.0 ++ v) (later x.1 ys is) ∙ ap (flat_map parts_in) (same_all (x.0 ∷ ys) xs k)
+        one_more most bytes (Some x.1) one.behind ∙ ap (λ (v : List SitedLine). v ++ lines_before most x.1) one.lines ∙ ap (λ (v : List SitedLine). parts_in x.0 ++ v) (later x.1 ys is) ∙ ap (flat_map parts_in) (same_all (x.0 ∷ ys) xs k)
 
     by_stream : (r : Result Found Fault) → stream_at place bytes ≡ r → (r >>= λ s. streams_at most (place + 1) s.1 >>= λ ys. all (s.0 ∷ ys)) ≡ Ok xs
         → ((rest : List ℕ) (ys : List WholeStream) → streams_at most (place + 1) rest ≡ Ok ys → lines_before most rest ≡ flat_map parts_in ys) → lines_before (suc most) bytes ≡ flat_map parts_in xs
@@ -154,13 +158,13 @@ all_stand (suc most) place bytes xs e = by_length (length bytes == 0) refl e (λ
     by_length true is k later = ap (lines_before (suc most)) (none bytes (eqb-true (length bytes) 0 is)) ∙ nothing_left most ∙ ap (flat_map parts_in) (same_all [] xs k)
     by_length false is k later = by_stream (stream_at place bytes) refl k later
 
-record StandsAt (place p : ℕ) (e : RecordError) (bytes : List ℕ) (xs : List Line) : Type 0 where
+record StandsAt (place p : ℕ) (e : RecordError) (bytes : List ℕ) (xs : List SitedLine) : Type 0 where
   streams : List WholeStream
   whole : All IsWhole streams
   count : place + length streams ≡ p
   rest : List ℕ
   parts : bytes ≡ bytes_of streams ++ rest
-  lines : List Line
+  lines : List SitedLine
   front : IsRefusedAtHeader e rest lines ⊎ IsRefusedBehind e rest lines
   is : xs ≡ flat_map parts_in streams ++ lines
 
@@ -192,11 +196,11 @@ stands_at p e (suc most) place bytes fits k = by_length (length bytes == 0) k (�
           whole = all_before IsWhole x.0 more.streams s.whole more.whole;
           count = omega (arith, more.count);
           rest = more.rest;
-          parts = s.spelled ∙ ap (λ (v : List ℕ). stream_spelling x.0.header x.0.events ++ v) more.parts ∙ sym (append_assoc (stream_spelling x.0.header x.0.events) (bytes_of more.streams) more.rest);
+          parts = s.spelled ∙ ap (λ (v : List ℕ). stream_spelling x.0.header x.0.records ++ v) more.parts ∙ sym (append_assoc (stream_spelling x.0.header x.0.records) (bytes_of more.streams) more.rest);
           lines = more.lines;
           front = more.front;
           is =
-              one_more most bytes (Some x.1) w.behind ∙ ap (λ (v : List Line). v ++ lines_before most x.1) w.lines ∙ ap (λ (v : List Line). parts_in x.0 ++ v) more.is
+              one_more most bytes (Some x.1) w.behind ∙ ap (λ (v : List SitedLine). v ++ lines_before most x.1) w.lines ∙ ap (λ (v : List SitedLine). parts_in x.0 ++ v) more.is
               ∙ sym (append_assoc (parts_in x.0) (flat_map parts_in more.streams) more.lines);
         }
 

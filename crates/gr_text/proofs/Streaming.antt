@@ -1,5 +1,5 @@
 -- The streams in a list of bytes, one after another, as a loop reads them.
-use Rattle.std.proofs.Common.{◌≡◌, ℕ, zero, suc, ◌+◌, ◌-◌, ◌<◌, ◌≤◌, Bool, true, false, cond, List, [], ◌∷◌, ◌++◌, length, drop, map, All, Result, Ok, Err, refl, sym, ap, subst, ◌∙◌, append_assoc, arith, IsTrue, ltb}
+use Rattle.std.proofs.Common.{◌≡◌, ℕ, zero, suc, ◌+◌, ◌-◌, ◌<◌, ◌≤◌, Bool, true, false, cond, List, [], ◌∷◌, ◌++◌, length, drop, Some, Result, Ok, Err, refl, sym, ap, subst, ◌∙◌, append_assoc, arith, IsTrue, ltb}
 use Rattle.std.specs.Prelude.{◌==◌}
 use Rattle.std.proofs.lemmas.Bool.{ltb-false}
 use Rattle.std.proofs.lemmas.List.{append-nil, get_or-append-add}
@@ -7,8 +7,7 @@ use Rattle.std.specs.List.{flat_map}
 use Rattle.gr_input.specs.Faults.{Fails}
 use Rattle.gr_input.proofs.Outside.{fails_through}
 use Rattle.gr_model.specs.declared.event.Event.{Event}
-use Rattle.gr_model.specs.declared.limits.TheConstants.{MOST_ITEMS_OF_A_GROUP, MOST_RECORDS}
-use Rattle.gr_model.specs.Events.{IsEventOk}
+use Rattle.gr_model.specs.declared.limits.TheConstants.{MOST_RECORDS}
 use Rattle.gr_model.specs.Streams.{is_complete}
 use Rattle.gr_record.specs.declared.error.RecordError.{RecordError}
 use Rattle.gr_record.specs.declared.error.RecordError.TheVariants as errors
@@ -23,16 +22,17 @@ use Rattle.gr_record.specs.Fronts.{Records, records_of}
 use Rattle.gr_record.specs.PrefixLaws.{Runs}
 use Rattle.gr_record.specs.Laws.{AreBytes}
 use Rattle.gr_record.specs.Reading.{header_at}
-use Rattle.gr_record.specs.Versions.{places}
+use Rattle.gr_record.specs.Sites.{all_sited}
 use Rattle.gr_record.specs.Spelling.{IsHeader, header_spelling, events_spelling}
 use Rattle.gr_record.specs.WholeStreams as record_spec
-use Rattle.gr_record.specs.WholeStreams.{front_header_at, front_records_at, up_to}
+use Rattle.gr_record.specs.WholeStreams.{behind_records_at, front_header_at, front_records_at, up_to}
 use Rattle.gr_record.proofs.Found.{read_header_is_spelled}
 use Rattle.gr_record.proofs.FoundPrefixes.{records_found}
 use Rattle.gr_record.proofs.Places.{bytes_drop}
 use Rattle.std.proofs.lemmas.List.{take-append-drop}
 use Rattle.gr_text.specs.declared.forming.Form.{Form}
 use Rattle.gr_text.specs.Texts.{◌>>=◌}
+use Rattle.gr_text.specs.Partial.{behind_end}
 use Rattle.gr_text.specs.Dumps.{WholeStream, stream_at, streams_at, formed, formed_event, formed_header, with_stream}
 
 -- ---- one stream
@@ -48,14 +48,45 @@ module _ (form : Form) (text : List ℕ) (place : ℕ) (bytes : List ℕ) where
   header_fails e h = fault_at-fails place e (front_header_at bytes) (with_stream form text (stream_at place bytes)) h (λ k. rw k refl)
 
   module _ (header : Header) (rest : List ℕ) (found : front_header_at bytes ≡ Ok (header, rest)) where
-    pub records_fail : (e : RecordError) → record_spec.Fails e (front_records_at header rest) → Fails (stream_fault place e) (with_stream form text (stream_at place bytes))
+    pub records_fail : (e : RecordError) → record_spec.Fails e (behind_records_at header rest) → Fails (stream_fault place e) (with_stream form text (stream_at place bytes))
     unfolding stream_at
-    records_fail e h = fault_at-fails place e (front_records_at header rest) (with_stream form text (stream_at place bytes)) h (λ k. rw (found, k) refl)
+    records_fail e h = fault_at-fails place e (behind_records_at header rest) (with_stream form text (stream_at place bytes)) h (λ k. rw (found, by_records (front_records_at header rest) e k) refl)
+      where
+        by_records : (r : Result (List Event × List ℕ) RecordError) (e : RecordError) → record_spec.◌>>=◌ {Y = List ℕ} r (λ x. Ok x.1) ≡ Err e → r ≡ Err e
+        by_records (Err d) e k = let same : d ≡ e = cc in ap (λ (x : RecordError). Err x) same
+        by_records (Ok x) e k = absurd cc
 
-    pub one_stream : (events : List Event) (after : List ℕ) → front_records_at header rest ≡ Ok (events, after) → with_stream form text (stream_at place bytes) ≡ Ok (text ++ formed_header form header ++ flat_map (formed_event form header.version) events, after)
+    -- the stream, where this stands behind its end
+    pub one_stream : (after : List ℕ) → front_records_at header rest ≡ Ok ((records_of header MOST_RECORDS rest).events, after)
+        → with_stream form text (stream_at place bytes) ≡ Ok (text ++ formed_header form header ++ flat_map (formed_event form header.version) (all_sited header.version (records_of header MOST_RECORDS rest).events rest), after)
     unfolding stream_at
-    one_stream events after k =
-        rw (found, k) (ap (λ (v : List ℕ). Ok (v, after)) (sym (append_assoc text (formed_header form header) (flat_map (formed_event form header.version) events))))
+    one_stream after k =
+        rw (found, k) (ap (λ (v : List ℕ). Ok (v, after)) (sym (append_assoc text (formed_header form header) (flat_map (formed_event form header.version) (all_sited header.version (records_of header MOST_RECORDS rest).events rest)))))
+
+-- the records up to an end are those that are read
+pub behind_end_is : (h : Header) (bytes after : List ℕ) → Some after ≡ behind_end (records_of h MOST_RECORDS bytes).stop (records_of h MOST_RECORDS bytes).rest → front_records_at h bytes ≡ Ok ((records_of h MOST_RECORDS bytes).events, after)
+unfolding front_records_at
+behind_end_is h bytes after k = by_stop (records_of h MOST_RECORDS bytes).stop k
+  where
+    read : Records
+    read = records_of h MOST_RECORDS bytes
+
+    by_stop : (s : Stop) → Some after ≡ behind_end s read.rest → up_to s read.events read.rest ≡ Ok (read.events, after)
+    by_stop Inside k = absurd cc
+    by_stop AtEnd k = let same : after ≡ read.rest = cc in ap (λ (v : List ℕ). Ok (read.events, v)) (sym same)
+    by_stop (AtFault e) k = absurd cc
+
+pub behind_records_are : (h : Header) (bytes after : List ℕ) → behind_records_at h bytes ≡ Ok after → front_records_at h bytes ≡ Ok ((records_of h MOST_RECORDS bytes).events, after)
+unfolding front_records_at
+behind_records_are h bytes after k = by_stop (records_of h MOST_RECORDS bytes).stop k
+  where
+    read : Records
+    read = records_of h MOST_RECORDS bytes
+
+    by_stop : (s : Stop) → record_spec.◌>>=◌ {Y = List ℕ} (up_to s read.events read.rest) (λ x. Ok x.1) ≡ Ok after → up_to s read.events read.rest ≡ Ok (read.events, after)
+    by_stop Inside k = absurd cc
+    by_stop AtEnd k = let same : read.rest ≡ after = cc in ap (λ (v : List ℕ). Ok (read.events, v)) same
+    by_stop (AtFault e) k = absurd cc
 
 -- ---- what is read is spelled so
 
@@ -89,9 +120,9 @@ header_found bytes fits h rest e = by_length (ltb (length bytes) HEADER_LENGTH) 
     by_length false is k = by_header (header_at bytes) refl (ltb-false (length bytes) HEADER_LENGTH is) k
 
 pub record RecordsFound (h : Header) (bytes : List ℕ) (events : List Event) (rest : List ℕ) : Type 0 where
-  pub parts : bytes ≡ events_spelling h.version events ++ rest
-  pub runs : Runs h events
-  pub few : length events ≤ MOST_RECORDS
+  pub parts : bytes ≡ events_spelling h.version (all_sited h.version events bytes) ++ rest
+  pub runs : Runs h (all_sited h.version events bytes)
+  pub few : length (all_sited h.version events bytes) ≤ MOST_RECORDS
   pub ended : IsTrue (is_complete events)
   pub fits : AreBytes rest
 
@@ -105,16 +136,10 @@ events_found h bytes fits events rest e = by_stop read.stop refl e
     by_stop : (s : Stop) → read.stop ≡ s → up_to s read.events read.rest ≡ Ok (events, rest) → RecordsFound h bytes events rest
     by_stop AtEnd is k =
         let f = records_found h MOST_RECORDS bytes fits in
-        let one : RecordsFound h bytes read.events read.rest = record { parts = f.parts; runs = f.runs; few = f.few; ended = rw is at f.complete; fits = bytes_behind (events_spelling h.version read.events) read.rest (subst AreBytes f.parts fits) } in
+        let one : RecordsFound h bytes read.events read.rest = record { parts = f.parts; runs = f.runs; few = f.few; ended = rw is at f.complete; fits = bytes_behind (events_spelling h.version (all_sited h.version read.events bytes)) read.rest (subst AreBytes f.parts fits) } in
         subst (λ (y : List Event × List ℕ). RecordsFound h bytes y.0 y.1) (same_done {X = List Event × List ℕ} (read.events, read.rest) (events, rest) k) one
     by_stop Inside is k = cc
     by_stop (AtFault d) is k = cc
-
--- what some stream may have has a line, and room for its names there
-pub runs_have_lines : (h : Header) → h.items ≤ MOST_ITEMS_OF_A_GROUP → (events : List Event) → Runs h events → All (λ e. IsEventOk e MOST_ITEMS_OF_A_GROUP × (length e.names ≤ places h.version)) events
-runs_have_lines h few [] runs k d lt = absurd (omega arith)
-runs_have_lines h few (e ∷ es) runs zero d lt = let ok = runs.0.event.ok in ((omega (arith, ok.0), ok.1, ok.2), runs.0.names)
-runs_have_lines h few (e ∷ es) runs (suc k) d lt = runs_have_lines h few es runs.2 k d (omega arith)
 
 -- ---- the loop over streams
 

@@ -1,12 +1,12 @@
 -- Streams that are upgraded are whole streams, of the same groups, items, launches and records.
 use Rattle.std.proofs.Common.{◌≡◌, ◌≤◌, ℕ, suc, List, [], ◌∷◌, ◌++◌, length, map, All, Result, Ok, Err, refl, sym, ap, ap₂, ◌∙◌, arith}
 use Rattle.std.specs.List.{flat_map}
-use Rattle.gr_model.specs.declared.event.Event.{Event}
 use Rattle.gr_record.specs.declared.fault.Fault.{Fault}
 use Rattle.gr_record.specs.declared.header.Header.{Header}
 use Rattle.gr_record.specs.declared.header.Version.{Version}
 use Rattle.gr_record.specs.declared.header.Version.TheVariants.{One, Two, Three, Four}
-use Rattle.gr_record.specs.Versions.{most_groups, most_items, places}
+use Rattle.gr_record.specs.Versions.{has_sites, most_groups, most_items, places}
+use Rattle.gr_record.specs.Sites.{Sited}
 use Rattle.gr_record.specs.WholeStreams.{stream_spelling}
 use Rattle.gr_record.specs.PrefixLaws.{Runs}
 use Rattle.gr_record.specs.Spelling.{IsHeader, IsRecord}
@@ -17,13 +17,13 @@ use Rattle.gr_text.specs.Wholes.{IsWhole, bytes_of, upgraded_stream, UpgradedAre
 use Rattle.gr_text.proofs.DumpedStreams.{all_before, all_none, streams_found}
 use Rattle.gr_text.proofs.SpelledStreams.{streams_before}
 
--- ---- an upgraded version has the same limits, and room for all names
+-- ---- an upgraded version has the same limits and sites, and room for all names
 
-same_limits : (v : Version) → (most_groups (raised v) ≡ most_groups v) × (most_items (raised v) ≡ most_items v)
-same_limits One = (refl, refl)
-same_limits Two = (refl, refl)
-same_limits Three = (refl, refl)
-same_limits Four = (refl, refl)
+same_limits : (v : Version) → (most_groups (raised v) ≡ most_groups v) × (most_items (raised v) ≡ most_items v) × (has_sites (raised v) ≡ has_sites v)
+same_limits One = (refl, refl, refl)
+same_limits Two = (refl, refl, refl)
+same_limits Three = (refl, refl, refl)
+same_limits Four = (refl, refl, refl)
 
 roomier : (v : Version) → places v ≤ places (raised v)
 roomier One = omega arith
@@ -39,12 +39,12 @@ raised_twice Four = refl
 
 -- ---- the same streams are whole
 
-record_upgraded : (h : Header) (e : Event) → IsRecord h e → IsRecord (upgraded_header h) e
-record_upgraded h e is = record { event = is.event; names = omega (arith, is.names, roomier h.version); range = rw ((same_limits h.version).0, (same_limits h.version).1) is.range }
+record_upgraded : (h : Header) (r : Sited) → IsRecord h r → IsRecord (upgraded_header h) r
+record_upgraded h r is = record { event = is.event; names = omega (arith, is.names, roomier h.version); range = rw ((same_limits h.version).0, (same_limits h.version).1) is.range; site = rw (same_limits h.version).2 is.site }
 
-runs_upgraded : (h : Header) (es : List Event) → Runs h es → Runs (upgraded_header h) es
+runs_upgraded : (h : Header) (rs : List Sited) → Runs h rs → Runs (upgraded_header h) rs
 runs_upgraded h [] runs = tt
-runs_upgraded h (e ∷ es) runs = (record_upgraded h e runs.0, runs.1, runs_upgraded h es runs.2)
+runs_upgraded h (r ∷ rs) runs = (record_upgraded h r runs.0, runs.1, runs_upgraded h rs runs.2)
 
 header_upgraded : (h : Header) → IsHeader h → IsHeader (upgraded_header h)
 header_upgraded h is = record { group = rw (same_limits h.version).0 is.group; some = is.some; items = rw (same_limits h.version).1 is.items; launch = is.launch }
@@ -53,7 +53,7 @@ whole_upgraded : (s : WholeStream) → IsWhole s → IsWhole (upgraded_stream s)
 whole_upgraded s w =
     let f = w.prefix in
     record {
-      prefix = record { header = header_upgraded s.header f.header; runs = runs_upgraded s.header s.events f.runs; few = f.few };
+      prefix = record { header = header_upgraded s.header f.header; runs = runs_upgraded s.header s.records f.runs; few = f.few };
       ended = w.ended;
     }
 
@@ -65,7 +65,7 @@ all_upgraded (s ∷ ss) whole = all_before IsWhole (upgraded_stream s) (map upgr
 
 streams_long : (ss : List WholeStream) → flat_map (formed Long) ss ≡ bytes_of (map upgraded_stream ss)
 streams_long [] = refl
-streams_long (s ∷ ss) = ap (λ (v : List ℕ). stream_spelling (upgraded_header s.header) s.events ++ v) (streams_long ss)
+streams_long (s ∷ ss) = ap (λ (v : List ℕ). stream_spelling (upgraded_header s.header) s.records ++ v) (streams_long ss)
 
 abbrev done : List ℕ → Result (List ℕ) Fault
 done x = Ok x
@@ -92,7 +92,7 @@ whole_streams_are_upgraded ss whole =
 
 pub twice : (ss : List WholeStream) → map upgraded_stream (map upgraded_stream ss) ≡ map upgraded_stream ss
 twice [] = refl
-twice (s ∷ ss) = ap₂ (λ (v : Version) (rest : List WholeStream). record { header = record { version = v; group = s.header.group; items = s.header.items; launch = s.header.launch }; events = s.events } ∷ rest) (raised_twice s.header.version) (twice ss)
+twice (s ∷ ss) = ap₂ (λ (v : Version) (rest : List WholeStream). record { header = record { version = v; group = s.header.group; items = s.header.items; launch = s.header.launch }; records = s.records } ∷ rest) (raised_twice s.header.version) (twice ss)
 
 pub upgraded_stays : UpgradedStays
 upgraded_stays bytes out fits e =

@@ -2,12 +2,11 @@
 -- Source: docs/FORMATS.md, "Stream" and "Faults".
 use Rattle.std.specs.Prelude.{ℕ, zero, suc, ◌+◌, ◌==◌, if◌then◌else◌, List, [], ◌∷◌, ◌++◌, length, map, Result, Ok, Err}
 use Rattle.std.specs.List.{flat_map}
-use Rattle.gr_model.specs.declared.event.Event.{Event}
 use Rattle.gr_record.specs.declared.error.RecordError.{RecordError}
 use Rattle.gr_record.specs.declared.fault.Fault.{Fault}
 use Rattle.gr_record.specs.declared.fault.Fault.TheVariants as faults
-use Rattle.gr_lines.specs.declared.line.Line.{Line}
-use Rattle.gr_lines.specs.declared.line.Line.TheVariants as lines
+use Rattle.gr_lines.specs.declared.line.SitedLine.{SitedLine}
+use Rattle.gr_record.specs.Sites.{Sited, all_sited}
 use Rattle.gr_record.specs.declared.header.Header.{Header}
 use Rattle.gr_record.specs.declared.header.Version.{Version}
 use Rattle.gr_record.specs.declared.header.Version.TheVariants.{One, Two, Three, Four}
@@ -15,27 +14,27 @@ use Rattle.gr_record.specs.Spelling.{header_spelling, event_spelling}
 use Rattle.gr_record.specs.WholeStreams.{front_header_at, front_records_at}
 use Rattle.gr_text.specs.declared.forming.Form.{Form}
 use Rattle.gr_text.specs.declared.forming.Form.TheVariants.{Text, Long}
-use Rattle.gr_text.specs.Texts.{◌>>=◌, whole_line}
+use Rattle.gr_text.specs.Texts.{◌>>=◌, header_line, record_line, whole_line}
 
 -- an error of the stream at this place
 abbrev pub at_place : {X : Type 0} → ℕ → Result X RecordError → Result X Fault
 at_place place (Ok x) = Ok x
 at_place place (Err e) = Err (faults.Stream place e)
 
--- a header, and the records behind it
+-- a header, and the records behind it, with their sites
 pub record WholeStream : Type 0 where
   pub header : Header
-  pub events : List Event
+  pub records : List Sited
 
 -- its header and its records, one after another
-abbrev pub parts_in : WholeStream → List Line
-parts_in s = lines.Header s.header ∷ map lines.Event s.events
+abbrev pub parts_in : WholeStream → List SitedLine
+parts_in s = header_line s.header ∷ map record_line s.records
 
 -- the stream at the front of the bytes, and the bytes after it
 unfoldable pub stream_at : ℕ → List ℕ → Result (WholeStream × List ℕ) Fault
 stream_at place bytes =
     at_place place (front_header_at bytes) >>= λ h.
-    at_place place (front_records_at h.0 h.1) >>= λ r. Ok (record { header = h.0; events = r.0 }, r.1)
+    at_place place (front_records_at h.0 h.1) >>= λ r. Ok (record { header = h.0; records = all_sited h.0.version r.0 h.1 }, r.1)
 
 -- at most so many streams, the first of which is the one of this place
 unfoldable pub streams_at : ℕ → ℕ → List ℕ → Result (List WholeStream) Fault
@@ -63,17 +62,17 @@ upgraded_header h = record { version = raised h.version; group = h.group; items 
 
 -- a header in this form
 abbrev pub formed_header : Form → Header → List ℕ
-formed_header Text h = whole_line (lines.Header h)
+formed_header Text h = whole_line (header_line h)
 formed_header Long h = header_spelling (upgraded_header h)
 
 -- a record of a stream of this version in this form
-abbrev pub formed_event : Form → Version → Event → List ℕ
-formed_event Text v = λ e. whole_line (lines.Event e)
+abbrev pub formed_event : Form → Version → Sited → List ℕ
+formed_event Text v = λ r. whole_line (record_line r)
 formed_event Long v = event_spelling (raised v)
 
 -- a stream in this form
 abbrev pub formed : Form → WholeStream → List ℕ
-formed form s = formed_header form s.header ++ flat_map (formed_event form s.header.version) s.events
+formed form s = formed_header form s.header ++ flat_map (formed_event form s.header.version) s.records
 
 -- the streams in the bytes, in this form
 abbrev pub formed_of : Form → List ℕ → Result (List ℕ) Fault

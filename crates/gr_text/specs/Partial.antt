@@ -5,8 +5,7 @@ use Rattle.std.specs.Option.{option_map_or}
 use Rattle.std.specs.List.{flat_map}
 use Rattle.gr_model.specs.declared.limits.TheConstants.{MOST_RECORDS}
 use Rattle.gr_model.specs.Streams.{is_complete}
-use Rattle.gr_lines.specs.declared.line.Line.{Line}
-use Rattle.gr_lines.specs.declared.line.Line.TheVariants as lines
+use Rattle.gr_lines.specs.declared.line.SitedLine.{SitedLine}
 use Rattle.gr_record.specs.declared.error.RecordError.{RecordError}
 use Rattle.gr_record.specs.declared.fault.Fault.TheVariants as faults
 use Rattle.gr_record.specs.declared.header.Header.{Header}
@@ -15,9 +14,10 @@ use Rattle.gr_record.specs.declared.stop.Stop.TheVariants.{Inside, AtEnd, AtFaul
 use Rattle.gr_record.specs.Fronts.{records_of}
 use Rattle.gr_record.specs.Laws.{AreBytes}
 use Rattle.gr_record.specs.PrefixLaws.{IsPrefix}
+use Rattle.gr_record.specs.Sites.{all_sited, events_of}
 use Rattle.gr_record.specs.Spelling.{events_spelling}
 use Rattle.gr_record.specs.WholeStreams.{front_header_at, front_records_at, stream_spelling}
-use Rattle.gr_text.specs.Texts.{whole_line}
+use Rattle.gr_text.specs.Texts.{header_line, record_line, whole_line}
 use Rattle.gr_text.specs.Dumps.{WholeStream, parts_in, dumped}
 use Rattle.gr_text.specs.Wholes.{IsWhole, bytes_of, text_of}
 
@@ -25,7 +25,7 @@ use Rattle.gr_text.specs.Wholes.{IsWhole, bytes_of, text_of}
 
 -- the header and the records before a fault, and the bytes behind the end where there is one
 pub record Front : Type 0 where
-  pub lines : List Line
+  pub lines : List SitedLine
   pub behind : Option (List ℕ)
 
 -- the bytes that are left behind an end
@@ -39,7 +39,7 @@ abbrev pub front_behind : Result (Header × List ℕ) RecordError → Front
 front_behind (Err e) = record { lines = []; behind = None }
 front_behind (Ok h) =
     let r = records_of h.0 MOST_RECORDS h.1 in
-    record { lines = lines.Header h.0 ∷ map lines.Event r.events; behind = behind_end r.stop r.rest }
+    record { lines = header_line h.0 ∷ map record_line (all_sited h.0.version r.events h.1); behind = behind_end r.stop r.rest }
 
 -- the stream at the front of the bytes
 abbrev pub front_at : List ℕ → Front
@@ -48,7 +48,7 @@ front_at bytes = front_behind (front_header_at bytes)
 -- ---- all streams
 
 -- the headers and records of at most so many streams, before a fault
-unfoldable pub lines_before : ℕ → List ℕ → List Line
+unfoldable pub lines_before : ℕ → List ℕ → List SitedLine
 lines_before zero bytes = []
 lines_before (suc most) bytes = (front_at bytes).lines ++ option_map_or (λ rest. lines_before most rest) (front_at bytes).behind []
 
@@ -63,16 +63,16 @@ abbrev pub WholeStreamsStandWhole : Type 0
 WholeStreamsStandWhole = (bytes text : List ℕ) → dumped bytes ≡ Ok text → text_before_fault bytes ≡ text
 
 -- a header that is no header, and nothing before it; or a header and records that no end follows, and behind them what is refused
-abbrev pub IsRefusedAtHeader : RecordError → List ℕ → List Line → Type 0
+abbrev pub IsRefusedAtHeader : RecordError → List ℕ → List SitedLine → Type 0
 IsRefusedAtHeader e bytes xs = (front_header_at bytes ≡ Err e) × (xs ≡ [])
 
-pub record IsRefusedBehind (e : RecordError) (bytes : List ℕ) (xs : List Line) : Type 0 where
+pub record IsRefusedBehind (e : RecordError) (bytes : List ℕ) (xs : List SitedLine) : Type 0 where
   pub stream : WholeStream
-  pub prefix : IsPrefix MOST_RECORDS stream.header stream.events
-  pub unended : IsFalse (is_complete stream.events)
+  pub prefix : IsPrefix MOST_RECORDS stream.header stream.records
+  pub unended : IsFalse (is_complete (events_of stream.records))
   pub left : List ℕ
-  pub parts : bytes ≡ stream_spelling stream.header stream.events ++ left
-  pub refused : front_records_at stream.header (events_spelling stream.header.version stream.events ++ left) ≡ Err e
+  pub parts : bytes ≡ stream_spelling stream.header stream.records ++ left
+  pub refused : front_records_at stream.header (events_spelling stream.header.version stream.records ++ left) ≡ Err e
   pub lines : xs ≡ parts_in stream
 
 -- whole streams, and behind them the bytes of the stream at fault, of which this stands before the fault
@@ -82,7 +82,7 @@ pub record StandsBefore (place : ℕ) (e : RecordError) (bytes text : List ℕ) 
   pub count : length streams ≡ place
   pub rest : List ℕ
   pub parts : bytes ≡ bytes_of streams ++ rest
-  pub lines : List Line
+  pub lines : List SitedLine
   pub front : IsRefusedAtHeader e rest lines ⊎ IsRefusedBehind e rest lines
   pub is : text ≡ text_of streams ++ flat_map whole_line lines
 

@@ -2,26 +2,23 @@
 -- Source: docs/FORMATS.md, "Stream" and "Text form".
 use Rattle.std.specs.Prelude.{◌≡◌, ◌⊎◌, ℕ, List, [], ◌∷◌, ◌++◌, map, All, Ok, IsTrue}
 use Rattle.std.specs.List.{flat_map}
-use Rattle.gr_model.specs.declared.event.Event.{Event}
 use Rattle.gr_model.specs.declared.limits.TheConstants.{MOST_RECORDS}
 use Rattle.gr_model.specs.Streams.{is_complete}
-use Rattle.gr_record.specs.declared.header.Header.{Header}
-use Rattle.gr_lines.specs.declared.line.Line.{Line}
-use Rattle.gr_lines.specs.declared.line.Line.TheVariants as lines
 use Rattle.gr_record.specs.PrefixLaws.{IsPrefix}
 use Rattle.gr_record.specs.Laws.{AreBytes}
+use Rattle.gr_record.specs.Sites.{events_of}
 use Rattle.gr_record.specs.WholeStreams.{stream_spelling}
 use Rattle.gr_text.specs.Texts.{packed, whole_line}
 use Rattle.gr_text.specs.Dumps.{WholeStream, parts_in, dumped, upgraded, upgraded_header}
 
 -- all in range and not too many, and the last record is an end, and no other
 pub record IsWhole (s : WholeStream) : Type 0 where
-  pub prefix : IsPrefix MOST_RECORDS s.header s.events
-  pub ended : IsTrue (is_complete s.events)
+  pub prefix : IsPrefix MOST_RECORDS s.header s.records
+  pub ended : IsTrue (is_complete (events_of s.records))
 
 -- the bytes of streams, one after another
 abbrev pub bytes_of : List WholeStream → List ℕ
-bytes_of ss = flat_map (λ s. stream_spelling s.header s.events) ss
+bytes_of ss = flat_map (λ s. stream_spelling s.header s.records) ss
 
 -- their text
 abbrev pub text_of : List WholeStream → List ℕ
@@ -57,9 +54,9 @@ DumpedIsPackedAgain = (bytes text : List ℕ) → AreBytes bytes → dumped byte
 
 -- ---- the same streams, upgraded
 
--- a stream with the same group, items and launch, and the same records
+-- a stream with the same group, items and launch, and the same records with their sites
 abbrev pub upgraded_stream : WholeStream → WholeStream
-upgraded_stream s = record { header = upgraded_header s.header; events = s.events }
+upgraded_stream s = record { header = upgraded_header s.header; records = s.records }
 
 -- bytes that are upgraded are those of whole streams, and what is written is the bytes of the same streams, upgraded
 abbrev pub UpgradedAreStreams : Type 0

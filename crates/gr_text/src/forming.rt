@@ -1,25 +1,32 @@
 //! From the bytes of streams to another form of the same streams: their text, or their bytes upgraded.
 
-ghost use Rattle.std.specs.Prelude.{◌≡◌, ◌≤◌, ◌++◌, All, IfErr, OnOk, length};
+ghost use Rattle.std.specs.Prelude.{◌≡◌, ◌≤◌, ◌++◌, IfErr, IfOk, OnOk, length, option_map};
 ghost use Rattle.std.specs.List.{flat_map};
 ghost use Rattle.gr_input.specs.Faults.{Gives};
 ghost use Rattle.gr_lines.specs.LineText.{IsLine};
 ghost use Rattle.gr_model.specs.Events.{IsEventOk};
-ghost use Rattle.gr_model.specs.declared.limits.TheConstants.{MOST_ITEMS_OF_A_GROUP};
+ghost use Rattle.gr_model.specs.declared.limits.TheConstants.{MOST_ITEMS_OF_A_GROUP, MOST_RECORDS};
 ghost use Rattle.gr_record.specs.Faults.{IsOfValues};
+ghost use Rattle.gr_record.specs.Fronts.{records_of};
+ghost use Rattle.gr_record.specs.Reading.{event_at};
+ghost use Rattle.gr_record.specs.Sites.{all_sited};
 ghost use Rattle.gr_record.specs.Spelling.{IsHeader};
-ghost use Rattle.gr_text.specs.Texts.{whole_line};
-ghost use Rattle.gr_record.specs.Versions.{places};
+ghost use Rattle.gr_record.specs.Versions.{places, record_length};
+ghost use Rattle.gr_text.specs.Partial.{behind_end};
+ghost use Rattle.gr_text.specs.Texts.{header_line, whole_line};
 ghost use Rattle.gr_text.specs.Dumps.{raised, upgraded_header, formed_header, formed_event, formed_of, stream_at, with_stream};
 
 use crate::packing::{push_header, push_record};
-use gr_lines::line::Line;
-use gr_lines::line_text::line_text;
+use gr_lines::line::{Line, SitedLine};
+use gr_lines::line_text::sited_line_text;
 use gr_model::event::Event;
+use gr_model::limits::MOST_RECORDS;
 use gr_model::memory::Memory;
+use gr_record::error::RecordError;
 use gr_record::fault::Fault;
 use gr_record::header::{Header, Version};
-use gr_record::stream::{read_front_header, read_front_records};
+use gr_record::reading::{read_event, site_of};
+use gr_record::stream::{read_front_header, skip_front_records};
 use std::alloc::Allocator;
 
 /// A form in which streams are written.
@@ -36,15 +43,25 @@ pub enum Form {
 pub(crate) fn push_line<A: Allocator + Copy>(
     alloc: A,
     text: &mut Vec<u8, A>,
-    line: &Line,
+    line: &SitedLine,
 ) -> Result<(), Memory>
-    requires { IsLine line.now }
+    requires { IsLine line.now.line }
     ensures { OnOk result (text.new.items ≡ text.old.items ++ whole_line line.now) }
 {
-    let line = line_text(alloc, line)?;
+    let line = sited_line_text(alloc, line)?;
     text.extend_from_slice(line.as_bytes())?;
     text.push(b'\n')?;
     Ok(())
+}
+
+/// The line of a header, which has no site.
+pub(crate) fn header_line(header: Header) -> SitedLine
+    ensures { result ≡ header_line header }
+{
+    SitedLine {
+        line: Line::Header(header),
+        site: 0,
+    }
 }
 
 /// The version that a stream of this one is upgraded to: version 2 for version 1, and no other for the rest.
@@ -82,12 +99,12 @@ fn push_first<A: Allocator + Copy>(
     ensures { OnOk result (output.new.items ≡ output.old.items ++ formed_header form header) }
 {
     match form {
-        Form::Text => push_line(alloc, output, &Line::Header(header)),
+        Form::Text => push_line(alloc, output, &header_line(header)),
         Form::Long => push_header(output, &upgrade_header(header)),
     }
 }
 
-/// Adds a record of a stream of this version in a form.
+/// Adds a record of a stream of this version, which stands at this site, in a form.
 /// Requires: the record is in range, and the stream has room for its names.
 fn push_event<A: Allocator + Copy>(
     alloc: A,
@@ -95,32 +112,64 @@ fn push_event<A: Allocator + Copy>(
     version: Version,
     output: &mut Vec<u8, A>,
     event: &Event,
+    site: u16,
 ) -> Result<(), Memory>
     requires { IsEventOk event.now MOST_ITEMS_OF_A_GROUP × (length event.now.names ≤ places version) }
-    ensures { OnOk result (output.new.items ≡ output.old.items ++ formed_event form version event.now) }
+    ensures { OnOk result (output.new.items ≡ output.old.items ++ formed_event form version (record { event = event.now; site = site })) }
 {
     match form {
-        Form::Text => push_line(alloc, output, &Line::Event(*event)),
-        Form::Long => push_record(output, raise(version), event),
+        Form::Text => {
+            let line = Line::Event(*event);
+            push_line(alloc, output, &SitedLine { line, site })
+        }
+        Form::Long => push_record(output, raise(version), event, site),
     }
 }
 
-/// Adds records of a stream of this version in a form.
-/// Requires: each record is in range, and the stream has room for its names.
-fn push_events<A: Allocator + Copy>(
+/// The record that these bytes are, in a stream of this header.
+/// Requires: the header is in range, and there are as many bytes as one of its records has.
+fn read_in_range(header: Header, bytes: &[u8]) -> Result<Event, RecordError>
+    requires header { IsHeader header }
+    requires length { length bytes.now ≡ record_length header.version }
+    ensures exact { result ≡ event_at header bytes.now }
+    ensures range { IfOk result (λ e. IsEventOk e MOST_ITEMS_OF_A_GROUP × (length e.names ≤ places header.version)) }
+{
+    read_event(header, bytes)
+}
+
+/// Adds in a form the records at the start of the bytes, which stand in a stream of this header, up to its end or to the
+/// first that is refused. Answers the bytes behind the end, if there is one.
+/// Requires: the header is in range.
+pub(crate) fn push_records<'a, A: Allocator + Copy>(
     alloc: A,
     form: Form,
-    version: Version,
     output: &mut Vec<u8, A>,
-    events: &[Event],
-) -> Result<(), Memory>
-    requires { All (λ e. IsEventOk e MOST_ITEMS_OF_A_GROUP × (length e.names ≤ places version)) events.now }
-    ensures { OnOk result (output.new.items ≡ output.old.items ++ flat_map (formed_event form version) events.now) }
+    header: Header,
+    bytes: &'a [u8],
+) -> Result<Option<&'a [u8]>, Memory>
+    requires { IsHeader header }
+    ensures records { OnOk result (output.new.items ≡ output.old.items ++ flat_map (formed_event form header.version) (all_sited header.version (records_of header MOST_RECORDS bytes.now).events bytes.now)) }
+    ensures rest { IfOk result (λ rest. option_map (λ s. s.now) rest ≡ behind_end (records_of header MOST_RECORDS bytes.now).stop (records_of header MOST_RECORDS bytes.now).rest) }
 {
-    for event in events {
-        push_event(alloc, form, version, output, event)?;
+    let size = header.version.record_length();
+    let mut rest = bytes;
+    for _ in 0..MOST_RECORDS {
+        if rest.len() < size {
+            return Ok(None);
+        }
+        let (record, after) = rest.split_at(size);
+        let Ok(event) = read_in_range(header, record) else {
+            return Ok(None);
+        };
+        let is_end = event.kind.is_end();
+        let site = site_of(header.version, record);
+        push_event(alloc, form, header.version, output, &event, site)?;
+        if is_end {
+            return Ok(Some(after));
+        }
+        rest = after;
     }
-    Ok(())
+    Ok(None)
 }
 
 /// Adds in a form the stream at the start of the bytes, which is the one at this place of the input, and answers the
@@ -135,17 +184,18 @@ fn push_stream<'a, A: Allocator + Copy>(
     ensures exact { Gives (λ rest. (output.new.items, rest.now)) result (with_stream form output.old.items (stream_at place bytes.now)) }
     ensures values { IfErr result IsOfValues }
 {
-    let (header, rest) = match read_front_header(bytes) {
+    let (header, records) = match read_front_header(bytes) {
         Ok(found) => found,
         Err(error) => return Err(Fault::of_stream(place, error)),
     };
     push_first(alloc, form, output, header)?;
-    let (events, rest) = match read_front_records(alloc, header, rest) {
-        Ok(found) => found,
-        Err(error) => return Err(Fault::of_stream(place, error)),
-    };
-    push_events(alloc, form, header.version, output, events.as_slice())?;
-    Ok(rest)
+    if let Some(rest) = push_records(alloc, form, output, header, records)? {
+        return Ok(rest);
+    }
+    match skip_front_records(header, records) {
+        Ok(rest) => Ok(rest),
+        Err(error) => Err(Fault::of_stream(place, error)),
+    }
 }
 
 /// The streams that stand in the bytes one after another, in a form. The groups and launch numbers of different streams

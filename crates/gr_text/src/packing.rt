@@ -12,35 +12,36 @@ ghost use Rattle.gr_text.specs.Texts.{line_bytes, packed, HasRoom};
 
 use crate::lines::split_line;
 use crate::place::{Place, take_line};
-use gr_lines::line::Line;
+use gr_lines::line::{Line, SitedLine};
 use gr_model::event::Event;
 use gr_model::memory::Memory;
-use gr_record::encoding::{encode_event, encode_event2, encode_header};
+use gr_record::encoding::{encode_header, encode_sited, encode_sited2};
 use gr_record::fault::Fault;
 use gr_record::header::{Header, Version};
 use gr_record::layout::{HEADER_LENGTH, LONG_RECORD_LENGTH, RECORD_LENGTH};
 use std::alloc::Allocator;
 
-/// Adds the bytes of a record in a stream of this version.
+/// Adds the bytes of a record that stands at this site, in a stream of this version.
 /// Requires: the record is in range, and the stream has room for its names.
 pub(crate) fn push_record<A: Allocator>(
     bytes: &mut Vec<u8, A>,
     version: Version,
     event: &Event,
+    site: u16,
 ) -> Result<(), Memory>
     requires range { IsEventOk event.now MOST_ITEMS_OF_A_GROUP }
     requires names { length event.now.names ≤ places version }
-    ensures { OnOk result (bytes.new.items ≡ bytes.old.items ++ event_spelling version event.now) }
+    ensures { OnOk result (bytes.new.items ≡ bytes.old.items ++ event_spelling version (record { event = event.now; site = site })) }
 {
     match version {
         Version::One | Version::Three => {
             let mut unit = [0; RECORD_LENGTH];
-            encode_event(event, &mut unit);
+            encode_sited(event, site, &mut unit);
             bytes.extend_from_slice(&unit)?;
         }
         Version::Two | Version::Four => {
             let mut unit = [0; LONG_RECORD_LENGTH];
-            encode_event2(event, &mut unit);
+            encode_sited2(event, site, &mut unit);
             bytes.extend_from_slice(&unit)?;
         }
     }
@@ -67,15 +68,15 @@ pub(crate) fn push_header<A: Allocator>(
 fn push_bytes<A: Allocator>(
     bytes: &mut Vec<u8, A>,
     version: Version,
-    line: &Line,
+    line: &SitedLine,
 ) -> Result<(), Memory>
-    requires said { IsSaid version line.now }
-    requires names { HasRoom version line.now }
+    requires said { IsSaid version line.now.line }
+    requires names { HasRoom version line.now.line }
     ensures { OnOk result (bytes.new.items ≡ bytes.old.items ++ line_bytes version line.now) }
 {
-    match line {
+    match &line.line {
         Line::Header(header) => push_header(bytes, header),
-        Line::Event(event) => push_record(bytes, version, event),
+        Line::Event(event) => push_record(bytes, version, event, line.site),
     }
 }
 

@@ -1,75 +1,18 @@
 //! From bytes that may be refused to the text of what stands before their first fault.
 
-ghost use Rattle.std.specs.Prelude.{◌≡◌, ◌≢◌, ◌++◌, IfOk, IfSome, IsOk, MatchOption, OnOk, Err, length, map, option_map};
+ghost use Rattle.std.specs.Prelude.{◌≡◌, ◌≢◌, ◌++◌, IfOk, IfSome, IsOk, MatchOption, OnOk, Err, option_map};
 ghost use Rattle.std.specs.List.{flat_map};
 ghost use Rattle.gr_input.specs.Faults.{IsOutside};
-ghost use Rattle.gr_lines.specs.declared.line.Line.TheVariants as lines;
-ghost use Rattle.gr_model.specs.Events.{IsEventOk};
-ghost use Rattle.gr_model.specs.declared.limits.TheConstants.{MOST_ITEMS_OF_A_GROUP, MOST_RECORDS};
 ghost use Rattle.gr_record.specs.declared.fault.Fault.TheVariants as faults;
-ghost use Rattle.gr_record.specs.Fronts.{records_of};
-ghost use Rattle.gr_record.specs.Reading.{event_at};
-ghost use Rattle.gr_record.specs.Spelling.{IsHeader};
-ghost use Rattle.gr_record.specs.Versions.{record_length};
 ghost use Rattle.gr_text.specs.Texts.{whole_line};
 ghost use Rattle.gr_text.specs.Dumps.{dumped};
-ghost use Rattle.gr_text.specs.Partial.{behind_end, front_at, text_before_fault as text_before};
+ghost use Rattle.gr_text.specs.Partial.{front_at, text_before_fault as text_before};
 
-use crate::forming::{Form, formed_bytes, push_line};
-use gr_lines::line::Line;
-use gr_model::event::Event;
-use gr_model::limits::MOST_RECORDS;
+use crate::forming::{Form, formed_bytes, header_line, push_line, push_records};
 use gr_model::memory::Memory;
-use gr_record::error::RecordError;
 use gr_record::fault::Fault;
-use gr_record::header::Header;
-use gr_record::reading::read_event;
 use gr_record::stream::read_front_header;
 use std::alloc::Allocator;
-
-/// The record that these bytes are, in a stream of this header.
-/// Requires: the header is in range, and there are as many bytes as one of its records has.
-fn read_in_range(header: Header, bytes: &[u8]) -> Result<Event, RecordError>
-    requires header { IsHeader header }
-    requires length { length bytes.now ≡ record_length header.version }
-    ensures exact { result ≡ event_at header bytes.now }
-    ensures range { IfOk result (λ e. IsEventOk e MOST_ITEMS_OF_A_GROUP) }
-{
-    read_event(header, bytes)
-}
-
-/// Adds the lines of the records at the start of the bytes, which stand in a stream of this header, up to its end or to
-/// the first that is refused. Answers the bytes behind the end, if there is one.
-/// Requires: the header is in range.
-fn push_records<'a, A: Allocator + Copy>(
-    alloc: A,
-    text: &mut Vec<u8, A>,
-    header: Header,
-    bytes: &'a [u8],
-) -> Result<Option<&'a [u8]>, Memory>
-    requires { IsHeader header }
-    ensures text { OnOk result (text.new.items ≡ text.old.items ++ flat_map whole_line (map lines.Event (records_of header MOST_RECORDS bytes.now).events)) }
-    ensures rest { IfOk result (λ rest. option_map (λ s. s.now) rest ≡ behind_end (records_of header MOST_RECORDS bytes.now).stop (records_of header MOST_RECORDS bytes.now).rest) }
-{
-    let size = header.version.record_length();
-    let mut rest = bytes;
-    for _ in 0..MOST_RECORDS {
-        if rest.len() < size {
-            return Ok(None);
-        }
-        let (record, after) = rest.split_at(size);
-        let Ok(event) = read_in_range(header, record) else {
-            return Ok(None);
-        };
-        let is_end = event.kind.is_end();
-        push_line(alloc, text, &Line::Event(event))?;
-        if is_end {
-            return Ok(Some(after));
-        }
-        rest = after;
-    }
-    Ok(None)
-}
 
 /// Adds the lines of the header and the records of the stream at the start of the bytes, as far as they stand before a
 /// fault. Answers the bytes behind the end, if there is one.
@@ -84,8 +27,8 @@ fn push_front<'a, A: Allocator + Copy>(
     let Ok((header, records)) = read_front_header(bytes) else {
         return Ok(None);
     };
-    push_line(alloc, text, &Line::Header(header))?;
-    push_records(alloc, text, header, records)
+    push_line(alloc, text, &header_line(header))?;
+    push_records(alloc, Form::Text, text, header, records)
 }
 
 /// The text of the headers and records that stand in the bytes before their first fault; of streams that have none all.

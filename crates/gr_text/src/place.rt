@@ -1,12 +1,12 @@
 //! Which line a text may have at a place.
 
 ghost use Rattle.std.specs.Prelude.{◌≡◌, ◌≢◌, IfOk, IfErr};
-ghost use Rattle.gr_lines.specs.LineLaws.{IsSaid};
-ghost use Rattle.gr_lines.specs.LineReading.{line_said};
+ghost use Rattle.gr_lines.specs.LineLaws.{IsSitedSaid};
+ghost use Rattle.gr_lines.specs.LineReading.{sited_said};
 ghost use Rattle.gr_text.specs.Texts.{HasRoom, version_at, record_at, line_at};
 
-use gr_lines::line::Line;
-use gr_lines::parsing::parse_line_of;
+use gr_lines::line::{Line, SitedLine};
+use gr_lines::parsing::parse_sited_line;
 use gr_model::event::Event;
 use gr_model::limits::MOST_RECORDS;
 use gr_record::fault::Fault;
@@ -33,9 +33,15 @@ impl Place {
     }
 }
 
-/// The record at this line of a stream, and the place after it.
-fn take_event(number: u64, header: Header, left: u32, event: Event) -> Result<(Line, Place), Fault>
-    ensures { result ≡ record_at number header left event }
+/// The record at this line of a stream, with its site, and the place after it.
+fn take_event(
+    number: u64,
+    header: Header,
+    left: u32,
+    event: Event,
+    site: u16,
+) -> Result<(SitedLine, Place), Fault>
+    ensures { result ≡ record_at number header left (record { event = event; site = site }) }
 {
     if event.item >= header.items || event.names.as_slice().len() > header.version.places() {
         return Err(Fault::BadLine(number));
@@ -51,29 +57,34 @@ fn take_event(number: u64, header: Header, left: u32, event: Event) -> Result<(L
             left: left - 1,
         }
     };
-    Ok((Line::Event(event), behind))
+    let line = Line::Event(event);
+    Ok((SitedLine { line, site }, behind))
 }
 
 /// What a line says at this place, if it may stand there, and the place after it.
-fn take_said(number: u64, place: Place, line: Option<Line>) -> Result<(Line, Place), Fault>
+fn take_said(
+    number: u64,
+    place: Place,
+    line: Option<SitedLine>,
+) -> Result<(SitedLine, Place), Fault>
     ensures { result ≡ line_at number place line }
 {
+    let Some(SitedLine { line, site }) = line else {
+        return Err(Fault::BadLine(number));
+    };
     match (place, line) {
-        (Place::Outside, Some(Line::Header(header))) => {
+        (Place::Outside, Line::Header(header)) => {
             let behind = Place::Inside {
                 header,
                 left: MOST_RECORDS as u32,
             };
-            Ok((Line::Header(header), behind))
+            Ok((SitedLine { line, site }, behind))
         }
-        (Place::Inside { header, left }, Some(Line::Event(event))) => {
-            take_event(number, header, left, event)
+        (Place::Inside { header, left }, Line::Event(event)) => {
+            take_event(number, header, left, event, site)
         }
-        (Place::Outside, Some(Line::Event(_))) => Err(Fault::BadLine(number)),
-        (Place::Inside { header: _, left: _ }, Some(Line::Header(_))) => Err(Fault::BadLine(
-            number,
-        )),
-        (_, None) => Err(Fault::BadLine(number)),
+        (Place::Outside, Line::Event(_)) => Err(Fault::BadLine(number)),
+        (Place::Inside { header: _, left: _ }, Line::Header(_)) => Err(Fault::BadLine(number)),
     }
 }
 
@@ -83,10 +94,10 @@ fn take_said(number: u64, place: Place, line: Option<Line>) -> Result<(Line, Pla
 /// # Errors
 /// `BadLine` with the number if the place needs another line; else `LongStream` with the number if the line is one
 /// record more than a stream may have.
-pub fn take_line(number: u64, place: Place, line: &[u8]) -> Result<(Line, Place), Fault>
-    ensures exact { result ≡ line_at number place (line_said (version_at place) line.now) }
-    ensures said { IfOk result (λ x. IsSaid (version_at place) x.0) }
-    ensures room { IfOk result (λ x. HasRoom (version_at place) x.0) }
+pub fn take_line(number: u64, place: Place, line: &[u8]) -> Result<(SitedLine, Place), Fault>
+    ensures exact { result ≡ line_at number place (sited_said (version_at place) line.now) }
+    ensures said { IfOk result (λ x. IsSitedSaid (version_at place) x.0) }
+    ensures room { IfOk result (λ x. HasRoom (version_at place) x.0.line) }
 {
-    take_said(number, place, parse_line_of(place.version(), line))
+    take_said(number, place, parse_sited_line(place.version(), line))
 }
