@@ -17,8 +17,8 @@ use Rattle.gr_hits.proofs.Growing.{accesses_stay}
 use Rattle.gr_order.specs.Sequences as orders
 use Rattle.gr_order.specs.Sequences.{IsSequence, Sequence, nothing}
 use Rattle.gr_steps.proofs.StepGrowth.{lawful_grows}
-use Rattle.gr_shadow.specs.Kept.{Kept}
-use Rattle.gr_shadow.specs.StandsFor.{StandsFor}
+use Rattle.gr_shadow.specs.Launches.{LaunchKept}
+use Rattle.gr_shadow.specs.Launches.{StandsForLaunch}
 use Rattle.gr_model.proofs.PutLemmas.{all_put, length_put, put_other, put_same, sum_put}
 use Rattle.gr_hits.specs.Accesses.AreAccesses.{of_none}
 use Rattle.gr_lanes.specs.Takes.{CanTake, nothing_taken, with_record}
@@ -213,7 +213,7 @@ no_sequence = record {
   lawful = lawful_empty (nothing_taken []);
 }
 
-pub nothing_is_read : (q : Sequence) (kept : Kept) (cs : List Coming) → q ≡ nothing [] → StandsFor [] kept → cs ≡ [] → IsRead q kept cs None
+pub nothing_is_read : (q : Sequence) (kept : LaunchKept) (cs : List Coming) → q ≡ nothing [] → StandsForLaunch [] kept → cs ≡ [] → IsRead q kept cs None
 nothing_is_read q kept cs is stands none =
     subst (λ (p : Sequence). IsRead p kept cs None) (sym is)
     (subst (λ (xs : List Coming). IsRead (nothing []) kept xs None) (sym none) (record {
@@ -230,7 +230,7 @@ nothing_is_read q kept cs is stands none =
 pub groups_are : (s : Streams) (cs : List Coming) → AreGroupsOf s.sizes (headers_of (cs ++ [])) → AreGroupsOf s.sizes (headers_of cs)
 groups_are s cs groups = subst (λ (xs : List Coming). AreGroupsOf s.sizes (headers_of xs)) (append-nil cs) groups
 
-module _ (q : Sequence) (kept : Kept) (cs : List Coming) (h : Header) (read : IsRead q kept cs None) (is : IsHeader h) (apart : Apart h.group cs) where
+module _ (q : Sequence) (kept : LaunchKept) (cs : List Coming) (h : Header) (read : IsRead q kept cs None) (is : IsHeader h) (apart : Apart h.group cs) where
   -- the group may come
   pub may_come : CanAdd q.taken h.group h.items
   may_come = can_begin q.taken cs h (groups_are q.taken cs read.groups) apart is read.sequence.prefixes.shape
@@ -295,7 +295,7 @@ ends_whole i bytes none empty = between i none bytes ∙ (ap (λ (b : List ℕ).
 
 -- ---- a record of the stream that goes on
 
-module _ (q new : Sequence) (kept after : Kept) (cs : List Coming) (c d : Coming) (e : Event) (read : IsRead q kept cs (Some c)) (came : come_of new.taken d ≡ with_event (come_of q.taken c) e) (sizes : new.taken.sizes ≡ q.taken.sizes)
+module _ (q new : Sequence) (kept after : LaunchKept) (cs : List Coming) (c d : Coming) (e : Event) (read : IsRead q kept cs (Some c)) (came : come_of new.taken d ≡ with_event (come_of q.taken c) e) (sizes : new.taken.sizes ≡ q.taken.sizes)
     (others : (g : ℕ) → g ≢ c.header.group → list_of new.taken g ≡ list_of q.taken g) (sequence : IsSequence new) (shadows : AreShadowsOf new after) (room : length (come_of q.taken c).events < MOST_RECORDS) (ok : IsEventOk e c.header.items) where
   same_header : d.header ≡ c.header
   same_header = ap (λ (f : Flat). f.header) came

@@ -7,11 +7,11 @@ use Rattle.gr_model.specs.Streams.{Streams}
 use Rattle.gr_order.specs.Sequences.{IsDone, IsSequence, Sequence}
 use Rattle.gr_clocks.specs.ClockedAccess.{ClockedAccess}
 use Rattle.gr_shadow.specs.Clashes.{IsHitIn}
-use Rattle.gr_shadow.specs.Kept.{Kept}
-use Rattle.gr_shadow.specs.StandsFor.{StandsFor}
+use Rattle.gr_shadow.specs.Launches.{LaunchKept}
+use Rattle.gr_shadow.specs.Launches.{StandsForLaunch}
 use Rattle.gr_intake.specs.Sequencing.{AreShadowsOf}
 
-pub races_are_listed : (s : Streams) (q : Sequence) (kept : Kept) (words : List Word) → q.taken ≡ s → IsDone q → IsSequence q → AreShadowsOf q kept → ((accesses : List ClockedAccess) → StandsFor accesses kept → Lists WordBelow (IsHitIn accesses) words) → AreRaces s words
+pub races_are_listed : (s : Streams) (q : Sequence) (kept : LaunchKept) (words : List Word) → q.taken ≡ s → IsDone q → IsSequence q → AreShadowsOf q kept → ((accesses : List ClockedAccess) → StandsForLaunch accesses kept → Lists WordBelow (IsHitIn accesses) words) → AreRaces s words
 races_are_listed s q kept words same done sequence shadows listed = subst (λ (t : Streams). AreRaces t words) same races
   where
     hits : Lists WordBelow (IsHitIn shadows.0) words

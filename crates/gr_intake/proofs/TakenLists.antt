@@ -15,7 +15,7 @@ use Rattle.gr_lanes.specs.declared.seq_error.SeqError.TheVariants.{AfterEnd, Mem
 use Rattle.gr_lanes.proofs.Growth.{record_grows}
 use Rattle.gr_order.specs.Sequences.{IsSequence, Sequence, nothing, taking}
 use Rattle.gr_hits.proofs.Growing.{accesses_stay}
-use Rattle.gr_shadow.specs.Kept.{Kept}
+use Rattle.gr_shadow.specs.Launches.{LaunchKept}
 use Rattle.gr_intake.specs.Sequencing.{AreShadowsOf, with_list}
 
 pub set_twice : {X : Type 0} (xs : List X) (i : ℕ) (a b : X) → set (set xs i a) i b ≡ set xs i b
@@ -75,7 +75,7 @@ only_memory s g x UnknownItem can (group, open_list, past) = absurd (omega (arit
 only_memory s g x Memory can fault = refl
 
 -- the accesses along the order stay so where a record is taken
-pub shadows_stay : (q new : Sequence) (g : ℕ) (x : Event) (kept : Kept) → IsSequence q → CanTake q.taken g x → new ≡ taking q g x → AreShadowsOf q kept → AreShadowsOf new kept
+pub shadows_stay : (q new : Sequence) (g : ℕ) (x : Event) (kept : LaunchKept) → IsSequence q → CanTake q.taken g x → new ≡ taking q g x → AreShadowsOf q kept → AreShadowsOf new kept
 shadows_stay q new g x kept sequence can is shadows = subst (λ (p : Sequence). AreShadowsOf p kept) (sym is) (
   shadows.0,
   accesses_stay q.taken (with_record q.taken g x) (record_grows q.taken g x sequence.prefixes can) q.handled shadows.0 sequence.lawful shadows.1,

@@ -19,7 +19,7 @@ use Rattle.gr_record.specs.Spelling.{IsHeader}
 use Rattle.gr_record.specs.Versions.{record_length}
 use Rattle.gr_record.specs.WholeStreams.{whole}
 use Rattle.gr_order.specs.Sequences.{IsSequence, Sequence}
-use Rattle.gr_shadow.specs.Kept.{Kept}
+use Rattle.gr_shadow.specs.Launches.{LaunchKept}
 use Rattle.gr_intake.specs.Joined.{Flat, ◌>>=◌, at_place, joined_at}
 use Rattle.gr_intake.specs.Laws.{AreStreams}
 use Rattle.gr_intake.specs.Sequencing.{AreShadowsOf}
@@ -73,7 +73,7 @@ list_in None = []
 list_in (Some x) = x ∷ []
 
 -- the streams that came whole, and the one that goes on
-pub record IsRead (q : Sequence) (kept : Kept) (whole : List Coming) (current : Option Coming) : Type 0 where
+pub record IsRead (q : Sequence) (kept : LaunchKept) (whole : List Coming) (current : Option Coming) : Type 0 where
   pub sequence : IsSequence q
   pub shadows : AreShadowsOf q kept
   pub streams : AreStreams (come q.taken whole)
@@ -128,7 +128,7 @@ read_on true taken whole c bytes = read_behind (come taken (whole ++ c ∷ [])) 
 read_on false taken whole c bytes = read_behind (come taken whole) (Some (come_of taken c)) bytes
 
 -- it goes on, and these bytes are no whole record of it
-pub record Stays {Z : Type 0} (q : Sequence) (kept : Kept) (whole : List Coming) (o : Open Z) (bytes : List ℕ) : Type 0 where
+pub record Stays {Z : Type 0} (q : Sequence) (kept : LaunchKept) (whole : List Coming) (o : Open Z) (bytes : List ℕ) : Type 0 where
   pub read : IsRead q kept whole (Some o.backlog)
   pub as_kept : IsKeptOpen q.taken o
   pub short : length bytes < record_length o.backlog.header.version

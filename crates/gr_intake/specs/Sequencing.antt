@@ -5,8 +5,8 @@ use Rattle.gr_model.specs.declared.event.Event.{Event}
 use Rattle.gr_model.specs.Streams.{Streams, list_of}
 use Rattle.gr_order.specs.Sequences.{Sequence}
 use Rattle.gr_clocks.specs.ClockedAccess.{ClockedAccess, clocked}
-use Rattle.gr_shadow.specs.Kept.{Kept}
-use Rattle.gr_shadow.specs.StandsFor.{StandsFor}
+use Rattle.gr_shadow.specs.Launches.{LaunchKept}
+use Rattle.gr_shadow.specs.Launches.{StandsForLaunch}
 use Rattle.gr_sequencer.specs.declared.handled.Handled.{Handled}
 use Rattle.gr_sequencer.specs.declared.handled.Handled.TheVariants.{One}
 use Rattle.gr_hits.specs.Accesses.{AreAccesses}
@@ -25,5 +25,5 @@ accesses_of (One e (Some a)) = clocked a ∷ []
 accesses_of _ = []
 
 -- shadows stand for the accesses of the handled events
-abbrev pub AreShadowsOf : Sequence → Kept → Type 0
-AreShadowsOf q kept = (accesses : List ClockedAccess) × AreAccesses q.taken q.handled accesses × StandsFor accesses kept
+abbrev pub AreShadowsOf : Sequence → LaunchKept → Type 0
+AreShadowsOf q kept = (accesses : List ClockedAccess) × AreAccesses q.taken q.handled accesses × StandsForLaunch accesses kept

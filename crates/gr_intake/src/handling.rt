@@ -3,13 +3,13 @@
 ghost use Rattle.std.specs.Prelude.{◌≡◌, ◌++◌, List, OnOk};
 ghost use Rattle.gr_order.specs.Sequences.{IsDone, IsSequence};
 ghost use Rattle.gr_clocks.specs.ClockedAccess.{ClockedAccess};
-ghost use Rattle.gr_shadow.specs.StandsFor.{StandsFor};
+ghost use Rattle.gr_shadow.specs.Launches.{StandsForLaunch};
 ghost use Rattle.gr_intake.specs.Sequencing.{accesses_of, AreShadowsOf};
 
 use gr_model::memory::Memory;
 use gr_sequencer::handled::Handled;
 use gr_sequencer::sequencer::Sequencer;
-use gr_shadow::shadows::Shadows;
+use gr_shadow::launch::LaunchShadows;
 use std::alloc::Allocator;
 
 /// Gives shadows the access of a step, if it has one.
@@ -18,10 +18,10 @@ use std::alloc::Allocator;
 /// `Memory`: out of memory.
 #[inline(always)]
 pub(crate) fn shade<A: Allocator + Copy>(
-    shadows: &mut Shadows<A>,
+    shadows: &mut LaunchShadows<A>,
     step: Handled<A>,
 ) -> Result<(), Memory>
-    ensures { (accesses : List ClockedAccess) → StandsFor accesses shadows.old → OnOk result (StandsFor (accesses ++ accesses_of step) shadows.new) }
+    ensures { (accesses : List ClockedAccess) → StandsForLaunch accesses shadows.old → OnOk result (StandsForLaunch (accesses ++ accesses_of step) shadows.new) }
 {
     match step {
         Handled::One {
@@ -41,7 +41,7 @@ pub(crate) fn shade<A: Allocator + Copy>(
 /// `Memory`: out of memory.
 pub(crate) fn handle_ready<A: Allocator + Copy>(
     sequencer: &mut Sequencer<A>,
-    shadows: &mut Shadows<A>,
+    shadows: &mut LaunchShadows<A>,
 ) -> Result<(), Memory>
     requires { AreShadowsOf sequencer.old shadows.old }
     ensures taken { OnOk result (sequencer.new.taken ≡ sequencer.old.taken) }

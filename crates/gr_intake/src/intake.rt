@@ -22,7 +22,7 @@ use gr_record::header::Header;
 use gr_record::layout::HEADER_LENGTH;
 use gr_record::stream::read_front_header;
 use gr_sequencer::sequencer::Sequencer;
-use gr_shadow::shadows::Shadows;
+use gr_shadow::launch::LaunchShadows;
 use std::alloc::{Allocator, Global};
 use std::mem;
 
@@ -31,7 +31,7 @@ use std::mem;
 #[derive_where(Debug)]
 pub struct Intake<A: Allocator = Global> {
     pub(crate) sequencer: Sequencer<A>,
-    pub(crate) shadows: Shadows<A>,
+    pub(crate) shadows: LaunchShadows<A>,
     pub(crate) streams: Vec<Backlog<A>, A>,
     pub(crate) current: Option<Open<A>>,
 }
@@ -65,7 +65,7 @@ impl<A: Allocator + Copy> Intake<A> {
     {
         Ok(Intake {
             sequencer: Sequencer::without_groups(alloc)?,
-            shadows: Shadows::new(alloc),
+            shadows: LaunchShadows::new(alloc),
             streams: Vec::new(alloc),
             current: None,
         })
@@ -170,7 +170,7 @@ impl<A: Allocator + Copy> Intake<A> {
 /// The fault of the first record that has one; `Memory`: out of memory.
 fn take_records<'p, A: Allocator + Copy>(
     sequencer: &mut Sequencer<A>,
-    shadows: &mut Shadows<A>,
+    shadows: &mut LaunchShadows<A>,
     streams: &[Backlog<A>],
     current: &mut Open<A>,
     bytes: &'p [u8],

@@ -19,7 +19,7 @@ use gr_record::error::RecordError;
 use gr_record::header::Header;
 use gr_record::reading::read_event;
 use gr_sequencer::sequencer::Sequencer;
-use gr_shadow::shadows::Shadows;
+use gr_shadow::launch::LaunchShadows;
 use std::alloc::{Allocator, Global};
 
 /// A stream whose end has not come.
@@ -79,7 +79,7 @@ impl<A: Allocator + Copy> Open<A> {
     pub(crate) fn take(
         &mut self,
         sequencer: &mut Sequencer<A>,
-        shadows: &mut Shadows<A>,
+        shadows: &mut LaunchShadows<A>,
         event: Event,
     ) -> Result<(), Memory>
         requires good { IsEventOk event self.old.backlog.header.items }

@@ -12,7 +12,7 @@ use gr_model::memory::Memory;
 use gr_report::report::Report;
 use gr_report::rows::Rows;
 use gr_sequencer::sequencer::Sequencer;
-use gr_shadow::shadows::Shadows;
+use gr_shadow::launch::LaunchShadows;
 use std::alloc::Allocator;
 
 /// How many records were taken of so many groups, which are all; ends are among them.
@@ -34,7 +34,7 @@ fn records_of<A: Allocator>(sequencer: &Sequencer<A>, groups: u16) -> u64
 /// `Memory`: out of memory.
 pub fn report_of<A: Allocator + Copy>(
     sequencer: &Sequencer<A>,
-    shadows: &Shadows<A>,
+    shadows: &LaunchShadows<A>,
 ) -> Result<Report<A>, Memory>
     requires done { IsDone sequencer.now }
     requires sequence { IsSequence sequencer.now }

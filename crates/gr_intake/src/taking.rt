@@ -17,7 +17,7 @@ use gr_model::event::Event;
 use gr_model::memory::Memory;
 use gr_model::traces::Traces;
 use gr_sequencer::sequencer::Sequencer;
-use gr_shadow::shadows::Shadows;
+use gr_shadow::launch::LaunchShadows;
 use std::alloc::Allocator;
 
 /// Has a sequencer take a record of a group, and handle its event where that can be done at once. Tells whether the event
@@ -28,7 +28,7 @@ use std::alloc::Allocator;
 #[inline(always)]
 fn take_one<A: Allocator + Copy>(
     sequencer: &mut Sequencer<A>,
-    shadows: &mut Shadows<A>,
+    shadows: &mut LaunchShadows<A>,
     group: u16,
     event: Event,
 ) -> Result<bool, Memory>
@@ -61,7 +61,7 @@ fn take_one<A: Allocator + Copy>(
 #[inline(always)]
 pub(crate) fn take_record<A: Allocator + Copy>(
     sequencer: &mut Sequencer<A>,
-    shadows: &mut Shadows<A>,
+    shadows: &mut LaunchShadows<A>,
     group: u16,
     event: Event,
     turn: &mut Turn,
@@ -88,7 +88,7 @@ pub(crate) fn take_record<A: Allocator + Copy>(
 /// `Memory`: out of memory.
 fn take_list<A: Allocator + Copy>(
     sequencer: &mut Sequencer<A>,
-    shadows: &mut Shadows<A>,
+    shadows: &mut LaunchShadows<A>,
     group: u16,
     items: u16,
     list: &[Event],
@@ -115,7 +115,7 @@ fn take_list<A: Allocator + Copy>(
 /// `Memory`: out of memory.
 pub fn take_traces<A: Allocator + Copy>(
     sequencer: &mut Sequencer<A>,
-    shadows: &mut Shadows<A>,
+    shadows: &mut LaunchShadows<A>,
     traces: &Traces<A>,
 ) -> Result<(), Memory>
     requires nothing { sequencer.old ≡ nothing traces.now.sizes }

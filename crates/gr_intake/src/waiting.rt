@@ -15,7 +15,7 @@ use crate::turn::{MOST_IN_TURN, Turn};
 use gr_backlog::backlog::Backlog;
 use gr_model::memory::Memory;
 use gr_sequencer::sequencer::Sequencer;
-use gr_shadow::shadows::Shadows;
+use gr_shadow::launch::LaunchShadows;
 use std::alloc::Allocator;
 
 /// Has a sequencer take some of the records that wait of a stream. Tells whether it took one; none waits where it did not.
@@ -24,7 +24,7 @@ use std::alloc::Allocator;
 /// `Memory`: out of memory.
 fn take_some<A: Allocator + Copy>(
     sequencer: &mut Sequencer<A>,
-    shadows: &mut Shadows<A>,
+    shadows: &mut LaunchShadows<A>,
     stream: &mut Backlog<A>,
 ) -> Result<bool, Memory>
     requires there { stream.old.header.group < length sequencer.old.taken.lists }
@@ -60,7 +60,7 @@ fn take_some<A: Allocator + Copy>(
 /// `Memory`: out of memory.
 fn take_turn<A: Allocator + Copy>(
     sequencer: &mut Sequencer<A>,
-    shadows: &mut Shadows<A>,
+    shadows: &mut LaunchShadows<A>,
     stream: &mut Backlog<A>,
 ) -> Result<bool, Memory>
     requires there { stream.old.header.group < length sequencer.old.taken.lists }
@@ -86,7 +86,7 @@ fn take_turn<A: Allocator + Copy>(
 /// `Memory`: out of memory.
 fn take_round<A: Allocator + Copy>(
     sequencer: &mut Sequencer<A>,
-    shadows: &mut Shadows<A>,
+    shadows: &mut LaunchShadows<A>,
     streams: &mut [Backlog<A>],
 ) -> Result<bool, Memory>
     requires streams { AreStreams (come sequencer.old.taken streams.old) }
@@ -115,7 +115,7 @@ fn take_round<A: Allocator + Copy>(
 /// `Memory`: out of memory.
 pub(crate) fn take_waiting<A: Allocator + Copy>(
     sequencer: &mut Sequencer<A>,
-    shadows: &mut Shadows<A>,
+    shadows: &mut LaunchShadows<A>,
     streams: &mut [Backlog<A>],
 ) -> Result<(), Memory>
     requires streams { AreStreams (come sequencer.old.taken streams.old) }

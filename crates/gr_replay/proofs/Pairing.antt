@@ -13,8 +13,8 @@ use Rattle.gr_clocks.specs.ClockedAccess.{ClockedAccess}
 use Rattle.gr_model.specs.Reports.{Lists, WordBelow}
 use Rattle.gr_shadow.specs.declared.clash.Clash.{Clash}
 use Rattle.gr_shadow.specs.Clashes.{IsClashIn, IsHitIn}
-use Rattle.gr_shadow.specs.Kept.{Kept}
-use Rattle.gr_shadow.specs.StandsFor.{StandsFor}
+use Rattle.gr_shadow.specs.Launches.{LaunchKept}
+use Rattle.gr_shadow.specs.Launches.{StandsForLaunch}
 use Rattle.gr_replay.specs.Races.{AreRacesOfHits, IsRaceIn, IsRaceOf}
 use Rattle.gr_intake.specs.Sequencing.{AreShadowsOf}
 use Rattle.gr_intake.proofs.Reporting.{races_are_listed}
@@ -48,7 +48,7 @@ races_of_hits accesses clashes k races all words each listed pairs = record {
 
 -- ---- the races of a launch
 
-pub races_are_paired : (s : Streams) (q : Sequence) (kept : Kept) (races : List Race) → q.taken ≡ s → IsDone q → IsSequence q → AreShadowsOf q kept → ((accesses : List ClockedAccess) → StandsFor accesses kept → AreRacesOfHits accesses races) → ArePairedRaces s races
+pub races_are_paired : (s : Streams) (q : Sequence) (kept : LaunchKept) (races : List Race) → q.taken ≡ s → IsDone q → IsSequence q → AreShadowsOf q kept → ((accesses : List ClockedAccess) → StandsForLaunch accesses kept → AreRacesOfHits accesses races) → ArePairedRaces s races
 races_are_paired s q kept races same done sequence shadows listed = record {
   words = races_are_listed s q kept _ same done sequence shadows (λ accesses stands. (listed accesses stands).words);
   pairs = subst (λ (t : Streams). All (λ r. IsRacePair t r.word (r.first, r.second)) races) same (All-weaker (IsRaceIn shadows.0) (λ r. IsRacePair q.taken r.word (r.first, r.second)) pair races (listed shadows.0 shadows.2).clashes);

@@ -16,7 +16,7 @@ use gr_model::shape::Shape;
 use gr_model::traces::Traces;
 use gr_report::report::Report;
 use gr_sequencer::sequencer::Sequencer;
-use gr_shadow::shadows::Shadows;
+use gr_shadow::launch::LaunchShadows;
 use std::alloc::{Allocator, Global};
 
 /// What is found of a launch: its report, and of each racy word two events that race on it.
@@ -47,7 +47,7 @@ fn new_sequencer<A: Allocator + Copy>(alloc: A, shape: &Shape<A>) -> Result<Sequ
 fn detection_of<A: Allocator + Copy>(
     alloc: A,
     sequencer: &Sequencer<A>,
-    shadows: &Shadows<A>,
+    shadows: &LaunchShadows<A>,
 ) -> Result<Detection<A>, Memory>
     requires done { IsDone sequencer.now }
     requires sequence { IsSequence sequencer.now }
@@ -67,7 +67,7 @@ fn detection_of<A: Allocator + Copy>(
 fn detection_by<A: Allocator + Copy>(
     alloc: A,
     sequencer: &mut Sequencer<A>,
-    shadows: &mut Shadows<A>,
+    shadows: &mut LaunchShadows<A>,
     traces: &Traces<A>,
 ) -> Result<Detection<A>, Memory>
     requires nothing { sequencer.old ≡ nothing traces.now.sizes }
@@ -91,7 +91,7 @@ pub fn detect_races<A: Allocator + Copy>(
     ensures races { IfOk result (λ found. ArePairedRaces traces.now found.races.items) }
 {
     let mut sequencer = new_sequencer(alloc, traces.shape())?;
-    let mut shadows = Shadows::new(alloc);
+    let mut shadows = LaunchShadows::new(alloc);
     detection_by(alloc, &mut sequencer, &mut shadows, traces)
 }
 

@@ -3,12 +3,12 @@
 ghost use Rattle.std.specs.Prelude.{List, OnErr, IfOk};
 ghost use Rattle.gr_clocks.specs.ClockedAccess.{ClockedAccess};
 ghost use Rattle.gr_replay.specs.Races.{AreRacesOfHits, IsRaceOf};
-ghost use Rattle.gr_shadow.specs.StandsFor.{StandsFor};
+ghost use Rattle.gr_shadow.specs.Launches.{StandsForLaunch};
 
 use gr_model::memory::Memory;
 use gr_model::race::{Race, turned};
 use gr_shadow::clash::Clash;
-use gr_shadow::shadows::Shadows;
+use gr_shadow::launch::LaunchShadows;
 use std::alloc::Allocator;
 
 /// The race of a clash: its two events, the smaller one first.
@@ -29,9 +29,9 @@ fn race_of(clash: &Clash) -> Race
 /// `Memory`: out of memory.
 pub(crate) fn races_of<A: Allocator + Copy>(
     alloc: A,
-    shadows: &Shadows<A>,
+    shadows: &LaunchShadows<A>,
 ) -> Result<Vec<Race, A>, Memory>
-    ensures { (accesses : List ClockedAccess) → StandsFor accesses shadows.now → IfOk result (λ races. AreRacesOfHits accesses races.items) }
+    ensures { (accesses : List ClockedAccess) → StandsForLaunch accesses shadows.now → IfOk result (λ races. AreRacesOfHits accesses races.items) }
 {
     let clashes = shadows.clashes()?;
     let mut races = Vec::new(alloc);

@@ -3,3 +3,4 @@ pub mod HitLemmas
 pub mod ShadowLemmas
 pub mod MapLemmas
 pub mod ListingLemmas
+pub mod LaunchLemmas

@@ -3,3 +3,4 @@ pub mod Keeps
 pub mod Kept
 pub mod StandsFor
 pub mod Laws
+pub mod Launches

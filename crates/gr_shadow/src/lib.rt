@@ -3,6 +3,7 @@
 #![tactic(auto)]
 
 pub mod clash;
+pub mod launch;
 pub mod laws;
 pub mod merge;
 mod shadow;

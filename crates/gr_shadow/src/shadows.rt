@@ -5,7 +5,7 @@
 //! accesses is private, and tells the hits of every list that goes on from there.
 
 ghost use Rattle.std.specs.Prelude.{◌≡◌, ◌↔◌, All, IfOk, OnOk, OnErr, List, [], ◌∷◌, ◌++◌, Some, map};
-ghost use Rattle.std.specs.List.{IsDistinct, filter_map};
+ghost use Rattle.std.specs.List.{IsDistinct, filter_map, list_any};
 ghost use Rattle.std.specs.Map.{keys_of};
 ghost use Rattle.gr_model.specs.declared.event.Word.{Word as AnyWord};
 ghost use Rattle.gr_model.specs.Reports.{Lists, WordBelow};
@@ -126,8 +126,15 @@ impl<A: Allocator + Copy> Shadows<A> {
         Ok(words)
     }
 
+    /// Whether some word was answered.
+    pub(crate) fn has_hit(&self) -> bool
+        ensures { result ≡ list_any (λ e. e.1.answered) self.now }
+    {
+        self.words.iter().any(|entry| entry.1.is_answered())
+    }
+
     /// The clash that answered a word, or `None` where it was not answered.
-    fn clash_at(&self, word: Word) -> Option<Clash>
+    pub(crate) fn clash_at(&self, word: Word) -> Option<Clash>
         ensures { result ≡ clash_at self.now word }
     {
         let (earlier, later) = self.words.get(&word)?.clash()?;

@@ -1,0 +1,47 @@
+-- The list of accesses that the shadows of a launch stand for. Those of a group's local words may have been given up.
+-- Source: docs/MODEL.md, "Hits".
+use Rattle.std.specs.Prelude.{◌≡◌, ℕ, ◌==◌, Bool, true, false, List, [], filter, slice_get, Option, Some, None, option_and_then}
+use Rattle.gr_model.specs.declared.event.Word.{Word}
+use Rattle.gr_model.specs.declared.event.Word.TheVariants.{Global, Local}
+use Rattle.gr_shadow.specs.declared.clash.Clash.{Clash}
+use Rattle.gr_shadow.specs.Clashes.{ClockedAccess, IsHitIn}
+use Rattle.gr_shadow.specs.Kept.{Kept, clash_at}
+use Rattle.gr_shadow.specs.StandsFor.{StandsFor}
+
+-- what is kept of global words, and of each group what is kept of its local words, or that it was given up
+pub record LaunchKept : Type 0 where
+  pub global : Kept
+  pub local : List (Option Kept)
+
+abbrev pub is_global : Word → Bool
+is_global (Global v) = true
+is_global (Local g v) = false
+
+abbrev pub is_local_of : ℕ → Word → Bool
+is_local_of group (Global v) = false
+is_local_of group (Local g v) = g == group
+
+-- the accesses to words of some kind
+abbrev pub accesses_in : (Word → Bool) → List ClockedAccess → List ClockedAccess
+accesses_in keep accesses = filter (λ x. keep x.word) accesses
+
+-- of a group of which nothing is kept there was no access to a local word, and of one that was given up no such word is hit
+abbrev pub StandsForLocal : List ClockedAccess → Option (Option Kept) → Type 0
+StandsForLocal accesses None = accesses ≡ []
+StandsForLocal accesses (Some None) = (w : Word) → ¬ IsHitIn accesses w
+StandsForLocal accesses (Some (Some kept)) = StandsFor accesses kept
+
+pub record StandsForLaunch (accesses : List ClockedAccess) (kept : LaunchKept) : Type 0 where
+  pub global : StandsFor (accesses_in is_global accesses) kept.global
+  pub local : (g : ℕ) → StandsForLocal (accesses_in (is_local_of g) accesses) (slice_get kept.local g)
+
+-- ---- the clash that answered a word
+
+abbrev pub local_clash_at : Option (Option Kept) → Word → Option Clash
+local_clash_at None w = None
+local_clash_at (Some None) w = None
+local_clash_at (Some (Some kept)) w = clash_at kept w
+
+abbrev pub launch_clash_at : LaunchKept → Word → Option Clash
+launch_clash_at kept (Global v) = clash_at kept.global (Global v)
+launch_clash_at kept (Local g v) = local_clash_at (slice_get kept.local g) (Local g v)
