@@ -406,6 +406,14 @@ impl<A: Allocator> Agenda<A> {
         &self.order
     }
 
+    /// Frees what is kept of a group and not asked for any more, once it has ended. Tells whether it has: its end was taken, and
+    /// no event of its items waits.
+    pub fn close(&mut self, group: u16) -> bool
+        ensures { self.new ≡ self.old }
+    {
+        self.order.close(group)
+    }
+
     /// Takes the next record of a group. It is one that some group may have, whatever its item.
     ///
     /// # Errors

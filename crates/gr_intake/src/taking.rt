@@ -54,6 +54,21 @@ fn take_one<A: Allocator + Copy>(
     }
 }
 
+/// Gives up the shadows of a group's local words, once the group has ended.
+fn close<A: Allocator + Copy>(
+    sequencer: &mut Sequencer<A>,
+    shadows: &mut LaunchShadows<A>,
+    group: u16,
+)
+    requires { AreShadowsOf sequencer.old shadows.old }
+    ensures unchanged { sequencer.new ≡ sequencer.old }
+    ensures shadows { AreShadowsOf sequencer.new shadows.new }
+{
+    if sequencer.close(group) {
+        shadows.close(group);
+    }
+}
+
 /// Has a sequencer take a record of a group in its turn, and handle what can be where it is time to.
 ///
 /// # Errors
@@ -78,6 +93,9 @@ pub(crate) fn take_record<A: Allocator + Copy>(
     if take_one(sequencer, shadows, group, event)? && turn.is_to_look(&event) {
         handle_ready(sequencer, shadows)?;
         turn.note_look(sequencer.held());
+    }
+    if event.kind.is_end() {
+        close(sequencer, shadows, group);
     }
     Ok(())
 }

@@ -354,15 +354,18 @@ impl<A: Allocator> Order<A> {
         }
     }
 
-    /// Frees what is kept of a group and not asked for any more: once its end was taken and no event of its items waits.
+    /// Frees what is kept of a group and not asked for any more, once it has ended. Tells whether it has: its end was taken, and
+    /// no event of its items waits.
     #[inline(always)]
-    fn close(&mut self, group: u16)
+    pub fn close(&mut self, group: u16) -> bool
         ensures unchanged { self.new ≡ self.old }
         ensures sequence { IsSequence self.new }
     {
-        if self.lanes.is_complete(group) && self.windows.free(group) {
+        let has_ended = self.lanes.is_complete(group) && self.windows.free(group);
+        if has_ended {
             self.lanes.close(group);
         }
+        has_ended
     }
 
     /// Takes the next record of a group. It is one that some group may have, whatever its item.
@@ -379,7 +382,7 @@ impl<A: Allocator> Order<A> {
         ensures sequence { IsSequence self.new }
     {
         self.take_next(group, event)?;
-        self.close(group);
+        let _ = self.close(group);
         Ok(())
     }
 
@@ -455,7 +458,7 @@ impl<A: Allocator> Order<A> {
         ensures sequence { IsSequence self.new }
     {
         self.handle_and_forget(event);
-        self.close(event.at.group);
+        let _ = self.close(event.at.group);
     }
 
     /// Handles the barriers of a group's least convergent instance that was not handled, where the event before each of
@@ -500,7 +503,7 @@ impl<A: Allocator> Order<A> {
         ensures sequence { IsSequence self.new }
     {
         self.meet_next(group);
-        self.close(group);
+        let _ = self.close(group);
     }
 
     /// A step of a group that is ready, if there is one.

@@ -376,6 +376,14 @@ impl<A: Allocator> Sequencer<A> {
         self.agenda.order().is_at_end()
     }
 
+    /// Frees what is kept of a group and not asked for any more, once it has ended. Tells whether it has: its end was taken, and
+    /// no event of its items waits.
+    pub fn close(&mut self, group: u16) -> bool
+        ensures { self.new ≡ self.old }
+    {
+        self.agenda.close(group)
+    }
+
     /// How many events were taken and not handled. Where no step is left, these are the events that are not grounded.
     pub fn held(&self) -> u64
         ensures count { result + length self.now.handled ≡ event_count self.now.taken }
