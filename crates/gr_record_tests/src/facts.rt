@@ -10,7 +10,7 @@ use gr_places::places::{PlaceLine, Placed, place_of};
 use gr_record::decoder::Decoder;
 use gr_record::encoding::{encode_event, encode_header};
 use gr_record::header::{Header, Version};
-use gr_record::reading::{naming, read_event};
+use gr_record::reading::{naming, read_event, site_of};
 use gr_report::report::Report;
 use gr_report::rows::Rows;
 use gr_report::write;
@@ -54,6 +54,16 @@ fn read_event_of_a_record_with_byte_6() {
         1, 0, 0, 0, 0, 0, 1, 0, 4, 0, 0, 0, 255, 255, 255, 255, 255, 255, 255, 255,
     ];
     prove!(read_event(header, &write).is_err());
+}
+
+/// Bytes 6 and 7 of a record of version 3 are its site.
+#[test]
+#[tactic(auto, unfolding(gr_record::specs::Reading::site_at))]
+fn site_of_a_record() {
+    let write = [
+        1, 0, 0, 0, 0, 0, 2, 1, 4, 0, 0, 0, 255, 255, 255, 255, 255, 255, 255, 255,
+    ];
+    prove!(site_of(Version::Three, &write) == 258);
 }
 
 /// A name of group 64 is none of version 1, and one of version 3.
