@@ -17,14 +17,14 @@ use Rattle.gr_streams.specs.Sources.{ArePlaced, AreServed, Begun, HasSender}
 -- ---- a sender is taken from the others
 
 -- the last has come into its place
-module _ (old new : List Sending) (i : ℕ) (moved : (d : Sending) → i + 1 < length old → get_or new i d ≡ get_or old (length old - 1) d) (same : (k : ℕ) (d : Sending) → k ≢ i → k + 1 < length old → get_or new k d ≡ get_or old k d) (count : length new + 1 ≡ length old) (lt : i < length old) where
+module _ (old new : List Sending) (n i : ℕ) (long : n ≡ length old) (moved : (d : Sending) → i + 1 < n → get_or new i d ≡ get_or old (n - 1) d) (same : (k : ℕ) (d : Sending) → k ≢ i → k + 1 < n → get_or new k d ≡ get_or old k d) (count : length new + 1 ≡ length old) (lt : i < length old) where
   pub fewer : (s : Sending) → Contains new s → Contains old s
   fewer s (k, there, is) =
       elim (cases_lt k i) [
         | inl before ↦ (k, omega arith, sym (same k s (λ e. omega (arith, e, before)) (omega arith)) ∙ is)
         | inr from ↦
             ⊎_elim
-            (λ (here : i ≡ k). (length old - 1, omega arith, sym (moved s (omega arith)) ∙ (ap (λ n. get_or new n s) here ∙ is)))
+            (λ (here : i ≡ k). (n - 1, omega arith, sym (moved s (omega arith)) ∙ (ap (λ m. get_or new m s) here ∙ is)))
             (λ (behind : i < k). (k, omega arith, sym (same k s (λ e. omega (arith, e, behind)) (omega arith)) ∙ is))
             (eq-or-lt_of_le from)
       ]
@@ -36,15 +36,15 @@ module _ (old new : List Sending) (i : ℕ) (moved : (d : Sending) → i + 1 < l
         | inr from ↦
             ⊎_elim
             (λ (here : i ≡ k).
-            let s_is : s ≡ get_or old i s = sym is ∙ ap (λ n. get_or old n s) (sym here) in
+            let s_is : s ≡ get_or old i s = sym is ∙ ap (λ m. get_or old m s) (sym here) in
             let one : get_or old i s ≡ get_or old i taken = get_or_from_slice_get old i (get_or old i taken) s (slice_get-get_or old i taken lt) in
             absurd (other (sym group_is ∙ (ap (λ (x : Sending). x.group) (s_is ∙ (one ∙ sym at)) ∙ of))))
             (λ (behind : i < k).
-            elim (cases_lt (k + 1) (length old)) [
+            elim (cases_lt (k + 1) n) [
               | inl inside ↦ (s, (k, omega arith, same k s (λ e. omega (arith, e, behind)) inside ∙ is), group_is)
               | inr last ↦
-                  let end : length old - 1 ≡ k = omega (arith, last, there) in
-                  (s, (i, omega arith, moved s (omega arith) ∙ (ap (λ n. get_or old n s) end ∙ is)), group_is)
+                  let end : n - 1 ≡ k = omega (arith, last, there, long) in
+                  (s, (i, omega arith, moved s (omega arith) ∙ (ap (λ m. get_or old m s) end ∙ is)), group_is)
             ])
             (eq-or-lt_of_le from)
       ]

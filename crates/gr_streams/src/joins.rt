@@ -1,6 +1,6 @@
 //! The readers' threads, from their start to their join.
 
-ghost use Rattle.std.specs.Prelude.{◌≡◌, ◌≢◌, ◌<◌, ◌≤◌, ◌++◌, ◌∷◌, [], ℕ, List, All, Contains, IfOk, IfSome, Result, map, vec_capacity, vec_len};
+ghost use Rattle.std.specs.Prelude.{◌≡◌, ◌≢◌, ◌<◌, ◌≤◌, ◌++◌, ◌∷◌, [], ℕ, List, All, Contains, IfOk, IfSome, Result, length, map, vec_capacity, vec_len};
 ghost use Rattle.gr_model.specs.declared.event.Event.{Event as AnyEvent};
 ghost use Rattle.gr_record.specs.declared.fault.Fault.{Fault as AnyFault};
 ghost use Rattle.gr_record.specs.declared.fault.Fault.TheVariants as faults;
@@ -74,6 +74,24 @@ fn most_readers<R: Threads>(rt: &R, streams: usize) -> u64
     }
 }
 
+/// Waits until the thread of so many places before has ended, if there is one, so that a further one may start.
+fn make_way<R: Threads, A: Allocator, T: Read + Send + Drop + 'static>(
+    rt: &R,
+    threads: &mut Vec<ReaderThread<T, A>, A>,
+    place: u64,
+    most: u64,
+)
+    requires most { 0 < most }
+    requires place { place ≡ length threads.old.items }
+    ensures items { threads.new.items ≡ threads.old.items }
+    ensures len { vec_len threads.new ≡ vec_len threads.old }
+    ensures capacity { vec_capacity threads.new ≡ vec_capacity threads.old }
+{
+    if place >= most {
+        threads[(place - most) as usize].settle(rt);
+    }
+}
+
 /// Starts a thread for each reader, with the sender of its stream's group, once enough of those before it have ended.
 /// Requires: the streams are of different groups, and each has a sender, which has sent nothing; there is room.
 pub(crate) fn start_all<R, A, T>(
@@ -102,9 +120,7 @@ where
     let most = most_readers(&rt, sources.len());
     for source in sources {
         let sender = take_sender(&mut senders, source.header.group);
-        if place >= most {
-            threads[(place - most) as usize].settle(&rt);
-        }
+        make_way(&rt, &mut threads, place, most);
         threads.push_reserved(ReaderThread::start(rt, alloc, place, source, sender, abandoned));
         place += 1;
     }

@@ -12,13 +12,12 @@ use gr_sender::sender::Sender;
 use std::alloc::{Allocator, Global};
 use std::io::Read;
 use std::marker::Model;
-use std::mem;
 use std::snapshot::Snapshot;
 use std::sync::atomic::{AtomicBool, Ordering};
 use std::sync::{Arc, Wait};
-use std::thread;
 use std::thread::{Promise, PromisedHandle, Threads};
 use std::time::Clock;
+use std::{mem, thread};
 
 /// What a reader's thread promises of its end: what reading the stream at this place leaves, of this source, to this sender.
 #[derive(Drop)]

@@ -77,7 +77,7 @@ loop-source-preserved g c =
     let b = c.start.result in
     let sender = c.take_sender-sender.result in
     let count : length bs ≡ length c.loop-source.yielded = sym (length-map bs (λ (x : Begun). x.sender.group)) ∙ (ap length inv.begun.groups ∙ (length-map (map (λ (x : Source _). x.header) c.loop-source.yielded) (λ (h : Header). h.group) ∙ length-map c.loop-source.yielded (λ (x : Source _). x.header))) in
-    let pushed = c.push_reserved.ensures.items in
+    let pushed = c.push_reserved.ensures.items ∙ ap (λ (l : List Begun). l ++ b ∷ []) c.make_way.ensures.items in
     let grown : length (c.loop-source.yielded ++ s ∷ []) ≡ length c.loop-source.yielded + 1 = length-append c.loop-source.yielded (s ∷ []) in
     let served = subst (λ l. AreServed (map (λ (x : Source _). x.header) l) c.loop-source.senders.items) items inv.served in
     record {
@@ -100,12 +100,18 @@ loop-source-preserved g c =
           let of_run : IsOfRun run sender.group sender.queue.queue = senders sender (inv.fewer sender c.take_sender-sender.ensures.there) in
           rw pushed (All-push (λ (x : Begun). IsOfRun run x.sender.group x.sender.queue.queue) bs b (inv.run run senders) (subst (λ (x : Begun). IsOfRun run x.sender.group x.sender.queue.queue) (sym c.start.ensures) of_run));
       place = omega (arith, inv.place, grown);
-      count = omega (arith, inv.count, grown, c.push_reserved.ensures.len);
-      room = omega (arith, inv.room, c.in-Some.ensures.steps.1, c.push_reserved.ensures.len, c.push_reserved.ensures.capacity);
+      count = omega (arith, inv.count, grown, c.push_reserved.ensures.len, c.make_way.ensures.len);
+      room = omega (arith, inv.room, c.in-Some.ensures.steps.1, c.push_reserved.ensures.len, c.push_reserved.ensures.capacity, c.make_way.ensures.len, c.make_way.ensures.capacity);
     }
 
 pub push_reserved-requires : goal.push_reserved-requires
-push_reserved-requires g c = omega (arith, c.loop-source.invariant.room, c.in-Some.ensures.steps.1)
+push_reserved-requires g c = omega (arith, c.loop-source.invariant.room, c.in-Some.ensures.steps.1, c.make_way.ensures.len, c.make_way.ensures.capacity)
+
+pub make_way-requires-clause-place : goal.make_way-requires-clause-place
+make_way-requires-clause-place g c κs within =
+    let inv = c.loop-source.invariant in
+    let count : length c.loop-source.threads.items ≡ length c.loop-source.yielded = sym (length-map c.loop-source.threads.items (λ (x : Begun). x.sender.group)) ∙ (ap length inv.begun.groups ∙ (length-map (map (λ (x : Source _). x.header) c.loop-source.yielded) (λ (h : Header). h.group) ∙ length-map c.loop-source.yielded (λ (x : Source _). x.header))) in
+    inv.place ∙ sym count
 
 pub returns-clause-run : goal.returns-clause-run
 returns-clause-run g c = c.loop-source.invariant.run
