@@ -11,7 +11,7 @@ import sys
 import tempfile
 from typing import Callable, List, NoReturn, Optional
 
-from . import native, outputs, recording, simulator
+from . import native, outputs, page, recording, simulator
 from .judges import Judge
 from .judging import INCOMPLETE, Reason
 from .known import Baseline, Suppressions, Wrong
@@ -93,7 +93,7 @@ def add_outputs(made: argparse.ArgumentParser) -> None:
     """The options of what is told, and to whom."""
     told = made.add_argument_group("for build servers")
     for form, what in (("json", "every launch and every finding as JSON"), ("sarif", "the findings as SARIF 2.1.0"),
-                       ("junit", "a case for each kernel as JUnit")):
+                       ("junit", "a case for each kernel as JUnit"), ("html", "a page to look at: sources, findings, pictures")):
         told.add_argument(f"--{form}", metavar="FILE", help=f"writes {what}")
     told.add_argument("--baseline", metavar="FILE", help="the findings of this file are known, and only others count")
     told.add_argument("--update-baseline", action="store_true", help="writes what is found into the baseline, so that it is known")
@@ -108,6 +108,8 @@ def filters_of(options: argparse.Namespace) -> List[Filter]:
         path = getattr(options, name)
         if path and (os.path.isdir(path) or not os.access(os.path.dirname(path) or ".", os.W_OK)):
             stop(WRONG_WORDS, f"{path} can't be written")
+    if options.html:
+        page.needed()
     if options.update_baseline and not options.baseline:
         stop(WRONG_WORDS, "--update-baseline needs --baseline FILE")
     try:
@@ -224,10 +226,7 @@ class Recorder:
 
 
 def record(options: argparse.Namespace) -> int:
-    try:
-        recorder = Recorder(options)
-    except Missing as missing:
-        stop(MISSING, str(missing))
+    recorder = Recorder(options)
     recorder.run()
     if options.only_record:
         return recorder.only_recorded()
@@ -258,6 +257,8 @@ def guarded(run: Callable[[], int]) -> int:
     signal.signal(signal.SIGTERM, recording.stop)
     try:
         return run()
+    except Missing as missing:
+        stop(MISSING, str(missing))
     except (KeyboardInterrupt, Stopped):
         return INCOMPLETE
     except BrokenPipeError:

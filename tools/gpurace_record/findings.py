@@ -26,7 +26,7 @@ DIVERGENT = {"missing": "some work-items never reach it", "site": "the work-item
 NO_PLACE = "unknown place"
 MOST_KINDS = 200     # of races of a launch
 MOST_DIVERGENT = 100  # groups with divergent barriers that are looked at
-MOST_STEPS = 4       # of an item on each side of its access that are kept
+MOST_STEPS = 3       # of an item on each side of its access that are kept
 OUTSIDE = re.compile(r"(?:.* of |in )(.+?),? which has (?:\d+ bytes?|no memory)")
 
 
@@ -40,6 +40,8 @@ class Mark:
     instance: int = -1  # of a barrier
     flags: int = 0
     is_racing: bool = False
+    key: Tuple[int, ...] = ()                # of a release: the group and the item of the trace, and its number
+    takes: Tuple[Tuple[int, ...], ...] = ()  # of an acquire: such releases
 
 
 @dataclasses.dataclass
@@ -177,7 +179,7 @@ class Reader:
     def race(self, kind: Dict[str, Any]) -> Finding:
         said, race = kind["kind"], kind["race"]
         group = race["word"].get("group")
-        accesses = [self.access(said[key], race[key], race["word"]) for key in ("first", "second")]
+        accesses = [self.access(said[key], race[key]) for key in ("first", "second")]
         runs = [Run(run["first"].get("group"), run["first"]["number"], run["last"]) for run in kind["runs"]]
         finding = Finding("race", self.kernel, "", race["cause"]["name"], race["cause"]["sentence"], kind["words"], accesses=accesses,
                           maps=self.maps(said["space"], runs))
@@ -185,32 +187,49 @@ class Reader:
             any(it.first <= run.first and run.last <= it.last for it in self.equal.get(run.group, ())) for run in runs)
         pair = self.pair(said, race, accesses)
         if pair:
+            self.put_marks((race["first"], race["second"]), accesses)
             finding.message = causes.sentence(finding.cause, finding.message, pair)
         buffer = race["buffer"]
         shown = f"{buffer['name']}[{buffer['index']}]" if buffer else f"{said['space']} word {race['word']['number']}"
         finding.shown = shown + ("" if group is None else f" of {self.shape.group_told(group)}")
         return finding
 
-    def access(self, what: str, event: Dict[str, Any], word: Dict[str, Any]) -> Access:
+    def access(self, what: str, event: Dict[str, Any]) -> Access:
         group, item, index = event["group"], event["item"], event["index"]
         place = event["place"] or ""
         access = Access(what, self.shape.who(group, item), place, self.texts.line(place), group=self.shape.group(group), item=item, index=index)
         if group in self.groups:
             step = self.groups[group].step(item, index)
             access.scope, access.order = step.scope, step.order
-            access.marks = self.marks(group, item, index, (step.space, word["number"]))
         return access
 
-    def marks(self, group: int, item: int, index: int, word: Tuple[int, int]) -> List[Mark]:
-        """The access of this index and the steps around it."""
-        steps = [step for step in self.groups[group].steps[item] if step.kind == "barrier" or step.order in ("acq", "rel", "both")
-                 or (step.space, step.word) == word]
-        at = next(number for number, step in enumerate(steps) if step.index == index)
-        return [self.mark(group, item, step, step.index == index) for step in steps[max(0, at - MOST_STEPS):at + MOST_STEPS + 1]]
+    def put_marks(self, events: Tuple[Dict[str, Any], Dict[str, Any]], accesses: List[Access]) -> None:
+        """Gives both accesses the steps around them. Of two items of a group the same barriers are shown: from the one before the first of the
+        two to the one behind the last; of many those at both ends."""
+        number, group = events[0]["group"], self.groups[events[0]["group"]]
+        shown: Optional[Set[int]] = None
+        if number == events[1]["group"]:
+            low, high = sorted(group.phase(event["item"], event["index"]) for event in events)
+            shown = {*range(low - 1, min(high, low + MOST_STEPS) + 1), *range(max(low, high - MOST_STEPS), high + 1)}
+        for event, access in zip(events, accesses):
+            access.marks = self.marks(event["group"], event["item"], event["index"], shown)
+
+    def marks(self, group: int, item: int, index: int, shown: Optional[Set[int]]) -> List[Mark]:
+        """The access of this index and the steps around it; of barriers those that are shown, or are near."""
+        racing, steps = self.groups[group].step(item, index), self.groups[group].steps[item]
+        word = (racing.space, racing.word)
+        near = [step for step in steps if (step.space, step.word) == word or step.is_release() or step.is_acquire() or (step.kind == "barrier" and shown is None)]
+        at = near.index(racing)
+        near = near[max(0, at - MOST_STEPS):at + MOST_STEPS + 1]
+        if shown is not None:
+            near = [step for step in near if self.groups[group].phase(item, step.index) - 1 in shown or step is racing]
+            near += [step for number, step in enumerate(self.groups[group].barriers[item]) if number in shown]
+        return [self.mark(group, item, step, step is racing) for step in sorted(near)]
 
     def mark(self, group: int, item: int, step: Step, is_racing: bool) -> Mark:
         if step.kind != "barrier":
-            return Mark(step.kind, self.places.event(group, item, step.index), step.scope, step.order, is_racing=is_racing)
+            key = (group, item, step.release) if step.is_release() else ()
+            return Mark(step.kind, self.places.event(group, item, step.index), step.scope, step.order, is_racing=is_racing, key=key, takes=step.names)
         return Mark("barrier", self.places.site(step.word), instance=self.groups[group].phase(item, step.index), flags=step.space)
 
     def pair(self, said: Dict[str, Any], race: Dict[str, Any], accesses: List[Access]) -> Optional[causes.Pair]:

@@ -8,6 +8,7 @@ import re
 import xml.etree.ElementTree as xml
 from typing import Any, Callable, Dict, List, Tuple
 
+from . import page
 from .findings import Access, Finding
 from .judging import Launch
 from .known import Baseline, Suppressions
@@ -149,4 +150,4 @@ def as_junit(report: Report, words: List[str]) -> str:
     return '<?xml version="1.0" encoding="UTF-8"?>\n' + xml.tostring(whole, encoding="unicode") + "\n"
 
 
-FORMS: Dict[str, Callable[[Report, List[str]], str]] = {"json": as_json, "sarif": as_sarif, "junit": as_junit}
+FORMS: Dict[str, Callable[[Report, List[str]], str]] = {"json": as_json, "sarif": as_sarif, "junit": as_junit, "html": page.as_html}

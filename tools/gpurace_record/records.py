@@ -1,6 +1,7 @@
 """What is read of a group's stream: its barriers, and what some of its items do to some words."""
 from __future__ import annotations
 
+import struct
 from typing import Dict, List, NamedTuple, Set, Tuple
 
 from .folders import HEADER, RECORD_FORMS, mapped, streams_in, streams_of
@@ -8,6 +9,9 @@ from .folders import HEADER, RECORD_FORMS, mapped, streams_in, streams_of
 BARRIER, END = 5, 6
 KINDS = ["read", "write", "load", "store", "rmw", "barrier"]
 SCOPES, ORDERS = ["", "grp", "dev"], ["", "rlx", "acq", "rel", "both"]
+NAME = struct.Struct("<HHI")
+NAMES_AT = 12         # in a record
+NO_NAME = (0xffff, 0xffff, 0xffffffff)
 MOST_BYTES = 1 << 27  # of a stream that is read
 
 
@@ -19,6 +23,8 @@ class Step(NamedTuple):
     scope: str
     order: str
     word: int
+    release: int = -1                          # its number among the releases of its item
+    names: Tuple[Tuple[int, int, int], ...] = ()  # the releases that it takes: group, item and number
 
     def is_release(self) -> bool:
         return self.order in ("rel", "both")
@@ -37,16 +43,20 @@ class Group:
         form, _, self.items, _ = HEADER.unpack_from(stream)
         self.barriers: List[List[Step]] = [[] for _ in range(self.items)]
         self.steps: Dict[int, List[Step]] = {item: [] for item in wanted}
-        count = [0] * self.items
-        for kind, space, scope, order, item, word in RECORD_FORMS[form].iter_unpack(stream[HEADER.size:]):
+        count, releases, record = [0] * self.items, [0] * self.items, RECORD_FORMS[form]
+        for at, (kind, space, scope, order, item, word) in enumerate(record.iter_unpack(stream[HEADER.size:])):
             if kind == BARRIER:
                 step = Step(count[item], "barrier", space, "", "", word)
                 self.barriers[item].append(step)
                 if item in wanted:
                     self.steps[item].append(step)
             elif item in wanted and kind != END and (order > 1 or (space, word) in wanted[item]):
-                self.steps[item].append(Step(count[item], KINDS[kind], space, SCOPES[scope], ORDERS[order], word))
+                start = HEADER.size + at * record.size
+                names = names_in(stream[start + NAMES_AT:start + record.size]) if order in (2, 4) else ()
+                self.steps[item].append(Step(count[item], KINDS[kind], space, SCOPES[scope], ORDERS[order], word,
+                                             releases[item] if order > 2 else -1, names))
             count[item] += 1
+            releases[item] += order > 2
 
     def phase(self, item: int, index: int) -> int:
         """How many barriers of the item stand before its record of this index."""
@@ -54,6 +64,10 @@ class Group:
 
     def step(self, item: int, index: int) -> Step:
         return next(step for step in self.steps[item] if step.index == index)
+
+
+def names_in(places: memoryview) -> Tuple[Tuple[int, int, int], ...]:
+    return tuple(name for name in NAME.iter_unpack(places) if name != NO_NAME)
 
 
 def groups_of(folder: str, wanted: Dict[int, Wanted]) -> Dict[int, Group]:
