@@ -189,7 +189,7 @@ class Recorder:
         seeds: List[Optional[int]] = [None]
         if self.options.seed or self.options.schedules:
             seeds = [int(self.options.seed or 1) + at for at in range(number)]
-        with tempfile.TemporaryDirectory() as room:
+        with tempfile.TemporaryDirectory(prefix="gpurace-", dir=recording.room()) as room:
             for seed in seeds:
                 folder = os.path.abspath(self.options.keep) if self.options.keep else os.path.join(room, "launches")
                 folder = os.path.join(folder, f"seed-{seed}") if number > 1 else folder

@@ -10,6 +10,7 @@ from typing import Dict, List, Optional
 from .judging import Reason
 
 CLOSES = 10.0   # seconds that a program has to end after Ctrl-C or SIGTERM
+SHARED_MEMORY, LEAST_ROOM = "/dev/shm", 1 << 30
 TIMED_OUT = 124  # the status of a program that the recorder has ended
 
 
@@ -65,6 +66,15 @@ def signal_name(number: int) -> str:
 
 def cache() -> str:
     return os.path.join(os.environ.get("XDG_CACHE_HOME", os.path.expanduser("~/.cache")), "gpurace")
+
+
+def room() -> Optional[str]:
+    """The folder for launches that are not kept: in memory, where there is room. On a disk it takes longer to make and remove their files
+    than to judge them."""
+    if os.environ.get("TMPDIR") or not os.access(SHARED_MEMORY, os.W_OK):
+        return None
+    sizes = os.statvfs(SHARED_MEMORY)
+    return SHARED_MEMORY if sizes.f_bavail * sizes.f_frsize >= LEAST_ROOM else None
 
 
 class Missing(Exception):
