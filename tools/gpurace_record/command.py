@@ -194,19 +194,21 @@ class Recorder:
                 folder = os.path.abspath(self.options.keep) if self.options.keep else os.path.join(room, "launches")
                 folder = os.path.join(folder, f"seed-{seed}") if number > 1 else folder
                 os.makedirs(folder, exist_ok=True)
-                self.run_once(folder, seed)
+                self.run_once(room, folder, seed)
                 if any(reason.name == "stopped" for reason in self.report.run_reasons):
                     break
         self.report.sort()
 
-    def run_once(self, folder: str, seed: Optional[int]) -> None:
+    def run_once(self, room: str, folder: str, seed: Optional[int]) -> None:
         options = self.options
-        judge = Judge(self.program, folder, self.report, bool(options.keep), int(options.jobs), seed) if self.program else None
+        tests = os.path.join(room, "tests")
+        os.makedirs(tests, exist_ok=True)
+        judge = Judge(self.program, folder, self.report, bool(options.keep), int(options.jobs), seed, tests) if self.program else None
         if judge:
             judge.start()
         variables = (simulator.environment(options, folder) if options.simulator else
                      native.environment(self.out, options, folder, seed, is_judged=not options.keep))
-        run = Run(self.command, variables)
+        run = Run(self.command, {**variables, **recording.of_tests(tests)} if judge else variables)
         sys.stdout.flush()
         self.report.run_reasons += run.reasons(options.timeout, options.ignore_program_status)
         try:

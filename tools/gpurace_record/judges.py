@@ -2,6 +2,7 @@
 from __future__ import annotations
 
 import concurrent.futures
+import json
 import os
 import shutil
 import threading
@@ -12,17 +13,19 @@ from typing import Dict, List, Optional, Set
 from .folders import end_files, end_streams, info_of
 from .judging import Launch, Reason, judged
 from .pipes import Piped
-from .report import Report
+from .report import NEW, Report
 
 PAUSE = 0.02  # seconds between two looks at the folder
 
 
 class Judge(threading.Thread):
-    """A folder that is not kept is removed when it is judged: the recorder waits for that where much is not judged yet. Of a launch of
+    """Judges launches as soon as they are recorded. A folder that is not kept is removed when it is judged: the recorder waits for that where much is not judged yet. Of a launch of
     many records it reads pipes while they are recorded."""
 
-    def __init__(self, program: str, folder: str, report: Report, is_kept: bool, jobs: int = 1, seed: Optional[int] = None):
+    def __init__(self, program: str, folder: str, report: Report, is_kept: bool, jobs: int, seed: Optional[int], tests: str):
+        """`tests` is a folder in which the plugin of pytest asks, and is told."""
         super().__init__(daemon=True)
+        self.tests = tests
         self.program, self.folder, self.report, self.is_kept, self.seed = program, folder, report, is_kept, seed
         self.seen: Set[str] = set()
         self.piped: Dict[str, Piped] = {}
@@ -34,8 +37,11 @@ class Judge(threading.Thread):
             for name in self.having("piped.txt"):
                 if name not in self.piped:
                     self.piped[name] = Piped(self.program, os.path.join(self.folder, name))
+            asked = [name for name in os.listdir(self.tests) if name.startswith("asked")]
             if not self.judge_all():
-                time.sleep(PAUSE)
+                time.sleep(PAUSE / 10 if asked else PAUSE)
+            for name in asked:  # what was recorded before it asked is judged
+                os.remove(os.path.join(self.tests, name))
         self.judge_all()
         for name in self.having("begun.txt"):
             end_streams(os.path.join(self.folder, name))
@@ -69,8 +75,16 @@ class Judge(threading.Thread):
         launch.seed = self.seed
         with self.lock:
             self.report.add(launch)
+            if launch.label:
+                self.tell_test(launch)
         if not self.is_kept:
             shutil.rmtree(path)
+
+    def tell_test(self, launch: Launch) -> None:
+        new = [it for it in launch.findings if it.state == NEW and not it.is_doubtful]
+        found = [{"fingerprint": it.fingerprint(), "text": list(it.lines())} for it in new]
+        with open(os.path.join(self.tests, "judged"), "a") as out:
+            out.write(json.dumps({"label": launch.label, "findings": found}) + "\n")
 
     def finish(self) -> None:
         """The program is over: waits until what is left is judged, the launches that it did not end too."""

@@ -49,7 +49,7 @@ class Launch:
 
     def outcome(self) -> Tuple:
         """What launches have in common that are told as one."""
-        return (self.kernel, self.label, self.verdict, tuple(sorted({it.fingerprint() for it in self.findings})),
+        return (self.kernel, self.label if self.findings else "", self.verdict, tuple(sorted({it.fingerprint() for it in self.findings})),
                 tuple(sorted({reason.text for reason in self.reasons})))
 
     def decide(self) -> None:

@@ -75,7 +75,7 @@ class Report:
     @staticmethod
     def name(launch: Launch) -> str:
         return (f"launch {launch.number}, {launch.kernel}" + (f", with seed {launch.seed}" if launch.seed is not None else "")
-                + (f", of {launch.label}" if launch.label else ""))
+                + (f", of {launch.label}" if launch.label and launch.findings else ""))
 
     def entries(self) -> Dict[str, Entry]:
         """The findings by their fingerprints, in the order in which they came."""

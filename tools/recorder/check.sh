@@ -76,12 +76,15 @@ expect "another launch" 2 "no launch was recorded" -- --launch 1 "$work/sum_tile
 expect "this kernel, and this launch" 1 "races 32 diverge 0" -- --kernel sum_tiles --launch 0 "$work/sum_tiles" sum_tiles.cl 1
 expect "no program" 3 "there is no program ./sum" -- ./sum sum_tiles.cl 1
 expect "no file" 3 "there is no file sum.sim" -- sum.sim
+echo "a test" > "$work/label"
+export GPURACE_LABEL="$work/label"
 expect "a launch that is kept" 0 "recorded in $work/kept: 000-sum_tiles" \
     -- --only-record --keep "$work/kept" "$work/sum_tiles" sum_tiles.cl 1
 # 160 records of a group: each of 16 items reads a number, writes it to the tile, comes to four barriers and writes a mark, a
 # byte; 15 sums are two reads and a write each; one item reads the last and writes it; and the end
 has buffers "g [0-9]* 64 input" "g [0-9]* 4 sums" "g [0-9]* 64 marks.byte" "l 0 [0-9]* 16 tile" "l 3 [0-9]* 16 tile"
-has info.txt "kernel sum_tiles" "launch 0" "global 64 1 1" "local 16 1 1" "groups 4" "items 64" "records 640" \
+unset GPURACE_LABEL
+has info.txt "kernel sum_tiles" "launch 0" "label a test" "global 64 1 1" "local 16 1 1" "groups 4" "items 64" "records 640" \
     "accesses-of-parts-of-words 64"
 expect "a folder that is not empty" 3 "$work/kept is not empty" -- --keep "$work/kept" "$work/sum_tiles" sum_tiles.cl 0
 # six groups count themselves in turn; the last reads the five other parts
