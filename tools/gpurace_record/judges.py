@@ -79,6 +79,7 @@ class Judge(threading.Thread):
                 self.tell_test(launch)
         if not self.is_kept:
             shutil.rmtree(path)
+            self.seen.discard(name)  # another process of the program may have a launch of this number
 
     def tell_test(self, launch: Launch) -> None:
         new = [it for it in launch.findings if it.state == NEW and not it.is_doubtful]
