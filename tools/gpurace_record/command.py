@@ -22,7 +22,7 @@ WRONG_WORDS, MISSING = 3, 70
 PARTS = re.compile("[0-9]{1,9}:[0-9]{1,9}(,[0-9]{1,9}:[0-9]{1,9})*")
 STATUSES = """\
 Kernels run instrumented on the host's threads, at native speed, whatever the device is. Where a package is missing, it says which.
-The program gpurace is that of this tree, else the one on the path; GPURACE_PROGRAM names another.
+The program gpurace is that of this tree, or that which was installed beside, else the one on the path; GPURACE_PROGRAM names another.
 
 The status is
   0   all launches were recorded whole, the program ended well, and nothing was found
@@ -157,12 +157,14 @@ def options_of(words: List[str]) -> argparse.Namespace:
 
 
 def find_gpurace() -> str:
-    """The program that judges. That of this tree is run by itself, since the script takes longer to find it than it takes to judge."""
-    program, script = os.environ.get("GPURACE_PROGRAM", ""), os.path.join(simulator.TOOLS, "..", "gpurace")
+    """The program that judges: that of this tree, that which was installed beside, or that on the path. That of the tree is run by itself,
+    since its script takes longer to find it than it takes to judge."""
+    script, beside = (os.path.normpath(os.path.join(simulator.TOOLS, *up, "gpurace")) for up in ([".."], ["..", ".."]))
+    program = os.environ.get("GPURACE_PROGRAM") or ""
     try:
         if not program and os.path.exists(script):
             program = subprocess.run([script, "--which"], stdout=subprocess.PIPE, text=True).stdout.strip()
-        program = program or shutil.which("gpurace") or "gpurace"
+        program = program or next((it for it in (shutil.which(beside), shutil.which("gpurace")) if it), "gpurace")
         ran = subprocess.run([program, "--version"], stdout=subprocess.DEVNULL, stdin=subprocess.DEVNULL)
     except OSError as error:
         stop(MISSING, f"{program}: {error.strerror}")
