@@ -1,4 +1,4 @@
-"""The recorder: what it says of launches that were written by hand, and of kernels that it records natively and on the simulator."""
+"""The recorders: what is said of kernels that are recorded natively and on the simulator."""
 
 import os
 import shutil
@@ -24,9 +24,6 @@ class Recorder(unittest.TestCase):
         missing = [it for it in commands if not shutil.which(it)]
         if missing:
             self.skipTest(f"this recorder wants {', '.join(missing)}")
-
-    def test_what_is_said_of_launches_written_by_hand(self):
-        self.assert_passes(sys.executable, RECORDER / "tests" / "folders.py", os.environ["GPURACE"])
 
     def test_kernels_on_the_simulator(self):
         self.want(SIMULATOR)

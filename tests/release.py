@@ -7,6 +7,7 @@ import subprocess
 import tempfile
 import unittest
 
+from testing.launches import put_racy
 from testing.program import TOP, pack
 
 
@@ -15,6 +16,7 @@ def copy_of_repository(to):
     for name in ("gpurace", "crates.txt", "HANDLES"):
         shutil.copy2(TOP / name, to / name)
     shutil.copytree(TOP / "tools", to / "tools")
+    shutil.copytree(TOP / "recorder", to / "recorder", ignore=shutil.ignore_patterns("out"))
     shutil.copytree(TOP / "crates", to / "crates", ignore=shutil.ignore_patterns("out", "proofs", "specs", "wrong", "must-fail"))
     built = to / "crates" / "gr_cli" / "out" / "gr_cli"
     built.parent.mkdir()
@@ -96,6 +98,24 @@ class Release(unittest.TestCase):
         installed = self.top / "somewhere" / "bin" / "gpurace"
         ran = subprocess.run([installed, "--version"], stdout=subprocess.PIPE, check=True)
         self.assertTrue(ran.stdout.startswith(b"gpurace "))
+
+    def test_the_script_installs_what_records_and_judges(self):
+        """It needs nothing of the tree, and takes the program beside it, or that on the path."""
+        place = self.top / "somewhere" / "bin"
+        for _ in range(2):  # also where it is installed already
+            self.assertEqual(self.script("--install", place).returncode, 0)
+        put_racy(self.top / "kept")
+        for name in ("gpurace", "crates", "tools", "recorder"):
+            (self.top / name).rename(self.top / f"{name}-moved")
+        environ = {"PATH": "/usr/bin:/bin"}
+        ran = subprocess.run([place / "gpurace-judge", self.top / "kept"], stdout=subprocess.PIPE, env=environ, check=False)
+        self.assertEqual(ran.returncode, 1)
+        self.assertIn(b"race on tile[8] of group 0", ran.stdout)
+        (place / "gpurace").rename(self.top / "gpurace")
+        ran = subprocess.run([place / "gpurace-judge", self.top / "kept"], stdout=subprocess.PIPE, env={"PATH": f"/usr/bin:/bin:{self.top}"}, check=False)
+        self.assertEqual(ran.returncode, 1)
+        ran = subprocess.run([place / "gpurace-record", "--help"], stdout=subprocess.PIPE, env=environ, check=False)
+        self.assertIn(b"usage: gpurace-record", ran.stdout)
 
     def test_the_script_wants_a_folder_to_install_to(self):
         self.assertEqual(self.script("--install").returncode, 3)

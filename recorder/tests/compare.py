@@ -2,7 +2,7 @@
 compared, since they depend on the run."""
 import os
 
-from launch_files import END, HEADER, RECORD_FORMS, mapped, streams_in, streams_of
+from gpurace_record.folders import END, HEADER, RECORD_FORMS, mapped, streams_in, streams_of
 
 GRAINS = {"": 4, "half": 2, "byte": 1}
 BARRIER = 5

@@ -73,11 +73,11 @@ def product():
 
 def cases():
     far = [Case("far_right", [[0] * FAR_GROUPS], 0, {0: list(range(FAR_GROUPS))}), Case("far_wrong", [[0] * FAR_GROUPS], 1, say=(
-        "race on out[0]", "write by group 0, item 3", "write by group 300, item 3", "the two are of different work-groups"))]
+        "race on out[0]", "write by group 0, item 3", "write by group 300, item 3", "a release that an acquire takes, at memory_scope_device, would"))]
     # all words of the two tiles of each group
     tiles = [Case(f"product_{name}", [matrix(ROWS, INNER), matrix(INNER, COLUMNS), [0] * (ROWS * COLUMNS), INNER], races, results, (COLUMNS, ROWS), (4, 4),
                   say=say) for name, races, results, say in (
-                      ("right", 0, {2: product()}, ()), ("wrong", 32 * 1000, {}, ("race on s[", "race on t[", "one with CLK_LOCAL_MEM_FENCE would order them")))]
+                      ("right", 0, {2: product()}, ()), ("wrong", 32 * 1000, {}, ("race on s[", "race on t[", "a barrier with CLK_LOCAL_MEM_FENCE between them would")))]
     # the parts of the groups that are not the last one, and where nobody is ordered the count itself
     blocks = [Case(f"last_block_{name}", [[1] * (2 * BLOCKS), [0] * BLOCKS, [0], [0]], races, {3: [2 * BLOCKS]}, (2 * BLOCKS,), (2,))
               for name, races in (("right", 0), ("relaxed", BLOCKS - 1), ("scope", BLOCKS))]

@@ -1,17 +1,11 @@
 #!/bin/sh
-# Compares what is said of launches in folders that were written by hand with what was worked out by hand. Then builds
-# the plugin, records the kernels of tests/ with their mistakes and without, and compares in the same way. Says SKIPPED
-# of the second where Oclgrind or an OpenCL loader to link with is not there; the first is then done where
-# GPURACE_PROGRAM is set.
+# Builds the plugin, records the kernels of tests/ with their mistakes and without, and compares what is said with what was
+# worked out by hand. Says SKIPPED where Oclgrind or an OpenCL loader to link with is not there.
 #
-#   check.sh      GPURACE_PROGRAM names a built gpurace; without it ./gpurace builds one, which takes most of an hour
+#   check.sh      GPURACE_PROGRAM names a gpurace; without it that of this tree
 set -eu
 here=$(cd "$(dirname "$0")" && pwd)
 failures=0
-folders() {
-    python3 "$here/tests/folders.py" "$1" || failures=$((failures + 1))
-}
-[ -z "${GPURACE_PROGRAM:-}" ] || folders "$GPURACE_PROGRAM"
 for needed in oclgrind oclgrind-kernel llvm-config-14 python3; do
     if ! command -v $needed > /dev/null; then
         echo "check.sh: SKIPPED, nothing was recorded: $needed is not here (Debian: apt-get install oclgrind" \
@@ -66,14 +60,14 @@ expect "no mistake" 0 "sum 2016" "launch 0, sum_tiles: nothing found (4 groups o
 expect "a barrier is missing" 1 "races 32 diverge 0 unmatched 0 held 0" \
     "race on tile\[8..15\] of 4 groups (32 words); on tile\[8\] of group 0:" \
     "kernel.cl:15:[0-9]*: write by group 0, item 8" "tile\[l\] = input\[get_global_id(0)\];" \
-    "kernel.cl:19:[0-9]*: read by group 0, item 0" "one with CLK_LOCAL_MEM_FENCE would order them" -- "$work/sum_tiles" sum_tiles.cl 1
-expect "a flag is missing" 1 "races 32 diverge 0 unmatched 0 held 0" "the barrier between the two, kernel.cl:16:5, would order them with CLK_LOCAL_MEM_FENCE" \
+    "kernel.cl:19:[0-9]*: read by group 0, item 0" "a barrier with CLK_LOCAL_MEM_FENCE between them would" -- "$work/sum_tiles" sum_tiles.cl 1
+expect "a flag is missing" 1 "races 32 diverge 0 unmatched 0 held 0" "the barrier at kernel.cl:16:5 does not order local memory: give it CLK_LOCAL_MEM_FENCE" \
     -- "$work/sum_tiles" sum_tiles.cl 2
 # behind the first barrier only items below 8, 4, 2 and 1 come: four divergent barriers a group, and tile[1..7] race
 expect "barriers in a branch" 1 "races 28 diverge 16 unmatched 0 held 0" "race on tile\[1..7\] of 4 groups (28 words)" \
-    "divergent barrier, number 1 of group 0, and 3 more alike: some work-items never reach it" "kernel.cl:21:[0-9]*: 8 work-items, the first is 0" \
-    "no barrier: 8 work-items, the first is 8" -- "$work/sum_tiles" sum_tiles.cl 3
-expect "a window" 1 "races 16 diverge 0" "the report is of groups 1 to 2 of 4 (as 0 to 1)" \
+    "divergent barrier, number 1 of group 0, and 3 more alike:" "some work-items never reach it; 28 races follow from it" "kernel.cl:21:[0-9]*: 8 work-items, the first is item 0" \
+    "no barrier: 8 work-items, the first is item 8" -- "$work/sum_tiles" sum_tiles.cl 3
+expect "a window" 1 "races 16 diverge 0" "only groups 1 to 2 of 4 were recorded" \
     -- --groups 1:2 "$work/sum_tiles" sum_tiles.cl 1
 expect "no group of the window" 2 "not recorded: it has 4 work-groups, and none of the window" \
     -- --groups 4:2 "$work/sum_tiles" sum_tiles.cl 1
@@ -82,18 +76,21 @@ expect "another launch" 2 "no launch was recorded" -- --launch 1 "$work/sum_tile
 expect "this kernel, and this launch" 1 "races 32 diverge 0" -- --kernel sum_tiles --launch 0 "$work/sum_tiles" sum_tiles.cl 1
 expect "no program" 3 "there is no program ./sum" -- ./sum sum_tiles.cl 1
 expect "no file" 3 "there is no file sum.sim" -- sum.sim
+echo "a test" > "$work/label"
+export GPURACE_LABEL="$work/label"
 expect "a launch that is kept" 0 "recorded in $work/kept: 000-sum_tiles" \
     -- --only-record --keep "$work/kept" "$work/sum_tiles" sum_tiles.cl 1
 # 160 records of a group: each of 16 items reads a number, writes it to the tile, comes to four barriers and writes a mark, a
 # byte; 15 sums are two reads and a write each; one item reads the last and writes it; and the end
 has buffers "g [0-9]* 64 input" "g [0-9]* 4 sums" "g [0-9]* 64 marks.byte" "l 0 [0-9]* 16 tile" "l 3 [0-9]* 16 tile"
-has info.txt "kernel sum_tiles" "launch 0" "global 64 1 1" "local 16 1 1" "groups 4" "items 64" "records 640" \
+unset GPURACE_LABEL
+has info.txt "kernel sum_tiles" "launch 0" "label a test" "global 64 1 1" "local 16 1 1" "groups 4" "items 64" "records 640" \
     "accesses-of-parts-of-words 64"
 expect "a folder that is not empty" 3 "$work/kept is not empty" -- --keep "$work/kept" "$work/sum_tiles" sum_tiles.cl 0
 # six groups count themselves in turn; the last reads the five other parts
 expect "a hand-over" 0 "launch 0, sum_all: nothing found" \
     -- --opencl20 --build-options -DORDER=memory_order_acq_rel sum_all.sim
-expect "a relaxed count" 1 "races 5 diverge 0 unmatched 0 held 0" "race on parts\[0..4\]" "different work-groups, which no barrier" \
+expect "a relaxed count" 1 "races 5 diverge 0 unmatched 0 held 0" "race on parts\[0..4\]" "a release that an acquire takes, at memory_scope_device, would" \
     -- --opencl20 --build-options -DORDER=memory_order_relaxed sum_all.sim
 expect "releases alone" 1 "races 5 diverge 0 unmatched 0 held 0" \
     -- --opencl20 --build-options -DORDER=memory_order_release sum_all.sim
@@ -102,30 +99,29 @@ expect "releases alone" 1 "races 5 diverge 0 unmatched 0 held 0" \
 expect "releases, and a load that acquires" 0 "sum_all: nothing found (6 groups of 1 work-item, 38 records)" \
     -- --opencl20 --build-options "-DORDER=memory_order_release -DACQUIRES" sum_all.sim
 # of the six releases that the load is to name, four are of groups that are not recorded
-expect "a window of hand-overs" 0 "sum_all: nothing found (2 groups" "hand-overs from groups outside the window, not recorded: 4" \
+expect "a window of hand-overs" 2 "sum_all: nothing found in what was recorded (2 groups" "hand-overs from groups outside the window, not recorded: 4" \
     -- --opencl20 --groups 4:2 --build-options "-DORDER=memory_order_release -DACQUIRES" sum_all.sim
 # each group has a record of each of its 64 items, and its end
 expect "a large launch" 0 "large: nothing found (128 groups of 64 work-items, 8320 records)" -- large.sim
-expect "a large window" 0 "large: nothing found (65 groups of 64 work-items, 4225 records)" "groups 1 to 65 of 128 (as 0 to 64)" \
+expect "a large window" 2 "(65 groups of 64 work-items, 4225 records)" "only groups 1 to 65 of 128 were recorded" \
     -- --groups 1:65 large.sim
-expect "two windows" 0 "large: nothing found (16 groups of 64 work-items, 1040 records)" \
-    "groups 0 to 7, 96 to 103 of 128 (as 0 to 7, 8 to 15)" -- --groups 0:8,96:8 large.sim
+expect "two windows" 2 "(16 groups of 64 work-items, 1040 records)" \
+    "only groups 0 to 7, 96 to 103 of 128 were recorded" "in the trace these groups are 0 to 7, 8 to 15" -- --groups 0:8,96:8 large.sim
 expect "windows in disorder" 3 "several in ascending order" -- --groups 96:8,0:8 large.sim
-expect "a window of it" 0 "large: nothing found (32 groups of 64 work-items, 2080 records)" "groups 96 to 127 of 128" \
+expect "a window of it" 2 "(32 groups of 64 work-items, 2080 records)" "groups 96 to 127 of 128" \
     -- --groups 96:32 large.sim
 expect "a copy that is waited for" 0 "copy_tiles: nothing found" -- --build-options -DWAIT=1 copy_tiles.sim
 expect "a copy that is not" 1 "races 16 diverge 0" "write by group 0, asynchronous copy" -- --build-options -DWAIT=0 copy_tiles.sim
 # twelve bytes and shorts lie side by side; the thirteenth of each is written by several
-expect "parts of words" 1 "races 2 diverge 0 unmatched 0 held 0" "race on bytes.byte\[12\]" "write by group 4, item 0" \
-    "write by group 4, item 1" "race on shorts.half\[12\]" "the two are of different work-groups" -- parts.sim
+expect "parts of words" 1 "races 2 diverge 0 unmatched 0 held 0" "race on bytes.byte\[12\]" "write by group 4 (1,1), item 0 (0,0)" \
+    "write by group 4 (1,1), item 1 (1,0)" "race on shorts.half\[12\]" "a release that an acquire takes, at memory_scope_device, would" -- parts.sim
 # four work-items execute a fence, and one of them writes behind the buffer; two groups write four words and end
-expect "what is left out" 0 "left_out: nothing found (2 groups of 2 work-items, 6 records)" \
+expect "what is left out" 1 "left_out: FOUND (2 groups of 2 work-items, 6 records)" \
     "note: fences not recorded, so that an order that they give is not seen: 4" \
-    "note: accesses out of bounds, not recorded: 1, the first at kernel.cl:8:" -- left_out.sim
+    "out of bounds: 1 access" "kernel.cl:8:[0-9]*: access by some item" -- left_out.sim
 # group 2 is stopped, and group 3 never begins
 expect "a kernel that is stopped" 2 "nothing found in what was recorded (4 groups of 2 work-items, 15 records)" \
     "records of 2 of 4 groups were lost (the first is group 2)" -- stopped.sim
-[ -n "${GPURACE_PROGRAM:-}" ] || folders "$here/../../gpurace"
 
 [ $failures = 0 ] || exit 1
 echo "check.sh: the recorder and its reports are as expected"

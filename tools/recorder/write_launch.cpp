@@ -31,6 +31,14 @@ int write_bytes(void *context, const unsigned char *bytes, size_t length) {
     return out.write(reinterpret_cast<const char *>(bytes), std::streamsize(length)).good();
 }
 
+// The first line of the file that GPURACE_LABEL names, which says which test made the launch.
+std::string test_label() {
+    std::string line;
+    std::ifstream given(variable("GPURACE_LABEL"));
+    std::getline(given, line);
+    return line;
+}
+
 class Writer {
 public:
     Writer(Launch &launch, const Settings &settings) : launch_(launch), settings_(settings) {}
@@ -215,6 +223,8 @@ private:
         std::ofstream out(folder_ + "/info.txt");
         out << "kernel " << launch_.kernel << "\nlaunch " << launch_.number << "\nglobal " << launch_.global << "\nlocal "
             << launch_.local << "\ngroups " << launch_.groups.count() << '\n';
+        const std::string label = test_label();
+        if (!label.empty()) out << "label " << label << '\n';
         if (!refusal.empty()) {
             out << "not-recorded " << refusal << '\n';
             return out.flush().good();

@@ -1,6 +1,7 @@
 #include "fiber.h"
 
 #include <atomic>
+#include <mutex>
 #include <sys/mman.h>
 
 #if !defined(__x86_64__)
@@ -33,6 +34,47 @@ namespace {
 constexpr size_t MOST_GUARDS = 20000;
 std::atomic<size_t> guards{0};
 
+// Guarded blocks of launches that have ended, for the next ones: to map and guard them anew is most of what a small launch costs.
+constexpr size_t MOST_KEPT = 1024; // guarded pieces
+struct Kept {
+    std::mutex lock;
+    size_t count = 0;
+    std::vector<Pool::Block> blocks;
+};
+Kept &kept() {
+    static auto &made = *new Kept; // threads may still run when the program ends
+    return made;
+}
+
+void unmap(const Pool::Block &block) {
+    munmap(block.memory, block.count * block.bytes);
+    guards -= block.is_guarded ? block.count : 0;
+}
+
+bool keep(const Pool::Block &block) {
+    const std::lock_guard<std::mutex> held(kept().lock);
+    if (!block.is_guarded || kept().count + block.count > MOST_KEPT) return false;
+    kept().count += block.count;
+    kept().blocks.push_back(block);
+    return true;
+}
+
+uint8_t *take_kept(size_t count, size_t bytes) {
+    const std::lock_guard<std::mutex> held(kept().lock);
+    std::vector<Pool::Block> &blocks = kept().blocks;
+    for (size_t at = 0; at < blocks.size(); at++) {
+        if (blocks[at].count != count || blocks[at].bytes != bytes) continue;
+        uint8_t *memory = blocks[at].memory;
+        blocks.erase(blocks.begin() + long(at));
+        kept().count -= count;
+        return memory;
+    }
+    for (const Pool::Block &block : blocks) unmap(block); // of another size
+    blocks.clear();
+    kept().count = 0;
+    return nullptr;
+}
+
 } // namespace
 
 void *make_fiber(uint8_t *top, void (*main)(void *), void *argument) {
@@ -47,10 +89,8 @@ void *make_fiber(uint8_t *top, void (*main)(void *), void *argument) {
 }
 
 Pool::~Pool() {
-    for (const Block &block : blocks_) {
-        munmap(block.memory, block.count * block.bytes);
-        guards -= block.is_guarded ? block.count : 0;
-    }
+    for (const Block &block : blocks_)
+        if (!keep(block)) unmap(block);
 }
 
 uint8_t *Pool::take(size_t count, size_t bytes, bool is_guarded) {
@@ -58,6 +98,10 @@ uint8_t *Pool::take(size_t count, size_t bytes, bool is_guarded) {
         if (block.is_taken || block.count != count || block.bytes != bytes || block.is_guarded != is_guarded) continue;
         block.is_taken = true;
         return block.memory;
+    }
+    if (uint8_t *memory = is_guarded ? take_kept(count, bytes) : nullptr) {
+        blocks_.push_back({memory, count, bytes, is_guarded, true});
+        return memory;
     }
     constexpr int kind = MAP_PRIVATE | MAP_ANONYMOUS | MAP_NORESERVE;
     void *mapped = mmap(nullptr, count * bytes, PROT_READ | PROT_WRITE, kind, -1, 0);

@@ -15,7 +15,7 @@ void *make_fiber(uint8_t *top, void (*main)(void *), void *argument);
 
 constexpr size_t PAGE = 4096;
 
-// Memory of the groups of one thread, used again when they have ended.
+// Memory of the groups of one thread, used again when they have ended; of stacks some are kept for the next launch.
 class Pool {
 public:
     ~Pool();
@@ -24,8 +24,9 @@ public:
     uint8_t *take(size_t count, size_t bytes, bool is_guarded);
     void give_back(uint8_t *memory);
 
-private:
     struct Block { uint8_t *memory; size_t count, bytes; bool is_guarded, is_taken; };
+
+private:
     std::vector<Block> blocks_;
 };
 

@@ -24,6 +24,7 @@ std::string shape_of(const Request &request) {
     std::ostringstream text;
     text << "kernel " << request.kernel->name << "\nlaunch " << request.number << '\n' << sizes("global ", range.global)
          << sizes("local ", range.local) << "groups " << range.group_count() << '\n';
+    if (!request.label.empty()) text << "label " << request.label << '\n';
     if (request.window.count() < range.group_count()) text << request.window.lines();
     for (uint64_t group = 0; request.kernel->has_copies && group < request.window.count(); group++)
         text << "copying-item " << group << ' ' << range.items_of_group() << '\n';

@@ -37,6 +37,7 @@ struct Request {
     uint32_t number = 0;                         // of the launch
     Window window;                               // the groups that are recorded
     std::string folder;
+    std::string label = test_label();            // of the test that made it
 
     bool is_recorded() const { return window.count() > 0; }
 };

@@ -2,6 +2,7 @@
 
 #include <cstdio>
 #include <cstdlib>
+#include <fstream>
 #include <poll.h>
 #include <sys/syscall.h>
 #include <unistd.h>
@@ -26,6 +27,13 @@ uint64_t number_setting(const char *name, uint64_t otherwise) {
     if (text.empty()) return otherwise;
     if (text.size() > 19 || text.find_first_not_of("0123456789") != std::string::npos) refuse(name, "a number");
     return std::stoull(text);
+}
+
+std::string test_label() {
+    std::string line;
+    std::ifstream given(setting("LABEL", "/dev/null"));
+    std::getline(given, line);
+    return line;
 }
 
 Settings::Settings() {

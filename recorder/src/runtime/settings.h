@@ -12,6 +12,9 @@ namespace gpurace {
 std::string setting(const char *name, const std::string &otherwise = "");
 uint64_t number_setting(const char *name, uint64_t otherwise = 0);
 
+// The first line of the file that GPURACE_LABEL names now, or nothing.
+std::string test_label();
+
 struct Settings {
     const std::string out = setting("OUT", "gpurace-out"), kernel = setting("KERNEL"),
                       build_options = setting("BUILD_OPTIONS"), kept_builds = setting("KEPT_BUILDS"),

@@ -1,16 +1,19 @@
 """The streams of launches, judged through pipes while they are recorded."""
+from __future__ import annotations
+
 import atexit
 import glob
 import os
 import shutil
 import subprocess
+from typing import Any, List, Tuple
 
-from launch_files import JOINED, end_files, streams_of
+from .folders import JOINED, Info, end_files, streams_of
 
 DIES_WITH_US = ["setpriv", "--pdeathsig", "KILL", "sh", "-c", '[ "$PPID" = "$0" ] && exec "$@"', str(os.getpid())]
 
 
-def start(words, **more):
+def start(words: List[str], **more: Any) -> subprocess.Popen:
     """Starts a process that Ctrl-C is not for, and that ends with the thread that starts it, however that ends."""
     words = DIES_WITH_US + words if shutil.which("setpriv") else words
     return subprocess.Popen(words, stdout=subprocess.PIPE, stderr=subprocess.DEVNULL,
@@ -20,7 +23,7 @@ def start(words, **more):
 class Piped:
     """gpurace reads the streams of a launch while it is recorded: of each group, or of all, a file and then a pipe."""
 
-    def __init__(self, program, folder):
+    def __init__(self, program: str, folder: str):
         self.folder, streams = folder, streams_of(folder)
         streams += [pipe[:-5] for pipe in self.pipes() if pipe[:-5] not in streams]
         self.reads = [start(["cat", *filter(os.path.exists, (stream, stream + ".pipe"))]) for stream in streams]
@@ -32,10 +35,10 @@ class Piped:
         for read in self.reads:
             read.stdout.close()
 
-    def pipes(self):
+    def pipes(self) -> List[str]:
         return sorted(glob.glob(os.path.join(glob.escape(self.folder), "*.pipe")))
 
-    def finish(self, info):
+    def finish(self, info: Info) -> Tuple[int, List[str]]:
         """The launch is over: the status and the lines of its report. Pipes that nobody has written to end, too."""
         for pipe in self.pipes():
             file = os.open(pipe, os.O_RDWR | os.O_NONBLOCK)  # who waits for a writer has had one

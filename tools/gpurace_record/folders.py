@@ -1,4 +1,6 @@
 """The files of a recorded launch: what info.txt says, and its streams, also how those are ended whose program died."""
+from __future__ import annotations
+
 import collections
 import glob
 import mmap
@@ -6,6 +8,7 @@ import os
 import shutil
 import struct
 import sys
+from typing import Dict, Iterator, List, NamedTuple, Optional, Tuple
 
 JOINED = "groups.gpurace"  # of a launch of many groups, whose streams stand there as they ended
 END = 6
@@ -13,10 +16,18 @@ MOST_GROUPS, MOST_ITEMS = 64, 256  # that the versions 1 and 2 have
 HEADER = struct.Struct("<4sHHI")
 SHORT, LONG = struct.Struct("<BBBBHxxI8x"), struct.Struct("<BBBBHxxI32x")  # names are passed over
 RECORD_FORMS = {b"GRT1": SHORT, b"GRT2": LONG, b"GRT3": SHORT, b"GRT4": LONG}
-Stream = collections.namedtuple("Stream", "group start end records")  # in the bytes of a file; the end is None where it has none
+Info = Dict[str, List[str]]  # the lines of info.txt by their first words
 
 
-def info_of(folder, name="info.txt"):
+class Stream(NamedTuple):
+    """A stream in the bytes of a file; the end is None where it has none."""
+    group: int
+    start: int
+    end: Optional[int]
+    records: int
+
+
+def info_of(folder: str, name: str = "info.txt") -> Info:
     """The lines of the file by their first words; a folder without info.txt is not whole."""
     path = os.path.join(folder, name)
     info = collections.defaultdict(list)
@@ -27,28 +38,28 @@ def info_of(folder, name="info.txt"):
     return info
 
 
-def windows_of(info):
+def windows_of(info: Info) -> List[Tuple[int, int]]:
     """The first group and the number of groups of each part of the launch that was recorded."""
     return [tuple(map(int, line.split())) for line in info["window"] or ["0 " + info["groups"][0]]]
 
 
-def kept_of(info):
+def kept_of(info: Info) -> int:
     """How many groups the trace has."""
     return sum(number for _, number in windows_of(info))
 
 
-def streams_of(folder):
+def streams_of(folder: str) -> List[str]:
     """The files of a launch's streams, in order."""
     return sorted(glob.glob(os.path.join(glob.escape(folder), "*.gpurace")))
 
 
-def mapped(path):
+def mapped(path: str) -> bytes:
     """The bytes of a file, which come into memory when they are looked at."""
     with open(path, "rb") as given:
         return mmap.mmap(given.fileno(), 0, access=mmap.ACCESS_READ) if os.path.getsize(path) else b""
 
 
-def streams_in(data):
+def streams_in(data: bytes) -> Iterator[Stream]:
     """The streams that stand one behind another in the bytes of a file. Behind one without an end there is none."""
     at = 0
     while data[at:at + 4] in RECORD_FORMS and at + HEADER.size <= len(data):
@@ -63,7 +74,7 @@ def streams_in(data):
         at = end
 
 
-def records_of(data, start, size):
+def records_of(data: bytes, start: int, size: int) -> int:
     """How many records begin there, up to an end or that of the bytes."""
     records, step = 0, 256
     while start + records * size < len(data):
@@ -75,7 +86,7 @@ def records_of(data, start, size):
     return records
 
 
-def end_streams(folder):
+def end_streams(folder: str) -> None:
     """Makes a launch whole whose program died: its streams end as cut behind their last whole record."""
     begun = info_of(folder, "begun.txt")
     if not begun["kernel"]:
@@ -93,7 +104,7 @@ def end_streams(folder):
         print(f"gpurace-record: {folder}: {error.strerror}", file=sys.stderr)
 
 
-def end_files(folder, info):
+def end_files(folder: str, info: Info) -> Tuple[int, int, int]:
     """Ends the streams that have no end; answers how many groups and items of each there are, and how many records."""
     kept, (x, y, z) = kept_of(info), map(int, info["local"][0].split())
     items, launch = x * y * z + (1 if info["copying-item"] else 0), int(info["launch"][0])
@@ -104,7 +115,7 @@ def end_files(folder, info):
     return kept, items, sum(end_stream(os.path.join(folder, f"group{at:02}.gpurace"), head) for at, head in enumerate(heads))
 
 
-def end_joined(folder, heads):
+def end_joined(folder: str, heads: List[bytes]) -> int:
     """As `end_stream`, of the file of all. A stream that was not joined has a part of it in a file, or nothing."""
     path, came, end, records = os.path.join(folder, JOINED), set(), 0, 0
     data = mapped(path) if os.path.exists(path) else b""
@@ -130,11 +141,11 @@ def end_joined(folder, heads):
     return records
 
 
-def part_of(folder, group):
+def part_of(folder: str, group: int) -> str:
     return os.path.join(folder, f"group{group:02}.part")
 
 
-def end_stream(path, begun):
+def end_stream(path: str, begun: bytes) -> int:
     """Ends a stream that has no end, and answers how many records it has. One without a header has not more than this."""
     with open(path, "r+b" if os.path.exists(path) else "w+b") as stream:
         head = stream.read(HEADER.size)
@@ -155,12 +166,12 @@ def end_stream(path, begun):
         return records + 1
 
 
-def cut_end(head):
+def cut_end(head: bytes) -> bytes:
     """The end of a stream of which records were lost."""
     return bytes([END, 1]) + bytes(10) + b"\xff" * (RECORD_FORMS[head[:4]].size - 12)
 
 
-def end_lines(path):
+def end_lines(path: str) -> None:
     """Cuts a file of lines behind its last whole one."""
     if not os.path.exists(path):
         return

@@ -1,0 +1,288 @@
+"""What is said of launches that are written here by hand: expected values are worked out from docs/MODEL.md and docs/FORMATS.md."""
+
+import os
+import pathlib
+import tempfile
+import unittest
+
+from testing.launches import BUFFERS, PLACES, SIDES, info, put_launch
+
+from gpurace_record.judging import judged
+
+INFO = info("sums", 7, 2)
+LOCAL = "nothing orders the two; a barrier with CLK_LOCAL_MEM_FENCE between them would"
+GLOBAL = "nothing orders the two; a barrier with CLK_GLOBAL_MEM_FENCE between them would"
+HAND_OVER = "nothing orders the two; a release that an acquire takes, at memory_scope_device, would"
+
+
+def tile(group):
+    """Item 0 writes tile[0] and reads tile[8] and tile[9], which item 1 writes; no barrier stands between."""
+    return f"group {group} items 2 launch 7\n0 w l 64\n0 r l 72\n0 r l 73\n1 w l 72\n1 w l 73\nend\n"
+
+
+class Launches(unittest.TestCase):
+    def judged(self, streams, files):
+        """The launch that these streams and side files are."""
+        with tempfile.TemporaryDirectory() as folder:
+            place = pathlib.Path(folder) / "sums"
+            put_launch(place, streams, files)
+            launch = judged(os.environ["GPURACE"], str(place))
+        launch.decide()
+        return launch
+
+    def assert_told(self, streams, files, verdict, told):
+        launch = self.judged(streams, files)
+        lines = [line for it in launch.findings for line in it.lines()] + [f"reason {it.name}: {it.text}" for it in launch.reasons]
+        self.assertEqual((launch.verdict, "".join(f"{line}\n" for line in lines)), (verdict, told))
+
+    def test_a_barrier_is_missing(self):
+        """The accesses to tile[8] have places, those to tile[9] have none: two kinds."""
+        self.assert_told([tile(0), tile(1)], SIDES, "found", f"""\
+race on tile[8] of 2 groups (2 words); on tile[8] of group 0
+    kernel.cl:5:20: read by group 0, item 0
+        tile[l] += tile[l + 8];
+    kernel.cl:3:13: write by group 0, item 1
+        tile[l] = input[l];
+    {LOCAL}
+race on tile[9] of 2 groups (2 words); on tile[9] of group 0
+    unknown place: read by group 0, item 0
+    unknown place: write by group 0, item 1
+    {LOCAL}
+""")
+
+    def test_no_places_and_no_buffers(self):
+        self.assert_told([tile(0)], {}, "found", f"""\
+race on local words 72..73 (2 words); on local word 72 of group 0
+    unknown place: read by group 0, item 0
+    unknown place: write by group 0, item 1
+    {LOCAL}
+""")
+
+    def test_an_asynchronous_copy(self):
+        streams = ["group 0 items 2 launch 7\n0 r l 64\n1 r l 64\n1 w l 64\nend\n"]
+        self.assert_told(streams, {**SIDES, "info.txt": INFO + "copying-item 0 1\n", "places": PLACES + "0 1 1 kernel.cl:5:20\n"}, "found", f"""\
+race on tile[0] of group 0
+    kernel.cl:3:13: read by group 0, item 0
+        tile[l] = input[l];
+    kernel.cl:5:20: write by group 0, asynchronous copy
+        tile[l] += tile[l + 8];
+    {LOCAL}
+""")
+
+    def test_equal_values(self):
+        """Both words of the output got one value, and so did the word of group 0's tile, but not that of group 1's."""
+        streams = ["group 0 items 2 launch 7\n0 w g 128\n1 w g 128\n0 w g 129\n1 w g 129\n0 w l 64\n1 w l 64\nend\n",
+                   "group 1 items 2 launch 7\n0 w l 64\n1 w l 64\nend\n"]
+        self.assert_told(streams, {"buffers": BUFFERS, "equal": "g 127 130\nl 0 64 64\n"}, "found", f"""\
+race on output[0..1] (2 words); on output[0]
+    unknown place: write by group 0, item 0
+    unknown place: write by group 0, item 1
+    {GLOBAL}
+    all stores to each of them write the same value
+race on tile[0] of 2 groups (2 words); on tile[0] of group 0
+    unknown place: write by group 0, item 0
+    unknown place: write by group 0, item 1
+    {LOCAL}
+""")
+
+    def test_words_of_a_buffer_and_of_none(self):
+        """Words with one place of two are of one kind. Both accesses to output[0] have a place, so it is of another."""
+        streams = ["group 0 items 1 launch 7\n0 w g 5\n0 w g 128\n0 w g 200\nend\n",
+                   "group 1 items 1 launch 7 v2\n0 w g 200\n0 w g 128\n0 w g 5\nend\n"]
+        self.assert_told(streams, SIDES, "found", f"""\
+race on input[5], global word 200 (2 words); on input[5]
+    kernel.cl:3:13: write by group 0, item 0
+        tile[l] = input[l];
+    unknown place: write by group 1, item 0
+    {HAND_OVER}
+race on output[0]
+    kernel.cl:5:20: write by group 0, item 0
+        tile[l] += tile[l + 8];
+    kernel.cl:5:20: write by group 1, item 0
+        tile[l] += tile[l + 8];
+    {HAND_OVER}
+""")
+
+    def test_both_sides_of_one_mistake_are_one_finding(self):
+        """Words 0 and 2 race at the same two lines, and which of the two items is the smaller one differs."""
+        self.assert_told(["group 0 items 2 launch 7\n0 w g 0\n1 r g 0\n0 r g 2\n1 w g 2\nend\n"],
+                         {"buffers": "g 0 8 input\n", "places": "0 0 0 a.cl:1:1\n0 1 0 a.cl:2:1\n0 0 1 a.cl:2:1\n0 1 1 a.cl:1:1\n"}, "found", f"""\
+race on input[0], input[2] (2 words); on input[0]
+    a.cl:1:1: write by group 0, item 0
+    a.cl:2:1: read by group 0, item 1
+    {GLOBAL}
+""")
+
+    def test_two_pairs_of_places(self):
+        """Words 0 and 4 race at the same two places, and word 2 at others."""
+        streams = ["group 0 items 4 launch 7\n0 w g 0\n1 r g 0\n0 w g 2\n1 r g 2\n0 w g 4\n1 r g 4\nend\n"]
+        places = "0 0 0 a.cl:1:1\n0 1 0 a.cl:2:1\n0 0 1 a.cl:3:1\n0 1 1 a.cl:4:1\n0 0 2 a.cl:1:1\n0 1 2 a.cl:2:1\n"
+        self.assert_told(streams, {"buffers": "g 0 8 input\n", "places": places}, "found", f"""\
+race on input[0], input[4] (2 words); on input[0]
+    a.cl:1:1: write by group 0, item 0
+    a.cl:2:1: read by group 0, item 1
+    {GLOBAL}
+race on input[2]
+    a.cl:3:1: write by group 0, item 0
+    a.cl:4:1: read by group 0, item 1
+    {GLOBAL}
+""")
+
+    def test_two_buffers_of_local_memory(self):
+        streams = [f"group {group} items 2 launch 7\n0 w l 64\n0 w l 128\n1 r l 128\n1 r l 64\nend\n" for group in (0, 1)]
+        self.assert_told(streams, {"buffers": "".join(f"l {group} 64 1 sum\nl {group} 128 4 tile\n" for group in (0, 1))}, "found", f"""\
+race on sum[0] of 2 groups, tile[0] of 2 groups (4 words); on sum[0] of group 0
+    unknown place: write by group 0, item 0
+    unknown place: read by group 0, item 1
+    {LOCAL}
+""")
+
+    def test_a_flag_is_missing_and_scopes_are_too_narrow(self):
+        streams = ["group 0 items 2 launch 7 v2\n0 bar 3 l\n1 bar 3 l\n0 w g 1\n1 bar 4 l\n0 bar 4 l\n1 r g 1\n0 rmw g 2 grp both\nend\n",
+                   "group 1 items 1 launch 7 v2\n0 ld g 2 grp acq < 0 0 0\nend\n"]
+        places = "3 a b.cl:1:2\n4 a b.cl:9:2\n0 0 3 lock.cl:4:7\n1 0 0 lock.cl:8:7\n"
+        self.assert_told(streams, {"places": places}, "found", """\
+race on global word 1
+    unknown place: write by group 0, item 0
+    unknown place: read by group 0, item 1
+    the barrier at a b.cl:9:2 does not order global memory: give it CLK_GLOBAL_MEM_FENCE
+race on global word 2
+    lock.cl:4:7: atomic read-modify-write (acquire and release, work-group scope) by group 0, item 0
+    lock.cl:8:7: atomic load (acquire, work-group scope) by group 1, item 0
+    `memory_scope_work_group` at lock.cl:4:7 and lock.cl:8:7 reaches no other group: use `memory_scope_device`
+""")
+
+    def test_a_hand_over_whose_scope_is_too_narrow(self):
+        """The plain accesses race since the release and the acquire between them have work-group scope; so do these themselves."""
+        streams = ["group 0 items 1 launch 7\n0 w g 16\n0 st g 20 grp rel\nend\n", "group 1 items 1 launch 7\n0 ld g 20 grp acq < 0 0 0\n0 r g 16\nend\n"]
+        narrow = "`memory_scope_work_group` at f.cl:4:9 and f.cl:5:13 reaches no other group: use `memory_scope_device`"
+        self.assert_told(streams, {"places": "0 0 0 f.cl:3:9\n0 0 1 f.cl:4:9\n1 0 0 f.cl:5:13\n1 0 1 f.cl:6:9\n"}, "found", f"""\
+race on global word 16
+    f.cl:3:9: write by group 0, item 0
+    f.cl:6:9: read by group 1, item 0
+    {narrow}
+race on global word 20
+    f.cl:4:9: atomic store (release, work-group scope) by group 0, item 0
+    f.cl:5:13: atomic load (acquire, work-group scope) by group 1, item 0
+    {narrow}
+""")
+
+    def test_a_hand_over_that_does_not_meet(self):
+        """The acquire took no value of the release."""
+        streams = ["group 0 items 1 launch 7\n0 w g 16\n0 st g 20 dev rel\nend\n", "group 1 items 1 launch 7\n0 ld g 20 dev acq\n0 r g 16\nend\n"]
+        self.assert_told(streams, {"places": "0 0 0 f.cl:3:9\n0 0 1 f.cl:4:9\n1 0 0 f.cl:5:13\n1 0 1 f.cl:6:9\n"}, "found", f"""\
+race on global word 16
+    f.cl:3:9: write by group 0, item 0
+    f.cl:6:9: read by group 1, item 0
+    {HAND_OVER}; the release at f.cl:4:9 and the acquire at f.cl:5:13 do not meet
+""")
+
+    def test_a_plain_access_beside_atomics(self):
+        self.assert_told(["group 0 items 2 launch 7\n0 rmw g 5 dev rlx\n1 r g 5\nend\n"], {}, "found", """\
+race on global word 5
+    unknown place: atomic read-modify-write (relaxed, device scope) by group 0, item 0
+    unknown place: read by group 0, item 1
+    a plain read beside atomics: make it an atomic load
+""")
+
+    def test_divergent_barriers_come_first(self):
+        streams = ["group 0 items 3 launch 7 v2\n0 bar 1 l\n1 bar 2 l\n0 w g 1\n1 w g 0\n0 bar 1 l\n1 bar 2 l\n0 r g 0\nend\n"]
+        self.assert_told(streams, {**SIDES, "places": "1 kernel.cl:3:1\n2 kernel.cl:5:1\n"}, "found", """\
+divergent barrier, number 0 of group 0, and 1 more alike
+    kernel.cl:3:1: item 0
+        tile[l] = input[l];
+    kernel.cl:5:1: item 1
+        tile[l] += tile[l + 8];
+    no barrier: item 2
+    some work-items never reach it; 1 race follows from it
+race on input[0]
+    unknown place: read by group 0, item 0
+    unknown place: write by group 0, item 1
+    the barrier at kernel.cl:3:1 between the two is divergent, and orders nothing
+""")
+
+    def test_streams_in_one_file(self):
+        streams = ["group 1 items 2 launch 7\n0 bar 3 l\n1 w g 1\nend\n" "group 2 items 1 launch 7\nend\n"
+                   "group 0 items 2 launch 7\n0 bar 3 l\n1 bar 3 l\nend cut\n"]
+        self.assert_told(streams, {"places": "3 b.cl:1:2\n"}, "found", """\
+divergent barrier, number 0 of group 1
+    b.cl:1:2: item 0
+    no barrier: item 1
+    some work-items never reach it
+reason cut: records of 1 of 3 groups were lost (the first is group 0): a group did more than a trace has room for, or was stopped
+""")
+
+    def test_an_acquire_without_its_release(self):
+        places = "0 1 0 kernel.cl:3:9\n0 1 0 late.cl:1:1\n0 1 1 kernel.cl:5:9\n"
+        self.assert_told(["group 0 items 2 launch 7 v2\n0 w g 1\n1 ld g 2 dev acq < 0 0 0\n1 r g 1\nend\n"], {**SIDES, "places": places}, "found", """\
+acquire without its release (absent)
+    kernel.cl:3:9: acquire by group 0, item 1
+        tile[l] = input[l];
+    the fault is mostly the recorder's; what waits for it is not judged
+""")
+
+    def test_a_divergence_among_lost_records_is_doubtful(self):
+        self.assert_told(["group 0 items 2 launch 7\n0 bar 1 l\nend cut\n"], {}, "doubtful", """\
+divergent barrier, number 0 of group 0 (doubtful)
+    site 1: item 0
+    no barrier: item 1
+    some work-items never reach it, or theirs is among the records that were lost
+reason cut: records of 1 of 1 groups were lost (the first is group 0): a group did more than a trace has room for, or was stopped
+""")
+
+    def test_nothing_but_lost_records(self):
+        self.assert_told(["group 0 items 1 launch 7 v2\n0 w g 1\nend cut\n"], SIDES, "incomplete", """\
+reason cut: records of 1 of 1 groups were lost (the first is group 0): a group did more than a trace has room for, or was stopped
+""")
+
+    def test_no_mistake(self):
+        self.assert_told(["group 0 items 2 launch 7 v2\n0 w g 1\n0 bar 1 g\n1 bar 1 g\n1 r g 1\nend\n"], SIDES, "nothing", "")
+
+    def test_places_that_are_refused(self):
+        self.assert_told([tile(0)], {"places": "0 0 0 kernel.cl:3:13\n0 0\n"}, "found", """\
+races that could not be told: gpurace: places: line 2: bad line
+""")
+
+    def test_a_group_that_is_not_there(self):
+        self.assert_told([tile(1)], SIDES, "incomplete", """\
+reason refused: the trace was refused: gpurace: group 0 missing
+""")
+
+    def test_a_race_in_a_launch_with_fences_is_doubtful(self):
+        info = INFO + "fence 3 kernel.cl:4:9\nfence 1 kernel.cl:5:9\nimage 2 kernel.cl:5:1\nnote calls of printf\n"
+        self.assert_told(["group 0 items 2 launch 7\n0 w g 1\n1 w g 1\nend\n", "group 1 items 2 launch 7\nend\n"], {"info.txt": info}, "doubtful", f"""\
+race on global word 1 (doubtful)
+    unknown place: write by group 0, item 0
+    unknown place: write by group 0, item 1
+    {GLOBAL}
+reason fences: fences not recorded, so that an order that they give is not seen: 4, at kernel.cl:4:9, kernel.cl:5:9
+reason images: accesses of images, which are not judged: 2, at kernel.cl:5:1
+reason operations: not recorded: calls of printf
+""")
+
+    def test_an_access_out_of_bounds_is_a_finding_also_beside_fences(self):
+        info = INFO + "fence 1 kernel.cl:5:9\nout-of-bounds 2 kernel.cl:3:9 write 4 1 1 16 bytes behind the end of output, which has 128 bytes\n"
+        launch = self.judged(["group 0 items 2 launch 7\nend\n", "group 1 items 2 launch 7\nend\n"], {**SIDES, "info.txt": info})
+        self.assertEqual((launch.verdict, launch.findings[0].buffers()), ("found", ["output"]))
+        self.assertEqual(list(launch.findings[0].lines()), [
+            "out of bounds: write of 4 bytes, 16 bytes behind the end of output, which has 128 bytes",
+            "    kernel.cl:3:9: write by group 1, item 1", "        tile[l] = input[l];", "    2 times"])
+
+    def test_coordinates(self):
+        """Of 6 x 4 items in groups of 3 x 2, in the third and fourth group, which are the trace's 0 and 1: items 5 (2,1) and 4 (1,1)."""
+        info = "kernel sums\nlaunch 7\nglobal 6 4 1\nlocal 3 2 1\ngroups 4\nwindow 2 2\nitems 12\nrecords 4\n"
+        self.assert_told(["group 0 items 6 launch 7\n5 w g 1\nend\n", "group 1 items 6 launch 7\n4 w g 1\nend\n"], {"info.txt": info}, "found", f"""\
+race on global word 1
+    unknown place: write by group 2 (0,1), item 5 (2,1)
+    unknown place: write by group 3 (1,1), item 4 (1,1)
+    {HAND_OVER}
+reason window: only groups 2 to 3 of 4 were recorded
+""")
+
+    def test_the_text_of_a_file_that_is_included(self):
+        with tempfile.TemporaryDirectory() as folder:
+            path = pathlib.Path(folder) / "scan.h"
+            path.write_text("// scan\nout[0] = 1;\n")
+            launch = self.judged(["group 0 items 2 launch 7\n0 w g 1\n1 w g 1\nend\n"], {"places": f"0 0 0 {path}:2:1\n0 1 0 {folder}/none.h:2:1\n"})
+        self.assertEqual([access.text for access in launch.findings[0].accesses], ["out[0] = 1;", ""])
+        self.assertEqual(list(launch.texts), [str(path)])

@@ -1,0 +1,236 @@
+"""What gpurace-judge says and writes of launches that are written here by hand: statuses, JSON, SARIF, JUnit, baselines, suppressions."""
+
+import json
+import os
+import pathlib
+import subprocess
+import sys
+import tempfile
+import unittest
+import xml.etree.ElementTree as xml
+
+from testing.launches import BUFFERS, KERNEL, info, put_launch, put_racy, put_right
+from testing.program import TOP
+
+try:
+    import jsonschema
+except ImportError:
+    jsonschema = None
+
+JUDGE = TOP / "tools" / "gpurace-judge"
+
+
+class Outputs(unittest.TestCase):
+    def setUp(self):
+        room = tempfile.TemporaryDirectory()
+        self.addCleanup(room.cleanup)
+        self.room = pathlib.Path(room.name)
+        self.kept = self.room / "kept"
+
+    def judge(self, *options, status):
+        """What gpurace-judge says of the launches, with this status."""
+        words = [sys.executable, str(JUDGE), *options, str(self.kept)]
+        ran = subprocess.run(words, stdout=subprocess.PIPE, stderr=subprocess.PIPE, text=True, cwd=self.room, timeout=120, check=False,
+                             env={**os.environ, "GPURACE_PROGRAM": os.environ["GPURACE"]})
+        self.assertEqual(ran.returncode, status, ran.stdout + ran.stderr)
+        return ran.stdout.splitlines()
+
+    def made(self, name):
+        return json.loads((self.room / name).read_text())
+
+    def assert_valid(self, made, schema):
+        if not jsonschema:
+            self.skipTest("python3-jsonschema is missing")
+        jsonschema.validate(made, json.loads(schema.read_text()))
+
+
+class Statuses(Outputs):
+    def test_nothing_found(self):
+        put_right(self.kept)
+        self.assertEqual(self.judge(status=0), [
+            "launch 0, right: nothing found (1 group of 2 work-items, 9 records)", "gpurace-record: nothing found",
+            f"gpurace-record: 1 launch: 0 with findings, 1 without, 0 not judged whole; they are in {self.kept}"])
+
+    def test_found(self):
+        put_racy(self.kept)
+        self.judge(status=1)
+        self.judge("--error-exitcode", "42", status=42)
+
+    def test_equal_launches_are_one_line(self):
+        for number in range(3):
+            put_racy(self.kept, number)
+        put_right(self.kept, 3)
+        told = self.judge(status=1)
+        self.assertEqual([line for line in told if line.startswith("launch")], [
+            "launch 0, sums: FOUND (1 group of 2 work-items, 9 records), and 2 launches alike", "launch 3, right: nothing found (1 group of 2 work-items, 9 records)"])
+        self.assertIn("gpurace-record: 4 launches: 3 with findings, 1 without, 0 not judged whole", told[-1])
+
+    def test_what_keeps_a_launch_from_being_an_answer_comes_first_in_the_summary(self):
+        put_right(self.kept, more="fence 2 kernel.cl:3:5\n")
+        put_right(self.kept, 1, "other", more="not-recorded a work-group has 2048 work-items\n")
+        told = [line for line in self.judge(status=2) if line.startswith("gpurace-record")]
+        self.assertEqual(told[:3], [
+            "gpurace-record: nothing found, which is no answer:",
+            "gpurace-record:     fences not recorded, so that an order that they give is not seen: 2, at kernel.cl:3:5 (1 launch of right)",
+            "gpurace-record:     not recorded: a work-group has 2048 work-items (1 launch of other)"])
+        self.judge("--error-exitcode", "42", status=2)
+
+    def test_a_doubtful_race_is_not_found(self):
+        put_racy(self.kept, more="fence 2 kernel.cl:4:5\n")
+        told = self.judge(status=2)
+        self.assertIn("gpurace-record:     doubtful: race on tile[8] of group 0, at kernel.cl:5:20 and kernel.cl:3:13 (1 launch of sums)", told)
+
+    def test_no_launch(self):
+        self.kept.mkdir()
+        self.assertIn("no launch was recorded", self.judge(status=2)[1])
+
+    def test_a_launch_whose_program_died(self):
+        """Its stream ends within a record, and no info.txt is there."""
+        put_right(self.kept)
+        folder = self.kept / "000-right"
+        (folder / "begun.txt").write_text("".join(f"{line}\n" for line in info("right", 0).splitlines()[:5]))
+        (folder / "info.txt").unlink()
+        stream = folder / "group00.gpurace"
+        stream.write_bytes(stream.read_bytes()[:12 + 20 + 7])
+        self.assertIn("records of 1 of 1 groups were lost", "".join(self.judge(status=2)))
+
+    def test_streams_of_a_runtime_of_ones_own(self):
+        put_launch(self.kept / "mine", ["group 0 items 2 launch 7\n0 w g 5\n1 w g 5\nend\n"], {})
+        told = self.judge(status=1)
+        self.assertEqual(told[:3], ["launch 0, mine: FOUND (1 group, 2 work-items, 3 records)", f"    races 1 diverge 0 unmatched 0 held 0, in {self.kept}/mine",
+                                    "    race on global word 5:"])
+
+
+class Forms(Outputs):
+    def put_all(self):
+        put_racy(self.kept)
+        put_racy(self.kept, 1)
+        put_racy(self.kept, 2, "doubtful", more="fence 2 kernel.cl:4:5\n")
+        put_right(self.kept, 3)
+        files = {"info.txt": info("divergent", 4, more="out-of-bounds 1 kernel.cl:3:9 write 4 0 1 16 bytes behind the end of output, which has 128 bytes\n"),
+                 "kernel.cl": KERNEL, "places": "1 kernel.cl:5:9\n", "buffers": BUFFERS}
+        put_launch(self.kept / "004-divergent", ["group 0 items 2 launch 4\n0 bar 1 l\nend\n"], files)
+
+    def test_json(self):
+        self.put_all()
+        self.judge("--json", "made.json", status=1)
+        made = self.made("made.json")
+        self.assertEqual([(it["number"], it["kernel"], it["verdict"], len(it["findings"])) for it in made["launches"]], [
+            (0, "sums", "found", 1), (1, "sums", "found", 1), (2, "doubtful", "doubtful", 1), (3, "right", "nothing", 0), (4, "divergent", "found", 2)])
+        race, _, divergence, outside = made["findings"]
+        self.assertEqual((race["kind"], race["title"], race["cause"], race["launches"], race["words"]), ("race", "race on tile[8] of group 0", "no-barrier", 2, 1))
+        self.assertEqual(race["buffers"], [{"buffer": "tile", "space": "local", "words": 16, "groups": 1, "spans": [[8, 8]]}])
+        self.assertEqual([(it["what"], it["who"], it["place"], it["text"]) for it in race["accesses"]], [
+            ("read", "group 0, item 0", "kernel.cl:5:20", "tile[l] += tile[l + 8];"), ("write", "group 0, item 1", "kernel.cl:3:13", "tile[l] = input[l];")])
+        self.assertEqual([divergence["kind"], divergence["cause"], outside["kind"]], ["divergence", "missing", "out-of-bounds"])
+        self.assert_valid(made, TOP / "docs" / "record.schema.json")
+
+    def test_sarif(self):
+        self.put_all()
+        self.judge("--sarif", "made.sarif", status=1)
+        made = self.made("made.sarif")
+        run = made["runs"][0]
+        self.assertEqual([(it["ruleId"], it["level"], it["occurrenceCount"]) for it in run["results"]], [
+            ("DataRace", "error", 2), ("DataRace", "warning", 1), ("DivergentBarrier", "error", 1), ("OutOfBounds", "error", 1)])
+        race = run["results"][0]
+        self.assertEqual(race["message"]["text"], "race on tile[8] of group 0: nothing orders the two; a barrier with CLK_LOCAL_MEM_FENCE between them would")
+        places = [it["physicalLocation"] for it in race["locations"] + race["relatedLocations"]]
+        self.assertEqual([(it["artifactLocation"]["uri"], it["region"]["startLine"], it["region"]["startColumn"]) for it in places],
+                         [("sums/kernel.cl", 5, 20), ("sums/kernel.cl", 3, 13)])
+        self.assertEqual([it["contents"]["text"] for it in run["artifacts"]], [KERNEL] * 3)
+        self.assert_valid(made, TOP / "tests" / "recorder" / "sarif.schema.json")
+
+    def test_junit(self):
+        self.put_all()
+        self.judge("--junit", "made.xml", status=1)
+        suite = xml.parse(self.room / "made.xml").getroot().find("testsuite")
+        self.assertEqual({key: suite.get(key) for key in ("tests", "failures", "errors", "skipped")}, {"tests": "5", "failures": "2", "errors": "0", "skipped": "1"})
+        self.assertEqual([(case.get("classname"), case.get("name"), [it.tag for it in case]) for case in suite], [
+            ("kernels", "sums", ["failure"]), ("kernels", "doubtful", ["skipped"]), ("kernels", "right", []), ("kernels", "divergent", ["failure"]),
+            ("run", "the run", [])])
+        self.assertIn("kernel.cl:3:13: write by group 0, item 1", suite[0][0].text)
+
+    def test_junit_has_what_keeps_a_run_from_being_an_answer(self):
+        self.kept.mkdir()
+        self.judge("--junit", "made.xml", status=2)
+        suite = xml.parse(self.room / "made.xml").getroot().find("testsuite")
+        self.assertEqual([(case.get("name"), [it.tag for it in case]) for case in suite], [("the run", ["error"])])
+
+    def test_characters_that_xml_has_not(self):
+        put_racy(self.kept)
+        (self.kept / "000-sums" / "kernel.cl").write_text(KERNEL.replace("input[l];", "input[l]; // \x01 <&>"))
+        self.judge("--junit", "made.xml", status=1)
+        self.assertIn("input[l]; // ? <&>", xml.parse(self.room / "made.xml").getroot().find(".//failure").text)
+
+    def test_a_file_that_cant_be_written(self):
+        put_right(self.kept)
+        self.judge("--json", "nowhere/made.json", status=3)
+
+
+class Known(Outputs):
+    def test_a_baseline_is_written_and_then_only_new_findings_count(self):
+        put_racy(self.kept)
+        self.judge("--baseline", "known.json", status=3)
+        self.judge("--baseline", "known.json", "--update-baseline", status=0)
+        self.assertEqual(self.made("known.json"), {"gpurace_baseline": 1, "findings": [
+            {"kind": "race", "kernel": "sums", "buffers": ["tile"], "cause": "no-barrier", "texts": ["tile[l] += tile[l + 8];", "tile[l] = input[l];"]}]})
+        told = self.judge("--baseline", "known.json", "--json", "made.json", "--sarif", "made.sarif", "--junit", "made.xml", status=0)
+        self.assertIn("launch 0, sums: nothing new found (1 group of 2 work-items, 9 records)", told)
+        self.assertEqual(self.made("made.json")["findings"][0]["state"], "known")
+        self.assertEqual(self.made("made.sarif")["runs"][0]["results"][0]["baselineState"], "unchanged")
+        self.assertEqual([it.tag for it in xml.parse(self.room / "made.xml").getroot().find(".//testcase")], [])
+
+    def test_a_known_finding_survives_added_lines(self):
+        put_racy(self.kept)
+        self.judge("--baseline", "known.json", "--update-baseline", status=0)
+        put_racy(self.kept, 1, added_lines=7)
+        self.judge("--baseline", "known.json", status=0)
+        put_racy(self.kept, 2, kernel="others")
+        self.judge("--baseline", "known.json", "--sarif", "made.sarif", status=1)
+        self.assertEqual([it["baselineState"] for it in self.made("made.sarif")["runs"][0]["results"]], ["unchanged", "new"])
+
+    def test_a_known_finding_that_is_gone_is_named(self):
+        put_racy(self.kept)
+        self.judge("--baseline", "known.json", "--update-baseline", status=0)
+        (self.kept / "000-sums").rename(self.room / "racy")
+        put_right(self.kept, 1)
+        self.assertNotIn("gone", "".join(self.judge("--baseline", "known.json", status=0)))  # its kernel was not launched
+        put_right(self.kept, 0, "sums")
+        told = self.judge("--baseline", "known.json", "--sarif", "made.sarif", "--json", "made.json", status=0)
+        self.assertIn("gpurace-record:     gone: race in sums on tile, `tile[l] += tile[l + 8];`, `tile[l] = input[l];`", told)
+        self.assertEqual([it["baselineState"] for it in self.made("made.sarif")["runs"][0]["results"]], ["absent"])
+        self.assertEqual(len(self.made("made.json")["gone"]), 1)
+        self.assert_valid(self.made("made.sarif"), TOP / "tests" / "recorder" / "sarif.schema.json")
+        self.judge("--baseline", "known.json", "--update-baseline", status=0)
+        self.assertEqual(self.made("known.json")["findings"], [])
+
+    def test_a_file_that_is_no_baseline(self):
+        put_right(self.kept)
+        (self.room / "known.json").write_text('{"gpurace_baseline": 2, "findings": []}')
+        self.judge("--baseline", "known.json", status=3)
+
+    def test_suppressions(self):
+        put_racy(self.kept)
+        put_racy(self.kept, 1)
+        (self.room / "quiet").write_text("# of the sums\n\nkernel sum* buffer tile place kernel.cl:3:* -- known to its author\nkernel other -- never\n")
+        told = self.judge("--suppress", "quiet", "--json", "made.json", "--sarif", "made.sarif", status=0)
+        self.assertIn("    race on tile[8] of group 0 (suppressed: known to its author):", told)
+        self.assertIn("gpurace-record: quiet, line 3: suppressed 2 times: known to its author", told)
+        self.assertIn("gpurace-record: quiet, line 4: matched nothing: never", told)
+        self.assertEqual(self.made("made.json")["suppressions"], [
+            {"line": 3, "kernel": "sum*", "buffer": "tile", "place": "kernel.cl:3:*", "why": "known to its author", "matched": 2},
+            {"line": 4, "kernel": "other", "why": "never", "matched": 0}])
+        self.assertEqual(self.made("made.sarif")["runs"][0]["results"][0]["suppressions"], [{"kind": "external", "justification": "known to its author"}])
+        self.assert_valid(self.made("made.json"), TOP / "docs" / "record.schema.json")
+
+    def test_a_suppression_of_another_buffer_or_place_matches_nothing(self):
+        put_racy(self.kept)
+        for pattern in ("buffer input", "place kernel.cl:4:*", "kernel sums buffer input"):
+            (self.room / "quiet").write_text(f"{pattern} -- why\n")
+            self.judge("--suppress", "quiet", status=1)
+
+    def test_lines_that_suppress_nothing_are_refused(self):
+        put_racy(self.kept)
+        for line in ("kernel sums", "kernel -- why", "line 3 -- why", "kernel sums -- ", " -- why", "kernel sums kernel sums -- why"):
+            (self.room / "quiet").write_text(line + "\n")
+            self.judge("--suppress", "quiet", status=3)

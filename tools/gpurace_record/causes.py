@@ -1,0 +1,70 @@
+"""What would order the two accesses of a race: the cause is gpurace's, the names and places beside it are of the records."""
+from __future__ import annotations
+
+from typing import List, NamedTuple, Optional
+
+DEVICE, GROUP = "`memory_scope_device`", "`memory_scope_work_group`"
+ATOMICS = ("load", "store", "rmw")
+FLAGS = {"global": (1, "CLK_GLOBAL_MEM_FENCE"), "local": (2, "CLK_LOCAL_MEM_FENCE")}
+
+
+class At(NamedTuple):
+    """An access, a release or an acquire, and where it stands."""
+    what: str
+    place: str
+    scope: str = ""
+
+
+class Barrier(NamedTuple):
+    """A barrier that one of the two accesses is behind and the other is not."""
+    place: str
+    flags: int
+    is_divergent: bool
+
+
+class Pair(NamedTuple):
+    """The two accesses of a race, and what of their items' records stands between them."""
+    space: str
+    is_one_group: bool
+    first: At
+    second: At
+    barriers: List[Barrier]
+    release: Optional[At]  # behind the first access
+    acquire: Optional[At]  # before the second one
+
+
+def sentence(name: str, said: str, pair: Pair) -> str:
+    """The cause of this name as a sentence; what gpurace has said where the records say nothing more."""
+    special = {"flags": of_flags, "scope": of_scope, "divergent": of_divergence}.get(name, of_nothing)
+    return special(said, pair) or said
+
+
+def of_flags(_: str, pair: Pair) -> str:
+    bit, flag = FLAGS[pair.space]
+    for barrier in pair.barriers:
+        if not barrier.is_divergent and not barrier.flags & bit:
+            return f"the barrier at {barrier.place} does not order {pair.space} memory: give it {flag}"
+    return ""
+
+
+def of_scope(_: str, pair: Pair) -> str:
+    narrow = [at for at in (pair.first, pair.second, pair.release, pair.acquire) if at and at.scope == "grp" and at.place]
+    places = " and ".join(dict.fromkeys(at.place for at in narrow))
+    if places and pair.is_one_group:
+        return f"{GROUP} at {places} does not include {DEVICE}: use {DEVICE}"
+    return places and f"{GROUP} at {places} reaches no other group: use {DEVICE}"
+
+
+def of_divergence(said: str, pair: Pair) -> str:
+    place = next((barrier.place for barrier in pair.barriers if barrier.is_divergent), "")
+    return place and f"the barrier at {place} between the two is divergent, and orders nothing"
+
+
+def of_nothing(said: str, pair: Pair) -> str:
+    """Nothing orders the two: one of them may be plain beside an atomic, and a hand-over may be there that does not meet."""
+    for one, other in ((pair.first, pair.second), (pair.second, pair.first)):
+        if one.what not in ATOMICS and other.what in ATOMICS:
+            return f"a plain {one.what} beside atomics: make it an atomic {'load' if one.what == 'read' else 'store'}"
+    if not pair.is_one_group and pair.release and pair.acquire and pair.release.place and pair.acquire.place:
+        return f"{said}; the release at {pair.release.place} and the acquire at {pair.acquire.place} do not meet"
+    return ""

@@ -1,0 +1,277 @@
+"""The command line of gpurace-record."""
+from __future__ import annotations
+
+import argparse
+import os
+import re
+import shutil
+import signal
+import subprocess
+import sys
+import tempfile
+from typing import Callable, List, NoReturn, Optional
+
+from . import native, outputs, page, recording, simulator
+from .judges import Judge
+from .judging import INCOMPLETE, Reason
+from .known import Baseline, Suppressions, Wrong
+from .recording import Missing, Run, Stopped
+from .report import Filter, Report, say, unrecorded
+
+WRONG_WORDS, MISSING = 3, 70
+PARTS = re.compile("[0-9]{1,9}:[0-9]{1,9}(,[0-9]{1,9}:[0-9]{1,9})*")
+STATUSES = """\
+Kernels run instrumented on the host's threads, at native speed, whatever the device is. Where a package is missing, it says which.
+The program gpurace is that of this tree, or that which was installed beside, else the one on the path; GPURACE_PROGRAM names another.
+
+The status is
+  0   all launches were recorded whole, the program ended well, and nothing was found
+  1   something was found: a race, a divergent barrier, an access out of bounds (N with --error-exitcode N)
+  2   nothing was found, but something keeps that from being an answer; the summary begins with what it is
+  3   wrong words on the command line
+  70  something that is needed is missing
+"""
+
+
+class Parser(argparse.ArgumentParser):
+    def error(self, message: str) -> NoReturn:
+        stop(WRONG_WORDS, f"{message}; gpurace-record --help lists the options")
+
+
+def stop(status: int, text: str) -> NoReturn:
+    say(text)
+    sys.exit(status)
+
+
+def number(text: str) -> str:
+    if not (text.isdigit() and text.isascii() and len(text) < 16):
+        raise argparse.ArgumentTypeError("a number is needed")
+    return text
+
+
+def windows(text: str) -> str:
+    parts = [tuple(map(int, part.split(":"))) for part in text.split(",")] if PARTS.fullmatch(text) else []
+    bounds = [bound for first, length in parts for bound in (first, first + length)]
+    if not all(length > 0 for _, length in parts) or not bounds or bounds != sorted(bounds):
+        raise argparse.ArgumentTypeError("FIRST:COUNT is needed, as 0:8, or several in ascending order, as 0:8,248:8")
+    return text
+
+
+def width(prog: str) -> argparse.RawDescriptionHelpFormatter:
+    return argparse.RawDescriptionHelpFormatter(prog, width=130)
+
+
+def parser() -> Parser:
+    made = Parser(prog="gpurace-record", allow_abbrev=False, epilog=STATUSES, formatter_class=width,
+                  usage="gpurace-record [OPTION..] PROGRAM ARG..  |  [OPTION..] FILE.sim  |  --check",
+                  description="Records the kernels that a program launches, and says what gpurace finds in them, with lines of source.")
+    made.add_argument("words", nargs=argparse.REMAINDER, metavar="PROGRAM", help="the program and its arguments, or a simulator file of oclgrind-kernel")
+    made.add_argument("--check", action="store_true", help="says what this machine has for it, and records one small kernel")
+    made.add_argument("--keep", metavar="DIR", help="keeps the launches in DIR, a new folder or an empty one")
+    made.add_argument("--kernel", metavar="NAME", help="records the launches of this kernel alone")
+    made.add_argument("--launch", metavar="N", type=number, help="records launch N alone; all launches of the program count, from 0")
+    made.add_argument("--groups", metavar="FIRST:COUNT", type=windows,
+                      help="records COUNT work-groups of each launch, from FIRST on, and no others; 0:8,248:8 is two such parts")
+    made.add_argument("--build-options", metavar="TEXT", help="more options for the compiler of the kernels")
+    made.add_argument("--max-group-size", metavar="N", type=number, help="what the device says of its largest work-group (1024)")
+    made.add_argument("--only-record", action="store_true", help="writes the launches and judges none; needs --keep")
+    made.add_argument("--jobs", metavar="N", type=number, default="1", help="judges as many launches side by side (1)")
+    add_outputs(made)
+    own = made.add_argument_group("of the native recorder")
+    own.add_argument("--most-records", metavar="N", type=number, help="of each launch; what comes behind them is told as cut")
+    own.add_argument("--timeout", metavar="S", type=number, help="ends the program where a kernel has not ended after S seconds")
+    own.add_argument("--seed", metavar="N", type=number, help="makes the order of work-items and work-groups a function of N, on one thread")
+    own.add_argument("--schedules", metavar="K", type=number, help="runs the program K times, with the seeds N, N + 1 and so on")
+    other = made.add_argument_group("of the simulator")
+    other.add_argument("--simulator", action="store_true", help="records on the simulator Oclgrind, as it does a FILE.sim")
+    other.add_argument("--opencl20", action="store_true", help="has the explicit atomics of OpenCL 2.0")
+    other.add_argument("--optimized", action="store_true", help="compiles kernels as Oclgrind does by itself, and not with -O0")
+    return made
+
+
+def add_outputs(made: argparse.ArgumentParser) -> None:
+    """The options of what is told, and to whom."""
+    told = made.add_argument_group("for build servers")
+    for form, what in (("json", "every launch and every finding as JSON"), ("sarif", "the findings as SARIF 2.1.0"),
+                       ("junit", "a case for each kernel as JUnit"), ("html", "a page to look at: sources, findings, pictures")):
+        told.add_argument(f"--{form}", metavar="FILE", help=f"writes {what}")
+    told.add_argument("--baseline", metavar="FILE", help="the findings of this file are known, and only others count")
+    told.add_argument("--update-baseline", action="store_true", help="writes what is found into the baseline, so that it is known")
+    told.add_argument("--suppress", metavar="FILE", help="lines KEY PATTERN .. -- WHY, with the keys kernel, buffer and place: these don't count")
+    told.add_argument("--ignore-program-status", action="store_true", help="a program that ends with another status than 0 is as good")
+    told.add_argument("--error-exitcode", metavar="N", type=number, help="the status where something was found, in place of 1")
+
+
+def filters_of(options: argparse.Namespace) -> List[Filter]:
+    """What the files that are named have; a file that can't be written is told before the program runs."""
+    for name in (*outputs.FORMS, "baseline"):
+        path = getattr(options, name)
+        if path and (os.path.isdir(path) or not os.access(os.path.dirname(path) or ".", os.W_OK)):
+            stop(WRONG_WORDS, f"{path} can't be written")
+    if options.html:
+        page.needed()
+    if options.update_baseline and not options.baseline:
+        stop(WRONG_WORDS, "--update-baseline needs --baseline FILE")
+    try:
+        suppressed: List[Filter] = [Suppressions(options.suppress)] if options.suppress else []
+        return suppressed + ([Baseline(options.baseline, options.update_baseline)] if options.baseline else [])
+    except Wrong as wrong:
+        stop(WRONG_WORDS, str(wrong))
+
+
+def with_values(made: Parser, words: List[str]) -> List[str]:
+    """The words, each option up to the program joined with its value, which may begin as an option does."""
+    joined, at = [], 0
+    while at < len(words) and words[at].startswith("-"):
+        option = made._option_string_actions.get(words[at])
+        has_value = option is not None and option.nargs is None and at + 1 < len(words)
+        joined.append(f"{words[at]}={words[at + 1]}" if has_value else words[at])
+        at += 2 if has_value else 1
+    return joined + words[at:]
+
+
+def options_of(words: List[str]) -> argparse.Namespace:
+    made = parser()
+    options = made.parse_args(with_values(made, words))
+    if options.check:
+        return options
+    if not options.words:
+        stop(WRONG_WORDS, "which program? usage: gpurace-record [OPTION..] PROGRAM ARG..")
+    is_file = options.words[0].endswith(".sim")
+    options.simulator = options.simulator or is_file
+    if not (os.path.isfile(options.words[0]) if is_file else shutil.which(options.words[0])):
+        stop(WRONG_WORDS, f"there is no {'file' if is_file else 'program'} {options.words[0]}")
+    for name in ("most_records", "timeout", "seed", "schedules"):
+        if getattr(options, name) is not None and options.simulator:
+            stop(WRONG_WORDS, f"the simulator has no --{name.replace('_', '-')}")
+    if (options.optimized or options.opencl20) and not options.simulator:
+        stop(WRONG_WORDS, f"--{'optimized' if options.optimized else 'opencl20'} is of --simulator")
+    for name in ("schedules", "jobs", "error_exitcode"):
+        if getattr(options, name) is not None and not 0 < int(getattr(options, name)) < 256:
+            stop(WRONG_WORDS, f"--{name.replace('_', '-')} needs a number from 1 to 255")
+    if options.only_record and not options.keep:
+        stop(WRONG_WORDS, "--only-record needs --keep DIR")
+    if options.keep and os.path.exists(options.keep) and os.listdir(options.keep):
+        stop(WRONG_WORDS, f"{options.keep} is not empty")
+    return options
+
+
+def find_gpurace() -> str:
+    """The program that judges: that of this tree, that which was installed beside, or that on the path. That of the tree is run by itself,
+    since its script takes longer to find it than it takes to judge."""
+    script, beside = (os.path.normpath(os.path.join(simulator.TOOLS, *up, "gpurace")) for up in ([".."], ["..", ".."]))
+    program = os.environ.get("GPURACE_PROGRAM") or ""
+    try:
+        if not program and os.path.exists(script):
+            program = subprocess.run([script, "--which"], stdout=subprocess.PIPE, text=True).stdout.strip()
+        program = program or next((it for it in (shutil.which(beside), shutil.which("gpurace")) if it), "gpurace")
+        ran = subprocess.run([program, "--version"], stdout=subprocess.DEVNULL, stdin=subprocess.DEVNULL)
+    except OSError as error:
+        stop(MISSING, f"{program}: {error.strerror}")
+    if ran.returncode != 0:
+        stop(MISSING, f"{program} does not run")
+    return program
+
+
+class Recorder:
+    """Runs the program as the options say, once or with several seeds, and judges its launches meanwhile."""
+
+    def __init__(self, options: argparse.Namespace):
+        self.options = options
+        self.program = "" if options.only_record else find_gpurace()
+        self.report = Report(options.keep)
+        self.report.filters = filters_of(options)
+        if options.simulator:
+            self.command = simulator.words(simulator.find(options.words[0]), simulator.build(say), options) + options.words
+        else:
+            self.command, self.out = options.words, native.build(say)
+
+    def run(self) -> None:
+        number = int(self.options.schedules or 1)
+        seeds: List[Optional[int]] = [None]
+        if self.options.seed or self.options.schedules:
+            seeds = [int(self.options.seed or 1) + at for at in range(number)]
+        with tempfile.TemporaryDirectory(prefix="gpurace-", dir=recording.room()) as room:
+            for seed in seeds:
+                folder = os.path.abspath(self.options.keep) if self.options.keep else os.path.join(room, "launches")
+                folder = os.path.join(folder, f"seed-{seed}") if number > 1 else folder
+                os.makedirs(folder, exist_ok=True)
+                self.run_once(room, folder, seed)
+                if any(reason.name == "stopped" for reason in self.report.run_reasons):
+                    break
+        self.report.sort()
+
+    def run_once(self, room: str, folder: str, seed: Optional[int]) -> None:
+        options = self.options
+        tests = os.path.join(room, "tests")
+        os.makedirs(tests, exist_ok=True)
+        judge = Judge(self.program, folder, self.report, bool(options.keep), int(options.jobs), seed, tests) if self.program else None
+        if judge:
+            judge.start()
+        variables = (simulator.environment(options, folder) if options.simulator else
+                     native.environment(self.out, options, folder, seed, is_judged=not options.keep))
+        run = Run(self.command, {**variables, **recording.of_tests(tests)} if judge else variables)
+        sys.stdout.flush()
+        self.report.run_reasons += run.reasons(options.timeout, options.ignore_program_status)
+        try:
+            if judge:
+                judge.finish()
+        except (KeyboardInterrupt, Stopped):
+            self.report.run_reasons.append(Reason("stopped", "the judging was stopped"))
+        self.report.unrecorded += unrecorded(folder)
+
+    def only_recorded(self) -> int:
+        kept = self.options.keep
+        launches = [name for path, folders, _ in sorted(os.walk(kept)) for name in sorted(folders) if name[:1].isdigit()]
+        print(f"gpurace-record: recorded in {kept}: {', '.join(launches) or 'no launch'}")
+        for reason in self.report.run_reasons:
+            print(f"gpurace-record:     {reason.text}")
+        return 0 if launches and not self.report.run_reasons else INCOMPLETE
+
+
+def record(options: argparse.Namespace) -> int:
+    recorder = Recorder(options)
+    recorder.run()
+    if options.only_record:
+        return recorder.only_recorded()
+    return conclude(recorder.report, options)
+
+
+def conclude(report: Report, options: argparse.Namespace) -> int:
+    """Says and writes what there is, and answers the status."""
+    for line in report.lines():
+        print(line)
+    sys.stdout.flush()
+    status = report.status()
+    try:
+        for form, make in outputs.FORMS.items():
+            if getattr(options, form):
+                outputs.write(getattr(options, form), make(report, options.words))
+        for it in report.filters:
+            if isinstance(it, Baseline) and options.update_baseline:
+                it.write(report)
+    except OSError as error:
+        say(f"{error.filename}: {error.strerror}")
+        status = status or INCOMPLETE
+    return int(options.error_exitcode) if status == 1 and options.error_exitcode else status
+
+
+def guarded(run: Callable[[], int]) -> int:
+    """Who reads the summary may have had enough of it; what comes behind the program may be stopped."""
+    signal.signal(signal.SIGTERM, recording.stop)
+    try:
+        return run()
+    except Missing as missing:
+        stop(MISSING, str(missing))
+    except (KeyboardInterrupt, Stopped):
+        return INCOMPLETE
+    except BrokenPipeError:
+        os.dup2(os.open(os.devnull, os.O_WRONLY), sys.stdout.fileno())
+        return INCOMPLETE
+
+
+def main(words: List[str]) -> int:
+    options = options_of(words)
+    if options.check:
+        return 0 if native.check(say) else MISSING
+    return guarded(lambda: record(options))

@@ -1,0 +1,341 @@
+"""What gpurace finds in a recorded launch, in the kernel's own terms: buffers, work-items, lines of source.
+
+Which words race, which two accesses do and what would order them is what `gpurace races --json --causes` says, which barriers diverge
+and which acquires are unmatched what `gpurace replay` does. Of the streams only the records of shown items are read.
+"""
+from __future__ import annotations
+
+import collections
+import dataclasses
+import hashlib
+import json
+import re
+import subprocess
+from typing import Any, Dict, Iterable, Iterator, List, Optional, Set, Tuple
+
+from . import causes
+from .folders import Info
+from .records import Group, Step, Wanted, groups_of
+from .sides import Places, Run, Shape, Texts, buffers_of, equal_of, joined, name_of, parts
+
+WHAT = {"load": "atomic load", "store": "atomic store", "rmw": "atomic read-modify-write"}
+ORDERS = {"rlx": "relaxed", "acq": "acquire", "rel": "release", "both": "acquire and release"}
+SCOPES = {"grp": "work-group scope", "dev": "device scope"}
+DIVERGENT = {"missing": "some work-items never reach it", "site": "the work-items are at different barriers",
+             "flags": "the work-items give different flags"}
+NO_PLACE = "unknown place"
+MOST_KINDS = 200     # of races of a launch
+MOST_DIVERGENT = 100  # groups with divergent barriers that are looked at
+MOST_STEPS = 3       # of an item on each side of its access that are kept
+OUTSIDE = re.compile(r"(?:.* of |in )(.+?),? which has (?:\d+ bytes?|no memory)")
+
+
+@dataclasses.dataclass
+class Mark:
+    """A record of an item of a race, for the picture: a barrier, a release, an acquire, or an access to the word."""
+    what: str
+    place: str = ""
+    scope: str = ""
+    order: str = ""
+    instance: int = -1  # of a barrier
+    flags: int = 0
+    is_racing: bool = False
+    key: Tuple[int, ...] = ()                # of a release: the group and the item of the trace, and its number
+    takes: Tuple[Tuple[int, ...], ...] = ()  # of an acquire: such releases
+
+
+@dataclasses.dataclass
+class Access:
+    """Something that an item did, or several did alike, and where it stands."""
+    what: str
+    who: str
+    place: str = ""
+    text: str = ""  # the line of the source
+    scope: str = ""
+    order: str = ""
+    group: int = 0
+    item: int = 0
+    index: int = 0
+    marks: List[Mark] = dataclasses.field(default_factory=list)
+
+    def lines(self) -> Iterator[str]:
+        if self.what in ("barrier", "no barrier"):
+            yield f"{self.place or self.what}: {self.who}"
+        else:
+            yield self.told()
+        yield from [f"    {self.text}"] if self.text else []
+
+    def told(self) -> str:
+        how = ", ".join(word for word in (ORDERS.get(self.order), SCOPES.get(self.scope)) if word)
+        return f"{self.place or NO_PLACE}: {WHAT.get(self.what, self.what)}{' (' + how + ')' if how else ''} by {self.who}"
+
+
+@dataclasses.dataclass
+class Map:
+    """The racy words of a buffer, in all groups that have it; of words of no buffer the name is empty."""
+    buffer: str
+    space: str
+    words: int
+    groups: int
+    spans: List[Tuple[int, int]]
+
+
+@dataclasses.dataclass
+class Finding:
+    """A mistake. Two are the same where their fingerprints are."""
+    kind: str                # race, divergence, out-of-bounds, unmatched
+    kernel: str
+    title: str
+    cause: str = ""          # its name
+    message: str = ""        # a sentence
+    words: int = 0           # of a race, how many
+    shown: str = ""          # the word that the two accesses race on
+    accesses: List[Access] = dataclasses.field(default_factory=list)
+    maps: List[Map] = dataclasses.field(default_factory=list)
+    is_equal: bool = False   # all stores to each of the words write the same value
+    is_doubtful: bool = False
+    state: str = "new"       # or known, or suppressed; `why` says why
+    why: str = ""
+
+    def buffers(self) -> List[str]:
+        return sorted({it.buffer for it in self.maps} - {""})
+
+    def texts(self) -> List[str]:
+        """The lines of the source; where these are not known the places, and else what is done."""
+        return sorted({access.text or access.place or access.what for access in self.accesses})
+
+    def fingerprint(self) -> str:
+        """Survives lines that are added elsewhere: it has the kernel, the buffers, the cause and the lines' texts."""
+        return fingerprint_of(self.kind, self.kernel, self.buffers(), self.cause, self.texts())
+
+    def lines(self) -> Iterator[str]:
+        yield self.title + (f"; on {self.shown}" if self.words > 1 else "") + (" (doubtful)" if self.is_doubtful else "")
+        for access in self.accesses:
+            yield from (f"    {line}" for line in access.lines())
+        yield from [f"    {self.message}"] if self.message else []
+        if self.is_equal:
+            yield f"    all stores to {'it' if self.words == 1 else 'each of them'} write the same value"
+
+
+def fingerprint_of(kind: str, kernel: str, buffers: List[str], cause: str, texts: List[str]) -> str:
+    return hashlib.sha256(json.dumps([kind, kernel, buffers, cause, texts]).encode()).hexdigest()[:32]
+
+
+def races_said(program: str, folder: str) -> Tuple[List[Dict[str, Any]], str]:
+    """The kinds of races, and what is wrong with them."""
+    ran = subprocess.run([program, "races", "--json", "--causes", "--most", str(MOST_KINDS), folder], capture_output=True, start_new_session=True)
+    if ran.returncode != 1:
+        return [], ran.stderr.decode(errors="replace").strip()
+    return [it for it in map(json.loads, ran.stdout.decode(errors="replace").splitlines()) if it["type"] == "kind"], ""
+
+
+class Reader:
+    """What the lines of a launch's report mean."""
+
+    def __init__(self, program: str, folder: str, info: Info, report: List[str]):
+        self.kernel = info["kernel"][0] if info["kernel"] else ""
+        self.shape, self.texts, self.buffers, self.equal = Shape(info), Texts(folder), buffers_of(folder), equal_of(folder)
+        lines = [line.split() for line in report]
+        self.cut = {int(line[1]) for line in lines if line[0] == "cut"}
+        self.divergent = {(int(line[1]), int(line[2])): line[3] for line in lines if line[0] == "diverge"}
+        self.looked_at = set(list(dict.fromkeys(group for group, _ in self.divergent))[:MOST_DIVERGENT])
+        self.unmatched = [(*map(int, line[1:4]), line[4]) for line in lines if line[0] == "unmatched"]
+        has_races = any(line[0] == "race" for line in lines)
+        self.kinds, self.fault = races_said(program, folder) if has_races else ([], "")
+        wanted = self.wanted()
+        self.groups = groups_of(folder, wanted)
+        keys = {f"{group} {item} {index}" for group, item, index, _ in self.unmatched}
+        keys |= {f"{group} {item} {step.index}" for group, it in self.groups.items() for item, steps in it.steps.items() for step in steps}
+        self.places = Places(folder, keys if self.groups or keys else None)
+
+    def wanted(self) -> Dict[int, Wanted]:
+        """The groups and items whose records are read, with the words."""
+        found: Dict[int, Wanted] = {group: {} for group in self.looked_at}
+        for kind in self.kinds:
+            word = kind["race"]["word"]
+            for event in (kind["race"]["first"], kind["race"]["second"]):
+                items = found.setdefault(event["group"], {})
+                items.setdefault(event["item"], set()).add((1 if word["space"] == "local" else 0, word["number"]))
+        return found
+
+    def findings(self) -> List[Finding]:
+        """Divergence first, since races may follow from it. Findings of one fingerprint are one."""
+        found: Dict[str, Finding] = {}
+        for finding in [*self.divergences(), *self.races(), *self.unmatched_acquires()]:
+            same = found.setdefault(finding.fingerprint(), finding)
+            if same is not finding:
+                join(same, finding)
+        for finding in found.values():
+            if finding.kind == "race" and finding.maps:
+                finding.title = title_of(finding)
+        return list(found.values())
+
+    def races(self) -> Iterator[Finding]:
+        if self.fault:
+            yield Finding("race", self.kernel, f"races that could not be told: {self.fault}")
+        for kind in self.kinds:
+            yield self.race(kind)
+
+    def race(self, kind: Dict[str, Any]) -> Finding:
+        said, race = kind["kind"], kind["race"]
+        group = race["word"].get("group")
+        accesses = [self.access(said[key], race[key]) for key in ("first", "second")]
+        runs = [Run(run["first"].get("group"), run["first"]["number"], run["last"]) for run in kind["runs"]]
+        finding = Finding("race", self.kernel, "", race["cause"]["name"], race["cause"]["sentence"], kind["words"], accesses=accesses,
+                          maps=self.maps(said["space"], runs))
+        finding.is_equal = (said["first"], said["second"]) == ("write", "write") and all(
+            any(it.first <= run.first and run.last <= it.last for it in self.equal.get(run.group, ())) for run in runs)
+        pair = self.pair(said, race, accesses)
+        if pair:
+            self.put_marks((race["first"], race["second"]), accesses)
+            finding.message = causes.sentence(finding.cause, finding.message, pair)
+        buffer = race["buffer"]
+        shown = f"{buffer['name']}[{buffer['index']}]" if buffer else f"{said['space']} word {race['word']['number']}"
+        finding.shown = shown + ("" if group is None else f" of {self.shape.group_told(group)}")
+        return finding
+
+    def access(self, what: str, event: Dict[str, Any]) -> Access:
+        group, item, index = event["group"], event["item"], event["index"]
+        place = event["place"] or ""
+        access = Access(what, self.shape.who(group, item), place, self.texts.line(place), group=self.shape.group(group), item=item, index=index)
+        if group in self.groups:
+            step = self.groups[group].step(item, index)
+            access.scope, access.order = step.scope, step.order
+        return access
+
+    def put_marks(self, events: Tuple[Dict[str, Any], Dict[str, Any]], accesses: List[Access]) -> None:
+        """Gives both accesses the steps around them. Of two items of a group the same barriers are shown: from the one before the first of the
+        two to the one behind the last; of many those at both ends."""
+        number, group = events[0]["group"], self.groups[events[0]["group"]]
+        shown: Optional[Set[int]] = None
+        if number == events[1]["group"]:
+            low, high = sorted(group.phase(event["item"], event["index"]) for event in events)
+            shown = {*range(low - 1, min(high, low + MOST_STEPS) + 1), *range(max(low, high - MOST_STEPS), high + 1)}
+        for event, access in zip(events, accesses):
+            access.marks = self.marks(event["group"], event["item"], event["index"], shown)
+
+    def marks(self, group: int, item: int, index: int, shown: Optional[Set[int]]) -> List[Mark]:
+        """The access of this index and the steps around it; of barriers those that are shown, or are near."""
+        racing, steps = self.groups[group].step(item, index), self.groups[group].steps[item]
+        word = (racing.space, racing.word)
+        near = [step for step in steps if (step.space, step.word) == word or step.is_release() or step.is_acquire() or (step.kind == "barrier" and shown is None)]
+        at = near.index(racing)
+        near = near[max(0, at - MOST_STEPS):at + MOST_STEPS + 1]
+        if shown is not None:
+            near = [step for step in near if self.groups[group].phase(item, step.index) - 1 in shown or step is racing]
+            near += [step for number, step in enumerate(self.groups[group].barriers[item]) if number in shown]
+        return [self.mark(group, item, step, step is racing) for step in sorted(near)]
+
+    def mark(self, group: int, item: int, step: Step, is_racing: bool) -> Mark:
+        if step.kind != "barrier":
+            key = (group, item, step.release) if step.is_release() else ()
+            return Mark(step.kind, self.places.event(group, item, step.index), step.scope, step.order, is_racing=is_racing, key=key, takes=step.names)
+        return Mark("barrier", self.places.site(step.word), instance=self.groups[group].phase(item, step.index), flags=step.space)
+
+    def pair(self, said: Dict[str, Any], race: Dict[str, Any], accesses: List[Access]) -> Optional[causes.Pair]:
+        """The two accesses with what stands between them; None where their records were not read."""
+        first, second = race["first"], race["second"]
+        if first["group"] not in self.groups or second["group"] not in self.groups:
+            return None
+        ats = [causes.At(access.what, access.place, access.scope) for access in accesses]
+        behind = [step for step in self.groups[first["group"]].steps[first["item"]] if step.index > first["index"] and step.is_release()]
+        before = [step for step in self.groups[second["group"]].steps[second["item"]] if step.index < second["index"] and step.is_acquire()]
+        return causes.Pair(said["space"], said["one_group"], *ats, self.barriers_between(first, second) if said["one_group"] else [],
+                           self.at(first, behind[0]) if behind else None, self.at(second, before[-1]) if before else None)
+
+    def at(self, event: Dict[str, Any], step: Step) -> causes.At:
+        return causes.At(step.kind, self.places.event(event["group"], event["item"], step.index), step.scope)
+
+    def barriers_between(self, first: Dict[str, Any], second: Dict[str, Any]) -> List[causes.Barrier]:
+        number, group = first["group"], self.groups[first["group"]]
+        phases = sorted((group.phase(event["item"], event["index"]), event["item"]) for event in (first, second))
+        steps = group.barriers[phases[1][1]]
+        return [causes.Barrier(self.places.site(steps[at].word), steps[at].space, (number, at) in self.divergent)
+                for at in range(phases[0][0], phases[1][0])]
+
+    def maps(self, space: str, runs: List[Run]) -> List[Map]:
+        """The runs by their buffers; local words of all groups that have them together."""
+        spans: Dict[str, Set[Tuple[int, int]]] = collections.defaultdict(set)
+        groups: Dict[str, Set[Optional[int]]] = collections.defaultdict(set)
+        sizes: Dict[str, int] = {}
+        for run in runs:
+            for part, buffer in parts(run, self.buffers):
+                name, start = (buffer.name, buffer.first) if buffer else ("", 0)
+                sizes[name] = buffer.last - buffer.first + 1 if buffer else 0
+                spans[name].add((part.first - start, part.last - start))
+                groups[name].add(part.group)
+        return [Map(name, space, sizes[name], len(groups[name]), joined(spans[name])) for name in spans]
+
+    def divergences(self) -> Iterator[Finding]:
+        alike: Dict[Any, List[Tuple[int, int]]] = collections.defaultdict(list)
+        for (group, instance), cause in self.divergent.items():
+            if group in self.groups:
+                is_cut = group in self.cut and cause == "missing"
+                alike[cause, is_cut, self.came(group, instance)].append((group, instance))
+        following = sum(kind["words"] for kind in self.kinds if kind["race"]["cause"]["name"] == "divergent")
+        for (cause, is_cut, came), instances in alike.items():
+            yield self.divergence(cause, is_cut, came, instances, following)
+        if self.divergent and not alike:
+            yield Finding("divergence", self.kernel, f"{len(self.divergent)} divergent barriers")
+
+    def came(self, number: int, instance: int) -> Tuple[Tuple[str, int, int], ...]:
+        """The items of a group by the place of their barrier, which is empty where they had none: it, how many, and the first."""
+        came: Dict[str, List[int]] = collections.defaultdict(list)
+        for item, barriers in enumerate(self.groups[number].barriers):
+            came[self.places.site(barriers[instance].word) if instance < len(barriers) else ""].append(item)
+        return tuple((place, len(items), items[0]) for place, items in came.items())
+
+    def divergence(self, cause: str, is_cut: bool, came: Tuple, instances: List[Tuple[int, int]], following: int) -> Finding:
+        (group, instance), others = instances[0], len(instances) - 1
+        more = f", and {others} more alike" if others else ""
+        who = self.shape.group_told(group)
+        message = DIVERGENT[cause] + (", or theirs is among the records that were lost" if is_cut else "")
+        message += f"; {following} race{'s follow' if following > 1 else ' follows'} from it" if following else ""
+        accesses = []
+        for place, count, first in came:
+            items = f"{count} work-items, the first is {self.shape.item(group, first)}" if count > 1 else self.shape.item(group, first)
+            accesses.append(Access("barrier" if place else "no barrier", items, place, self.texts.line(place)))
+        return Finding("divergence", self.kernel, f"divergent barrier, number {instance} of {who}{more}", cause, message, accesses=accesses,
+                       is_doubtful=is_cut)
+
+    def unmatched_acquires(self) -> Iterator[Finding]:
+        for group, item, index, cause in self.unmatched:
+            place = self.places.event(group, item, index)
+            access = Access("acquire", self.shape.who(group, item), place, self.texts.line(place), group=self.shape.group(group), item=item, index=index)
+            yield Finding("unmatched", self.kernel, f"acquire without its release ({cause})", cause,
+                          "the fault is mostly the recorder's; what waits for it is not judged", accesses=[access])
+
+
+def join(one: Finding, other: Finding) -> None:
+    """Puts what another finding of one fingerprint has to the first one."""
+    one.words += other.words
+    one.is_equal = one.is_equal and other.is_equal
+    for it in other.maps:
+        same = next((mine for mine in one.maps if (mine.buffer, mine.space) == (it.buffer, it.space)), None)
+        if same:
+            same.spans, same.groups = joined(same.spans + it.spans), max(same.groups, it.groups)
+        else:
+            one.maps.append(it)
+
+
+def title_of(race: Finding) -> str:
+    names = ", ".join(name_of(it.buffer, it.space, it.spans, it.groups) for it in race.maps)
+    return f"race on {names} ({race.words} words)" if race.words > 1 else f"race on {race.shown}"
+
+
+def out_of_bounds(info: Info, folder: str) -> Iterator[Finding]:
+    """Accesses out of all buffers, each place once: what it does, and where the first one went."""
+    shape, texts, kernel = Shape(info), Texts(folder), (info["kernel"] or [""])[0]
+    for line in info["out-of-bounds"]:
+        number, place, how, size, group, item, where = line.split(" ", 6)
+        by = "asynchronous copy" if int(item) == shape.items else shape.told("item", int(item), shape.local)
+        who = f"{shape.told('group', int(group), shape.groups)}, {by}"
+        named = OUTSIDE.fullmatch(where)
+        maps = [Map(named[1], "", 0, 1, [])] if named else []
+        yield Finding("out-of-bounds", kernel, f"out of bounds: {how} of {size} byte{'' if size == '1' else 's'}, {where}", "out-of-bounds",
+                      "" if number == "1" else f"{number} times", accesses=[Access(how, who, place, texts.line(place))], maps=maps)
+    for line in info["out-of-bounds-not-recorded"]:
+        number, _, place = line.partition(" ")
+        if number != "0":
+            yield Finding("out-of-bounds", kernel, f"out of bounds: {number} access{'' if number == '1' else 'es'}", "out-of-bounds",
+                          accesses=[Access("access", "some item", place, texts.line(place))])

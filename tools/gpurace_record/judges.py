@@ -1,0 +1,93 @@
+"""Judges the launches of a program while it runs."""
+from __future__ import annotations
+
+import concurrent.futures
+import json
+import os
+import shutil
+import threading
+import time
+import traceback
+from typing import Dict, List, Optional, Set
+
+from .folders import end_files, end_streams, info_of
+from .judging import Launch, Reason, judged
+from .pipes import Piped
+from .report import NEW, Report
+
+PAUSE = 0.02  # seconds between two looks at the folder
+
+
+class Judge(threading.Thread):
+    """Judges launches as soon as they are recorded. A folder that is not kept is removed when it is judged: the recorder waits for that where much is not judged yet. Of a launch of
+    many records it reads pipes while they are recorded."""
+
+    def __init__(self, program: str, folder: str, report: Report, is_kept: bool, jobs: int, seed: Optional[int], tests: str):
+        """`tests` is a folder in which the plugin of pytest asks, and is told."""
+        super().__init__(daemon=True)
+        self.tests = tests
+        self.program, self.folder, self.report, self.is_kept, self.seed = program, folder, report, is_kept, seed
+        self.seen: Set[str] = set()
+        self.piped: Dict[str, Piped] = {}
+        self.is_over, self.lock = False, threading.Lock()
+        self.pool = concurrent.futures.ThreadPoolExecutor(jobs)
+
+    def run(self) -> None:
+        while not self.is_over:
+            for name in self.having("piped.txt"):
+                if name not in self.piped:
+                    self.piped[name] = Piped(self.program, os.path.join(self.folder, name))
+            asked = [name for name in os.listdir(self.tests) if name.startswith("asked")]
+            if not self.judge_all():
+                time.sleep(PAUSE / 10 if asked else PAUSE)
+            for name in asked:  # what was recorded before it asked is judged
+                os.remove(os.path.join(self.tests, name))
+        self.judge_all()
+        for name in self.having("begun.txt"):
+            end_streams(os.path.join(self.folder, name))
+        self.judge_all()
+        self.pool.shutdown()
+
+    def having(self, file: str) -> List[str]:
+        """The folders with this file that are not judged yet."""
+        names = [name for name in os.listdir(self.folder) if name not in self.seen and name.partition("-")[0].isdigit()]
+        return [name for name in sorted(names, key=lambda name: (int(name.partition("-")[0]), name))
+                if os.path.exists(os.path.join(self.folder, name, file))]
+
+    def judge_all(self) -> bool:
+        """Has the launches judged that have ended; answers whether there was one."""
+        ended = self.having("info.txt")
+        self.seen.update(ended)
+        list(self.pool.map(self.judge, ended))
+        return bool(ended)
+
+    def judge(self, name: str) -> None:
+        path, piped = os.path.join(self.folder, name), self.piped.pop(name, None)
+        try:
+            info = info_of(path)
+            if info["cut"] and not piped:  # some groups may never have begun
+                end_files(path, info)
+            launch = judged(self.program, path, piped)
+        except Exception as fault:  # the program does not wait for it
+            traceback.print_exc()
+            launch = Launch(int(name.partition("-")[0]), name.partition("-")[2], path)
+            launch.reasons.append(Reason("fault", f"not judged: {fault}"))
+        launch.seed = self.seed
+        with self.lock:
+            self.report.add(launch)
+            if launch.label:
+                self.tell_test(launch)
+        if not self.is_kept:
+            shutil.rmtree(path)
+            self.seen.discard(name)  # another process of the program may have a launch of this number
+
+    def tell_test(self, launch: Launch) -> None:
+        new = [it for it in launch.findings if it.state == NEW and not it.is_doubtful]
+        found = [{"fingerprint": it.fingerprint(), "text": list(it.lines())} for it in new]
+        with open(os.path.join(self.tests, "judged"), "a") as out:
+            out.write(json.dumps({"label": launch.label, "findings": found}) + "\n")
+
+    def finish(self) -> None:
+        """The program is over: waits until what is left is judged, the launches that it did not end too."""
+        self.is_over = True
+        self.join()

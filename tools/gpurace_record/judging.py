@@ -1,0 +1,171 @@
+"""One recorded launch: what its folder says, and what gpurace finds in it."""
+from __future__ import annotations
+
+import dataclasses
+import os
+import subprocess
+from typing import Dict, Iterator, List, Optional, Tuple
+
+from .findings import Finding, Reader, out_of_bounds
+from .folders import Info, info_of, kept_of, streams_of, windows_of
+from .pipes import Piped
+from .sides import Texts, PLACE
+
+FOUND, INCOMPLETE = 1, 2
+MOST_PLACES = 3  # of one kind that are told
+KINDS = ("divergence", "out-of-bounds", "race", "unmatched")  # of findings, in the order in which they are told
+NOT_ALL_KEPT = "its first records are told of, since it has more than are kept; --keep DIR keeps all"
+
+
+def count(number: int, what: str) -> str:
+    ending = "" if number == 1 else "es" if what.endswith("ch") else "s"
+    return f"{number} {what}{ending}"
+
+
+@dataclasses.dataclass
+class Reason:
+    """Why a launch, or a run, of which nothing is found is no answer."""
+    name: str
+    text: str
+    kernels: List[str] = dataclasses.field(default_factory=list)  # of a run, those it is about
+
+
+@dataclasses.dataclass
+class Launch:
+    """A launch that was judged."""
+    number: int
+    kernel: str
+    folder: str
+    label: str = ""           # of the test that made it
+    seed: Optional[int] = None
+    size: str = ""
+    records: int = 0
+    verdict: str = "nothing"  # found, doubtful, incomplete, known or nothing
+    end: str = ""             # the report's last line
+    findings: List[Finding] = dataclasses.field(default_factory=list)
+    reasons: List[Reason] = dataclasses.field(default_factory=list)
+    notes: List[str] = dataclasses.field(default_factory=list)
+    texts: Dict[str, List[str]] = dataclasses.field(default_factory=dict)  # the files that its findings stand in
+
+    def outcome(self) -> Tuple:
+        """What launches have in common that are told as one."""
+        return (self.kernel, self.label if self.findings else "", self.verdict, tuple(sorted({it.fingerprint() for it in self.findings})),
+                tuple(sorted({reason.text for reason in self.reasons})))
+
+    def decide(self) -> None:
+        new = [it for it in self.findings if it.state == "new"]
+        is_found = any(not it.is_doubtful for it in new)
+        self.verdict = ("found" if is_found else "doubtful" if new else "incomplete" if self.reasons
+                        else "known" if self.findings else "nothing")
+
+
+def replay(program: str, streams: List[str]) -> Tuple[int, List[str], str]:
+    """The status of gpurace's report on these files, its lines, and what is wrong."""
+    ran = subprocess.run([program, "replay", *streams], stdin=subprocess.DEVNULL, capture_output=True, start_new_session=True)
+    return ran.returncode, ran.stdout.decode().splitlines(), ran.stderr.decode(errors="replace").strip()
+
+
+def judged(program: str, folder: str, piped: Optional[Piped] = None) -> Launch:
+    """The launch in the folder. One that was judged while it was recorded is told by what stands in files."""
+    info = info_of(folder)
+    kernel = info["kernel"][0] if info["kernel"] else ""
+    launch = Launch(int(info["launch"][0]) if info["launch"] else 0, kernel or os.path.basename(os.path.abspath(folder)), folder,
+                    label=(info["label"] or [""])[0])
+    is_begun = os.path.exists(os.path.join(folder, "begun.txt")) or not streams_of(folder)
+    if info["not-recorded"] or (not kernel and is_begun):
+        launch.reasons.append(Reason("not-recorded", "not recorded: " + (info["not-recorded"] or ["the folder is not whole"])[0]))
+    else:
+        judge(program, launch, info, piped)
+    return launch
+
+
+def report_of(program: str, launch: Launch, info: Info, piped: Optional[Piped]) -> Tuple[int, List[str], str]:
+    """The status and the lines of gpurace's report, and what is wrong. Of a launch that pipes have judged, what stands in files is told."""
+    by_pipes, of_pipes = piped.finish(info) if piped else (None, [])
+    if by_pipes == 0:
+        return 0, of_pipes, ""
+    status, report, fault = replay(program, streams_of(launch.folder))
+    if by_pipes == FOUND and status in (0, FOUND):
+        launch.notes.append(NOT_ALL_KEPT)
+        launch.end = of_pipes[-1][4:]
+        known = set(of_pipes)  # the streams in files end as cut, and items that are not there never came
+        report = [line for line in report if line in known or not line.startswith(("cut", "diverge", "unmatched"))]
+        return FOUND, report if status == FOUND else of_pipes, ""
+    if by_pipes is not None:  # not all has come
+        info["cut"].append("")
+    return status, report, fault
+
+
+def judge(program: str, launch: Launch, info: Info, piped: Optional[Piped]) -> None:
+    status, report, fault = report_of(program, launch, info, piped)
+    if status not in (0, FOUND):
+        launch.reasons.append(Reason("refused", f"the trace was refused: {fault}"))
+        return
+    launch.end = launch.end or report[-1][4:]
+    launch.size, launch.records = size_of(info, report)
+    found = Reader(program, launch.folder, info, report).findings() if status == FOUND else []
+    if status == FOUND and not found:  # no record of it is in files
+        found = [Finding("race", launch.kernel, "; ".join(report[2:2 + MOST_PLACES]))]
+    launch.reasons += reasons_of(info, report)
+    launch.notes += notes_of(info)
+    is_doubtful = any(reason.name in ("fences", "hand-overs", "orders") for reason in launch.reasons)
+    for finding in found:
+        finding.is_doubtful = finding.is_doubtful or (finding.kind == "race" and is_doubtful)
+    launch.findings = sorted([*found, *out_of_bounds(info, launch.folder)], key=lambda it: KINDS.index(it.kind))
+    launch.texts = texts_of(launch)
+
+
+def size_of(info: Info, report: List[str]) -> Tuple[str, int]:
+    """The sizes of a launch as text, and its records; by the report, where no info.txt has them."""
+    words = report[1].split()
+    if not info["local"]:
+        return f"{count(int(words[1]), 'group')}, {words[3]} work-items", int(words[5])
+    x, y, z = map(int, info["local"][0].split())
+    return f"{count(kept_of(info), 'group')} of {count(x * y * z, 'work-item')}", int(info["records"][0])
+
+
+def texts_of(launch: Launch) -> Dict[str, List[str]]:
+    """The files that the findings' places are of."""
+    texts = Texts(launch.folder)
+    places = (access.place for it in launch.findings for access in it.accesses)
+    files = {at[1] for at in map(PLACE.fullmatch, places) if at}
+    return {file: texts.text(file) for file in sorted(files) if texts.text(file)}
+
+
+def at_places(lines: List[str]) -> str:
+    """`N, at PLACE, PLACE, ..` of lines `COUNT PLACE`."""
+    pairs = [line.partition(" ")[::2] for line in lines]
+    where = ", ".join(place for _, place in pairs[:MOST_PLACES] if place) + (", .." if len(pairs) > MOST_PLACES else "")
+    return f"{sum(int(number) for number, _ in pairs)}" + (f", at {where}" if where else "")
+
+
+def reasons_of(info: Info, report: List[str]) -> Iterator[Reason]:
+    """What keeps a launch in which nothing is found from having been judged whole."""
+    cut = [line.split()[1] for line in report if line.startswith("cut ")] or info["cut"]
+    if cut:
+        groups = report[1].split()[1]
+        yield Reason("cut", f"records of {len(cut)} of {groups} groups were lost (the first is group {cut[0] or 0}): a group did more than a trace has room for, or was stopped")
+    if info["window"]:
+        groups = ", ".join(f"{first} to {first + number - 1}" for first, number in windows_of(info))
+        yield Reason("window", f"only groups {groups} of {info['groups'][0]} were recorded")
+    for name, keys, text in (("fences", ("fence", "fences-not-recorded"), "fences not recorded, so that an order that they give is not seen"),
+                             ("images", ("image",), "accesses of images, which are not judged"),
+                             ("orders", ("orders-not-known",), "atomics whose order is not known, taken as relaxed"),
+                             ("hand-overs", ("names-outside-window",), "hand-overs from groups outside the window, not recorded")):
+        lines = [line for key in keys for line in info[key] if line.split(" ")[0] != "0"]
+        if lines:
+            yield Reason(name, f"{text}: {at_places(lines)}")
+    for text in info["note"]:
+        yield Reason("operations", f"not recorded: {text}")
+
+
+def notes_of(info: Info) -> Iterator[str]:
+    """What a reader of the findings has to know besides."""
+    if info["places-cut"]:
+        yield f"some places are not known: {info['places-cut'][0]}"
+    if info["window"]:
+        numbers, first = [], 0
+        for _, number in windows_of(info):
+            numbers.append(f"{first} to {first + number - 1}")
+            first += number
+        yield f"in the trace these groups are {', '.join(numbers)}"

@@ -1,0 +1,153 @@
+"""What a run has found as JSON, SARIF and JUnit (docs/OUTPUT.md)."""
+from __future__ import annotations
+
+import dataclasses
+import json
+import os
+import re
+import xml.etree.ElementTree as xml
+from typing import Any, Callable, Dict, List, Tuple
+
+from . import page
+from .findings import Access, Finding
+from .judging import Launch
+from .known import Baseline, Suppressions
+from .report import NEW, Entry, Report
+from .sides import PLACE
+
+VERSION = 1
+SARIF = "https://docs.oasis-open.org/sarif/sarif/v2.1.0/errata01/os/schemas/sarif-schema-2.1.0.json"
+RULES = {"race": ("DataRace", "Two work-items access a word, one of them modifies it, and nothing orders the two."),
+         "divergence": ("DivergentBarrier", "Not all work-items of a group meet a barrier alike."),
+         "out-of-bounds": ("OutOfBounds", "An access to global or local memory is in no buffer."),
+         "unmatched": ("UnmatchedAcquire", "An acquire never gets a release that it names.")}
+NOT_OF_XML = re.compile("[^\t\n\r\u0020-\ud7ff\ue000-\ufffd\U00010000-\U0010ffff]")
+
+
+def write(path: str, text: str) -> None:
+    """Writes a file whole or not at all."""
+    part = f"{path}.part"
+    with open(part, "w", encoding="utf-8") as out:
+        out.write(text)
+    os.replace(part, path)
+
+
+def launch_object(launch: Launch, kept: bool) -> Dict[str, Any]:
+    return {"number": launch.number, "kernel": launch.kernel, "label": launch.label or None, "seed": launch.seed,
+            "folder": launch.folder if kept else None, "verdict": launch.verdict, "size": launch.size, "records": launch.records,
+            "findings": [it.fingerprint() for it in launch.findings], "reasons": [{"name": it.name, "text": it.text} for it in launch.reasons],
+            "notes": launch.notes, "end": launch.end}
+
+
+def finding_object(mark: str, entry: Entry) -> Dict[str, Any]:
+    it = entry.finding
+    accesses = [{key: value or None if key in ("place", "text", "scope", "order") else value
+                 for key, value in dataclasses.asdict(access).items() if key != "marks"} for access in it.accesses]
+    return {"fingerprint": mark, "kind": it.kind, "kernel": it.kernel, "title": it.title, "cause": it.cause, "message": it.message,
+            "words": it.words, "shown": it.shown or None, "buffers": [dataclasses.asdict(buffer) for buffer in it.maps], "accesses": accesses,
+            "is_equal": it.is_equal, "is_doubtful": it.is_doubtful, "state": entry.state, "why": entry.why or None,
+            "launches": len(entry.launches), "text": list(it.lines())}
+
+
+def as_json(report: Report, words: List[str]) -> str:
+    baseline = next((it for it in report.filters if isinstance(it, Baseline)), None)
+    rules = [rule for it in report.filters if isinstance(it, Suppressions) for rule in it.rules]
+    made = {"gpurace_record": VERSION, "status": report.status(), "program": words,
+            "reasons": [dataclasses.asdict(reason) for reason in report.reasons()],
+            "launches": [launch_object(launch, bool(report.kept)) for launch in report.launches],
+            "findings": [finding_object(*it) for it in report.entries().items()],
+            "gone": baseline.gone(report) if baseline else [],
+            "suppressions": [{"line": rule.number, **rule.patterns, "why": rule.why, "matched": rule.matched} for rule in rules]}
+    return json.dumps(made, indent=1) + "\n"
+
+
+def uri_of(launch: Launch, file: str) -> str:
+    """Where a file of a kernel's text is: by its kernel, where the program gave the text to OpenCL."""
+    return os.path.relpath(file) if "/" in file else f"{launch.kernel}/{file}"
+
+
+def location(launch: Launch, access: Access) -> Dict[str, Any]:
+    at = PLACE.fullmatch(access.place)
+    if not at:
+        return {"message": {"text": access.told()}}
+    region = {"startLine": max(1, int(at[2])), "startColumn": max(1, int(at[3]))}
+    if access.text:
+        region["snippet"] = {"text": access.text}
+    physical = {"artifactLocation": {"uri": uri_of(launch, at[1])}, "region": region}
+    return {"physicalLocation": physical, "message": {"text": access.told()}}
+
+
+def result(mark: str, entry: Entry, has_baseline: bool) -> Dict[str, Any]:
+    it, launch = entry.finding, entry.launches[0]
+    places = [location(launch, access) for access in it.accesses]
+    made = {"ruleId": RULES[it.kind][0], "level": "warning" if it.is_doubtful else "error",
+            "message": {"text": f"{it.title}{': ' if it.message else ''}{it.message}"}, "occurrenceCount": len(entry.launches),
+            "partialFingerprints": {"gpurace/v1": mark}, "locations": places[:1],
+            "relatedLocations": [{"id": number, **place} for number, place in enumerate(places[1:], 1)]}
+    if has_baseline:
+        made["baselineState"] = "unchanged" if entry.state == "known" else "new"
+    if entry.state == "suppressed":
+        made["suppressions"] = [{"kind": "external", "justification": entry.why}]
+    return made
+
+
+def as_sarif(report: Report, words: List[str]) -> str:
+    """SARIF 2.1.0: a result for each finding, with the texts of the kernels."""
+    baseline = next((it for it in report.filters if isinstance(it, Baseline)), None)
+    results = [result(mark, entry, bool(baseline)) for mark, entry in report.entries().items()]
+    for it in baseline.gone(report) if baseline else []:
+        results.append({"ruleId": RULES[it["kind"]][0], "baselineState": "absent", "level": "note",
+                        "message": {"text": f"gone: {it['kind']} in {it['kernel']}: {'; '.join(it['texts'])}"}})
+    texts = {uri_of(launch, file): lines for launch in report.launches for file, lines in launch.texts.items()}
+    rules = [{"id": name, "shortDescription": {"text": text}} for name, text in RULES.values()]
+    notes = [{"level": "warning", "descriptor": {"id": reason.name}, "message": {"text": reason.text}} for reason in report.reasons()]
+    run = {"tool": {"driver": {"name": "gpurace", "rules": rules}}, "results": results, "columnKind": "utf16CodeUnits",
+           "artifacts": [{"location": {"uri": uri}, "contents": {"text": "\n".join(lines) + "\n"}} for uri, lines in texts.items()],
+           "invocations": [{"executionSuccessful": not report.run_reasons, "exitCode": report.status(), "arguments": words,
+                            "toolExecutionNotifications": notes}]}
+    return json.dumps({"$schema": SARIF, "version": "2.1.0", "runs": [run]}, indent=1) + "\n"
+
+
+def case(suite: xml.Element, name: str, of: str) -> xml.Element:
+    return xml.SubElement(suite, "testcase", {"name": name, "classname": of, "time": "0"})
+
+
+def note(made: xml.Element, kind: str, message: str, lines: List[str]) -> None:
+    xml.SubElement(made, kind, {"message": NOT_OF_XML.sub("?", message), "type": kind}).text = NOT_OF_XML.sub("?", "\n".join(lines))
+
+
+def kernel_case(suite: xml.Element, label: str, kernel: str, launches: List[Launch]) -> None:
+    """A kernel, in a test where these are named: it has failed where something new is found, and is skipped where nothing is known."""
+    made = case(suite, kernel, label or "kernels")
+    new: Dict[str, Finding] = {it.fingerprint(): it for launch in launches for it in launch.findings if it.state == NEW}
+    certain = [it for it in new.values() if not it.is_doubtful]
+    doubts = [f"doubtful: {it.title}" for it in new.values() if it.is_doubtful] + [reason.text for launch in launches for reason in launch.reasons]
+    if certain:
+        note(made, "failure", "; ".join(it.title for it in certain), [line for it in certain for line in it.lines()])
+    elif doubts:
+        note(made, "skipped", doubts[0], list(dict.fromkeys(doubts)))
+
+
+def as_junit(report: Report, words: List[str]) -> str:
+    """JUnit: a case for each kernel, and one for the run where something keeps it from being an answer."""
+    kernels: Dict[Tuple[str, str], List[Launch]] = {}
+    for launch in report.launches:
+        kernels.setdefault((launch.label, launch.kernel), []).append(launch)
+    suite = xml.Element("testsuite", {"name": "gpurace"})
+    for (label, kernel), launches in kernels.items():
+        kernel_case(suite, label, kernel, launches)
+    of_run = [reason.text for reason in report.reasons() if not any(reason.text == it.text for launch in report.launches for it in launch.reasons)
+              and reason.name != "doubtful"]
+    run = case(suite, " ".join(words)[:200] or "the run", "run")
+    if of_run:
+        note(run, "error", of_run[0], of_run)
+    cases = suite.findall("testcase")
+    for name, tag in (("failures", "failure"), ("errors", "error"), ("skipped", "skipped")):
+        suite.set(name, str(sum(it.find(tag) is not None for it in cases)))
+    suite.set("tests", str(len(cases)))
+    whole = xml.Element("testsuites")
+    whole.append(suite)
+    return '<?xml version="1.0" encoding="UTF-8"?>\n' + xml.tostring(whole, encoding="unicode") + "\n"
+
+
+FORMS: Dict[str, Callable[[Report, List[str]], str]] = {"json": as_json, "sarif": as_sarif, "junit": as_junit, "html": page.as_html}

@@ -1,0 +1,89 @@
+"""Runs a program under a recorder, and says how it ended."""
+from __future__ import annotations
+
+import os
+import signal
+import subprocess
+import time
+from typing import Dict, List, Optional
+
+from .judging import Reason
+
+CLOSES = 10.0   # seconds that a program has to end after Ctrl-C or SIGTERM
+SHARED_MEMORY, LEAST_ROOM = "/dev/shm", 1 << 30
+TIMED_OUT = 124  # the status of a program that the recorder has ended
+
+
+class Stopped(Exception):
+    """SIGTERM came."""
+
+
+def stop(*_: object) -> None:
+    raise Stopped
+
+
+class Run:
+    """A run of the program: its status, negative where a signal ended it, and what stopped it."""
+
+    def __init__(self, words: List[str], variables: Dict[str, str]):
+        self.stopped_by = ""
+        with subprocess.Popen(words, env=variables) as program:
+            self.status = self.wait(program)
+
+    def wait(self, program: subprocess.Popen) -> int:
+        """Ctrl-C and SIGTERM go to the program, and end the wait for it. (The terminal sends Ctrl-C to the program, too.)"""
+        ends_at: Optional[float] = None
+        while True:
+            try:
+                return program.wait(None if ends_at is None else max(0.1, ends_at - time.time()))
+            except (KeyboardInterrupt, Stopped) as why:
+                self.stopped_by = self.stopped_by or ("Ctrl-C" if isinstance(why, KeyboardInterrupt) else "SIGTERM")
+                ends_at = ends_at or time.time() + CLOSES
+                if isinstance(why, Stopped):
+                    program.send_signal(signal.SIGINT)  # the recorder writes what it has
+            except subprocess.TimeoutExpired:
+                program.kill()
+
+    def reasons(self, timeout: Optional[str], is_ignored: bool) -> List[Reason]:
+        """Why the run may not have launched all that it should."""
+        if self.stopped_by:
+            return [Reason("stopped", f"{self.stopped_by} stopped the program")]
+        if timeout and self.status == TIMED_OUT:
+            return [Reason("timeout", f"a kernel had not ended after {timeout} s, which stopped the program")]
+        if self.status == 0 or is_ignored:
+            return []
+        if self.status > 0:
+            return [Reason("program-status", f"the program ended with status {self.status}")]
+        return [Reason("program-signal", f"the program ended with signal {-self.status} ({signal_name(-self.status)})")]
+
+
+def signal_name(number: int) -> str:
+    try:
+        return signal.Signals(number).name
+    except ValueError:
+        return "unknown"
+
+
+def cache() -> str:
+    return os.path.join(os.environ.get("XDG_CACHE_HOME", os.path.expanduser("~/.cache")), "gpurace")
+
+
+def of_tests(folder: str) -> Dict[str, str]:
+    """What a program that runs tests needs to say which one makes a launch, and to be told what was found: the plugin of pytest does both."""
+    plugins = os.path.join(os.path.dirname(os.path.realpath(__file__)), "plugin")
+    paths = [plugins] + ([os.environ["PYTHONPATH"]] if os.environ.get("PYTHONPATH") else [])
+    return {"PYTHONPATH": os.pathsep.join(paths), "GPURACE_TESTS": folder,
+            "GPURACE_LABEL": os.environ.get("GPURACE_LABEL") or os.path.join(folder, "label")}
+
+
+def room() -> Optional[str]:
+    """The folder for launches that are not kept: in memory, where there is room. On a disk it takes longer to make and remove their files
+    than to judge them."""
+    if os.environ.get("TMPDIR") or not os.access(SHARED_MEMORY, os.W_OK):
+        return None
+    sizes = os.statvfs(SHARED_MEMORY)
+    return SHARED_MEMORY if sizes.f_bavail * sizes.f_frsize >= LEAST_ROOM else None
+
+
+class Missing(Exception):
+    """What is needed and not there."""

@@ -1,0 +1,80 @@
+"""What is read of a group's stream: its barriers, and what some of its items do to some words."""
+from __future__ import annotations
+
+import struct
+from typing import Dict, List, NamedTuple, Set, Tuple
+
+from .folders import HEADER, RECORD_FORMS, mapped, streams_in, streams_of
+
+BARRIER, END = 5, 6
+KINDS = ["read", "write", "load", "store", "rmw", "barrier"]
+SCOPES, ORDERS = ["", "grp", "dev"], ["", "rlx", "acq", "rel", "both"]
+NAME = struct.Struct("<HHI")
+NAMES_AT = 12         # in a record
+NO_NAME = (0xffff, 0xffff, 0xffffffff)
+MOST_BYTES = 1 << 27  # of a stream that is read
+
+
+class Step(NamedTuple):
+    """A record of an item. Of a barrier `word` is its site and `space` its flags."""
+    index: int
+    kind: str
+    space: int
+    scope: str
+    order: str
+    word: int
+    release: int = -1                          # its number among the releases of its item
+    names: Tuple[Tuple[int, int, int], ...] = ()  # the releases that it takes: group, item and number
+
+    def is_release(self) -> bool:
+        return self.order in ("rel", "both")
+
+    def is_acquire(self) -> bool:
+        return self.order in ("acq", "both")
+
+
+Wanted = Dict[int, Set[Tuple[int, int]]]  # of items the words, each with its space
+
+
+class Group:
+    """The barriers of each item of a group; and of the wanted items all barriers, releases, acquires and accesses to their words."""
+
+    def __init__(self, stream: memoryview, wanted: Wanted):
+        form, _, self.items, _ = HEADER.unpack_from(stream)
+        self.barriers: List[List[Step]] = [[] for _ in range(self.items)]
+        self.steps: Dict[int, List[Step]] = {item: [] for item in wanted}
+        count, releases, record = [0] * self.items, [0] * self.items, RECORD_FORMS[form]
+        for at, (kind, space, scope, order, item, word) in enumerate(record.iter_unpack(stream[HEADER.size:])):
+            if kind == BARRIER:
+                step = Step(count[item], "barrier", space, "", "", word)
+                self.barriers[item].append(step)
+                if item in wanted:
+                    self.steps[item].append(step)
+            elif item in wanted and kind != END and (order > 1 or (space, word) in wanted[item]):
+                start = HEADER.size + at * record.size
+                names = names_in(stream[start + NAMES_AT:start + record.size]) if order in (2, 4) else ()
+                self.steps[item].append(Step(count[item], KINDS[kind], space, SCOPES[scope], ORDERS[order], word,
+                                             releases[item] if order > 2 else -1, names))
+            count[item] += 1
+            releases[item] += order > 2
+
+    def phase(self, item: int, index: int) -> int:
+        """How many barriers of the item stand before its record of this index."""
+        return sum(barrier.index < index for barrier in self.barriers[item])
+
+    def step(self, item: int, index: int) -> Step:
+        return next(step for step in self.steps[item] if step.index == index)
+
+
+def names_in(places: memoryview) -> Tuple[Tuple[int, int, int], ...]:
+    return tuple(name for name in NAME.iter_unpack(places) if name != NO_NAME)
+
+
+def groups_of(folder: str, wanted: Dict[int, Wanted]) -> Dict[int, Group]:
+    """These groups, by their numbers; those with too many records are left out."""
+    found = {}
+    for data in map(mapped, streams_of(folder)) if wanted else ():
+        for stream in streams_in(data):
+            if stream.group in wanted and stream.end is not None and stream.end - stream.start <= MOST_BYTES:
+                found[stream.group] = Group(memoryview(data)[stream.start:stream.end], wanted[stream.group])
+    return found

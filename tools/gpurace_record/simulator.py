@@ -1,0 +1,57 @@
+"""Records a program's kernels on the simulator Oclgrind."""
+from __future__ import annotations
+
+import argparse
+import os
+import shutil
+import subprocess
+from typing import Callable, Dict, List
+
+from .recording import Missing, cache
+
+TOOLS = os.path.dirname(os.path.dirname(os.path.realpath(__file__)))
+RECORDER = os.path.join(TOOLS, "recorder")
+NEEDED = [("g++", "g++"), ("make", "make"), ("llvm-config-14", "llvm-14-dev"),
+          ("/usr/include/oclgrind/Plugin.h", "liboclgrind-dev"), ("/usr/include/CL/cl.h", "opencl-headers")]
+
+
+def find(program: str) -> str:
+    name = "oclgrind-kernel" if program.endswith(".sim") else "oclgrind"
+    if not shutil.which(name):
+        raise Missing(f"{name} is not on the path: install the package oclgrind (Debian: apt-get install oclgrind)")
+    return name
+
+
+def build(say: Callable[[str], None]) -> str:
+    """The plugin, built where it is missing or older than its sources."""
+    out = os.path.join(RECORDER, "out") if os.access(RECORDER, os.W_OK) else cache()
+    plugin = os.path.join(out, "recorder.so")
+    sources = [os.path.join(RECORDER, name) for name in ("recorder.cpp", "write_launch.cpp", "launch.h", "window.h", "Makefile")]
+    sources.append(os.path.join(TOOLS, "gpurace_trace.h"))
+    if os.path.exists(plugin) and all(os.path.getmtime(source) <= os.path.getmtime(plugin) for source in sources):
+        return plugin
+    missing = [package for needed, package in NEEDED if not (os.path.exists(needed) or shutil.which(needed))]
+    if missing:
+        raise Missing(f"building the plugin needs packages that are missing (Debian: apt-get install {' '.join(missing)})")
+    say("building the plugin, which takes half a minute the first time")
+    built = subprocess.run(["make", "-s", "-C", RECORDER, f"OUT={out}"], capture_output=True, text=True)
+    if built.returncode != 0:
+        raise Missing("the plugin could not be built:\n" + built.stderr)
+    return plugin
+
+
+def words(oclgrind: str, plugin: str, options: argparse.Namespace) -> List[str]:
+    """The program's command, up to its own words."""
+    build_options = [] if options.optimized else ["-O0"]
+    if options.opencl20:
+        build_options += ["-cl-std=CL2.0", "-include", os.path.join(RECORDER, "opencl20_atomics.h")]
+    build_options += [options.build_options] if options.build_options else []
+    command = [oclgrind, "--plugins", plugin, "--max-wgsize", options.max_group_size or "1024"]
+    return command + (["--build-options", " ".join(build_options)] if build_options else [])
+
+
+def environment(options: argparse.Namespace, folder: str) -> Dict[str, str]:
+    settings = {"PYOPENCL_NO_CACHE": "1",  # what pyopencl keeps compiled has no text
+                "GPURACE_OUT": folder, "GPURACE_QUIET": "1", "GPURACE_KERNEL": options.kernel or "",
+                "GPURACE_LAUNCH": options.launch or "", "GPURACE_GROUPS": options.groups or ""}
+    return {**os.environ, **settings}
