@@ -19,18 +19,9 @@ def buffers_of(folder):
         yield group, int(words[1]), int(words[2]), name, GRAINS[grain]
 
 
-def places_of(folder):
-    places = {}
-    for line in open(os.path.join(folder, "places")):
-        words = line.rstrip("\n").split(" ", 3)
-        key = tuple(map(int, words[:3])) if len(words) == 4 else int(words[0])
-        places[key] = words[-1]
-    return places
-
-
 def recording(folder):
     """Of each item its records, each as what it does, where in which buffer, and its place in the source."""
-    buffers, places, items = list(buffers_of(folder)), places_of(folder), {}
+    buffers, sites, items = list(buffers_of(folder)), open(os.path.join(folder, "sites")).read().splitlines(), {}
 
     def where(memory, group, word):
         for of, first, words, name, grain in buffers:
@@ -41,13 +32,12 @@ def recording(folder):
     for data in map(mapped, streams_of(folder)):
         for stream in streams_in(data):
             form, body = data[stream.start:stream.start + 4], memoryview(data)[stream.start + HEADER.size:stream.end]
-            for kind, memory, scope, order, item, word in RECORD_FORMS[form].iter_unpack(body):
+            for kind, memory, scope, order, item, site, word in RECORD_FORMS[form].iter_unpack(body):
                 if kind == END:
                     continue
                 records = items.setdefault((stream.group, item), [])
                 is_barrier = kind == BARRIER
-                place = places.get(word if is_barrier else (stream.group, item, len(records)))
-                records.append((kind, memory, scope, order, None if is_barrier else where(memory, stream.group, word), place))
+                records.append((kind, memory, scope, order, None if is_barrier else where(memory, stream.group, word), sites[site - 1]))
     return items
 
 

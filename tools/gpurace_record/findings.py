@@ -146,11 +146,13 @@ class Reader:
         self.groups = groups_of(folder, wanted)
         keys = {f"{group} {item} {index}" for group, item, index, _ in self.unmatched}
         keys |= {f"{group} {item} {step.index}" for group, it in self.groups.items() for item, steps in it.steps.items() for step in steps}
-        self.places = Places(folder, keys if self.groups or keys else None)
+        self.places = Places(folder, self.groups, keys)
 
     def wanted(self) -> Dict[int, Wanted]:
         """The groups and items whose records are read, with the words."""
         found: Dict[int, Wanted] = {group: {} for group in self.looked_at}
+        for group, item, _, _ in self.unmatched:
+            found.setdefault(group, {}).setdefault(item, set())
         for kind in self.kinds:
             word = kind["race"]["word"]
             for event in (kind["race"]["first"], kind["race"]["second"]):

@@ -12,9 +12,9 @@ from typing import Dict, Iterator, List, NamedTuple, Optional, Tuple
 
 JOINED = "groups.gpurace"  # of a launch of many groups, whose streams stand there as they ended
 END = 6
-MOST_GROUPS, MOST_ITEMS = 64, 256  # that the versions 1 and 2 have
+MOST_GROUPS = 64  # that have a file each
 HEADER = struct.Struct("<4sHHI")
-SHORT, LONG = struct.Struct("<BBBBHxxI8x"), struct.Struct("<BBBBHxxI32x")  # names are passed over
+SHORT, LONG = struct.Struct("<BBBBHHI8x"), struct.Struct("<BBBBHHI32x")  # names are passed over
 RECORD_FORMS = {b"GRT1": SHORT, b"GRT2": LONG, b"GRT3": SHORT, b"GRT4": LONG}
 Info = Dict[str, List[str]]  # the lines of info.txt by their first words
 
@@ -93,7 +93,6 @@ def end_streams(folder: str) -> None:
         return
     try:
         kept, items, records = end_files(folder, begun)
-        end_lines(os.path.join(folder, "places"))
         with open(os.path.join(folder, "begun.txt")) as text:
             lines = text.read()
         cut = "".join(f"cut {group}\n" for group in range(kept))
@@ -108,8 +107,7 @@ def end_files(folder: str, info: Info) -> Tuple[int, int, int]:
     """Ends the streams that have no end; answers how many groups and items of each there are, and how many records."""
     kept, (x, y, z) = kept_of(info), map(int, info["local"][0].split())
     items, launch = x * y * z + (1 if info["copying-item"] else 0), int(info["launch"][0])
-    form = b"GRT1" if kept <= MOST_GROUPS and items <= MOST_ITEMS else b"GRT3"
-    heads = [HEADER.pack(form, group, items, launch) for group in range(kept)]
+    heads = [HEADER.pack(b"GRT3", group, items, launch) for group in range(kept)]
     if kept > MOST_GROUPS:
         return kept, items, end_joined(folder, heads)
     return kept, items, sum(end_stream(os.path.join(folder, f"group{at:02}.gpurace"), head) for at, head in enumerate(heads))
@@ -169,14 +167,3 @@ def end_stream(path: str, begun: bytes) -> int:
 def cut_end(head: bytes) -> bytes:
     """The end of a stream of which records were lost."""
     return bytes([END, 1]) + bytes(10) + b"\xff" * (RECORD_FORMS[head[:4]].size - 12)
-
-
-def end_lines(path: str) -> None:
-    """Cuts a file of lines behind its last whole one."""
-    if not os.path.exists(path):
-        return
-    with open(path, "r+b") as lines:
-        size = lines.seek(0, os.SEEK_END)
-        lines.seek(max(0, size - 65536))
-        last = lines.read().rfind(b"\n")
-        lines.truncate(max(0, size - 65536) + last + 1)

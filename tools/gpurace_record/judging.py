@@ -161,8 +161,6 @@ def reasons_of(info: Info, report: List[str]) -> Iterator[Reason]:
 
 def notes_of(info: Info) -> Iterator[str]:
     """What a reader of the findings has to know besides."""
-    if info["places-cut"]:
-        yield f"some places are not known: {info['places-cut'][0]}"
     if info["window"]:
         numbers, first = [], 0
         for _, number in windows_of(info):

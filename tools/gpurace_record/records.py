@@ -25,6 +25,7 @@ class Step(NamedTuple):
     word: int
     release: int = -1                          # its number among the releases of its item
     names: Tuple[Tuple[int, int, int], ...] = ()  # the releases that it takes: group, item and number
+    site: int = 0                              # the line of `sites` that has its place, from 1
 
     def is_release(self) -> bool:
         return self.order in ("rel", "both")
@@ -44,9 +45,9 @@ class Group:
         self.barriers: List[List[Step]] = [[] for _ in range(self.items)]
         self.steps: Dict[int, List[Step]] = {item: [] for item in wanted}
         count, releases, record = [0] * self.items, [0] * self.items, RECORD_FORMS[form]
-        for at, (kind, space, scope, order, item, word) in enumerate(record.iter_unpack(stream[HEADER.size:])):
+        for at, (kind, space, scope, order, item, site, word) in enumerate(record.iter_unpack(stream[HEADER.size:])):
             if kind == BARRIER:
-                step = Step(count[item], "barrier", space, "", "", word)
+                step = Step(count[item], "barrier", space, "", "", word, site=site)
                 self.barriers[item].append(step)
                 if item in wanted:
                     self.steps[item].append(step)
@@ -54,7 +55,7 @@ class Group:
                 start = HEADER.size + at * record.size
                 names = names_in(stream[start + NAMES_AT:start + record.size]) if order in (2, 4) else ()
                 self.steps[item].append(Step(count[item], KINDS[kind], space, SCOPES[scope], ORDERS[order], word,
-                                             releases[item] if order > 2 else -1, names))
+                                             releases[item] if order > 2 else -1, names, site))
             count[item] += 1
             releases[item] += order > 2
 

@@ -8,6 +8,7 @@ import subprocess
 from typing import Dict, Iterable, Iterator, List, NamedTuple, Optional, Set, Tuple
 
 from .folders import Info, windows_of
+from .records import Group
 
 BUFFER = re.compile(r"(?:g|l (\d+)) (\d+) (\d+) (.+)")
 PLACE = re.compile(r"(.+):(\d+):(\d+)")
@@ -95,11 +96,14 @@ def name_of(name: str, space: str, runs: Spans, groups: int) -> str:
 class Places:
     """Where events and barriers' sites stand in the source, by "GROUP ITEM INDEX" and by the site's number."""
 
-    def __init__(self, folder: str, keys: Optional[Set[str]]):
-        """Of these events, and of all sites; of nothing where the keys are None."""
+    def __init__(self, folder: str, groups: Dict[int, Group], keys: Set[str]):
+        """Of what was read of these groups, by the file of sites; or of these events and all sites, by that of places."""
         self.found: Dict[str, str] = {}
         path = os.path.join(folder, "places")
-        if keys is None or not os.path.isfile(path):
+        if not os.path.isfile(path):
+            self.find(groups, list(lines_of(folder, "sites")))
+            return
+        if not keys and not groups:
             return
         patterns = "".join(f"^{key} \n" for key in sorted(keys)) + "^[0-9]* [^0-9]\n"
         found = subprocess.run(["grep", "-a", "-f", "-", path], input=patterns.encode(), stdout=subprocess.PIPE, env={**os.environ, "LC_ALL": "C"})
@@ -108,6 +112,13 @@ class Places:
             is_event = len(fields) == 4 and fields[1][:1].isdigit()
             key = " ".join(fields[:3]) if is_event else fields[0]
             self.found.setdefault(key, line[len(key) + 1:])
+
+    def find(self, groups: Dict[int, Group], sites: List[str]) -> None:
+        for number, group in groups.items():
+            for item, steps in group.steps.items():
+                self.found.update((f"{number} {item} {step.index}", sites[step.site - 1]) for step in steps if 0 < step.site <= len(sites))
+            for step in (step for steps in group.barriers for step in steps if 0 < step.site <= len(sites)):
+                self.found.setdefault(str(step.word), sites[step.site - 1])
 
     def site(self, number: int) -> str:
         return self.found.get(str(number), f"site {number}")
