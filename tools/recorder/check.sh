@@ -90,6 +90,14 @@ expect "a folder that is not empty" 3 "$work/kept is not empty" -- --keep "$work
 # six groups count themselves in turn; the last reads the five other parts
 expect "a hand-over" 0 "launch 0, sum_all: nothing found" \
     -- --opencl20 --build-options -DORDER=memory_order_acq_rel sum_all.sim
+expect "a hand-over of a program that asks for OpenCL 2.0" 0 "launch 0, sum_all: nothing found" \
+    -- --build-options "-cl-std=CL2.0 -DORDER=memory_order_acq_rel" sum_all.sim
+# each of three groups takes a lock that is a flag, reads and writes the counter, lets it go, and ends
+expect "a lock that is a flag" 0 "flag_lock: nothing found (3 groups of 1 work-item, 15 records)" \
+    -- --build-options "-cl-std=CL2.0 -DORDER=memory_order_release" flag_lock.sim
+expect "a lock that is a flag and releases nothing" 1 "race on counter\[0\]" -- --build-options "-cl-std=CL2.0 -DORDER=memory_order_relaxed" flag_lock.sim
+# two groups of two items each write a word; what they read of the table is not recorded
+expect "constant memory" 0 "constants: nothing found (2 groups of 2 work-items, 6 records)" -- constants.sim
 expect "a relaxed count" 1 "races 5 diverge 0 unmatched 0 held 0" "race on parts\[0..4\]" "a release that an acquire takes, at memory_scope_device, would" \
     -- --opencl20 --build-options -DORDER=memory_order_relaxed sum_all.sim
 expect "releases alone" 1 "races 5 diverge 0 unmatched 0 held 0" \
