@@ -279,6 +279,17 @@ race on global word 1
 reason window: only groups 2 to 3 of 4 were recorded
 """)
 
+    def test_elements_of_their_types(self):
+        """Word 5 of l_data is the component y of its second float4, and words 8 to 11 are all of the third; byte 6 of marks is its seventh element.
+        The type of `other` is a macro, and `size` is no type of a buffer: their words are told."""
+        text = ("kernel void first(global int2 *l_data) {}\nkernel void sums(global uchar *marks, local float4 *l_data, global T *other, int size)\n"
+                "{ /* int *other */ }\n")
+        streams = ["group 0 items 2 launch 7\n0 w l 5\n1 w l 5\n0 w l 8\n1 w l 8\n0 w l 9\n1 w l 9\n0 w l 10\n1 w l 10\n0 w l 11\n1 w l 11\n"
+                   "0 w g 6\n1 r g 6\n0 r g 40\n1 w g 40\nend\n", "group 1 items 2 launch 7\nend\n"]
+        launch = self.judged(streams, {"info.txt": INFO, "kernel.cl": text, "buffers": "g 0 16 marks.byte\ng 32 16 other\nl 0 0 64 l_data\n"})
+        self.assertEqual(sorted(it.title for it in launch.findings), [
+            "race on l_data[1].y, l_data[2] (5 words)", "race on marks[6]", "race on other[8]"])
+
     def test_the_text_of_a_file_that_is_included(self):
         with tempfile.TemporaryDirectory() as folder:
             path = pathlib.Path(folder) / "scan.h"

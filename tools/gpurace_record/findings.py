@@ -14,6 +14,7 @@ import subprocess
 from typing import Any, Dict, Iterable, Iterator, List, Optional, Set, Tuple
 
 from . import causes
+from .elements import Elements
 from .folders import Info
 from .records import Group, Step, Wanted, groups_of
 from .sides import Places, Run, Shape, Texts, buffers_of, equal_of, joined, name_of, parts
@@ -134,6 +135,7 @@ class Reader:
 
     def __init__(self, program: str, folder: str, info: Info, report: List[str]):
         self.kernel = info["kernel"][0] if info["kernel"] else ""
+        self.elements = Elements(folder, self.kernel)
         self.shape, self.texts, self.buffers, self.equal = Shape(info), Texts(folder), buffers_of(folder), equal_of(folder)
         lines = [line.split() for line in report]
         self.cut = {int(line[1]) for line in lines if line[0] == "cut"}
@@ -167,8 +169,12 @@ class Reader:
                 join(same, finding)
         for finding in found.values():
             if finding.kind == "race" and finding.maps:
-                finding.title = title_of(finding)
+                finding.title = self.title_of(finding)
         return list(found.values())
+
+    def title_of(self, race: Finding) -> str:
+        names = ", ".join(name_of(it.buffer, it.space, it.spans, it.groups, self.elements.of(it.buffer)) for it in race.maps)
+        return f"race on {names} ({race.words} words)" if race.words > 1 else f"race on {race.shown}"
 
     def races(self) -> Iterator[Finding]:
         if self.fault:
@@ -190,7 +196,8 @@ class Reader:
             self.put_marks((race["first"], race["second"]), accesses)
             finding.message = causes.sentence(finding.cause, finding.message, pair)
         buffer = race["buffer"]
-        shown = f"{buffer['name']}[{buffer['index']}]" if buffer else f"{said['space']} word {race['word']['number']}"
+        number = buffer["index"] if buffer else race["word"]["number"]
+        shown = name_of(buffer["name"] if buffer else "", said["space"], [(number, number)], 1, self.elements.of(buffer["name"]) if buffer else None)
         finding.shown = shown + ("" if group is None else f" of {self.shape.group_told(group)}")
         return finding
 
@@ -316,11 +323,6 @@ def join(one: Finding, other: Finding) -> None:
             same.spans, same.groups = joined(same.spans + it.spans), max(same.groups, it.groups)
         else:
             one.maps.append(it)
-
-
-def title_of(race: Finding) -> str:
-    names = ", ".join(name_of(it.buffer, it.space, it.spans, it.groups) for it in race.maps)
-    return f"race on {names} ({race.words} words)" if race.words > 1 else f"race on {race.shown}"
 
 
 def out_of_bounds(info: Info, folder: str) -> Iterator[Finding]:

@@ -121,8 +121,8 @@ expect "a window of it" 2 "(32 groups of 64 work-items, 2080 records)" "groups 9
 expect "a copy that is waited for" 0 "copy_tiles: nothing found" -- --build-options -DWAIT=1 copy_tiles.sim
 expect "a copy that is not" 1 "races 16 diverge 0" "write by group 0, asynchronous copy" -- --build-options -DWAIT=0 copy_tiles.sim
 # twelve bytes and shorts lie side by side; the thirteenth of each is written by several
-expect "parts of words" 1 "races 2 diverge 0 unmatched 0 held 0" "race on bytes.byte\[12\]" "write by group 4 (1,1), item 0 (0,0)" \
-    "write by group 4 (1,1), item 1 (1,0)" "race on shorts.half\[12\]" "a release that an acquire takes, at memory_scope_device, would" -- parts.sim
+expect "parts of words" 1 "races 2 diverge 0 unmatched 0 held 0" "race on bytes\[12\]" "write by group 4 (1,1), item 0 (0,0)" \
+    "write by group 4 (1,1), item 1 (1,0)" "race on shorts\[12\]" "a release that an acquire takes, at memory_scope_device, would" -- parts.sim
 # four work-items execute a fence, and one of them writes behind the buffer; two groups write four words and end
 expect "what is left out" 1 "left_out: FOUND (2 groups of 2 work-items, 6 records)" \
     "note: fences not recorded, so that an order that they give is not seen: 4" \
