@@ -4,9 +4,11 @@ import os
 import pathlib
 import tempfile
 import unittest
+import unittest.mock
 
 from testing.launches import BUFFERS, PLACES, SIDES, info, put_launch
 
+from gpurace_record import findings
 from gpurace_record.judging import judged
 
 INFO = info("sums", 7, 2)
@@ -176,6 +178,17 @@ race on global word 16
     f.cl:6:9: read by group 1, item 0
     {HAND_OVER}; the release at f.cl:4:9 and the acquire at f.cl:5:13 do not meet
 """)
+
+    def test_causes_that_take_too_long(self):
+        """A program that does not answer with causes, and without them as ever."""
+        with tempfile.TemporaryDirectory() as folder:
+            slow = pathlib.Path(folder) / "gpurace"
+            slow.write_text(f"#!/bin/sh\ncase \"$*\" in *--causes*) exec sleep 100;; esac\nexec '{os.environ['GPURACE']}' \"$@\"\n")
+            slow.chmod(0o755)
+            put_launch(pathlib.Path(folder) / "sums", [tile(0)], {})
+            with unittest.mock.patch.object(findings, "MOST_SECONDS", 1):
+                launch = judged(str(slow), str(pathlib.Path(folder) / "sums"))
+        self.assertEqual([(it.words, it.cause, it.message) for it in launch.findings], [(2, "", "the cause was not known after 1 s")])
 
     def test_a_plain_access_beside_atomics(self):
         self.assert_told(["group 0 items 2 launch 7\n0 rmw g 5 dev rlx\n1 r g 5\nend\n"], {}, "found", """\

@@ -27,6 +27,7 @@ DIVERGENT = {"missing": "some work-items never reach it", "site": "the work-item
 NO_PLACE = "unknown place"
 MOST_KINDS = 200     # of races of a launch
 MOST_DIVERGENT = 100  # groups with divergent barriers that are looked at
+MOST_SECONDS = 60    # that looking for causes may take
 MOST_STEPS = 3       # of an item on each side of its access that are kept
 OUTSIDE = re.compile(r"(?:.* of |in )(.+?),? which has (?:\d+ bytes?|no memory)")
 
@@ -123,11 +124,18 @@ def fingerprint_of(kind: str, kernel: str, buffers: List[str], cause: str, texts
 
 
 def races_said(program: str, folder: str) -> Tuple[List[Dict[str, Any]], str]:
-    """The kinds of races, and what is wrong with them."""
-    ran = subprocess.run([program, "races", "--json", "--causes", "--most", str(MOST_KINDS), folder], capture_output=True, start_new_session=True)
+    """The kinds of races, and what is wrong with them. Causes that take too long are left out."""
+    words = [program, "races", "--json", "--most", str(MOST_KINDS), folder]
+    try:
+        ran = subprocess.run([*words, "--causes"], capture_output=True, start_new_session=True, timeout=MOST_SECONDS)
+    except subprocess.TimeoutExpired:
+        ran = subprocess.run(words, capture_output=True, start_new_session=True)
     if ran.returncode != 1:
         return [], ran.stderr.decode(errors="replace").strip()
-    return [it for it in map(json.loads, ran.stdout.decode(errors="replace").splitlines()) if it["type"] == "kind"], ""
+    kinds = [it for it in map(json.loads, ran.stdout.decode(errors="replace").splitlines()) if it["type"] == "kind"]
+    for kind in kinds:
+        kind["race"]["cause"] = kind["race"]["cause"] or {"name": "", "sentence": f"the cause was not known after {MOST_SECONDS} s"}
+    return kinds, ""
 
 
 class Reader:
