@@ -22,8 +22,6 @@ TYPES = {"char": "b", "uchar": "B", "short": "h", "ushort": "H", "int": "i", "ui
 OPTIONS = {"misc/global_variables": "-cl-std=CL2.0", "misc/non_uniform_work_groups": "-cl-std=CL2.0"}
 DIFFERENT = {
     "async_copy/async_copy_unwaited": "items write what a copy reads, and nobody waits for it; the simulator records copies at the wait",
-    **dict.fromkeys(("memcheck/async_copy_out_of_bounds", "memcheck/atomic_out_of_bounds", "memcheck/dereference_null",
-                     "memcheck/read_out_of_bounds", "memcheck/write_out_of_bounds"), "out of bounds is a finding natively, and counted there"),
     "misc/non_uniform_work_groups": "pocl refuses groups of unequal size",
     "uninitialized/uninitialized_address": "private memory out of bounds, of which the program may die natively"}
 UNDEFINED = {"uninitialized/uninitialized_address"}  # may be alike too

@@ -4,9 +4,11 @@ import os
 import pathlib
 import tempfile
 import unittest
+import unittest.mock
 
 from testing.launches import BUFFERS, PLACES, SIDES, info, put_launch
 
+from gpurace_record import findings
 from gpurace_record.judging import judged
 
 INFO = info("sums", 7, 2)
@@ -177,6 +179,17 @@ race on global word 16
     {HAND_OVER}; the release at f.cl:4:9 and the acquire at f.cl:5:13 do not meet
 """)
 
+    def test_causes_that_take_too_long(self):
+        """A program that does not answer with causes, and without them as ever."""
+        with tempfile.TemporaryDirectory() as folder:
+            slow = pathlib.Path(folder) / "gpurace"
+            slow.write_text(f"#!/bin/sh\ncase \"$*\" in *--causes*) exec sleep 100;; esac\nexec '{os.environ['GPURACE']}' \"$@\"\n")
+            slow.chmod(0o755)
+            put_launch(pathlib.Path(folder) / "sums", [tile(0)], {})
+            with unittest.mock.patch.object(findings, "MOST_SECONDS", 1):
+                launch = judged(str(slow), str(pathlib.Path(folder) / "sums"))
+        self.assertEqual([(it.words, it.cause, it.message) for it in launch.findings], [(2, "", "the cause was not known after 1 s")])
+
     def test_a_plain_access_beside_atomics(self):
         self.assert_told(["group 0 items 2 launch 7\n0 rmw g 5 dev rlx\n1 r g 5\nend\n"], {}, "found", """\
 race on global word 5
@@ -278,6 +291,17 @@ race on global word 1
     {HAND_OVER}
 reason window: only groups 2 to 3 of 4 were recorded
 """)
+
+    def test_elements_of_their_types(self):
+        """Word 5 of l_data is the component y of its second float4, and words 8 to 11 are all of the third; byte 6 of marks is its seventh element.
+        The type of `other` is a macro, and `size` is no type of a buffer: their words are told."""
+        text = ("kernel void first(global int2 *l_data) {}\nkernel void sums(global uchar *marks, local float4 *l_data, global T *other, int size)\n"
+                "{ /* int *other */ }\n")
+        streams = ["group 0 items 2 launch 7\n0 w l 5\n1 w l 5\n0 w l 8\n1 w l 8\n0 w l 9\n1 w l 9\n0 w l 10\n1 w l 10\n0 w l 11\n1 w l 11\n"
+                   "0 w g 6\n1 r g 6\n0 r g 40\n1 w g 40\nend\n", "group 1 items 2 launch 7\nend\n"]
+        launch = self.judged(streams, {"info.txt": INFO, "kernel.cl": text, "buffers": "g 0 16 marks.byte\ng 32 16 other\nl 0 0 64 l_data\n"})
+        self.assertEqual(sorted(it.title for it in launch.findings), [
+            "race on l_data[1].y, l_data[2] (5 words)", "race on marks[6]", "race on other[8]"])
 
     def test_the_text_of_a_file_that_is_included(self):
         with tempfile.TemporaryDirectory() as folder:

@@ -84,7 +84,7 @@ def parser() -> Parser:
     own.add_argument("--schedules", metavar="K", type=number, help="runs the program K times, with the seeds N, N + 1 and so on")
     other = made.add_argument_group("of the simulator")
     other.add_argument("--simulator", action="store_true", help="records on the simulator Oclgrind, as it does a FILE.sim")
-    other.add_argument("--opencl20", action="store_true", help="has the explicit atomics of OpenCL 2.0")
+    other.add_argument("--opencl20", action="store_true", help="compiles all kernels as OpenCL C 2.0, with its atomics, whatever their own options say")
     other.add_argument("--optimized", action="store_true", help="compiles kernels as Oclgrind does by itself, and not with -O0")
     return made
 
@@ -213,6 +213,8 @@ class Recorder:
         run = Run(self.command, {**variables, **recording.of_tests(tests)} if judge else variables)
         sys.stdout.flush()
         self.report.run_reasons += run.reasons(options.timeout, options.ignore_program_status)
+        if options.simulator and run.stopped_by:
+            self.report.run_reasons.append(Reason("stopped", simulator.NEVER_ENDS))
         try:
             if judge:
                 judge.finish()

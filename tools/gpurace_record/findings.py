@@ -14,6 +14,7 @@ import subprocess
 from typing import Any, Dict, Iterable, Iterator, List, Optional, Set, Tuple
 
 from . import causes
+from .elements import Elements
 from .folders import Info
 from .records import Group, Step, Wanted, groups_of
 from .sides import Places, Run, Shape, Texts, buffers_of, equal_of, joined, name_of, parts
@@ -26,6 +27,7 @@ DIVERGENT = {"missing": "some work-items never reach it", "site": "the work-item
 NO_PLACE = "unknown place"
 MOST_KINDS = 200     # of races of a launch
 MOST_DIVERGENT = 100  # groups with divergent barriers that are looked at
+MOST_SECONDS = 60    # that looking for causes may take
 MOST_STEPS = 3       # of an item on each side of its access that are kept
 OUTSIDE = re.compile(r"(?:.* of |in )(.+?),? which has (?:\d+ bytes?|no memory)")
 
@@ -122,11 +124,18 @@ def fingerprint_of(kind: str, kernel: str, buffers: List[str], cause: str, texts
 
 
 def races_said(program: str, folder: str) -> Tuple[List[Dict[str, Any]], str]:
-    """The kinds of races, and what is wrong with them."""
-    ran = subprocess.run([program, "races", "--json", "--causes", "--most", str(MOST_KINDS), folder], capture_output=True, start_new_session=True)
+    """The kinds of races, and what is wrong with them. Causes that take too long are left out."""
+    words = [program, "races", "--json", "--most", str(MOST_KINDS), folder]
+    try:
+        ran = subprocess.run([*words, "--causes"], capture_output=True, start_new_session=True, timeout=MOST_SECONDS)
+    except subprocess.TimeoutExpired:
+        ran = subprocess.run(words, capture_output=True, start_new_session=True)
     if ran.returncode != 1:
         return [], ran.stderr.decode(errors="replace").strip()
-    return [it for it in map(json.loads, ran.stdout.decode(errors="replace").splitlines()) if it["type"] == "kind"], ""
+    kinds = [it for it in map(json.loads, ran.stdout.decode(errors="replace").splitlines()) if it["type"] == "kind"]
+    for kind in kinds:
+        kind["race"]["cause"] = kind["race"]["cause"] or {"name": "", "sentence": f"the cause was not known after {MOST_SECONDS} s"}
+    return kinds, ""
 
 
 class Reader:
@@ -134,6 +143,7 @@ class Reader:
 
     def __init__(self, program: str, folder: str, info: Info, report: List[str]):
         self.kernel = info["kernel"][0] if info["kernel"] else ""
+        self.elements = Elements(folder, self.kernel)
         self.shape, self.texts, self.buffers, self.equal = Shape(info), Texts(folder), buffers_of(folder), equal_of(folder)
         lines = [line.split() for line in report]
         self.cut = {int(line[1]) for line in lines if line[0] == "cut"}
@@ -169,8 +179,12 @@ class Reader:
                 join(same, finding)
         for finding in found.values():
             if finding.kind == "race" and finding.maps:
-                finding.title = title_of(finding)
+                finding.title = self.title_of(finding)
         return list(found.values())
+
+    def title_of(self, race: Finding) -> str:
+        names = ", ".join(name_of(it.buffer, it.space, it.spans, it.groups, self.elements.of(it.buffer)) for it in race.maps)
+        return f"race on {names} ({race.words} words)" if race.words > 1 else f"race on {race.shown}"
 
     def races(self) -> Iterator[Finding]:
         if self.fault:
@@ -192,7 +206,8 @@ class Reader:
             self.put_marks((race["first"], race["second"]), accesses)
             finding.message = causes.sentence(finding.cause, finding.message, pair)
         buffer = race["buffer"]
-        shown = f"{buffer['name']}[{buffer['index']}]" if buffer else f"{said['space']} word {race['word']['number']}"
+        number = buffer["index"] if buffer else race["word"]["number"]
+        shown = name_of(buffer["name"] if buffer else "", said["space"], [(number, number)], 1, self.elements.of(buffer["name"]) if buffer else None)
         finding.shown = shown + ("" if group is None else f" of {self.shape.group_told(group)}")
         return finding
 
@@ -318,11 +333,6 @@ def join(one: Finding, other: Finding) -> None:
             same.spans, same.groups = joined(same.spans + it.spans), max(same.groups, it.groups)
         else:
             one.maps.append(it)
-
-
-def title_of(race: Finding) -> str:
-    names = ", ".join(name_of(it.buffer, it.space, it.spans, it.groups) for it in race.maps)
-    return f"race on {names} ({race.words} words)" if race.words > 1 else f"race on {race.shown}"
 
 
 def out_of_bounds(info: Info, folder: str) -> Iterator[Finding]:

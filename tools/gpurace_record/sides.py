@@ -7,6 +7,7 @@ import re
 import subprocess
 from typing import Dict, Iterable, Iterator, List, NamedTuple, Optional, Set, Tuple
 
+from .elements import Element, span_of
 from .folders import Info, windows_of
 from .records import Group
 
@@ -84,12 +85,16 @@ def joined(spans: Iterable[Tuple[int, int]]) -> Spans:
     return runs
 
 
-def name_of(name: str, space: str, runs: Spans, groups: int) -> str:
-    """The words of one buffer, or of none, of so many groups where they are local."""
-    spans = [str(low) if low == high else f"{low}..{high}" for low, high in runs]
-    bare = f"{space} word{'s' if len(spans) > 1 or '..' in spans[0] else ''} "
-    shown = ("" if name else bare) + ", ".join(f"{name}[{span}]" if name else span for span in spans[:MOST_RUNS])
-    shown += f" and {len(spans) - MOST_RUNS} more runs" if len(spans) > MOST_RUNS else ""
+def name_of(name: str, space: str, runs: Spans, groups: int, element: Optional[Element]) -> str:
+    """The words of one buffer, or of none, of so many groups where they are local; as elements, where these are known."""
+    numbers = [str(low) if low == high else f"{low}..{high}" for low, high in runs[:MOST_RUNS]]
+    if element:
+        shown = ", ".join(span_of(element, *run) for run in runs[:MOST_RUNS])
+    elif name:
+        shown = ", ".join(f"{name}[{number}]" for number in numbers)
+    else:
+        shown = f"{space} word{'s' if len(runs) > 1 or '..' in numbers[0] else ''} " + ", ".join(numbers)
+    shown += f" and {len(runs) - MOST_RUNS} more runs" if len(runs) > MOST_RUNS else ""
     return shown + (f" of {groups} groups" if groups > 1 else "")
 
 

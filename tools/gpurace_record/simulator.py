@@ -13,6 +13,8 @@ TOOLS = os.path.dirname(os.path.dirname(os.path.realpath(__file__)))
 RECORDER = os.path.join(TOOLS, "recorder")
 NEEDED = [("g++", "g++"), ("make", "make"), ("llvm-config-14", "llvm-14-dev"),
           ("/usr/include/oclgrind/Plugin.h", "liboclgrind-dev"), ("/usr/include/CL/cl.h", "opencl-headers")]
+NEVER_ENDS = ("a launch that had not ended is not recorded; one whose groups wait for each other never ends on the simulator, which runs them one "
+              "by one: record it natively, without --simulator")
 
 
 def find(program: str) -> str:
@@ -42,9 +44,8 @@ def build(say: Callable[[str], None]) -> str:
 
 def words(oclgrind: str, plugin: str, options: argparse.Namespace) -> List[str]:
     """The program's command, up to its own words."""
-    build_options = [] if options.optimized else ["-O0"]
-    if options.opencl20:
-        build_options += ["-cl-std=CL2.0", "-include", os.path.join(RECORDER, "opencl20_atomics.h")]
+    build_options = ["-include", os.path.join(RECORDER, "opencl20_atomics.h")] + ([] if options.optimized else ["-O0"])
+    build_options += ["-cl-std=CL2.0"] if options.opencl20 else []
     build_options += [options.build_options] if options.build_options else []
     command = [oclgrind, "--plugins", plugin, "--max-wgsize", options.max_group_size or "1024"]
     return command + (["--build-options", " ".join(build_options)] if build_options else [])

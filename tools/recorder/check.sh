@@ -90,6 +90,14 @@ expect "a folder that is not empty" 3 "$work/kept is not empty" -- --keep "$work
 # six groups count themselves in turn; the last reads the five other parts
 expect "a hand-over" 0 "launch 0, sum_all: nothing found" \
     -- --opencl20 --build-options -DORDER=memory_order_acq_rel sum_all.sim
+expect "a hand-over of a program that asks for OpenCL 2.0" 0 "launch 0, sum_all: nothing found" \
+    -- --build-options "-cl-std=CL2.0 -DORDER=memory_order_acq_rel" sum_all.sim
+# each of three groups takes a lock that is a flag, reads and writes the counter, lets it go, and ends
+expect "a lock that is a flag" 0 "flag_lock: nothing found (3 groups of 1 work-item, 15 records)" \
+    -- --build-options "-cl-std=CL2.0 -DORDER=memory_order_release" flag_lock.sim
+expect "a lock that is a flag and releases nothing" 1 "race on counter\[0\]" -- --build-options "-cl-std=CL2.0 -DORDER=memory_order_relaxed" flag_lock.sim
+# two groups of two items each write a word; what they read of the table is not recorded
+expect "constant memory" 0 "constants: nothing found (2 groups of 2 work-items, 6 records)" -- constants.sim
 expect "a relaxed count" 1 "races 5 diverge 0 unmatched 0 held 0" "race on parts\[0..4\]" "a release that an acquire takes, at memory_scope_device, would" \
     -- --opencl20 --build-options -DORDER=memory_order_relaxed sum_all.sim
 expect "releases alone" 1 "races 5 diverge 0 unmatched 0 held 0" \
@@ -113,8 +121,8 @@ expect "a window of it" 2 "(32 groups of 64 work-items, 2080 records)" "groups 9
 expect "a copy that is waited for" 0 "copy_tiles: nothing found" -- --build-options -DWAIT=1 copy_tiles.sim
 expect "a copy that is not" 1 "races 16 diverge 0" "write by group 0, asynchronous copy" -- --build-options -DWAIT=0 copy_tiles.sim
 # twelve bytes and shorts lie side by side; the thirteenth of each is written by several
-expect "parts of words" 1 "races 2 diverge 0 unmatched 0 held 0" "race on bytes.byte\[12\]" "write by group 4 (1,1), item 0 (0,0)" \
-    "write by group 4 (1,1), item 1 (1,0)" "race on shorts.half\[12\]" "a release that an acquire takes, at memory_scope_device, would" -- parts.sim
+expect "parts of words" 1 "races 2 diverge 0 unmatched 0 held 0" "race on bytes\[12\]" "write by group 4 (1,1), item 0 (0,0)" \
+    "write by group 4 (1,1), item 1 (1,0)" "race on shorts\[12\]" "a release that an acquire takes, at memory_scope_device, would" -- parts.sim
 # four work-items execute a fence, and one of them writes behind the buffer; two groups write four words and end
 expect "what is left out" 1 "left_out: FOUND (2 groups of 2 work-items, 6 records)" \
     "note: fences not recorded, so that an order that they give is not seen: 4" \

@@ -1,7 +1,8 @@
-// The explicit atomics of OpenCL C 2.0 for Oclgrind 21.10, which executes those of 1.2 alone. Each is a function that stays a
+// The atomics of OpenCL C 2.0 for Oclgrind 21.10, which executes those of 1.2 alone. Each is a function that stays a
 // call, so the recorder sees its arguments of order and scope; its body is the 1.2 atomic of the same effect.
-// `gpurace-record --opencl20` gives it to the compiler. Pointers to global and local int and uint; no generic address space.
-#ifndef GPURACE_OPENCL20_ATOMICS_H
+// `gpurace-record` gives it to the compiler, and it does something where a program is built as of OpenCL C 2.0 or later.
+// Pointers to global and local int and uint; no generic address space.
+#if !defined(GPURACE_OPENCL20_ATOMICS_H) && defined(__OPENCL_C_VERSION__) && __OPENCL_C_VERSION__ >= 200
 #define GPURACE_OPENCL20_ATOMICS_H
 
 // weak, since the compiler else drops order and scope, which no body uses
@@ -63,6 +64,10 @@ GPURACE_ATOMICS(local, atomic_uint, uint)
 #define atomic_compare_exchange_strong(p, e, d) gpurace_atomic_compare(p, e, d, memory_order_seq_cst, GPURACE_DEFAULT)
 #define atomic_compare_exchange_weak_explicit(p, e, d, o, f, s) gpurace_atomic_compare(p, e, d, o, f, s)
 #define atomic_compare_exchange_weak(p, e, d) atomic_compare_exchange_strong(p, e, d)
+#define atomic_flag_test_and_set_explicit(p, o, s) (gpurace_atomic_xchg(p, 1, o, s) != 0)
+#define atomic_flag_test_and_set(p) atomic_flag_test_and_set_explicit(p, GPURACE_DEFAULT)
+#define atomic_flag_clear_explicit(p, o, s) gpurace_atomic_store(p, 0, o, s)
+#define atomic_flag_clear(p) atomic_flag_clear_explicit(p, GPURACE_DEFAULT)
 
 // the scope of a barrier, and the order and scope of a fence, say nothing to a trace
 #define GPURACE_FIRST(flags, ...) flags

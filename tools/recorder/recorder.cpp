@@ -130,7 +130,7 @@ public:
     }
 
     void memoryLoad(const Memory *memory, const WorkItem *item, size_t address, size_t size) override {
-        access(memory, item, GPURACE_READ, address, size);
+        if (!reads_constant(item->getCurrentInstruction())) access(memory, item, GPURACE_READ, address, size);
     }
     void memoryStore(const Memory *memory, const WorkItem *item, size_t address, size_t size, const uint8_t *) override {
         access(memory, item, GPURACE_WRITE, address, size);
@@ -172,6 +172,16 @@ private:
         if (launch.window.count() == 0)
             return "it has " + std::to_string(groups) + " work-groups, and none of the window";
         return "";
+    }
+
+    // Whether what is loaded is constant memory, which has no race: by a load, or a call as of vload.
+    static bool reads_constant(const llvm::Instruction *at) {
+        const auto is_constant = [](const llvm::Value *value) {
+            return value->getType()->isPointerTy() && value->getType()->getPointerAddressSpace() == AddrSpaceConstant;
+        };
+        if (const auto *load = llvm::dyn_cast<llvm::LoadInst>(at)) return is_constant(load->getPointerOperand());
+        const auto *call = llvm::dyn_cast<llvm::CallInst>(at);
+        return call && std::any_of(call->arg_begin(), call->arg_end(), is_constant);
     }
 
     void name_global_buffers(const Kernel *kernel) {
