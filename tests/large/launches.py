@@ -1,5 +1,7 @@
 """Launches with many groups, items, records and races."""
 
+import resource
+
 from testing.many import accesses, report
 from testing.program import END, ProgramTest, access, header
 
@@ -54,3 +56,14 @@ class LargeLaunches(ProgramTest):
         told = report(2, 2, count + 11, [25])
         self.assert_judged([waits, releases], told, SETTINGS[:1])
         self.assert_judged([releases, waits], told, SETTINGS[1:2])
+
+    def test_groups_that_have_ended_take_no_memory(self):
+        """Each of 2,000 groups of 256 items writes local words, meets, and reads others. If all were kept, 128 MiB would be too little."""
+        items, groups, room = range(256), 2_000, 128 << 20
+        writes = b"".join(access(item, 1, 1, item) for item in items)
+        meets = b"".join(b"\x05\x02" + access(item, 0, 0, 1)[2:] for item in items)
+        reads = b"".join(access(item, 0, 1, 255 - item) for item in items)
+        streams = (b"GRT3" + header(group, 256)[4:] + writes + meets + reads + END for group in range(groups))
+        path = self.put("stream", b"".join(streams))
+        ran = self.gpurace("replay", path, preexec_fn=lambda: resource.setrlimit(resource.RLIMIT_AS, (room, room)))
+        self.assert_run(ran, report(groups, groups * 256, groups * 769, []), 0)
