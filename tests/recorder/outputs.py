@@ -176,6 +176,8 @@ class Known(Outputs):
             {"kind": "race", "kernel": "sums", "buffers": ["tile"], "cause": "no-barrier", "texts": ["tile[l] += tile[l + 8];", "tile[l] = input[l];"]}]})
         told = self.judge("--baseline", "known.json", "--json", "made.json", "--sarif", "made.sarif", "--junit", "made.xml", status=0)
         self.assertIn("launch 0, sums: nothing new found (1 group of 2 work-items, 9 records)", told)
+        self.assertEqual(told[-3:-1], ["gpurace-record: nothing new found", "gpurace-record: 1 known finding of known.json"])
+        self.assertIn("1 launch: 0 with findings, 1 with known ones, 0 without, 0 not judged whole", told[-1])
         self.assertEqual(self.made("made.json")["findings"][0]["state"], "known")
         self.assertEqual(self.made("made.sarif")["runs"][0]["results"][0]["baselineState"], "unchanged")
         self.assertEqual([it.tag for it in xml.parse(self.room / "made.xml").getroot().find(".//testcase")], [])

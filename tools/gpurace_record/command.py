@@ -240,10 +240,7 @@ def record(options: argparse.Namespace) -> int:
 
 
 def conclude(report: Report, options: argparse.Namespace) -> int:
-    """Says and writes what there is, and answers the status."""
-    for line in report.lines():
-        print(line)
-    sys.stdout.flush()
+    """Writes and says what there is, and answers the status."""
     status = report.status()
     try:
         for form, make in outputs.FORMS.items():
@@ -255,6 +252,9 @@ def conclude(report: Report, options: argparse.Namespace) -> int:
     except OSError as error:
         say(f"{error.filename}: {error.strerror}")
         status = status or INCOMPLETE
+    for line in report.lines():
+        print(line)
+    sys.stdout.flush()
     return int(options.error_exitcode) if status == 1 and options.error_exitcode else status
 
 

@@ -11,12 +11,12 @@ import hashlib
 import json
 import re
 import subprocess
-from typing import Any, Dict, Iterable, Iterator, List, Optional, Set, Tuple
+from typing import Any, Dict, Iterator, List, Optional, Set, Tuple
 
 from . import causes
 from .elements import Elements
 from .folders import Info
-from .records import Group, Step, Wanted, groups_of
+from .records import Step, Wanted, groups_of
 from .sides import Places, Run, Shape, Texts, buffers_of, equal_of, joined, name_of, parts
 
 WHAT = {"load": "atomic load", "store": "atomic store", "rmw": "atomic read-modify-write"}
@@ -149,13 +149,13 @@ class Reader:
         self.cut = {int(line[1]) for line in lines if line[0] == "cut"}
         self.divergent = {(int(line[1]), int(line[2])): line[3] for line in lines if line[0] == "diverge"}
         self.looked_at = set(list(dict.fromkeys(group for group, _ in self.divergent))[:MOST_DIVERGENT])
-        self.unmatched = [(*map(int, line[1:4]), line[4]) for line in lines if line[0] == "unmatched"]
+        self.unmatched = [(int(line[1]), int(line[2]), int(line[3]), line[4]) for line in lines if line[0] == "unmatched"]
         has_races = any(line[0] == "race" for line in lines)
         self.kinds, self.fault = races_said(program, folder) if has_races else ([], "")
         wanted = self.wanted()
         self.groups = groups_of(folder, wanted)
         keys = {f"{group} {item} {index}" for group, item, index, _ in self.unmatched}
-        keys |= {f"{group} {item} {step.index}" for group, it in self.groups.items() for item, steps in it.steps.items() for step in steps}
+        keys |= {f"{group} {item} {step.at}" for group, it in self.groups.items() for item, steps in it.steps.items() for step in steps}
         self.places = Places(folder, self.groups, keys)
 
     def wanted(self) -> Dict[int, Wanted]:
@@ -239,29 +239,29 @@ class Reader:
         at = near.index(racing)
         near = near[max(0, at - MOST_STEPS):at + MOST_STEPS + 1]
         if shown is not None:
-            near = [step for step in near if self.groups[group].phase(item, step.index) - 1 in shown or step is racing]
+            near = [step for step in near if self.groups[group].phase(item, step.at) - 1 in shown or step is racing]
             near += [step for number, step in enumerate(self.groups[group].barriers[item]) if number in shown]
         return [self.mark(group, item, step, step is racing) for step in sorted(near)]
 
     def mark(self, group: int, item: int, step: Step, is_racing: bool) -> Mark:
         if step.kind != "barrier":
             key = (group, item, step.release) if step.is_release() else ()
-            return Mark(step.kind, self.places.event(group, item, step.index), step.scope, step.order, is_racing=is_racing, key=key, takes=step.names)
-        return Mark("barrier", self.places.site(step.word), instance=self.groups[group].phase(item, step.index), flags=step.space)
+            return Mark(step.kind, self.places.event(group, item, step.at), step.scope, step.order, is_racing=is_racing, key=key, takes=step.names)
+        return Mark("barrier", self.places.site(step.word), instance=self.groups[group].phase(item, step.at), flags=step.space)
 
     def pair(self, said: Dict[str, Any], race: Dict[str, Any], accesses: List[Access]) -> Optional[causes.Pair]:
         """The two accesses with what stands between them; None where their records were not read."""
         first, second = race["first"], race["second"]
         if first["group"] not in self.groups or second["group"] not in self.groups:
             return None
-        ats = [causes.At(access.what, access.place, access.scope) for access in accesses]
-        behind = [step for step in self.groups[first["group"]].steps[first["item"]] if step.index > first["index"] and step.is_release()]
-        before = [step for step in self.groups[second["group"]].steps[second["item"]] if step.index < second["index"] and step.is_acquire()]
-        return causes.Pair(said["space"], said["one_group"], *ats, self.barriers_between(first, second) if said["one_group"] else [],
+        one, other = (causes.At(access.what, access.place, access.scope) for access in accesses)
+        behind = [step for step in self.groups[first["group"]].steps[first["item"]] if step.at > first["index"] and step.is_release()]
+        before = [step for step in self.groups[second["group"]].steps[second["item"]] if step.at < second["index"] and step.is_acquire()]
+        return causes.Pair(said["space"], said["one_group"], one, other, self.barriers_between(first, second) if said["one_group"] else [],
                            self.at(first, behind[0]) if behind else None, self.at(second, before[-1]) if before else None)
 
     def at(self, event: Dict[str, Any], step: Step) -> causes.At:
-        return causes.At(step.kind, self.places.event(event["group"], event["item"], step.index), step.scope)
+        return causes.At(step.kind, self.places.event(event["group"], event["item"], step.at), step.scope)
 
     def barriers_between(self, first: Dict[str, Any], second: Dict[str, Any]) -> List[causes.Barrier]:
         number, group = first["group"], self.groups[first["group"]]

@@ -8,7 +8,7 @@ import os
 import shutil
 import struct
 import sys
-from typing import Dict, Iterator, List, NamedTuple, Optional, Tuple
+from typing import Dict, Iterator, List, NamedTuple, Optional, Tuple, cast
 
 JOINED = "groups.gpurace"  # of a launch of many groups, whose streams stand there as they ended
 END = 6
@@ -40,7 +40,8 @@ def info_of(folder: str, name: str = "info.txt") -> Info:
 
 def windows_of(info: Info) -> List[Tuple[int, int]]:
     """The first group and the number of groups of each part of the launch that was recorded."""
-    return [tuple(map(int, line.split())) for line in info["window"] or ["0 " + info["groups"][0]]]
+    pairs = (line.split() for line in info["window"] or ["0 " + info["groups"][0]])
+    return [(int(first), int(number)) for first, number in pairs]
 
 
 def kept_of(info: Info) -> int:
@@ -56,7 +57,7 @@ def streams_of(folder: str) -> List[str]:
 def mapped(path: str) -> bytes:
     """The bytes of a file, which come into memory when they are looked at."""
     with open(path, "rb") as given:
-        return mmap.mmap(given.fileno(), 0, access=mmap.ACCESS_READ) if os.path.getsize(path) else b""
+        return cast(bytes, mmap.mmap(given.fileno(), 0, access=mmap.ACCESS_READ)) if os.path.getsize(path) else b""
 
 
 def streams_in(data: bytes) -> Iterator[Stream]:
@@ -119,8 +120,8 @@ def end_joined(folder: str, heads: List[bytes]) -> int:
     data = mapped(path) if os.path.exists(path) else b""
     for stream in streams_in(data):
         if stream.end is None:  # it was being joined
-            with open(part_of(folder, stream.group), "ab") as part:
-                part.write(b"" if part.tell() else data[stream.start:])
+            with open(part_of(folder, stream.group), "ab") as out:
+                out.write(b"" if out.tell() else data[stream.start:])
             break
         came.add(stream.group)
         end, records = stream.end, records + stream.records

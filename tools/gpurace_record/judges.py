@@ -33,6 +33,13 @@ class Judge(threading.Thread):
         self.pool = concurrent.futures.ThreadPoolExecutor(jobs)
 
     def run(self) -> None:
+        try:
+            self.judge_until_over()
+        except Exception as fault:
+            traceback.print_exc()
+            self.report.run_reasons.append(Reason("fault", f"the judging failed: {fault}"))
+
+    def judge_until_over(self) -> None:
         while not self.is_over:
             for name in self.having("piped.txt"):
                 if name not in self.piped:
@@ -78,8 +85,10 @@ class Judge(threading.Thread):
             if launch.label:
                 self.tell_test(launch)
         if not self.is_kept:
-            shutil.rmtree(path)
+            judged_path = os.path.join(self.folder, f"judged-{name}")
+            os.rename(path, judged_path)
             self.seen.discard(name)  # another process of the program may have a launch of this number
+            shutil.rmtree(judged_path, ignore_errors=True)
 
     def tell_test(self, launch: Launch) -> None:
         new = [it for it in launch.findings if it.state == NEW and not it.is_doubtful]

@@ -70,7 +70,7 @@ def location(launch: Launch, access: Access) -> Dict[str, Any]:
     at = PLACE.fullmatch(access.place)
     if not at:
         return {"message": {"text": access.told()}}
-    region = {"startLine": max(1, int(at[2])), "startColumn": max(1, int(at[3]))}
+    region: Dict[str, Any] = {"startLine": max(1, int(at[2])), "startColumn": max(1, int(at[3]))}
     if access.text:
         region["snippet"] = {"text": access.text}
     physical = {"artifactLocation": {"uri": uri_of(launch, at[1])}, "region": region}

@@ -3,6 +3,7 @@ from __future__ import annotations
 
 import dataclasses
 import html
+import importlib.util
 import os
 import re
 from typing import Any, Dict, List, Tuple
@@ -22,11 +23,9 @@ KINDS = {"race": "race", "divergence": "divergent barrier", "out-of-bounds": "ou
 
 def needed() -> None:
     """Says which package is missing."""
-    try:
-        import jinja2  # noqa: F401
-        import pygments  # noqa: F401
-    except ImportError as missing:
-        raise Missing(f"--html needs the package python3-{missing.name} (Debian: apt-get install python3-jinja2 python3-pygments)") from None
+    missing = [name for name in ("jinja2", "pygments") if not importlib.util.find_spec(name)]
+    if missing:
+        raise Missing(f"--html needs packages that are missing (Debian: apt-get install {' '.join(f'python3-{name}' for name in missing)})")
 
 
 @dataclasses.dataclass
@@ -63,11 +62,11 @@ def highlighted(lines: List[str]) -> List[str]:
     return highlight("\n".join(lines) + "\n", CLexer(stripnl=False), HtmlFormatter(nowrap=True)).split("\n")[:len(lines)]
 
 
-def styles() -> Tuple[str, str]:
+def styles() -> List[str]:
     """The colours of the source on a light and on a dark page."""
     from pygments.formatters import HtmlFormatter
-    return tuple("\n".join(line for line in HtmlFormatter(style=style, nobackground=True).get_style_defs(".code").split("\n")
-                           if line.startswith(".code .")) for style in ("default", "monokai"))
+    return ["\n".join(line for line in HtmlFormatter(style=style, nobackground=True).get_style_defs(".code").split("\n")
+                      if line.startswith(".code .")) for style in ("default", "monokai")]
 
 
 def marks_of(shown: List[Shown], file: str) -> Marks:
@@ -129,10 +128,10 @@ def sources_of(shown: List[Shown]) -> List[Tuple[str, List[Line]]]:
         for file, lines in it.entry.launches[0].texts.items():
             texts.setdefault((file, tuple(lines)), []).append(it)
     made = []
-    for (file, lines), those in texts.items():
+    for (file, text), those in texts.items():
         marks = marks_of(those, file)
         if marks:
-            made.append((file, source(list(lines), marks)))
+            made.append((file, source(list(text), marks)))
     return made
 
 

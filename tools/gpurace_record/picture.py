@@ -2,8 +2,9 @@
 from __future__ import annotations
 
 import html
+import itertools
 import textwrap
-from typing import Dict, List, NamedTuple, Optional, Tuple
+from typing import Dict, List, NamedTuple, Optional, Sequence, Tuple
 
 from .findings import Access, Finding, Map, Mark
 
@@ -23,25 +24,26 @@ class Row(NamedTuple):
     is_barrier: bool = False
 
 
+Lane = Sequence[Optional[Mark]]
+
+
 def split(marks: List[Mark]) -> Tuple[List[Mark], Mark, List[Mark]]:
     """What stands before the racing access, it, and what stands behind it."""
     at = next(number for number, mark in enumerate(marks) if mark.is_racing)
     return marks[:at], marks[at], marks[at + 1:]
 
 
-def beside(first: List[Optional[Mark]], second: List[Optional[Mark]]) -> List[Row]:
+def beside(first: Lane, second: Lane) -> List[Row]:
     """Two lanes beside each other; the shorter one ends earlier."""
-    most = max(len(first), len(second))
-    return [Row(*pair) for pair in zip(first + [None] * (most - len(first)), second + [None] * (most - len(second)))]
+    return [Row(*pair) for pair in itertools.zip_longest(first, second)]
 
 
-def level(first: List[Optional[Mark]], second: List[Optional[Mark]]) -> List[Row]:
+def level(first: Lane, second: Lane) -> List[Row]:
     """As `beside`, with the racing accesses on one row where both are there."""
-    at = [next((number for number, mark in enumerate(lane) if mark and mark.is_racing), None) for lane in (first, second)]
-    if at[0] is None or at[1] is None:
+    at = [next((number for number, mark in enumerate(lane) if mark and mark.is_racing), -1) for lane in (first, second)]
+    if min(at) < 0:
         return beside(first, second)
-    most = max(at)
-    return beside([None] * (most - at[0]) + first, [None] * (most - at[1]) + second)
+    return beside([None] * (at[1] - at[0]) + [*first], [None] * (at[0] - at[1]) + [*second])
 
 
 def is_handed_over(marks: List[Mark], others: List[Mark]) -> bool:
@@ -71,7 +73,7 @@ def rows_of_group(first: List[Mark], second: List[Mark]) -> List[Row]:
                 parts[side].append(lane.pop(0))
             if lane and lane[0].instance == instance:
                 meets[side] = lane.pop(0)
-        rows += level(*parts)
+        rows += level(parts[0], parts[1])
         if any(meets):
             rows.append(Row(meets[0], meets[1], True))
     return rows
@@ -108,9 +110,8 @@ def node(lane: int, y: float, mark: Mark) -> str:
 
 def barrier(y: float, row: Row) -> str:
     """A line across the lanes of the items that come to it."""
-    mark = row.first or row.second
+    said, place = label(row.first or row.second or Mark("barrier"))
     left, right = (8 if row.first else WIDTH / 2 + 4), (WIDTH - 8 if row.second else WIDTH / 2 - 4)
-    said, place = label(mark)
     absent = "" if row.first and row.second else text(LANES[0 if row.second else 1], y + 23, "does not come", "small halo")
     middle = (left + right) / 2
     return line(left, y + 19, right, y + 19, "barrier") + text(middle, y + 12, said, "small halo") + text(middle, y + 34, place, "small halo") + absent
@@ -138,7 +139,9 @@ class Picture:
         self.place: Dict[int, Tuple[int, float]] = {}  # of a mark its lane and height, by the mark's identity
 
     def drawn(self) -> str:
-        y, parts, at, is_banded = 62.0, [], [], False
+        y, top = 62.0, 0.0
+        parts: List[str] = []
+        at: List[Tuple[int, float]] = []
         for row in self.rows:
             for lane, mark in enumerate((row.first, row.second)):
                 if mark:
@@ -149,8 +152,8 @@ class Picture:
                     at.append((lane, y))
             parts += [barrier(y, row)] if row.is_barrier else []
             y += ROW
-            if at and not is_banded:
-                is_banded, top = True, y + 8
+            if at and not top:
+                top = y + 8
                 parts.append(band(top, self.lines))
                 y = top + len(self.lines) * LINE + 34
         lanes = "".join(line(x, 46, x, y - 4, "lane") for x in LANES)
@@ -160,7 +163,7 @@ class Picture:
                 + self.missing(at, top) + "".join(parts) + self.hand_overs() + "</svg>")
 
     def heads(self) -> List[Tuple[int, str, str]]:
-        return [(x, *who.rpartition(", ")[::2]) for x, who in zip(LANES, self.who)]
+        return [(x, who.rpartition(", ")[0], who.rpartition(", ")[2]) for x, who in zip(LANES, self.who)]
 
     def missing(self, at: List[Tuple[int, float]], top: float) -> str:
         """The edge that is not there: from one access through the sentence to the other."""

@@ -27,13 +27,18 @@ class Piped:
         self.folder, streams = folder, streams_of(folder)
         streams += [pipe[:-5] for pipe in self.pipes() if pipe[:-5] not in streams]
         self.reads = [start(["cat", *filter(os.path.exists, (stream, stream + ".pipe"))]) for stream in streams]
-        files = [read.stdout.fileno() for read in self.reads]
+        outputs = [read.stdout for read in self.reads if read.stdout]
+        files = [output.fileno() for output in outputs]
         words = [program, "run", "--capacity", "65536", "--queues", "4", *(f"/dev/fd/{file}" for file in files)]
         is_joined = os.path.join(folder, JOINED) in streams
         self.run = start([program, "replay"], stdin=files[0]) if is_joined else start(words, pass_fds=files)
-        atexit.register(lambda: [process.kill() for process in (self.run, *self.reads)])
-        for read in self.reads:
-            read.stdout.close()
+        atexit.register(self.kill)
+        for output in outputs:
+            output.close()
+
+    def kill(self) -> None:
+        for process in (self.run, *self.reads):
+            process.kill()
 
     def pipes(self) -> List[str]:
         return sorted(glob.glob(os.path.join(glob.escape(self.folder), "*.pipe")))

@@ -16,8 +16,8 @@ MOST_BYTES = 1 << 27  # of a stream that is read
 
 
 class Step(NamedTuple):
-    """A record of an item. Of a barrier `word` is its site and `space` its flags."""
-    index: int
+    """A record of an item, its number `at`. Of a barrier `word` is its site and `space` its flags."""
+    at: int
     kind: str
     space: int
     scope: str
@@ -61,14 +61,14 @@ class Group:
 
     def phase(self, item: int, index: int) -> int:
         """How many barriers of the item stand before its record of this index."""
-        return sum(barrier.index < index for barrier in self.barriers[item])
+        return sum(barrier.at < index for barrier in self.barriers[item])
 
     def step(self, item: int, index: int) -> Step:
-        return next(step for step in self.steps[item] if step.index == index)
+        return next(step for step in self.steps[item] if step.at == index)
 
 
 def names_in(places: memoryview) -> Tuple[Tuple[int, int, int], ...]:
-    return tuple(name for name in NAME.iter_unpack(places) if name != NO_NAME)
+    return tuple((name[0], name[1], name[2]) for name in NAME.iter_unpack(places) if name != NO_NAME)
 
 
 def groups_of(folder: str, wanted: Dict[int, Wanted]) -> Dict[int, Group]:

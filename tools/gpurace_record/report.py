@@ -149,7 +149,9 @@ class Report:
         """The status and its reasons first."""
         status, reasons = self.status(), self.reasons()
         new = [entry for entry in self.entries().values() if entry.state == NEW and not entry.finding.is_doubtful]
-        said = {0: "nothing found", FOUND: count(len(new), "finding"), INCOMPLETE: "nothing found, which is no answer"}[status]
+        is_known = any(finding.state != NEW for launch in self.launches for finding in launch.findings)
+        none = "nothing new found" if is_known else "nothing found"
+        said = {0: none, FOUND: count(len(new), "finding"), INCOMPLETE: f"{none}, which is no answer"}[status]
         yield f"{said}{':' if status == INCOMPLETE else '; but besides:' if reasons else ''}"
         shown: Dict[str, int] = {}
         for reason in reasons:
@@ -164,7 +166,8 @@ class Report:
             yield from it.told(self)
         verdicts, more = [launch.verdict for launch in self.launches], sum(len(reason.kernels) for reason in self.unrecorded)
         found = verdicts.count("found") + verdicts.count("doubtful")
-        yield (f"{count(len(verdicts) + more, 'launch')}: {found} with findings, {verdicts.count('nothing')} without, "
+        known = f"{verdicts.count('known')} with known ones, " if "known" in verdicts else ""
+        yield (f"{count(len(verdicts) + more, 'launch')}: {found} with findings, {known}{verdicts.count('nothing')} without, "
                f"{verdicts.count('incomplete') + more} not judged whole"
                + (f"; they are in {self.kept}" if self.kept else "; --keep DIR keeps them"))
 
