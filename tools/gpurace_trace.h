@@ -204,6 +204,7 @@ static inline enum gpurace_status gpurace_check(const struct gpurace_stream *str
 
 static inline uint64_t gpurace_most_groups(int is_wide) { return is_wide ? GPURACE_MOST_WIDE_GROUPS : GPURACE_MOST_GROUPS; }
 static inline uint64_t gpurace_most_items(int is_wide) { return is_wide ? GPURACE_MOST_WIDE_ITEMS : GPURACE_MOST_ITEMS; }
+static inline uint64_t gpurace_most_sites(int is_wide) { return is_wide ? GPURACE_MOST_SITES : 0; }
 
 static inline int gpurace_is_name(const struct gpurace_stream *stream, const struct gpurace_name *name) {
     return name->group < gpurace_most_groups(stream->is_wide) && name->item < gpurace_most_items(stream->is_wide) &&
@@ -346,7 +347,7 @@ static inline enum gpurace_status gpurace_stream_open(struct gpurace_stream *str
 static inline enum gpurace_status gpurace_at(struct gpurace_stream *stream, uint64_t site) {
     if (!stream->is_open)
         return GPURACE_NOT_OPEN;
-    if (site > (stream->is_wide ? GPURACE_MOST_SITES : 0))
+    if (site > gpurace_most_sites(stream->is_wide))
         return GPURACE_BAD_SITE;
     stream->site = (uint32_t)site;
     return GPURACE_OK;

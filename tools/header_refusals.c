@@ -86,7 +86,10 @@ static void takes_wide_records(enum gpurace_version version, size_t record) {
     expect("item 1024", gpurace_barrier(&stream, 1024, 1, 3), GPURACE_BAD_ITEM);
     for (size_t at = 0; at < sizeof refused / sizeof *refused; at++)
         expect("wide name", gpurace_acquire(&stream, 0, GPURACE_LOAD, space, device, 16, refused + at, 1), GPURACE_BAD_NAME);
+    expect("site 65536", gpurace_at(&stream, 65536), GPURACE_BAD_SITE);
+    expect("the greatest site", gpurace_at(&stream, 65535), GPURACE_OK);
     expect("release", gpurace_release(&stream, 1023, GPURACE_STORE, space, device, 16, &name), GPURACE_OK);
+    expect_number("its site", sink.last[6] + 256u * sink.last[7], 65535);
     expect_number("its item", sink.last[4] + 256u * sink.last[5], 1023);
     expect_number("its name", name.group * 10000 + name.item * 10 + name.release, 655350230);
     expect("the greatest name", gpurace_acquire(&stream, 1023, GPURACE_LOAD, space, device, 16, &good, 1), GPURACE_OK);
@@ -113,6 +116,8 @@ static void refuses_accesses(struct gpurace_stream *s) {
     expect("barrier item", gpurace_barrier(s, 2, 1, 3), GPURACE_BAD_ITEM);
     expect("barrier site", gpurace_barrier(s, 0, past_32_bits, 3), GPURACE_BAD_SITE);
     expect("barrier flags", gpurace_barrier(s, 0, 1, 4), GPURACE_BAD_FLAGS);
+    expect("a site in version 2", gpurace_at(s, 1), GPURACE_BAD_SITE);
+    expect("no site in version 2", gpurace_at(s, 0), GPURACE_OK);
 }
 
 static void refuses_hand_overs(struct gpurace_stream *s) {
