@@ -74,14 +74,15 @@ def random_launch(choose, least, most):
 
 
 def as_text(choose, sizes, traces):
-    """The streams, each of a version that has room for it; their records are interleaved in a random way."""
+    """The streams, each of a version that has room for it; their records are interleaved in a random way, and have random sites."""
     lines = []
     for group, items in enumerate(sizes):
         lists = [list(traces.get((group, item), ())) for item in range(items)]
         few = all(len(event.names) < 2 for events in lists for event in events)
         lines.append(f"group {group} items {items} launch 7 {'v3' if few else 'v4'}")
         while any(lists):
-            lines.append(choose.choice([events for events in lists if events]).pop(0).text())
+            site = choose.choice(("", "", f" @{choose.randint(1, 65535)}"))
+            lines.append(choose.choice([events for events in lists if events]).pop(0).text() + site)
         lines.append("end")
     return "".join(line + "\n" for line in lines)
 
