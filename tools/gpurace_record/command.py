@@ -221,6 +221,8 @@ class Recorder:
         except (KeyboardInterrupt, Stopped):
             self.report.run_reasons.append(Reason("stopped", "the judging was stopped"))
         self.report.unrecorded += unrecorded(folder)
+        if options.simulator and run.status != 0 and not self.report.launches and not options.opencl20:
+            self.report.run_reasons.append(Reason("no-launch", simulator.NOT_BUILT))
 
     def only_recorded(self) -> int:
         kept = self.options.keep
