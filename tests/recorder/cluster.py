@@ -63,9 +63,9 @@ class Cluster(unittest.TestCase):
         while "launch" not in run.stdout.readline():  # the first line is told once a launch is judged
             self.assertIsNone(run.poll())
         workers[0].kill()
-        self.assertEqual((run.communicate(timeout=100)[1], run.returncode), (None, 1))
+        self.assertEqual((run.communicate(timeout=300)[1], run.returncode), (None, 1))
         alone = self.judge("alone.json", "--jobs", "1")
-        self.assertEqual((alone.communicate(timeout=100)[1], alone.returncode), (None, 1))
+        self.assertEqual((alone.communicate(timeout=300)[1], alone.returncode), (None, 1))
         made = [json.loads((self.room / name).read_text()) for name in ("cluster.json", "alone.json")]
         self.assertEqual(made[0], made[1])
         self.assertEqual([it["number"] for it in made[0]["launches"]], list(range(LAUNCHES)))

@@ -30,7 +30,7 @@ class Outputs(unittest.TestCase):
     def judge(self, *options, status):
         """What gpurace-judge says of the launches, with this status."""
         words = [sys.executable, str(JUDGE), *options, str(self.kept)]
-        ran = subprocess.run(words, stdout=subprocess.PIPE, stderr=subprocess.PIPE, text=True, cwd=self.room, timeout=120, check=False,
+        ran = subprocess.run(words, stdout=subprocess.PIPE, stderr=subprocess.PIPE, text=True, cwd=self.room, timeout=300, check=False,
                              env={**os.environ, "GPURACE_PROGRAM": os.environ["GPURACE"]})
         self.assertEqual(ran.returncode, status, ran.stdout + ran.stderr)
         return ran.stdout.splitlines()

@@ -83,7 +83,7 @@ class Page(unittest.TestCase):
         put_launch(kept / "003-another", streams, {**SIDES, "info.txt": info("another", 3), "kernel.cl": "// <b>&amp;\n" + KERNEL,
                                                    "places": "1 kernel.cl:4:1\n2 kernel.cl:5:1\n0 0 2 kernel.cl:4:9\n0 1 1 kernel.cl:6:9\n"})
         words = [sys.executable, str(TOP / "tools" / "gpurace-judge"), "--html", str(self.room / "page.html"), str(kept)]
-        ran = subprocess.run(words, env={**os.environ, "GPURACE_PROGRAM": os.environ["GPURACE"]}, capture_output=True, timeout=120, check=False)
+        ran = subprocess.run(words, env={**os.environ, "GPURACE_PROGRAM": os.environ["GPURACE"]}, capture_output=True, timeout=300, check=False)
         self.assertEqual(ran.returncode, 1, ran.stderr)
         self.text = (self.room / "page.html").read_text()
 
@@ -107,7 +107,7 @@ class Page(unittest.TestCase):
         for width in (1280, 500):
             words = ["chromium", "--headless=new", "--no-sandbox", "--disable-gpu", "--enable-logging=stderr", f"--user-data-dir={self.room}/profile",
                      f"--window-size={width},900", "--dump-dom", page.as_uri()]
-            ran = subprocess.run(words, stdout=subprocess.PIPE, stderr=subprocess.PIPE, text=True, timeout=120, check=False)
+            ran = subprocess.run(words, stdout=subprocess.PIPE, stderr=subprocess.PIPE, text=True, timeout=300, check=False)
             told = re.search('data-told="([^"]*)"', ran.stdout)
             self.assertTrue(told, ran.stderr[-2000:])
             self.assertEqual(told[1].split(";"), ["1,2,3,4", "3,4,2,1", "1,2,3,4", "1", "2", "fits"])

@@ -210,7 +210,7 @@ class Recorder:
             judge.start()
         variables = (simulator.environment(options, folder) if options.simulator else
                      native.environment(self.out, options, folder, seed, is_judged=not options.keep))
-        run = Run(self.command, {**variables, **recording.of_tests(tests)} if judge else variables)
+        run = Run(self.command, {**variables, **recording.of_tests(tests, judge is not None)})
         sys.stdout.flush()
         self.report.run_reasons += run.reasons(options.timeout, options.ignore_program_status)
         if options.simulator and run.stopped_by:
@@ -221,6 +221,8 @@ class Recorder:
         except (KeyboardInterrupt, Stopped):
             self.report.run_reasons.append(Reason("stopped", "the judging was stopped"))
         self.report.unrecorded += unrecorded(folder)
+        if options.simulator and run.status != 0 and not self.report.launches and not options.opencl20:
+            self.report.run_reasons.append(Reason("no-launch", simulator.NOT_BUILT))
 
     def only_recorded(self) -> int:
         kept = self.options.keep

@@ -235,7 +235,8 @@ class Reader:
         """The access of this index and the steps around it; of barriers those that are shown, or are near."""
         racing, steps = self.groups[group].step(item, index), self.groups[group].steps[item]
         word = (racing.space, racing.word)
-        near = [step for step in steps if (step.space, step.word) == word or step.is_release() or step.is_acquire() or (step.kind == "barrier" and shown is None)]
+        near = [step for step in steps if step.is_release() or step.is_acquire()
+                or (shown is None if step.kind == "barrier" else (step.space, step.word) == word)]
         at = near.index(racing)
         near = near[max(0, at - MOST_STEPS):at + MOST_STEPS + 1]
         if shown is not None:

@@ -19,8 +19,8 @@ PAUSE = 0.02  # seconds between two looks at the folder
 
 
 class Judge(threading.Thread):
-    """Judges launches as soon as they are recorded. A folder that is not kept is removed when it is judged: the recorder waits for that where much is not judged yet. Of a launch of
-    many records it reads pipes while they are recorded."""
+    """Judges launches as soon as they are recorded. A folder that is not kept is removed when it is judged: the recorder waits for that where
+    much is not judged yet. Of a launch of many records it reads pipes while they are recorded."""
 
     def __init__(self, program: str, folder: str, report: Report, is_kept: bool, jobs: int, seed: Optional[int], tests: str):
         """`tests` is a folder in which the plugin of pytest asks, and is told."""

@@ -55,7 +55,8 @@ class Baseline(Filter):
         known = [entry for entry in report.entries().values() if entry.state == "known"]
         yield f"{count(len(known), 'known finding')} of {self.path}{', which is written anew' if self.is_updated else ''}"
         for it in self.gone(report):
-            yield f"    gone: {it['kind']} in {it['kernel']}" + (f" on {', '.join(it['buffers'])}" if it["buffers"] else "") + "".join(f", `{text}`" for text in it["texts"])
+            buffers = f" on {', '.join(it['buffers'])}" if it["buffers"] else ""
+            yield f"    gone: {it['kind']} in {it['kernel']}{buffers}" + "".join(f", `{text}`" for text in it["texts"])
 
     def write(self, report: Report) -> None:
         """What is known now: the findings of this run, and those of kernels that it did not judge whole."""

@@ -68,11 +68,11 @@ def cache() -> str:
     return os.path.join(os.environ.get("XDG_CACHE_HOME", os.path.expanduser("~/.cache")), "gpurace")
 
 
-def of_tests(folder: str) -> Dict[str, str]:
+def of_tests(folder: str, is_judged: bool) -> Dict[str, str]:
     """What a program that runs tests needs to say which one makes a launch, and to be told what was found: the plugin of pytest does both."""
     plugins = os.path.join(os.path.dirname(os.path.realpath(__file__)), "plugin")
     paths = [plugins] + ([os.environ["PYTHONPATH"]] if os.environ.get("PYTHONPATH") else [])
-    return {"PYTHONPATH": os.pathsep.join(paths), "GPURACE_TESTS": folder,
+    return {"PYTHONPATH": os.pathsep.join(paths), "GPURACE_TESTS": folder if is_judged else "",
             "GPURACE_LABEL": os.environ.get("GPURACE_LABEL") or os.path.join(folder, "label")}
 
 

@@ -16,6 +16,8 @@ NEEDED = [("g++", "g++"), ("make", "make"), ("llvm-config-14", "llvm-14-dev"),
 NEVER_ENDS = ("a launch that had not ended is not recorded; one whose groups wait for each other never ends on the simulator, which runs them one "
               "by one: record it natively, without --simulator")
 
+NOT_BUILT = "where a kernel did not build since it has atomics of OpenCL 2.0: --opencl20 gives it these, and so does -cl-std=CL2.0 of the program"
+
 
 def find(program: str) -> str:
     name = "oclgrind-kernel" if program.endswith(".sim") else "oclgrind"

@@ -92,6 +92,8 @@ expect "a hand-over" 0 "launch 0, sum_all: nothing found" \
     -- --opencl20 --build-options -DORDER=memory_order_acq_rel sum_all.sim
 expect "a hand-over of a program that asks for OpenCL 2.0" 0 "launch 0, sum_all: nothing found" \
     -- --build-options "-cl-std=CL2.0 -DORDER=memory_order_acq_rel" sum_all.sim
+expect "atomics of a program that does not ask for OpenCL 2.0" 2 "no launch was recorded" "since it has atomics of OpenCL 2.0: --opencl20 gives it these" \
+    -- --build-options -DORDER=memory_order_acq_rel sum_all.sim
 # each of three groups takes a lock that is a flag, reads and writes the counter, lets it go, and ends
 expect "a lock that is a flag" 0 "flag_lock: nothing found (3 groups of 1 work-item, 15 records)" \
     -- --build-options "-cl-std=CL2.0 -DORDER=memory_order_release" flag_lock.sim

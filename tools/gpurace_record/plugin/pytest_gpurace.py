@@ -12,8 +12,8 @@ WAITS = 60.0  # seconds for the judging of a test's launches
 
 
 def pytest_configure(config):
-    label, folder = os.environ.get("GPURACE_LABEL"), os.environ.get("GPURACE_TESTS")
-    if label and folder:
+    label, folder = os.environ.get("GPURACE_LABEL"), os.environ.get("GPURACE_TESTS", "")
+    if label:
         worker = os.environ.get("PYTEST_XDIST_WORKER", "")
         if worker:  # each has a label of its own
             os.environ["GPURACE_LABEL"] = label = f"{label}.{worker}"
@@ -22,7 +22,9 @@ def pytest_configure(config):
 
 class Tests:
     def __init__(self, label, folder, worker):
-        self.label, self.found, self.asked = label, os.path.join(folder, "judged"), os.path.join(folder, f"asked{worker}")
+        """Nobody judges where no folder is given."""
+        self.label, self.folder = label, folder
+        self.found, self.asked = os.path.join(folder, "judged"), os.path.join(folder, f"asked{worker}")
 
     @pytest.hookimpl(hookwrapper=True)
     def pytest_runtest_protocol(self, item):
@@ -36,7 +38,7 @@ class Tests:
     def pytest_runtest_makereport(self, item, call):
         outcome = yield
         report = outcome.get_result()
-        if call.when == "call" and report.passed:
+        if self.folder and call.when == "call" and report.passed:
             found = self.findings(item.nodeid.replace("\n", " "))
             if found:
                 report.outcome, report.longrepr = "failed", "\n".join(found)
