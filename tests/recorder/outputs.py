@@ -94,6 +94,24 @@ class Statuses(Outputs):
         stream.write_bytes(stream.read_bytes()[:12 + 20 + 7])
         self.assertIn("records of 1 of 1 groups were lost", "".join(self.judge(status=2)))
 
+    def test_groups_that_never_began(self):
+        """Of three groups the first was cut, and the others have no stream."""
+        put_launch(self.kept / "000-three", ["group 0 items 2 launch 0\n0 w g 1\nend cut\n"], {"info.txt": info("three", 0, 3, "cut 0\ncut 1\ncut 2\n")})
+        self.assertIn("records of 3 of 3 groups were lost (the first is group 0)", "".join(self.judge(status=2)))
+
+    def test_a_launch_that_cant_be_judged_is_no_answer(self):
+        put_right(self.kept)
+        put_right(self.kept, 1, "other")
+        (self.kept / "001-other" / "info.txt").write_text("kernel other\nlaunch 1\nlocal two\n")
+        told = self.judge(status=2)
+        self.assertIn("not judged: ", told[1])
+        self.assertIn("2 launches: 0 with findings, 1 without, 1 not judged whole", told[-1])
+
+    def test_numbers_that_are_none(self):
+        put_right(self.kept)
+        for words in (("--jobs", "0"), ("--jobs", "x"), ("--error-exitcode", "0"), ("--error-exitcode", "256"), ("--error-exitcode", "-1")):
+            self.judge(*words, status=3)
+
     def test_streams_of_a_runtime_of_ones_own(self):
         put_launch(self.kept / "mine", ["group 0 items 2 launch 7\n0 w g 5\n1 w g 5\nend\n"], {})
         told = self.judge(status=1)

@@ -49,6 +49,18 @@ def number(text: str) -> str:
     return text
 
 
+def above_zero(text: str) -> str:
+    if int(number(text)) == 0:
+        raise argparse.ArgumentTypeError("a number above 0 is needed")
+    return text
+
+
+def exit_status(text: str) -> str:
+    if not 0 < int(number(text)) < 256:
+        raise argparse.ArgumentTypeError("a number from 1 to 255 is needed")
+    return text
+
+
 def windows(text: str) -> str:
     parts = [tuple(map(int, part.split(":"))) for part in text.split(",")] if PARTS.fullmatch(text) else []
     bounds = [bound for first, length in parts for bound in (first, first + length)]
@@ -75,13 +87,13 @@ def parser() -> Parser:
     made.add_argument("--build-options", metavar="TEXT", help="more options for the compiler of the kernels")
     made.add_argument("--max-group-size", metavar="N", type=number, help="what the device says of its largest work-group (1024)")
     made.add_argument("--only-record", action="store_true", help="writes the launches and judges none; needs --keep")
-    made.add_argument("--jobs", metavar="N", type=number, default="1", help="judges as many launches side by side (1)")
+    made.add_argument("--jobs", metavar="N", type=above_zero, default="1", help="judges as many launches side by side (1)")
     add_outputs(made)
     own = made.add_argument_group("of the native recorder")
     own.add_argument("--most-records", metavar="N", type=number, help="of each launch; what comes behind them is told as cut")
     own.add_argument("--timeout", metavar="S", type=number, help="ends the program where a kernel has not ended after S seconds")
     own.add_argument("--seed", metavar="N", type=number, help="makes the order of work-items and work-groups a function of N, on one thread")
-    own.add_argument("--schedules", metavar="K", type=number, help="runs the program K times, with the seeds N, N + 1 and so on")
+    own.add_argument("--schedules", metavar="K", type=above_zero, help="runs the program K times, with the seeds N, N + 1 and so on")
     other = made.add_argument_group("of the simulator")
     other.add_argument("--simulator", action="store_true", help="records on the simulator Oclgrind, as it does a FILE.sim")
     other.add_argument("--opencl20", action="store_true", help="compiles all kernels as OpenCL C 2.0, with its atomics, whatever their own options say")
@@ -99,7 +111,7 @@ def add_outputs(made: argparse.ArgumentParser) -> None:
     told.add_argument("--update-baseline", action="store_true", help="writes what is found into the baseline, so that it is known")
     told.add_argument("--suppress", metavar="FILE", help="lines KEY PATTERN .. -- WHY, with the keys kernel, buffer and place: these don't count")
     told.add_argument("--ignore-program-status", action="store_true", help="a program that ends with another status than 0 is as good")
-    told.add_argument("--error-exitcode", metavar="N", type=number, help="the status where something was found, in place of 1")
+    told.add_argument("--error-exitcode", metavar="N", type=exit_status, help="the status where something was found, in place of 1")
 
 
 def filters_of(options: argparse.Namespace) -> List[Filter]:
@@ -146,9 +158,6 @@ def options_of(words: List[str]) -> argparse.Namespace:
             stop(WRONG_WORDS, f"the simulator has no --{name.replace('_', '-')}")
     if (options.optimized or options.opencl20) and not options.simulator:
         stop(WRONG_WORDS, f"--{'optimized' if options.optimized else 'opencl20'} is of --simulator")
-    for name in ("schedules", "jobs", "error_exitcode"):
-        if getattr(options, name) is not None and not 0 < int(getattr(options, name)) < 256:
-            stop(WRONG_WORDS, f"--{name.replace('_', '-')} needs a number from 1 to 255")
     if options.only_record and not options.keep:
         stop(WRONG_WORDS, "--only-record needs --keep DIR")
     if options.keep and os.path.exists(options.keep) and os.listdir(options.keep):

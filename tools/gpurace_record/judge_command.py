@@ -7,7 +7,7 @@ import os
 import sys
 from typing import Iterator, List
 
-from .command import WRONG_WORDS, Parser, STATUSES, add_outputs, conclude, filters_of, find_gpurace, guarded, number, stop, width
+from .command import STATUSES, WRONG_WORDS, Parser, above_zero, add_outputs, conclude, filters_of, find_gpurace, guarded, stop, width
 from .folders import end_streams
 from .judging import Launch, judged
 from .recording import Missing
@@ -61,7 +61,7 @@ def parser() -> Parser:
     made = Parser(prog="gpurace-judge", allow_abbrev=False, formatter_class=width, usage="gpurace-judge [OPTION..] DIR..",
                   description="Judges recorded launches: each DIR is the folder of one, or has folders of launches below it.", epilog=STATUSES)
     made.add_argument("folders", nargs="+", metavar="DIR", help="recorded by gpurace-record --keep, or by a runtime of your own")
-    made.add_argument("--jobs", metavar="N", type=number, default=str(len(os.sched_getaffinity(0))),
+    made.add_argument("--jobs", metavar="N", type=above_zero, default=str(len(os.sched_getaffinity(0))),
                       help="judges as many launches side by side (as many as processors)")
     made.add_argument("--scheduler", metavar="ADDRESS", help="judges on the workers of this Dask scheduler, which see the same files")
     add_outputs(made)

@@ -10,7 +10,7 @@ import time
 import traceback
 from typing import Dict, List, Optional, Set
 
-from .folders import end_files, end_streams, info_of
+from .folders import end_streams
 from .judging import Launch, Reason, judged
 from .pipes import Piped
 from .report import NEW, Report
@@ -70,15 +70,7 @@ class Judge(threading.Thread):
 
     def judge(self, name: str) -> None:
         path, piped = os.path.join(self.folder, name), self.piped.pop(name, None)
-        try:
-            info = info_of(path)
-            if info["cut"] and not piped:  # some groups may never have begun
-                end_files(path, info)
-            launch = judged(self.program, path, piped)
-        except Exception as fault:  # the program does not wait for it
-            traceback.print_exc()
-            launch = Launch(int(name.partition("-")[0]), name.partition("-")[2], path)
-            launch.reasons.append(Reason("fault", f"not judged: {fault}"))
+        launch = judged(self.program, path, piped)
         launch.seed = self.seed
         with self.lock:
             self.report.add(launch)

@@ -4,10 +4,11 @@ from __future__ import annotations
 import dataclasses
 import os
 import subprocess
+import traceback
 from typing import Dict, Iterator, List, Optional, Tuple
 
 from .findings import Finding, Reader, out_of_bounds
-from .folders import Info, info_of, kept_of, streams_of, windows_of
+from .folders import Info, end_files, info_of, kept_of, streams_of, windows_of
 from .pipes import Piped
 from .sides import Texts, PLACE
 
@@ -66,8 +67,22 @@ def replay(program: str, streams: List[str]) -> Tuple[int, List[str], str]:
 
 
 def judged(program: str, folder: str, piped: Optional[Piped] = None) -> Launch:
-    """The launch in the folder. One that was judged while it was recorded is told by what stands in files."""
+    """The launch in the folder, also where it could not be judged."""
+    try:
+        return judged_by(program, folder, piped)
+    except Exception as fault:
+        traceback.print_exc()
+        number, _, kernel = os.path.basename(os.path.abspath(folder)).partition("-")
+        launch = Launch(int(number) if number.isdigit() else 0, kernel, folder)
+        launch.reasons.append(Reason("fault", f"not judged: {fault}"))
+        return launch
+
+
+def judged_by(program: str, folder: str, piped: Optional[Piped]) -> Launch:
+    """One that was judged while it was recorded is told by what stands in files."""
     info = info_of(folder)
+    if info["cut"] and info["groups"] and not piped:  # some groups may never have begun
+        end_files(folder, info)
     kernel = info["kernel"][0] if info["kernel"] else ""
     launch = Launch(int(info["launch"][0]) if info["launch"] else 0, kernel or os.path.basename(os.path.abspath(folder)), folder,
                     label=(info["label"] or [""])[0])
