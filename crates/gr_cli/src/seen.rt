@@ -36,7 +36,8 @@ impl Seen {
     /// # Errors
     /// `Memory`: out of memory.
     pub fn pass(&mut self, header: &Header, record: &[u8]) -> Result<(), Memory> {
-        if self.sited.is_none() && self.sought.is_none() {
+        let is_whole = record.len() >= header.version.record_length();
+        if !is_whole || (self.sited.is_none() && self.sought.is_none()) {
             return Ok(());
         }
         let Ok(event) = read_event(*header, record) else {
