@@ -36,8 +36,10 @@ impl Seen {
     /// # Errors
     /// `Memory`: out of memory.
     pub fn pass(&mut self, header: &Header, record: &[u8]) -> Result<(), Memory> {
-        let is_whole = record.len() >= header.version.record_length();
-        if !is_whole || (self.sited.is_none() && self.sought.is_none()) {
+        if self.sited.is_none() && self.sought.is_none() {
+            return Ok(());
+        }
+        if record.len() < header.version.record_length() {
             return Ok(());
         }
         let Ok(event) = read_event(*header, record) else {
