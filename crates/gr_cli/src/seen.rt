@@ -39,7 +39,7 @@ impl Seen {
         if self.sited.is_none() && self.sought.is_none() {
             return Ok(());
         }
-        if record.len() < header.version.record_length() {
+        if record.len() != header.version.record_length() {
             return Ok(());
         }
         let Ok(event) = read_event(*header, record) else {
