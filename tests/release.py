@@ -108,11 +108,11 @@ class Release(unittest.TestCase):
         for name in ("gpurace", "crates", "tools", "recorder"):
             (self.top / name).rename(self.top / f"{name}-moved")
         environ = {"PATH": "/usr/bin:/bin"}
-        ran = subprocess.run([place / "gpurace-judge", self.top / "kept"], stdout=subprocess.PIPE, env=environ, check=False)
+        ran = subprocess.run([place / "gpurace-judge", self.top / "kept"], stdout=subprocess.PIPE, stderr=subprocess.PIPE, env=environ, check=False)
         self.assertEqual(ran.returncode, 1)
         self.assertIn(b"race on tile[8] of group 0", ran.stdout)
         (place / "gpurace").rename(self.top / "gpurace")
-        ran = subprocess.run([place / "gpurace-judge", self.top / "kept"], stdout=subprocess.PIPE, env={"PATH": f"/usr/bin:/bin:{self.top}"}, check=False)
+        ran = subprocess.run([place / "gpurace-judge", self.top / "kept"], stdout=subprocess.PIPE, stderr=subprocess.PIPE, env={"PATH": f"/usr/bin:/bin:{self.top}"}, check=False)
         self.assertEqual(ran.returncode, 1)
         ran = subprocess.run([place / "gpurace-record", "--help"], stdout=subprocess.PIPE, env=environ, check=False)
         self.assertIn(b"usage: gpurace-record", ran.stdout)
