@@ -17,6 +17,8 @@ LINK = re.compile(r"\]\(([^)\s]+)\)")
 CODE = re.compile(r"^```.*?^```$", re.M | re.S)
 PATH = re.compile(r"`((?:%s)/[\w./-]+)`" % "|".join(FOLDERS))
 CRATE = re.compile(r"`(gr_\w+)`")
+FILES_OF_CRATE = re.compile(r"`(gr_\w+)` \(([^()]*)\)")
+FILE_OF_CRATE = re.compile(r"`(\w+\.(?:rt|antt))`")
 
 
 def files_of(folder):
@@ -77,6 +79,15 @@ def faults_of_links(path, text):
             yield f"{path}: {target} names no heading"
 
 
+def files_of_crates(text):
+    """The files that a text names behind their crates, as in `gr_lanes` (`kinds.rt`, `group.rt`)."""
+    return [(crate, file) for crate, files in FILES_OF_CRATE.findall(text) for file in FILE_OF_CRATE.findall(files)]
+
+
+def has_file(crate, file):
+    return any((TOP / "crates" / crate / folder / file).is_file() for folder in ("src", "specs"))
+
+
 class Citations(unittest.TestCase):
     def assert_none(self, faults):
         self.assertEqual([fault.replace(f"{TOP}/", "") for fault in faults], [])
@@ -93,6 +104,11 @@ class Citations(unittest.TestCase):
     def test_a_path_that_a_document_names_is_there(self):
         named = [(document, path) for document in written_documents() for path in PATH.findall(document.read_text())]
         self.assert_none(f"{document}: there is no {path}" for document, path in named if "/out/" not in path and not (TOP / path).exists())
+
+    def test_a_file_that_is_named_behind_its_crate_is_there(self):
+        named = [(document, *it) for document in written_documents() for it in files_of_crates(document.read_text())]
+        self.assertGreater(len(named), 20)
+        self.assert_none(f"{document}: {crate} has no {file}" for document, crate, file in named if not has_file(crate, file))
 
     def test_a_crate_that_a_document_names_is_there_and_the_architecture_names_all(self):
         crates = {line.split()[0].rstrip(":") for line in (TOP / "crates.txt").read_text().splitlines() if line and not line.startswith("#")}
