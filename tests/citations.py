@@ -15,7 +15,7 @@ GOES_ON = re.compile(r"\n[ \t]*(?://[/!]?|--|#|\*|>)?[ \t]*")
 CITATION = re.compile(r'docs/(\w+\.md)((?:,? (?:and )?"[^"\n]+")*)')
 LINK = re.compile(r"\]\(([^)\s]+)\)")
 CODE = re.compile(r"^```.*?^```$", re.M | re.S)
-PATH = re.compile(r"`((?:%s)/[\w./-]+)`" % "|".join(FOLDERS))
+PATH = re.compile(r"(?<![\w./-])((?:%s)/[\w./-]*\w)" % "|".join(FOLDERS))
 CRATE = re.compile(r"`(gr_\w+)`")
 FILES_OF_CRATE = re.compile(r"`(gr_\w+)` \(([^()]*)\)")
 FILE_OF_CRATE = re.compile(r"`(\w+\.(?:rt|antt))`")
@@ -103,7 +103,8 @@ class Citations(unittest.TestCase):
 
     def test_a_path_that_a_document_names_is_there(self):
         named = [(document, path) for document in written_documents() for path in PATH.findall(document.read_text())]
-        self.assert_none(f"{document}: there is no {path}" for document, path in named if "/out/" not in path and not (TOP / path).exists())
+        self.assertGreater(len(named), 100)
+        self.assert_none(f"{document}: there is no {path}" for document, path in named if not (TOP / path).exists())
 
     def test_a_file_that_is_named_behind_its_crate_is_there(self):
         named = [(document, *it) for document in written_documents() for it in files_of_crates(document.read_text())]
