@@ -5,7 +5,7 @@
 ghost use Rattle.std.specs.Prelude.{◌≡◌, ◌++◌, ◌∷◌, [], IfErr, OnOk, IsFalse, IsTrue};
 ghost use Rattle.std.specs.Arc.{arc_value};
 ghost use Rattle.gr_clocks.specs.declared.access.Access.{Access as AnyAccess};
-ghost use Rattle.gr_route.specs.declared.work.Work.TheVariants.{Access as OfAccess};
+ghost use Rattle.gr_route.specs.declared.work.Work.TheVariants.{Access as OfAccess, Stop};
 ghost use Rattle.gr_route.specs.WorkRule.{is_stopped};
 ghost use Rattle.gr_sequencer_thread.specs.Feeds.{AreOpen, AreStopped, given_of, with_waiting, works_of};
 ghost use Rattle.gr_threads.specs.Given.{accesses_in};
@@ -67,6 +67,49 @@ fn push_waiting<R: Wait, A: Allocator>(
     }
 }
 
+/// Pushes what waits, all at once, as soon as there is room.
+fn push_all_waiting<R: Wait + Clock, A: Allocator>(
+    rt: &R,
+    queue: &Arc<WorkQueue<A>, A>,
+    seat: &mut GiverSeat<A>,
+    waiting: &mut Outbox<Work<A>, A>,
+)
+    requires queue { seat.old.queue ≡ (arc_value queue.now).queue }
+    requires accesses { IsFalse (is_stopped waiting.old) }
+    requires unstopped { IsFalse (is_stopped seat.old.pushed) }
+    ensures pushed { seat.new ≡ with_waiting seat.old waiting.old }
+    ensures none { waiting.new ≡ [] }
+{
+    let idle = Idle::new();
+    for _ in rt.forever() {
+        if push_waiting(rt, queue, seat, waiting) {
+            return;
+        }
+        idle.wait(rt);
+    }
+    unreachable!()
+}
+
+/// Pushes the word that there are no more accesses, as soon as there is room.
+fn push_stop<R: Wait + Clock, A: Allocator>(
+    rt: &R,
+    queue: &Arc<WorkQueue<A>, A>,
+    seat: &mut GiverSeat<A>,
+)
+    requires queue { seat.old.queue ≡ (arc_value queue.now).queue }
+    requires unstopped { IsFalse (is_stopped seat.old.pushed) }
+    ensures { seat.new ≡ record seat.old { pushed = seat.old.pushed ++ Stop ∷ [] } }
+{
+    let idle = Idle::new();
+    for _ in rt.forever() {
+        match queue.push(rt, seat, Work::Stop) {
+            Ok(()) => return,
+            Err(_) => idle.wait(rt),
+        }
+    }
+    unreachable!()
+}
+
 /// The access that was to be pushed.
 fn access_of<A: Allocator>(work: Work<A>) -> Access<A>
     requires { (x : AnyAccess A) × (work ≡ OfAccess x) }
@@ -106,16 +149,8 @@ impl<A: Allocator> Outlet<A> {
         ensures same { (self.new.queue ≡ self.old.queue) × (accesses_in self.new.pushed ≡ accesses_in self.old.pushed) }
         ensures stopped { IsTrue (is_stopped self.new.pushed) }
     {
-        let idle = Idle::new();
-        for _ in rt.forever() {
-            if push_waiting(rt, &self.queue, &mut self.seat, &mut self.waiting)
-                && self.queue.push(rt, &mut self.seat, Work::Stop).is_ok()
-            {
-                return;
-            }
-            idle.wait(rt);
-        }
-        unreachable!()
+        push_all_waiting(rt, &self.queue, &mut self.seat, &mut self.waiting);
+        push_stop(rt, &self.queue, &mut self.seat);
     }
 
     /// The seat, to be joined back into the worker's.
