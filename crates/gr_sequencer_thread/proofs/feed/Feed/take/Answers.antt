@@ -33,14 +33,14 @@ invariant_of-self-2 g c =
           (subst (λ (u : Taker). AreSeated config seq.taken.sizes (set takers q u)) (sym popped) (still_seated config seq.taken.sizes takers seated q t at there queues s next));
       unstopped = c.self.invariant.unstopped;
       good = λ f.
-          let now = c.note-self-inside.ensures.noted f in
+          let now = c.note-self-inside.ensures.taken f in
           let was = c.self.invariant.good now.0 in
           record {
-            sequence = now.1.sequence;
-            taken = subst (λ (p : Streams). AreTaken config p (set takers q c.pop.new.self)) (sym now.1.taken)
+            sequence = now.2;
+            taken = subst (λ (p : Sequence). AreTaken config p.taken (set takers q c.pop.new.self)) (sym now.1)
                 (subst (λ (u : Taker). AreTaken config (taking seq s.group s.event).taken (set takers q u)) (sym popped)
                 (still_taken config seq.taken.sizes takers seated q t at there queues s next seq.taken (let count = was.sequence.prefixes.count in omega (arith, count)) was.taken));
-            passed = now.1.passed config (given_of c.self.inside.outlets.items)
+            passed = subst (λ (p : Sequence). ArePassedOn config p (given_of c.self.inside.outlets.items) (option_map clocked c.self.inside.in_flight)) (sym now.1)
                 (taken_passed config seq.taken.sizes takers seated q t at there queues s next seq was.sequence (λ i. seq.taken.sizes) was.taken (given_of c.self.inside.outlets.items) (option_map clocked c.self.inside.in_flight) was.passed);
           };
     }
