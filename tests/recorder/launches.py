@@ -115,6 +115,48 @@ race on input[0], input[2] (2 words); on input[0]
     {GLOBAL}
 """)
 
+    def test_one_place_that_is_called_twice_is_two_stacks(self):
+        """Items 0 and 1 write tile[1] by the calls of lines 7 and 6, and tile[6] both by that of line 7, which a function makes."""
+        text = ("void put(local int *tile, int at, int value) {\n    tile[at] = value;\n}\nkernel void sums(global int *input, global int *output) {\n"
+                "    local int tile[16];\n    put(tile, l, 1);\n    put(tile, l + 1, 2);\n}\n")
+        first, second = ("kernel.cl:2:14 called at kernel.cl:6:5", "kernel.cl:2:14 called at kernel.cl:7:5")
+        streams = ["group 0 items 2 launch 7\n0 w l 65\n1 w l 65\n0 w l 70\n1 w l 70\nend\n"]
+        places = f"0 0 0 {second}\n0 1 0 {first}\n0 0 1 {second} called at other.cl:9:1\n0 1 1 {second}\n"
+        self.assert_told(streams, {"buffers": BUFFERS, "kernel.cl": text, "places": places}, "found", f"""\
+race on tile[1] of group 0
+    kernel.cl:2:14: write by group 0, item 0
+        tile[at] = value;
+        called at kernel.cl:7:5: put(tile, l + 1, 2);
+    kernel.cl:2:14: write by group 0, item 1
+        tile[at] = value;
+        called at kernel.cl:6:5: put(tile, l, 1);
+    {LOCAL}
+race on tile[6] of group 0
+    kernel.cl:2:14: write by group 0, item 0
+        tile[at] = value;
+        called at kernel.cl:7:5: put(tile, l + 1, 2);
+        called at other.cl:9:1
+    kernel.cl:2:14: write by group 0, item 1
+        tile[at] = value;
+        called at kernel.cl:7:5: put(tile, l + 1, 2);
+    {LOCAL}
+""")
+
+    def test_a_barrier_that_is_called_twice(self):
+        """Items 0 and 1 come to the barrier of line 2 by two calls."""
+        text = "void meet() {\n    barrier(CLK_LOCAL_MEM_FENCE);\n}\nkernel void sums() {\n    if (l) meet();\n    else meet();\n}\n"
+        places = "1 kernel.cl:2:5 called at kernel.cl:5:12\n2 kernel.cl:2:5 called at kernel.cl:6:10\n"
+        self.assert_told(["group 0 items 2 launch 7\n1 bar 1 l\n0 bar 2 l\nend\n"], {"info.txt": INFO, "kernel.cl": text, "places": places}, "found", """\
+divergent barrier, number 0 of group 0
+    kernel.cl:2:5: item 0
+        barrier(CLK_LOCAL_MEM_FENCE);
+        called at kernel.cl:6:10: else meet();
+    kernel.cl:2:5: item 1
+        barrier(CLK_LOCAL_MEM_FENCE);
+        called at kernel.cl:5:12: if (l) meet();
+    the work-items are at different barriers
+""")
+
     def test_two_pairs_of_places(self):
         """Words 0 and 4 race at the same two places, and word 2 at others."""
         streams = ["group 0 items 4 launch 7\n0 w g 0\n1 r g 0\n0 w g 2\n1 r g 2\n0 w g 4\n1 r g 4\nend\n"]

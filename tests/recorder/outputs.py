@@ -156,6 +156,23 @@ class Forms(Outputs):
         self.assertEqual([it["contents"]["text"] for it in run["artifacts"]], [KERNEL] * 3)
         self.assert_valid(made, TOP / "tests" / "recorder" / "sarif.schema.json")
 
+    def test_calls_that_lead_to_an_access(self):
+        """The access of line 3 is in a function that line 5 calls: JSON, SARIF and the fingerprint have the call."""
+        put_racy(self.kept)
+        self.judge("--json", "made.json", status=1)
+        plain = self.made("made.json")["findings"][0]
+        places = self.kept / "000-sums" / "places"
+        places.write_text(places.read_text().replace("0 1 0 kernel.cl:3:13", "0 1 0 kernel.cl:3:13 called at kernel.cl:5:9"))
+        self.judge("--json", "made.json", "--sarif", "made.sarif", status=1)
+        finding = self.made("made.json")["findings"][0]
+        self.assertEqual([it["calls"] for it in finding["accesses"]], [[], [{"place": "kernel.cl:5:9", "text": "tile[l] += tile[l + 8];"}]])
+        self.assertEqual([it["place"] for it in finding["accesses"]], ["kernel.cl:5:20", "kernel.cl:3:13"])
+        self.assertNotEqual(finding["fingerprint"], plain["fingerprint"])
+        self.assert_valid(self.made("made.json"), TOP / "docs" / "record.schema.json")
+        stack, = self.made("made.sarif")["runs"][0]["results"][0]["stacks"]
+        self.assertEqual([frame["location"]["physicalLocation"]["region"]["startLine"] for frame in stack["frames"]], [3, 5])
+        self.assert_valid(self.made("made.sarif"), TOP / "tests" / "recorder" / "sarif.schema.json")
+
     def test_junit(self):
         self.put_all()
         self.judge("--junit", "made.xml", status=1)

@@ -17,7 +17,7 @@ from . import causes
 from .elements import Elements
 from .folders import Info
 from .records import Step, Wanted, groups_of
-from .sides import Places, Run, Shape, Texts, buffers_of, equal_of, joined, name_of, parts
+from .sides import CALLED, Places, Run, Shape, Texts, buffers_of, equal_of, joined, name_of, parts
 
 WHAT = {"load": "atomic load", "store": "atomic store", "rmw": "atomic read-modify-write"}
 ORDERS = {"rlx": "relaxed", "acq": "acquire", "rel": "release", "both": "acquire and release"}
@@ -29,6 +29,7 @@ MOST_KINDS = 200     # of races of a launch
 MOST_DIVERGENT = 100  # groups with divergent barriers that are looked at
 MOST_SECONDS = 60    # that looking for causes may take
 MOST_STEPS = 3       # of an item on each side of its access that are kept
+OUT_OF_BOUNDS = re.compile(r"(\d+) (.+?) (read|write|atomic) (\d+) (\d+) (\d+) (.*)")
 OUTSIDE = re.compile(r"(?:.* of |in )(.+?),? which has (?:\d+ bytes?|no memory)")
 
 
@@ -47,12 +48,20 @@ class Mark:
 
 
 @dataclasses.dataclass
+class Call:
+    """A call that leads to a place, and the line of the source."""
+    place: str
+    text: str
+
+
+@dataclasses.dataclass
 class Access:
     """Something that an item did, or several did alike, and where it stands."""
     what: str
     who: str
     place: str = ""
     text: str = ""  # the line of the source
+    calls: List[Call] = dataclasses.field(default_factory=list)  # the innermost one first
     scope: str = ""
     order: str = ""
     group: int = 0
@@ -66,6 +75,18 @@ class Access:
         else:
             yield self.told()
         yield from [f"    {self.text}"] if self.text else []
+        for call in self.calls:
+            yield f"    called at {call.place}" + (f": {call.text}" if call.text else "")
+
+    def stand(self, place: str, texts: Texts) -> Access:
+        """Puts it to a place, which may name the calls that lead there."""
+        self.place, *calls = place.split(CALLED)
+        self.text, self.calls = texts.line(self.place), [Call(call, texts.line(call)) for call in calls]
+        return self
+
+    def where(self) -> str:
+        """The lines of the source; where these are not known the places, and else what is done."""
+        return " < ".join([self.text or self.place or self.what, *(call.text or call.place for call in self.calls)])
 
     def told(self) -> str:
         how = ", ".join(word for word in (ORDERS.get(self.order), SCOPES.get(self.scope)) if word)
@@ -103,8 +124,7 @@ class Finding:
         return sorted({it.buffer for it in self.maps} - {""})
 
     def texts(self) -> List[str]:
-        """The lines of the source; where these are not known the places, and else what is done."""
-        return sorted({access.text or access.place or access.what for access in self.accesses})
+        return sorted({access.where() for access in self.accesses})
 
     def fingerprint(self) -> str:
         """Survives lines that are added elsewhere: it has the kernel, the buffers, the cause and the lines' texts."""
@@ -213,8 +233,8 @@ class Reader:
 
     def access(self, what: str, event: Dict[str, Any]) -> Access:
         group, item, index = event["group"], event["item"], event["index"]
-        place = event["place"] or ""
-        access = Access(what, self.shape.who(group, item), place, self.texts.line(place), group=self.shape.group(group), item=item, index=index)
+        access = Access(what, self.shape.who(group, item), group=self.shape.group(group), item=item, index=index)
+        access.stand(event["place"] or "", self.texts)
         if group in self.groups:
             step = self.groups[group].step(item, index)
             access.scope, access.order = step.scope, step.order
@@ -247,8 +267,9 @@ class Reader:
     def mark(self, group: int, item: int, step: Step, is_racing: bool) -> Mark:
         if step.kind != "barrier":
             key = (group, item, step.release) if step.is_release() else ()
-            return Mark(step.kind, self.places.event(group, item, step.at), step.scope, step.order, is_racing=is_racing, key=key, takes=step.names)
-        return Mark("barrier", self.places.site(step.word), instance=self.groups[group].phase(item, step.at), flags=step.space)
+            place = self.places.event(group, item, step.at).split(CALLED)[0]
+            return Mark(step.kind, place, step.scope, step.order, is_racing=is_racing, key=key, takes=step.names)
+        return Mark("barrier", self.places.site(step.word).split(CALLED)[0], instance=self.groups[group].phase(item, step.at), flags=step.space)
 
     def pair(self, said: Dict[str, Any], race: Dict[str, Any], accesses: List[Access]) -> Optional[causes.Pair]:
         """The two accesses with what stands between them; None where their records were not read."""
@@ -312,14 +333,14 @@ class Reader:
         accesses = []
         for place, count, first in came:
             items = f"{count} work-items, the first is {self.shape.item(group, first)}" if count > 1 else self.shape.item(group, first)
-            accesses.append(Access("barrier" if place else "no barrier", items, place, self.texts.line(place)))
+            accesses.append(Access("barrier" if place else "no barrier", items).stand(place, self.texts))
         return Finding("divergence", self.kernel, f"divergent barrier, number {instance} of {who}{more}", cause, message, accesses=accesses,
                        is_doubtful=is_cut)
 
     def unmatched_acquires(self) -> Iterator[Finding]:
         for group, item, index, cause in self.unmatched:
-            place = self.places.event(group, item, index)
-            access = Access("acquire", self.shape.who(group, item), place, self.texts.line(place), group=self.shape.group(group), item=item, index=index)
+            access = Access("acquire", self.shape.who(group, item), group=self.shape.group(group), item=item, index=index)
+            access.stand(self.places.event(group, item, index), self.texts)
             yield Finding("unmatched", self.kernel, f"acquire without its release ({cause})", cause,
                           "the fault is mostly the recorder's; what waits for it is not judged", accesses=[access])
 
@@ -340,15 +361,18 @@ def out_of_bounds(info: Info, folder: str) -> Iterator[Finding]:
     """Accesses out of all buffers, each place once: what it does, and where the first one went."""
     shape, texts, kernel = Shape(info), Texts(folder), (info["kernel"] or [""])[0]
     for line in info["out-of-bounds"]:
-        number, place, how, size, group, item, where = line.split(" ", 6)
+        said = OUT_OF_BOUNDS.fullmatch(line)
+        if not said:
+            raise ValueError(f"info.txt has a line out-of-bounds {line}")
+        number, place, how, size, group, item, where = said.groups()
         by = "asynchronous copy" if int(item) == shape.items else shape.told("item", int(item), shape.local)
         who = f"{shape.told('group', int(group), shape.groups)}, {by}"
         named = OUTSIDE.fullmatch(where)
         maps = [Map(named[1], "", 0, 1, [])] if named else []
         yield Finding("out-of-bounds", kernel, f"out of bounds: {how} of {size} byte{'' if size == '1' else 's'}, {where}", "out-of-bounds",
-                      "" if number == "1" else f"{number} times", accesses=[Access(how, who, place, texts.line(place))], maps=maps)
+                      "" if number == "1" else f"{number} times", accesses=[Access(how, who).stand(place, texts)], maps=maps)
     for line in info["out-of-bounds-not-recorded"]:
         number, _, place = line.partition(" ")
         if number != "0":
             yield Finding("out-of-bounds", kernel, f"out of bounds: {number} access{'' if number == '1' else 'es'}", "out-of-bounds",
-                          accesses=[Access("access", "some item", place, texts.line(place))])
+                          accesses=[Access("access", "some item").stand(place, texts)])

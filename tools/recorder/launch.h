@@ -6,6 +6,7 @@
 #include "window.h"
 
 #include <array>
+#include <deque>
 #include <map>
 #include <unordered_map>
 #include <utility>
@@ -34,6 +35,12 @@ struct Record {
     bool releases() const { return order == GPURACE_RELEASE || order == GPURACE_BOTH; }
 };
 
+// An asynchronous copy that was begun: where it reads first, and how many elements it has.
+struct Copy {
+    uint64_t source, elements;
+    uint32_t place;
+};
+
 struct Group {
     uint32_t number = 0, items = 0;
     bool is_kept = false;            // it is in the window that is recorded
@@ -43,6 +50,10 @@ struct Group {
     std::vector<uint32_t> releases;  // of each item, its release operations so far
     Record last_barrier{}, scratch{};
     bool has_barrier = false;
+    std::deque<Copy> copies;         // those that are not done
+    uint64_t elements_left = 0;      // of the first of them, where it is under way
+    uint32_t begun_copies = 0;
+    std::vector<uint32_t> copies_of; // of each item, its copies so far
 
     // Keeps a record, and answers where it is: a group that is not kept, or is full, has its last one alone.
     Record &keep(const Record &record) {
@@ -76,15 +87,28 @@ struct Losses {
     uint32_t out_of_bounds_place = 0;
 };
 
+// An instruction, or a debug location, and the place of the call that leads there.
+struct Reached {
+    const void *at;
+    uint32_t call;
+
+    bool operator==(const Reached &other) const { return at == other.at && call == other.call; }
+    struct Hash {
+        size_t operator()(const Reached &it) const { return std::hash<const void *>()(it.at) + 31 * size_t(it.call); }
+    };
+};
+
 struct Launch {
+    static constexpr uint32_t NO_CALL = UINT32_MAX; // in the kernel itself
+
     uint32_t number = 0;
     std::string kernel, source;
     Size global, local, groups;
     Window window;                              // the groups that are recorded
     std::map<uint32_t, Group> group;            // those that have begun, by their numbers in the launch
     std::vector<std::string> places;
-    std::unordered_map<const void *, uint32_t> place_of;  // by instruction
-    std::unordered_map<const void *, uint32_t> site_of;   // by debug location
+    std::unordered_map<Reached, uint32_t, Reached::Hash> place_of; // by instruction
+    std::unordered_map<Reached, uint32_t, Reached::Hash> site_of;  // by debug location
     std::vector<std::vector<Release>> names;
     std::array<std::map<uint32_t, Buffer>, 2> buffers;    // by space, by number
     Losses losses;
