@@ -4,12 +4,12 @@ import os
 import pathlib
 import tempfile
 import unittest
-import unittest.mock
 
 from testing.launches import BUFFERS, PLACES, SIDES, info, put_launch
 
-from gpurace_record import findings
-from gpurace_record.judging import judged
+from gpurace_record.findings import Reader
+from gpurace_record.folders import info_of
+from gpurace_record.judging import judged, replay
 
 INFO = info("sums", 7, 2)
 LOCAL = "nothing orders the two; a barrier with CLK_LOCAL_MEM_FENCE between them would"
@@ -227,10 +227,11 @@ race on global word 16
             slow = pathlib.Path(folder) / "gpurace"
             slow.write_text(f"#!/bin/sh\ncase \"$*\" in *--causes*) exec sleep 100;; esac\nexec '{os.environ['GPURACE']}' \"$@\"\n")
             slow.chmod(0o755)
-            put_launch(pathlib.Path(folder) / "sums", [tile(0)], {})
-            with unittest.mock.patch.object(findings, "MOST_SECONDS", 1):
-                launch = judged(str(slow), str(pathlib.Path(folder) / "sums"))
-        self.assertEqual([(it.words, it.cause, it.message) for it in launch.findings], [(2, "", "the cause was not known after 1 s")])
+            place = pathlib.Path(folder) / "sums"
+            put_launch(place, [tile(0)], {})
+            report = replay(os.environ["GPURACE"], [str(place / "group00.gpurace")])[1]
+            found = Reader(str(slow), str(place), info_of(str(place)), report, most_seconds=1).findings()
+        self.assertEqual([(it.words, it.cause, it.message) for it in found], [(2, "", "the cause was not known after 1 s")])
 
     def test_a_plain_access_beside_atomics(self):
         self.assert_told(["group 0 items 2 launch 7\n0 rmw g 5 dev rlx\n1 r g 5\nend\n"], {}, "found", """\

@@ -143,25 +143,25 @@ def fingerprint_of(kind: str, kernel: str, buffers: List[str], cause: str, texts
     return hashlib.sha256(json.dumps([kind, kernel, buffers, cause, texts]).encode()).hexdigest()[:32]
 
 
-def races_said(program: str, folder: str) -> Tuple[List[Dict[str, Any]], str]:
+def races_said(program: str, folder: str, most_seconds: int) -> Tuple[List[Dict[str, Any]], str]:
     """The kinds of races, and what is wrong with them. Causes that take too long are left out."""
     words = [program, "races", "--json", "--most", str(MOST_KINDS), folder]
     try:
-        ran = subprocess.run([*words, "--causes"], capture_output=True, start_new_session=True, timeout=MOST_SECONDS)
+        ran = subprocess.run([*words, "--causes"], capture_output=True, start_new_session=True, timeout=most_seconds)
     except subprocess.TimeoutExpired:
         ran = subprocess.run(words, capture_output=True, start_new_session=True)
     if ran.returncode != 1:
         return [], ran.stderr.decode(errors="replace").strip()
     kinds = [it for it in map(json.loads, ran.stdout.decode(errors="replace").splitlines()) if it["type"] == "kind"]
     for kind in kinds:
-        kind["race"]["cause"] = kind["race"]["cause"] or {"name": "", "sentence": f"the cause was not known after {MOST_SECONDS} s"}
+        kind["race"]["cause"] = kind["race"]["cause"] or {"name": "", "sentence": f"the cause was not known after {most_seconds} s"}
     return kinds, ""
 
 
 class Reader:
     """What the lines of a launch's report mean."""
 
-    def __init__(self, program: str, folder: str, info: Info, report: List[str]):
+    def __init__(self, program: str, folder: str, info: Info, report: List[str], most_seconds: int = MOST_SECONDS):
         self.kernel = info["kernel"][0] if info["kernel"] else ""
         self.elements = Elements(folder, self.kernel)
         self.shape, self.texts, self.buffers, self.equal = Shape(info), Texts(folder), buffers_of(folder), equal_of(folder)
@@ -171,7 +171,7 @@ class Reader:
         self.looked_at = set(list(dict.fromkeys(group for group, _ in self.divergent))[:MOST_DIVERGENT])
         self.unmatched = [(int(line[1]), int(line[2]), int(line[3]), line[4]) for line in lines if line[0] == "unmatched"]
         has_races = any(line[0] == "race" for line in lines)
-        self.kinds, self.fault = races_said(program, folder) if has_races else ([], "")
+        self.kinds, self.fault = races_said(program, folder, most_seconds) if has_races else ([], "")
         wanted = self.wanted()
         self.groups = groups_of(folder, wanted)
         keys = {f"{group} {item} {index}" for group, item, index, _ in self.unmatched}

@@ -12,7 +12,7 @@ from typing import Dict, List, Optional, Set
 
 from .folders import end_streams
 from .judging import Launch, Reason, judged
-from .pipes import Piped
+from .pipes import Piped, start
 from .report import NEW, Report
 
 PAUSE = 0.02  # seconds between two looks at the folder
@@ -28,8 +28,8 @@ class Judge(threading.Thread):
         self.tests = tests
         self.program, self.folder, self.report, self.is_kept, self.seed = program, folder, report, is_kept, seed
         self.seen: Set[str] = set()
-        self.piped: Dict[str, Piped] = {}
-        self.is_over, self.lock = False, threading.Lock()
+        self.piped: Dict[str, Optional[Piped]] = {}  # None where it can't be judged so
+        self.is_over, self.lock, self.starter = False, threading.Lock(), start
         self.pool = concurrent.futures.ThreadPoolExecutor(jobs)
 
     def run(self) -> None:
@@ -43,7 +43,7 @@ class Judge(threading.Thread):
         while not self.is_over:
             for name in self.having("piped.txt"):
                 if name not in self.piped:
-                    self.piped[name] = Piped(self.program, os.path.join(self.folder, name))
+                    self.piped[name] = self.pipe(name)
             asked = [name for name in os.listdir(self.tests) if name.startswith("asked")]
             if not self.judge_all():
                 time.sleep(PAUSE / 10 if asked else PAUSE)
@@ -54,6 +54,15 @@ class Judge(threading.Thread):
             end_streams(os.path.join(self.folder, name))
         self.judge_all()
         self.pool.shutdown()
+
+    def pipe(self, name: str) -> Optional[Piped]:
+        """Has a launch judged while it is recorded; where no process can be started for it, it is cut, and judged by what stands in files."""
+        try:
+            return Piped(self.program, os.path.join(self.folder, name), self.starter)
+        except OSError as fault:
+            with self.lock:
+                self.report.run_reasons.append(Reason("fault", f"{name} could not be judged while it was recorded, so that records of it are lost: {fault}"))
+            return None
 
     def having(self, file: str) -> List[str]:
         """The folders with this file that are not judged yet."""

@@ -1,11 +1,13 @@
 """Runs a program under a recorder, and says how it ended."""
 from __future__ import annotations
 
+import fcntl
 import os
+import shutil
 import signal
 import subprocess
 import time
-from typing import Dict, List, Optional
+from typing import Callable, Dict, List, Optional, Tuple
 
 from .judging import Reason
 
@@ -87,3 +89,26 @@ def room() -> Optional[str]:
 
 class Missing(Exception):
     """What is needed and not there."""
+
+
+def missing_of(needed: List[Tuple[str, str]]) -> List[str]:
+    """The packages of those commands and files that are not there."""
+    return [package for name, package in needed if not (os.path.exists(name) or shutil.which(name))]
+
+
+def build(name: str, takes: str, folder: str, out: str, parts: List[str], sources: List[str], missing: List[str], say: Callable[[str], None]) -> None:
+    """Has make build parts of a recorder where one is missing or older than the sources; one process at a time."""
+    os.makedirs(out, exist_ok=True)
+    with open(os.path.join(out, "lock"), "w") as lock:
+        fcntl.flock(lock, fcntl.LOCK_EX)
+        paths, newest = [os.path.join(out, part) for part in parts], max(map(os.path.getmtime, sources))
+        if all(os.path.exists(path) and os.path.getmtime(path) >= newest for path in paths):
+            return
+        if missing:
+            raise Missing(f"building {name} needs packages that are missing (Debian: apt-get install {' '.join(missing)})")
+        say(f"building {name}, which takes {takes} the first time")
+        built = subprocess.run(["make", "-s", f"-j{os.cpu_count() or 2}", "-C", folder, f"OUT={out}"], capture_output=True, text=True)
+        if built.returncode != 0:
+            raise Missing(f"{name} could not be built:\n" + built.stderr)
+        for path in paths:
+            os.utime(path)
