@@ -13,6 +13,7 @@ from typing import Dict, List, Optional, Set
 from .folders import end_streams
 from .judging import Launch, Reason, judged
 from .pipes import Piped, start
+from .progress import Progress
 from .report import NEW, Report
 
 PAUSE = 0.02  # seconds between two looks at the folder
@@ -29,6 +30,7 @@ class Judge(threading.Thread):
         self.program, self.folder, self.report, self.is_kept, self.seed = program, folder, report, is_kept, seed
         self.seen: Set[str] = set()
         self.piped: Dict[str, Optional[Piped]] = {}  # None where it can't be judged so
+        self.waiting = 0  # launches that are being judged, or are next
         self.is_over, self.lock, self.starter = False, threading.Lock(), start
         self.pool = concurrent.futures.ThreadPoolExecutor(jobs)
 
@@ -73,7 +75,9 @@ class Judge(threading.Thread):
     def judge_all(self) -> bool:
         """Has the launches judged that have ended; answers whether there was one."""
         ended = self.having("info.txt")
-        self.seen.update(ended)
+        with self.lock:
+            self.seen.update(ended)
+            self.waiting += len(ended)
         list(self.pool.map(self.judge, ended))
         return bool(ended)
 
@@ -82,6 +86,7 @@ class Judge(threading.Thread):
         launch = judged(self.program, path, piped)
         launch.seed = self.seed
         with self.lock:
+            self.waiting -= 1
             self.report.add(launch)
             if launch.label:
                 self.tell_test(launch)
@@ -97,7 +102,15 @@ class Judge(threading.Thread):
         with open(os.path.join(self.tests, "judged"), "a") as out:
             out.write(json.dumps({"label": launch.label, "findings": found}) + "\n")
 
+    def left(self) -> int:
+        """How many launches have ended and are not judged."""
+        return self.waiting + len(self.having("info.txt"))
+
     def finish(self) -> None:
         """The program is over: waits until what is left is judged, the launches that it did not end too."""
         self.is_over = True
+        with Progress(self.left()) as progress:
+            while progress.bar and self.is_alive():
+                progress.left(self.left())
+                self.join(PAUSE * 5)
         self.join()
