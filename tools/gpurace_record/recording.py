@@ -1,13 +1,16 @@
 """Runs a program under a recorder, and says how it ended."""
 from __future__ import annotations
 
+import contextlib
 import fcntl
+import glob
 import os
 import shutil
 import signal
 import subprocess
+import tempfile
 import time
-from typing import Callable, Dict, List, Optional, Tuple
+from typing import Callable, Dict, Iterator, List, Optional, Tuple
 
 from .judging import Reason
 
@@ -27,9 +30,10 @@ def stop(*_: object) -> None:
 class Run:
     """A run of the program: its status, negative where a signal ended it, and what stopped it."""
 
-    def __init__(self, words: List[str], variables: Dict[str, str]):
+    def __init__(self, words: List[str], variables: Dict[str, str], lock: int):
+        """The program keeps the lock of the folder that it writes to."""
         self.stopped_by = ""
-        with subprocess.Popen(words, env=variables) as program:
+        with subprocess.Popen(words, env=variables, pass_fds=[lock]) as program:
             self.status = self.wait(program)
 
     def wait(self, program: subprocess.Popen) -> int:
@@ -85,6 +89,20 @@ def room() -> Optional[str]:
         return None
     sizes = os.statvfs(SHARED_MEMORY)
     return SHARED_MEMORY if sizes.f_bavail * sizes.f_frsize >= LEAST_ROOM else None
+
+
+@contextlib.contextmanager
+def folder_of_run() -> Iterator[Tuple[str, int]]:
+    """A folder for launches, and the lock of it. One that a killed run has left, and whose program has ended, is removed."""
+    for lock in glob.glob(os.path.join(room() or tempfile.gettempdir(), "gpurace-*", "lock")):
+        with contextlib.suppress(OSError), open(lock) as held:  # or it is in use
+            fcntl.flock(held, fcntl.LOCK_EX | fcntl.LOCK_NB)
+            shutil.rmtree(os.path.dirname(lock), ignore_errors=True)
+    with tempfile.TemporaryDirectory(prefix="gpurace-", dir=room()) as folder, open(os.path.join(folder, "new"), "w") as lock_file:
+        with contextlib.suppress(OSError):  # where there are no locks nothing is removed
+            fcntl.flock(lock_file, fcntl.LOCK_EX)
+            os.rename(lock_file.name, os.path.join(folder, "lock"))
+        yield folder, lock_file.fileno()
 
 
 class Missing(Exception):
