@@ -12,6 +12,11 @@ import xml.etree.ElementTree as xml
 from testing.launches import BUFFERS, KERNEL, info, put_launch, put_racy, put_right
 from testing.program import TOP, python_with
 
+from gpurace_record.findings import Finding
+from gpurace_record.judging import Launch
+from gpurace_record.known import Baseline, entry_of
+from gpurace_record.report import Report
+
 VALIDATES = python_with("jsonschema")
 VALIDATE = "import json, jsonschema, sys; jsonschema.validate(json.loads(sys.argv[1]), json.load(open(sys.argv[2])))"
 JUDGE = TOP / "tools" / "gpurace-judge"
@@ -223,6 +228,18 @@ class Known(Outputs):
         put_racy(self.kept, 2, kernel="others")
         self.judge("--baseline", "known.json", "--sarif", "made.sarif", status=1)
         self.assertEqual([it["baselineState"] for it in self.made("made.sarif")["runs"][0]["results"]], ["unchanged", "new"])
+
+    def test_a_cause_that_was_not_known_in_time_is_like_any_other(self):
+        """In the baseline, or in the run: the finding is known, and not gone. Another cause is another finding."""
+        known, race = Finding("race", "sums", "", "no-barrier"), Finding("race", "sums", "", "no-barrier")
+        for causes, state in ((("no-barrier", "no-barrier"), "known"), (("", "no-barrier"), "known"), (("no-barrier", ""), "known"), (("flags", "no-barrier"), "new")):
+            known.cause, race.cause, race.state = *causes, "new"
+            path = self.room / "known.json"
+            path.write_text(json.dumps({"gpurace_baseline": 1, "findings": [entry_of(known)]}))
+            baseline, report, launch = Baseline(str(path), False), Report(tell=lambda line: None), Launch(0, "sums", "")
+            report.filters, launch.findings = [baseline], [race]
+            report.add(launch)
+            self.assertEqual((race.state, baseline.gone(report)), (state, [] if state == "known" else [entry_of(known)]))
 
     def test_a_known_finding_that_is_gone_is_named(self):
         put_racy(self.kept)
