@@ -35,10 +35,44 @@ struct Record {
     bool releases() const { return order == GPURACE_RELEASE || order == GPURACE_BOTH; }
 };
 
-// An asynchronous copy that was begun: where it reads first, and how many elements it has.
-struct Copy {
-    uint64_t source, elements;
-    uint32_t place;
+// The asynchronous copies of a group that were begun and are not done.
+class Copies {
+public:
+    static constexpr uint32_t NONE = UINT32_MAX;
+
+    // Whether an item that comes to a copy is the first one: the n-th copy of each item is the n-th of the group.
+    bool begins(uint16_t item, uint32_t items) {
+        of_item_.resize(items);
+        if (of_item_[item]++ < begun_) return false;
+        begun_++;
+        return true;
+    }
+    void add(uint64_t source, uint64_t elements, uint32_t place) {
+        if (elements > 0) copies_.push_back({source, elements, place});
+    }
+    // Where the copy stands that accesses this address, or NONE. Each is done as a whole, by a read and a write for each element.
+    uint32_t place_at(uint8_t kind, uint64_t address) {
+        if (copies_.empty()) return NONE;
+        if (left_ == 0) {
+            const auto is_it = [&](const Copy &copy) { return copy.source == address; };
+            const auto found = std::find_if(copies_.begin(), copies_.end(), is_it);
+            if (found != copies_.end()) std::rotate(copies_.begin(), found, copies_.end());
+            left_ = copies_.front().elements;
+        }
+        const uint32_t place = copies_.front().place;
+        if (kind == GPURACE_WRITE && --left_ == 0) copies_.pop_front();
+        return place;
+    }
+
+private:
+    struct Copy {
+        uint64_t source, elements; // where it reads first
+        uint32_t place;
+    };
+    std::deque<Copy> copies_;
+    uint64_t left_ = 0;             // elements of the first copy, where it is under way
+    uint32_t begun_ = 0;
+    std::vector<uint32_t> of_item_; // the copies of each item so far
 };
 
 struct Group {
@@ -50,10 +84,7 @@ struct Group {
     std::vector<uint32_t> releases;  // of each item, its release operations so far
     Record last_barrier{}, scratch{};
     bool has_barrier = false;
-    std::deque<Copy> copies;         // those that are not done
-    uint64_t elements_left = 0;      // of the first of them, where it is under way
-    uint32_t begun_copies = 0;
-    std::vector<uint32_t> copies_of; // of each item, its copies so far
+    Copies copies;
 
     // Keeps a record, and answers where it is: a group that is not kept, or is full, has its last one alone.
     Record &keep(const Record &record) {

@@ -1,6 +1,7 @@
 // The plugin: Oclgrind tells it what the work-items of each launch do, it keeps that as records (launch.h), and at the launch's
 // end writes them as a folder of streams (write_launch.cpp). It says that it is not safe for threads, so Oclgrind runs one
 // work-item at a time, and the order in which it tells of accesses is the order in which they take place.
+#include "calls.h"
 #include "launch.h"
 
 #include "oclgrind/Context.h"
@@ -25,27 +26,12 @@ namespace {
 using namespace gpurace;
 using namespace oclgrind;
 
-// What a call in the kernel is to the recorder.
-enum class Call { other, barrier, wait, copy, fence, atomic, explicit_load, explicit_store, explicit_change, explicit_exchange };
-
 constexpr const char CALLED[] = " called at "; // behind a place, and before that of the call that leads there
 
 // An operation of opencl20_atomics.h that an item is in: the kind, order and scope that its arguments name.
 struct Explicit {
     uint8_t kind, order, failure_order, scope;
 };
-
-Call call_of(llvm::StringRef name) {
-    const std::pair<const char *, Call> table[] = {
-        {"gpurace_atomic_load", Call::explicit_load},      {"gpurace_atomic_store", Call::explicit_store},
-        {"gpurace_atomic_compare", Call::explicit_exchange}, {"gpurace_atomic_", Call::explicit_change},
-        {"wait_group_events", Call::wait},                 {"async_work_group", Call::copy},
-        {"mem_fence", Call::fence},                        {"atomic_work_item_fence", Call::fence},
-        {"barrier", Call::barrier},                        {"atom", Call::atomic}};
-    for (const auto &[part, call] : table)
-        if (name.contains(part)) return call;
-    return Call::other;
-}
 
 Size size_of(const Size3 &size) { return {size.x, size.y, size.z}; }
 
@@ -230,7 +216,9 @@ private:
     }
     uint32_t place_of(const llvm::Instruction *instruction, uint32_t call) {
         auto [entry, is_new] = launch_->place_of.emplace(Reached{instruction, call}, uint32_t(launch_->places.size()));
-        if (is_new) launch_->places.push_back(text_of(instruction) + (call == Launch::NO_CALL ? "" : CALLED + launch_->places[call]));
+        if (!is_new) return entry->second;
+        const std::string behind = call == Launch::NO_CALL ? "" : CALLED + launch_->places[call];
+        launch_->places.push_back(text_of(instruction) + behind);
         return entry->second;
     }
     uint32_t place_of(const WorkItem *item) { return place_of(item->getCurrentInstruction(), caller_of(item)); }
@@ -244,8 +232,7 @@ private:
         for (const llvm::Instruction *call : Open::of(item->getCallStack())) place = place_of(call, place);
         return place;
     }
-    // FILE:LINE:COLUMN, of what was inlined with its calls; a text never begins with a digit. Oclgrind's name of the program's own text
-    // is input.cl.
+    // FILE:LINE:COLUMN, of what was inlined with its calls; it begins with no digit. The program's own text is input.cl to Oclgrind.
     static std::string text_of(const llvm::Instruction *instruction) {
         if (!instruction) return "unknown";
         std::string text;
@@ -253,7 +240,8 @@ private:
             std::string file = at->getFilename().str();
             if (file == "input.cl") file = "kernel.cl";
             if (file.empty() || std::isdigit(static_cast<unsigned char>(file[0]))) file = "./" + file;
-            text += (text.empty() ? "" : CALLED) + file + ":" + std::to_string(at->getLine()) + ":" + std::to_string(at->getColumn());
+            text += (text.empty() ? "" : CALLED) + file + ":" + std::to_string(at->getLine());
+            text += ":" + std::to_string(at->getColumn());
         }
         return text.empty() ? "function " + instruction->getFunction()->getName().str() : text;
     }
@@ -291,34 +279,17 @@ private:
         if (is_within(memory, place, address, size))
             keep(group_of(item->getWorkGroup()), record_of(memory, place, item_of(item), kind, address, size));
     }
-    // The first item that comes to a copy begins it: the n-th copy of each item is the n-th of the group.
     void begin_copy(const WorkItem *item, const llvm::CallInst *call) {
         Group &group = group_of(item->getWorkGroup());
-        group.copies_of.resize(group.items);
-        if (group.copies_of[item_of(item)]++ < group.begun_copies) return;
-        group.begun_copies++;
-        const uint64_t source = item->getOperand(call->getArgOperand(1)).getPointer();
-        const uint64_t elements = item->getOperand(call->getArgOperand(2)).getUInt();
-        if (elements > 0) group.copies.push_back({source, elements, place_of(item)});
-    }
-    // Where the copy stands that accesses this address. Each is done as a whole, by a load and a store for each element.
-    uint32_t place_of_copy(const WorkGroup *work_group, Group &group, uint8_t kind, uint64_t address) {
-        std::deque<Copy> &copies = group.copies;
-        if (copies.empty()) return place_of(work_group->getCurrentBarrier(), Launch::NO_CALL); // no item came to it
-        if (group.elements_left == 0) {
-            const auto is_it = [&](const Copy &copy) { return copy.source == address; };
-            const auto found = std::find_if(copies.begin(), copies.end(), is_it);
-            std::rotate(copies.begin(), found == copies.end() ? copies.begin() : found, copies.end());
-            group.elements_left = copies.front().elements;
-        }
-        const uint32_t place = copies.front().place;
-        if (kind == GPURACE_WRITE && --group.elements_left == 0) copies.pop_front();
-        return place;
+        const auto operand = [&](unsigned at) { return item->getOperand(call->getArgOperand(at)); };
+        if (group.copies.begins(item_of(item), group.items))
+            group.copies.add(operand(1).getPointer(), operand(2).getUInt(), place_of(item));
     }
     void copy(const Memory *memory, const WorkGroup *work_group, uint8_t kind, size_t address, size_t size) {
         if (!is_traced(memory, size)) return;
         Group &group = group_of(work_group);
-        const uint32_t place = place_of_copy(work_group, group, kind, address);
+        uint32_t place = group.copies.place_at(kind, address);
+        if (place == Copies::NONE) place = place_of(work_group->getCurrentBarrier(), Launch::NO_CALL);
         if (!is_within(memory, place, address, size)) return;
         group.has_copies = true;
         keep(group, record_of(memory, place, uint16_t(group.items), kind, address, size));
@@ -372,8 +343,8 @@ private:
         return {kind, order, failure, uint8_t(is_narrow ? GPURACE_GROUP : GPURACE_DEVICE)};
     }
 
-    // Records an atomic as the load that it is unless a store follows; null where it is out of bounds. The atomics of OpenCL 1.2 are relaxed, of device scope on
-    // global memory and of group scope on local memory.
+    // Records an atomic as the load that it is unless a store follows; null where it is out of bounds. The atomics of OpenCL 1.2
+    // are relaxed, of device scope on global memory and of group scope on local memory.
     Record *atomic_load(const Memory *memory, const WorkItem *item, size_t address, size_t size) {
         Group &group = group_of(item->getWorkGroup());
         const auto given = explicit_.find(item);
