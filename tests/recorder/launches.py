@@ -7,9 +7,10 @@ import unittest
 
 from testing.launches import BUFFERS, PLACES, SIDES, info, put_launch
 
-from gpurace_record.findings import Reader
+from gpurace_record.findings import Finding, Reader, join
 from gpurace_record.folders import info_of
 from gpurace_record.judging import judged, replay
+from gpurace_record.sides import Run
 
 INFO = info("sums", 7, 2)
 LOCAL = "nothing orders the two; a barrier with CLK_LOCAL_MEM_FENCE between them would"
@@ -114,6 +115,12 @@ race on input[0], input[2] (2 words); on input[0]
     a.cl:2:1: read by group 0, item 1
     {GLOBAL}
 """)
+
+    def test_a_word_of_two_kinds_is_one_word(self):
+        """Words 3 to 5 and 5 to 6 of global memory are four; word 5 of a group is another one."""
+        one, other = Finding("race", "sums", "", words=3, runs=[Run(None, 3, 5)]), Finding("race", "sums", "", words=3, runs=[Run(None, 5, 6), Run(0, 5, 5)])
+        join(one, other)
+        self.assertEqual(one.words, 5)
 
     def test_one_place_that_is_called_twice_is_two_stacks(self):
         """Items 0 and 1 write tile[1] by the calls of lines 7 and 6, and tile[6] both by that of line 7, which a function makes."""

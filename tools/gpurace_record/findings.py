@@ -17,7 +17,7 @@ from . import causes
 from .elements import Elements
 from .folders import Info
 from .records import Step, Wanted, groups_of
-from .sides import CALLED, Places, Run, Shape, Texts, buffers_of, equal_of, joined, name_of, parts
+from .sides import CALLED, Places, Run, Shape, Texts, buffers_of, by_group, equal_of, joined, name_of, parts
 
 WHAT = {"load": "atomic load", "store": "atomic store", "rmw": "atomic read-modify-write"}
 ORDERS = {"rlx": "relaxed", "acq": "acquire", "rel": "release", "both": "acquire and release"}
@@ -112,6 +112,7 @@ class Finding:
     cause: str = ""          # its name
     message: str = ""        # a sentence
     words: int = 0           # of a race, how many
+    runs: List[Run] = dataclasses.field(default_factory=list)  # these words, of which several races may have one
     shown: str = ""          # the word that the two accesses race on
     accesses: List[Access] = dataclasses.field(default_factory=list)
     maps: List[Map] = dataclasses.field(default_factory=list)
@@ -156,6 +157,16 @@ def races_said(program: str, folder: str, most_seconds: int) -> Tuple[List[Dict[
     for kind in kinds:
         kind["race"]["cause"] = kind["race"]["cause"] or {"name": "", "sentence": f"the cause was not known after {most_seconds} s"}
     return kinds, ""
+
+
+def runs_of(kind: Dict[str, Any]) -> List[Run]:
+    return [Run(run["first"].get("group"), run["first"]["number"], run["last"]) for run in kind["runs"]]
+
+
+def words_in(runs: List[Run]) -> int:
+    """How many words there are in runs that may overlap."""
+    spans = [joined((run.first, run.last) for run in of_group) for of_group in by_group(runs).values()]
+    return sum(last - first + 1 for of_group in spans for first, last in of_group)
 
 
 class Reader:
@@ -216,8 +227,8 @@ class Reader:
         said, race = kind["kind"], kind["race"]
         group = race["word"].get("group")
         accesses = [self.access(said[key], race[key]) for key in ("first", "second")]
-        runs = [Run(run["first"].get("group"), run["first"]["number"], run["last"]) for run in kind["runs"]]
-        finding = Finding("race", self.kernel, "", race["cause"]["name"], race["cause"]["sentence"], kind["words"], accesses=accesses,
+        runs = runs_of(kind)
+        finding = Finding("race", self.kernel, "", race["cause"]["name"], race["cause"]["sentence"], words_in(runs), runs, accesses=accesses,
                           maps=self.maps(said["space"], runs))
         finding.is_equal = (said["first"], said["second"]) == ("write", "write") and all(
             any(it.first <= run.first and run.last <= it.last for it in self.equal.get(run.group, ())) for run in runs)
@@ -311,7 +322,7 @@ class Reader:
             if group in self.groups:
                 is_cut = group in self.cut and cause == "missing"
                 alike[cause, is_cut, self.came(group, instance)].append((group, instance))
-        following = sum(kind["words"] for kind in self.kinds if kind["race"]["cause"]["name"] == "divergent")
+        following = words_in([run for kind in self.kinds if kind["race"]["cause"]["name"] == "divergent" for run in runs_of(kind)])
         for (cause, is_cut, came), instances in alike.items():
             yield self.divergence(cause, is_cut, came, instances, following)
         if self.divergent and not alike:
@@ -347,7 +358,8 @@ class Reader:
 
 def join(one: Finding, other: Finding) -> None:
     """Puts what another finding of one fingerprint has to the first one."""
-    one.words += other.words
+    one.runs += other.runs
+    one.words = words_in(one.runs)
     one.is_equal = one.is_equal and other.is_equal
     for it in other.maps:
         same = next((mine for mine in one.maps if (mine.buffer, mine.space) == (it.buffer, it.space)), None)
