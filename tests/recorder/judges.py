@@ -62,6 +62,25 @@ class Judges(unittest.TestCase):
         launch = self.end()
         self.assertEqual(([it.title for it in launch.findings], launch.reasons, self.report.run_reasons), (["race on global word 5"], [], []))
 
+    def test_what_fails_is_tried_again(self):
+        """Twice no folder can be looked at."""
+        having, faults = self.judge.having, [OSError(24, "Too many open files")] * 2
+
+        def having_sometimes(file):
+            if faults:
+                raise faults.pop()
+            return having(file)
+
+        self.put()
+        self.pipe.unlink()
+        (self.folder / "piped.txt").unlink()
+        self.judge.having = having_sometimes
+        self.judge.start()
+        self.wait(lambda: not faults)
+        launch = self.end("cut 0\n")
+        self.assertEqual([it.title for it in launch.findings], ["race on global word 5"])
+        self.assertEqual([it.text for it in self.report.run_reasons], ["the judging failed, and was tried again: [Errno 24] Too many open files"])
+
     def test_no_process_can_be_started(self):
         """The pipe goes, so that the recorder does not wait for it; what stands in the file is judged, as cut, and the run is no answer."""
         def fail(*_, **__):

@@ -16,7 +16,8 @@ from .pipes import Piped, start
 from .progress import Progress
 from .report import NEW, Report
 
-PAUSE = 0.02  # seconds between two looks at the folder
+PAUSE = 0.02     # seconds between two looks at the folder
+MOST_FAULTS = 3  # after the program's end
 
 
 class Judge(threading.Thread):
@@ -35,11 +36,20 @@ class Judge(threading.Thread):
         self.pool = concurrent.futures.ThreadPoolExecutor(jobs)
 
     def run(self) -> None:
-        try:
-            self.judge_until_over()
-        except Exception as fault:
-            traceback.print_exc()
-            self.report.run_reasons.append(Reason("fault", f"the judging failed: {fault}"))
+        """What fails is tried again, since the recorder waits for the judge; once the program is over, a few times."""
+        faults: List[str] = []
+        while not self.is_over or len(faults) < MOST_FAULTS:
+            try:
+                self.judge_until_over()
+                break
+            except Exception as fault:
+                if str(fault) not in faults:
+                    if not isinstance(fault, OSError):  # whose message says it all
+                        traceback.print_exc()
+                    self.report.run_reasons.append(Reason("fault", f"the judging failed, and was tried again: {fault}"))
+                faults = [*faults, str(fault)] if self.is_over else [str(fault)]
+                time.sleep(PAUSE)
+        self.pool.shutdown()
 
     def judge_until_over(self) -> None:
         while not self.is_over:
@@ -55,7 +65,6 @@ class Judge(threading.Thread):
         for name in self.having("begun.txt"):
             end_streams(os.path.join(self.folder, name))
         self.judge_all()
-        self.pool.shutdown()
 
     def pipe(self, name: str) -> Optional[Piped]:
         """Has a launch judged while it is recorded; where no process can be started for it, it is cut, and judged by what stands in files."""
