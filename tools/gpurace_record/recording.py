@@ -116,14 +116,24 @@ def missing_of(needed: List[Tuple[str, str]]) -> List[str]:
 
 def build(name: str, takes: str, folder: str, out: str, parts: List[str], sources: List[str], missing: List[str], say: Callable[[str], None]) -> None:
     """Has make build parts of a recorder where one is missing or older than the sources; one process at a time."""
-    os.makedirs(out, exist_ok=True)
-    with open(os.path.join(out, "lock"), "w") as lock:
+    paths, newest = [os.path.join(out, part) for part in parts], max(map(os.path.getmtime, sources))
+
+    def is_built() -> bool:
+        return all(os.path.exists(path) and os.path.getmtime(path) >= newest for path in paths)
+
+    if is_built():
+        return
+    if missing:
+        raise Missing(f"building {name} needs packages that are missing (Debian: apt-get install {' '.join(missing)})")
+    try:
+        os.makedirs(out, exist_ok=True)
+        lock = open(os.path.join(out, "lock"), "w")
+    except OSError as error:
+        raise Missing(f"{name} could not be built: {error.filename}: {error.strerror}") from None
+    with lock:
         fcntl.flock(lock, fcntl.LOCK_EX)
-        paths, newest = [os.path.join(out, part) for part in parts], max(map(os.path.getmtime, sources))
-        if all(os.path.exists(path) and os.path.getmtime(path) >= newest for path in paths):
+        if is_built():  # by who had the lock before
             return
-        if missing:
-            raise Missing(f"building {name} needs packages that are missing (Debian: apt-get install {' '.join(missing)})")
         say(f"building {name}, which takes {takes} the first time")
         built = subprocess.run(["make", "-s", f"-j{os.cpu_count() or 2}", "-C", folder, f"OUT={out}"], capture_output=True, text=True)
         if built.returncode != 0:
