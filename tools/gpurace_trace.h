@@ -30,9 +30,10 @@
 
 /*
  * The version of this header. Version 1 was the set of functions gpurace_encode_.., which did not check their arguments; version 2
- * wrote streams of version 1, whose records have room for one name, version 3 those of versions 1 and 2, and version 4 no sites.
+ * wrote streams of version 1, whose records have room for one name, version 3 those of versions 1 and 2, version 4 no sites, and version 5
+ * did not count the records of each item.
  */
-#define GPURACE_TRACE_VERSION 5
+#define GPURACE_TRACE_VERSION 6
 
 #include <limits.h>
 #include <stdint.h>
@@ -110,12 +111,15 @@ struct gpurace_name {
     uint64_t group, item, release;
 };
 
-/* The stream of one group. Its fields are to be read alone: `records` counts what was written, `releases` those of each item. */
+/*
+ * The stream of one group. Its fields are to be read alone: `records` counts what was written, `records_of` the records of each item, and
+ * `releases` its releases. The last record of an item has the number `records_of[item] - 1` in the file `places`.
+ */
 struct gpurace_stream {
     gpurace_write *write;
     void *context;
     uint32_t group, items, records, names_of_record, site;
-    uint32_t releases[GPURACE_MOST_WIDE_ITEMS];
+    uint32_t releases[GPURACE_MOST_WIDE_ITEMS], records_of[GPURACE_MOST_WIDE_ITEMS];
     unsigned char is_open, is_broken, lost, is_wide;
 };
 
@@ -248,6 +252,8 @@ static inline enum gpurace_status gpurace_put_record(struct gpurace_stream *stre
         gpurace_put(bytes + 16 + 8 * at, names[at]->release, 4);
     }
     stream->records++;
+    if (access->kind != GPURACE_END)
+        stream->records_of[access->item]++;
     return gpurace_send(stream, bytes, 12 + 8 * (size_t)stream->names_of_record);
 }
 

@@ -223,7 +223,26 @@ static void fails_with_the_writer(void) {
     expect_number("bytes of a broken stream", sink.length, GPURACE_HEADER_BYTES + GPURACE_RECORD_BYTES);
 }
 
+/* The records of each item are counted: all that an acquire is, its barriers too, and nothing that is refused; an end is of no item. */
+static void counts_records_of_items(void) {
+    struct sink sink = {0, 1000, {0}};
+    struct gpurace_stream stream;
+    const struct gpurace_name names[] = {{0, 0, 0}, {0, 0, 1}, {0, 0, 2}, {0, 0, 3}, {0, 0, 4}};
+    gpurace_stream_open(&stream, put, &sink, 0, 2, 7);
+    gpurace_plain(&stream, 1, GPURACE_WRITE, GPURACE_GLOBAL, 4);
+    gpurace_plain(&stream, 1, GPURACE_READ, GPURACE_GLOBAL, past_32_bits);
+    gpurace_barrier(&stream, 1, 0, GPURACE_LOCAL_FENCE);
+    expect_number("records of an item", stream.records_of[1], 2);
+    gpurace_acquire(&stream, 1, GPURACE_LOAD, GPURACE_GLOBAL, GPURACE_DEVICE, 4, names, 5);
+    expect_number("records of an item with an acquire of two", stream.records_of[1], 4);
+    gpurace_release(&stream, 0, GPURACE_STORE, GPURACE_GLOBAL, GPURACE_DEVICE, 4, NULL);
+    gpurace_stream_close(&stream, 0);
+    expect_number("records of the other item", stream.records_of[0], 1);
+    expect_number("records of both and the end", stream.records, 6);
+}
+
 int main(void) {
+    counts_records_of_items();
     refuses_headers();
     refuses_wide_headers(GPURACE_VERSION_3, '3');
     refuses_wide_headers(GPURACE_VERSION_4, '4');

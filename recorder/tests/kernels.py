@@ -360,7 +360,7 @@ def cases():
     yield Case("unequal_in_time", [[0]], 1, {0: [5]}, unsaid=same)
     yield Case("equal_atomics", [[0]], 1, {0: [5]}, unsaid=same)
     yield Case("equal_copies", [[0] * 4], 4, {0: [3] * 4}, unsaid=same)
-    yield Case("calls", [zeros], ALL)  # each reads what another one adds to
+    yield Case("calls", [zeros], ALL, say=("called at kernel.cl:", ": kernel void calls("))  # each reads what another one adds to
     yield Case("caller", [zeros], 0, {0: [9] * ALL})
     yield Case("deep", [zeros, 3], 0, {0: [(3 + 5996) * 4] * ALL})
     yield Case("result_pointer", [(1.5,) * ALL, (0.0,) * ALL], ALL // 2)

@@ -2,6 +2,7 @@
 
 import os
 import resource
+import select
 import subprocess
 import threading
 
@@ -69,6 +70,16 @@ class FaultTest(ProgramTest):
             yield words.split(), b"", 0
 
 
+def pipe_without_reader():
+    """The end to write to, once nobody has the other: a process that another thread starts has it for a moment."""
+    reader, writer = os.pipe()
+    os.close(reader)
+    errors = select.poll()
+    errors.register(writer, 0)
+    errors.poll(60_000)
+    return writer
+
+
 class Outputs(FaultTest):
     def test_each_command_writes_to_standard_output_alone(self):
         for words, given, status in self.all_commands():
@@ -85,8 +96,7 @@ class Outputs(FaultTest):
     def test_a_closed_pipe_under_each_command(self):
         for words, given, _ in self.all_commands():
             with self.subTest(words=words):
-                reader, writer = os.pipe()
-                os.close(reader)
+                writer = pipe_without_reader()
                 self.assert_run(self.gpurace(*words, given=given, stdout=writer), None, 5, WRITE_FAULT)
                 os.close(writer)
 

@@ -11,18 +11,13 @@ import time
 import unittest
 
 from testing.launches import put_racy, put_right
-from testing.program import TOP
+from testing.program import TOP, python_with
 
-PYTHON = "/usr/bin/python3"  # a Debian package's
+PYTHON = python_with("distributed") if shutil.which("dask-scheduler") and shutil.which("dask-worker") else None
 LAUNCHES = 16
 
 
-def has_dask():
-    found = shutil.which("dask-scheduler") and shutil.which("dask-worker") and os.path.exists(PYTHON)
-    return bool(found) and subprocess.run([PYTHON, "-c", "import distributed"], stderr=subprocess.DEVNULL, check=False).returncode == 0
-
-
-@unittest.skipUnless(has_dask(), "python3-distributed is missing")
+@unittest.skipUnless(PYTHON, "python3-distributed is missing")
 class Cluster(unittest.TestCase):
     def setUp(self):
         room = tempfile.TemporaryDirectory()

@@ -4,12 +4,13 @@ import os
 import pathlib
 import tempfile
 import unittest
-import unittest.mock
 
 from testing.launches import BUFFERS, PLACES, SIDES, info, put_launch
 
-from gpurace_record import findings
-from gpurace_record.judging import judged
+from gpurace_record.findings import Finding, Reader, join
+from gpurace_record.folders import info_of
+from gpurace_record.judging import judged, replay
+from gpurace_record.sides import Run
 
 INFO = info("sums", 7, 2)
 LOCAL = "nothing orders the two; a barrier with CLK_LOCAL_MEM_FENCE between them would"
@@ -115,6 +116,54 @@ race on input[0], input[2] (2 words); on input[0]
     {GLOBAL}
 """)
 
+    def test_a_word_of_two_kinds_is_one_word(self):
+        """Words 3 to 5 and 5 to 6 of global memory are four; word 5 of a group is another one."""
+        one, other = Finding("race", "sums", "", words=3, runs=[Run(None, 3, 5)]), Finding("race", "sums", "", words=3, runs=[Run(None, 5, 6), Run(0, 5, 5)])
+        join(one, other)
+        self.assertEqual(one.words, 5)
+
+    def test_one_place_that_is_called_twice_is_two_stacks(self):
+        """Items 0 and 1 write tile[1] by the calls of lines 7 and 6, and tile[6] both by that of line 7, which a function makes."""
+        text = ("void put(local int *tile, int at, int value) {\n    tile[at] = value;\n}\nkernel void sums(global int *input, global int *output) {\n"
+                "    local int tile[16];\n    put(tile, l, 1);\n    put(tile, l + 1, 2);\n}\n")
+        first, second = ("kernel.cl:2:14 called at kernel.cl:6:5", "kernel.cl:2:14 called at kernel.cl:7:5")
+        streams = ["group 0 items 2 launch 7\n0 w l 65\n1 w l 65\n0 w l 70\n1 w l 70\nend\n"]
+        places = f"0 0 0 {second}\n0 1 0 {first}\n0 0 1 {second} called at other.cl:9:1\n0 1 1 {second}\n"
+        self.assert_told(streams, {"buffers": BUFFERS, "kernel.cl": text, "places": places}, "found", f"""\
+race on tile[1] of group 0
+    kernel.cl:2:14: write by group 0, item 0
+        tile[at] = value;
+        called at kernel.cl:7:5: put(tile, l + 1, 2);
+    kernel.cl:2:14: write by group 0, item 1
+        tile[at] = value;
+        called at kernel.cl:6:5: put(tile, l, 1);
+    {LOCAL}
+race on tile[6] of group 0
+    kernel.cl:2:14: write by group 0, item 0
+        tile[at] = value;
+        called at kernel.cl:7:5: put(tile, l + 1, 2);
+        called at other.cl:9:1
+    kernel.cl:2:14: write by group 0, item 1
+        tile[at] = value;
+        called at kernel.cl:7:5: put(tile, l + 1, 2);
+    {LOCAL}
+""")
+
+    def test_a_barrier_that_is_called_twice(self):
+        """Items 0 and 1 come to the barrier of line 2 by two calls."""
+        text = "void meet() {\n    barrier(CLK_LOCAL_MEM_FENCE);\n}\nkernel void sums() {\n    if (l) meet();\n    else meet();\n}\n"
+        places = "1 kernel.cl:2:5 called at kernel.cl:5:12\n2 kernel.cl:2:5 called at kernel.cl:6:10\n"
+        self.assert_told(["group 0 items 2 launch 7\n1 bar 1 l\n0 bar 2 l\nend\n"], {"info.txt": INFO, "kernel.cl": text, "places": places}, "found", """\
+divergent barrier, number 0 of group 0
+    kernel.cl:2:5: item 0
+        barrier(CLK_LOCAL_MEM_FENCE);
+        called at kernel.cl:6:10: else meet();
+    kernel.cl:2:5: item 1
+        barrier(CLK_LOCAL_MEM_FENCE);
+        called at kernel.cl:5:12: if (l) meet();
+    the work-items are at different barriers
+""")
+
     def test_two_pairs_of_places(self):
         """Words 0 and 4 race at the same two places, and word 2 at others."""
         streams = ["group 0 items 4 launch 7\n0 w g 0\n1 r g 0\n0 w g 2\n1 r g 2\n0 w g 4\n1 r g 4\nend\n"]
@@ -185,10 +234,11 @@ race on global word 16
             slow = pathlib.Path(folder) / "gpurace"
             slow.write_text(f"#!/bin/sh\ncase \"$*\" in *--causes*) exec sleep 100;; esac\nexec '{os.environ['GPURACE']}' \"$@\"\n")
             slow.chmod(0o755)
-            put_launch(pathlib.Path(folder) / "sums", [tile(0)], {})
-            with unittest.mock.patch.object(findings, "MOST_SECONDS", 1):
-                launch = judged(str(slow), str(pathlib.Path(folder) / "sums"))
-        self.assertEqual([(it.words, it.cause, it.message) for it in launch.findings], [(2, "", "the cause was not known after 1 s")])
+            place = pathlib.Path(folder) / "sums"
+            put_launch(place, [tile(0)], {})
+            report = replay(os.environ["GPURACE"], [str(place / "group00.gpurace")])[1]
+            found = Reader(str(slow), str(place), info_of(str(place)), report, most_seconds=1).findings()
+        self.assertEqual([(it.words, it.cause, it.message) for it in found], [(2, "", "the cause was not known after 1 s")])
 
     def test_a_plain_access_beside_atomics(self):
         self.assert_told(["group 0 items 2 launch 7\n0 rmw g 5 dev rlx\n1 r g 5\nend\n"], {}, "found", """\

@@ -10,13 +10,15 @@ import unittest
 import xml.etree.ElementTree as xml
 
 from testing.launches import BUFFERS, KERNEL, info, put_launch, put_racy, put_right
-from testing.program import TOP
+from testing.program import TOP, python_with
 
-try:
-    import jsonschema
-except ImportError:
-    jsonschema = None
+from gpurace_record.findings import Finding
+from gpurace_record.judging import Launch
+from gpurace_record.known import Baseline, entry_of
+from gpurace_record.report import Report
 
+VALIDATES = python_with("jsonschema")
+VALIDATE = "import json, jsonschema, sys; jsonschema.validate(json.loads(sys.argv[1]), json.load(open(sys.argv[2])))"
 JUDGE = TOP / "tools" / "gpurace-judge"
 
 
@@ -39,9 +41,10 @@ class Outputs(unittest.TestCase):
         return json.loads((self.room / name).read_text())
 
     def assert_valid(self, made, schema):
-        if not jsonschema:
+        if not VALIDATES:
             self.skipTest("python3-jsonschema is missing")
-        jsonschema.validate(made, json.loads(schema.read_text()))
+        ran = subprocess.run([VALIDATES, "-c", VALIDATE, json.dumps(made), str(schema)], stderr=subprocess.PIPE, text=True, check=False)
+        self.assertEqual(ran.returncode, 0, ran.stderr)
 
 
 class Statuses(Outputs):
@@ -158,6 +161,23 @@ class Forms(Outputs):
         self.assertEqual([it["contents"]["text"] for it in run["artifacts"]], [KERNEL] * 3)
         self.assert_valid(made, TOP / "tests" / "recorder" / "sarif.schema.json")
 
+    def test_calls_that_lead_to_an_access(self):
+        """The access of line 3 is in a function that line 5 calls: JSON, SARIF and the fingerprint have the call."""
+        put_racy(self.kept)
+        self.judge("--json", "made.json", status=1)
+        plain = self.made("made.json")["findings"][0]
+        places = self.kept / "000-sums" / "places"
+        places.write_text(places.read_text().replace("0 1 0 kernel.cl:3:13", "0 1 0 kernel.cl:3:13 called at kernel.cl:5:9"))
+        self.judge("--json", "made.json", "--sarif", "made.sarif", status=1)
+        finding = self.made("made.json")["findings"][0]
+        self.assertEqual([it["calls"] for it in finding["accesses"]], [[], [{"place": "kernel.cl:5:9", "text": "tile[l] += tile[l + 8];"}]])
+        self.assertEqual([it["place"] for it in finding["accesses"]], ["kernel.cl:5:20", "kernel.cl:3:13"])
+        self.assertNotEqual(finding["fingerprint"], plain["fingerprint"])
+        self.assert_valid(self.made("made.json"), TOP / "docs" / "record.schema.json")
+        stack, = self.made("made.sarif")["runs"][0]["results"][0]["stacks"]
+        self.assertEqual([frame["location"]["physicalLocation"]["region"]["startLine"] for frame in stack["frames"]], [3, 5])
+        self.assert_valid(self.made("made.sarif"), TOP / "tests" / "recorder" / "sarif.schema.json")
+
     def test_junit(self):
         self.put_all()
         self.judge("--junit", "made.xml", status=1)
@@ -208,6 +228,18 @@ class Known(Outputs):
         put_racy(self.kept, 2, kernel="others")
         self.judge("--baseline", "known.json", "--sarif", "made.sarif", status=1)
         self.assertEqual([it["baselineState"] for it in self.made("made.sarif")["runs"][0]["results"]], ["unchanged", "new"])
+
+    def test_a_cause_that_was_not_known_in_time_is_like_any_other(self):
+        """In the baseline, or in the run: the finding is known, and not gone. Another cause is another finding."""
+        known, race = Finding("race", "sums", "", "no-barrier"), Finding("race", "sums", "", "no-barrier")
+        for causes, state in ((("no-barrier", "no-barrier"), "known"), (("", "no-barrier"), "known"), (("no-barrier", ""), "known"), (("flags", "no-barrier"), "new")):
+            known.cause, race.cause, race.state = *causes, "new"
+            path = self.room / "known.json"
+            path.write_text(json.dumps({"gpurace_baseline": 1, "findings": [entry_of(known)]}))
+            baseline, report, launch = Baseline(str(path), False), Report(tell=lambda line: None), Launch(0, "sums", "")
+            report.filters, launch.findings = [baseline], [race]
+            report.add(launch)
+            self.assertEqual((race.state, baseline.gone(report)), (state, [] if state == "known" else [entry_of(known)]))
 
     def test_a_known_finding_that_is_gone_is_named(self):
         put_racy(self.kept)

@@ -5,21 +5,17 @@ import pathlib
 import re
 import shutil
 import subprocess
-import sys
 import tempfile
 import unittest
 
 from testing.launches import KERNEL, SIDES, info, put_launch, put_racy, put_right
-from testing.program import TOP
+from testing.program import TOP, python_with
 
 from gpurace_record import picture
 from gpurace_record.findings import Map, Mark
 
-try:
-    import jinja2
-    import pygments
-except ImportError:
-    jinja2 = pygments = None
+PYTHON = python_with("jinja2", "pygments")
+BROWSER = ["chromium", "--headless=new", "--no-sandbox", "--disable-gpu", "--disable-dev-shm-usage", "--enable-logging=stderr", "--dump-dom"]
 
 TRY = """<script>
 const told = [];
@@ -69,7 +65,7 @@ class Pictures(unittest.TestCase):
         self.assertEqual(picture.words_map(Map("", "global", 0, 1, [(3, 3)])), "")
 
 
-@unittest.skipUnless(jinja2, "python3-jinja2 or python3-pygments is missing")
+@unittest.skipUnless(PYTHON, "python3-jinja2 or python3-pygments is missing")
 class Page(unittest.TestCase):
     def setUp(self):
         room = tempfile.TemporaryDirectory()
@@ -82,7 +78,7 @@ class Page(unittest.TestCase):
         streams = ["group 0 items 2 launch 3\n0 bar 1 l\n0 bar 2 l\n0 w g 128\n1 bar 1 l\n1 w g 128\nend\n"]
         put_launch(kept / "003-another", streams, {**SIDES, "info.txt": info("another", 3), "kernel.cl": "// <b>&amp;\n" + KERNEL,
                                                    "places": "1 kernel.cl:4:1\n2 kernel.cl:5:1\n0 0 2 kernel.cl:4:9\n0 1 1 kernel.cl:6:9\n"})
-        words = [sys.executable, str(TOP / "tools" / "gpurace-judge"), "--html", str(self.room / "page.html"), str(kept)]
+        words = [PYTHON, str(TOP / "tools" / "gpurace-judge"), "--html", str(self.room / "page.html"), str(kept)]
         ran = subprocess.run(words, env={**os.environ, "GPURACE_PROGRAM": os.environ["GPURACE"]}, capture_output=True, timeout=300, check=False)
         self.assertEqual(ran.returncode, 1, ran.stderr)
         self.text = (self.room / "page.html").read_text()
@@ -99,15 +95,20 @@ class Page(unittest.TestCase):
     def test_it_needs_nothing_else(self):
         self.assertEqual(re.findall(r'(?:src|href)="(?!#|data:)|@import|url\((?!data:)', self.text), [])
 
+    def browse(self, page, width):
+        words = [*BROWSER, f"--user-data-dir={self.room}/profile", f"--window-size={width},900", page.as_uri()]
+        return subprocess.run(words, stdout=subprocess.PIPE, stderr=subprocess.PIPE, text=True, timeout=300, check=False)
+
     @unittest.skipUnless(shutil.which("chromium"), "chromium is missing")
     def test_in_a_browser(self):
         """The table sorts by kernel, both ways, and filters by words and by state; nothing is said on the console, at two widths."""
         page = self.room / "tried.html"
+        page.write_text("<p>begun</p>")
+        if "begun" not in self.browse(page, 1280).stdout:
+            self.skipTest("chromium does not run here")
         page.write_text(self.text.replace("</body>", TRY + "</body>"))
         for width in (1280, 500):
-            words = ["chromium", "--headless=new", "--no-sandbox", "--disable-gpu", "--enable-logging=stderr", f"--user-data-dir={self.room}/profile",
-                     f"--window-size={width},900", "--dump-dom", page.as_uri()]
-            ran = subprocess.run(words, stdout=subprocess.PIPE, stderr=subprocess.PIPE, text=True, timeout=300, check=False)
+            ran = self.browse(page, width)
             told = re.search('data-told="([^"]*)"', ran.stdout)
             self.assertTrue(told, ran.stderr[-2000:])
             self.assertEqual(told[1].split(";"), ["1,2,3,4", "3,4,2,1", "1,2,3,4", "1", "2", "fits"])

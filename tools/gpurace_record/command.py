@@ -8,7 +8,6 @@ import shutil
 import signal
 import subprocess
 import sys
-import tempfile
 from typing import Callable, List, NoReturn, Optional
 
 from . import native, outputs, page, recording, simulator
@@ -200,17 +199,17 @@ class Recorder:
         seeds: List[Optional[int]] = [None]
         if self.options.seed or self.options.schedules:
             seeds = [int(self.options.seed or 1) + at for at in range(number)]
-        with tempfile.TemporaryDirectory(prefix="gpurace-", dir=recording.room()) as room:
+        with recording.folder_of_run() as (room, lock):
             for seed in seeds:
                 folder = os.path.abspath(self.options.keep) if self.options.keep else os.path.join(room, "launches")
                 folder = os.path.join(folder, f"seed-{seed}") if number > 1 else folder
                 os.makedirs(folder, exist_ok=True)
-                self.run_once(room, folder, seed)
+                self.run_once(room, folder, seed, lock)
                 if any(reason.name == "stopped" for reason in self.report.run_reasons):
                     break
         self.report.sort()
 
-    def run_once(self, room: str, folder: str, seed: Optional[int]) -> None:
+    def run_once(self, room: str, folder: str, seed: Optional[int], lock: int) -> None:
         options = self.options
         tests = os.path.join(room, "tests")
         os.makedirs(tests, exist_ok=True)
@@ -219,7 +218,7 @@ class Recorder:
             judge.start()
         variables = (simulator.environment(options, folder) if options.simulator else
                      native.environment(self.out, options, folder, seed, is_judged=not options.keep))
-        run = Run(self.command, {**variables, **recording.of_tests(tests, judge is not None)})
+        run = Run(self.command, {**variables, **recording.of_tests(tests, judge is not None)}, lock)
         sys.stdout.flush()
         self.report.run_reasons += run.reasons(options.timeout, options.ignore_program_status)
         if options.simulator and run.stopped_by:

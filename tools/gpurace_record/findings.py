@@ -17,7 +17,7 @@ from . import causes
 from .elements import Elements
 from .folders import Info
 from .records import Step, Wanted, groups_of
-from .sides import Places, Run, Shape, Texts, buffers_of, equal_of, joined, name_of, parts
+from .sides import CALLED, Places, Run, Shape, Texts, buffers_of, by_group, equal_of, joined, name_of, parts
 
 WHAT = {"load": "atomic load", "store": "atomic store", "rmw": "atomic read-modify-write"}
 ORDERS = {"rlx": "relaxed", "acq": "acquire", "rel": "release", "both": "acquire and release"}
@@ -29,6 +29,7 @@ MOST_KINDS = 200     # of races of a launch
 MOST_DIVERGENT = 100  # groups with divergent barriers that are looked at
 MOST_SECONDS = 60    # that looking for causes may take
 MOST_STEPS = 3       # of an item on each side of its access that are kept
+OUT_OF_BOUNDS = re.compile(r"(\d+) (.+?) (read|write|atomic) (\d+) (\d+) (\d+) (.*)")
 OUTSIDE = re.compile(r"(?:.* of |in )(.+?),? which has (?:\d+ bytes?|no memory)")
 
 
@@ -47,12 +48,20 @@ class Mark:
 
 
 @dataclasses.dataclass
+class Call:
+    """A call that leads to a place, and the line of the source."""
+    place: str
+    text: str
+
+
+@dataclasses.dataclass
 class Access:
     """Something that an item did, or several did alike, and where it stands."""
     what: str
     who: str
     place: str = ""
     text: str = ""  # the line of the source
+    calls: List[Call] = dataclasses.field(default_factory=list)  # the innermost one first
     scope: str = ""
     order: str = ""
     group: int = 0
@@ -66,6 +75,18 @@ class Access:
         else:
             yield self.told()
         yield from [f"    {self.text}"] if self.text else []
+        for call in self.calls:
+            yield f"    called at {call.place}" + (f": {call.text}" if call.text else "")
+
+    def stand(self, place: str, texts: Texts) -> Access:
+        """Puts it to a place, which may name the calls that lead there."""
+        self.place, *calls = place.split(CALLED)
+        self.text, self.calls = texts.line(self.place), [Call(call, texts.line(call)) for call in calls]
+        return self
+
+    def where(self) -> str:
+        """The lines of the source; where these are not known the places, and else what is done."""
+        return " < ".join([self.text or self.place or self.what, *(call.text or call.place for call in self.calls)])
 
     def told(self) -> str:
         how = ", ".join(word for word in (ORDERS.get(self.order), SCOPES.get(self.scope)) if word)
@@ -91,6 +112,7 @@ class Finding:
     cause: str = ""          # its name
     message: str = ""        # a sentence
     words: int = 0           # of a race, how many
+    runs: List[Run] = dataclasses.field(default_factory=list)  # these words, of which several races may have one
     shown: str = ""          # the word that the two accesses race on
     accesses: List[Access] = dataclasses.field(default_factory=list)
     maps: List[Map] = dataclasses.field(default_factory=list)
@@ -103,8 +125,7 @@ class Finding:
         return sorted({it.buffer for it in self.maps} - {""})
 
     def texts(self) -> List[str]:
-        """The lines of the source; where these are not known the places, and else what is done."""
-        return sorted({access.text or access.place or access.what for access in self.accesses})
+        return sorted({access.where() for access in self.accesses})
 
     def fingerprint(self) -> str:
         """Survives lines that are added elsewhere: it has the kernel, the buffers, the cause and the lines' texts."""
@@ -123,25 +144,35 @@ def fingerprint_of(kind: str, kernel: str, buffers: List[str], cause: str, texts
     return hashlib.sha256(json.dumps([kind, kernel, buffers, cause, texts]).encode()).hexdigest()[:32]
 
 
-def races_said(program: str, folder: str) -> Tuple[List[Dict[str, Any]], str]:
+def races_said(program: str, folder: str, most_seconds: int) -> Tuple[List[Dict[str, Any]], str]:
     """The kinds of races, and what is wrong with them. Causes that take too long are left out."""
     words = [program, "races", "--json", "--most", str(MOST_KINDS), folder]
     try:
-        ran = subprocess.run([*words, "--causes"], capture_output=True, start_new_session=True, timeout=MOST_SECONDS)
+        ran = subprocess.run([*words, "--causes"], capture_output=True, start_new_session=True, timeout=most_seconds)
     except subprocess.TimeoutExpired:
         ran = subprocess.run(words, capture_output=True, start_new_session=True)
     if ran.returncode != 1:
         return [], ran.stderr.decode(errors="replace").strip()
     kinds = [it for it in map(json.loads, ran.stdout.decode(errors="replace").splitlines()) if it["type"] == "kind"]
     for kind in kinds:
-        kind["race"]["cause"] = kind["race"]["cause"] or {"name": "", "sentence": f"the cause was not known after {MOST_SECONDS} s"}
+        kind["race"]["cause"] = kind["race"]["cause"] or {"name": "", "sentence": f"the cause was not known after {most_seconds} s"}
     return kinds, ""
+
+
+def runs_of(kind: Dict[str, Any]) -> List[Run]:
+    return [Run(run["first"].get("group"), run["first"]["number"], run["last"]) for run in kind["runs"]]
+
+
+def words_in(runs: List[Run]) -> int:
+    """How many words there are in runs that may overlap."""
+    spans = [joined((run.first, run.last) for run in of_group) for of_group in by_group(runs).values()]
+    return sum(last - first + 1 for of_group in spans for first, last in of_group)
 
 
 class Reader:
     """What the lines of a launch's report mean."""
 
-    def __init__(self, program: str, folder: str, info: Info, report: List[str]):
+    def __init__(self, program: str, folder: str, info: Info, report: List[str], most_seconds: int = MOST_SECONDS):
         self.kernel = info["kernel"][0] if info["kernel"] else ""
         self.elements = Elements(folder, self.kernel)
         self.shape, self.texts, self.buffers, self.equal = Shape(info), Texts(folder), buffers_of(folder), equal_of(folder)
@@ -151,7 +182,7 @@ class Reader:
         self.looked_at = set(list(dict.fromkeys(group for group, _ in self.divergent))[:MOST_DIVERGENT])
         self.unmatched = [(int(line[1]), int(line[2]), int(line[3]), line[4]) for line in lines if line[0] == "unmatched"]
         has_races = any(line[0] == "race" for line in lines)
-        self.kinds, self.fault = races_said(program, folder) if has_races else ([], "")
+        self.kinds, self.fault = races_said(program, folder, most_seconds) if has_races else ([], "")
         wanted = self.wanted()
         self.groups = groups_of(folder, wanted)
         keys = {f"{group} {item} {index}" for group, item, index, _ in self.unmatched}
@@ -196,8 +227,8 @@ class Reader:
         said, race = kind["kind"], kind["race"]
         group = race["word"].get("group")
         accesses = [self.access(said[key], race[key]) for key in ("first", "second")]
-        runs = [Run(run["first"].get("group"), run["first"]["number"], run["last"]) for run in kind["runs"]]
-        finding = Finding("race", self.kernel, "", race["cause"]["name"], race["cause"]["sentence"], kind["words"], accesses=accesses,
+        runs = runs_of(kind)
+        finding = Finding("race", self.kernel, "", race["cause"]["name"], race["cause"]["sentence"], words_in(runs), runs, accesses=accesses,
                           maps=self.maps(said["space"], runs))
         finding.is_equal = (said["first"], said["second"]) == ("write", "write") and all(
             any(it.first <= run.first and run.last <= it.last for it in self.equal.get(run.group, ())) for run in runs)
@@ -213,8 +244,8 @@ class Reader:
 
     def access(self, what: str, event: Dict[str, Any]) -> Access:
         group, item, index = event["group"], event["item"], event["index"]
-        place = event["place"] or ""
-        access = Access(what, self.shape.who(group, item), place, self.texts.line(place), group=self.shape.group(group), item=item, index=index)
+        access = Access(what, self.shape.who(group, item), group=self.shape.group(group), item=item, index=index)
+        access.stand(event["place"] or "", self.texts)
         if group in self.groups:
             step = self.groups[group].step(item, index)
             access.scope, access.order = step.scope, step.order
@@ -247,8 +278,9 @@ class Reader:
     def mark(self, group: int, item: int, step: Step, is_racing: bool) -> Mark:
         if step.kind != "barrier":
             key = (group, item, step.release) if step.is_release() else ()
-            return Mark(step.kind, self.places.event(group, item, step.at), step.scope, step.order, is_racing=is_racing, key=key, takes=step.names)
-        return Mark("barrier", self.places.site(step.word), instance=self.groups[group].phase(item, step.at), flags=step.space)
+            place = self.places.event(group, item, step.at).split(CALLED)[0]
+            return Mark(step.kind, place, step.scope, step.order, is_racing=is_racing, key=key, takes=step.names)
+        return Mark("barrier", self.places.site(step.word).split(CALLED)[0], instance=self.groups[group].phase(item, step.at), flags=step.space)
 
     def pair(self, said: Dict[str, Any], race: Dict[str, Any], accesses: List[Access]) -> Optional[causes.Pair]:
         """The two accesses with what stands between them; None where their records were not read."""
@@ -290,7 +322,7 @@ class Reader:
             if group in self.groups:
                 is_cut = group in self.cut and cause == "missing"
                 alike[cause, is_cut, self.came(group, instance)].append((group, instance))
-        following = sum(kind["words"] for kind in self.kinds if kind["race"]["cause"]["name"] == "divergent")
+        following = words_in([run for kind in self.kinds if kind["race"]["cause"]["name"] == "divergent" for run in runs_of(kind)])
         for (cause, is_cut, came), instances in alike.items():
             yield self.divergence(cause, is_cut, came, instances, following)
         if self.divergent and not alike:
@@ -312,21 +344,22 @@ class Reader:
         accesses = []
         for place, count, first in came:
             items = f"{count} work-items, the first is {self.shape.item(group, first)}" if count > 1 else self.shape.item(group, first)
-            accesses.append(Access("barrier" if place else "no barrier", items, place, self.texts.line(place)))
+            accesses.append(Access("barrier" if place else "no barrier", items).stand(place, self.texts))
         return Finding("divergence", self.kernel, f"divergent barrier, number {instance} of {who}{more}", cause, message, accesses=accesses,
                        is_doubtful=is_cut)
 
     def unmatched_acquires(self) -> Iterator[Finding]:
         for group, item, index, cause in self.unmatched:
-            place = self.places.event(group, item, index)
-            access = Access("acquire", self.shape.who(group, item), place, self.texts.line(place), group=self.shape.group(group), item=item, index=index)
+            access = Access("acquire", self.shape.who(group, item), group=self.shape.group(group), item=item, index=index)
+            access.stand(self.places.event(group, item, index), self.texts)
             yield Finding("unmatched", self.kernel, f"acquire without its release ({cause})", cause,
                           "the fault is mostly the recorder's; what waits for it is not judged", accesses=[access])
 
 
 def join(one: Finding, other: Finding) -> None:
     """Puts what another finding of one fingerprint has to the first one."""
-    one.words += other.words
+    one.runs += other.runs
+    one.words = words_in(one.runs)
     one.is_equal = one.is_equal and other.is_equal
     for it in other.maps:
         same = next((mine for mine in one.maps if (mine.buffer, mine.space) == (it.buffer, it.space)), None)
@@ -340,15 +373,18 @@ def out_of_bounds(info: Info, folder: str) -> Iterator[Finding]:
     """Accesses out of all buffers, each place once: what it does, and where the first one went."""
     shape, texts, kernel = Shape(info), Texts(folder), (info["kernel"] or [""])[0]
     for line in info["out-of-bounds"]:
-        number, place, how, size, group, item, where = line.split(" ", 6)
+        said = OUT_OF_BOUNDS.fullmatch(line)
+        if not said:
+            raise ValueError(f"info.txt has a line out-of-bounds {line}")
+        number, place, how, size, group, item, where = said.groups()
         by = "asynchronous copy" if int(item) == shape.items else shape.told("item", int(item), shape.local)
         who = f"{shape.told('group', int(group), shape.groups)}, {by}"
         named = OUTSIDE.fullmatch(where)
         maps = [Map(named[1], "", 0, 1, [])] if named else []
         yield Finding("out-of-bounds", kernel, f"out of bounds: {how} of {size} byte{'' if size == '1' else 's'}, {where}", "out-of-bounds",
-                      "" if number == "1" else f"{number} times", accesses=[Access(how, who, place, texts.line(place))], maps=maps)
+                      "" if number == "1" else f"{number} times", accesses=[Access(how, who).stand(place, texts)], maps=maps)
     for line in info["out-of-bounds-not-recorded"]:
         number, _, place = line.partition(" ")
         if number != "0":
             yield Finding("out-of-bounds", kernel, f"out of bounds: {number} access{'' if number == '1' else 'es'}", "out-of-bounds",
-                          accesses=[Access("access", "some item", place, texts.line(place))])
+                          accesses=[Access("access", "some item").stand(place, texts)])

@@ -4,12 +4,12 @@ from __future__ import annotations
 import argparse
 import concurrent.futures
 import os
-import sys
 from typing import Iterator, List
 
 from .command import STATUSES, WRONG_WORDS, Parser, above_zero, add_outputs, conclude, filters_of, find_gpurace, guarded, stop, width
 from .folders import end_streams
 from .judging import Launch, judged
+from .progress import Progress
 from .recording import Missing
 from .report import Report, unrecorded
 from .simulator import TOOLS
@@ -74,40 +74,13 @@ def judge(options: argparse.Namespace) -> int:
     paths = list(dict.fromkeys(os.path.realpath(path) for folder in options.folders for path in launches_below(folder)))
     launches = on_cluster(options.scheduler, program, paths) if options.scheduler else on_this_machine(int(options.jobs), program, paths)
     with Progress(len(paths)) as progress:
-        for launch in launches:
+        for number, launch in enumerate(launches, 1):
             report.add(launch)
-            progress.advance()
+            progress.left(len(paths) - number)
     for folder in options.folders:
         report.unrecorded += unrecorded(folder)
     report.sort()
     return conclude(report, options)
-
-
-class Progress:
-    """How many launches are left, on a terminal: by Rich, where that is there."""
-
-    def __init__(self, most: int):
-        self.left, self.bar = most, None
-        try:
-            from rich.console import Console
-            from rich.progress import Progress as Bar
-            self.bar = Bar(console=Console(stderr=True), transient=True) if sys.stderr.isatty() else None
-        except ImportError:
-            pass
-
-    def __enter__(self) -> Progress:
-        if self.bar:
-            self.bar.start()
-            self.task = self.bar.add_task("judging", total=self.left)
-        return self
-
-    def __exit__(self, *_: object) -> None:
-        if self.bar:
-            self.bar.stop()
-
-    def advance(self) -> None:
-        if self.bar:
-            self.bar.advance(self.task)
 
 
 def main(words: List[str]) -> int:

@@ -12,10 +12,12 @@ from typing import Dict, List, Optional, Set
 
 from .folders import end_streams
 from .judging import Launch, Reason, judged
-from .pipes import Piped
+from .pipes import Piped, start
+from .progress import Progress
 from .report import NEW, Report
 
-PAUSE = 0.02  # seconds between two looks at the folder
+PAUSE = 0.02     # seconds between two looks at the folder
+MOST_FAULTS = 3  # after the program's end
 
 
 class Judge(threading.Thread):
@@ -28,22 +30,32 @@ class Judge(threading.Thread):
         self.tests = tests
         self.program, self.folder, self.report, self.is_kept, self.seed = program, folder, report, is_kept, seed
         self.seen: Set[str] = set()
-        self.piped: Dict[str, Piped] = {}
-        self.is_over, self.lock = False, threading.Lock()
+        self.piped: Dict[str, Optional[Piped]] = {}  # None where it can't be judged so
+        self.waiting = 0  # launches that are being judged, or are next
+        self.is_over, self.lock, self.starter = False, threading.Lock(), start
         self.pool = concurrent.futures.ThreadPoolExecutor(jobs)
 
     def run(self) -> None:
-        try:
-            self.judge_until_over()
-        except Exception as fault:
-            traceback.print_exc()
-            self.report.run_reasons.append(Reason("fault", f"the judging failed: {fault}"))
+        """What fails is tried again, since the recorder waits for the judge; once the program is over, a few times."""
+        faults: List[str] = []
+        while not self.is_over or len(faults) < MOST_FAULTS:
+            try:
+                self.judge_until_over()
+                break
+            except Exception as fault:
+                if str(fault) not in faults:
+                    if not isinstance(fault, OSError):  # whose message says it all
+                        traceback.print_exc()
+                    self.report.run_reasons.append(Reason("fault", f"the judging failed, and was tried again: {fault}"))
+                faults = [*faults, str(fault)] if self.is_over else [str(fault)]
+                time.sleep(PAUSE)
+        self.pool.shutdown()
 
     def judge_until_over(self) -> None:
         while not self.is_over:
             for name in self.having("piped.txt"):
                 if name not in self.piped:
-                    self.piped[name] = Piped(self.program, os.path.join(self.folder, name))
+                    self.piped[name] = self.pipe(name)
             asked = [name for name in os.listdir(self.tests) if name.startswith("asked")]
             if not self.judge_all():
                 time.sleep(PAUSE / 10 if asked else PAUSE)
@@ -53,7 +65,15 @@ class Judge(threading.Thread):
         for name in self.having("begun.txt"):
             end_streams(os.path.join(self.folder, name))
         self.judge_all()
-        self.pool.shutdown()
+
+    def pipe(self, name: str) -> Optional[Piped]:
+        """Has a launch judged while it is recorded; where no process can be started for it, it is cut, and judged by what stands in files."""
+        try:
+            return Piped(self.program, os.path.join(self.folder, name), self.starter)
+        except OSError as fault:
+            with self.lock:
+                self.report.run_reasons.append(Reason("fault", f"{name} could not be judged while it was recorded, so that records of it are lost: {fault}"))
+            return None
 
     def having(self, file: str) -> List[str]:
         """The folders with this file that are not judged yet."""
@@ -64,7 +84,9 @@ class Judge(threading.Thread):
     def judge_all(self) -> bool:
         """Has the launches judged that have ended; answers whether there was one."""
         ended = self.having("info.txt")
-        self.seen.update(ended)
+        with self.lock:
+            self.seen.update(ended)
+            self.waiting += len(ended)
         list(self.pool.map(self.judge, ended))
         return bool(ended)
 
@@ -73,6 +95,7 @@ class Judge(threading.Thread):
         launch = judged(self.program, path, piped)
         launch.seed = self.seed
         with self.lock:
+            self.waiting -= 1
             self.report.add(launch)
             if launch.label:
                 self.tell_test(launch)
@@ -88,7 +111,15 @@ class Judge(threading.Thread):
         with open(os.path.join(self.tests, "judged"), "a") as out:
             out.write(json.dumps({"label": launch.label, "findings": found}) + "\n")
 
+    def left(self) -> int:
+        """How many launches have ended and are not judged."""
+        return self.waiting + len(self.having("info.txt"))
+
     def finish(self) -> None:
         """The program is over: waits until what is left is judged, the launches that it did not end too."""
         self.is_over = True
+        with Progress(self.left()) as progress:
+            while progress.bar and self.is_alive():
+                progress.left(self.left())
+                self.join(PAUSE * 5)
         self.join()

@@ -20,8 +20,17 @@ class Wrong(Exception):
     """A file that is not as it should be, or not there."""
 
 
+def entry_of(finding: Finding) -> Dict[str, Any]:
+    return {"kind": finding.kind, "kernel": finding.kernel, "buffers": finding.buffers(), "cause": finding.cause, "texts": finding.texts()}
+
+
+def is_alike(one: Dict[str, Any], other: Dict[str, Any]) -> bool:
+    return all(one[key] == other[key] or (key == "cause" and not (one[key] and other[key])) for key in KEYS)
+
+
 class Baseline(Filter):
-    """The findings that a file has are known: by kernel, buffers, cause and the text of their lines."""
+    """The findings that a file has are known: by kernel, buffers, cause and the text of their lines. A cause that was not known in time is like
+    any other."""
 
     def __init__(self, path: str, is_updated: bool):
         self.path, self.is_updated = path, is_updated
@@ -42,14 +51,15 @@ class Baseline(Filter):
             raise Wrong(f"{self.path} is no baseline of version {VERSION}") from None
 
     def see(self, finding: Finding) -> None:
-        if self.is_updated or finding.fingerprint() in self.known:
+        it = entry_of(finding)
+        if self.is_updated or finding.fingerprint() in self.known or any(is_alike(it, other) for other in self.known.values()):
             finding.state = "known"
 
     def gone(self, report: Report) -> List[Dict[str, Any]]:
         """Known findings that no launch has, of kernels all of whose launches were judged whole."""
-        seen, launched = set(report.entries()), {launch.kernel for launch in report.launches}
-        launched -= {launch.kernel for launch in report.launches if launch.reasons}
-        return [it for mark, it in self.known.items() if mark not in seen and it["kernel"] in launched]
+        launched = {launch.kernel for launch in report.launches} - {launch.kernel for launch in report.launches if launch.reasons}
+        found = [entry_of(entry.finding) for entry in report.entries().values()]
+        return [it for it in self.known.values() if it["kernel"] in launched and not any(is_alike(it, other) for other in found)]
 
     def told(self, report: Report) -> Iterator[str]:
         known = [entry for entry in report.entries().values() if entry.state == "known"]
@@ -60,10 +70,9 @@ class Baseline(Filter):
 
     def write(self, report: Report) -> None:
         """What is known now: the findings of this run, and those of kernels that it did not judge whole."""
-        found = [{"kind": it.kind, "kernel": it.kernel, "buffers": it.buffers(), "cause": it.cause, "texts": it.texts()}
-                 for it in (entry.finding for entry in report.entries().values() if entry.state == "known")]
+        found = [entry_of(entry.finding) for entry in report.entries().values() if entry.state == "known"]
         gone = self.gone(report)
-        found += [{key: it[key] for key in KEYS} for it in self.known.values() if it not in gone and it not in found]
+        found += [{key: it[key] for key in KEYS} for it in self.known.values() if it not in gone and not any(is_alike(it, other) for other in found)]
         lines = sorted(json.dumps(it, ensure_ascii=False) for it in found)
         with open(self.path, "w", encoding="utf-8") as out:
             out.write(f'{{"gpurace_baseline": {VERSION}, "findings": [\n' + ",\n".join(lines) + "\n]}\n")

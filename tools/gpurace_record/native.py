@@ -3,14 +3,14 @@ from __future__ import annotations
 
 import argparse
 import os
-import shutil
 import subprocess
 import sys
 import tempfile
 from typing import Callable, Dict, List, Optional
 
 from .folders import info_of
-from .recording import Missing, cache
+from . import recording
+from .recording import Missing, cache, missing_of
 from .report import unrecorded
 
 TOOLS = os.path.dirname(os.path.dirname(os.path.realpath(__file__)))
@@ -22,31 +22,18 @@ SETTINGS = ("kernel", "launch", "groups", "max_group_size", "most_records", "tim
 
 
 def missing_packages() -> List[str]:
-    return [package for needed, package in NEEDED if not (os.path.exists(needed) or shutil.which(needed))]
+    return missing_of(NEEDED)
 
 
 def build(say: Callable[[str], None]) -> str:
     """The folder with the recorder, built where it is missing or older than its sources."""
-    out = os.path.join(RECORDER, "out")
-    if not os.access(RECORDER, os.W_OK):
-        out = os.path.join(cache(), "recorder")
+    out = os.path.join(RECORDER, "out") if os.access(RECORDER, os.W_OK) else os.path.join(cache(), "recorder")
     missing = missing_packages()
-    if missing:
+    if missing:  # programs are compiled with them, too
         raise Missing(f"packages are missing (Debian: apt-get install {' '.join(missing)})")
-    parts = [os.path.join(out, part) for part in ("layer.so", "instrument-kernels")]
-    source = os.path.join(RECORDER, "src")
-    sources = [os.path.join(folder, name) for folder, _, names in os.walk(source) for name in names]
+    sources = [os.path.join(folder, name) for folder, _, names in os.walk(os.path.join(RECORDER, "src")) for name in names]
     sources += [os.path.join(RECORDER, "Makefile"), os.path.join(TOOLS, "recorder", "window.h")]
-    newest = max(map(os.path.getmtime, sources))
-    if all(os.path.exists(part) and os.path.getmtime(part) >= newest for part in parts):
-        return out
-    say("building the recorder, which takes a minute the first time")
-    make = ["make", "-s", f"-j{os.cpu_count() or 2}", "-C", RECORDER, f"OUT={out}"]
-    built = subprocess.run(make, capture_output=True, text=True)
-    if built.returncode != 0:
-        raise Missing("the recorder could not be built:\n" + built.stderr)
-    for part in parts:
-        os.utime(part)
+    recording.build("the recorder", "a minute", RECORDER, out, ["layer.so", "instrument-kernels"], sources, [], say)
     return out
 
 

@@ -6,7 +6,7 @@ import glob
 import os
 import shutil
 import subprocess
-from typing import Any, List, Tuple
+from typing import Any, Callable, List, Tuple
 
 from .folders import JOINED, Info, end_files, streams_of
 
@@ -23,21 +23,37 @@ def start(words: List[str], **more: Any) -> subprocess.Popen:
 class Piped:
     """gpurace reads the streams of a launch while it is recorded: of each group, or of all, a file and then a pipe."""
 
-    def __init__(self, program: str, folder: str):
-        self.folder, streams = folder, streams_of(folder)
+    def __init__(self, program: str, folder: str, starter: Callable[..., subprocess.Popen] = start):
+        """OSError where a process can't be started. The pipes are gone then, so that the recorder takes the records that it has for them as lost."""
+        self.folder = folder
+        self.started: List[subprocess.Popen] = []
+        atexit.register(self.kill)
+        try:
+            self.reads, self.run = self.start(program, starter)
+        except OSError:
+            self.kill()
+            for pipe in self.pipes():
+                os.unlink(pipe)
+            raise
+
+    def start(self, program: str, starter: Callable[..., subprocess.Popen]) -> Tuple[List[subprocess.Popen], subprocess.Popen]:
+        """Starts a process that reads each stream, and the one that judges them."""
+        streams = streams_of(self.folder)
         streams += [pipe[:-5] for pipe in self.pipes() if pipe[:-5] not in streams]
-        self.reads = [start(["cat", *filter(os.path.exists, (stream, stream + ".pipe"))]) for stream in streams]
-        outputs = [read.stdout for read in self.reads if read.stdout]
+        for stream in streams:
+            self.started.append(starter(["cat", *filter(os.path.exists, (stream, stream + ".pipe"))]))
+        reads = list(self.started)
+        outputs = [read.stdout for read in reads if read.stdout]
         files = [output.fileno() for output in outputs]
         words = [program, "run", "--capacity", "65536", "--queues", "4", *(f"/dev/fd/{file}" for file in files)]
-        is_joined = os.path.join(folder, JOINED) in streams
-        self.run = start([program, "replay"], stdin=files[0]) if is_joined else start(words, pass_fds=files)
-        atexit.register(self.kill)
+        is_joined = os.path.join(self.folder, JOINED) in streams
+        self.started.append(starter([program, "replay"], stdin=files[0]) if is_joined else starter(words, pass_fds=files))
         for output in outputs:
             output.close()
+        return reads, self.started[-1]
 
     def kill(self) -> None:
-        for process in (self.run, *self.reads):
+        for process in self.started:
             process.kill()
 
     def pipes(self) -> List[str]:

@@ -1,11 +1,16 @@
 """Runs a program under a recorder, and says how it ended."""
 from __future__ import annotations
 
+import contextlib
+import fcntl
+import glob
 import os
+import shutil
 import signal
 import subprocess
+import tempfile
 import time
-from typing import Dict, List, Optional
+from typing import Callable, Dict, Iterator, List, Optional, Tuple
 
 from .judging import Reason
 
@@ -25,9 +30,10 @@ def stop(*_: object) -> None:
 class Run:
     """A run of the program: its status, negative where a signal ended it, and what stopped it."""
 
-    def __init__(self, words: List[str], variables: Dict[str, str]):
+    def __init__(self, words: List[str], variables: Dict[str, str], lock: int):
+        """The program keeps the lock of the folder that it writes to."""
         self.stopped_by = ""
-        with subprocess.Popen(words, env=variables) as program:
+        with subprocess.Popen(words, env=variables, pass_fds=[lock]) as program:
             self.status = self.wait(program)
 
     def wait(self, program: subprocess.Popen) -> int:
@@ -85,5 +91,52 @@ def room() -> Optional[str]:
     return SHARED_MEMORY if sizes.f_bavail * sizes.f_frsize >= LEAST_ROOM else None
 
 
+@contextlib.contextmanager
+def folder_of_run() -> Iterator[Tuple[str, int]]:
+    """A folder for launches, and the lock of it. One that a killed run has left, and whose program has ended, is removed."""
+    for lock in glob.glob(os.path.join(room() or tempfile.gettempdir(), "gpurace-*", "lock")):
+        with contextlib.suppress(OSError), open(lock) as held:  # or it is in use
+            fcntl.flock(held, fcntl.LOCK_EX | fcntl.LOCK_NB)
+            shutil.rmtree(os.path.dirname(lock), ignore_errors=True)
+    with tempfile.TemporaryDirectory(prefix="gpurace-", dir=room()) as folder, open(os.path.join(folder, "new"), "w") as lock_file:
+        with contextlib.suppress(OSError):  # where there are no locks nothing is removed
+            fcntl.flock(lock_file, fcntl.LOCK_EX)
+            os.rename(lock_file.name, os.path.join(folder, "lock"))
+        yield folder, lock_file.fileno()
+
+
 class Missing(Exception):
     """What is needed and not there."""
+
+
+def missing_of(needed: List[Tuple[str, str]]) -> List[str]:
+    """The packages of those commands and files that are not there."""
+    return [package for name, package in needed if not (os.path.exists(name) or shutil.which(name))]
+
+
+def build(name: str, takes: str, folder: str, out: str, parts: List[str], sources: List[str], missing: List[str], say: Callable[[str], None]) -> None:
+    """Has make build parts of a recorder where one is missing or older than the sources; one process at a time."""
+    paths, newest = [os.path.join(out, part) for part in parts], max(map(os.path.getmtime, sources))
+
+    def is_built() -> bool:
+        return all(os.path.exists(path) and os.path.getmtime(path) >= newest for path in paths)
+
+    if is_built():
+        return
+    if missing:
+        raise Missing(f"building {name} needs packages that are missing (Debian: apt-get install {' '.join(missing)})")
+    try:
+        os.makedirs(out, exist_ok=True)
+        lock = open(os.path.join(out, "lock"), "w")
+    except OSError as error:
+        raise Missing(f"{name} could not be built: {error.filename}: {error.strerror}") from None
+    with lock:
+        fcntl.flock(lock, fcntl.LOCK_EX)
+        if is_built():  # by who had the lock before
+            return
+        say(f"building {name}, which takes {takes} the first time")
+        built = subprocess.run(["make", "-s", f"-j{os.cpu_count() or 2}", "-C", folder, f"OUT={out}"], capture_output=True, text=True)
+        if built.returncode != 0:
+            raise Missing(f"{name} could not be built:\n" + built.stderr)
+        for path in paths:
+            os.utime(path)

@@ -13,6 +13,7 @@ from .records import Group
 
 BUFFER = re.compile(r"(?:g|l (\d+)) (\d+) (\d+) (.+)")
 PLACE = re.compile(r"(.+):(\d+):(\d+)")
+CALLED = " called at "  # behind a place, and before that of each call that leads there, the innermost one first
 MOST_RUNS = 5       # of words of a buffer
 MOST_COLUMNS = 160  # of a line of source
 
@@ -140,7 +141,7 @@ class Texts:
         self.files: Dict[str, List[str]] = {}
 
     def line(self, place: str) -> str:
-        """The line of a place, or nothing."""
+        """The line of a place that is no call's, or nothing."""
         at = PLACE.fullmatch(place)
         if not at:
             return ""

@@ -4,10 +4,10 @@ from __future__ import annotations
 import argparse
 import os
 import shutil
-import subprocess
 from typing import Callable, Dict, List
 
-from .recording import Missing, cache
+from . import recording
+from .recording import Missing, cache, missing_of
 
 TOOLS = os.path.dirname(os.path.dirname(os.path.realpath(__file__)))
 RECORDER = os.path.join(TOOLS, "recorder")
@@ -29,19 +29,10 @@ def find(program: str) -> str:
 def build(say: Callable[[str], None]) -> str:
     """The plugin, built where it is missing or older than its sources."""
     out = os.path.join(RECORDER, "out") if os.access(RECORDER, os.W_OK) else cache()
-    plugin = os.path.join(out, "recorder.so")
-    sources = [os.path.join(RECORDER, name) for name in ("recorder.cpp", "write_launch.cpp", "launch.h", "window.h", "Makefile")]
+    sources = [os.path.join(RECORDER, name) for name in ("recorder.cpp", "write_launch.cpp", "calls.h", "launch.h", "window.h", "Makefile")]
     sources.append(os.path.join(TOOLS, "gpurace_trace.h"))
-    if os.path.exists(plugin) and all(os.path.getmtime(source) <= os.path.getmtime(plugin) for source in sources):
-        return plugin
-    missing = [package for needed, package in NEEDED if not (os.path.exists(needed) or shutil.which(needed))]
-    if missing:
-        raise Missing(f"building the plugin needs packages that are missing (Debian: apt-get install {' '.join(missing)})")
-    say("building the plugin, which takes half a minute the first time")
-    built = subprocess.run(["make", "-s", "-C", RECORDER, f"OUT={out}"], capture_output=True, text=True)
-    if built.returncode != 0:
-        raise Missing("the plugin could not be built:\n" + built.stderr)
-    return plugin
+    recording.build("the plugin", "half a minute", RECORDER, out, ["recorder.so"], sources, missing_of(NEEDED), say)
+    return os.path.join(out, "recorder.so")
 
 
 def words(oclgrind: str, plugin: str, options: argparse.Namespace) -> List[str]:

@@ -121,7 +121,15 @@ expect "windows in disorder" 3 "several in ascending order" -- --groups 96:8,0:8
 expect "a window of it" 2 "(32 groups of 64 work-items, 2080 records)" "groups 96 to 127 of 128" \
     -- --groups 96:32 large.sim
 expect "a copy that is waited for" 0 "copy_tiles: nothing found" -- --build-options -DWAIT=1 copy_tiles.sim
-expect "a copy that is not" 1 "races 16 diverge 0" "write by group 0, asynchronous copy" -- --build-options -DWAIT=0 copy_tiles.sim
+expect "a copy that is not" 1 "races 16 diverge 0" "kernel.cl:6:[0-9]*: write by group 0, asynchronous copy" \
+    "event_t copied = async_work_group_copy(tile, input + first, 8, 0);" -- --build-options -DWAIT=0 copy_tiles.sim
+# two copies of one input under way: the second one writes what is read before it is waited for
+expect "two copies of the same" 1 "races 16 diverge 0" "kernel.cl:8:[0-9]*: write by group 0, asynchronous copy" \
+    "copied = async_work_group_copy(other, input + first, 8, copied);" -- --build-options -DWAIT=2 copy_tiles.sim
+# each item writes its word by a call, and the next one's by a call in a call: item 0 that of item 1
+expect "one place that is called twice" 1 "races 1 diverge 0" "race on tile\[1\] of group 0" "kernel.cl:4:[0-9]*: write by group 0, item 0" \
+    "called at kernel.cl:8:[0-9]*: put(tile, l + 1, 2);" "called at kernel.cl:15:[0-9]*: put_next(tile, l);" \
+    "kernel.cl:4:[0-9]*: write by group 0, item 1" "called at kernel.cl:14:[0-9]*: put(tile, l, 1);" -- calls.sim
 # twelve bytes and shorts lie side by side; the thirteenth of each is written by several
 expect "parts of words" 1 "races 2 diverge 0 unmatched 0 held 0" "race on bytes\[12\]" "write by group 4 (1,1), item 0 (0,0)" \
     "write by group 4 (1,1), item 1 (1,0)" "race on shorts\[12\]" "a release that an acquire takes, at memory_scope_device, would" -- parts.sim

@@ -6,6 +6,7 @@
 #include "window.h"
 
 #include <array>
+#include <deque>
 #include <map>
 #include <unordered_map>
 #include <utility>
@@ -34,6 +35,46 @@ struct Record {
     bool releases() const { return order == GPURACE_RELEASE || order == GPURACE_BOTH; }
 };
 
+// The asynchronous copies of a group that were begun and are not done.
+class Copies {
+public:
+    static constexpr uint32_t NONE = UINT32_MAX;
+
+    // Whether an item that comes to a copy is the first one: the n-th copy of each item is the n-th of the group.
+    bool begins(uint16_t item, uint32_t items) {
+        of_item_.resize(items);
+        if (of_item_[item]++ < begun_) return false;
+        begun_++;
+        return true;
+    }
+    void add(uint64_t source, uint64_t elements, uint32_t place) {
+        if (elements > 0) copies_.push_back({source, elements, place});
+    }
+    // Where the copy stands that accesses this address, or NONE. Each is done as a whole, by a read and a write for each element.
+    uint32_t place_at(uint8_t kind, uint64_t address) {
+        if (copies_.empty()) return NONE;
+        if (left_ == 0) {
+            const auto is_it = [&](const Copy &copy) { return copy.source == address; };
+            const auto found = std::find_if(copies_.begin(), copies_.end(), is_it);
+            if (found != copies_.end()) std::rotate(copies_.begin(), found, copies_.end());
+            left_ = copies_.front().elements;
+        }
+        const uint32_t place = copies_.front().place;
+        if (kind == GPURACE_WRITE && --left_ == 0) copies_.pop_front();
+        return place;
+    }
+
+private:
+    struct Copy {
+        uint64_t source, elements; // where it reads first
+        uint32_t place;
+    };
+    std::deque<Copy> copies_;
+    uint64_t left_ = 0;             // elements of the first copy, where it is under way
+    uint32_t begun_ = 0;
+    std::vector<uint32_t> of_item_; // the copies of each item so far
+};
+
 struct Group {
     uint32_t number = 0, items = 0;
     bool is_kept = false;            // it is in the window that is recorded
@@ -43,6 +84,7 @@ struct Group {
     std::vector<uint32_t> releases;  // of each item, its release operations so far
     Record last_barrier{}, scratch{};
     bool has_barrier = false;
+    Copies copies;
 
     // Keeps a record, and answers where it is: a group that is not kept, or is full, has its last one alone.
     Record &keep(const Record &record) {
@@ -76,15 +118,28 @@ struct Losses {
     uint32_t out_of_bounds_place = 0;
 };
 
+// An instruction, or a debug location, and the place of the call that leads there.
+struct Reached {
+    const void *at;
+    uint32_t call;
+
+    bool operator==(const Reached &other) const { return at == other.at && call == other.call; }
+    struct Hash {
+        size_t operator()(const Reached &it) const { return std::hash<const void *>()(it.at) + 31 * size_t(it.call); }
+    };
+};
+
 struct Launch {
+    static constexpr uint32_t NO_CALL = UINT32_MAX; // in the kernel itself
+
     uint32_t number = 0;
     std::string kernel, source;
     Size global, local, groups;
     Window window;                              // the groups that are recorded
     std::map<uint32_t, Group> group;            // those that have begun, by their numbers in the launch
     std::vector<std::string> places;
-    std::unordered_map<const void *, uint32_t> place_of;  // by instruction
-    std::unordered_map<const void *, uint32_t> site_of;   // by debug location
+    std::unordered_map<Reached, uint32_t, Reached::Hash> place_of; // by instruction
+    std::unordered_map<Reached, uint32_t, Reached::Hash> site_of;  // by debug location
     std::vector<std::vector<Release>> names;
     std::array<std::map<uint32_t, Buffer>, 2> buffers;    // by space, by number
     Losses losses;

@@ -1,6 +1,7 @@
 // The plugin: Oclgrind tells it what the work-items of each launch do, it keeps that as records (launch.h), and at the launch's
 // end writes them as a folder of streams (write_launch.cpp). It says that it is not safe for threads, so Oclgrind runs one
 // work-item at a time, and the order in which it tells of accesses is the order in which they take place.
+#include "calls.h"
 #include "launch.h"
 
 #include "oclgrind/Context.h"
@@ -18,31 +19,19 @@
 
 #include <cctype>
 #include <memory>
+#include <stack>
 
 namespace {
 
 using namespace gpurace;
 using namespace oclgrind;
 
-// What a call in the kernel is to the recorder.
-enum class Call { other, barrier, wait, fence, atomic, explicit_load, explicit_store, explicit_change, explicit_exchange };
+constexpr const char CALLED[] = " called at "; // behind a place, and before that of the call that leads there
 
 // An operation of opencl20_atomics.h that an item is in: the kind, order and scope that its arguments name.
 struct Explicit {
     uint8_t kind, order, failure_order, scope;
 };
-
-Call call_of(llvm::StringRef name) {
-    const std::pair<const char *, Call> table[] = {
-        {"gpurace_atomic_load", Call::explicit_load},      {"gpurace_atomic_store", Call::explicit_store},
-        {"gpurace_atomic_compare", Call::explicit_exchange}, {"gpurace_atomic_", Call::explicit_change},
-        {"wait_group_events", Call::wait},                 {"mem_fence", Call::fence},
-        {"atomic_work_item_fence", Call::fence},           {"barrier", Call::barrier},
-        {"atom", Call::atomic}};
-    for (const auto &[part, call] : table)
-        if (name.contains(part)) return call;
-    return Call::other;
-}
 
 Size size_of(const Size3 &size) { return {size.x, size.y, size.z}; }
 
@@ -121,6 +110,8 @@ public:
         const Call kind = kind_of(call);
         if (item->getState() == WorkItem::BARRIER)
             barrier(item, call, kind);
+        else if (kind == Call::copy)
+            begin_copy(item, call);
         else if (kind == Call::fence)
             launch_->losses.fences++;
         else if (kind >= Call::explicit_load)
@@ -143,8 +134,7 @@ public:
     }
     // An atomic is told of as a load, and as a store behind it where it modifies.
     void memoryAtomicLoad(const Memory *memory, const WorkItem *item, AtomicOp, size_t address, size_t size) override {
-        const bool is_kept = is_recorded(memory, item->getCurrentInstruction(), address, size);
-        changed_ = is_kept ? &atomic_load(memory, item, address, size) : nullptr;
+        changed_ = is_traced(memory, size) ? atomic_load(memory, item, address, size) : nullptr;
     }
     void memoryAtomicStore(const Memory *, const WorkItem *item, AtomicOp, size_t, size_t) override {
         if (changed_) atomic_change(item, *changed_);
@@ -224,27 +214,46 @@ private:
         if (is_new && call->getCalledFunction()) entry->second = call_of(call->getCalledFunction()->getName());
         return entry->second;
     }
-    uint32_t place_of(const llvm::Instruction *instruction) {
-        auto [entry, is_new] = launch_->place_of.emplace(instruction, uint32_t(launch_->places.size()));
-        if (is_new) launch_->places.push_back(text_of(instruction));
+    uint32_t place_of(const llvm::Instruction *instruction, uint32_t call) {
+        auto [entry, is_new] = launch_->place_of.emplace(Reached{instruction, call}, uint32_t(launch_->places.size()));
+        if (!is_new) return entry->second;
+        const std::string behind = call == Launch::NO_CALL ? "" : CALLED + launch_->places[call];
+        launch_->places.push_back(text_of(instruction) + behind);
         return entry->second;
     }
-    // FILE:LINE:COLUMN; a text never begins with a digit. Oclgrind's name of the program's own text is input.cl.
+    uint32_t place_of(const WorkItem *item) { return place_of(item->getCurrentInstruction(), caller_of(item)); }
+    // The place of the call that an item is in.
+    uint32_t caller_of(const WorkItem *item) {
+        using Calls = std::stack<const llvm::Instruction *>;
+        struct Open : Calls {
+            static const container_type &of(const Calls &calls) { return calls.*&Open::c; }
+        };
+        uint32_t place = Launch::NO_CALL;
+        for (const llvm::Instruction *call : Open::of(item->getCallStack())) place = place_of(call, place);
+        return place;
+    }
+    // FILE:LINE:COLUMN, of what was inlined with its calls; it begins with no digit. The program's own text is input.cl to Oclgrind.
     static std::string text_of(const llvm::Instruction *instruction) {
         if (!instruction) return "unknown";
-        const llvm::DILocation *at = instruction->getDebugLoc().get();
-        if (!at) return "function " + instruction->getFunction()->getName().str();
-        std::string file = at->getFilename().str();
-        if (file == "input.cl") file = "kernel.cl";
-        if (file.empty() || std::isdigit(static_cast<unsigned char>(file[0]))) file = "./" + file;
-        return file + ":" + std::to_string(at->getLine()) + ":" + std::to_string(at->getColumn());
+        std::string text;
+        for (const llvm::DILocation *at = instruction->getDebugLoc().get(); at; at = at->getInlinedAt()) {
+            std::string file = at->getFilename().str();
+            if (file == "input.cl") file = "kernel.cl";
+            if (file.empty() || std::isdigit(static_cast<unsigned char>(file[0]))) file = "./" + file;
+            text += (text.empty() ? "" : CALLED) + file + ":" + std::to_string(at->getLine());
+            text += ":" + std::to_string(at->getColumn());
+        }
+        return text.empty() ? "function " + instruction->getFunction()->getName().str() : text;
     }
 
-    // Whether the access is one that is recorded: of global or local memory, within a buffer.
-    bool is_recorded(const Memory *memory, const llvm::Instruction *at, size_t address, size_t size) {
-        if (!launch_ || size == 0 || memory->getAddressSpace() == AddrSpacePrivate) return false;
+    // Whether it is an access of global or local memory.
+    bool is_traced(const Memory *memory, size_t size) const {
+        return launch_ && size > 0 && memory->getAddressSpace() != AddrSpacePrivate;
+    }
+    // Whether an access at this place is within a buffer.
+    bool is_within(const Memory *memory, uint32_t place, size_t address, size_t size) {
         if (memory->isAddressValid(address, size)) return true;
-        if (launch_->losses.out_of_bounds++ == 0) launch_->losses.out_of_bounds_place = place_of(at);
+        if (launch_->losses.out_of_bounds++ == 0) launch_->losses.out_of_bounds_place = place;
         return false;
     }
     static uint8_t space_of(const Memory *memory) {
@@ -253,8 +262,7 @@ private:
     static Sequences::Word word_of(const Group &group, const Record &record) {
         return {record.space == GPURACE_LOCAL ? 1 + uint64_t(group.number) : 0, uint64_t(record.buffer) << 40 | record.offset};
     }
-    Record record_of(const Memory *memory, const llvm::Instruction *at, uint16_t item, uint8_t kind, size_t address,
-                     size_t size) {
+    Record record_of(const Memory *memory, uint32_t place, uint16_t item, uint8_t kind, size_t address, size_t size) {
         const uint8_t space = space_of(memory);
         const auto number = uint32_t(memory->extractBuffer(address));
         const uint64_t offset = memory->extractOffset(address), bits = offset | size;
@@ -262,20 +270,29 @@ private:
         buffer.bytes = memory->getBuffer(address)->size;
         buffer.bits |= bits;
         launch_->losses.accesses_of_parts_of_words += bits % 4 != 0 ? 1 : 0;
-        return {offset, number, place_of(at), uint32_t(size), -1, item, kind, space, 0, 0};
+        return {offset, number, place, uint32_t(size), -1, item, kind, space, 0, 0};
     }
 
     void access(const Memory *memory, const WorkItem *item, uint8_t kind, size_t address, size_t size) {
-        const llvm::Instruction *at = item->getCurrentInstruction();
-        if (is_recorded(memory, at, address, size))
-            keep(group_of(item->getWorkGroup()), record_of(memory, at, item_of(item), kind, address, size));
+        if (!is_traced(memory, size)) return;
+        const uint32_t place = place_of(item);
+        if (is_within(memory, place, address, size))
+            keep(group_of(item->getWorkGroup()), record_of(memory, place, item_of(item), kind, address, size));
+    }
+    void begin_copy(const WorkItem *item, const llvm::CallInst *call) {
+        Group &group = group_of(item->getWorkGroup());
+        const auto operand = [&](unsigned at) { return item->getOperand(call->getArgOperand(at)); };
+        if (group.copies.begins(item_of(item), group.items))
+            group.copies.add(operand(1).getPointer(), operand(2).getUInt(), place_of(item));
     }
     void copy(const Memory *memory, const WorkGroup *work_group, uint8_t kind, size_t address, size_t size) {
-        const llvm::Instruction *at = work_group->getCurrentBarrier();
-        if (!is_recorded(memory, at, address, size)) return;
+        if (!is_traced(memory, size)) return;
         Group &group = group_of(work_group);
+        uint32_t place = group.copies.place_at(kind, address);
+        if (place == Copies::NONE) place = place_of(work_group->getCurrentBarrier(), Launch::NO_CALL);
+        if (!is_within(memory, place, address, size)) return;
         group.has_copies = true;
-        keep(group, record_of(memory, at, uint16_t(group.items), kind, address, size));
+        keep(group, record_of(memory, place, uint16_t(group.items), kind, address, size));
     }
     void keep(Group &group, const Record &record) {
         if (record.kind == GPURACE_WRITE) sequences_.write(word_of(group, record), record.size);
@@ -290,9 +307,10 @@ private:
                     (given & CLK_LOCAL_MEM_FENCE ? GPURACE_LOCAL_FENCE : GPURACE_NO_FENCE);
         }
         const void *location = call->getDebugLoc().get();
-        const auto [site, is_new] = launch_->site_of.emplace(location ? location : call, uint32_t(launch_->site_of.size() + 1));
+        const Reached reached = {location ? location : call, caller_of(item)};
+        const auto [site, is_new] = launch_->site_of.emplace(reached, uint32_t(launch_->site_of.size() + 1));
         Group &group = group_of(item->getWorkGroup());
-        group.last_barrier = {site->second, 0, place_of(call), flags, -1, item_of(item), GPURACE_BARRIER, 0, 0, 0};
+        group.last_barrier = {site->second, 0, place_of(item), flags, -1, item_of(item), GPURACE_BARRIER, 0, 0, 0};
         group.has_barrier = true;
         group.keep(group.last_barrier);
     }
@@ -325,22 +343,23 @@ private:
         return {kind, order, failure, uint8_t(is_narrow ? GPURACE_GROUP : GPURACE_DEVICE)};
     }
 
-    // Records an atomic as the load that it is unless a store follows. The atomics of OpenCL 1.2 are relaxed, of device scope on
-    // global memory and of group scope on local memory.
-    Record &atomic_load(const Memory *memory, const WorkItem *item, size_t address, size_t size) {
+    // Records an atomic as the load that it is unless a store follows; null where it is out of bounds. The atomics of OpenCL 1.2
+    // are relaxed, of device scope on global memory and of group scope on local memory.
+    Record *atomic_load(const Memory *memory, const WorkItem *item, size_t address, size_t size) {
         Group &group = group_of(item->getWorkGroup());
         const auto given = explicit_.find(item);
         const bool is_explicit = given != explicit_.end();
         const bool is_inside = is_explicit && !item->getCallStack().empty();
-        const llvm::Instruction *at = is_inside ? item->getCallStack().top() : item->getCurrentInstruction();
-        Record record = record_of(memory, at, item_of(item), GPURACE_LOAD, address, size);
+        const uint32_t place = is_inside ? caller_of(item) : place_of(item);
+        if (!is_within(memory, place, address, size)) return nullptr;
+        Record record = record_of(memory, place, item_of(item), GPURACE_LOAD, address, size);
         const uint8_t failure = is_explicit ? given->second.failure_order : uint8_t(GPURACE_RELAXED);
         const bool acquires = failure == GPURACE_ACQUIRE || failure == GPURACE_BOTH;
         record.order = acquires ? GPURACE_ACQUIRE : GPURACE_RELAXED;
         record.scope = is_explicit ? given->second.scope : uint8_t(GPURACE_DEVICE);
         if (record.space == GPURACE_LOCAL) record.scope = GPURACE_GROUP;
         if (acquires) name(group, record);
-        return group.keep(record);
+        return &group.keep(record);
     }
     // The atomic has modified its word.
     void atomic_change(const WorkItem *item, Record &record) {

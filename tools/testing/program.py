@@ -5,11 +5,21 @@ import pathlib
 import shutil
 import struct
 import subprocess
+import sys
 import tempfile
 import unittest
 
 TOP = pathlib.Path(__file__).resolve().parent.parent.parent
 SECONDS = 120
+
+
+def python_with(*modules):
+    """A Python that has these modules: that which runs the tests, or that of Debian's packages; None where neither has them."""
+    for python in (sys.executable, "/usr/bin/python3"):
+        words = [python, "-c", "".join(f"import {name}\n" for name in modules)]
+        if os.path.exists(python) and subprocess.run(words, stderr=subprocess.DEVNULL, check=False).returncode == 0:
+            return python
+    return None
 
 
 def pack(text):

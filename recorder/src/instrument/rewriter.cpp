@@ -1,7 +1,7 @@
 // Instruments a kernel: its accesses, atomics and barriers call the runtime. The lines that say what the numbers of
 // sites mean are written meanwhile, in this order for each kernel:
 //   kernel NAME NAMES COPIES ARGUMENTS      NAMES: it has atomics that may acquire; COPIES: it has asynchronous copies
-//   site NUMBER KIND SPACE BYTES ENTRY FILE LINE COLUMN   ENTRY: what it accesses, or -1 where that is not known
+//   site NUMBER KIND SPACE BYTES ENTRY PLACE   ENTRY: what it accesses, or -1 where that is not known
 //   argument NUMBER KIND                    B buffer, C constant buffer, L local memory, I image, S sampler, V value
 //   entry NUMBER ARGUMENT SPACE BYTES GRAIN ATOMIC NAME   a buffer that is an argument, or a variable (ARGUMENT is -1)
 //   note TEXT                               what is not recorded
@@ -60,6 +60,17 @@ char kind_of(const Argument &argument) {
     if (name.startswith("opencl.image")) return 'I';
     if (name.startswith("opencl.sampler")) return 'S';
     return pointer->getAddressSpace() == LOCAL_SPACE ? 'L' : pointer->getAddressSpace() == CONSTANT_SPACE ? 'C' : 'B';
+}
+
+// FILE:LINE:COLUMN, and ` called at FILE:LINE:COLUMN` for each call that leads there, the innermost one first.
+std::string place_of(const DILocation *at) {
+    std::string text;
+    for (; at; at = at->getInlinedAt()) {
+        const std::string file = at->getFilename().empty() ? "kernel.cl" : at->getFilename().str();
+        text += (text.empty() ? "" : " called at ") + file + ":" + std::to_string(at->getLine());
+        text += ":" + std::to_string(at->getColumn());
+    }
+    return text.empty() ? "kernel.cl:0:0" : text;
 }
 
 bool is_used_in(const Function &function, const User &user) {
@@ -231,12 +242,9 @@ private:
     unsigned site(const Instruction &at, SiteKind kind, const Value *pointer, uint64_t bytes) {
         const unsigned space = pointer ? pointer->getType()->getPointerAddressSpace() : unsigned(GLOBAL_SPACE);
         const auto entry = pointer && object_of(pointer) ? entries_.find(object_of(pointer)) : entries_.end();
-        const DILocation *place = at.getDebugLoc().get();
-        const StringRef file = place ? place->getFilename() : "";
         sites_ << "site " << next_site_ << ' ' << kind << ' '
                << (space == LOCAL_SPACE ? LOCAL : space == GENERIC_SPACE ? GENERIC : GLOBAL) << ' ' << bytes << ' '
-               << (entry == entries_.end() ? -1 : entry->second) << ' ' << (file.empty() ? "kernel.cl" : file) << ' '
-               << (place ? place->getLine() : 0) << ' ' << (place ? place->getColumn() : 0) << '\n';
+               << (entry == entries_.end() ? -1 : entry->second) << ' ' << place_of(at.getDebugLoc().get()) << '\n';
         return next_site_++;
     }
 

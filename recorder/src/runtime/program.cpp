@@ -10,7 +10,7 @@ bool read_sites(const std::string &path, Program &program) {
     Kernel *kernel = nullptr;
     for (std::string line; std::getline(in, line);) {
         std::istringstream words(line);
-        std::string word, file, text, column;
+        std::string word;
         uint32_t number;
         words >> word;
         if (word == "kernel") {
@@ -29,8 +29,8 @@ bool read_sites(const std::string &path, Program &program) {
             kernel->entries.push_back(entry);
         } else if (word == "site") {
             Site site;
-            words >> number >> site.kind >> site.space >> site.bytes >> site.entry >> file >> text >> column;
-            site.place = file + ":" + text + ":" + column;
+            words >> number >> site.kind >> site.space >> site.bytes >> site.entry >> std::ws;
+            std::getline(words, site.place);
             program.sites.push_back(site);
         } else if (word == "note") {
             program.notes.push_back(line.substr(5));

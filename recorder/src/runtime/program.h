@@ -14,7 +14,7 @@ struct Site {
     int kind = READ, space = GLOBAL;
     uint32_t bytes = 0;
     int entry = -1;    // of its kernel: the buffer that it accesses, or -1 where the code does not say which
-    std::string place; // FILE:LINE:COLUMN
+    std::string place; // FILE:LINE:COLUMN, and the calls that lead there (instrument/rewriter.cpp)
 };
 
 // A buffer that a kernel knows: a pointer argument, or a variable, whose argument is -1.

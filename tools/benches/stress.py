@@ -1,7 +1,4 @@
-#!/usr/bin/env python3
 """Runs `gpurace run` again and again, and compares what it writes with what `gpurace replay` writes on the same streams.
-
-    tools/run_stress [--runs N] [--seed N] [--program PROGRAM]
 
 Each of N runs (10,000) takes an example of examples, its streams in any order, 1 to 8 workers, 1 to 4 queues,
 a capacity of 1 to 65,536, often 1, and 1, 2 or 4 processors. Then, on 1, 2 and 4 processors each: 64 groups that wait for
@@ -10,7 +7,7 @@ too; a stream that is cut in the middle, as a file and as a pipe; and a folder i
 standard error and status must be those of `replay`, and no run may take more than 60 seconds. Also each allocation of a
 run is refused in turn (tools/refuse_growth.c): the run must tell that memory ran out or a thread could not be started, or
 answer as ever. The same seed gives the same runs. Says at the end how many were made; the status is 1 where one differed or
-hung. Not in the gate. Needs taskset and a C compiler.
+hung. Needs taskset and a C compiler.
 """
 
 import argparse
@@ -25,12 +22,13 @@ import tempfile
 import threading
 import time
 
-TOP = pathlib.Path(__file__).resolve().parent.parent
+from benches.measured import TOP, program
+
 EXAMPLES = TOP / "examples"
 BOUND = 60
 PROCESSORS = (1, 2, 4)
 HEADER_LENGTH = 12
-RECORD_LENGTHS = {b"GRT1": 20, b"GRT2": 44}
+RECORD_LENGTHS = {b"GRT1": 20, b"GRT2": 44, b"GRT3": 20, b"GRT4": 44}
 END = 6
 
 
@@ -227,12 +225,6 @@ def run_cut(stress):
         stress.run("a folder", plan, [first, stress.folder], Answer(5, b"", b"gpurace: read fault\n"))
 
 
-def built():
-    """The program of this tree, which is built where it is missing."""
-    subprocess.run([TOP / "gpurace", "--version"], check=True, stdout=subprocess.DEVNULL)
-    return str(TOP / "crates/gr_cli/out/gr_cli")
-
-
 def refusing(folder):
     """A library that refuses a program one allocation."""
     library = pathlib.Path(folder) / "refuse_growth.so"
@@ -262,14 +254,13 @@ def run_refused(stress):
         print(f"{plan}: {number - 1} allocations refused in turn, {stress.failed} failed", flush=True)
 
 
-def main():
+def main(given):
     parser = argparse.ArgumentParser(description=__doc__, formatter_class=argparse.RawDescriptionHelpFormatter)
     parser.add_argument("--runs", type=int, default=10_000)
     parser.add_argument("--seed", type=int, default=1)
-    parser.add_argument("--program", help="another program than that of this tree")
-    words = parser.parse_args()
+    words = parser.parse_args(given)
     with tempfile.TemporaryDirectory() as folder:
-        stress = Stress(words.program or built(), folder)
+        stress = Stress(program(), folder)
         run_ring(stress)
         run_stalled(stress)
         run_cut(stress)
@@ -277,7 +268,3 @@ def main():
         run_examples(stress, words.runs, random.Random(words.seed))
     print(f"{stress.made} runs, {stress.failed} failed, the longest took {stress.longest:.2f} s")
     return 1 if stress.failed else 0
-
-
-if __name__ == "__main__":
-    sys.exit(main())

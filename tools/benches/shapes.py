@@ -1,13 +1,11 @@
-#!/usr/bin/env python3
-"""Writes a trace for tools/replay_rate.sh: SHAPE RECORDS ITEMS, the bytes on standard output.
+"""Traces whose items do one thing again and again.
 
-SHAPE is `barriers` (items write and read words between barriers), `atomics` (atomic adds on 64 words, and plain reads of
+A shape is `barriers` (items write and read words between barriers), `atomics` (atomic adds on 64 words, and plain reads of
 words that nobody writes), `messages` (each item hands a word to the next by a release and an acquire with a name), or one
 word for all: `writers` (plain writes, a race but for one item), `readers` (plain reads) or `adders` (device atomics).
-Items are in work-groups of at most 256. RECORDS counts the records of all streams, ends included, and is met nearly.
+Items are in work-groups of at most 256. The number of records is that of all streams, ends included, and is met nearly.
 """
 import struct
-import sys
 
 READ, WRITE, LOAD, STORE, RMW, BARRIER, END = range(7)
 GLOBAL = 0
@@ -72,17 +70,10 @@ SHAPES = {
 }
 
 
-def main():
-    if len(sys.argv) != 4 or sys.argv[1] not in SHAPES:
-        sys.exit(__doc__)
-    shape, records, items = sys.argv[1], int(sys.argv[2]), int(sys.argv[3])
-    make = SHAPES[shape]
+def write(out, shape, records, items):
+    """Writes the streams into a file."""
     sizes = groups_of(items)
-    out = sys.stdout.buffer
     for group, size in enumerate(sizes):
         out.write(b"GRT1" + struct.pack("<HHI", group, size, 7))
-        out.writelines(make(group, size, records // len(sizes)))
+        out.writelines(SHAPES[shape](group, size, records // len(sizes)))
         out.write(record(END, 0, 0, 0, 0, 0))
-
-
-main()

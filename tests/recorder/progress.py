@@ -1,0 +1,55 @@
+"""How far the judging is, on a terminal."""
+
+import os
+import pathlib
+import pty
+import subprocess
+import tempfile
+import unittest
+
+from testing.launches import put_right
+from testing.program import TOP, python_with
+
+PYTHON = python_with("rich")
+JUDGE = TOP / "tools" / "gpurace-judge"
+
+
+def read_all(file):
+    """What was written to a terminal, whose end is an error."""
+    told = b""
+    while True:
+        try:
+            part = os.read(file, 1 << 16)
+        except OSError:
+            return told
+        if not part:
+            return told
+        told += part
+
+
+@unittest.skipUnless(PYTHON, "python3-rich is missing")
+class Terminal(unittest.TestCase):
+    def judged(self, *options):
+        """What gpurace-judge writes to a terminal on its standard error, of three launches."""
+        with tempfile.TemporaryDirectory() as room:
+            for number in range(3):
+                put_right(pathlib.Path(room), number)
+            ours, theirs = pty.openpty()
+            environ = {**os.environ, "GPURACE_PROGRAM": os.environ["GPURACE"], "TERM": "xterm"}
+            with subprocess.Popen([PYTHON, *options, str(JUDGE), "--jobs", "1", room], stdout=subprocess.DEVNULL, stderr=theirs, env=environ) as run:
+                os.close(theirs)
+                told = read_all(ours)
+            os.close(ours)
+            self.assertEqual(run.returncode, 0, told)
+            return told.decode()
+
+    def test_a_bar_stands_there_meanwhile(self):
+        told = self.judged()
+        self.assertIn("judging", told)
+        self.assertIn("launch 0, right: nothing found", told)
+
+    def test_without_rich_lines_stand_there(self):
+        """By a Python without packages."""
+        told = self.judged("-S")
+        self.assertNotIn("judging", told)
+        self.assertIn("launch 0, right: nothing found", told)
