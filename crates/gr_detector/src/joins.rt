@@ -4,7 +4,7 @@ ghost use Rattle.std.specs.Prelude.{◌≡◌, ◌↔◌, ◌<◌, ◌++◌, ◌
 ghost use Rattle.gr_model.specs.Reports.{Lists, WordBelow};
 ghost use Rattle.gr_report.specs.Whole.{whole_of};
 ghost use Rattle.gr_shadow.specs.Clashes.{ClockedAccess, IsHitIn};
-ghost use Rattle.gr_sequencer_thread.specs.Feeds.{given_of, intakes_of, works_of};
+ghost use Rattle.gr_sequencer_thread.specs.Feeds.{AreStopped, given_of, intakes_of, works_of};
 ghost use Rattle.gr_detector.specs.Runs.{IsEachOnce, worker_queues};
 ghost use Rattle.gr_detector.specs.Settling.{AreHere, ArePopped, IsHitAmong, pops_of};
 
@@ -79,7 +79,8 @@ pub(crate) fn settle_all<R: Threads, A: Allocator + Copy>(
     workers: Vec<WorkerThread<A>, A>,
     outlets: Vec<Outlet<A>, A>,
 ) -> Result<Vec<Word, A>, Memory>
-    requires { worker_queues workers.items ≡ works_of outlets.items }
+    requires queues { worker_queues workers.items ≡ works_of outlets.items }
+    requires stopped { AreStopped outlets.items }
     ensures { IfOk result (λ words. Lists WordBelow (IsHitAmong (given_of outlets.items)) words.items) }
 {
     let mut words = Ok(Vec::new(alloc));
