@@ -359,6 +359,22 @@ static inline enum gpurace_status gpurace_at(struct gpurace_stream *stream, uint
     return GPURACE_OK;
 }
 
+/* The file `sites` of a launch, and how many lines it has. Begin with {file, 0}; all streams of the launch share it. */
+struct gpurace_sites {
+    FILE *file;
+    uint32_t count;
+};
+
+/*
+ * Writes a place in the source, as `kernel.cl:3:5`, as the next line of the file, and answers its number for gpurace_at: call it once for each
+ * place, and keep the number. 0, which tells no place, where there are as many as records can tell, or the line could not be written.
+ */
+static inline uint32_t gpurace_site(struct gpurace_sites *sites, const char *place) {
+    if (sites->count >= GPURACE_MOST_SITES || fprintf(sites->file, "%s\n", place) < 0)
+        return 0;
+    return ++sites->count;
+}
+
 /* A plain read or write (GPURACE_READ, GPURACE_WRITE) of a word. */
 static inline enum gpurace_status gpurace_plain(struct gpurace_stream *stream, uint64_t item, enum gpurace_kind kind,
                                                 enum gpurace_space space, uint64_t word) {

@@ -241,8 +241,27 @@ static void counts_records_of_items(void) {
     expect_number("records of both and the end", stream.records, 6);
 }
 
+/* Places are lines, numbered from 1, as many as records can tell. */
+static void numbers_sites(void) {
+    struct gpurace_sites sites = {tmpfile(), 0};
+    char text[32] = "";
+    if (!sites.file)
+        return;
+    expect_number("the first place", gpurace_site(&sites, "a.cl:1:1"), 1);
+    expect_number("the second place", gpurace_site(&sites, "a.cl:2:1"), 2);
+    rewind(sites.file);
+    expect_number("bytes of two places", fread(text, 1, sizeof text, sites.file), 18);
+    expect_number("lines of two places", (uint64_t)strcmp(text, "a.cl:1:1\na.cl:2:1\n"), 0);
+    sites.count = GPURACE_MOST_SITES - 1;
+    fseek(sites.file, 0, SEEK_END);
+    expect_number("the last place", gpurace_site(&sites, "a.cl:3:1"), GPURACE_MOST_SITES);
+    expect_number("one place more", gpurace_site(&sites, "a.cl:4:1"), 0);
+    fclose(sites.file);
+}
+
 int main(void) {
     counts_records_of_items();
+    numbers_sites();
     refuses_headers();
     refuses_wide_headers(GPURACE_VERSION_3, '3');
     refuses_wide_headers(GPURACE_VERSION_4, '4');

@@ -228,6 +228,16 @@ race on global word 16
     {HAND_OVER}; the release at f.cl:4:9 and the acquire at f.cl:5:13 do not meet
 """)
 
+    def test_a_hand_over_to_the_item_that_is_told_first(self):
+        """As before, with the groups the other way round."""
+        streams = ["group 0 items 1 launch 7\n0 ld g 20 dev acq\n0 r g 16\nend\n", "group 1 items 1 launch 7\n0 w g 16\n0 st g 20 dev rel\nend\n"]
+        self.assert_told(streams, {"places": "0 0 0 f.cl:5:13\n0 0 1 f.cl:6:9\n1 0 0 f.cl:3:9\n1 0 1 f.cl:4:9\n"}, "found", f"""\
+race on global word 16
+    f.cl:6:9: read by group 0, item 0
+    f.cl:3:9: write by group 1, item 0
+    {HAND_OVER}; the release at f.cl:4:9 and the acquire at f.cl:5:13 do not meet
+""")
+
     def test_causes_that_take_too_long(self):
         """A program that does not answer with causes, and without them as ever."""
         with tempfile.TemporaryDirectory() as folder:

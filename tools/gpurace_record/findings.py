@@ -288,10 +288,16 @@ class Reader:
         if first["group"] not in self.groups or second["group"] not in self.groups:
             return None
         one, other = (causes.At(access.what, access.place, access.scope) for access in accesses)
-        behind = [step for step in self.groups[first["group"]].steps[first["item"]] if step.at > first["index"] and step.is_release()]
-        before = [step for step in self.groups[second["group"]].steps[second["item"]] if step.at < second["index"] and step.is_acquire()]
+        hands = [self.hand_over(first, second), self.hand_over(second, first)]  # the order of the two says nothing of time
+        release, acquire = next((both for both in hands if all(both)), hands[0])
         return causes.Pair(said["space"], said["one_group"], one, other, self.barriers_between(first, second) if said["one_group"] else [],
-                           self.at(first, behind[0]) if behind else None, self.at(second, before[-1]) if before else None)
+                           release, acquire)
+
+    def hand_over(self, one: Dict[str, Any], other: Dict[str, Any]) -> Tuple[Optional[causes.At], Optional[causes.At]]:
+        """The release of an event's item behind it, and the acquire of another event's item before that one, where there are such."""
+        behind = [step for step in self.groups[one["group"]].steps[one["item"]] if step.at > one["index"] and step.is_release()]
+        before = [step for step in self.groups[other["group"]].steps[other["item"]] if step.at < other["index"] and step.is_acquire()]
+        return self.at(one, behind[0]) if behind else None, self.at(other, before[-1]) if before else None
 
     def at(self, event: Dict[str, Any], step: Step) -> causes.At:
         return causes.At(step.kind, self.places.event(event["group"], event["item"], step.at), step.scope)
