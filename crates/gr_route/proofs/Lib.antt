@@ -1,4 +1,3 @@
-pub mod BatchLemmas
 pub mod PrefixLemmas
 pub mod Sizes
 pub mod GroupLemmas

@@ -1,4 +1,3 @@
-pub mod Batches
 pub mod Prefixes
 pub mod IntakeRule
 pub mod IntakeSeats

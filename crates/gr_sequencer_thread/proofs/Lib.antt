@@ -1,4 +1,3 @@
-pub mod OutletLemmas
 pub mod TakeLemmas
 pub mod StepLemmas
 pub mod BeginLemmas

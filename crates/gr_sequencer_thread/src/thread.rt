@@ -43,13 +43,11 @@ fn run<R: Wait + Clock, A: Allocator + Copy, W: Watch>(
         let advanced = feed.advance_all(rt);
         if taken || advanced {
             idle.reset();
-            continue;
-        }
-        if feed.is_over() {
+        } else if feed.is_over() {
             return feed.stop(rt, alloc, shape);
+        } else {
+            idle.wait(rt);
         }
-        feed.flush(rt);
-        idle.wait(rt);
     }
     unreachable!()
 }

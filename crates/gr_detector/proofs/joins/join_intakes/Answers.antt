@@ -81,6 +81,3 @@ join_back-requires g c =
 
 pub next-requires : goal.next-requires
 next-requires g c = tt
-
-pub offset_bounds-inlets-queue : goal.offset_bounds-inlets-queue
-offset_bounds-inlets-queue g c = ?

@@ -54,15 +54,3 @@ loop-group-preserved g c =
             here = queue_at inlets (intakes_of init) n t inv.intakes some ∙ ap Some (ap (λ (u : Taker). u.queue) (sym at) ∙ sym queue);
           }));
     }
-
-pub offset_bounds-inlets-queue : goal.offset_bounds-inlets-queue
-offset_bounds-inlets-queue g c = ?
-
-pub sender-requires-clause-items : goal.sender-requires-clause-items
-sender-requires-clause-items g c = ?
-
-pub sender-requires-clause-first : goal.sender-requires-clause-first
-sender-requires-clause-first g c = ?
-
-pub returns-clause-seated : goal.returns-clause-seated
-returns-clause-seated g c = ?
