@@ -19,11 +19,6 @@ abbrev pub values_in : {T A : Type 0} → Content T A → List T
 values_in (One value) = value ∷ []
 values_in (Several values) = values.items
 
--- what an iterator over values has left, where there is one
-abbrev pub values_left : {T X : Type 0} → (X → List T) → Option X → List T
-values_left items None = []
-values_left items (Some values) = items values
-
 abbrev pub values_waiting : {T A : Type 0} → Option (List T) → Option (Vec T A) → List T
 values_waiting (Some batch) waiting = batch
 values_waiting None None = []

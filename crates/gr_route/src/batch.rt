@@ -4,7 +4,7 @@
 //! hand pushes them together: they wait in an `Outbox`, go through the queue as one `Batch`, and are handed out one by one
 //! of a `Rest`.
 
-ghost use Rattle.std.specs.Prelude.{◌≡◌, [], ◌∷◌, ◌++◌, length, IfErr, IfNone, IfOk, IfSome, OnErr, OnOk};
+ghost use Rattle.std.specs.Prelude.{◌≡◌, List, [], ◌∷◌, ◌++◌, length, IfErr, IfNone, IfOk, IfSome, OnErr, OnOk};
 ghost use Rattle.gr_route.specs.Batches as spec;
 
 use std::alloc::{Allocator, Global};
@@ -71,21 +71,34 @@ impl<T: Drop, A: Allocator> Batch<T, A> {
         }
     }
 
-    /// The first value, and the others.
-    pub fn open(self) -> (T, Rest<T, A>)
-        ensures { self ≡ result.0 ∷ result.1 }
+    /// The first value. The others are let go.
+    pub fn into_first(self) -> T
+        ensures { (others : List T) × (self ≡ result ∷ others) }
     {
         match self.content {
-            Content::One(value) => (value, Rest { values: None }),
+            Content::One(value) => value,
             Content::Several(values) => {
                 let mut values = values.into_iter();
                 match values.next() {
-                    Some(first) => (
-                        first,
-                        Rest {
-                            values: Some(values),
-                        },
-                    ),
+                    Some(first) => first,
+                    None => unreachable!(),
+                }
+            }
+        }
+    }
+
+    /// The first value. The others are what is left.
+    /// Requires: nothing was left.
+    pub fn open(self, rest: &mut Rest<T, A>) -> T
+        requires { rest.old ≡ [] }
+        ensures { self ≡ result ∷ rest.new }
+    {
+        match self.content {
+            Content::One(value) => value,
+            Content::Several(values) => {
+                rest.values = values.into_iter();
+                match rest.values.next() {
+                    Some(first) => first,
                     None => unreachable!(),
                 }
             }
@@ -96,25 +109,26 @@ impl<T: Drop, A: Allocator> Batch<T, A> {
 /// What is left of a batch that was opened. Contracts see the list of it.
 #[derive(Drop)]
 pub struct Rest<T, A: Allocator = Global> {
-    values: Option<IntoIter<T, A>>,
+    values: IntoIter<T, A>,
 }
 
 impl<T, A: Allocator> Model for Rest<T, A> {
     ghost use Rattle.std.specs.Prelude.{List};
     ghost use Rattle.std.specs.Vec.Iter.{into_iter_items};
-    ghost use Rattle.gr_route.specs.Batches as spec;
 
     ghost Value = { List T };
 
-    ghost view = { λ r. spec.values_left into_iter_items r.values };
+    ghost view = { λ r. into_iter_items r.values };
 }
 
 impl<T: Drop, A: Allocator> Rest<T, A> {
     /// Nothing is left.
-    pub fn none() -> Rest<T, A>
+    pub fn none(alloc: A) -> Rest<T, A>
         ensures { result ≡ [] }
     {
-        Rest { values: None }
+        Rest {
+            values: Vec::new(alloc).into_iter(),
+        }
     }
 
     /// The next value, if one is left.
@@ -123,10 +137,7 @@ impl<T: Drop, A: Allocator> Rest<T, A> {
         ensures some { IfSome result (λ value. self.old ≡ value ∷ self.new) }
         ensures none { IfNone result ((self.old ≡ []) × (self.new ≡ [])) }
     {
-        match &mut self.values {
-            None => None,
-            Some(values) => values.next(),
-        }
+        self.values.next()
     }
 }
 

@@ -162,7 +162,7 @@ impl<A: Allocator + Copy> Intake<A> {
     {
         let (queue, pass) = RuledArrayQueue::ruled(alloc, capacity as usize)?;
         let sizes = none_seated(alloc)?;
-        let rest = Rest::none();
+        let rest = Rest::none(alloc);
         Ok((Intake { queue }, TakerSeat { pass, sizes, rest }))
     }
 }
@@ -224,7 +224,7 @@ impl<A: Allocator> Intake<A> {
             .push_as::<PushStep, R>(rt, &mut seat.pass, Batch::one(sent))
         {
             Ok(()) => Ok(()),
-            Err(back) => Err(Full(back.open().0.event)),
+            Err(back) => Err(Full(back.into_first().event)),
         }
     }
 
@@ -274,11 +274,7 @@ impl<A: Allocator> Intake<A> {
         }
         match self.queue.pop_as::<PopStep, R>(rt, &mut taker.pass) {
             None => None,
-            Some(batch) => {
-                let (sent, rest) = batch.open();
-                taker.rest = rest;
-                Some(sent)
-            }
+            Some(batch) => Some(batch.open(&mut taker.rest)),
         }
     }
 

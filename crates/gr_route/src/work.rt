@@ -102,7 +102,7 @@ impl<A: Allocator + Copy> WorkQueue<A> {
         let seat = WorkerSeat {
             pass,
             split: false,
-            rest: Rest::none(),
+            rest: Rest::none(alloc),
         };
         Ok((WorkQueue { queue }, seat))
     }
@@ -155,7 +155,7 @@ impl<A: Allocator> WorkQueue<A> {
             .push_as::<PushStep, R>(rt, &mut giver.pass, Batch::one(work))
         {
             Ok(()) => Ok(()),
-            Err(back) => Err(Full(back.open().0)),
+            Err(back) => Err(Full(back.into_first())),
         }
     }
 
@@ -206,11 +206,7 @@ impl<A: Allocator> WorkQueue<A> {
         }
         match self.queue.pop_as::<PopStep, R>(rt, &mut worker.pass) {
             None => None,
-            Some(batch) => {
-                let (work, rest) = batch.open();
-                worker.rest = rest;
-                Some(work)
-            }
+            Some(batch) => Some(batch.open(&mut worker.rest)),
         }
     }
 

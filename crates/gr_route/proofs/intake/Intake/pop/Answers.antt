@@ -53,8 +53,8 @@ returns-in-None-clause-delivery g c =
 
 pub invariant_of-taker-in-Some-pop_as : goal.invariant_of-taker-in-Some-pop_as
 invariant_of-taker-in-Some-pop_as g c =
-    let h : Hands (known c.taker.inside.pass) (known c.pop_as.new.pass) c.taker.inside.sizes.items c.taker.inside.rest c.open-sent.result.1 c.open-sent.result.0 =
-    hands_popped _ _ _ _ _ _ _ c.taker.invariant.known c.in_default.ensures.none.0 c.open-sent.ensures c.in-Some-pop_as.ensures.rule in
+    let h : Hands (known c.taker.inside.pass) (known c.pop_as.new.pass) c.taker.inside.sizes.items c.taker.inside.rest c.open.new.rest c.open.result =
+    hands_popped _ _ _ _ _ _ _ c.taker.invariant.known c.in_default.ensures.none.0 c.open.ensures c.in-Some-pop_as.ensures.rule in
     record {
       idle = c.pop_as.ensures.queue.2 ∙ c.taker.invariant.idle;
       known = handed_known _ _ _ _ _ _ h;
@@ -65,24 +65,24 @@ invariant_of-taker-in-Some-pop_as g c =
 
 pub returns-in-Some-pop_as-clause-some : goal.returns-in-Some-pop_as-clause-some
 returns-in-Some-pop_as-clause-some g c =
-    let h : Hands (known c.taker.inside.pass) (known c.pop_as.new.pass) c.taker.inside.sizes.items c.taker.inside.rest c.open-sent.result.1 c.open-sent.result.0 =
-    hands_popped _ _ _ _ _ _ _ c.taker.invariant.known c.in_default.ensures.none.0 c.open-sent.ensures c.in-Some-pop_as.ensures.rule in
+    let h : Hands (known c.taker.inside.pass) (known c.pop_as.new.pass) c.taker.inside.sizes.items c.taker.inside.rest c.open.new.rest c.open.result =
+    hands_popped _ _ _ _ _ _ _ c.taker.invariant.known c.in_default.ensures.none.0 c.open.ensures c.in-Some-pop_as.ensures.rule in
     let pass = c.pop_as.new.pass in
     let sizes = c.taker.inside.sizes.items in
     let queue = c.pop_as.ensures.queue.0 in
     let front_now = handed_front _ _ _ _ _ _ h in
     let joined = handed_joined _ _ _ _ _ _ h in
-    subst (λ (t : Taker). ◌≡◌ {A = Taker} record { queue = pass.table_id; popped = front (known pass).popped c.open-sent.result.1; sizes = sizes; joined = (known pass).joined } record { queue = t.queue; popped = t.popped ++ c.open-sent.result.0 ∷ []; sizes = t.sizes; joined = t.joined }) c.taker.view_is
+    subst (λ (t : Taker). ◌≡◌ {A = Taker} record { queue = pass.table_id; popped = front (known pass).popped c.open.new.rest; sizes = sizes; joined = (known pass).joined } record { queue = t.queue; popped = t.popped ++ c.open.result ∷ []; sizes = t.sizes; joined = t.joined }) c.taker.view_is
     (λ i. record { queue = queue i; popped = front_now i; sizes = sizes; joined = joined i })
 
 pub returns-in-Some-pop_as-clause-next : goal.returns-in-Some-pop_as-clause-next
 returns-in-Some-pop_as-clause-next g c =
-    let h : Hands (known c.taker.inside.pass) (known c.pop_as.new.pass) c.taker.inside.sizes.items c.taker.inside.rest c.open-sent.result.1 c.open-sent.result.0 =
-    hands_popped _ _ _ _ _ _ _ c.taker.invariant.known c.in_default.ensures.none.0 c.open-sent.ensures c.in-Some-pop_as.ensures.rule in
-    subst (λ (t : Taker). IsNextPopped t c.open-sent.result.0) c.taker.view_is (handed_next _ _ _ _ _ _ h _)
+    let h : Hands (known c.taker.inside.pass) (known c.pop_as.new.pass) c.taker.inside.sizes.items c.taker.inside.rest c.open.new.rest c.open.result =
+    hands_popped _ _ _ _ _ _ _ c.taker.invariant.known c.in_default.ensures.none.0 c.open.ensures c.in-Some-pop_as.ensures.rule in
+    subst (λ (t : Taker). IsNextPopped t c.open.result) c.taker.view_is (handed_next _ _ _ _ _ _ h _)
 
 pub returns-in-Some-pop_as-clause-delivery : goal.returns-in-Some-pop_as-clause-delivery
 returns-in-Some-pop_as-clause-delivery g c =
-    let h : Hands (known c.taker.inside.pass) (known c.pop_as.new.pass) c.taker.inside.sizes.items c.taker.inside.rest c.open-sent.result.1 c.open-sent.result.0 =
-    hands_popped _ _ _ _ _ _ _ c.taker.invariant.known c.in_default.ensures.none.0 c.open-sent.ensures c.in-Some-pop_as.ensures.rule in
+    let h : Hands (known c.taker.inside.pass) (known c.pop_as.new.pass) c.taker.inside.sizes.items c.taker.inside.rest c.open.new.rest c.open.result =
+    hands_popped _ _ _ _ _ _ _ c.taker.invariant.known c.in_default.ensures.none.0 c.open.ensures c.in-Some-pop_as.ensures.rule in
     handed_delivery _ _ _ _ _ _ h _

@@ -53,8 +53,8 @@ returns-in-None-clause-delivery g c =
 
 pub invariant_of-worker-in-Some-pop_as : goal.invariant_of-worker-in-Some-pop_as
 invariant_of-worker-in-Some-pop_as g c =
-    let h : Hands {A = g.row.A.Denot} (known c.worker.inside.pass) (known c.pop_as.new.pass) c.worker.inside.split c.worker.inside.rest c.open-work.result.1 c.open-work.result.0 =
-    hands_popped _ _ _ _ _ _ _ c.worker.invariant.known c.in_default.ensures.none.0 c.open-work.ensures c.in-Some-pop_as.ensures.rule in
+    let h : Hands {A = g.row.A.Denot} (known c.worker.inside.pass) (known c.pop_as.new.pass) c.worker.inside.split c.worker.inside.rest c.open.new.rest c.open.result =
+    hands_popped _ _ _ _ _ _ _ c.worker.invariant.known c.in_default.ensures.none.0 c.open.ensures c.in-Some-pop_as.ensures.rule in
     record {
       idle = c.pop_as.ensures.queue.2 ∙ c.worker.invariant.idle;
       known = handed_known _ _ _ _ _ _ h;
@@ -64,24 +64,24 @@ invariant_of-worker-in-Some-pop_as g c =
 
 pub returns-in-Some-pop_as-clause-some : goal.returns-in-Some-pop_as-clause-some
 returns-in-Some-pop_as-clause-some g c =
-    let h : Hands {A = g.row.A.Denot} (known c.worker.inside.pass) (known c.pop_as.new.pass) c.worker.inside.split c.worker.inside.rest c.open-work.result.1 c.open-work.result.0 =
-    hands_popped _ _ _ _ _ _ _ c.worker.invariant.known c.in_default.ensures.none.0 c.open-work.ensures c.in-Some-pop_as.ensures.rule in
+    let h : Hands {A = g.row.A.Denot} (known c.worker.inside.pass) (known c.pop_as.new.pass) c.worker.inside.split c.worker.inside.rest c.open.new.rest c.open.result =
+    hands_popped _ _ _ _ _ _ _ c.worker.invariant.known c.in_default.ensures.none.0 c.open.ensures c.in-Some-pop_as.ensures.rule in
     let pass = c.pop_as.new.pass in
     let split = c.worker.inside.split in
     let queue = c.pop_as.ensures.queue.0 in
     let front_now = handed_front _ _ _ _ _ _ h in
     let given = handed_given _ _ _ _ _ _ h in
-    subst (λ (t : Worker g.row.A.Denot). ◌≡◌ {A = Worker g.row.A.Denot} record { queue = pass.table_id; popped = front (known pass).popped c.open-work.result.1; split = split; given = (known pass).given } record { queue = t.queue; popped = t.popped ++ c.open-work.result.0 ∷ []; split = t.split; given = t.given }) c.worker.view_is
+    subst (λ (t : Worker g.row.A.Denot). ◌≡◌ {A = Worker g.row.A.Denot} record { queue = pass.table_id; popped = front (known pass).popped c.open.new.rest; split = split; given = (known pass).given } record { queue = t.queue; popped = t.popped ++ c.open.result ∷ []; split = t.split; given = t.given }) c.worker.view_is
     (λ i. record { queue = queue i; popped = front_now i; split = split; given = given i })
 
 pub returns-in-Some-pop_as-clause-next : goal.returns-in-Some-pop_as-clause-next
 returns-in-Some-pop_as-clause-next g c =
-    let h : Hands {A = g.row.A.Denot} (known c.worker.inside.pass) (known c.pop_as.new.pass) c.worker.inside.split c.worker.inside.rest c.open-work.result.1 c.open-work.result.0 =
-    hands_popped _ _ _ _ _ _ _ c.worker.invariant.known c.in_default.ensures.none.0 c.open-work.ensures c.in-Some-pop_as.ensures.rule in
+    let h : Hands {A = g.row.A.Denot} (known c.worker.inside.pass) (known c.pop_as.new.pass) c.worker.inside.split c.worker.inside.rest c.open.new.rest c.open.result =
+    hands_popped _ _ _ _ _ _ _ c.worker.invariant.known c.in_default.ensures.none.0 c.open.ensures c.in-Some-pop_as.ensures.rule in
     subst (λ (t : Worker g.row.A.Denot). IsFalse (is_stopped t.popped)) c.worker.view_is (handed_next _ _ _ _ _ _ h c.worker.inside.pass.table_id)
 
 pub returns-in-Some-pop_as-clause-delivery : goal.returns-in-Some-pop_as-clause-delivery
 returns-in-Some-pop_as-clause-delivery g c =
-    let h : Hands {A = g.row.A.Denot} (known c.worker.inside.pass) (known c.pop_as.new.pass) c.worker.inside.split c.worker.inside.rest c.open-work.result.1 c.open-work.result.0 =
-    hands_popped _ _ _ _ _ _ _ c.worker.invariant.known c.in_default.ensures.none.0 c.open-work.ensures c.in-Some-pop_as.ensures.rule in
+    let h : Hands {A = g.row.A.Denot} (known c.worker.inside.pass) (known c.pop_as.new.pass) c.worker.inside.split c.worker.inside.rest c.open.new.rest c.open.result =
+    hands_popped _ _ _ _ _ _ _ c.worker.invariant.known c.in_default.ensures.none.0 c.open.ensures c.in-Some-pop_as.ensures.rule in
     handed_delivery _ _ _ _ _ _ h _
