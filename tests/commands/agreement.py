@@ -55,7 +55,7 @@ class Agreement(ProgramTest):
         for line in ran.stdout.decode().splitlines():
             for memory, first, last in WORDS_OF_A_LINE.findall(line) if line.startswith("words ") else []:
                 found += [f"{memory} {word}" for word in range(int(first), int(last or first) + 1)]
-        self.assertEqual((sorted(found), ran.returncode), (sorted(races), int(bool(races))))
+        self.assertEqual((sorted(set(found)), ran.returncode), (sorted(races), int(bool(races))))
         ran = self.gpurace("races", "--json", *self.streams)
         self.assertEqual((json.loads(ran.stdout.splitlines()[-1])["races"], ran.returncode), (len(races), int(bool(races))))
 

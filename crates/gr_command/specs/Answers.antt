@@ -15,6 +15,7 @@ use Rattle.gr_report.specs.FaultText.{fault_line}
 use Rattle.gr_accesses.specs.Racy.{IsRacyIn}
 use Rattle.gr_check.specs.Checked.{CheckedSaid, IsCheckFileFault, IsCheckedAsKnown, is_accepted}
 use Rattle.gr_held.specs.Why.{IsWhy}
+use Rattle.gr_places.specs.SideLines.{place_number}
 use Rattle.gr_races.specs.Accounts.{IsAccountOf}
 use Rattle.gr_replay.specs.Replays.{IsExact, IsExactOfEach, IsReplayFault, WritesPrefix}
 use Rattle.gr_input.specs.Faults.{Fails, IsOutside}
@@ -95,7 +96,7 @@ in_both json IsText = in_form json IsText IsText
 -- what is told of a word of a launch: the line of its least racing pair; as JSON, and in the long form, a rendering
 abbrev pub IsWordTextOf : AskedForm → Bool → Word → SidesSaid → Streams → List ℕ → Type 0
 IsWordTextOf in_short json w = in_form json (λ said s. Renders (IsExplanation s w)) (λ said. IsLine w)
-IsWordTextOf (in_long places buffers) json w = in_both json (λ said s. Renders (IsAccountOf s w))
+IsWordTextOf (in_long places buffers) json w = in_both json (λ said s. Renders (IsAccountOf s (place_number said.places) w))
 
 -- the text of a report; its JSON is a rendering
 abbrev pub IsReportTextOf : Bool → WholeReport → List ℕ → Type 0

@@ -8,5 +8,11 @@ pub mod EventSets
 pub mod KeptLemmas
 pub mod JudgedLemmas
 pub mod SeenLemmas
+pub mod Lists
 pub mod SearchLemmas
+pub mod AlongLemmas
 pub mod RacePairs
+pub mod AlikeLemmas
+pub mod TagPairLemmas
+pub mod TagRaceLemmas
+pub mod WordPairLemmas

@@ -1,11 +1,11 @@
 -- The racing pairs of a word, and the clashes of the accesses along a lawful order of all grounded events.
-use Rattle.std.proofs.Common.{◌≡◌, ◌⊎◌, ℕ, ◌<◌, ◌≤◌, List, [], ◌∷◌, slice_get, Option, Some, None, MatchOption, sym, ap, ◌∙◌, inl, inr, refl, ⊎_elim, eq-or-lt_of_le}
+use Rattle.std.proofs.Common.{◌≡◌, ◌⊎◌, ◌<◌, ◌≤◌, List, [], ◌∷◌, slice_get, Option, Some, None, MatchOption, sym, ap, ◌∙◌, inl, inr, refl, ⊎_elim, eq-or-lt_of_le}
 use Rattle.std.proofs.lemmas.Bool.{cases_lt}
 use Rattle.gr_model.specs.declared.event.EventId.{EventId}
 use Rattle.gr_model.specs.declared.event.Word.{Word}
 use Rattle.gr_model.specs.Hits.{SomePair}
 use Rattle.gr_model.specs.LawfulOrders.{IsWholeOrder}
-use Rattle.gr_model.specs.RacePairs.{IsRacePair, IsTurned, Pair}
+use Rattle.gr_model.specs.RacePairs.{IsRacePair, Pair}
 use Rattle.gr_model.specs.Races.{IsRacy, RacesInOrder}
 use Rattle.gr_model.specs.Reports.{EventBelow}
 use Rattle.gr_model.specs.Streams.{Streams, word_at}
@@ -21,7 +21,7 @@ use Rattle.gr_hits.proofs.Pairing.{clashes_are_race_pairs}
 use Rattle.gr_hits.proofs.PairTests.{clash_is_hit}
 use Rattle.gr_shadow.specs.Clashes.{IsClashIn, IsClashOf, event_of}
 use Rattle.gr_explain.specs.LeastRaces.{IsLeastOf, IsLeastRace}
-use Rattle.gr_explain.specs.Search.{IsClashPair}
+use Rattle.gr_explain.specs.ClashPairs.{IsClashPair}
 use Rattle.gr_explain.proofs.PairOrder.{either_way, least_same}
 
 -- ---- a racing pair is a clash
@@ -69,7 +69,7 @@ module _ (s : Streams) (w : Word) (e f : EventId) where
   clash_in order accesses are h = SomePair-from_in (IsClashOf w e f) accesses (pairs order accesses are (PairIn-from_some AreClashing order h))
 
 module _ (s : Streams) (w : Word) (order : List EventId) (accesses : List ClockedAccess) (whole : IsWholeOrder s order) (are : AreAccesses s order accesses) where
-  race_is_clash : (pair : Pair) → IsRacePair s w pair → IsClashPair w accesses pair
+  pub race_is_clash : (pair : Pair) → IsRacePair s w pair → IsClashPair w accesses pair
   race_is_clash pair is =
       let a = whole.whole pair.0 is.first in
       let b = whole.whole pair.1 is.second in
@@ -93,7 +93,7 @@ module _ (s : Streams) (w : Word) (order : List EventId) (accesses : List Clocke
       (eq-or-lt_of_le ge))
       (cases_lt a.0 b.0)
 
-  clash_is_race : (pair : Pair) → IsClashPair w accesses pair → IsRacePair s w pair
+  pub clash_is_race : (pair : Pair) → IsClashPair w accesses pair → IsRacePair s w pair
   clash_is_race pair is = clashes_are_race_pairs s order accesses w is.earlier is.later pair whole.lawful are is.clash is.turned is.below
 
   -- the least clash of the accesses is the least racing pair

@@ -1,54 +1,20 @@
 -- The accesses to a word that a search stands for, where one more comes.
-use Rattle.std.proofs.Common.{◌≡◌, ◌≢◌, ◌⊎◌, ◌↔◌, true, false, IsTrue, ℕ, zero, suc, ◌+◌, ◌<◌, List, [], ◌∷◌, ◌++◌, length, get_or, slice_set, take, Option, Some, None, slice_get, refl, sym, ap, ◌∙◌, subst, inl, inr, ⊎_elim, arith}
+use Rattle.std.proofs.Common.{◌≡◌, ◌≢◌, ◌⊎◌, ◌↔◌, true, false, IsTrue, ℕ, zero, suc, ◌+◌, ◌<◌, List, [], ◌∷◌, ◌++◌, length, get_or, slice_set, take, Some, None, slice_get, refl, sym, ap, ◌∙◌, subst, inl, inr, ⊎_elim, arith}
 use Rattle.std.proofs.lemmas.List.{take_more}
 use Rattle.std.proofs.lemmas.Option.{slice_get-get_or}
 use Rattle.gr_model.specs.declared.event.EventId.{EventId}
 use Rattle.gr_model.specs.declared.event.Word.{Word}
 use Rattle.gr_model.specs.RacePairs.{IsTurned, Pair}
 use Rattle.gr_model.specs.Reports.{EventBelow}
-use Rattle.gr_model.specs.Streams.{Streams, word_at}
 use Rattle.gr_scopes.specs.declared.class.Class.{Class}
-use Rattle.gr_steps.specs.Steps.{Handles, Meets}
-use Rattle.gr_clocks.specs.declared.access.Access.{Access}
-use Rattle.gr_clocks.specs.ClockedAccess.{clocked}
-use Rattle.gr_closure.specs.Accesses.{IsAccess, IsAccessOf}
-use Rattle.gr_hits.specs.Accesses.{AreAccesses}
-use Rattle.gr_hits.proofs.Adding.{bare_access, handled_adds, met_add_none, others_add_none}
-use Rattle.gr_order.specs.Sequences.{Sequence}
-use Rattle.gr_sequencer.specs.Answers.{IsStep}
-use Rattle.gr_sequencer.specs.declared.handled.Handled.{Handled}
-use Rattle.gr_sequencer.specs.declared.handled.Handled.TheVariants.{One, Meet}
 use Rattle.gr_shadow.specs.Clashes.{ClockedAccess, clashes, clashes_with, event_of}
+use Rattle.gr_explain.specs.ClashPairs.{IsClashPair, IsOfList}
 use Rattle.gr_explain.specs.LeastRaces.{IsLeastOf}
-use Rattle.gr_explain.specs.Search.{AddsStep, IsAdded, IsAlong, IsClashPair, IsOfList, IsPairOf, IsSeen, IsSeenMore, StandsFor}
+use Rattle.gr_explain.specs.Search.{IsAdded, IsPairOf, IsSeen, IsSeenMore, StandsFor}
 use Rattle.gr_explain.specs.Seen.{IsAmong, IsPairWith, SeenList}
 use Rattle.gr_explain.specs.declared.search.Search.{Search}
+use Rattle.gr_explain.proofs.Lists.{at_last, last_cases, still_at, within}
 use Rattle.gr_explain.proofs.PairOrder.{least_same, least_then}
-
--- ---- a list with one more
-
-last_cases : {X : Type 0} (xs : List X) (x : X) (p : ℕ) (y : X) → slice_get (xs ++ x ∷ []) p ≡ Some y → ((p < length xs) × (slice_get xs p ≡ Some y)) ⊎ ((p ≡ length xs) × (y ≡ x))
-last_cases [] x zero y at = let h : Some x ≡ Some y = at in let same : y ≡ x = cc in inr (refl, same)
-last_cases [] x (suc p) y at = let no : None ≡ Some y = at in cc
-last_cases (z ∷ xs) x zero y at = inl (omega arith, at)
-last_cases (z ∷ xs) x (suc p) y at = ⊎_elim
-    (λ (inside : (p < length xs) × (slice_get xs p ≡ Some y)). inl (omega (arith, inside.0), inside.1))
-    (λ (last : (p ≡ length xs) × (y ≡ x)). inr (ap suc last.0, last.1))
-    (last_cases xs x p y at)
-
-still_at : {X : Type 0} (xs : List X) (x : X) (p : ℕ) (y : X) → slice_get xs p ≡ Some y → slice_get (xs ++ x ∷ []) p ≡ Some y
-still_at [] x p y at = let no : None ≡ Some y = at in cc
-still_at (z ∷ xs) x zero y at = at
-still_at (z ∷ xs) x (suc p) y at = still_at xs x p y at
-
-at_last : {X : Type 0} (xs : List X) (x : X) → slice_get (xs ++ x ∷ []) (length xs) ≡ Some x
-at_last [] x = refl
-at_last (z ∷ xs) x = at_last xs x
-
-within : {X : Type 0} (xs : List X) (p : ℕ) (y : X) → slice_get xs p ≡ Some y → p < length xs
-within [] p y at = let no : None ≡ Some y = at in cc
-within (z ∷ xs) zero y at = omega arith
-within (z ∷ xs) (suc p) y at = let rest = within xs p y at in omega (arith, rest)
 
 -- ---- a list with one changed
 
@@ -306,39 +272,9 @@ module _ (accesses : List ClockedAccess) (y : ClockedAccess) {Z : Type 0} (old :
         (least_then (IsClashPair y.word accesses) (IsPairOf old.classes.items y) old.least new.least stands.least least);
   }
 
--- ---- a step
-
-module _ {Z : Type 0} (s : Streams) (w : Word) (before after : Search Z) where
-  access_along : (old new : List EventId) (e : EventId) (a : Access Z) → Handles s old e new → IsAccess s e a → ((a.word ≡ w) × IsAdded (clocked a) before after) ⊎ ((a.word ≢ w) × (after ≡ before)) → IsAlong s w old before → IsAlong s w new after
-  access_along old new e a handles of_e adds along = record {
-    accesses = along.accesses ++ clocked a ∷ [];
-    are = handled_adds s old new e along.accesses (clocked a) handles along.are (bare_access s e a of_e);
-    stands = ⊎_elim
-        (λ (one : (a.word ≡ w) × IsAdded (clocked a) before after).
-        subst (λ (v : Word). StandsFor v (along.accesses ++ clocked a ∷ []) after) one.0 (one.1 along.accesses (subst (λ (v : Word). StandsFor v along.accesses before) (sym one.0) along.stands)))
-        (λ (other : (a.word ≢ w) × (after ≡ before)).
-        subst (λ (search : Search Z). StandsFor w (along.accesses ++ clocked a ∷ []) search) (sym other.1) (other_stands w along.accesses (clocked a) other.0 before along.stands))
-        adds;
-  }
-
-  same_along : (new : List EventId) (accesses : List ClockedAccess) → AreAccesses s new accesses → StandsFor w accesses before → after ≡ before → IsAlong s w new after
-  same_along new accesses are stands same = record { accesses = accesses; are = are; stands = subst (λ (search : Search Z). StandsFor w accesses search) (sym same) stands }
-
--- what came stands along the handled events, where a step is made
-pub along_step : {Z : Type 0} (s : Streams) (w : Word) (old new : Sequence) (step : Handled Z) (before after : Search Z) → old.taken ≡ s → IsStep old new step → AddsStep w step before after → IsAlong s w old.handled before → IsAlong s w new.handled after
-along_step s w old new (One e (Some a)) before after taken h adds along =
-    access_along s w before after old.handled new.handled e a
-    (subst (λ (t : Streams). Handles t old.handled e new.handled) taken h.0.handles)
-    (subst (λ (t : Streams). IsAccess t e a) (h.0.taken ∙ taken) h.1) adds along
-along_step s w old new (One e None) before after taken h adds along =
-    same_along s w before after new.handled along.accesses
-    (others_add_none s old.handled new.handled e along.accesses (subst (λ (t : Streams). Handles t old.handled e new.handled) taken h.0.handles) along.are (subst (λ (t : Streams). word_at t e ≡ None) (h.0.taken ∙ taken) h.1))
-    along.stands adds
-along_step s w old new (Meet g k) before after taken h adds along =
-    same_along s w before after new.handled along.accesses
-    (met_add_none s old.handled new.handled g k along.accesses (subst (λ (t : Streams). Meets t old.handled g k new.handled) taken h.meets) along.are)
-    along.stands adds
-
--- a step that has an access adds it, or where it is of another word nothing
-pub adds_one : {Z : Type 0} (w : Word) (step : Handled Z) (e : EventId) (o : Option (Access Z)) (a : Access Z) (old new : Search Z) → step ≡ One e o → o ≡ Some a → ((a.word ≡ w) × IsAdded (clocked a) old new) ⊎ ((a.word ≢ w) × (new ≡ old)) → AddsStep w step old new
-adds_one w step e o a old new is some adds = rw (is, some) adds
+-- an access that comes stands, whether it is of the word or of another one
+pub access_added : {Z : Type 0} (w : Word) (y : ClockedAccess) (old new : Search Z) → ((y.word ≡ w) × IsAdded y old new) ⊎ ((y.word ≢ w) × (new ≡ old)) → (accesses : List ClockedAccess) → StandsFor w accesses old → StandsFor w (accesses ++ y ∷ []) new
+access_added w y old new (inl (same, added)) accesses stands =
+    subst (λ (v : Word). StandsFor v (accesses ++ y ∷ []) new) same (added accesses (subst (λ (v : Word). StandsFor v accesses old) (sym same) stands))
+access_added {Z} w y old new (inr (other, is)) accesses stands =
+    subst (λ (search : Search Z). StandsFor w (accesses ++ y ∷ []) search) (sym is) (other_stands w accesses y other old stands)

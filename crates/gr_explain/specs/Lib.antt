@@ -5,5 +5,11 @@ pub mod Judgements
 pub mod Answering
 pub mod Accesses
 pub mod Judged
+pub mod Along
+pub mod ClashPairs
 pub mod Seen
 pub mod Search
+pub mod Alike
+pub mod TagPairs
+pub mod TagRaces
+pub mod WordPairs

@@ -1,5 +1,5 @@
 -- The accesses to a word that came so far, and the pairs of a later one with those with which it clashes.
-use Rattle.std.specs.Prelude.{◌≡◌, ◌<◌, ◌≤◌, ◌⊎◌, ℕ, IsTrue, List, [], MatchOption, Option, Some}
+use Rattle.std.specs.Prelude.{◌≡◌, ◌<◌, ◌≤◌, ◌⊎◌, IsTrue, List, [], MatchOption, Option, Some}
 use Rattle.std.specs.List.{list_any}
 use Rattle.std.specs.BTreeMap.{is_at}
 use Rattle.gr_model.specs.declared.event.EventId.{EventId}

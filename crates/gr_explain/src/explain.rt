@@ -5,7 +5,8 @@ ghost use Rattle.gr_model.specs.Races.{IsRacy};
 ghost use Rattle.gr_model.specs.RacePairs.{IsRacePair};
 ghost use Rattle.gr_model.specs.Waits.{IsGrounded};
 ghost use Rattle.gr_explain.specs.LeastRaces.{IsLeastOf, IsLeastRace};
-ghost use Rattle.gr_explain.specs.Search.{AddsStep, IsAlong};
+ghost use Rattle.gr_explain.specs.Along.{AddsStep, IsAlong};
+ghost use Rattle.gr_explain.specs.Search.{StandsFor};
 
 use crate::search::Search;
 use crate::sequencing::take_all;
@@ -25,7 +26,7 @@ fn add_step<A: Allocator + Copy>(
     word: Word,
     step: Handled<A>,
 ) -> Result<(), Memory>
-    ensures { OnOk result (AddsStep word step search.old search.new) }
+    ensures { OnOk result (AddsStep (λ accesses search. StandsFor word accesses search) step search.old search.new) }
 {
     match step {
         Handled::One {
@@ -50,7 +51,7 @@ fn handle_all<A: Allocator + Copy>(
     search: &mut Search<A>,
     word: Word,
 ) -> Result<(), Memory>
-    requires { IsAlong sequencer.old.taken word sequencer.old.handled search.old }
+    requires { IsAlong (λ accesses search. StandsFor word accesses search) sequencer.old.taken sequencer.old.handled search.old }
     ensures { OnOk result (IsLeastOf (IsRacePair sequencer.old.taken word) search.new.least) }
 {
     while let Some(step) = sequencer.step()? {

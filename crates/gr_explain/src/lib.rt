@@ -1,10 +1,12 @@
-//! Which accesses of a launch race: the least racing pair of a word, and of pairs that are given each one.
+//! Which accesses of a launch race: the least racing pair of a word, of words a race for each two tags that race on it, and of pairs that
+//! are given each one.
 //!
 //! Semantics: the contracts speak of happens-before itself. The code handles the launch once, in a lawful order, and compares the
 //! accesses by their clocks.
 #![tactic(auto)]
 
 mod accesses;
+mod alike;
 pub mod explain;
 pub mod judging;
 mod pairs;
@@ -12,4 +14,7 @@ pub mod records;
 mod search;
 mod seen;
 pub mod sequencing;
+mod tag_pairs;
+pub mod tags;
 pub mod taking;
+pub mod word_pairs;

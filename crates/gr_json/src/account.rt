@@ -3,16 +3,17 @@
 
 use crate::details::details_value;
 use crate::lines::line_of;
-use crate::names::cause_name;
+use crate::names::{cause_name, operation_name};
 use crate::race::no_race_value;
 use crate::words::{buffer_value, text_value, word_value};
-use gr_model::event::Word;
+use gr_model::event::{EventId, Word};
 use gr_model::memory::Memory;
 use gr_places::index::PlaceIndex;
 use gr_places::places::Placed;
 use gr_places::sides::Sides;
 use gr_races::account::Account;
 use gr_races::between::{Between, Crossing, Told};
+use gr_races::kinds::{KindedRace, Operation};
 use serde_json::{Map, Value, json, put};
 use std::alloc::{AllocError, Global};
 
@@ -81,7 +82,59 @@ fn between_value(
     json!(in alloc; {"acquire": acquire, "barriers": barriers, "release": release})
 }
 
-/// Adds a racing pair: what its accesses are, what stands between them, and the cause of their race.
+/// What an access does, its event, and where it stands.
+///
+/// # Errors
+/// `AllocError`: out of memory.
+fn operation_value(
+    alloc: Global,
+    places: &PlaceIndex<'_>,
+    operation: Operation,
+    event: EventId,
+) -> Result<Value, AllocError> {
+    let place = text_value(alloc, places.place_of(Placed::Event(event)))?;
+    let operation = operation_name(operation);
+    json!(in alloc; {
+        "group": event.at.group,
+        "index": event.index,
+        "item": event.at.item,
+        "operation": operation,
+        "place": place
+    })
+}
+
+/// A race of two accesses.
+///
+/// # Errors
+/// `AllocError`: out of memory.
+fn other_value(
+    alloc: Global,
+    places: &PlaceIndex<'_>,
+    other: &KindedRace,
+) -> Result<Value, AllocError> {
+    let (kind, race) = (other.kind, other.race);
+    let first = operation_value(alloc, places, kind.first.operation, race.first)?;
+    let second = operation_value(alloc, places, kind.second.operation, race.second)?;
+    json!(in alloc; {"first": first, "second": second})
+}
+
+/// Races, in their order.
+///
+/// # Errors
+/// `AllocError`: out of memory.
+fn others_value(
+    alloc: Global,
+    places: &PlaceIndex<'_>,
+    others: &[KindedRace],
+) -> Result<Value, AllocError> {
+    let mut values = Vec::new(alloc);
+    for other in others {
+        values.push(other_value(alloc, places, other)?)?;
+    }
+    Ok(Value::Array(values))
+}
+
+/// Adds a racing pair: what its accesses are, what stands between them, the cause of their race, and the word's other races.
 ///
 /// # Errors
 /// `AllocError`: out of memory.
@@ -97,6 +150,8 @@ fn put_account(
     put(members, alloc, "cause", cause)?;
     let first = details_value(alloc, places, account.first, &account.first_details)?;
     put(members, alloc, "first", first)?;
+    let others = others_value(alloc, places, &account.others)?;
+    put(members, alloc, "others", others)?;
     let second = details_value(alloc, places, account.second, &account.second_details)?;
     put(members, alloc, "second", second)
 }

@@ -22,10 +22,16 @@ use std::alloc::{AllocError, Global};
 /// # Errors
 /// `AllocError`: out of memory.
 fn kind_value(alloc: Global, kind: RaceKind) -> Result<Value, AllocError> {
-    let first = operation_name(kind.first);
-    let second = operation_name(kind.second);
+    let first = operation_name(kind.first.operation);
+    let second = operation_name(kind.second.operation);
     let space = space_name(kind.space);
-    json!(in alloc; {"first": first, "one_group": kind.one_group, "second": second, "space": space})
+    json!(in alloc; {
+        "all_write_here": kind.all_write_here(),
+        "first": first,
+        "one_group": kind.one_group,
+        "second": second,
+        "space": space
+    })
 }
 
 /// Words with consecutive numbers.

@@ -1,6 +1,6 @@
 -- Racing pairs of a word.
 -- Source: docs/MODEL.md, "Races" and "The report". That the smaller event stands first is this project's own.
-use Rattle.std.specs.Prelude.{◌≡◌, ◌⊎◌, List, All, map}
+use Rattle.std.specs.Prelude.{◌≡◌, ◌⊎◌, ℕ, List, All, map}
 use Rattle.gr_model.specs.declared.event.EventId.{EventId}
 use Rattle.gr_model.specs.declared.event.Word.{Word}
 use Rattle.gr_model.specs.declared.race.Race.{Race}
@@ -28,3 +28,15 @@ IsTurned e f pair = (pair ≡ (e, f)) ⊎ (pair ≡ (f, e))
 pub record ArePairedRaces (s : Streams) (races : List Race) : Type 0 where
   pub words : AreRaces s (map (λ r. r.word) races)
   pub pairs : All (λ r. IsRacePair s r.word (r.first, r.second)) races
+
+-- ---- by tags: a tag is a number that each event is given, that of its place in a program say
+
+-- the pair's events have these two tags, in whatever order
+abbrev pub HasTags : (EventId → ℕ) → Pair → ℕ → ℕ → Type 0
+HasTags tag_of pair a b = (tag_of pair.0 ≡ a × tag_of pair.1 ≡ b) ⊎ (tag_of pair.0 ≡ b × tag_of pair.1 ≡ a)
+
+-- two tags race on a word where two accesses with these tags race on it
+pub record TagsRace (s : Streams) (tag_of : EventId → ℕ) (w : Word) (a b : ℕ) : Type 0 where
+  pub pair : Pair
+  pub race : IsRacePair s w pair
+  pub tags : HasTags tag_of pair a b

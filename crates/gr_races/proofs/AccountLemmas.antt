@@ -1,13 +1,14 @@
 -- A word has an account just where it is racy.
-use Rattle.std.proofs.Common.{◌↔◌, IsTrue, Option, None, Some, is_some, refl, sym, true≢false}
+use Rattle.std.proofs.Common.{◌↔◌, ℕ, IsTrue, Option, None, Some, is_some, refl, sym, true≢false}
 use Rattle.std.specs.Prelude.{option_map}
 use Rattle.gr_model.specs.declared.event.Word.{Word}
 use Rattle.gr_model.specs.Races.{IsRacy}
 use Rattle.gr_model.specs.Streams.{Streams}
 use Rattle.gr_model.specs.Waits.{IsGrounded}
+use Rattle.gr_places.specs.declared.places.Placed.{Placed}
 use Rattle.gr_races.specs.declared.account.Account.{Account}
 use Rattle.gr_races.specs.Accounts.{IsAccountOf, account_said}
 
-pub account_racy : {Z : Type 0} (s : Streams) (w : Word) (account : Option (Account Z)) → IsAccountOf s w (option_map account_said account) → IsTrue (is_some account) ↔ IsRacy s (IsGrounded s) w
-account_racy s w None none = (λ no. absurd (true≢false (sym no)), λ racy. absurd (none racy))
-account_racy s w (Some a) is = (λ yes. let race = is.least.0 in (a.first, a.second, race.first, race.second, race.race), λ racy. refl)
+pub account_racy : {Z : Type 0} (s : Streams) (numbers : Placed → Option ℕ) (w : Word) (account : Option (Account Z)) → IsAccountOf s numbers w (option_map account_said account) → IsTrue (is_some account) ↔ IsRacy s (IsGrounded s) w
+account_racy s numbers w None none = (λ no. absurd (true≢false (sym no)), λ racy. absurd (none racy))
+account_racy s numbers w (Some a) is = (λ yes. let race = is.least.0 in (a.first, a.second, race.first, race.second, race.race), λ racy. refl)

@@ -1,11 +1,11 @@
 -- Each race of a launch has a kind, and it is said whether there is one.
-use Rattle.std.proofs.Common.{◌≡◌, ◌↔◌, ◌<◌, ◌||◌, ◌&&◌, ℕ, Bool, true, false, List, [], ◌∷◌, ◌++◌, Option, Some, Contains, IsTrue, All, None, nat_eq, option_and_then, ap, arith, length, map, refl, sym, ◌∙◌, true≢false}
-use Rattle.std.specs.Prelude.{AllPairs, if◌then◌else◌, nat_lt, option_map}
+use Rattle.std.proofs.Common.{◌≡◌, ◌↔◌, ◌+◌, ⊎_elim, subst, cond, zero, suc, ◌<◌, ◌||◌, ◌&&◌, ℕ, Bool, true, false, List, [], ◌∷◌, ◌++◌, Option, Some, Contains, IsTrue, All, None, nat_eq, option_and_then, ap, arith, length, map, refl, sym, ◌∙◌, true≢false}
+use Rattle.std.specs.Prelude.{AllPairs, if◌then◌else◌, filter, nat_lt, not, option_map}
 use Rattle.std.specs.List.{cons_option, list_any}
-use Rattle.std.specs.Option.{option_eq}
+use Rattle.std.specs.Option.{option_eq, option_map_or}
 use Rattle.std.proofs.Math.Bool.{beq}
 use Rattle.std.proofs.lemmas.Bool.{and_parts, eqb-true, false_from_ne_true, lt-ltb, ltb-true}
-use Rattle.std.proofs.lemmas.List.Elements.{All-cons, All-contains, All-nil, Contains-append_left, Contains-append_right, Contains-push}
+use Rattle.std.proofs.lemmas.List.Elements.{All-cons, All-contains, All-nil, Contains-append_cases, Contains-append_left, Contains-append_right, Contains-push}
 use Rattle.std.proofs.lemmas.List.Folds.{list_any-append, list_any_at}
 use Rattle.std.proofs.lemmas.List.Quantifiers.{all_pairs_push}
 use Rattle.gr_races.specs.declared.cause.Cause.{Cause}
@@ -21,32 +21,35 @@ use Rattle.gr_model.specs.contracts.event.SpacePartialEq.TheImpl as spaces
 use Rattle.gr_model.specs.declared.event.Space.{Space}
 use Rattle.gr_model.specs.declared.event.Space.TheVariants.{Global, Local}
 use Rattle.gr_model.specs.declared.race.Race.{Race}
-use Rattle.gr_model.specs.RacePairs.{ArePairedRaces, IsRacePair}
 use Rattle.gr_model.specs.Races.{IsRacy}
+use Rattle.gr_model.specs.Reports.{AreRaces}
 use Rattle.gr_model.specs.Streams.{Streams, event_at, word_at}
 use Rattle.gr_model.specs.Waits.{IsGrounded}
 use Rattle.gr_places.specs.declared.places.Placed.{Placed}
+use Rattle.gr_places.specs.declared.places.Placed.TheVariants as of_places
 use Rattle.gr_races.specs.declared.kinds.KindedRace.{KindedRace}
 use Rattle.gr_races.specs.declared.kinds.Operation.{Operation}
 use Rattle.gr_races.specs.declared.kinds.Operation.TheVariants as ops
-use Rattle.gr_races.specs.declared.kinds.PlacePair.{PlacePair}
+use Rattle.gr_races.specs.declared.kinds.PlacedOperation.{PlacedOperation}
 use Rattle.gr_races.specs.declared.kinds.RaceKind.{RaceKind}
 use Rattle.gr_races.specs.contracts.kinds.OperationPartialEq.TheImpl as operations
-use Rattle.gr_races.specs.contracts.kinds.PlacePairPartialEq.TheImpl as pairs
+use Rattle.gr_races.specs.contracts.kinds.PlacedOperationPartialEq.TheImpl as placed
 use Rattle.gr_races.specs.contracts.kinds.RaceKindEq.TheImpl.Laws as equal
-use Rattle.gr_races.specs.Kinds.{all_kinded, kinded, operation_at, operation_of, same_kind, with_operations}
-use Rattle.gr_races.specs.Listing.{kinds_after, kinds_of, with_kind}
+use Rattle.gr_explain.proofs.Lists.{first_or_rest}
+use Rattle.gr_races.specs.Causes.{IsPairOf}
+use Rattle.gr_races.specs.Kinds.{all_kinded, by_tags, is_alike, kind_of, kinded, operation_at, operation_number, operation_of, place_tag, placed_at, same_kind, tag_at, tag_of, turned, with_operations}
+use Rattle.gr_races.specs.Listing.{in_order, kinds_after, kinds_of, with_kind}
 use Rattle.gr_races.specs.Telling.{with_causes}
 
 -- ---- a launch has a racy word exactly where it has a race
 
-pub race_said : (s : Streams) (races : List Race) (n : ℕ) → ArePairedRaces s races → n ≡ length races → IsTrue (nat_lt 0 n) ↔ ((w : Word) × IsRacy s (IsGrounded s) w)
+pub race_said : (s : Streams) (racy : List Word) (n : ℕ) → AreRaces s racy → n ≡ length racy → IsTrue (nat_lt 0 n) ↔ ((w : Word) × IsRacy s (IsGrounded s) w)
 race_said s [] n are same = (
   λ t. let lt : 0 < n = ltb-true 0 n t in absurd (omega (arith, same)),
-  λ racy. let there = (are.words.exact racy.0).1 racy.1 in absurd (omega (arith, there.1)),
+  λ racy. let there = (are.exact racy.0).1 racy.1 in absurd (omega (arith, there.1)),
 )
-race_said s (r ∷ races) n are same = (
-  λ _. (r.word, (are.words.exact r.word).0 (0, omega arith, refl)),
+race_said s (w ∷ racy) n are same = (
+  λ _. (w, (are.exact w).0 (0, omega arith, refl)),
   λ _. lt-ltb 0 n (omega (arith, same)),
 )
 
@@ -67,34 +70,90 @@ operation_there s e x w at word =
     let is = some_operation x.kind _ w said in
     (is.0, ap (option_and_then (λ (x : Event). operation_of x.kind)) at ∙ is.1)
 
-kind_there : (s : Streams) (numbers : Placed → Option ℕ) (r : Race) (cause : Option Cause) → IsRacePair s r.word (r.first, r.second) → (row : KindedRace) × (kinded s numbers (r, cause) ≡ Some row) × (row.race ≡ r)
-kind_there s numbers r cause pair =
-    let may_race = pair.race.may_race in
-    let a = operation_there s r.first may_race.first r.word may_race.at_first may_race.word_first in
-    let b = operation_there s r.second may_race.second r.word may_race.at_second may_race.word_second in (
-      with_operations numbers r cause a.0 b.0,
-      ap (option_and_then (λ (a : Operation). option_map (λ (b : Operation). with_operations numbers r cause a b) (operation_at s r.second))) a.1 ∙ ap (option_map (λ (b : Operation). with_operations numbers r cause a.0 b)) b.1,
-      refl,
-    )
+module _ (s : Streams) (numbers : Placed → Option ℕ) where
+  placed_there : (e : EventId) (x : Event) (w : Word) → event_at s e ≡ Some x → word_at s e ≡ Some w → (p : PlacedOperation) × (placed_at s numbers e ≡ Some p)
+  placed_there e x w at word =
+      let a = operation_there s e x w at word in
+      (record { operation = a.0; place = numbers (of_places.Event e) }, ap (option_map (λ (o : Operation). record { operation = o; place = numbers (of_places.Event e) })) a.1)
 
-one_more : (s : Streams) (numbers : Placed → Option ℕ) (r : Race) (cause : Option Cause) (rest : List (Race × Option Cause)) (races : List Race) → IsRacePair s r.word (r.first, r.second) → map (λ (row : KindedRace). row.race) (all_kinded s numbers rest) ≡ races → map (λ (row : KindedRace). row.race) (all_kinded s numbers ((r, cause) ∷ rest)) ≡ r ∷ races
-one_more s numbers r cause rest races pair more =
-    let there = kind_there s numbers r cause pair in
-    ap (λ (o : Option KindedRace). map (λ (row : KindedRace). row.race) (cons_option o (all_kinded s numbers rest))) there.1
-    ∙ ap (λ (q : Race). q ∷ map (λ (row : KindedRace). row.race) (all_kinded s numbers rest)) there.2
-    ∙ ap (λ (rs : List Race). r ∷ rs) more
+  its_race : (r : Race) (cause : Option Cause) (a b : PlacedOperation) → (with_operations r cause a b).race ≡ (if nat_lt (tag_of b) (tag_of a) then turned r else r)
+  its_race r cause a b = by (nat_lt (tag_of b) (tag_of a))
+    where
+      by : (c : Bool) → (if c then kind_of (turned r) cause b a else kind_of r cause a b).race ≡ (if c then turned r else r)
+      by true = refl
+      by false = refl
 
-all_have_kinds : (s : Streams) (numbers : Placed → Option ℕ) (races : List Race) (told : List Cause) → ((r : Race) → Contains races r → IsRacePair s r.word (r.first, r.second)) → map (λ (row : KindedRace). row.race) (all_kinded s numbers (with_causes races told)) ≡ races
-all_have_kinds s numbers [] told pairs = refl
-all_have_kinds s numbers (r ∷ races) [] pairs =
-    one_more s numbers r None (with_causes races []) races (pairs r (Contains-append_left (r ∷ []) races r (Contains-push [] r)))
-    (all_have_kinds s numbers races [] (λ q h. pairs q (Contains-append_right (r ∷ []) races q h)))
-all_have_kinds s numbers (r ∷ races) (cause ∷ told) pairs =
-    one_more s numbers r (Some cause) (with_causes races told) races (pairs r (Contains-append_left (r ∷ []) races r (Contains-push [] r)))
-    (all_have_kinds s numbers races told (λ q h. pairs q (Contains-append_right (r ∷ []) races q h)))
+  kind_there : (r : Race) (cause : Option Cause) → IsPairOf s r → (row : KindedRace) × (kinded s numbers (r, cause) ≡ Some row) × (row.race ≡ by_tags (tag_at s numbers) r)
+  kind_there r cause pair =
+      let may_race = pair.race.may_race in
+      let a = placed_there r.first may_race.first r.word may_race.at_first may_race.word_first in
+      let b = placed_there r.second may_race.second r.word may_race.at_second may_race.word_second in (
+        with_operations r cause a.0 b.0,
+        ap (option_and_then (λ (p : PlacedOperation). option_map (λ (q : PlacedOperation). with_operations r cause p q) (placed_at s numbers r.second))) a.1 ∙ ap (option_map (λ (q : PlacedOperation). with_operations r cause a.0 q)) b.1,
+        its_race r cause a.0 b.0 ∙ sym (tags a.0 b.0 a.1 b.1),
+      )
+    where
+      tags : (p q : PlacedOperation) → placed_at s numbers r.first ≡ Some p → placed_at s numbers r.second ≡ Some q → by_tags (tag_at s numbers) r ≡ (if nat_lt (tag_of q) (tag_of p) then turned r else r)
+      tags p q first second =
+          let m : tag_at s numbers r.first ≡ tag_of p = ap (λ (o : Option PlacedOperation). option_map_or tag_of o 0) first in
+          let n : tag_at s numbers r.second ≡ tag_of q = ap (λ (o : Option PlacedOperation). option_map_or tag_of o 0) second in
+          ap (λ (i : ℕ). if nat_lt i (tag_at s numbers r.first) then turned r else r) n ∙ ap (λ (i : ℕ). if nat_lt (tag_of q) i then turned r else r) m
 
-pub every_race_has_a_kind : (s : Streams) (numbers : Placed → Option ℕ) (races : List Race) (told : List Cause) → ArePairedRaces s races → map (λ (row : KindedRace). row.race) (all_kinded s numbers (with_causes races told)) ≡ races
-every_race_has_a_kind s numbers races told are = all_have_kinds s numbers races told (λ r there. All-contains (λ (r : Race). IsRacePair s r.word (r.first, r.second)) races r are.pairs there)
+  one_more : (r : Race) (cause : Option Cause) (rest : List (Race × Option Cause)) (races : List Race) → IsPairOf s r → map (λ (row : KindedRace). row.race) (all_kinded s numbers rest) ≡ races → map (λ (row : KindedRace). row.race) (all_kinded s numbers ((r, cause) ∷ rest)) ≡ by_tags (tag_at s numbers) r ∷ races
+  one_more r cause rest races pair more =
+      let there = kind_there r cause pair in
+      ap (λ (o : Option KindedRace). map (λ (row : KindedRace). row.race) (cons_option o (all_kinded s numbers rest))) there.1
+      ∙ ap (λ (q : Race). q ∷ map (λ (row : KindedRace). row.race) (all_kinded s numbers rest)) there.2
+      ∙ ap (λ (rs : List Race). by_tags (tag_at s numbers) r ∷ rs) more
+
+  all_have_kinds : (races : List Race) (told : List Cause) → ((r : Race) → Contains races r → IsPairOf s r) → map (λ (row : KindedRace). row.race) (all_kinded s numbers (with_causes races told)) ≡ map (by_tags (tag_at s numbers)) races
+  all_have_kinds [] told pairs = refl
+  all_have_kinds (r ∷ races) [] pairs =
+      one_more r None (with_causes races []) (map (by_tags (tag_at s numbers)) races) (pairs r (Contains-append_left (r ∷ []) races r (Contains-push [] r)))
+      (all_have_kinds races [] (λ q h. pairs q (Contains-append_right (r ∷ []) races q h)))
+  all_have_kinds (r ∷ races) (cause ∷ told) pairs =
+      one_more r (Some cause) (with_causes races told) (map (by_tags (tag_at s numbers)) races) (pairs r (Contains-append_left (r ∷ []) races r (Contains-push [] r)))
+      (all_have_kinds races told (λ q h. pairs q (Contains-append_right (r ∷ []) races q h)))
+
+pub every_race_has_a_kind : (s : Streams) (numbers : Placed → Option ℕ) (races : List Race) (told : List Cause) → All (IsPairOf s) races → map (λ (row : KindedRace). row.race) (all_kinded s numbers (with_causes races told)) ≡ map (by_tags (tag_at s numbers)) races
+every_race_has_a_kind s numbers races told pairs = all_have_kinds s numbers races told (λ r there. All-contains (IsPairOf s) races r pairs there)
+
+-- ---- races in order
+
+filtered_from : {X : Type 0} (keep : X → Bool) (xs : List X) (x : X) → Contains (filter keep xs) x → Contains xs x
+filtered_from keep [] x there = there
+filtered_from {X} keep (z ∷ xs) x there = by (keep z) there (filtered_from keep xs x)
+  where
+    by : (b : Bool) → Contains (cond b (z ∷ filter keep xs) (filter keep xs)) x → (Contains (filter keep xs) x → Contains xs x) → Contains (z ∷ xs) x
+    by true h rest = ⊎_elim (λ (is : z ≡ x). subst (Contains (z ∷ xs)) is (Contains-append_left (z ∷ []) xs z (Contains-push [] z))) (λ (in_rest : Contains (filter keep xs) x). Contains-append_right (z ∷ []) xs x (rest in_rest)) (first_or_rest z (filter keep xs) x h)
+    by false h rest = Contains-append_right (z ∷ []) xs x (rest h)
+
+filtered_there : {X : Type 0} (keep : X → Bool) (xs : List X) (x : X) → keep x ≡ true → Contains xs x → Contains (filter keep xs) x
+filtered_there keep [] x kept there = there
+filtered_there {X} keep (z ∷ xs) x kept there = ⊎_elim
+    (λ (is : z ≡ x). subst (λ (b : Bool). Contains (cond b (z ∷ filter keep xs) (filter keep xs)) x) (sym (ap keep is ∙ kept)) (subst (Contains (z ∷ filter keep xs)) is (Contains-append_left (z ∷ []) (filter keep xs) z (Contains-push [] z))))
+    (λ (rest : Contains xs x). by (keep z) (filtered_there keep xs x kept rest))
+    (first_or_rest z xs x there)
+  where
+    by : (b : Bool) → Contains (filter keep xs) x → Contains (cond b (z ∷ filter keep xs) (filter keep xs)) x
+    by true h = Contains-append_right (z ∷ []) (filter keep xs) x h
+    by false h = h
+
+pub each_race_is_in_order : (rows : List KindedRace) (row : KindedRace) → Contains (in_order rows) row ↔ Contains rows row
+each_race_is_in_order rows row = (
+  λ there. ⊎_elim (λ other. filtered_from (λ (q : KindedRace). not (is_alike q.kind)) rows row other) (λ alike. filtered_from (λ (q : KindedRace). is_alike q.kind) rows row alike) (Contains-append_cases others alikes row there),
+  λ there. by (is_alike row.kind) refl there,
+)
+  where
+    others : List KindedRace
+    others = filter (λ (q : KindedRace). not (is_alike q.kind)) rows
+
+    alikes : List KindedRace
+    alikes = filter (λ (q : KindedRace). is_alike q.kind) rows
+
+    by : (b : Bool) → is_alike row.kind ≡ b → Contains rows row → Contains (in_order rows) row
+    by true is there = Contains-append_right others alikes row (filtered_there (λ (q : KindedRace). is_alike q.kind) rows row is there)
+    by false is there = Contains-append_left others alikes row (filtered_there (λ (q : KindedRace). not (is_alike q.kind)) rows row (ap not is) there)
 
 -- ---- each kind is listed once
 
@@ -190,16 +249,16 @@ same_answers false false e = refl
 same_numbers : (a b : ℕ) → nat_eq a b ≡ true → a ≡ b
 same_numbers a b e = eqb-true a b e
 
-same_pairs : (a b : PlacePair) → (pairs.eq-value).it a b ≡ true → a ≡ b
-same_pairs a b e =
-    let p = and_parts (nat_eq a.first b.first) (nat_eq a.second b.second) e in
-    λ i. record { first = same_numbers a.first b.first p.0 i; second = same_numbers a.second b.second p.1 i }
-
-same_places : (a b : Option PlacePair) → option_eq (pairs.eq-value).it a b ≡ true → a ≡ b
+same_places : (a b : Option ℕ) → option_eq nat_eq a b ≡ true → a ≡ b
 same_places None None e = refl
 same_places None (Some b) e = absurd (true≢false (sym e))
 same_places (Some a) None e = absurd (true≢false (sym e))
-same_places (Some a) (Some b) e = ap (λ (p : PlacePair). Some p) (same_pairs a b e)
+same_places (Some a) (Some b) e = ap (λ (n : ℕ). Some n) (same_numbers a b e)
+
+same_placed : (a b : PlacedOperation) → (placed.eq-value).it a b ≡ true → a ≡ b
+same_placed a b e =
+    let p = and_parts ((operations.eq-value).it a.operation b.operation) (option_eq nat_eq a.place b.place) e in
+    λ i. record { operation = same_operations a.operation b.operation p.0 i; place = same_places a.place b.place p.1 i }
 
 same_why : (a b : Cause) → (causes.eq-value).it a b ≡ true → a ≡ b
 same_why why.Flags why.Flags e = refl
@@ -237,24 +296,62 @@ same_causes (Some a) (Some b) e = ap (λ (c : Cause). Some c) (same_why a b e)
 same_is_one : (k l : RaceKind) → same_kind k l ≡ true → k ≡ l
 same_is_one k l e =
     let space = (spaces.eq-value).it k.space l.space in
-    let first = (operations.eq-value).it k.first l.first in
-    let second = (operations.eq-value).it k.second l.second in
+    let first = (placed.eq-value).it k.first l.first in
+    let second = (placed.eq-value).it k.second l.second in
     let group = beq k.one_group l.one_group in
-    let places = option_eq (pairs.eq-value).it k.places l.places in
     let cause = option_eq (causes.eq-value).it k.cause l.cause in
-    let p = and_parts space (first && (second && (group && (places && cause)))) e in
-    let q = and_parts first (second && (group && (places && cause))) p.1 in
-    let r = and_parts second (group && (places && cause)) q.1 in
-    let t = and_parts group (places && cause) r.1 in
-    let u = and_parts places cause t.1 in
+    let p = and_parts space (first && (second && (group && cause))) e in
+    let q = and_parts first (second && (group && cause)) p.1 in
+    let r = and_parts second (group && cause) q.1 in
+    let t = and_parts group cause r.1 in
     λ i. record {
       space = same_spaces k.space l.space p.0 i;
-      first = same_operations k.first l.first q.0 i;
-      second = same_operations k.second l.second r.0 i;
+      first = same_placed k.first l.first q.0 i;
+      second = same_placed k.second l.second r.0 i;
       one_group = same_answers k.one_group l.one_group t.0 i;
-      places = same_places k.places l.places u.0 i;
-      cause = same_causes k.cause l.cause u.1 i;
+      cause = same_causes k.cause l.cause t.1 i;
     }
 
 pub the_same_kinds_are_one : (k l : RaceKind) → IsTrue (same_kind k l) ↔ (k ≡ l)
 the_same_kinds_are_one k l = (same_is_one k l, λ is. sym (ap (same_kind k) is) ∙ equal.laws-law.refl k)
+
+-- ---- the same tags are one
+
+abbrev operation_from : ℕ → Operation
+operation_from zero = ops.Write
+operation_from (suc zero) = ops.Store
+operation_from (suc (suc zero)) = ops.Rmw
+operation_from (suc (suc (suc zero))) = ops.Read
+operation_from (suc (suc (suc (suc n)))) = ops.Load
+
+operation_back : (a : Operation) → operation_from (operation_number a) ≡ a
+operation_back ops.Write = refl
+operation_back ops.Store = refl
+operation_back ops.Rmw = refl
+operation_back ops.Read = refl
+operation_back ops.Load = refl
+
+few_operations : (a : Operation) → operation_number a < 5
+few_operations ops.Write = omega arith
+few_operations ops.Store = omega arith
+few_operations ops.Rmw = omega arith
+few_operations ops.Read = omega arith
+few_operations ops.Load = omega arith
+
+abbrev place_from : ℕ → Option ℕ
+place_from zero = None
+place_from (suc n) = Some n
+
+place_back : (p : Option ℕ) → place_from (place_tag p) ≡ p
+place_back None = refl
+place_back (Some n) = let next : n + 1 ≡ suc n = omega arith in ap place_from next
+
+pub same_tags_are_one : (p q : PlacedOperation) → tag_of p ≡ tag_of q → p ≡ q
+same_tags_are_one p q same =
+    let a = few_operations p.operation in
+    let b = few_operations q.operation in
+    let place : place_tag p.place ≡ place_tag q.place = omega (arith, same, a, b) in
+    let operation : operation_number p.operation ≡ operation_number q.operation = omega (arith, same, a, b) in
+    let of_place : p.place ≡ q.place = sym (place_back p.place) ∙ (ap place_from place ∙ place_back q.place) in
+    let of_operation : p.operation ≡ q.operation = sym (operation_back p.operation) ∙ (ap operation_from operation ∙ operation_back q.operation) in
+    λ i. record { operation = of_operation i; place = of_place i }

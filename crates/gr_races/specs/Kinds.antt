@@ -1,7 +1,8 @@
 -- Kinds of races.
 -- Source: docs/FORMATS.md, "Races". They are this project's own.
-use Rattle.std.specs.Prelude.{ℕ, Bool, ◌==◌, Option, None, Some, option_and_then, option_map, List}
+use Rattle.std.specs.Prelude.{ℕ, ◌+◌, ◌*◌, Bool, ◌==◌, ◌&&◌, ◌||◌, is_some, nat_lt, if◌then◌else◌, Option, None, Some, option_and_then, option_map, List}
 use Rattle.std.specs.List.{filter_map}
+use Rattle.std.specs.Option.{option_map_or}
 use Rattle.gr_races.specs.declared.cause.Cause.{Cause}
 use Rattle.gr_model.specs.Access.{memory_of}
 use Rattle.gr_model.specs.declared.event.EventId.{EventId}
@@ -14,7 +15,7 @@ use Rattle.gr_places.specs.declared.places.Placed.TheVariants.{Event}
 use Rattle.gr_races.specs.declared.kinds.KindedRace.{KindedRace}
 use Rattle.gr_races.specs.declared.kinds.Operation.{Operation}
 use Rattle.gr_races.specs.declared.kinds.Operation.TheVariants.{Read, Write, Load, Store, Rmw}
-use Rattle.gr_races.specs.declared.kinds.PlacePair.{PlacePair}
+use Rattle.gr_races.specs.declared.kinds.PlacedOperation.{PlacedOperation}
 use Rattle.gr_races.specs.declared.kinds.RaceKind.{RaceKind}
 use Rattle.gr_races.specs.contracts.kinds.RaceKindPartialEq.TheImpl as equality
 
@@ -32,21 +33,67 @@ operation_of (kinds.End cut) = None
 abbrev pub operation_at : Streams → EventId → Option Operation
 operation_at s e = option_and_then (λ x. operation_of x.kind) (event_at s e)
 
--- the numbers of the places of two events, where both have one
-abbrev pub places_of : (Placed → Option ℕ) → Race → Option PlacePair
-places_of numbers r = option_and_then (λ m. option_map (λ n. record { first = m; second = n }) (numbers (Event r.second))) (numbers (Event r.first))
+-- what an event does, and the number of its place
+abbrev pub placed_at : Streams → (Placed → Option ℕ) → EventId → Option PlacedOperation
+placed_at s numbers e = option_map (λ a. record { operation = a; place = numbers (Event e) }) (operation_at s e)
+
+-- ---- tags
+
+abbrev pub operation_number : Operation → ℕ
+operation_number Write = 0
+operation_number Store = 1
+operation_number Rmw = 2
+operation_number Read = 3
+operation_number Load = 4
+
+abbrev pub place_tag : Option ℕ → ℕ
+place_tag None = 0
+place_tag (Some n) = n + 1
+
+abbrev pub tag_of : PlacedOperation → ℕ
+tag_of p = place_tag p.place * 5 + operation_number p.operation
+
+-- the tag of an event, and 0 where it is not there or is no access
+abbrev pub tag_at : Streams → (Placed → Option ℕ) → EventId → ℕ
+tag_at s numbers e = option_map_or tag_of (placed_at s numbers e) 0
+
+-- ---- kinds
+
+-- both accesses have one tag
+abbrev pub is_alike : RaceKind → Bool
+is_alike k = tag_of k.first == tag_of k.second
+
+-- the accesses have these tags, in whatever order
+abbrev pub is_of_tags : RaceKind → ℕ → ℕ → Bool
+is_of_tags k a b = ((tag_of k.first == a) && (tag_of k.second == b)) || ((tag_of k.first == b) && (tag_of k.second == a))
+
+-- both are writes, or both are stores, of one place in the source
+abbrev pub all_write_here : RaceKind → Bool
+all_write_here k = is_alike k && (is_some k.first.place && nat_lt (operation_number k.first.operation) 2)
+
+-- a race with the other event first
+abbrev pub turned : Race → Race
+turned r = record { word = r.word; first = r.second; second = r.first }
 
 -- a race of two events that do this
-abbrev pub with_operations : (Placed → Option ℕ) → Race → Option Cause → Operation → Operation → KindedRace
-with_operations numbers r cause a b = record {
-  kind = record { space = memory_of r.word; first = a; second = b; one_group = r.first.at.group == r.second.at.group; places = places_of numbers r; cause = cause };
+abbrev pub kind_of : Race → Option Cause → PlacedOperation → PlacedOperation → KindedRace
+kind_of r cause a b = record {
+  kind = record { space = memory_of r.word; first = a; second = b; one_group = r.first.at.group == r.second.at.group; cause = cause };
   race = r;
 }
 
--- a race with its kind, where places have these numbers: the memory of its word, what its two events do, whether they are
--- of one group, where they stand, if both places are known, and the cause, if it is told
+-- the event with the lesser tag first
+abbrev pub with_operations : Race → Option Cause → PlacedOperation → PlacedOperation → KindedRace
+with_operations r cause a b = if nat_lt (tag_of b) (tag_of a) then kind_of (turned r) cause b a else kind_of r cause a b
+
+-- a race with its kind, where places have these numbers: the memory of its word, what its two events do and where, whether they are of
+-- one group, and the cause, if it is told
 abbrev pub kinded : Streams → (Placed → Option ℕ) → Race × Option Cause → Option KindedRace
-kinded s numbers (r, cause) = option_and_then (λ a. option_map (λ b. with_operations numbers r cause a b) (operation_at s r.second)) (operation_at s r.first)
+kinded s numbers (r, cause) = option_and_then (λ a. option_map (λ b. with_operations r cause a b) (placed_at s numbers r.second)) (placed_at s numbers r.first)
+
+-- a race with the event of the lesser tag first
+abbrev pub by_tags : (EventId → ℕ) → Race → Race
+by_tags tag r = if nat_lt (tag r.second) (tag r.first) then turned r else r
 
 -- races, each with the cause that is told of it, with their kinds
 abbrev pub all_kinded : Streams → (Placed → Option ℕ) → List (Race × Option Cause) → List KindedRace

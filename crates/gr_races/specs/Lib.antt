@@ -3,10 +3,10 @@ pub mod Parting
 pub mod Causes
 pub mod CauseLaws
 pub mod Between
-pub mod Accounts
 pub mod Kinds
 pub mod Runs
 pub mod Listing
 pub mod Telling
+pub mod Accounts
 pub mod Shown
 pub mod Laws

@@ -1,19 +1,23 @@
 -- Races kind by kind.
 -- Source: docs/FORMATS.md, "Races".
-use Rattle.std.specs.Prelude.{if◌then◌else◌, List, [], ◌∷◌, ◌++◌, Option, None, Some, filter, map}
+use Rattle.std.specs.Prelude.{if◌then◌else◌, List, [], ◌∷◌, ◌++◌, Option, None, Some, filter, map, not}
 use Rattle.std.specs.List.{list_any}
 use Rattle.gr_model.specs.declared.race.Race.{Race}
 use Rattle.gr_races.specs.declared.kinds.KindedRace.{KindedRace}
 use Rattle.gr_races.specs.declared.kinds.RaceKind.{RaceKind}
 use Rattle.gr_races.specs.declared.listing.KindEntry.{KindEntry}
 use Rattle.gr_races.specs.declared.runs.Run.{Run}
-use Rattle.gr_races.specs.Kinds.{same_kind}
+use Rattle.gr_races.specs.Kinds.{is_alike, same_kind}
 use Rattle.gr_races.specs.Runs.{runs_of}
 
 -- rows, and one behind them if there is one
 abbrev pub with_row : List KindedRace → Option KindedRace → List KindedRace
 with_row rows None = rows
 with_row rows (Some row) = rows ++ row ∷ []
+
+-- races of two tags before those of one
+abbrev pub in_order : List KindedRace → List KindedRace
+in_order rows = filter (λ row. not (is_alike row.kind)) rows ++ filter (λ row. is_alike row.kind) rows
 
 -- kinds, and one behind them unless it is one of them
 abbrev pub with_kind : List RaceKind → RaceKind → List RaceKind

@@ -3,25 +3,28 @@
 use Rattle.std.specs.Prelude.{◌≡◌, ℕ, Bool, List, Option, length}
 use Rattle.gr_model.specs.declared.event.Word.{Word}
 use Rattle.gr_model.specs.declared.race.Race.{Race}
-use Rattle.gr_model.specs.RacePairs.{ArePairedRaces}
 use Rattle.gr_model.specs.Races.{IsRacy}
+use Rattle.gr_model.specs.Reports.{AreRaces}
 use Rattle.gr_model.specs.Streams.{Streams}
 use Rattle.gr_model.specs.Waits.{IsGrounded}
+use Rattle.gr_explain.specs.TagRaces.{AreTagRaces}
 use Rattle.gr_races.specs.declared.cause.Cause.{Cause}
 use Rattle.gr_places.specs.declared.places.Placed.{Placed}
-use Rattle.gr_races.specs.Kinds.{all_kinded}
-use Rattle.gr_races.specs.Listing.{Entry, entries}
+use Rattle.gr_races.specs.Kinds.{all_kinded, tag_at}
+use Rattle.gr_races.specs.Listing.{Entry, entries, in_order}
 use Rattle.gr_races.specs.Telling.{AreTold, with_causes}
 
--- the racy words of a launch where places have these numbers, each with a racing pair, kind by kind, with causes where they
--- are asked for, and how many there are
+-- the races of a launch where places have these numbers, one for each racy word and each two tags that race on it, kind by kind, with
+-- causes where they are asked for, and how many racy words there are
 pub record AreListedRaces (s : Streams) (numbers : Placed → Option ℕ) (causes : Bool) (by_kind : List Entry) (count : ℕ) : Type 0 where
+  pub racy : List Word
+  pub words : AreRaces s racy
   pub races : List Race
-  pub exact : ArePairedRaces s races
+  pub exact : AreTagRaces s (tag_at s numbers) racy races
   pub told : List Cause
   pub causes_told : AreTold s causes races told
-  pub listed : by_kind ≡ entries (all_kinded s numbers (with_causes races told))
-  pub counted : count ≡ length races
+  pub listed : by_kind ≡ entries (in_order (all_kinded s numbers (with_causes races told)))
+  pub counted : count ≡ length racy
 
 -- a word is racy
 abbrev pub HasRace : Streams → Type 0

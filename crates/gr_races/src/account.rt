@@ -1,24 +1,36 @@
-//! The least racing pair of a word, what its accesses are, what stands between them, and the cause of their race.
+//! The least racing pair of a word, what its accesses are, what stands between them, the cause of their race, and the word's other
+//! races.
 
-ghost use Rattle.std.specs.Prelude.{◌≡◌, IfOk, option_map};
+ghost use Rattle.std.specs.Prelude.{◌≡◌, ℕ, IfOk, Option, option_map};
 ghost use Rattle.gr_model.specs.declared.event.Word.{Word as AnyWord};
 ghost use Rattle.gr_model.specs.Streams.{IsEvent};
 ghost use Rattle.gr_races.specs.Causes.{IsCause};
 ghost use Rattle.gr_explain.specs.LeastRaces.{IsLeastRace};
-ghost use Rattle.gr_races.specs.Accounts.{IsAccount, IsAccountOf, account_said};
+ghost use Rattle.gr_places.specs.declared.places.Placed.{Placed as AnyPlaced};
+ghost use Rattle.gr_places.specs.PlaceIndexes.{number_at};
+ghost use Rattle.gr_places.specs.SideLines.{place_number};
+ghost use Rattle.gr_places.specs.Sides.{sides_said};
+ghost use Rattle.gr_races.specs.Accounts as spec;
+ghost use Rattle.gr_races.specs.Accounts.{AreOthers, IsAccount, IsAccountOf, account_said};
 
 use crate::between::{Between, between_of};
 use crate::cause::{Cause, cause_of};
+use crate::kinds::KindedRace;
+use crate::listing::ordered_rows;
+use crate::place_tags::{PlaceTags, tag_races};
 use gr_accesses::details::{Details, details_of};
 use gr_explain::explain::explain;
 use gr_explain::records::Records;
+use gr_explain::tags::Tags;
 use gr_explain::taking::take_all;
 use gr_model::event::{EventId, Word};
 use gr_model::memory::Memory;
 use gr_model::traces::Traces;
+use gr_places::index::PlaceIndex;
+use gr_places::sides::Sides;
 use std::alloc::{Allocator, Global};
 
-/// A racing pair and the cause of the race.
+/// A racing pair, the cause of the race, and the other races of the word.
 #[derive(Drop)]
 #[derive_where(Debug)]
 pub struct Account<A: Allocator = Global> {
@@ -34,9 +46,51 @@ pub struct Account<A: Allocator = Global> {
     pub between: Between<A>,
     /// The cause.
     pub cause: Cause,
+    /// A race for each further two tags that race on the word.
+    pub others: Vec<KindedRace, A>,
 }
 
-/// What is told of the least racing pair of a word, of this cause, with all records of the launch.
+/// Of these races those that are not of two events' tags.
+///
+/// # Errors
+/// `Memory`: out of memory.
+fn others_of<A: Allocator>(
+    alloc: A,
+    rows: &[KindedRace],
+    tag: u128,
+    other: u128,
+) -> Result<Vec<KindedRace, A>, Memory>
+    ensures { IfOk result (λ others. others.items ≡ spec.others_of rows.now tag other) }
+{
+    let others = rows
+        .iter()
+        .copied()
+        .filter(|row| !row.kind.is_of(tag, other))
+        .collect(alloc)?;
+    Ok(others)
+}
+
+/// A race for each two tags that race on a word but for those of two events.
+///
+/// # Errors
+/// `Memory`: out of memory.
+fn other_races<A: Allocator + Copy>(
+    alloc: A,
+    traces: &Traces<A>,
+    tags: &PlaceTags<'_, A>,
+    word: Word,
+    first: EventId,
+    second: EventId,
+) -> Result<Vec<KindedRace, A>, Memory>
+    requires same { tags.now.records.now ≡ traces.now }
+    ensures { IfOk result (λ others. AreOthers traces.now (number_at tags.now.index.now) word first second others.items) }
+{
+    let races = tag_races(alloc, traces, tags.records, tags.index, &[word])?;
+    let rows = ordered_rows(alloc, tags.records, tags.index, &races, &[])?;
+    others_of(alloc, &rows, tags.tag(first), tags.tag(second))
+}
+
+/// What is told of the least racing pair of a word, of this cause, with all records of the launch and the word's other races.
 ///
 /// # Errors
 /// `Memory`: out of memory.
@@ -47,11 +101,12 @@ fn account_with<A: Allocator + Copy>(
     first: EventId,
     second: EventId,
     cause: Cause,
+    others: Vec<KindedRace, A>,
 ) -> Result<Account<A>, Memory>
     requires same { records.now ≡ traces.now }
     requires first { IsEvent traces.now first }
     requires second { IsEvent traces.now second }
-    ensures { IfOk result (λ account. (w : AnyWord) → IsLeastRace traces.now w (first, second) → IsCause traces.now w first second cause → IsAccount traces.now w (account_said account)) }
+    ensures { IfOk result (λ account. (w : AnyWord) (numbers : AnyPlaced → Option ℕ) → IsLeastRace traces.now w (first, second) → IsCause traces.now w first second cause → AreOthers traces.now numbers w first second others.items → IsAccount traces.now numbers w (account_said account)) }
 {
     let between = between_of(alloc, traces, records, first, second)?;
     Ok(Account {
@@ -61,6 +116,7 @@ fn account_with<A: Allocator + Copy>(
         second_details: details_of(traces, records, second),
         between,
         cause,
+        others,
     })
 }
 
@@ -71,35 +127,58 @@ fn account_with<A: Allocator + Copy>(
 fn account_of_pair<A: Allocator + Copy>(
     alloc: A,
     traces: &Traces<A>,
+    index: &PlaceIndex<'_, A>,
     word: Word,
     first: EventId,
     second: EventId,
 ) -> Result<Account<A>, Memory>
     requires { IsLeastRace traces.now word (first, second) }
-    ensures { IfOk result (λ account. IsAccount traces.now word (account_said account)) }
+    ensures { IfOk result (λ account. IsAccount traces.now (number_at index.now) word (account_said account)) }
 {
     let cause = cause_of(alloc, traces, word, first, second)?;
     let records = Records::of(take_all(alloc, traces)?);
-    account_with(alloc, traces, &records, first, second, cause)
+    let tags = PlaceTags {
+        records: &records,
+        index,
+    };
+    let others = other_races(alloc, traces, &tags, word, first, second)?;
+    account_with(alloc, traces, &records, first, second, cause, others)
 }
 
-/// The least racing pair of a word with what stands between its accesses and the cause of the race, or `None` where the
-/// word is not racy.
+/// What is told of the least racing pair of a word, where this index has the places, or `None` where the word is not racy.
+///
+/// # Errors
+/// `Memory`: out of memory.
+fn account_by<A: Allocator + Copy>(
+    alloc: A,
+    traces: &Traces<A>,
+    index: &PlaceIndex<'_, A>,
+    word: Word,
+) -> Result<Option<Account<A>>, Memory>
+    ensures { IfOk result (λ account. IsAccountOf traces.now (number_at index.now) word (option_map account_said account)) }
+{
+    match explain(alloc, traces, word)? {
+        None => Ok(None),
+        Some((first, second)) => {
+            let account = account_of_pair(alloc, traces, index, word, first, second)?;
+            Ok(Some(account))
+        }
+    }
+}
+
+/// The least racing pair of a word with what stands between its accesses, the cause of the race, and the word's other races, by what
+/// side files say, or `None` where the word is not racy.
 ///
 /// # Errors
 /// `Memory`: out of memory.
 pub fn account_of<A: Allocator + Copy>(
     alloc: A,
     traces: &Traces<A>,
+    sides: &Sides<'_>,
     word: Word,
 ) -> Result<Option<Account<A>>, Memory>
-    ensures { IfOk result (λ account. IsAccountOf traces.now word (option_map account_said account)) }
+    ensures { IfOk result (λ account. IsAccountOf traces.now (place_number (sides_said sides.now).places) word (option_map account_said account)) }
 {
-    match explain(alloc, traces, word)? {
-        None => Ok(None),
-        Some((first, second)) => {
-            let account = account_of_pair(alloc, traces, word, first, second)?;
-            Ok(Some(account))
-        }
-    }
+    let index = PlaceIndex::of(alloc, sides.places)?;
+    account_by(alloc, traces, &index, word)
 }

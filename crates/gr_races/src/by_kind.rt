@@ -1,28 +1,24 @@
 //! The races of a launch kind by kind.
 
 ghost use Rattle.std.specs.Prelude.{◌≡◌, IfOk, map};
-ghost use Rattle.gr_model.specs.RacePairs.{ArePairedRaces};
-ghost use Rattle.gr_model.specs.Reports.{IsReportOf};
+ghost use Rattle.gr_model.specs.Reports.{AreRaces, IsReportOf};
 ghost use Rattle.gr_report.specs.Whole.{whole_of};
 ghost use Rattle.gr_places.specs.PlaceIndexes.{number_at};
 ghost use Rattle.gr_places.specs.SideLines.{place_number};
-ghost use Rattle.gr_races.specs.Kinds.{all_kinded};
-ghost use Rattle.gr_races.specs.Listing.{entries, entry_of};
+ghost use Rattle.gr_races.specs.Listing.{entry_of};
 ghost use Rattle.gr_races.specs.Shown.{AreListedRaces};
-ghost use Rattle.gr_races.specs.Telling.{with_causes};
 ghost use Rattle.gr_places.specs.Sides.{sides_said};
 
-use crate::cause::Cause;
 use crate::causes::causes_told;
 use crate::listing::{KindEntry, entries_of};
+use crate::place_tags::tag_races;
 use gr_explain::records::Records;
 use gr_explain::taking::take_all;
 use gr_model::memory::Memory;
-use gr_model::race::Race;
 use gr_model::traces::Traces;
 use gr_places::index::PlaceIndex;
 use gr_places::sides::Sides;
-use gr_replay::detect::{Detection, detect_races};
+use gr_replay::detect::detect;
 use gr_report::report::Report;
 use std::alloc::{Allocator, Global};
 
@@ -32,7 +28,7 @@ use std::alloc::{Allocator, Global};
 pub struct RacesByKind<A: Allocator = Global> {
     /// The kinds, each with its races.
     pub kinds: Vec<KindEntry<A>, A>,
-    /// How many races there are, one of each racy word.
+    /// How many racy words there are.
     pub races: usize,
     /// The report.
     pub report: Report<A>,
@@ -48,44 +44,30 @@ impl<A: Allocator> RacesByKind<A> {
     }
 }
 
-/// These races of a launch kind by kind, where this index has the places and these are the causes that are told of them.
-///
-/// # Errors
-/// `Memory`: out of memory.
-fn list_told<A: Allocator + Copy>(
-    alloc: A,
-    traces: &Traces<A>,
-    index: &PlaceIndex<'_, A>,
-    races: &[Race],
-    told: &[Cause],
-) -> Result<Vec<KindEntry<A>, A>, Memory>
-    ensures { IfOk result (λ listed. map entry_of listed.items ≡ entries (all_kinded traces.now (number_at index.now) (with_causes races.now told.now))) }
-{
-    let records = Records::of(take_all(alloc, traces)?);
-    entries_of(alloc, &records, index, races, told)
-}
-
-/// What is found of a launch, its races kind by kind, where this index has the places.
+/// What is found of a launch, of which this is the report, its races kind by kind, where this index has the places.
 ///
 /// # Errors
 /// `Memory`: out of memory.
 fn list_found<A: Allocator + Copy>(
     alloc: A,
     traces: &Traces<A>,
+    records: &Records<A>,
     index: &PlaceIndex<'_, A>,
     causes: bool,
-    found: Detection<A>,
+    report: Report<A>,
 ) -> Result<RacesByKind<A>, Memory>
-    requires { ArePairedRaces traces.now found.races.items }
+    requires same { records.now ≡ traces.now }
+    requires races { AreRaces traces.now report.races }
     ensures listed { IfOk result (λ r. AreListedRaces traces.now (number_at index.now) causes (map entry_of r.kinds.items) r.races) }
-    ensures report { IfOk result (λ r. r.report ≡ found.report) }
+    ensures report { IfOk result (λ r. r.report ≡ report) }
 {
-    let told = causes_told(alloc, traces, causes, &found.races)?;
-    let kinds = list_told(alloc, traces, index, &found.races, &told)?;
+    let races = tag_races(alloc, traces, records, index, report.races.as_slice())?;
+    let told = causes_told(alloc, traces, causes, &races)?;
+    let kinds = entries_of(alloc, records, index, &races, &told)?;
     Ok(RacesByKind {
         kinds,
-        races: found.races.len(),
-        report: found.report,
+        races: report.races.as_slice().len(),
+        report,
     })
 }
 
@@ -102,8 +84,9 @@ fn list_races<A: Allocator + Copy>(
     ensures listed { IfOk result (λ r. AreListedRaces traces.now (number_at index.now) causes (map entry_of r.kinds.items) r.races) }
     ensures report { IfOk result (λ r. IsReportOf traces.now (whole_of r.report)) }
 {
-    let found = detect_races(alloc, traces)?;
-    list_found(alloc, traces, index, causes, found)
+    let report = detect(alloc, traces)?;
+    let records = Records::of(take_all(alloc, traces)?);
+    list_found(alloc, traces, &records, index, causes, report)
 }
 
 /// What is found of a launch, its races kind by kind.

@@ -28,13 +28,13 @@ pub enum Operation {
     Rmw,
 }
 
-/// Where both accesses of a race stand in the source, by the numbers of the places.
+/// What an access does, and where it stands in the source.
 #[derive(Clone, Copy, Debug, PartialEq, Eq)]
-pub struct PlacePair {
-    /// The number of the smaller event's place.
-    pub first: usize,
-    /// The number of the greater event's place.
-    pub second: usize,
+pub struct PlacedOperation {
+    /// What it does.
+    pub operation: Operation,
+    /// The number of its place, if the file of places has it.
+    pub place: Option<usize>,
 }
 
 /// The kind of a race.
@@ -42,16 +42,40 @@ pub struct PlacePair {
 pub struct RaceKind {
     /// The memory of the word.
     pub space: Space,
-    /// What the smaller event does.
-    pub first: Operation,
-    /// What the greater event does.
-    pub second: Operation,
+    /// What one access does, and where: of both that with the lesser tag.
+    pub first: PlacedOperation,
+    /// What the other access does, and where.
+    pub second: PlacedOperation,
     /// Whether both events are of one work-group.
     pub one_group: bool,
-    /// Where both events stand, if the file of places has both.
-    pub places: Option<PlacePair>,
     /// The cause of the race, if causes were asked for.
     pub cause: Option<Cause>,
+}
+
+impl RaceKind {
+    /// Whether both accesses do the same at one place, or at no known one.
+    pub fn is_alike(&self) -> bool
+        ensures { result ≡ spec.is_alike self.now }
+    {
+        tag_of(self.first) == tag_of(self.second)
+    }
+
+    /// Whether the accesses have these tags, in whatever order.
+    pub(crate) fn is_of(&self, tag: u128, other: u128) -> bool
+        ensures { result ≡ spec.is_of_tags self.now tag other }
+    {
+        let (first, second) = (tag_of(self.first), tag_of(self.second));
+        (first == tag && second == other) || (first == other && second == tag)
+    }
+
+    /// Whether both accesses are plain writes, or both atomic stores, of one place in the source.
+    pub fn all_write_here(&self) -> bool
+        ensures { result ≡ spec.all_write_here self.now }
+    {
+        self.is_alike()
+            && self.first.place.is_some()
+            && matches!(self.first.operation, Operation::Write | Operation::Store)
+    }
 }
 
 /// A race and its kind.
@@ -59,7 +83,7 @@ pub struct RaceKind {
 pub struct KindedRace {
     /// The kind.
     pub kind: RaceKind,
-    /// The race.
+    /// The race, turned so that its first event is that of the kind's first access.
     pub race: Race,
 }
 
@@ -89,13 +113,64 @@ fn operation_at<A: Allocator>(records: &Records<A>, event: EventId) -> Option<Op
     operation_of(&taken.kind)
 }
 
-/// The places of both events of a race, or `None` where one of them has none.
-fn places_of<A: Allocator>(index: &PlaceIndex<'_, A>, race: &Race) -> Option<PlacePair>
-    ensures { result ≡ spec.places_of (number_at index.now) race.now }
+/// What an event of a launch does, and where, or `None` where it is not there or is no access.
+pub(crate) fn placed_at<A: Allocator>(
+    records: &Records<A>,
+    index: &PlaceIndex<'_, A>,
+    event: EventId,
+) -> Option<PlacedOperation>
+    ensures { result ≡ spec.placed_at records.now (number_at index.now) event }
 {
-    let first = index.number_of(Placed::Event(race.first))?;
-    let second = index.number_of(Placed::Event(race.second))?;
-    Some(PlacePair { first, second })
+    let operation = operation_at(records, event)?;
+    Some(PlacedOperation {
+        operation,
+        place: index.number_of(Placed::Event(event)),
+    })
+}
+
+/// The number of an operation: those that modify come first.
+fn operation_number(operation: Operation) -> u128
+    ensures { result ≡ spec.operation_number operation }
+{
+    match operation {
+        Operation::Write => 0,
+        Operation::Store => 1,
+        Operation::Rmw => 2,
+        Operation::Read => 3,
+        Operation::Load => 4,
+    }
+}
+
+/// The tag of what an access does and where: no place comes first, then the places by their numbers.
+pub(crate) fn tag_of(placed: PlacedOperation) -> u128
+    ensures { result ≡ spec.tag_of placed }
+{
+    let place = match placed.place {
+        None => 0,
+        Some(number) => number as u128 + 1,
+    };
+    place * 5 + operation_number(placed.operation)
+}
+
+/// The kind of a race whose first event does the one and whose second event does the other, where this is the cause that is told of it.
+fn kind_of(
+    race: &Race,
+    first: PlacedOperation,
+    second: PlacedOperation,
+    cause: Option<Cause>,
+) -> KindedRace
+    ensures { result ≡ spec.kind_of race.now cause first second }
+{
+    KindedRace {
+        kind: RaceKind {
+            space: memory_of(race.word),
+            first,
+            second,
+            one_group: race.first.at.group == race.second.at.group,
+            cause,
+        },
+        race: *race,
+    }
 }
 
 /// A race with its kind, where this is the cause that is told of it, or `None` where its events are not two accesses of
@@ -108,17 +183,16 @@ pub(crate) fn kinded<A: Allocator>(
 ) -> Option<KindedRace>
     ensures { result ≡ spec.kinded records.now (number_at index.now) (race.now, cause) }
 {
-    let first = operation_at(records, race.first)?;
-    let second = operation_at(records, race.second)?;
-    Some(KindedRace {
-        kind: RaceKind {
-            space: memory_of(race.word),
-            first,
-            second,
-            one_group: race.first.at.group == race.second.at.group,
-            places: places_of(index, race),
-            cause,
-        },
-        race: *race,
-    })
+    let first = placed_at(records, index, race.first)?;
+    let second = placed_at(records, index, race.second)?;
+    if tag_of(second) < tag_of(first) {
+        let turned = Race {
+            word: race.word,
+            first: race.second,
+            second: race.first,
+        };
+        Some(kind_of(&turned, second, first, cause))
+    } else {
+        Some(kind_of(race, first, second, cause))
+    }
 }

@@ -15,5 +15,6 @@ pub mod kinds;
 pub mod laws;
 pub mod listing;
 mod parting;
+mod place_tags;
 pub mod relaxing;
 pub mod runs;

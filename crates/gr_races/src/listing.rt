@@ -72,6 +72,30 @@ fn all_kinded<A: Allocator + Copy>(
     Ok(rows)
 }
 
+/// Races of two tags before those of one.
+///
+/// # Errors
+/// `Memory`: out of memory.
+fn in_order<A: Allocator + Copy>(
+    alloc: A,
+    rows: &[KindedRace],
+) -> Result<Vec<KindedRace, A>, Memory>
+    ensures { IfOk result (λ ordered. ordered.items ≡ spec.in_order rows.now) }
+{
+    let mut ordered: Vec<KindedRace, A> = rows
+        .iter()
+        .copied()
+        .filter(|row| !row.kind.is_alike())
+        .collect(alloc)?;
+    let alike: Vec<KindedRace, A> = rows
+        .iter()
+        .copied()
+        .filter(|row| row.kind.is_alike())
+        .collect(alloc)?;
+    ordered.extend_from_slice(&alike)?;
+    Ok(ordered)
+}
+
 /// Whether a kind is one of these.
 fn has_kind(kinds: &[RaceKind], kind: RaceKind) -> bool
     ensures { result ≡ list_any (λ l. same_kind l kind) kinds.now }
@@ -156,7 +180,25 @@ fn list_kinds<A: Allocator + Copy>(
     Ok(entries)
 }
 
-/// The races kind by kind, where these are the causes that are told of them, the first of the first race.
+/// The races with their kinds, those of two tags before those of one, where these are the causes that are told of them.
+///
+/// # Errors
+/// `Memory`: out of memory.
+pub(crate) fn ordered_rows<A: Allocator + Copy>(
+    alloc: A,
+    records: &Records<A>,
+    index: &PlaceIndex<'_, A>,
+    races: &[Race],
+    causes: &[Cause],
+) -> Result<Vec<KindedRace, A>, Memory>
+    ensures { IfOk result (λ rows. rows.items ≡ spec.in_order (all_kinded records.now (number_at index.now) (with_causes races.now causes.now))) }
+{
+    let rows = all_kinded(alloc, records, index, races, causes)?;
+    in_order(alloc, &rows)
+}
+
+/// The races kind by kind, those of two tags before those of one, where these are the causes that are told of them, the first of the
+/// first race.
 ///
 /// # Errors
 /// `Memory`: out of memory.
@@ -167,8 +209,8 @@ pub(crate) fn entries_of<A: Allocator + Copy>(
     races: &[Race],
     causes: &[Cause],
 ) -> Result<Vec<KindEntry<A>, A>, Memory>
-    ensures { IfOk result (λ entries. map spec.entry_of entries.items ≡ spec.entries (all_kinded records.now (number_at index.now) (with_causes races.now causes.now))) }
+    ensures { IfOk result (λ entries. map spec.entry_of entries.items ≡ spec.entries (spec.in_order (all_kinded records.now (number_at index.now) (with_causes races.now causes.now)))) }
 {
-    let rows = all_kinded(alloc, records, index, races, causes)?;
+    let rows = ordered_rows(alloc, records, index, races, causes)?;
     list_kinds(alloc, &rows)
 }

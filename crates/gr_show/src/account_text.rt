@@ -1,15 +1,17 @@
 //! The text of the long form of `explain`, with what side files say.
 
-use crate::event_text::{put_cause, put_told};
+use crate::event_text::{put_cause, put_name, put_told};
 use crate::explanation::{put_event, put_explanation};
 use crate::sides_text::{end_at, put_buffer};
 use gr_accesses::details::Details;
+use gr_json::names::operation_name;
 use gr_model::event::{EventId, Word};
 use gr_places::index::PlaceIndex;
 use gr_places::places::Placed;
 use gr_places::sides::Sides;
 use gr_races::account::Account;
 use gr_races::between::{Between, Crossing, Told};
+use gr_races::kinds::{KindedRace, Operation};
 use gr_report::putting::{WriteFault, put, put_field};
 use std::alloc::Allocator;
 use std::io::Write;
@@ -72,8 +74,44 @@ fn put_between<A: Allocator, W: Write>(
     put_half(writer, places, b"acquire before second ", between.acquire)
 }
 
+/// Writes what an access does, and where it stands.
+fn put_operation<A: Allocator, W: Write>(
+    writer: &mut W,
+    places: &PlaceIndex<'_, A>,
+    label: &[u8],
+    operation: Operation,
+    event: EventId,
+) -> Result<(), WriteFault> {
+    put(writer, label)?;
+    put_name(writer, operation_name(operation))?;
+    end_at(writer, places, Placed::Event(event))
+}
+
+/// Writes the other races of a word: of each two accesses, what they do, and where they stand.
+fn put_others<A: Allocator, W: Write>(
+    writer: &mut W,
+    places: &PlaceIndex<'_, A>,
+    others: &[KindedRace],
+) -> Result<(), WriteFault> {
+    for other in others {
+        let (kind, race) = (other.kind, other.race);
+        put_event(writer, b"also ", race.first)?;
+        put_event(writer, b" with ", race.second)?;
+        put(writer, b"\n")?;
+        put_operation(writer, places, b"first", kind.first.operation, race.first)?;
+        put_operation(
+            writer,
+            places,
+            b"second",
+            kind.second.operation,
+            race.second,
+        )?;
+    }
+    Ok(())
+}
+
 /// Writes the line of a word and its least racing pair, or of a word that has none, and below it what the two accesses
-/// are, what stands between them and the cause of their race, with what side files say.
+/// are, what stands between them, the cause of their race and the word's other races, with what side files say.
 ///
 /// # Errors
 /// `WriteFault` where the writer fails.
@@ -93,5 +131,6 @@ pub(crate) fn put_account<A: Allocator, W: Write>(
     put_details(writer, places, b"first", first, &account.first_details)?;
     put_details(writer, places, b"second", second, &account.second_details)?;
     put_between(writer, places, &account.between)?;
-    put_cause(writer, word, account.cause)
+    put_cause(writer, word, account.cause)?;
+    put_others(writer, places, &account.others)
 }

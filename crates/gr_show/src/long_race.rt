@@ -2,6 +2,7 @@
 
 ghost use Rattle.std.specs.Prelude.{option_map};
 ghost use Rattle.gr_accesses.specs.Racy.{IsRacyIn};
+ghost use Rattle.gr_places.specs.SideLines.{place_number};
 ghost use Rattle.gr_races.specs.Accounts.{IsAccountOf, account_said};
 ghost use Rattle.gr_show.specs.Rendering.{Renders};
 
@@ -26,19 +27,19 @@ pub struct LongRace {
 impl<A: Allocator + Copy> Question<A> for LongRace {
     type Answer = Option<Account<A>>;
 
-    ghost is_answer = { λ q said launch account. IsAccountOf launch q.word (option_map account_said account) };
+    ghost is_answer = { λ q said launch account. IsAccountOf launch (place_number said.places) q.word (option_map account_said account) };
 
     ghost is_found = { λ q. IsRacyIn q.word };
 
-    ghost is_text = { λ q said launch. Renders (IsAccountOf launch q.word) };
+    ghost is_text = { λ q said launch. Renders (IsAccountOf launch (place_number said.places) q.word) };
 
     fn answer(
         &self,
         alloc: A,
         launch: &Traces<A>,
-        _sides: &Sides<'_>,
+        sides: &Sides<'_>,
     ) -> Result<Option<Account<A>>, Memory> {
-        account_of(alloc, launch, self.word)
+        account_of(alloc, launch, sides, self.word)
     }
 
     fn found(&self, answer: &Option<Account<A>>) -> bool {
@@ -61,7 +62,7 @@ impl<A: Allocator + Copy> Question<A> for LongRace {
 }
 
 impl JsonQuestion for LongRace {
-    ghost is_json = { λ q said launch. Renders (IsAccountOf launch q.word) };
+    ghost is_json = { λ q said launch. Renders (IsAccountOf launch (place_number said.places) q.word) };
 
     fn json(
         &self,

@@ -23,8 +23,8 @@ const MOST_RUNS: usize = 5;
 fn put_kind<W: Write>(writer: &mut W, kind: RaceKind, words: usize) -> Result<(), WriteFault> {
     put(writer, b"kind")?;
     put_name(writer, space_name(kind.space))?;
-    put_name(writer, operation_name(kind.first))?;
-    put_name(writer, operation_name(kind.second))?;
+    put_name(writer, operation_name(kind.first.operation))?;
+    put_name(writer, operation_name(kind.second.operation))?;
     put_name(
         writer,
         if kind.one_group {
@@ -100,6 +100,9 @@ fn put_entry<A: Allocator, W: Write>(
         return Ok(());
     };
     put_race(writer, sides, race)?;
+    if entry.kind.all_write_here() {
+        put(writer, b"note all items write here\n")?;
+    }
     match entry.kind.cause {
         None => Ok(()),
         Some(cause) => put_cause(writer, race.word, cause),

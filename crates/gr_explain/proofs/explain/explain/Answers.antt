@@ -1,5 +1,5 @@
-use Rattle.std.proofs.Common.{◌≡◌, Err, IfOk, MatchOption, Ok, Option, ap, subst}
-use Rattle.gr_model.specs.RacePairs.{IsRacePair, Pair}
+use Rattle.std.proofs.Common.{Err, IfOk, MatchOption, Ok, ap, subst}
+use Rattle.gr_model.specs.RacePairs.{IsRacePair}
 use Rattle.gr_model.specs.Races.{IsRacy}
 use Rattle.gr_model.specs.Streams.{Streams}
 use Rattle.gr_model.specs.Waits.{IsGrounded}

@@ -2,9 +2,10 @@ use Rattle.std.proofs.Common.{◌∙◌, subst}
 use Rattle.gr_model.specs.LawfulOrders.{IsLawful}
 use Rattle.gr_order.specs.Sequences.{Sequence}
 use Rattle.gr_sequencer.specs.Answers.{IsStep}
+use Rattle.gr_explain.specs.Search.{StandsFor}
+use Rattle.gr_explain.proofs.AlongLemmas.{along_step}
 use Rattle.gr_explain.proofs.KeptLemmas.{done_where_none, same_where_none, taken_stays, whole_at_rest}
 use Rattle.gr_explain.proofs.RacePairs.{least_clash_is_race}
-use Rattle.gr_explain.proofs.SearchLemmas.{along_step}
 use Rattle.gr_explain.proofs.explain.handle_all.Goals as goal
 
 pub loop-step-preserved : goal.loop-step-preserved
@@ -12,7 +13,7 @@ loop-step-preserved g c =
     let step : IsStep c.loop-step.sequencer c.step.new.self c.in-Some.step = rw c.in-Some.is at c.in_ok-step.ensures.some in
     record {
       taken = taken_stays c.loop-step.sequencer c.step.new.self c.in-Some.step step ∙ c.loop-step.invariant.taken;
-      along = along_step c.args.sequencer.now.taken c.args.word c.loop-step.sequencer c.step.new.self c.in-Some.step c.loop-step.search c.add_step.new.search c.loop-step.invariant.taken step c.in_ok-add_step.ensures c.loop-step.invariant.along;
+      along = along_step (λ accesses search. StandsFor c.args.word accesses search) c.args.sequencer.now.taken c.loop-step.search c.add_step.new.search c.loop-step.sequencer c.step.new.self c.in-Some.step c.loop-step.invariant.taken step c.in_ok-add_step.ensures c.loop-step.invariant.along;
     }
 
 pub returns : goal.returns

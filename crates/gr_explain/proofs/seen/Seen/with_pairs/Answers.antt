@@ -6,7 +6,7 @@ use Rattle.std.specs.Map.Iter.{deref}
 use Rattle.gr_model.specs.contracts.event.ItemIdOrd.TheImpl as item_order
 use Rattle.gr_model.specs.declared.event.EventId.{EventId}
 use Rattle.gr_model.specs.declared.event.ItemId.{ItemId}
-use Rattle.gr_model.specs.RacePairs.{IsTurned, Pair}
+use Rattle.gr_model.specs.RacePairs.{IsTurned}
 use Rattle.gr_model.specs.Reports.{EventBelow}
 use Rattle.gr_clocks.specs.ClockedAccess.{clocked}
 use Rattle.gr_shadow.specs.Clashes.{event_of}

@@ -1,0 +1,26 @@
+-- The accesses to a word in a list, and the pairs of them that clash.
+-- Source: docs/MODEL.md, "Hits".
+use Rattle.std.specs.Prelude.{◌≡◌, ℕ, List, Some, slice_get}
+use Rattle.gr_model.specs.declared.event.EventId.{EventId}
+use Rattle.gr_model.specs.declared.event.Word.{Word}
+use Rattle.gr_model.specs.RacePairs.{IsTurned, Pair}
+use Rattle.gr_model.specs.Reports.{EventBelow}
+use Rattle.gr_scopes.specs.declared.class.Class.{Class}
+use Rattle.gr_shadow.specs.Clashes.{ClockedAccess, IsClashIn, event_of}
+
+-- an event of a class is that of an access to the word
+pub record IsOfList (w : Word) (accesses : List ClockedAccess) (e : EventId) (c : Class) : Type 0 where
+  pub place : ℕ
+  pub access : ClockedAccess
+  pub at : slice_get accesses place ≡ Some access
+  pub word : access.word ≡ w
+  pub event : event_of access ≡ e
+  pub class : access.class ≡ c
+
+-- two accesses of the list that clash on the word, the smaller event first
+pub record IsClashPair (w : Word) (accesses : List ClockedAccess) (pair : Pair) : Type 0 where
+  pub earlier : EventId
+  pub later : EventId
+  pub clash : IsClashIn accesses w earlier later
+  pub turned : IsTurned earlier later pair
+  pub below : EventBelow pair.0 pair.1

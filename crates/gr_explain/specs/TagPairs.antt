@@ -1,0 +1,104 @@
+-- The pairs of tags that race on a word, found along the accesses to it.
+-- Source: docs/MODEL.md, "Hits". Tags are this project's own.
+use Rattle.std.specs.Prelude.{◌≡◌, ◌⊎◌, ◌∷◌, ◌++◌, ◌==◌, ◌&&◌, ◌||◌, ◌<◌, ℕ, Bool, false, AllPairs, Contains, IsTrue, List, [], length, slice_index_or as get_or}
+use Rattle.std.specs.List.{list_any}
+use Rattle.gr_model.specs.declared.event.EventId.{EventId}
+use Rattle.gr_model.specs.declared.event.Word.{Word}
+use Rattle.gr_model.specs.RacePairs.{HasTags, IsTurned}
+use Rattle.gr_model.specs.Reports.{EventBelow}
+use Rattle.gr_scopes.specs.declared.class.Class.{Class}
+use Rattle.gr_shadow.specs.Clashes.{ClockedAccess, IsClashIn, event_of}
+use Rattle.gr_explain.specs.Alike.{AlikeEvents, IsInPlaceOf, IsOfKind, event_clashes}
+use Rattle.gr_explain.specs.ClashPairs.{IsClashPair, IsOfList}
+use Rattle.gr_explain.specs.declared.tag_pairs.TaggedRace.{TaggedRace}
+use Rattle.gr_explain.specs.declared.tag_pairs.TagPairs.{TagPairs}
+
+-- ---- races with their tags
+
+-- the two tags of a race are these
+abbrev pub is_of_tags : ℕ → ℕ → TaggedRace → Bool
+is_of_tags a b t = ((t.tag == a) && (t.other == b)) || ((t.tag == b) && (t.other == a))
+
+-- there is a race of these tags
+abbrev pub has_tags : List TaggedRace → ℕ → ℕ → Bool
+has_tags found a b = list_any (is_of_tags a b) found
+
+-- no two races have the same tags
+abbrev pub HaveOtherTags : List TaggedRace → Type 0
+HaveOtherTags found = AllPairs (λ t u. is_of_tags t.tag t.other u ≡ false) found
+
+-- the race of a later access with that of an earlier event, where the two differ
+pub record IsFound (earlier : EventId) (earlier_tag : ℕ) (y : ClockedAccess) (tag : ℕ) (t : TaggedRace) : Type 0 where
+  pub word : t.race.word ≡ y.word
+  pub turned : IsTurned earlier (event_of y) (t.race.first, t.race.second)
+  pub below : ¬ (earlier ≡ event_of y) → EventBelow t.race.first t.race.second
+  pub first_tag : t.tag ≡ earlier_tag
+  pub second_tag : t.other ≡ tag
+
+-- the race of a later access with one of these with which it clashes
+pub record IsFoundAmong (lists : List AlikeEvents) (y : ClockedAccess) (tag : ℕ) (t : TaggedRace) : Type 0 where
+  pub list : AlikeEvents
+  pub there : Contains lists list
+  pub earlier : EventId
+  pub event : Contains list.events earlier
+  pub clash : IsTrue (event_clashes list.class y earlier)
+  pub found : IsFound earlier list.tag y tag t
+
+-- the races of a later access with these were added, one for each two tags that had none
+pub record Finds (y : ClockedAccess) (tag : ℕ) (lists : List AlikeEvents) (old new : List TaggedRace) : Type 0 where
+  pub kept : (a b : ℕ) → IsTrue (has_tags old a b) → IsTrue (has_tags new a b)
+  pub each : (t : TaggedRace) → Contains new t → Contains old t ⊎ IsFoundAmong lists y tag t
+  pub whole : (l : AlikeEvents) (e : EventId) → Contains lists l → Contains l.events e → IsTrue (event_clashes l.class y e) → IsTrue (has_tags new l.tag tag)
+  pub others : HaveOtherTags old → HaveOtherTags new
+
+-- ---- the accesses that are kept
+
+-- accesses of this tag and class belong in the list at a place
+pub record IsOfKindAt (tag : ℕ) (class : Class) (lists : List AlikeEvents) (place : ℕ) : Type 0 where
+  pub within : place < length lists
+  pub kind : (d : AlikeEvents) → IsOfKind tag class (get_or lists place d)
+
+-- the event of an access of this tag and class is kept
+pub record IsKeptIn (lists : List AlikeEvents) (tag : ℕ) (class : Class) (e : EventId) : Type 0 where
+  pub list : AlikeEvents
+  pub there : Contains lists list
+  pub tag_is : list.tag ≡ tag
+  pub class_is : list.class ≡ class
+  pub event : Contains list.events e
+
+-- an access with a tag is of this tag, class and event
+pub record IsThat (y : ClockedAccess) (tag : ℕ) (t : ℕ) (c : Class) (e : EventId) : Type 0 where
+  pub tag_is : t ≡ tag
+  pub class_is : c ≡ y.class
+  pub event_is : e ≡ event_of y
+
+-- one more access is kept: what is kept is that or was kept, and each of these has one that stands for it
+pub record KeepsMore (old : List AlikeEvents) (tag : ℕ) (y : ClockedAccess) (new : List AlikeEvents) : Type 0 where
+  pub each : (t : ℕ) (c : Class) (e : EventId) → IsKeptIn new t c e → IsThat y tag t c e ⊎ IsKeptIn old t c e
+  pub some : (t : ℕ) (c : Class) (e : EventId) → IsThat y tag t c e ⊎ IsKeptIn old t c e → (d : EventId) × IsKeptIn new t c d × IsInPlaceOf d e
+
+-- ---- the list of accesses
+
+-- an event of a tag and a class is that of an access to the word
+pub record IsOfTag (tag_of : EventId → ℕ) (w : Word) (accesses : List ClockedAccess) (t : ℕ) (c : Class) (e : EventId) : Type 0 where
+  pub access : IsOfList w accesses e c
+  pub tag_is : tag_of e ≡ t
+
+-- a race of two accesses to the word that clash, with their tags
+pub record IsTaggedClash (tag_of : EventId → ℕ) (w : Word) (accesses : List ClockedAccess) (t : TaggedRace) : Type 0 where
+  pub word : t.race.word ≡ w
+  pub clash : IsClashPair w accesses (t.race.first, t.race.second)
+  pub tags : HasTags tag_of (t.race.first, t.race.second) t.tag t.other
+
+-- of these accesses to a word each is kept, or a later one of its item, tag and class; and there is one race for each two tags of which
+-- some two accesses clash
+pub record StandsForTags {Z : Type 0} (tag_of : EventId → ℕ) (w : Word) (accesses : List ClockedAccess) (pairs : TagPairs Z) : Type 0 where
+  pub each : (t : ℕ) (c : Class) (e : EventId) → IsKeptIn pairs.lists.items t c e → IsOfTag tag_of w accesses t c e
+  pub some : (t : ℕ) (c : Class) (e : EventId) → IsOfTag tag_of w accesses t c e → (d : EventId) × IsKeptIn pairs.lists.items t c d × IsInPlaceOf d e
+  pub sound : (t : TaggedRace) → Contains pairs.found.items t → IsTaggedClash tag_of w accesses t
+  pub whole : (e f : EventId) → IsClashIn accesses w e f → IsTrue (has_tags pairs.found.items (tag_of e) (tag_of f))
+  pub others : HaveOtherTags pairs.found.items
+
+-- one more access came, which has this tag
+abbrev pub IsTagAdded : {Z : Type 0} → ClockedAccess → ℕ → TagPairs Z → TagPairs Z → Type 0
+IsTagAdded y tag old new = (tag_of : EventId → ℕ) (accesses : List ClockedAccess) → tag_of (event_of y) ≡ tag → StandsForTags tag_of y.word accesses old → StandsForTags tag_of y.word (accesses ++ y ∷ []) new

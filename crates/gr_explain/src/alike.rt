@@ -1,0 +1,127 @@
+//! The accesses to a word that have one tag and one class.
+
+ghost use Rattle.std.specs.Prelude.{◌≡◌, ◌↔◌, ◌++◌, ◌∷◌, [], IsTrue, OnOk, map};
+ghost use Rattle.std.specs.List.{find};
+ghost use Rattle.gr_clocks.specs.ClockedAccess.{clocked};
+ghost use Rattle.gr_shadow.specs.Clashes.{event_of};
+ghost use Rattle.gr_explain.specs.Alike as spec;
+ghost use Rattle.gr_explain.specs.Alike.{IsOfKind, KeepsEvents, event_clashes, no_events};
+
+use gr_clocks::access::Access;
+use gr_model::event::{EventId, ItemId};
+use gr_model::memory::Memory;
+use gr_scopes::class::{Class, exempt};
+use indexmap::IndexMap;
+use std::alloc::{Allocator, Global};
+use std::hash::{BuildHasherDefault, FoldHasher};
+use std::marker::Model;
+
+/// The accesses to a word that have one tag and one class: of each item the one with the greatest index. A later access that
+/// clashes with another one of the item clashes with this one too.
+#[derive(Drop)]
+#[derive_where(Debug)]
+pub(crate) struct Alike<A: Allocator = Global> {
+    tag: u128,
+    class: Class,
+    indexes: IndexMap<ItemId, u32, BuildHasherDefault<FoldHasher>, A>,
+}
+
+impl<A: Allocator> Model for Alike<A> {
+    ghost use Rattle.std.specs.Prelude.{map};
+    ghost use Rattle.gr_explain.specs.Alike.{AlikeEvents, entry_event};
+
+    ghost Value = { AlikeEvents };
+
+    ghost view = { λ s. record { tag = s.tag; class = s.class; events = map entry_event s.indexes.entries } };
+}
+
+/// The greater of an index and one that was kept, if there is one.
+fn greatest(kept: Option<u32>, index: u32) -> u32
+    ensures { result ≡ spec.greatest kept index }
+{
+    match kept {
+        None => index,
+        Some(kept) => { if kept < index { index } else { kept } }
+    }
+}
+
+impl<A: Allocator + Copy> Alike<A> {
+    /// No accesses of a tag and a class.
+    pub(crate) fn new(alloc: A, tag: u128, class: Class) -> Alike<A>
+        ensures { result ≡ no_events tag class }
+    {
+        Alike {
+            tag,
+            class,
+            indexes: IndexMap::new(alloc),
+        }
+    }
+}
+
+impl<A: Allocator> Alike<A> {
+    /// The tag.
+    pub(crate) fn tag(&self) -> u128
+        ensures { result ≡ self.now.tag }
+    {
+        self.tag
+    }
+
+    /// Whether an access, which has this tag, belongs here.
+    pub(crate) fn has(&self, access: &Access<A>, tag: u128) -> bool
+        ensures { IsTrue result ↔ IsOfKind tag access.now.class self.now }
+    {
+        self.tag == tag && self.class == access.class
+    }
+
+    /// The event of one of these with which a later access to the word clashes.
+    fn find_clashing(&self, access: &Access<A>) -> Option<EventId>
+        ensures { result ≡ find (event_clashes self.now.class (clocked access.now)) self.now.events }
+    {
+        self.indexes
+            .iter()
+            .map(|entry| EventId {
+                at: *entry.0,
+                index: *entry.1,
+            })
+            .find(|event| clashes(self.class, *event, access))
+    }
+
+    /// The event of one of these with which a later access to the word clashes. Where two accesses of these classes are exempt though
+    /// they are of two groups, none clashes.
+    pub(crate) fn clashing(&self, access: &Access<A>) -> Option<EventId>
+        ensures { result ≡ find (event_clashes self.now.class (clocked access.now)) self.now.events }
+    {
+        if exempt(self.class, 0, access.class, 1) {
+            return None;
+        }
+        self.find_clashing(access)
+    }
+
+    /// Adds an access, which has this tag.
+    /// Requires: it belongs here (`has`).
+    ///
+    /// # Errors
+    /// `Memory`: out of memory.
+    pub(crate) fn add(&mut self, access: &Access<A>, tag: u128) -> Result<(), Memory>
+        requires { IsOfKind tag access.now.class self.old }
+        ensures kind { OnOk result (IsOfKind tag access.now.class self.new) }
+        ensures tag { OnOk result (self.new.tag ≡ self.old.tag) }
+        ensures class { OnOk result (self.new.class ≡ self.old.class) }
+        ensures events { OnOk result (KeepsEvents self.new.events (self.old.events ++ event_of (clocked access.now) ∷ [])) }
+    {
+        prove!(self.tag == tag);
+        let kept = self.indexes.get(&access.item).copied();
+        self.indexes
+            .insert(access.item, greatest(kept, access.index))?;
+        Ok(())
+    }
+}
+
+/// Whether a later access to a word clashes with an event of a class.
+fn clashes<A: Allocator>(class: Class, event: EventId, access: &Access<A>) -> bool
+    ensures { result ≡ event_clashes class (clocked access.now) event }
+{
+    event.at != access.item
+        && !exempt(class, event.at.group, access.class, access.item.group)
+        && !access.clock.covers(event.at, event.index)
+}

@@ -1,0 +1,175 @@
+//! The pairs of tags that race on a word, found along the order in which events are handled.
+
+ghost use Rattle.std.specs.Prelude.{◌≡◌, ◌∷◌, [], IfSome, OnOk, ℕ};
+ghost use Rattle.std.specs.List.{list_any};
+ghost use Rattle.gr_model.specs.declared.event.EventId.{EventId as AnyEvent};
+ghost use Rattle.gr_model.specs.declared.event.Word.{Word as AnyWord};
+ghost use Rattle.gr_clocks.specs.ClockedAccess.{clocked};
+ghost use Rattle.gr_explain.specs.Alike.{event_clashes};
+ghost use Rattle.gr_explain.specs.TagPairs.{Finds, IsFound, IsOfKindAt, KeepsMore, IsTagAdded, StandsForTags, has_tags, is_of_tags};
+
+use crate::alike::Alike;
+use crate::seen::event_of;
+use gr_clocks::access::Access;
+use gr_model::event::EventId;
+use gr_model::memory::Memory;
+use gr_model::race::{Race, turned};
+use std::alloc::{Allocator, Global};
+
+/// A race, and the tags of its two accesses, in whatever order.
+#[derive(Clone, Copy, Debug)]
+pub(crate) struct TaggedRace {
+    /// The race.
+    pub(crate) race: Race,
+    /// The tag of one access.
+    pub(crate) tag: u128,
+    /// The tag of the other one.
+    pub(crate) other: u128,
+}
+
+impl TaggedRace {
+    /// Whether the two tags are these.
+    fn is_of(&self, tag: u128, other: u128) -> bool
+        ensures { result ≡ is_of_tags tag other self.now }
+    {
+        (self.tag == tag && self.other == other) || (self.tag == other && self.other == tag)
+    }
+}
+
+/// The accesses to a word that came so far, and a race for each two tags that race on it.
+#[derive(Drop)]
+#[derive_where(Debug)]
+pub(crate) struct TagPairs<A: Allocator = Global> {
+    /// The accesses of each tag and class.
+    pub(crate) lists: Vec<Alike<A>, A>,
+    /// The races.
+    pub(crate) found: Vec<TaggedRace, A>,
+}
+
+/// Whether there is a race of these tags.
+fn has_tags(found: &[TaggedRace], tag: u128, other: u128) -> bool
+    ensures { result ≡ has_tags found.now tag other }
+{
+    found.iter().any(|race| race.is_of(tag, other))
+}
+
+/// The race of a later access, which has this tag, with an earlier one.
+fn race_with<A: Allocator>(
+    earlier: EventId,
+    earlier_tag: u128,
+    access: &Access<A>,
+    tag: u128,
+) -> TaggedRace
+    ensures { IsFound earlier earlier_tag (clocked access.now) tag result }
+{
+    let (first, second) = turned(earlier, event_of(access));
+    TaggedRace {
+        race: Race {
+            word: access.word,
+            first,
+            second,
+        },
+        tag: earlier_tag,
+        other: tag,
+    }
+}
+
+/// Adds the race of a later access, which has this tag, with one of earlier ones that are alike, if it clashes with one and there is
+/// no race of the two tags.
+///
+/// # Errors
+/// `Memory`: out of memory.
+fn find_among<A: Allocator>(
+    found: &mut Vec<TaggedRace, A>,
+    alike: &Alike<A>,
+    access: &Access<A>,
+    tag: u128,
+) -> Result<(), Memory>
+    ensures { OnOk result (Finds (clocked access.now) tag (alike.now ∷ []) found.old.items found.new.items) }
+{
+    if has_tags(found, alike.tag(), tag) {
+        return Ok(());
+    }
+    match alike.clashing(access) {
+        None => Ok(()),
+        Some(earlier) => {
+            found.push(race_with(earlier, alike.tag(), access, tag))?;
+            Ok(())
+        }
+    }
+}
+
+/// Adds the races of a later access, which has this tag, with earlier ones, where there is none of the two tags.
+///
+/// # Errors
+/// `Memory`: out of memory.
+fn find_races<A: Allocator>(
+    found: &mut Vec<TaggedRace, A>,
+    lists: &[Alike<A>],
+    access: &Access<A>,
+    tag: u128,
+) -> Result<(), Memory>
+    ensures { OnOk result (Finds (clocked access.now) tag lists.now found.old.items found.new.items) }
+{
+    for alike in lists {
+        find_among(found, alike, access, tag)?;
+    }
+    Ok(())
+}
+
+/// The place of those that are alike to which an access belongs, which has this tag.
+fn place_of<A: Allocator>(lists: &[Alike<A>], access: &Access<A>, tag: u128) -> Option<usize>
+    ensures { IfSome result (λ place. IsOfKindAt tag access.now.class lists.now place) }
+{
+    for place in 0..lists.len() {
+        if lists[place].has(access, tag) {
+            return Some(place);
+        }
+    }
+    None
+}
+
+/// Adds an access, which has this tag, to those that are alike.
+///
+/// # Errors
+/// `Memory`: out of memory.
+fn keep<A: Allocator + Copy>(
+    lists: &mut Vec<Alike<A>, A>,
+    access: &Access<A>,
+    tag: u128,
+) -> Result<(), Memory>
+    ensures { OnOk result (KeepsMore lists.old.items tag (clocked access.now) lists.new.items) }
+{
+    match place_of(lists, access, tag) {
+        Some(place) => lists[place].add(access, tag),
+        None => {
+            let mut alike = Alike::new(*lists.allocator(), tag, access.class);
+            alike.add(access, tag)?;
+            lists.push(alike)?;
+            Ok(())
+        }
+    }
+}
+
+impl<A: Allocator + Copy> TagPairs<A> {
+    /// No accesses.
+    pub(crate) fn new(alloc: A) -> TagPairs<A>
+        ensures { (tag_of : AnyEvent → ℕ) (w : AnyWord) → StandsForTags tag_of w [] result }
+    {
+        TagPairs {
+            lists: Vec::new(alloc),
+            found: Vec::new(alloc),
+        }
+    }
+
+    /// Adds an access to the word, which has this tag and comes after all others.
+    ///
+    /// # Errors
+    /// `Memory`: out of memory.
+    pub(crate) fn add(&mut self, access: &Access<A>, tag: u128) -> Result<(), Memory>
+        ensures { OnOk result (IsTagAdded (clocked access.now) tag self.old self.new) }
+    {
+        find_races(&mut self.found, &self.lists, access, tag)?;
+        keep(&mut self.lists, access, tag)
+    }
+}

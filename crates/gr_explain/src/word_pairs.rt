@@ -1,0 +1,186 @@
+//! The races of some words of a launch, one for each two tags that race on a word.
+
+ghost use Rattle.std.specs.Prelude.{◌≡◌, ◌∷◌, ◌++◌, [], ℕ, AllPairs, IfOk, List, OnOk};
+ghost use Rattle.std.specs.Map.{lookup};
+ghost use Rattle.gr_model.specs.declared.event.EventId.{EventId as AnyEvent};
+ghost use Rattle.gr_model.specs.declared.event.Word.{Word as AnyWord};
+ghost use Rattle.gr_model.specs.LawfulOrders.{IsWholeOrder};
+ghost use Rattle.gr_model.specs.Reports.{WordBelow};
+ghost use Rattle.gr_clocks.specs.ClockedAccess.{ClockedAccess, clocked};
+ghost use Rattle.gr_shadow.specs.Kept.{same_word};
+ghost use Rattle.gr_explain.specs.Along.{AddsStep, IsAlong};
+ghost use Rattle.gr_explain.specs.TagRaces.{AreTagRaces};
+ghost use Rattle.gr_explain.specs.WordPairs.{StandForWords, races_at, races_of};
+
+use crate::seen::event_of;
+use crate::sequencing::take_all;
+use crate::tag_pairs::TagPairs;
+use crate::tags::Tags;
+use gr_clocks::access::Access;
+use gr_model::event::Word;
+use gr_model::memory::Memory;
+use gr_model::race::Race;
+use gr_model::traces::Traces;
+use gr_sequencer::handled::Handled;
+use gr_sequencer::sequencer::Sequencer;
+use indexmap::IndexMap;
+use std::alloc::Allocator;
+use std::hash::{BuildHasherDefault, FoldHasher};
+
+/// Of each of some words the pairs of tags that race on it.
+type WordPairs<A> = IndexMap<Word, TagPairs<A>, BuildHasherDefault<FoldHasher>, A>;
+
+/// No accesses to these words.
+///
+/// # Errors
+/// `Memory`: out of memory.
+fn pairs_of_words<A: Allocator + Copy>(alloc: A, words: &[Word]) -> Result<WordPairs<A>, Memory>
+    ensures { IfOk result (λ pairs. (tag_of : AnyEvent → ℕ) → StandForWords tag_of words.now [] pairs.entries) }
+{
+    let mut pairs = IndexMap::new(alloc);
+    for word in words {
+        pairs.insert(*word, TagPairs::new(alloc))?;
+    }
+    Ok(pairs)
+}
+
+/// Adds an access, if it is to one of the words.
+///
+/// # Errors
+/// `Memory`: out of memory.
+fn add_access<A: Allocator + Copy, T: Tags>(
+    pairs: &mut WordPairs<A>,
+    tags: &T,
+    access: &Access<A>,
+) -> Result<(), Memory>
+    ensures { OnOk result ((words : List AnyWord) (accesses : List ClockedAccess) → StandForWords (T.tag_of tags.now) words accesses pairs.old.entries → StandForWords (T.tag_of tags.now) words (accesses ++ clocked access.now ∷ []) pairs.new.entries) }
+{
+    match pairs.get_mut(&access.word) {
+        None => Ok(()),
+        Some(found) => found.add(access, tags.tag(event_of(access))),
+    }
+}
+
+/// Adds the access of a step, if it has one and that is to one of the words.
+///
+/// # Errors
+/// `Memory`: out of memory.
+fn add_step<A: Allocator + Copy, T: Tags>(
+    pairs: &mut WordPairs<A>,
+    tags: &T,
+    step: Handled<A>,
+) -> Result<(), Memory>
+    ensures { OnOk result ((words : List AnyWord) → AddsStep (λ accesses entries. StandForWords (T.tag_of tags.now) words accesses entries) step pairs.old.entries pairs.new.entries) }
+{
+    match step {
+        Handled::One {
+            event: _,
+            access: Some(access),
+        } => add_access(pairs, tags, &access),
+        _ => Ok(()),
+    }
+}
+
+/// Handles all events that can be handled, which are the grounded ones, and adds the accesses to the words.
+///
+/// # Errors
+/// `Memory`: out of memory.
+fn handle_all<A: Allocator + Copy, T: Tags>(
+    sequencer: &mut Sequencer<A>,
+    pairs: &mut WordPairs<A>,
+    tags: &T,
+    words: &[Word],
+) -> Result<(), Memory>
+    requires along { IsAlong (λ accesses entries. StandForWords (T.tag_of tags.now) words.now accesses entries) sequencer.old.taken sequencer.old.handled pairs.old.entries }
+    requires ascending { AllPairs WordBelow words.now }
+    ensures { OnOk result (AreTagRaces sequencer.old.taken (T.tag_of tags.now) words.now (races_at pairs.new.entries words.now)) }
+{
+    while let Some(step) = sequencer.step()? {
+        add_step(pairs, tags, step)?;
+        // brings into the proof that no more events are handled than were taken
+        let _held = sequencer.held();
+    }
+    Ok(())
+}
+
+/// Adds the races that were found of a word.
+///
+/// # Errors
+/// `Memory`: out of memory.
+fn list_word<A: Allocator>(
+    races: &mut Vec<Race, A>,
+    pairs: &WordPairs<A>,
+    word: Word,
+) -> Result<(), Memory>
+    ensures { OnOk result (races.new.items ≡ races.old.items ++ races_of (lookup (same_word word) pairs.now.entries)) }
+{
+    let Some(kept) = pairs.get(&word) else {
+        return Ok(());
+    };
+    for found in &kept.found {
+        races.push(found.race)?;
+    }
+    Ok(())
+}
+
+/// The races that were found of these words, in their order.
+///
+/// # Errors
+/// `Memory`: out of memory.
+fn list_words<A: Allocator + Copy>(
+    alloc: A,
+    pairs: &WordPairs<A>,
+    words: &[Word],
+) -> Result<Vec<Race, A>, Memory>
+    ensures { IfOk result (λ races. races.items ≡ races_at pairs.now.entries words.now) }
+{
+    let mut races = Vec::new(alloc);
+    for word in words {
+        list_word(&mut races, pairs, *word)?;
+    }
+    Ok(races)
+}
+
+/// The races of the words of the launch whose records a sequencer has taken, and of which it has handled nothing.
+///
+/// # Errors
+/// `Memory`: out of memory.
+fn races_of_words<A: Allocator + Copy, T: Tags>(
+    alloc: A,
+    sequencer: &mut Sequencer<A>,
+    words: &[Word],
+    tags: &T,
+) -> Result<Vec<Race, A>, Memory>
+    requires nothing { sequencer.old.handled ≡ [] }
+    requires ascending { AllPairs WordBelow words.now }
+    ensures { IfOk result (λ races. AreTagRaces sequencer.old.taken (T.tag_of tags.now) words.now races.items) }
+{
+    let mut pairs = pairs_of_words(alloc, words)?;
+    handle_all(sequencer, &mut pairs, tags, words)?;
+    list_words(alloc, &pairs, words)
+}
+
+/// Of each of these words, which ascend, a race for each two tags that race on it, of accesses that have the two: the first one that is
+/// found along the order in which the events are handled.
+///
+/// It handles the events of the launch once, with clocks. Its time grows with the events, and with the accesses to the words times the
+/// work-items that accessed them with tags of which no race was found; its memory with the events, and with the work-items, tags and
+/// classes of the accesses to each word.
+///
+/// # Errors
+/// `Memory`: out of memory.
+pub fn races_by_tags<A: Allocator + Copy, T: Tags>(
+    alloc: A,
+    traces: &Traces<A>,
+    words: &[Word],
+    tags: &T,
+) -> Result<Vec<Race, A>, Memory>
+    requires ascending { AllPairs WordBelow words.now }
+    ensures { IfOk result (λ races. AreTagRaces traces.now (T.tag_of tags.now) words.now races.items) }
+{
+    if words.is_empty() {
+        return Ok(Vec::new(alloc));
+    }
+    let mut sequencer = take_all(alloc, traces)?;
+    races_of_words(alloc, &mut sequencer, words, tags)
+}
