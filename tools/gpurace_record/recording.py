@@ -135,7 +135,7 @@ def build(name: str, takes: str, folder: str, out: str, parts: List[str], source
         if is_built():  # by who had the lock before
             return
         say(f"building {name}, which takes {takes} the first time")
-        built = subprocess.run(["make", "-s", f"-j{os.cpu_count() or 2}", "-C", folder, f"OUT={out}"], capture_output=True, text=True)
+        built = subprocess.run(["make", "-s", f"-j{os.cpu_count() or 2}", "-C", folder, f"OUT={os.path.relpath(out, folder)}"], capture_output=True, text=True)
         if built.returncode != 0:
             raise Missing(f"{name} could not be built:\n" + built.stderr)
         for path in paths:

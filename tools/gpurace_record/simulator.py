@@ -37,7 +37,9 @@ def build(say: Callable[[str], None]) -> str:
 
 def words(oclgrind: str, plugin: str, options: argparse.Namespace) -> List[str]:
     """The program's command, up to its own words."""
-    build_options = ["-include", os.path.join(RECORDER, "opencl20_atomics.h")] + ([] if options.optimized else ["-O0"])
+    build_options = ["-include", os.path.join(RECORDER, "opencl20_atomics.h")]
+    build_options += [] if options.optimized else ["-O0", "-disable-O0-optnone", f"-fpass-plugin={plugin}"]
+    build_options = [f'"{word}"' if " " in word else word for word in build_options]
     build_options += ["-cl-std=CL2.0"] if options.opencl20 else []
     build_options += [options.build_options] if options.build_options else []
     command = [oclgrind, "--plugins", plugin, "--max-wgsize", options.max_group_size or "1024"]

@@ -16,6 +16,10 @@
 #include "llvm/IR/DebugInfoMetadata.h"
 #include "llvm/IR/Function.h"
 #include "llvm/IR/Instructions.h"
+#include "llvm/Passes/PassBuilder.h"
+#include "llvm/Passes/PassPlugin.h"
+#include "llvm/Transforms/Scalar/GVN.h"
+#include "llvm/Transforms/Utils/Mem2Reg.h"
 
 #include <cctype>
 #include <memory>
@@ -413,4 +417,17 @@ extern "C" void releasePlugins(Context *context) {
     if (found == recorders.end()) return;
     context->unregisterPlugin(found->second.get());
     recorders.erase(found);
+}
+
+// The plugin is one of Clang, too: it has values of an item's own kept out of private memory and calculated once, so that Oclgrind has half as
+// much to interpret. Both passes leave accesses, barriers and calls with effects as -O0 has them.
+extern "C" llvm::PassPluginLibraryInfo llvmGetPassPluginInfo() {
+    return {LLVM_PLUGIN_API_VERSION, "gpurace", "1", [](llvm::PassBuilder &builder) {
+                builder.registerPipelineStartEPCallback([](llvm::ModulePassManager &passes, llvm::OptimizationLevel) {
+                    llvm::FunctionPassManager of_function;
+                    of_function.addPass(llvm::PromotePass());
+                    of_function.addPass(llvm::GVNPass(llvm::GVNOptions().setPRE(false).setLoadPRE(false).setMemDep(false)));
+                    passes.addPass(llvm::createModuleToFunctionPassAdaptor(std::move(of_function)));
+                });
+            }};
 }
