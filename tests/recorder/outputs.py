@@ -51,8 +51,8 @@ class Statuses(Outputs):
     def test_nothing_found(self):
         put_right(self.kept)
         self.assertEqual(self.judge(status=0), [
-            "launch 0, right: nothing found (1 group of 2 work-items, 9 records)", "gpurace-record: nothing found",
-            f"gpurace-record: 1 launch: 0 with findings, 1 without, 0 not judged whole; they are in {self.kept}"])
+            "launch 0, right: nothing found (1 group of 2 work-items, 9 records)", "gpurace-judge: nothing found",
+            f"gpurace-judge: 1 launch: 0 with findings, 1 without, 0 not judged whole; they are in {self.kept}"])
 
     def test_found(self):
         put_racy(self.kept)
@@ -66,22 +66,22 @@ class Statuses(Outputs):
         told = self.judge(status=1)
         self.assertEqual([line for line in told if line.startswith("launch")], [
             "launch 0, sums: FOUND (1 group of 2 work-items, 9 records), and 2 launches alike", "launch 3, right: nothing found (1 group of 2 work-items, 9 records)"])
-        self.assertIn("gpurace-record: 4 launches: 3 with findings, 1 without, 0 not judged whole", told[-1])
+        self.assertIn("gpurace-judge: 4 launches: 3 with findings, 1 without, 0 not judged whole", told[-1])
 
     def test_what_keeps_a_launch_from_being_an_answer_comes_first_in_the_summary(self):
         put_right(self.kept, more="fence 2 kernel.cl:3:5\n")
         put_right(self.kept, 1, "other", more="not-recorded a work-group has 2048 work-items\n")
-        told = [line for line in self.judge(status=2) if line.startswith("gpurace-record")]
+        told = [line for line in self.judge(status=2) if line.startswith("gpurace-judge")]
         self.assertEqual(told[:3], [
-            "gpurace-record: nothing found, which is no answer:",
-            "gpurace-record:     fences not recorded, so that an order that they give is not seen: 2, at kernel.cl:3:5 (1 launch of right)",
-            "gpurace-record:     not recorded: a work-group has 2048 work-items (1 launch of other)"])
+            "gpurace-judge: nothing found, which is no answer:",
+            "gpurace-judge:     fences not recorded, so that an order that they give is not seen: 2, at kernel.cl:3:5 (1 launch of right)",
+            "gpurace-judge:     not recorded: a work-group has 2048 work-items (1 launch of other)"])
         self.judge("--error-exitcode", "42", status=2)
 
     def test_a_doubtful_race_is_not_found(self):
         put_racy(self.kept, more="fence 2 kernel.cl:4:5\n")
         told = self.judge(status=2)
-        self.assertIn("gpurace-record:     doubtful: race on tile[8] of group 0, at kernel.cl:5:20 and kernel.cl:3:13 (1 launch of sums)", told)
+        self.assertIn("gpurace-judge:     doubtful: race on tile[8] of group 0, at kernel.cl:5:20 and kernel.cl:3:13 (1 launch of sums)", told)
 
     def test_no_launch(self):
         self.kept.mkdir()
@@ -205,6 +205,48 @@ class Forms(Outputs):
         self.judge("--json", "nowhere/made.json", status=3)
 
 
+class Sources(Outputs):
+    """The text of the launch has the race at lines 3 and 5."""
+
+    def setUp(self):
+        super().setUp()
+        put_racy(self.kept)
+
+    def put(self, name, text):
+        (self.room / name).parent.mkdir(parents=True, exist_ok=True)
+        (self.room / name).write_text(text)
+
+    def assert_places(self, first, second):
+        told = "".join(self.judge("--sources", "tree", "--sarif", "made.sarif", status=1))
+        self.assertIn(f"{first}: read by group 0, item 0", told)
+        self.assertIn(f"{second}: write by group 0, item 1", told)
+        return self.made("made.sarif")["runs"][0]
+
+    def test_the_file_of_the_text(self):
+        self.put("tree/lib/sums.cl", KERNEL)
+        self.put("tree/lib/copied/sums.cl", KERNEL)
+        self.put("tree/.git/s.cl", KERNEL)
+        run = self.assert_places("tree/lib/sums.cl:5:20", "tree/lib/sums.cl:3:13")
+        self.assertEqual(run["results"][0]["locations"][0]["physicalLocation"]["artifactLocation"]["uri"], "tree/lib/sums.cl")
+        self.assertEqual(run["artifacts"], [{"location": {"uri": "tree/lib/sums.cl"}, "contents": {"text": KERNEL}}])
+
+    def test_a_text_within_a_program(self):
+        self.put("tree/sums.py", "import pyopencl\n\nTEXT = \"\"\"" + KERNEL + "\"\"\"\n" + "".join(f"print({number})\n" for number in range(40)))
+        self.assert_places("tree/sums.py:7:20", "tree/sums.py:5:13")
+
+    def test_a_file_within_a_text(self):
+        self.put("tree/sums.cl", "".join(KERNEL.splitlines(keepends=True)[2:]))
+        self.put("tree/other.cl", KERNEL.replace("tile", "pile").replace("sums", "others"))
+        self.assert_places("tree/sums.cl:3:20", "tree/sums.cl:1:13")
+
+    def test_no_file_has_the_text(self):
+        self.put("tree/sums.cl", KERNEL.replace("tile", "pile"))
+        self.assert_places("kernel.cl:5:20", "kernel.cl:3:13")
+
+    def test_no_folder(self):
+        self.judge("--sources", "nowhere", status=3)
+
+
 class Known(Outputs):
     def test_a_baseline_is_written_and_then_only_new_findings_count(self):
         put_racy(self.kept)
@@ -214,7 +256,9 @@ class Known(Outputs):
             {"kind": "race", "kernel": "sums", "buffers": ["tile"], "cause": "no-barrier", "texts": ["tile[l] += tile[l + 8];", "tile[l] = input[l];"]}]})
         told = self.judge("--baseline", "known.json", "--json", "made.json", "--sarif", "made.sarif", "--junit", "made.xml", status=0)
         self.assertIn("launch 0, sums: nothing new found (1 group of 2 work-items, 9 records)", told)
-        self.assertEqual(told[-3:-1], ["gpurace-record: nothing new found", "gpurace-record: 1 known finding of known.json"])
+        self.assertEqual([line for line in told if line.startswith("    race on")], ["    race on tile[8] of group 0 (known), at kernel.cl:5:20 and kernel.cl:3:13"])
+        self.assertNotIn("tile[l] += tile[l + 8];", "".join(told))  # known ones are told by a line each
+        self.assertEqual(told[-3:-1], ["gpurace-judge: nothing new found", "gpurace-judge: 1 known finding of known.json"])
         self.assertIn("1 launch: 0 with findings, 1 with known ones, 0 without, 0 not judged whole", told[-1])
         self.assertEqual(self.made("made.json")["findings"][0]["state"], "known")
         self.assertEqual(self.made("made.sarif")["runs"][0]["results"][0]["baselineState"], "unchanged")
@@ -249,7 +293,7 @@ class Known(Outputs):
         self.assertNotIn("gone", "".join(self.judge("--baseline", "known.json", status=0)))  # its kernel was not launched
         put_right(self.kept, 0, "sums")
         told = self.judge("--baseline", "known.json", "--sarif", "made.sarif", "--json", "made.json", status=0)
-        self.assertIn("gpurace-record:     gone: race in sums on tile, `tile[l] += tile[l + 8];`, `tile[l] = input[l];`", told)
+        self.assertIn("gpurace-judge:     gone: race in sums on tile, `tile[l] += tile[l + 8];`, `tile[l] = input[l];`", told)
         self.assertEqual([it["baselineState"] for it in self.made("made.sarif")["runs"][0]["results"]], ["absent"])
         self.assertEqual(len(self.made("made.json")["gone"]), 1)
         self.assert_valid(self.made("made.sarif"), TOP / "tests" / "recorder" / "sarif.schema.json")
@@ -266,9 +310,9 @@ class Known(Outputs):
         put_racy(self.kept, 1)
         (self.room / "quiet").write_text("# of the sums\n\nkernel sum* buffer tile place kernel.cl:3:* -- known to its author\nkernel other -- never\n")
         told = self.judge("--suppress", "quiet", "--json", "made.json", "--sarif", "made.sarif", status=0)
-        self.assertIn("    race on tile[8] of group 0 (suppressed: known to its author):", told)
-        self.assertIn("gpurace-record: quiet, line 3: suppressed 2 times: known to its author", told)
-        self.assertIn("gpurace-record: quiet, line 4: matched nothing: never", told)
+        self.assertIn("    race on tile[8] of group 0 (suppressed: known to its author), at kernel.cl:5:20 and kernel.cl:3:13", told)
+        self.assertIn("gpurace-judge: quiet, line 3: suppressed 2 times: known to its author", told)
+        self.assertIn("gpurace-judge: quiet, line 4: matched nothing: never", told)
         self.assertEqual(self.made("made.json")["suppressions"], [
             {"line": 3, "kernel": "sum*", "buffer": "tile", "place": "kernel.cl:3:*", "why": "known to its author", "matched": 2},
             {"line": 4, "kernel": "other", "why": "never", "matched": 0}])

@@ -15,12 +15,15 @@ from .judges import Judge
 from .judging import INCOMPLETE, Reason
 from .known import Baseline, Suppressions, Wrong
 from .recording import Missing, Run, Stopped
-from .report import Filter, Report, say, unrecorded
+from .report import NAME, Filter, Report, say, unrecorded
+from .sources import Sources
 
 WRONG_WORDS, MISSING = 3, 70
 PARTS = re.compile("[0-9]{1,9}:[0-9]{1,9}(,[0-9]{1,9}:[0-9]{1,9})*")
-STATUSES = """\
+RUNS = """\
 Kernels run instrumented on the host's threads, at native speed, whatever the device is. Where a package is missing, it says which.
+"""
+STATUSES = """\
 The program gpurace is that of this tree, or that which was installed beside, else the one on the path; GPURACE_PROGRAM names another.
 
 The status is
@@ -34,7 +37,7 @@ The status is
 
 class Parser(argparse.ArgumentParser):
     def error(self, message: str) -> NoReturn:
-        stop(WRONG_WORDS, f"{message}; gpurace-record --help lists the options")
+        stop(WRONG_WORDS, f"{message}; {NAME} --help lists the options")
 
 
 def stop(status: int, text: str) -> NoReturn:
@@ -73,7 +76,7 @@ def width(prog: str) -> argparse.RawDescriptionHelpFormatter:
 
 
 def parser() -> Parser:
-    made = Parser(prog="gpurace-record", allow_abbrev=False, epilog=STATUSES, formatter_class=width,
+    made = Parser(prog="gpurace-record", allow_abbrev=False, epilog=RUNS + STATUSES, formatter_class=width,
                   usage="gpurace-record [OPTION..] PROGRAM ARG..  |  [OPTION..] FILE.sim  |  --check",
                   description="Records the kernels that a program launches, and says what gpurace finds in them, with lines of source.")
     made.add_argument("words", nargs=argparse.REMAINDER, metavar="PROGRAM", help="the program and its arguments, or a simulator file of oclgrind-kernel")
@@ -87,6 +90,7 @@ def parser() -> Parser:
     made.add_argument("--max-group-size", metavar="N", type=number, help="what the device says of its largest work-group (1024)")
     made.add_argument("--only-record", action="store_true", help="writes the launches and judges none; needs --keep")
     made.add_argument("--jobs", metavar="N", type=above_zero, default="1", help="judges as many launches side by side (1)")
+    made.add_argument("--ignore-program-status", action="store_true", help="a program that ends with another status than 0 is as good")
     add_outputs(made)
     own = made.add_argument_group("of the native recorder")
     own.add_argument("--most-records", metavar="N", type=number, help="of each launch; what comes behind them is told as cut")
@@ -109,12 +113,22 @@ def add_outputs(made: argparse.ArgumentParser) -> None:
     told.add_argument("--baseline", metavar="FILE", help="the findings of this file are known, and only others count")
     told.add_argument("--update-baseline", action="store_true", help="writes what is found into the baseline, so that it is known")
     told.add_argument("--suppress", metavar="FILE", help="lines KEY PATTERN .. -- WHY, with the keys kernel, buffer and place: these don't count")
-    told.add_argument("--ignore-program-status", action="store_true", help="a program that ends with another status than 0 is as good")
+    told.add_argument("--sources", metavar="DIR", help="names the files of DIR that the kernels' texts are of, in place of kernel.cl")
     told.add_argument("--error-exitcode", metavar="N", type=exit_status, help="the status where something was found, in place of 1")
 
 
+def report_for(options: argparse.Namespace, kept: Optional[str]) -> Report:
+    """A report by the files that are named; one that can't be written is told before the program runs."""
+    report = Report(kept)
+    report.filters = filters_of(options)
+    if options.sources and not os.path.isdir(options.sources):
+        stop(WRONG_WORDS, f"there is no folder {options.sources}")
+    report.sources = Sources(options.sources) if options.sources else None
+    return report
+
+
 def filters_of(options: argparse.Namespace) -> List[Filter]:
-    """What the files that are named have; a file that can't be written is told before the program runs."""
+    """What is known or suppressed."""
     for name in (*outputs.FORMS, "baseline"):
         path = getattr(options, name)
         if path and (os.path.isdir(path) or not os.access(os.path.dirname(path) or ".", os.W_OK)):
@@ -187,8 +201,7 @@ class Recorder:
     def __init__(self, options: argparse.Namespace):
         self.options = options
         self.program = "" if options.only_record else find_gpurace()
-        self.report = Report(options.keep)
-        self.report.filters = filters_of(options)
+        self.report = report_for(options, options.keep)
         if options.simulator:
             self.command = simulator.words(simulator.find(options.words[0]), simulator.build(say), options) + options.words
         else:

@@ -6,12 +6,12 @@ import concurrent.futures
 import os
 from typing import Iterator, List
 
-from .command import STATUSES, WRONG_WORDS, Parser, above_zero, add_outputs, conclude, filters_of, find_gpurace, guarded, stop, width
+from .command import STATUSES, WRONG_WORDS, Parser, above_zero, add_outputs, conclude, find_gpurace, guarded, report_for, stop, width
 from .folders import end_streams
 from .judging import Launch, judged
 from .progress import Progress
 from .recording import Missing
-from .report import Report, unrecorded
+from .report import unrecorded
 from .simulator import TOOLS
 
 
@@ -69,8 +69,7 @@ def parser() -> Parser:
 
 
 def judge(options: argparse.Namespace) -> int:
-    program, report = os.path.abspath(find_gpurace()), Report(", ".join(options.folders))
-    report.filters = filters_of(options)
+    program, report = os.path.abspath(find_gpurace()), report_for(options, ", ".join(options.folders))
     paths = list(dict.fromkeys(os.path.realpath(path) for folder in options.folders for path in launches_below(folder)))
     launches = on_cluster(options.scheduler, program, paths) if options.scheduler else on_this_machine(int(options.jobs), program, paths)
     with Progress(len(paths)) as progress:

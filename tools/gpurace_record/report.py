@@ -8,7 +8,9 @@ from typing import Callable, Dict, Iterator, List, Optional, Tuple
 
 from .findings import Finding
 from .judging import FOUND, INCOMPLETE, Launch, Reason, count
+from .sources import Sources
 
+NAME = "gpurace-judge" if os.path.basename(sys.argv[0]) == "gpurace-judge" else "gpurace-record"  # who says it
 NEW = "new"
 MOST_SHOWN = 20    # findings of an outcome
 MOST_ALIKE = 3     # reasons of one name, and kernels of a reason, that are told
@@ -27,7 +29,7 @@ class Entry:
 
 
 def say(text: str) -> None:
-    print(f"gpurace-record: {text}", file=sys.stderr, flush=True)
+    print(f"{NAME}: {text}", file=sys.stderr, flush=True)
 
 
 def names_of(kernels: List[str]) -> str:
@@ -54,9 +56,12 @@ class Report:
         self.run_reasons: List[Reason] = []
         self.unrecorded: List[Reason] = []  # launches that the driver ran, by their reason
         self.filters: List[Filter] = []     # of what is known or suppressed
+        self.sources: Optional[Sources] = None
         self.seen: Dict[Tuple, int] = {}
 
     def add(self, launch: Launch) -> None:
+        if self.sources:
+            self.sources.name_files(launch)
         for finding in launch.findings:
             for it in self.filters:
                 if finding.state == NEW:
@@ -125,7 +130,7 @@ class Report:
         told: Dict[str, str] = {}
         for launch, number in self.outcomes():
             yield from self.launch_lines(launch, number, told)
-        yield from (f"gpurace-record: {line}" for line in self.summary())
+        yield from (f"{NAME}: {line}" for line in self.summary())
 
     def launch_lines(self, launch: Launch, number: int, told: Dict[str, str]) -> Iterator[str]:
         """What is said of the launches of an outcome. A finding that was told of an earlier one is named alone."""
@@ -138,9 +143,12 @@ class Report:
         for finding in launch.findings[:MOST_SHOWN]:
             state = "" if finding.state == NEW else f" ({finding.state}{': ' if finding.why else ''}{finding.why})"
             first = told.setdefault(finding.fingerprint(), self.name(launch))
-            lines = list(finding.lines())
-            yield f"    {lines[0]}{state}" + (f": as in {first}" if first != self.name(launch) else ":" if lines[1:] else "")
-            yield from (f"    {line}" for line in (lines[1:] if first == self.name(launch) else []))
+            title, *lines = finding.lines()
+            if finding.state != NEW:  # so that what is new is seen
+                yield f"    {title}{state}{self.lines_told(finding)}"
+                continue
+            yield f"    {title}" + (f": as in {first}" if first != self.name(launch) else ":" if lines else "")
+            yield from (f"    {line}" for line in (lines if first == self.name(launch) else []))
         if len(launch.findings) > MOST_SHOWN:
             yield f"    and {len(launch.findings) - MOST_SHOWN} more findings"
         yield from (f"    note: {text}" for text in [*(reason.text for reason in launch.reasons if is_recorded), *launch.notes])
