@@ -389,8 +389,3 @@ def out_of_bounds(info: Info, folder: str) -> Iterator[Finding]:
         maps = [Map(named[1], "", 0, 1, [])] if named else []
         yield Finding("out-of-bounds", kernel, f"out of bounds: {how} of {size} byte{'' if size == '1' else 's'}, {where}", "out-of-bounds",
                       "" if number == "1" else f"{number} times", accesses=[Access(how, who).stand(place, texts)], maps=maps)
-    for line in info["out-of-bounds-not-recorded"]:
-        number, _, place = line.partition(" ")
-        if number != "0":
-            yield Finding("out-of-bounds", kernel, f"out of bounds: {number} access{'' if number == '1' else 'es'}", "out-of-bounds",
-                          accesses=[Access("access", "some item").stand(place, texts)])

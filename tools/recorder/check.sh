@@ -136,7 +136,11 @@ expect "parts of words" 1 "races 2 diverge 0 unmatched 0 held 0" "race on bytes\
 # four work-items execute a fence, and one of them writes behind the buffer; two groups write four words and end
 expect "what is left out" 1 "left_out: FOUND (2 groups of 2 work-items, 6 records)" \
     "note: fences not recorded, so that an order that they give is not seen: 4" \
-    "out of bounds: 1 access" "kernel.cl:8:[0-9]*: access by some item" -- left_out.sim
+    "out of bounds: write of 4 bytes, right behind the end of words, which has 16 bytes:" "kernel.cl:8:[0-9]*: write by group 1, item 1" -- left_out.sim
+# an atomic and reads by a call that begin before a buffer, or end behind it
+expect "out of bounds" 1 "out of bounds: read of 4 bytes, 8 bytes before the start of words, which has 16 bytes:" "kernel.cl:3:[0-9]*: read by group 0, item 0" \
+    "called at kernel.cl:9:[0-9]*: " "read of 16 bytes, partly behind the end of words, which has 16 bytes:" "2 times" \
+    "atomic of 4 bytes, 4 bytes behind the end of tile, which has 8 bytes:" -- outside.sim
 # group 2 is stopped, and group 3 never begins
 expect "a kernel that is stopped" 2 "nothing found in what was recorded (4 groups of 2 work-items, 15 records)" \
     "records of 2 of 4 groups were lost (the first is group 2)" -- stopped.sim

@@ -3,7 +3,7 @@
 #ifndef GPURACE_RECORDER_LAUNCH_H
 #define GPURACE_RECORDER_LAUNCH_H
 
-#include "window.h"
+#include "settings.h"
 
 #include <array>
 #include <deque>
@@ -103,6 +103,7 @@ struct Buffer {
     uint32_t grain = 4;              // the bytes of a word of it
 
     uint64_t words() const { return (bytes + grain - 1) / grain; }
+    std::string name_or(uint32_t number) const { return name.empty() ? "buffer" + std::to_string(number) : name; }
 };
 
 struct Size {
@@ -113,9 +114,25 @@ struct Size {
 
 // What the report of this launch does not speak of.
 struct Losses {
-    uint64_t fences = 0, out_of_bounds = 0, unknown_orders = 0, names_outside_window = 0,
-             accesses_of_parts_of_words = 0;
-    uint32_t out_of_bounds_place = 0;
+    uint64_t fences = 0, unknown_orders = 0, names_outside_window = 0, accesses_of_parts_of_words = 0;
+};
+
+// Where an access is in relation to the end of a buffer, or else to its start.
+inline std::string told_outside(const std::string &name, uint64_t size, uint64_t offset, uint64_t before) {
+    const auto bytes = [](uint64_t count) { return std::to_string(count) + (count == 1 ? " byte" : " bytes"); };
+    const std::string where = before > 0       ? bytes(before) + " before the start of "
+                              : offset < size  ? "partly behind the end of "
+                              : offset == size ? "right behind the end of "
+                                               : bytes(offset - size) + " behind the end of ";
+    return where + name + ", which has " + bytes(size);
+}
+
+// The accesses of one place that are in no buffer: how many, and the first one.
+struct Outside {
+    uint64_t count = 0;
+    Record first{};
+    uint32_t group = 0;
+    std::string where;
 };
 
 // An instruction, or a debug location, and the place of the call that leads there.
@@ -143,6 +160,7 @@ struct Launch {
     std::vector<std::vector<Release>> names;
     std::array<std::map<uint32_t, Buffer>, 2> buffers;    // by space, by number
     Losses losses;
+    std::map<uint32_t, Outside> outside;                  // by place
 
     bool is_in_window(uint64_t number) const { return window.number_of(number) != Window::NONE; }
 };
@@ -182,16 +200,6 @@ public:
 
 private:
     std::map<Word, std::vector<Release>> heads_;
-};
-
-// The settings, from the environment (README.md has what each means).
-struct Settings {
-    std::string out, kernel;
-    long launch = -1;
-    Window groups;
-    bool quiet = false;
-
-    static Settings from_environment();
 };
 
 // Writes the launch's folder; where `refusal` is not empty, one that says why the launch was not recorded.

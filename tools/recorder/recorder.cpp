@@ -23,6 +23,7 @@
 
 #include <cctype>
 #include <memory>
+#include <optional>
 #include <stack>
 
 namespace {
@@ -254,34 +255,40 @@ private:
     bool is_traced(const Memory *memory, size_t size) const {
         return launch_ && size > 0 && memory->getAddressSpace() != AddrSpacePrivate;
     }
-    // Whether an access at this place is within a buffer.
-    bool is_within(const Memory *memory, uint32_t place, size_t address, size_t size) {
-        if (memory->isAddressValid(address, size)) return true;
-        if (launch_->losses.out_of_bounds++ == 0) launch_->losses.out_of_bounds_place = place;
-        return false;
-    }
-    static uint8_t space_of(const Memory *memory) {
-        return memory->getAddressSpace() == AddrSpaceLocal ? GPURACE_LOCAL : GPURACE_GLOBAL;
-    }
     static Sequences::Word word_of(const Group &group, const Record &record) {
         return {record.space == GPURACE_LOCAL ? 1 + uint64_t(group.number) : 0, uint64_t(record.buffer) << 40 | record.offset};
     }
-    Record record_of(const Memory *memory, uint32_t place, uint16_t item, uint8_t kind, size_t address, size_t size) {
-        const uint8_t space = space_of(memory);
+    // The record of an access, or nothing where that is out of bounds.
+    std::optional<Record> record_of(const Memory *memory, const Group &group, uint32_t place, uint16_t item, uint8_t kind, size_t address, size_t size) {
+        const uint8_t space = memory->getAddressSpace() == AddrSpaceLocal ? GPURACE_LOCAL : GPURACE_GLOBAL;
         const auto number = uint32_t(memory->extractBuffer(address));
         const uint64_t offset = memory->extractOffset(address), bits = offset | size;
+        const Record record = {offset, number, place, uint32_t(size), -1, item, kind, space, 0, 0};
+        if (!memory->isAddressValid(address, size)) {
+            Outside &outside = launch_->outside[place];
+            if (outside.count++ == 0) outside = {1, record, group.number, where(memory, space, address)};
+            return std::nullopt;
+        }
         Buffer &buffer = launch_->buffers[space][number];
         buffer.bytes = memory->getBuffer(address)->size;
         buffer.bits |= bits;
         launch_->losses.accesses_of_parts_of_words += bits % 4 != 0 ? 1 : 0;
-        return {offset, number, place, uint32_t(size), -1, item, kind, space, 0, 0};
+        return record;
+    }
+    // Where an address is that is in no buffer. One before a buffer's start names the buffer before that.
+    std::string where(const Memory *memory, uint8_t space, size_t address) {
+        const size_t most = memory->extractOffset(SIZE_MAX), offset = memory->extractOffset(address);
+        const size_t before = offset > most / 2 ? most + 1 - offset : 0, start = before > 0 ? address + before : address - offset;
+        const auto *buffer = memory->getBuffer(start);
+        if (!buffer) return "in no buffer";
+        const auto number = uint32_t(memory->extractBuffer(start));
+        return told_outside(launch_->buffers[space][number].name_or(number), buffer->size, offset, before);
     }
 
     void access(const Memory *memory, const WorkItem *item, uint8_t kind, size_t address, size_t size) {
         if (!is_traced(memory, size)) return;
-        const uint32_t place = place_of(item);
-        if (is_within(memory, place, address, size))
-            keep(group_of(item->getWorkGroup()), record_of(memory, place, item_of(item), kind, address, size));
+        Group &group = group_of(item->getWorkGroup());
+        if (const auto record = record_of(memory, group, place_of(item), item_of(item), kind, address, size)) keep(group, *record);
     }
     void begin_copy(const WorkItem *item, const llvm::CallInst *call) {
         Group &group = group_of(item->getWorkGroup());
@@ -294,9 +301,10 @@ private:
         Group &group = group_of(work_group);
         uint32_t place = group.copies.place_at(kind, address);
         if (place == Copies::NONE) place = place_of(work_group->getCurrentBarrier(), Launch::NO_CALL);
-        if (!is_within(memory, place, address, size)) return;
+        const auto record = record_of(memory, group, place, uint16_t(group.items), kind, address, size);
+        if (!record) return;
         group.has_copies = true;
-        keep(group, record_of(memory, place, uint16_t(group.items), kind, address, size));
+        keep(group, *record);
     }
     void keep(Group &group, const Record &record) {
         if (record.kind == GPURACE_WRITE) sequences_.write(word_of(group, record), record.size);
@@ -355,8 +363,9 @@ private:
         const bool is_explicit = given != explicit_.end();
         const bool is_inside = is_explicit && !item->getCallStack().empty();
         const uint32_t place = is_inside ? caller_of(item) : place_of(item);
-        if (!is_within(memory, place, address, size)) return nullptr;
-        Record record = record_of(memory, place, item_of(item), GPURACE_LOAD, address, size);
+        const auto made = record_of(memory, group, place, item_of(item), GPURACE_LOAD, address, size);
+        if (!made) return nullptr;
+        Record record = *made;
         const uint8_t failure = is_explicit ? given->second.failure_order : uint8_t(GPURACE_RELAXED);
         const bool acquires = failure == GPURACE_ACQUIRE || failure == GPURACE_BOTH;
         record.order = acquires ? GPURACE_ACQUIRE : GPURACE_RELAXED;

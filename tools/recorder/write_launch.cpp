@@ -3,7 +3,6 @@
 #include "launch.h"
 
 #include <cerrno>
-#include <cstdlib>
 #include <cstring>
 #include <fstream>
 #include <iomanip>
@@ -14,29 +13,11 @@
 namespace gpurace {
 namespace {
 
-std::string variable(const char *name) {
-    const char *value = std::getenv(name);
-    return value ? value : "";
-}
-
-[[noreturn]] void refuse_setting(const char *name, const char *wanted) {
-    std::fprintf(stderr, "gpurace-recorder: %s must be %s\n", name, wanted);
-    std::exit(3);
-}
-
 std::ostream &operator<<(std::ostream &out, const Size &size) { return out << size.x << ' ' << size.y << ' ' << size.z; }
 
 int write_bytes(void *context, const unsigned char *bytes, size_t length) {
     std::ostream &out = *static_cast<std::ostream *>(context);
     return out.write(reinterpret_cast<const char *>(bytes), std::streamsize(length)).good();
-}
-
-// The first line of the file that GPURACE_LABEL names, which says which test made the launch.
-std::string test_label() {
-    std::string line;
-    std::ifstream given(variable("GPURACE_LABEL"));
-    std::getline(given, line);
-    return line;
 }
 
 class Writer {
@@ -205,8 +186,7 @@ private:
     }
 
     std::string name_of(uint32_t number, const Buffer &buffer) const {
-        const std::string name = buffer.name.empty() ? "buffer" + std::to_string(number) : buffer.name;
-        return name + (buffer.grain == 4 ? "" : buffer.grain == 2 ? ".half" : ".byte");
+        return buffer.name_or(number) + (buffer.grain == 4 ? "" : buffer.grain == 2 ? ".half" : ".byte");
     }
     bool write_buffers() {
         std::ofstream out(folder_ + "/buffers");
@@ -240,27 +220,17 @@ private:
     }
     void write_losses(std::ostream &out) const {
         const Losses &losses = launch_.losses;
-        out << "fences-not-recorded " << losses.fences << "\nout-of-bounds-not-recorded " << losses.out_of_bounds;
-        if (losses.out_of_bounds > 0) out << ' ' << launch_.places[losses.out_of_bounds_place];
-        out << "\norders-not-known " << losses.unknown_orders << "\nnames-outside-window " << losses.names_outside_window
+        for (const auto &[place, it] : launch_.outside) {
+            const char *how = it.first.kind == GPURACE_READ ? "read" : it.first.kind == GPURACE_WRITE ? "write" : "atomic";
+            out << "out-of-bounds " << it.count << ' ' << launch_.places[place] << ' ' << how << ' ' << it.first.size << ' ' << it.group << ' '
+                << it.first.item << ' ' << it.where << '\n';
+        }
+        out << "fences-not-recorded " << losses.fences << "\norders-not-known " << losses.unknown_orders << "\nnames-outside-window " << losses.names_outside_window
             << "\nacquire-loads-added " << added_loads_ << "\naccesses-of-parts-of-words " << losses.accesses_of_parts_of_words << '\n';
     }
 };
 
 } // namespace
-
-Settings Settings::from_environment() {
-    Settings settings;
-    const std::string out = variable("GPURACE_OUT"), launch = variable("GPURACE_LAUNCH"), groups = variable("GPURACE_GROUPS");
-    settings.out = out.empty() ? "gpurace-out" : out;
-    settings.kernel = variable("GPURACE_KERNEL");
-    settings.quiet = variable("GPURACE_QUIET") == "1";
-    char rest = 0;
-    if (!launch.empty() && std::sscanf(launch.c_str(), "%9ld%c", &settings.launch, &rest) != 1)
-        refuse_setting("GPURACE_LAUNCH", "a number");
-    if (!groups.empty() && !settings.groups.parse(groups)) refuse_setting("GPURACE_GROUPS", Window::FORM);
-    return settings;
-}
 
 void write_launch(Launch &launch, const Settings &settings, const std::string &refusal) {
     std::string reason = refusal;
