@@ -5,6 +5,7 @@ import dataclasses
 import json
 import os
 import re
+import shlex
 import xml.etree.ElementTree as xml
 from typing import Any, Callable, Dict, List, Tuple
 
@@ -147,7 +148,7 @@ def as_junit(report: Report, words: List[str]) -> str:
         kernel_case(suite, label, kernel, launches)
     of_run = [reason.text for reason in report.reasons() if not any(reason.text == it.text for launch in report.launches for it in launch.reasons)
               and reason.name != "doubtful"]
-    run = case(suite, " ".join(words)[:200] or "the run", "run")
+    run = case(suite, shlex.join(words)[:200] or "the run", "run")
     if of_run:
         note(run, "error", of_run[0], of_run)
     cases = suite.findall("testcase")

@@ -6,6 +6,7 @@ import html
 import importlib.util
 import os
 import re
+import shlex
 from typing import Any, Dict, List, Tuple
 
 from . import picture
@@ -140,7 +141,7 @@ def as_html(report: Report, words: List[str]) -> str:
     folder = os.path.dirname(os.path.realpath(__file__))
     environment = jinja2.Environment(loader=jinja2.FileSystemLoader(folder), autoescape=True, trim_blocks=True, lstrip_blocks=True)
     summary = list(report.summary())
-    values: Dict[str, Any] = {"report": report, "kernels": kernels_of(report), "words": " ".join(words), "status": report.status(), "summary": summary,
+    values: Dict[str, Any] = {"report": report, "kernels": kernels_of(report), "words": shlex.join(words), "status": report.status(), "summary": summary,
                               "styles": styles(), "new": NEW}
     environment.filters["code"] = lambda text: re.sub("`([^`]*)`", r"<code>\1</code>", html.escape(text))
     return environment.get_template("page.html").render(values) + "\n"
