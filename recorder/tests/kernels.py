@@ -135,6 +135,15 @@ kernel void components_wrong(global int4 *out) {
     const int l = get_global_id(0);
     if (l & 1) out[l / 2].yz = (int2)(l, l); else out[l / 2].xy = (int2)(l, l);
 }
+// even items write two components, odd ones read two; the mistake has them share one
+kernel void components_read_right(global int4 *both, global int *out) {
+    const int l = get_global_id(0);
+    if (l & 1) out[l] = both[l / 2].zw.x + both[l / 2].w; else both[l / 2].xy = (int2)(l, l);
+}
+kernel void components_read_wrong(global int4 *both, global int *out) {
+    const int l = get_global_id(0);
+    if (l & 1) out[l] = both[l / 2].yz.y + both[l / 2].y; else both[l / 2].xy = (int2)(l, l);
+}
 kernel void component_single(global int4 *out) {
     const int l = get_global_id(0);
     switch (l & 3) { case 0: out[l / 4].x = l; break; case 1: out[l / 4].y = l; break; case 2: out[l / 4].z = l; break; default: out[l / 4].w = l; }
@@ -334,6 +343,8 @@ def cases():
         yield Case("look_back_" + name, [numbers(), [0] * GROUPS, [0] * GROUPS, [0] * GROUPS], races, {3: sums_before()})
     yield Case("components_right", [zeros * 2], 0, {0: [at // 2 for at in range(2 * ALL)]})
     yield Case("components_wrong", [zeros * 2], ALL // 2)  # the component y of each vector
+    yield Case("components_read_right", [zeros * 2, zeros], 0, {1: [0] * ALL})
+    yield Case("components_read_wrong", [zeros * 2, zeros], ALL // 2)  # y again
     yield Case("component_single", [zeros], 0, {0: list(range(ALL))})
     yield Case("bytes_right", [[0] * (ALL // 4), [0] * (ALL // 2)])
     yield Case("vectors_right", [zeros * 4, zeros * 4], 0, {1: [1] * 4 * ALL})

@@ -32,7 +32,7 @@ def build(say: Callable[[str], None]) -> str:
     if missing:  # programs are compiled with them, too
         raise Missing(f"packages are missing (Debian: apt-get install {' '.join(missing)})")
     sources = [os.path.join(folder, name) for folder, _, names in os.walk(os.path.join(RECORDER, "src")) for name in names]
-    sources += [os.path.join(RECORDER, "Makefile"), os.path.join(TOOLS, "recorder", "window.h")]
+    sources += [os.path.join(RECORDER, "Makefile"), *(os.path.join(TOOLS, "recorder", name) for name in ("components.h", "window.h"))]
     recording.build("the recorder", "a minute", RECORDER, out, ["layer.so", "instrument-kernels"], sources, [], say)
     return out
 

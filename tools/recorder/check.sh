@@ -130,6 +130,10 @@ expect "two copies of the same" 1 "races 16 diverge 0" "kernel.cl:8:[0-9]*: writ
 expect "one place that is called twice" 1 "races 1 diverge 0" "race on tile\[1\] of group 0" "kernel.cl:4:[0-9]*: write by group 0, item 0" \
     "called at kernel.cl:8:[0-9]*: put(tile, l + 1, 2);" "called at kernel.cl:15:[0-9]*: put_next(tile, l);" \
     "kernel.cl:4:[0-9]*: write by group 0, item 1" "called at kernel.cl:14:[0-9]*: put(tile, l, 1);" -- calls.sim
+# of four items in two groups two write two words, and two read two and write one; and two ends
+expect "components of vectors" 0 "components: nothing found (2 groups of 2 work-items, 12 records)" -- components.sim
+expect "components that are written" 1 "race on both\[0\].y, both\[1\].y" "kernel.cl:7:[0-9]*: read by group 0, item 1" \
+    "kernel.cl:12:[0-9]*: write by group 0, item 0" -- --build-options -DWRONG components.sim
 # twelve bytes and shorts lie side by side; the thirteenth of each is written by several
 expect "parts of words" 1 "races 2 diverge 0 unmatched 0 held 0" "race on bytes\[12\]" "write by group 4 (1,1), item 0 (0,0)" \
     "write by group 4 (1,1), item 1 (1,0)" "race on shorts\[12\]" "a release that an acquire takes, at memory_scope_device, would" -- parts.sim

@@ -163,6 +163,13 @@ struct Launch {
     std::map<uint32_t, Outside> outside;                  // by place
 
     bool is_in_window(uint64_t number) const { return window.number_of(number) != Window::NONE; }
+    // Why a trace can't have it, or nothing.
+    std::string refusal() const {
+        if (local.count() > GPURACE_MOST_WIDE_ITEMS)
+            return "a work-group has " + std::to_string(local.count()) + " work-items, and a trace has room for " +
+                   std::to_string(GPURACE_MOST_WIDE_ITEMS);
+        return window.count() > 0 ? "" : "it has " + std::to_string(groups.count()) + " work-groups, and none of the window";
+    }
 };
 
 // The releases whose release sequences the value of each atomic word belongs to. The simulator runs one thing at a time, so

@@ -2,6 +2,7 @@
 // end writes them as a folder of streams (write_launch.cpp). It says that it is not safe for threads, so Oclgrind runs one
 // work-item at a time, and the order in which it tells of accesses is the order in which they take place.
 #include "calls.h"
+#include "components.h"
 #include "launch.h"
 
 #include "oclgrind/Context.h"
@@ -73,7 +74,7 @@ public:
         launch_->local = size_of(invocation->getLocalSize());
         launch_->groups = size_of(invocation->getNumGroups());
         launch_->window = settings_.groups.within(launch_->groups.count());
-        const std::string refusal = refusal_of(*launch_);
+        const std::string refusal = launch_->refusal();
         if (refusal.empty()) return name_global_buffers(kernel);
         write_launch(*launch_, settings_, refusal);
         launch_.reset();
@@ -157,17 +158,6 @@ private:
     const WorkGroup *current_ = nullptr; // the group that current_group_ is
     Group *current_group_ = nullptr;
     Record *changed_ = nullptr;          // the record of the atomic that is under way
-
-    // Why a trace can't have the launch, or nothing.
-    static std::string refusal_of(const Launch &launch) {
-        const uint64_t items = launch.local.count(), groups = launch.groups.count();
-        if (items > GPURACE_MOST_WIDE_ITEMS)
-            return "a work-group has " + std::to_string(items) + " work-items, and a trace has room for " +
-                   std::to_string(GPURACE_MOST_WIDE_ITEMS);
-        if (launch.window.count() == 0)
-            return "it has " + std::to_string(groups) + " work-groups, and none of the window";
-        return "";
-    }
 
     // Whether what is loaded is constant memory, which has no race: by a load, or a call as of vload.
     static bool reads_constant(const llvm::Instruction *at) {
@@ -428,13 +418,25 @@ extern "C" void releasePlugins(Context *context) {
     recorders.erase(found);
 }
 
+namespace {
+
+struct NarrowVectors : llvm::PassInfoMixin<NarrowVectors> {
+    llvm::PreservedAnalyses run(llvm::Function &function, llvm::FunctionAnalysisManager &) {
+        components::narrow(function);
+        return llvm::PreservedAnalyses::none();
+    }
+};
+
+} // namespace
+
 // The plugin is one of Clang, too: it has values of an item's own kept out of private memory and calculated once, so that Oclgrind has half as
-// much to interpret. Both passes leave accesses, barriers and calls with effects as -O0 has them.
+// much to interpret, and vectors accessed by component. All else is as -O0 has it.
 extern "C" llvm::PassPluginLibraryInfo llvmGetPassPluginInfo() {
     return {LLVM_PLUGIN_API_VERSION, "gpurace", "1", [](llvm::PassBuilder &builder) {
                 builder.registerPipelineStartEPCallback([](llvm::ModulePassManager &passes, llvm::OptimizationLevel) {
                     llvm::FunctionPassManager of_function;
                     of_function.addPass(llvm::PromotePass());
+                    of_function.addPass(NarrowVectors());
                     of_function.addPass(llvm::GVNPass(llvm::GVNOptions().setPRE(false).setLoadPRE(false).setMemDep(false)));
                     passes.addPass(llvm::createModuleToFunctionPassAdaptor(std::move(of_function)));
                 });

@@ -97,9 +97,6 @@ private:
     void add(const llvm::Value *pointer, uint64_t bytes, uint64_t unit);
 };
 
-// Where some components of a vector are assigned clang stores all. Such stores become those of the assigned ones.
-void narrow_stores(llvm::Function &function);
-
 inline bool is_kernel(const llvm::Function &function) {
     return !function.isDeclaration() && function.getCallingConv() == llvm::CallingConv::SPIR_KERNEL;
 }

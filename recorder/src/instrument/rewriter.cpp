@@ -7,6 +7,8 @@
 //   note TEXT                               what is not recorded
 #include "instrument.h"
 
+#include "../../../tools/recorder/components.h"
+
 #include "llvm/IR/DebugInfoMetadata.h"
 #include "llvm/IR/IRBuilder.h"
 #include "llvm/IR/InstIterator.h"
@@ -96,7 +98,7 @@ public:
 
     void rewrite() {
         add_item_argument();
-        narrow_stores(*function_);
+        components::narrow(*function_);
         const Accesses accesses = find_accesses(*function_);
         sites_ << "kernel " << name_ << ' ' << accesses.may_acquire() << ' ' << !accesses.copies.empty() << ' '
                << function_->arg_size() - 1 << '\n';
