@@ -62,6 +62,19 @@ class Judges(unittest.TestCase):
         launch = self.end()
         self.assertEqual(([it.title for it in launch.findings], launch.reasons, self.report.run_reasons), (["race on global word 5"], [], []))
 
+    def test_that_a_judge_was_killed_is_said(self):
+        """What stands in files is told."""
+        killed = self.room / "killed"
+        killed.write_text(f'#!/bin/sh\n[ "$1" = run ] && kill -KILL $$\nexec "{os.environ["GPURACE"]}" "$@"\n')
+        killed.chmod(0o755)
+        self.judge.program = str(killed)
+        self.put()
+        self.judge.start()
+        self.wait(lambda: self.judge.piped)
+        launch = self.end()
+        self.assertEqual(([it.title for it in launch.findings], [it.name for it in launch.reasons]), (["race on global word 5"], ["fault", "cut"]))
+        self.assertIn("was ended by signal 9, as where memory runs out", launch.reasons[0].text)
+
     def test_what_fails_is_tried_again(self):
         """Twice no folder can be looked at."""
         having, faults = self.judge.having, [OSError(24, "Too many open files")] * 2

@@ -108,6 +108,10 @@ def report_of(program: str, launch: Launch, info: Info, piped: Optional[Piped]) 
         return FOUND, report if status == FOUND else of_pipes, ""
     if by_pipes is not None:  # not all has come
         info["cut"].append("")
+    if by_pipes not in (None, FOUND, INCOMPLETE):
+        how = f"by signal {-by_pipes}" if by_pipes < 0 else f"with status {by_pipes}"
+        launch.reasons.append(Reason("fault", f"what judged it while it was recorded was ended {how}, as where memory runs out: only its first records "
+                                              "are told of; --groups records less of it"))
     return status, report, fault
 
 
