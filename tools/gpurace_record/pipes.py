@@ -2,6 +2,7 @@
 from __future__ import annotations
 
 import atexit
+import contextlib
 import glob
 import os
 import shutil
@@ -18,6 +19,15 @@ def start(words: List[str], **more: Any) -> subprocess.Popen:
     words = DIES_WITH_US + words if shutil.which("setpriv") else words
     return subprocess.Popen(words, stdout=subprocess.PIPE, stderr=subprocess.DEVNULL,
                             start_new_session=True, **more)
+
+
+def bounded(words: List[str]) -> List[str]:
+    """A process that may have the memory that is free now, and ends where it wants more, in place of another one."""
+    with contextlib.suppress(OSError), open("/proc/meminfo") as lines:
+        free = next((line.split()[1] for line in lines if line.startswith("MemAvailable:")), "")
+        if free and shutil.which("prlimit"):
+            return ["prlimit", f"--as={int(free) * 1024}", *words]
+    return words
 
 
 class Piped:
@@ -47,7 +57,7 @@ class Piped:
         files = [output.fileno() for output in outputs]
         words = [program, "run", "--capacity", "65536", "--queues", "4", *(f"/dev/fd/{file}" for file in files)]
         is_joined = os.path.join(self.folder, JOINED) in streams
-        self.started.append(starter([program, "replay"], stdin=files[0]) if is_joined else starter(words, pass_fds=files))
+        self.started.append(starter(bounded([program, "replay"]), stdin=files[0]) if is_joined else starter(bounded(words), pass_fds=files))
         for output in outputs:
             output.close()
         return reads, self.started[-1]
