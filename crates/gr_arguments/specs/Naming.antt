@@ -1,5 +1,5 @@
 -- The word of memory that a space and a number name, and the event that three numbers name, as they are written on a command line.
--- Source: docs/FORMATS.md, "Explanation".
+-- Source: docs/OUTPUT.md, "explain".
 use Rattle.std.specs.Prelude.{◌≡◌, ◌<◌, ◌^◌, ◌++◌, ℕ, List, codes}
 use Rattle.std.specs.Str.Parse.{IsNumeral, digits_value}
 use Rattle.gr_model.specs.declared.event.EventId.{EventId}

@@ -220,7 +220,8 @@ const WORKERS: &str = "How many threads look for races, 1 to 8; 2 if not given";
 
 const QUEUES: &str = "How many queues the records come through, 1 to 4; 1 if not given";
 
-const CAPACITY: &str = "For how many records each queue has room, 1 to 65536; 1024 if not given";
+const CAPACITY: &str =
+    "For how many batches of records each queue has room, 1 to 65536; 1024 if not given";
 
 const CHECK: &str = "Tells which record of a trace is at fault, and what would be right";
 

@@ -1,9 +1,9 @@
 -- What a run is set up of, one queue, one sender and one worker after another.
-use Rattle.std.proofs.Common.{◌≡◌, ◌≢◌, ◌⊎◌, ℕ, ◌+◌, ◌<◌, ◌≤◌, ◌%◌, List, [], ◌∷◌, ◌++◌, length, get_or, set, take, drop, append-nil, cond, Some, slice_get, sym, ap, ◌∙◌, subst, inl, inr, ⊎_elim, arith, eq-eqb, ne_eqb}
+use Rattle.std.proofs.Common.{◌≡◌, ◌≢◌, ◌⊎◌, ℕ, ◌+◌, ◌<◌, ◌≤◌, ◌%◌, List, [], ◌∷◌, ◌++◌, length, get_or, set, cond, Some, slice_get, sym, ap, ◌∙◌, subst, inl, inr, ⊎_elim, arith, eq-eqb, ne_eqb}
 use Rattle.std.proofs.Math.ListN.{get_or-eq_default}
 use Rattle.std.proofs.Math.Nat.{mod-lt}
 use Rattle.std.proofs.lemmas.Bool.{cases_eq, cases_lt}
-use Rattle.std.proofs.lemmas.List.{drop_all, get_or-map, get_or-set_other, get_or-set_same, get_or_append_left, get_or_push, length-append, length-map, length-set, take_all}
+use Rattle.std.proofs.lemmas.List.{get_or-map, get_or-set_other, get_or-set_same, get_or_append_left, get_or_push, length-append, length-map, length-set}
 use Rattle.std.proofs.lemmas.Option.{slice_get-get_or}
 use Rattle.atomic_table.specs.Seated.{TableId}
 use Rattle.gr_model.specs.declared.limits.TheConstants.{MOST_GROUPS}
@@ -28,12 +28,6 @@ each_set P xs i x each here there k d lt = ⊎_elim
     (λ (same : k ≡ i). subst P (sym (ap (λ n. get_or (set xs i x) n d) same ∙ get_or-set_same xs i x d there)) here)
     (λ other. subst P (sym (get_or-set_other xs i k x d other)) (each k d (omega (arith, lt, length-set xs i x))))
     (cases_eq k i)
-
--- a slice of a whole vector that was written back
-pub whole_back : {X : Type 0} (n : ℕ) (was now : List X) → length was ≡ n → length now ≡ length was → take n (now ++ drop (length now) was) ≡ now
-whole_back n was now all count =
-    ap (λ l. take n (now ++ l)) (drop_all (length now) was (omega (arith, count)))
-    ∙ (ap (take n) (append-nil now) ∙ take_all n now (omega (arith, all, count)))
 
 -- one sender more
 pub open_more : (n : ℕ) (sizes : List ℕ) (intakes : List TableId) (senders : List Sending) (s : Sending) → length senders ≡ n → AreOpenBelow n sizes intakes senders → IsOpenSender sizes intakes n s → AreOpenBelow (n + 1) sizes intakes (senders ++ s ∷ [])

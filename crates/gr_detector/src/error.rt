@@ -20,7 +20,7 @@ pub enum StartError {
 #[derive(Drop)]
 pub enum FinishError<A: Allocator = Global> {
     /// Not every work-group has one receipt. The run goes on, and it and the receipts are here.
-    Receipts(Running<A>, Vec<Receipt, A>),
+    Receipts(Running<A>, Vec<Receipt<A>, A>),
     /// Memory ran out, in whichever thread. The run is over: all its threads have ended, and the receipts are gone.
     Memory,
 }

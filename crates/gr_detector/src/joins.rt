@@ -4,7 +4,7 @@ ghost use Rattle.std.specs.Prelude.{◌≡◌, ◌↔◌, ◌<◌, ◌++◌, ◌
 ghost use Rattle.gr_model.specs.Reports.{Lists, WordBelow};
 ghost use Rattle.gr_report.specs.Whole.{whole_of};
 ghost use Rattle.gr_shadow.specs.Clashes.{ClockedAccess, IsHitIn};
-ghost use Rattle.gr_sequencer_thread.specs.Feeds.{given_of, intakes_of, works_of};
+ghost use Rattle.gr_sequencer_thread.specs.Feeds.{AreStopped, given_of, intakes_of, works_of};
 ghost use Rattle.gr_detector.specs.Runs.{IsEachOnce, worker_queues};
 ghost use Rattle.gr_detector.specs.Settling.{AreHere, ArePopped, IsHitAmong, pops_of};
 
@@ -21,7 +21,7 @@ use std::alloc::Allocator;
 use std::thread::Threads;
 
 /// How many of the receipts are a group's.
-fn count_of(receipts: &[Receipt], group: u16) -> usize
+fn count_of<A: Allocator>(receipts: &[Receipt<A>], group: u16) -> usize
     ensures { result ≡ length (filter (λ r. r.group == group) receipts.now) }
 {
     receipts
@@ -31,7 +31,7 @@ fn count_of(receipts: &[Receipt], group: u16) -> usize
 }
 
 /// Whether each of so many groups has one receipt.
-pub(crate) fn has_each_once(receipts: &[Receipt], groups: u16) -> bool
+pub(crate) fn has_each_once<A: Allocator>(receipts: &[Receipt<A>], groups: u16) -> bool
     ensures { IsTrue result ↔ IsEachOnce groups receipts.now }
 {
     for group in 0..groups {
@@ -44,10 +44,13 @@ pub(crate) fn has_each_once(receipts: &[Receipt], groups: u16) -> bool
 
 /// Joins back the seats of all receipts, each to the seat that popped its events. Of each receipt's group, what was popped is
 /// a prefix of what was sent, whether memory ran out or not.
-pub(crate) fn join_intakes<A: Allocator>(inlets: &mut [Inlet<A>], receipts: Vec<Receipt, A>)
-    requires some { 0 < length inlets.old }
-    requires here { AreHere (intakes_of inlets.old) receipts.items }
-    ensures { ArePopped (pops_of inlets.old) receipts.items }
+pub(crate) fn join_intakes<A: Allocator>(
+    inlets: &mut Vec<Inlet<A>, A>,
+    receipts: Vec<Receipt<A>, A>,
+)
+    requires some { 0 < length inlets.old.items }
+    requires here { AreHere (intakes_of inlets.old.items) receipts.items }
+    ensures { ArePopped (pops_of inlets.old.items) receipts.items }
 {
     for receipt in receipts {
         let queue = usize::from(receipt.group()) % inlets.len();
@@ -79,7 +82,8 @@ pub(crate) fn settle_all<R: Threads, A: Allocator + Copy>(
     workers: Vec<WorkerThread<A>, A>,
     outlets: Vec<Outlet<A>, A>,
 ) -> Result<Vec<Word, A>, Memory>
-    requires { worker_queues workers.items ≡ works_of outlets.items }
+    requires queues { worker_queues workers.items ≡ works_of outlets.items }
+    requires stopped { AreStopped outlets.items }
     ensures { IfOk result (λ words. Lists WordBelow (IsHitAmong (given_of outlets.items)) words.items) }
 {
     let mut words = Ok(Vec::new(alloc));

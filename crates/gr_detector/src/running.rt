@@ -71,7 +71,7 @@ impl<A: Allocator + Copy> Running<A> {
     pub fn finish<R: Threads>(
         self,
         rt: &R,
-        receipts: Vec<Receipt, A>,
+        receipts: Vec<Receipt<A>, A>,
     ) -> Result<Report<A>, FinishError<A>>
         requires { AreReceiptsOf self receipts.items }
         ensures once { IfOk result (λ _. IsEachOnce (length self.sizes) receipts.items) }

@@ -38,16 +38,16 @@ pub(crate) fn inlets_of<A: Allocator + Copy>(
 pub(crate) fn senders_of<A: Allocator + Copy>(
     alloc: A,
     shape: &Shape<A>,
-    inlets: &mut [Inlet<A>],
+    inlets: &mut Vec<Inlet<A>, A>,
 ) -> Result<Vec<Sender<A>, A>, Memory>
-    requires some { 0 < length inlets.old }
-    requires unpopped { AreUnpopped inlets.old }
-    requires unseated { AreUnseated inlets.old }
-    ensures queues { IfOk result (λ _. intakes_of inlets.new ≡ intakes_of inlets.old) }
-    ensures unpopped { IfOk result (λ _. AreUnpopped inlets.new) }
-    ensures seated { IfOk result (λ _. AreSeatedBelow (length shape.now) shape.now inlets.new) }
+    requires some { 0 < length inlets.old.items }
+    requires unpopped { AreUnpopped inlets.old.items }
+    requires unseated { AreUnseated inlets.old.items }
+    ensures queues { IfOk result (λ _. intakes_of inlets.new.items ≡ intakes_of inlets.old.items) }
+    ensures unpopped { IfOk result (λ _. AreUnpopped inlets.new.items) }
+    ensures seated { IfOk result (λ _. AreSeatedBelow (length shape.now) shape.now inlets.new.items) }
     ensures count { IfOk result (λ senders. length senders.items ≡ length shape.now) }
-    ensures senders { IfOk result (λ senders. AreOpenBelow (length shape.now) shape.now (intakes_of inlets.old) senders.items) }
+    ensures senders { IfOk result (λ senders. AreOpenBelow (length shape.now) shape.now (intakes_of inlets.old.items) senders.items) }
 {
     let mut senders = Vec::new(alloc);
     for group in 0..shape.groups() {
@@ -73,7 +73,10 @@ fn line_of<A: Allocator + Copy>(
     };
     let queue = Arc::new(alloc, queue)?;
     let theirs = Arc::try_clone(&queue)?;
-    Ok((Outlet::new(queue, giver), Worker::new(number, theirs, seat)))
+    Ok((
+        Outlet::new(alloc, queue, giver),
+        Worker::new(number, theirs, seat),
+    ))
 }
 
 /// The ends of the workers' queues, which are new, and the workers, in order.

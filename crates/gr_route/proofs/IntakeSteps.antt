@@ -1,5 +1,5 @@
 -- Each kind of step keeps the rule of an intake queue, and what the steps tell a seat.
-use Rattle.std.proofs.Common.{◌≡◌, ◌≢◌, ℕ, ◌<◌, true≢false, List, [], ◌∷◌, ◌++◌, Option, Some, None, length, get_or, set, sym, refl, ap, ◌∙◌, subst, ⊎_elim, append_assoc, append-nil, arith, IsFalse}
+use Rattle.std.proofs.Common.{◌≡◌, ◌≢◌, ℕ, ◌<◌, true≢false, List, [], ◌∷◌, ◌++◌, Option, Some, None, length, get_or, set, map, sym, refl, ap, ◌∙◌, subst, ⊎_elim, append_assoc, append-nil, arith, IsFalse}
 use Rattle.std.specs.Prelude.{slice_index, slice_set, IfSome, MatchOption}
 use Rattle.std.specs.List.{All}
 use Rattle.std.proofs.lemmas.List.{get_or-set_same, get_or-set_other}
@@ -18,9 +18,11 @@ use Rattle.gr_route.specs.declared.intake_rule.Joined.{Joined}
 use Rattle.gr_route.specs.declared.intake_rule.IntakeView.{IntakeView}
 use Rattle.gr_model.proofs.Sending.{events_append, events_else, events_here}
 use Rattle.gr_model.proofs.StreamPrefixes.{prefix_prefix, prefix_nil, prefix_push, next_ok, next_unended, next_room}
-use Rattle.gr_route.specs.IntakeRule.{FitsJoined, FitsSeat, FitsTaker, Pops, Pushes, SeatsAgree, after_join, after_split, first_view, joined_from, no_sizes, seat_of, spent_view, taker_of}
+use Rattle.gr_route.specs.Batches.{all_of, front}
+use Rattle.gr_route.specs.IntakeRule.{BatchesAgree, FitsJoined, FitsSeat, FitsTaker, Pops, Pushes, SeatsAgree, events_in, after_join, after_split, first_view, joined_from, no_sizes, seat_of, spent_view, taker_of}
 use Rattle.gr_route.specs.IntakeSeats.{IsBeforeTaker, IsDelivered, IsDelivery, IsNextPopped, Seat, SeatTells, Taker, TakerTells}
 use Rattle.gr_route.specs.Rooms.{AgreesWith}
+use Rattle.gr_route.proofs.BatchLemmas.{all_of_push, front_all, front_left_more, front_more}
 use Rattle.gr_route.proofs.PrefixLemmas.{nil_prefix, not_nil}
 use Rattle.gr_route.proofs.GroupLemmas.{by_place, changed, changed_else, changed_here}
 use Rattle.gr_route.proofs.Views.{Each, agrees, each_one, each_set, each_snoc, held, none_holds, same_holder, set_there}
@@ -49,45 +51,56 @@ begins =
 
 -- ---- a push
 
-pushes : (n pass g items : ℕ) (l : List Event) (e : Event) → IsEventOk e items → IsFalse (is_complete l) → length l < MOST_RECORDS
-    → queue.Pushes SeatsAgree n pass (seat_of g items l) record { group = g; event = e } (Pushes (seat_of g items l) record { group = g; event = e })
-pushes n pass g size l e ok unended room items views _ h at =
-    let x : Sent = record { group = g; event = e } in
+events_same : (g : ℕ) (b : List Sent) → All (λ x. x.group ≡ g) b → events_of g b ≡ events_in b
+events_same g [] all = refl
+events_same g (x ∷ xs) all =
+    let here : x.group ≡ g = All-head (λ (y : Sent). y.group ≡ g) x xs all in
+    events_append g (x ∷ []) xs
+    ∙ ap (λ l. l ++ events_of g xs) (ap (λ j. events_of j (x ∷ [])) (sym here) ∙ events_here x)
+    ∙ ap (λ l. x.event ∷ l) (events_same g xs (All-tail (λ (y : Sent). y.group ≡ g) x xs all))
+
+events_apart : (k g : ℕ) (b : List Sent) → All (λ x. x.group ≡ g) b → k ≢ g → events_of k b ≡ []
+events_apart k g [] all other = refl
+events_apart k g (x ∷ xs) all other =
+    let here : x.group ≡ g = All-head (λ (y : Sent). y.group ≡ g) x xs all in
+    events_append k (x ∷ []) xs
+    ∙ ap (λ l. l ++ events_of k xs) (events_else k x (λ same. other (sym same ∙ here)))
+    ∙ events_apart k g xs (All-tail (λ (y : Sent). y.group ≡ g) x xs all) other
+
+pushes : (n pass g items : ℕ) (l : List Event) (b : List Sent) → All (λ x. x.group ≡ g) b → (IsPrefix items l → IsPrefix items (l ++ events_in b))
+    → queue.Pushes BatchesAgree n pass (seat_of g items l) b (Pushes (seat_of g items l) b)
+pushes n pass g size l b of_group grows batches views _ h at =
+    let items : List Sent = all_of batches in
     let mine = (h.fits pass (seat_of g size l) at).0 refl in
-    let w : IntakeView = seat_of g size (l ++ e ∷ []) in
-    let sent : ℕ → List Event = λ k. h.sent k ++ events_of k (x ∷ []) in
-    let here : (k : ℕ) → k ≡ g → sent k ≡ h.sent k ++ e ∷ [] = λ k same. ap (λ m. h.sent k ++ m) (ap (λ j. events_of j (x ∷ [])) same ∙ events_here x) in
-    let else : (k : ℕ) → k ≢ g → sent k ≡ h.sent k = λ k other. ap (λ m. h.sent k ++ m) (events_else k x (λ same. other (sym same))) ∙ append-nil (h.sent k) in (
-      w,
-      record {
-        taker = h.taker;
-        holder = h.holder;
-        sent = sent;
-        size = h.size;
-        popped = h.popped;
-        queued = λ k. ap (events_of k) (sym (append_assoc h.popped items (x ∷ []))) ∙ events_append k (h.popped ++ items) (x ∷ []) ∙ ap (λ m. m ++ events_of k (x ∷ [])) (h.queued k);
-        prefixes = λ k. by_place k g
-            (λ same. subst (IsPrefix (h.size k)) (sym (here k same))
-            (prefix_push (h.size k) (h.sent k) e (h.prefixes k)
-            (subst (λ (s : ℕ). IsEventOk e s) (mine.2 ∙ ap h.size (sym same)) ok)
-            (subst (λ (m : List Event). IsFalse (is_complete m)) (mine.1 ∙ ap h.sent (sym same)) unended)
-            (subst (λ (m : List Event). length m < MOST_RECORDS) (mine.1 ∙ ap h.sent (sym same)) room)))
-            (λ other. subst (IsPrefix (h.size k)) (sym (else k other)) (h.prefixes k));
-        unseated = λ k none. let old = h.unseated k none in (old.0, else k (λ same. held mine.0 (ap h.holder (sym same) ∙ old.0)) ∙ old.1);
-        fits = each_set (Fits h.holder sent h.size h.taker h.popped) views pass w
-            ((λ _. (mine.0, ap (λ m. m ++ e ∷ []) mine.1 ∙ sym (here g refl), mine.2)), (λ q. none_holds q))
-            (λ j u apart there. let old = h.fits j u there in (
-              (λ q. let o = old.0 q in (o.0, o.1 ∙ sym (else u.group (λ same. apart (same_holder o.0 (ap h.holder same ∙ mine.0)))), o.2)),
-              (λ q. let o = old.1 q in (
-                o.0,
-                o.1,
-                o.2,
-                All-weaker (FitsJoined h.holder h.sent h.size) (FitsJoined h.holder sent h.size) (λ b t. (t.0, t.1 ∙ sym (else b.group (λ same. held mine.0 (ap h.holder (sym same) ∙ t.0))), t.2, t.3)) u.joined o.3,
-              )),
-            ));
-      },
-      refl,
-    )
+    let w : IntakeView = seat_of g size (l ++ events_in b) in
+    let sent : ℕ → List Event = λ k. h.sent k ++ events_of k b in
+    let here : (k : ℕ) → k ≡ g → sent k ≡ h.sent k ++ events_in b = λ k same. ap (λ m. h.sent k ++ m) (ap (λ j. events_of j b) same ∙ events_same g b of_group) in
+    let else : (k : ℕ) → k ≢ g → sent k ≡ h.sent k = λ k other. ap (λ m. h.sent k ++ m) (events_apart k g b of_group other) ∙ append-nil (h.sent k) in
+    let now : SeatsAgree (items ++ b) (set views pass w) = record {
+      taker = h.taker;
+      holder = h.holder;
+      sent = sent;
+      size = h.size;
+      popped = h.popped;
+      queued = λ k. ap (events_of k) (sym (append_assoc h.popped items b)) ∙ events_append k (h.popped ++ items) b ∙ ap (λ m. m ++ events_of k b) (h.queued k);
+      prefixes = λ k. by_place k g
+          (λ same. subst (λ (y : ℕ × List Event). IsPrefix y.0 y.1) (λ i. ((mine.2 ∙ ap h.size (sym same)) i, (ap (λ m. m ++ events_in b) (mine.1 ∙ ap h.sent (sym same)) ∙ sym (here k same)) i))
+          (grows (subst (λ (y : ℕ × List Event). IsPrefix y.0 y.1) (λ i. (sym mine.2 i, sym mine.1 i)) (h.prefixes g))))
+          (λ other. subst (IsPrefix (h.size k)) (sym (else k other)) (h.prefixes k));
+      unseated = λ k none. let old = h.unseated k none in (old.0, else k (λ same. held mine.0 (ap h.holder (sym same) ∙ old.0)) ∙ old.1);
+      fits = each_set (Fits h.holder sent h.size h.taker h.popped) views pass w
+          ((λ _. (mine.0, ap (λ m. m ++ events_in b) mine.1 ∙ sym (here g refl), mine.2)), (λ q. none_holds q))
+          (λ j u apart there. let old = h.fits j u there in (
+            (λ q. let o = old.0 q in (o.0, o.1 ∙ sym (else u.group (λ same. apart (same_holder o.0 (ap h.holder same ∙ mine.0)))), o.2)),
+            (λ q. let o = old.1 q in (
+              o.0,
+              o.1,
+              o.2,
+              All-weaker (FitsJoined h.holder h.sent h.size) (FitsJoined h.holder sent h.size) (λ c t. (t.0, t.1 ∙ sym (else c.group (λ same. held mine.0 (ap h.holder (sym same) ∙ t.0))), t.2, t.3)) u.joined o.3,
+            )),
+          ));
+    } in
+    (w, subst (λ (m : List Sent). SeatsAgree m (set views pass w)) (sym (all_of_push batches b)) now, refl)
 
 pub seat_tells : SeatTells
 seat_tells s items a =
@@ -110,13 +123,14 @@ taker_tells t items a =
       joined = All-weaker (FitsJoined h.holder h.sent h.size) (λ j. (j.pushed ≡ events_of j.group (t.popped ++ items)) × (j.items ≡ slice_index t.sizes j.group)) (λ j f. (f.1 ∙ sym (e j.group), f.2 ∙ sym (mine.2 j.group))) t.joined mine.3;
     }
 
-pops : (pass : ℕ) (p : List Sent) (s : List ℕ) (js : List Joined) → queue.Pops SeatsAgree pass (taker_of p s js) (Pops (taker_of p s js))
-pops pass p s js x items views h at =
+pops : (pass : ℕ) (p : List Sent) (s : List ℕ) (js : List Joined) → queue.Pops BatchesAgree pass (taker_of p s js) (Pops (taker_of p s js))
+pops pass p s js b batches views h at =
+    let items : List Sent = all_of batches in
     let mine = (h.fits pass (taker_of p s js) at).1 refl in
-    let w : IntakeView = taker_of (p ++ x ∷ []) s js in
-    let got : List Sent = h.popped ++ x ∷ [] in
-    let queued : (g : ℕ) → events_of g (got ++ items) ≡ h.sent g = λ g. ap (events_of g) (append_assoc h.popped (x ∷ []) items) ∙ h.queued g in
-    let same : p ++ x ∷ [] ≡ got = ap (λ k. k ++ x ∷ []) mine.1 in
+    let w : IntakeView = taker_of (p ++ b) s js in
+    let got : List Sent = h.popped ++ b in
+    let queued : (g : ℕ) → events_of g (got ++ items) ≡ h.sent g = λ g. ap (events_of g) (append_assoc h.popped b items) ∙ h.queued g in
+    let same : p ++ b ≡ got = ap (λ k. k ++ b) mine.1 in
     let now : SeatsAgree items (set views pass w) = record {
       taker = h.taker;
       holder = h.holder;
@@ -131,10 +145,29 @@ pops pass p s js x items views h at =
     } in
     (w, now, (refl, (items, (set views pass w, pass, set_there views pass (taker_of p s js) w at, now))))
 
+-- what was popped and not handed out yet is as good as queued
+unpopped : (p r : List Sent) (s : List ℕ) (js : List Joined) (items : List Sent) → AgreesWith SeatsAgree (taker_of (p ++ r) s js) items → AgreesWith SeatsAgree (taker_of p s js) (r ++ items)
+unpopped p r s js items (views, pass, at, h) =
+    let mine = (h.fits pass (taker_of (p ++ r) s js) at).1 refl in
+    let w : IntakeView = taker_of p s js in
+    let before : SeatsAgree (r ++ items) (set views pass w) = record {
+      taker = h.taker;
+      holder = h.holder;
+      sent = h.sent;
+      size = h.size;
+      popped = p;
+      queued = λ g. ap (events_of g) (sym (append_assoc p r items) ∙ ap (λ k. k ++ items) mine.1) ∙ h.queued g;
+      prefixes = h.prefixes;
+      unseated = h.unseated;
+      fits = each_set (Fits h.holder h.sent h.size h.taker p) views pass w ((λ q. none_holds q), (λ _. (mine.0, refl, mine.2, mine.3)))
+          (λ j u apart there. let old = h.fits j u there in (old.0, (λ q. absurd (apart ((old.1 q).0 ∙ sym mine.0)))));
+    } in
+    (set views pass w, pass, set_there views pass (taker_of (p ++ r) s js) w at, before)
+
 -- ---- a split
 
 splits : (pass g n : ℕ) (p : List Sent) (s : List ℕ) (js : List Joined) → g < length s → slice_index s g ≡ 0 → n ≢ 0
-    → queue.Forks SeatsAgree pass (taker_of p s js) (taker_of p (slice_set s g n) js) (seat_of g n [])
+    → queue.Forks BatchesAgree pass (taker_of p s js) (taker_of p (slice_set s g n) js) (seat_of g n [])
 splits pass g n p s js within vacant some_items items views h at =
     let mine = (h.fits pass (taker_of p s js) at).1 refl in
     let gone = h.unseated g (sym (mine.2 g) ∙ vacant) in
@@ -190,7 +223,7 @@ splits pass g n p s js within vacant some_items items views h at =
 -- ---- a join
 
 joins : (pass : ℕ) (p : List Sent) (s : List ℕ) (js : List Joined) (other g n : ℕ) (l : List Event)
-    → queue.Merges SeatsAgree pass (taker_of p s js) other (seat_of g n l) (after_join (taker_of p s js) (seat_of g n l)) spent_view
+    → queue.Merges BatchesAgree pass (taker_of p s js) other (seat_of g n l) (after_join (taker_of p s js) (seat_of g n l)) spent_view
 joins pass p s js other g n l items views h at two at' =
     let mine = (h.fits pass (taker_of p s js) at).1 refl in
     let u : IntakeView = seat_of g n l in
@@ -232,22 +265,27 @@ joins pass p s js other g n l items views h at two at' =
 
 -- ---- the same at a seat's own view
 
-pub pushes_as : (n pass g items : ℕ) (v : IntakeView) (e : Event) → v ≡ seat_of g items v.pushed → IsEventOk e items → IsFalse (is_complete v.pushed) → length v.pushed < MOST_RECORDS
-    → queue.Pushes SeatsAgree n pass v record { group = g; event = e } (Pushes v record { group = g; event = e }) × queue.Learns SeatsAgree pass v (AgreesWith SeatsAgree v)
-pushes_as n pass g items v e is ok unended room =
-    let x : Sent = record { group = g; event = e } in
-    (subst (λ (u : IntakeView). queue.Pushes SeatsAgree n pass u x (Pushes u x)) (sym is) (pushes n pass g items v.pushed e ok unended room), agrees SeatsAgree pass v)
+pub pushes_as : (n pass g items : ℕ) (v : IntakeView) (b : List Sent) → v ≡ seat_of g items v.pushed → All (λ x. x.group ≡ g) b → (IsPrefix items v.pushed → IsPrefix items (v.pushed ++ events_in b))
+    → queue.Pushes BatchesAgree n pass v b (Pushes v b) × queue.Learns BatchesAgree pass v (AgreesWith BatchesAgree v)
+pushes_as n pass g items v b is of_group grows =
+    (subst (λ (u : IntakeView). queue.Pushes BatchesAgree n pass u b (Pushes u b)) (sym is) (pushes n pass g items v.pushed b of_group grows), agrees BatchesAgree pass v)
 
-pub pops_as : (pass : ℕ) (v : IntakeView) (s : List ℕ) → v ≡ taker_of v.popped s v.joined → queue.Pops SeatsAgree pass v (Pops v) × queue.Learns SeatsAgree pass v (AgreesWith SeatsAgree v)
-pops_as pass v s is = (subst (λ (u : IntakeView). queue.Pops SeatsAgree pass u (Pops u)) (sym is) (pops pass v.popped s v.joined), agrees SeatsAgree pass v)
+pub pushes_one_as : (n pass g items : ℕ) (v : IntakeView) (e : Event) → v ≡ seat_of g items v.pushed → IsEventOk e items → IsFalse (is_complete v.pushed) → length v.pushed < MOST_RECORDS
+    → let b : List Sent = record { group = g; event = e } ∷ [] in queue.Pushes BatchesAgree n pass v b (Pushes v b) × queue.Learns BatchesAgree pass v (AgreesWith BatchesAgree v)
+pushes_one_as n pass g items v e is ok unended room =
+    let b : List Sent = record { group = g; event = e } ∷ [] in
+    pushes_as n pass g items v b is (All-push (λ (x : Sent). x.group ≡ g) [] record { group = g; event = e } (All-nil (λ (x : Sent). x.group ≡ g)) refl) (λ prefix. prefix_push items v.pushed e prefix ok unended room)
 
-pub splits_as : (pass g n : ℕ) (v : IntakeView) (s : List ℕ) → v ≡ taker_of v.popped s v.joined → g < length s → slice_index s g ≡ 0 → 0 < n → queue.Forks SeatsAgree pass v (after_split g n v) (seat_of g n [])
+pub pops_as : (pass : ℕ) (v : IntakeView) (s : List ℕ) → v ≡ taker_of v.popped s v.joined → queue.Pops BatchesAgree pass v (Pops v) × queue.Learns BatchesAgree pass v (AgreesWith BatchesAgree v)
+pops_as pass v s is = (subst (λ (u : IntakeView). queue.Pops BatchesAgree pass u (Pops u)) (sym is) (pops pass v.popped s v.joined), agrees BatchesAgree pass v)
+
+pub splits_as : (pass g n : ℕ) (v : IntakeView) (s : List ℕ) → v ≡ taker_of v.popped s v.joined → g < length s → slice_index s g ≡ 0 → 0 < n → queue.Forks BatchesAgree pass v (after_split g n v) (seat_of g n [])
 splits_as pass g n v s is within vacant some_items =
-    subst (λ (u : IntakeView). queue.Forks SeatsAgree pass u (after_split g n u) (seat_of g n [])) (sym is) (splits pass g n v.popped s v.joined within vacant (λ z. omega arith))
+    subst (λ (u : IntakeView). queue.Forks BatchesAgree pass u (after_split g n u) (seat_of g n [])) (sym is) (splits pass g n v.popped s v.joined within vacant (λ z. omega arith))
 
-pub joins_as : (pass : ℕ) (v : IntakeView) (s : List ℕ) (other g items : ℕ) (u : IntakeView) → v ≡ taker_of v.popped s v.joined → u ≡ seat_of g items u.pushed → queue.Merges SeatsAgree pass v other u (after_join v u) spent_view
+pub joins_as : (pass : ℕ) (v : IntakeView) (s : List ℕ) (other g items : ℕ) (u : IntakeView) → v ≡ taker_of v.popped s v.joined → u ≡ seat_of g items u.pushed → queue.Merges BatchesAgree pass v other u (after_join v u) spent_view
 joins_as pass v s other g items u is from =
-    subst (λ (y : IntakeView × IntakeView). queue.Merges SeatsAgree pass y.0 other y.1 (after_join y.0 y.1) spent_view) (λ i. (sym is i, sym from i)) (joins pass v.popped s v.joined other g items u.pushed)
+    subst (λ (y : IntakeView × IntakeView). queue.Merges BatchesAgree pass y.0 other y.1 (after_join y.0 y.1) spent_view) (λ i. (sym is i, sym from i)) (joins pass v.popped s v.joined other g items u.pushed)
 
 pub taker_again : (v u w : IntakeView) (s : List ℕ) → v ≡ taker_of v.popped s v.joined → w ≡ after_join v u → w ≡ taker_of w.popped s w.joined
 taker_again v u w s is now = subst (λ (y : IntakeView). y ≡ taker_of y.popped s y.joined) (sym now) (ap (λ b. taker_of v.popped b (v.joined ++ joined_from u ∷ [])) (ap (λ (y : IntakeView). y.sizes) is))
@@ -266,10 +304,16 @@ delivery t items b = record {
       }) t.joined b.joined;
 }
 
-pub delivery_as : (q : TableId) (v : IntakeView) (s : List ℕ) (items : List Sent) → v ≡ taker_of v.popped s v.joined → AgreesWith SeatsAgree v items → IsDelivery record { queue = q; popped = v.popped; sizes = s; joined = v.joined }
-delivery_as q v s items is a =
-    let t : Taker = record { queue = q; popped = v.popped; sizes = s; joined = v.joined } in
-    delivery t items (taker_tells t items (subst (λ (u : IntakeView). AgreesWith SeatsAgree u items) is a))
+-- of a view that has these popped, of which r is left
+front_agrees : (v : IntakeView) (s : List ℕ) (a r items : List Sent) → v ≡ taker_of v.popped s v.joined → v.popped ≡ a ++ r → AgreesWith SeatsAgree v items → AgreesWith SeatsAgree (taker_of a s v.joined) (r ++ items)
+front_agrees v s a r items is left g =
+    unpopped a r s v.joined items (subst (λ (m : List Sent). AgreesWith SeatsAgree (taker_of m s v.joined) items) left (subst (λ (u : IntakeView). AgreesWith SeatsAgree u items) is g))
+
+pub front_delivery : (q : TableId) (v : IntakeView) (s : List ℕ) (r : List Sent) (items : List Sent) → v ≡ taker_of v.popped s v.joined → v.popped ≡ front v.popped r ++ r → AgreesWith SeatsAgree v items
+    → IsDelivery record { queue = q; popped = front v.popped r; sizes = s; joined = v.joined }
+front_delivery q v s r items is left g =
+    let t : Taker = record { queue = q; popped = front v.popped r; sizes = s; joined = v.joined } in
+    delivery t (r ++ items) (taker_tells t (r ++ items) (front_agrees v s (front v.popped r) r items is left g))
 
 All-last : {X : Type 0} (P : X → Type 0) (xs : List X) (x : X) → All P (xs ++ x ∷ []) → P x
 All-last P [] x h = All-head P x [] h
@@ -298,17 +342,59 @@ next q p s js x items a =
       room = next_room size (events_of g p) x.event (events_of g items) all;
     }
 
--- a view after a pop is the taker's
-popped_view : (v w : IntakeView) (s : List ℕ) (x : Sent) → v ≡ taker_of v.popped s v.joined → Pops v x w → w ≡ taker_of (v.popped ++ x ∷ []) s v.joined
-popped_view v w s x is told = told.0 ∙ ap (λ b. taker_of (v.popped ++ x ∷ []) b v.joined) (ap (λ (y : IntakeView). y.sizes) is)
+-- ---- an event is handed out: the first of what was left, or of a batch where nothing was left
 
-pub popped_next : (q : TableId) (o : Option Sent) (v w : IntakeView) (s : List ℕ) → v ≡ taker_of v.popped s v.joined → MatchOption o ((w ≡ v) × queue.Held 0 (AgreesWith SeatsAgree v)) (λ x. Pops v x w)
-    → IfSome o (IsNextPopped record { queue = q; popped = v.popped; sizes = s; joined = v.joined })
-popped_next q None v w s is h = tt
-popped_next q (Some x) v w s is h = next q v.popped s v.joined x h.1.0 (subst (λ (y : IntakeView). AgreesWith SeatsAgree y h.1.0) (popped_view v w s x is h) h.1.1)
+-- the view before and after it, what was left before and after, and the event
+pub record Hands (v w : IntakeView) (s : List ℕ) (r0 r1 : List Sent) (x : Sent) : Type 0 where
+  pub known : w ≡ taker_of (front v.popped r0 ++ x ∷ r1) s v.joined
+  pub agrees : (items : List Sent) × AgreesWith SeatsAgree w items
 
-pub popped_delivery : (q : TableId) (o : Option Sent) (v w : IntakeView) (s : List ℕ) → v ≡ taker_of v.popped s v.joined → MatchOption o ((w ≡ v) × queue.Held 0 (AgreesWith SeatsAgree v)) (λ x. Pops v x w)
-    → IsDelivery record { queue = q; popped = w.popped; sizes = s; joined = w.joined }
-popped_delivery q None v w s is h = subst (λ (y : IntakeView). IsDelivery record { queue = q; popped = y.popped; sizes = s; joined = y.joined }) (sym h.0) (delivery_as q v s h.1.0 is h.1.2)
-popped_delivery q (Some x) v w s is h =
-    delivery_as q w s h.1.0 (subst (λ (y : IntakeView). y ≡ taker_of y.popped s y.joined) (sym (popped_view v w s x is h)) refl) h.1.1
+pub hands_left : (v : IntakeView) (s : List ℕ) (r0 r1 : List Sent) (x : Sent) → v ≡ taker_of v.popped s v.joined → v.popped ≡ front v.popped r0 ++ r0 → (items : List Sent) × AgreesWith SeatsAgree v items → r0 ≡ x ∷ r1
+    → Hands v v s r0 r1 x
+hands_left v s r0 r1 x is left g first = record {
+  known = is ∙ ap (λ l. taker_of l s v.joined) (left ∙ ap (λ l. front v.popped r0 ++ l) first);
+  agrees = g;
+}
+
+pub hands_popped : (v w : IntakeView) (s : List ℕ) (r0 r1 b : List Sent) (x : Sent) → v ≡ taker_of v.popped s v.joined → r0 ≡ [] → b ≡ x ∷ r1 → Pops v b w → Hands v w s r0 r1 x
+hands_popped v w s r0 r1 b x is none first told = record {
+  known = told.0 ∙ ap (λ (y : List Sent × List ℕ). taker_of y.0 y.1 v.joined) (λ i. ((ap (λ l. v.popped ++ l) first ∙ ap (λ l. l ++ x ∷ r1) (sym (front_all v.popped r0 none))) i, ap (λ (u : IntakeView). u.sizes) is i));
+  agrees = told.1;
+}
+
+module _ (v w : IntakeView) (s : List ℕ) (r0 r1 : List Sent) (x : Sent) (h : Hands v w s r0 r1 x) where
+  popped_then : w.popped ≡ front v.popped r0 ++ x ∷ r1
+  popped_then = ap (λ (u : IntakeView). u.popped) h.known
+
+  pub handed_front : front w.popped r1 ≡ front v.popped r0 ++ x ∷ []
+  handed_front = front_more w.popped (front v.popped r0) r1 x popped_then
+
+  pub handed_left : w.popped ≡ front w.popped r1 ++ r1
+  handed_left = front_left_more w.popped (front v.popped r0) r1 x popped_then
+
+  pub handed_joined : w.joined ≡ v.joined
+  handed_joined = ap (λ (u : IntakeView). u.joined) h.known
+
+  pub handed_known : w ≡ taker_of w.popped s w.joined
+  handed_known = subst (λ (u : IntakeView). u ≡ taker_of u.popped s u.joined) (sym h.known) refl
+
+  pub handed_next : (q : TableId) → IsNextPopped record { queue = q; popped = front v.popped r0; sizes = s; joined = v.joined } x
+  handed_next q =
+      subst (λ (js : List Joined). IsNextPopped record { queue = q; popped = front v.popped r0; sizes = s; joined = js } x) handed_joined
+      (next q (front v.popped r0) s w.joined x (r1 ++ h.agrees.0)
+      (front_agrees w s (front v.popped r0 ++ x ∷ []) r1 h.agrees.0 handed_known (popped_then ∙ sym (append_assoc (front v.popped r0) (x ∷ []) r1)) h.agrees.1))
+
+  pub handed_delivery : (q : TableId) → IsDelivery record { queue = q; popped = front w.popped r1; sizes = s; joined = w.joined }
+  handed_delivery q = front_delivery q w s r1 h.agrees.0 handed_known handed_left h.agrees.1
+
+-- ---- where the taker's seat begins, and after a split
+
+pub begun : (v : IntakeView) (r : List Sent) → v ≡ first_view → r ≡ [] → (v ≡ taker_of v.popped no_sizes v.joined) × (v.popped ≡ front v.popped r ++ r) × ((items : List Sent) × AgreesWith SeatsAgree v items)
+begun v r is none =
+    subst (λ (y : IntakeView × List Sent). (y.0 ≡ taker_of y.0.popped no_sizes y.0.joined) × (y.0.popped ≡ front y.0.popped y.1 ++ y.1) × ((items : List Sent) × AgreesWith SeatsAgree y.0 items)) (λ i. (sym is i, sym none i))
+    (refl, refl, ([], (first_view ∷ [], 0, refl, begins)))
+
+pub split_again : (v w : IntakeView) (s : List ℕ) (g n k : ℕ) → v ≡ taker_of v.popped s v.joined → w ≡ after_split g n v → k ≡ g → w ≡ taker_of w.popped (slice_set s k n) w.joined
+split_again v w s g n k is now same =
+    subst (λ (u : IntakeView). u ≡ taker_of u.popped (slice_set s k n) u.joined) (sym now)
+    (ap (λ (y : List ℕ × ℕ). taker_of v.popped (slice_set y.0 y.1 n) v.joined) (λ i. (ap (λ (u : IntakeView). u.sizes) is i, sym same i)))

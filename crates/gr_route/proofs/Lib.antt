@@ -1,3 +1,4 @@
+pub mod BatchLemmas
 pub mod PrefixLemmas
 pub mod Sizes
 pub mod GroupLemmas

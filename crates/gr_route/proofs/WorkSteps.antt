@@ -11,8 +11,10 @@ use Rattle.gr_route.specs.declared.work.Work.{Work}
 use Rattle.gr_route.specs.declared.work_rule.WorkView.{WorkView}
 use Rattle.gr_route.specs.Prefixes.{StartsWith}
 use Rattle.gr_route.specs.Rooms.{AgreesWith}
-use Rattle.gr_route.specs.WorkRule.{FitsGiver, FitsWorker, Pops, Pushes, SeatsAgree, StopMakesWhole, StopsLast, after_join, after_split, first_view, giver_of, is_stop, is_stopped, spent_view, worker_of}
+use Rattle.gr_route.specs.Batches.{all_of, front}
+use Rattle.gr_route.specs.WorkRule.{BatchesAgree, FitsGiver, FitsWorker, Pops, Pushes, SeatsAgree, StopMakesWhole, StopsLast, after_join, after_split, first_view, giver_of, is_stop, is_stopped, spent_view, worker_of}
 use Rattle.gr_route.specs.WorkSeats.{Giver, GiverTells, IsBeforeWorker, IsDelivery, Worker, WorkerTells}
+use Rattle.gr_route.proofs.BatchLemmas.{all_of_push, front_all, front_left_more, front_more}
 use Rattle.gr_route.proofs.PrefixLemmas.{nil_prefix}
 use Rattle.gr_route.proofs.Views.{Each, agrees, each_one, each_set, each_snoc, held, none_holds, same_holder, set_there}
 
@@ -31,7 +33,7 @@ or_true true b e = inl refl
 module _ {A : Type 0} where
   -- ---- the word that there are no more
 
-  stops_push : (xs : List (Work A)) (x : Work A) → IsFalse (is_stopped xs) → StopsLast (xs ++ x ∷ [])
+  pub stops_push : (xs : List (Work A)) (x : Work A) → IsFalse (is_stopped xs) → StopsLast (xs ++ x ∷ [])
   stops_push [] x unstopped = ((λ _. refl), tt)
   stops_push (y ∷ ys) x unstopped =
       let neither = or_false (is_stop y) (is_stopped ys) unstopped in
@@ -76,27 +78,26 @@ module _ {A : Type 0} where
 
   -- ---- a push
 
-  pushes : (n pass : ℕ) (l : List (Work A)) (x : Work A) → IsFalse (is_stopped l) → queue.Pushes SeatsAgree n pass (giver_of l) x (Pushes (giver_of l) x)
-  pushes n pass l x unstopped items views room h at =
+  pushes : (n pass : ℕ) (l b : List (Work A)) → StopsLast (l ++ b) → queue.Pushes BatchesAgree n pass (giver_of l) b (Pushes (giver_of l) b)
+  pushes n pass l b stops batches views room h at =
+      let items : List (Work A) = all_of batches in
       let mine = (h.fits pass (giver_of l) at).0 refl in
-      let w : WorkView A = giver_of (l ++ x ∷ []) in
-      let all : List (Work A) = h.sent ++ x ∷ [] in (
-        w,
-        record {
-          worker = h.worker;
-          holder = h.holder;
-          sent = all;
-          popped = h.popped;
-          queued = sym (append_assoc h.popped items (x ∷ [])) ∙ ap (λ k. k ++ x ∷ []) h.queued;
-          stops = stops_push h.sent x (subst (λ (k : List (Work A)). IsFalse (is_stopped k)) mine.1 unstopped);
-          fits = each_set (Fits h.worker h.holder all h.popped) views pass w ((λ _. (mine.0, ap (λ k. k ++ x ∷ []) mine.1)), (λ e. none_holds e))
-              (λ j u other there. let old = h.fits j u there in (
-                (λ p. absurd (other (same_holder (old.0 p).0 mine.0))),
-                (λ p. let q = old.1 p in (q.0, q.1, (λ f. held mine.0 (q.2 f).0), IfSome_then u.given q.3 (λ k t. held mine.0 t.0))),
-              ));
-        },
-        refl,
-      )
+      let w : WorkView A = giver_of (l ++ b) in
+      let all : List (Work A) = h.sent ++ b in
+      let now : SeatsAgree (items ++ b) (set views pass w) = record {
+        worker = h.worker;
+        holder = h.holder;
+        sent = all;
+        popped = h.popped;
+        queued = sym (append_assoc h.popped items b) ∙ ap (λ k. k ++ b) h.queued;
+        stops = subst StopsLast (ap (λ k. k ++ b) mine.1) stops;
+        fits = each_set (Fits h.worker h.holder all h.popped) views pass w ((λ _. (mine.0, ap (λ k. k ++ b) mine.1)), (λ e. none_holds e))
+            (λ j u other there. let old = h.fits j u there in (
+              (λ p. absurd (other (same_holder (old.0 p).0 mine.0))),
+              (λ p. let q = old.1 p in (q.0, q.1, (λ f. held mine.0 (q.2 f).0), IfSome_then u.given q.3 (λ k t. held mine.0 t.0))),
+            ));
+      } in
+      (w, subst (λ (m : List (Work A)). SeatsAgree m (set views pass w)) (sym (all_of_push batches b)) now, refl)
 
   pub giver_tells : GiverTells A
   giver_tells g items a = let h = a.3 in (h.popped, ((h.fits a.1 (giver_of g.pushed) a.2).0 refl).1 ∙ sym h.queued)
@@ -114,13 +115,14 @@ module _ {A : Type 0} where
         given = IfSome_then w.given mine.3 (λ all x. x.1 ∙ sym e);
       }
 
-  pops : (pass : ℕ) (p : List (Work A)) (s : Bool) (g : Option (List (Work A))) → queue.Pops SeatsAgree pass (worker_of p s g) (Pops (worker_of p s g))
-  pops pass p s g x items views h at =
+  pops : (pass : ℕ) (p : List (Work A)) (s : Bool) (g : Option (List (Work A))) → queue.Pops BatchesAgree pass (worker_of p s g) (Pops (worker_of p s g))
+  pops pass p s g b batches views h at =
+      let items : List (Work A) = all_of batches in
       let mine = (h.fits pass (worker_of p s g) at).1 refl in
-      let w : WorkView A = worker_of (p ++ x ∷ []) s g in
-      let got : List (Work A) = h.popped ++ x ∷ [] in
-      let queued : got ++ items ≡ h.sent = append_assoc h.popped (x ∷ []) items ∙ h.queued in
-      let same : p ++ x ∷ [] ≡ got = ap (λ k. k ++ x ∷ []) mine.1 in
+      let w : WorkView A = worker_of (p ++ b) s g in
+      let got : List (Work A) = h.popped ++ b in
+      let queued : got ++ items ≡ h.sent = append_assoc h.popped b items ∙ h.queued in
+      let same : p ++ b ≡ got = ap (λ k. k ++ b) mine.1 in
       let now : SeatsAgree items (set views pass w) = record {
         worker = h.worker;
         holder = h.holder;
@@ -133,9 +135,26 @@ module _ {A : Type 0} where
       } in
       (w, now, (refl, (items, (set views pass w, pass, set_there views pass (worker_of p s g) w at, now))))
 
+  -- what was popped and not handed out yet is as good as queued
+  unpopped : (p r : List (Work A)) (s : Bool) (g : Option (List (Work A))) (items : List (Work A)) → AgreesWith SeatsAgree (worker_of (p ++ r) s g) items → AgreesWith SeatsAgree (worker_of p s g) (r ++ items)
+  unpopped p r s g items (views, pass, at, h) =
+      let mine = (h.fits pass (worker_of (p ++ r) s g) at).1 refl in
+      let w : WorkView A = worker_of p s g in
+      let before : SeatsAgree (r ++ items) (set views pass w) = record {
+        worker = h.worker;
+        holder = h.holder;
+        sent = h.sent;
+        popped = p;
+        queued = sym (append_assoc p r items) ∙ ap (λ k. k ++ items) mine.1 ∙ h.queued;
+        stops = h.stops;
+        fits = each_set (Fits h.worker h.holder h.sent p) views pass w ((λ e. none_holds e), (λ _. (mine.0, refl, mine.2, mine.3)))
+            (λ j u other there. let old = h.fits j u there in (old.0, (λ q. absurd (other ((old.1 q).0 ∙ sym mine.0)))));
+      } in
+      (set views pass w, pass, set_there views pass (worker_of (p ++ r) s g) w at, before)
+
   -- ---- a split
 
-  splits : (pass : ℕ) (p : List (Work A)) (g : Option (List (Work A))) → queue.Forks SeatsAgree pass (worker_of p false g) (worker_of p true g) (giver_of [])
+  splits : (pass : ℕ) (p : List (Work A)) (g : Option (List (Work A))) → queue.Forks BatchesAgree pass (worker_of p false g) (worker_of p true g) (giver_of [])
   splits pass p g items views h at =
       let mine = (h.fits pass (worker_of p false g) at).1 refl in
       let gone = mine.2 refl in
@@ -165,7 +184,7 @@ module _ {A : Type 0} where
 
   -- ---- a join
 
-  joins : (pass : ℕ) (p : List (Work A)) (s : Bool) (g : Option (List (Work A))) (other : ℕ) (l : List (Work A)) → queue.Merges SeatsAgree pass (worker_of p s g) other (giver_of l) (worker_of p s (Some l)) spent_view
+  joins : (pass : ℕ) (p : List (Work A)) (s : Bool) (g : Option (List (Work A))) (other : ℕ) (l : List (Work A)) → queue.Merges BatchesAgree pass (worker_of p s g) other (giver_of l) (worker_of p s (Some l)) spent_view
   joins pass p s g other l items views h at two at' =
       let mine = (h.fits pass (worker_of p s g) at).1 refl in
       let both : WorkView A = worker_of p s (Some l) in
@@ -190,18 +209,18 @@ module _ {A : Type 0} where
 
   -- ---- the same at a seat's own view
 
-  pub pushes_as : (n pass : ℕ) (v : WorkView A) (x : Work A) → v ≡ giver_of v.pushed → IsFalse (is_stopped v.pushed) → queue.Pushes SeatsAgree n pass v x (Pushes v x) × queue.Learns SeatsAgree pass v (AgreesWith SeatsAgree v)
-  pushes_as n pass v x is unstopped = (subst (λ (u : WorkView A). queue.Pushes SeatsAgree n pass u x (Pushes u x)) (sym is) (pushes n pass v.pushed x unstopped), agrees SeatsAgree pass v)
+  pub pushes_as : (n pass : ℕ) (v : WorkView A) (b : List (Work A)) → v ≡ giver_of v.pushed → StopsLast (v.pushed ++ b) → queue.Pushes BatchesAgree n pass v b (Pushes v b) × queue.Learns BatchesAgree pass v (AgreesWith BatchesAgree v)
+  pushes_as n pass v b is stops = (subst (λ (u : WorkView A). queue.Pushes BatchesAgree n pass u b (Pushes u b)) (sym is) (pushes n pass v.pushed b stops), agrees BatchesAgree pass v)
 
-  pub pops_as : (pass : ℕ) (v : WorkView A) (s : Bool) → v ≡ worker_of v.popped s v.given → queue.Pops SeatsAgree pass v (Pops v) × queue.Learns SeatsAgree pass v (AgreesWith SeatsAgree v)
-  pops_as pass v s is = (subst (λ (u : WorkView A). queue.Pops SeatsAgree pass u (Pops u)) (sym is) (pops pass v.popped s v.given), agrees SeatsAgree pass v)
+  pub pops_as : (pass : ℕ) (v : WorkView A) (s : Bool) → v ≡ worker_of v.popped s v.given → queue.Pops BatchesAgree pass v (Pops v) × queue.Learns BatchesAgree pass v (AgreesWith BatchesAgree v)
+  pops_as pass v s is = (subst (λ (u : WorkView A). queue.Pops BatchesAgree pass u (Pops u)) (sym is) (pops pass v.popped s v.given), agrees BatchesAgree pass v)
 
-  pub splits_as : (pass : ℕ) (v : WorkView A) (s : Bool) → s ≡ false → v ≡ worker_of v.popped s v.given → queue.Forks SeatsAgree pass v (after_split v) (giver_of [])
-  splits_as pass v s unsplit is = subst (λ (u : WorkView A). queue.Forks SeatsAgree pass u (after_split u) (giver_of [])) (sym (is ∙ ap (λ b. worker_of v.popped b v.given) unsplit)) (splits pass v.popped v.given)
+  pub splits_as : (pass : ℕ) (v : WorkView A) (s : Bool) → s ≡ false → v ≡ worker_of v.popped s v.given → queue.Forks BatchesAgree pass v (after_split v) (giver_of [])
+  splits_as pass v s unsplit is = subst (λ (u : WorkView A). queue.Forks BatchesAgree pass u (after_split u) (giver_of [])) (sym (is ∙ ap (λ b. worker_of v.popped b v.given) unsplit)) (splits pass v.popped v.given)
 
-  pub joins_as : (pass : ℕ) (v : WorkView A) (s : Bool) (other : ℕ) (u : WorkView A) → v ≡ worker_of v.popped s v.given → u ≡ giver_of u.pushed → queue.Merges SeatsAgree pass v other u (after_join v u) spent_view
+  pub joins_as : (pass : ℕ) (v : WorkView A) (s : Bool) (other : ℕ) (u : WorkView A) → v ≡ worker_of v.popped s v.given → u ≡ giver_of u.pushed → queue.Merges BatchesAgree pass v other u (after_join v u) spent_view
   joins_as pass v s other u is from =
-      subst (λ (y : WorkView A × WorkView A). queue.Merges SeatsAgree pass y.0 other y.1 (after_join y.0 y.1) spent_view) (λ i. (sym is i, sym from i)) (joins pass v.popped s v.given other u.pushed)
+      subst (λ (y : WorkView A × WorkView A). queue.Merges BatchesAgree pass y.0 other y.1 (after_join y.0 y.1) spent_view) (λ i. (sym is i, sym from i)) (joins pass v.popped s v.given other u.pushed)
 
   pub worker_again : (v u w : WorkView A) (s : Bool) → v ≡ worker_of v.popped s v.given → w ≡ after_join v u → w ≡ worker_of w.popped s w.given
   worker_again v u w s is now = subst (λ (y : WorkView A). y ≡ worker_of y.popped s y.given) (sym now) (ap (λ b. worker_of v.popped b (Some u.pushed)) (ap (λ (y : WorkView A). y.split) is))
@@ -215,39 +234,83 @@ module _ {A : Type 0} where
     prefix = IfSome_then w.given b.given (λ all e. ((items, e), subst StopsLast (sym e) b.stops));
   }
 
+  -- of a view that has these popped, of which r is left
+  front_agrees : (v : WorkView A) (s : Bool) (a r items : List (Work A)) → v ≡ worker_of v.popped s v.given → v.popped ≡ a ++ r → AgreesWith SeatsAgree v items → AgreesWith SeatsAgree (worker_of a s v.given) (r ++ items)
+  front_agrees v s a r items is left g =
+      unpopped a r s v.given items (subst (λ (m : List (Work A)). AgreesWith SeatsAgree (worker_of m s v.given) items) left (subst (λ (u : WorkView A). AgreesWith SeatsAgree u items) is g))
+
   -- what the worker's view says
-  told_as : (q : TableId) (v : WorkView A) (s : Bool) (items : List (Work A)) → v ≡ worker_of v.popped s v.given → AgreesWith SeatsAgree v items → IsBeforeWorker record { queue = q; popped = v.popped; split = s; given = v.given } items
-  told_as q v s items is a = worker_tells record { queue = q; popped = v.popped; split = s; given = v.given } items (subst (λ (u : WorkView A). AgreesWith SeatsAgree u items) is a)
+  front_told : (q : TableId) (v : WorkView A) (s : Bool) (a r items : List (Work A)) → v ≡ worker_of v.popped s v.given → v.popped ≡ a ++ r → AgreesWith SeatsAgree v items
+      → IsBeforeWorker record { queue = q; popped = a; split = s; given = v.given } (r ++ items)
+  front_told q v s a r items is left g = worker_tells record { queue = q; popped = a; split = s; given = v.given } (r ++ items) (front_agrees v s a r items is left g)
 
-  pub delivery_as : (q : TableId) (v : WorkView A) (s : Bool) (items : List (Work A)) → v ≡ worker_of v.popped s v.given → AgreesWith SeatsAgree v items → IsDelivery record { queue = q; popped = v.popped; split = s; given = v.given }
-  delivery_as q v s items is a = delivery record { queue = q; popped = v.popped; split = s; given = v.given } items (told_as q v s items is a)
+  pub front_delivery : (q : TableId) (v : WorkView A) (s : Bool) (r items : List (Work A)) → v ≡ worker_of v.popped s v.given → v.popped ≡ front v.popped r ++ r → AgreesWith SeatsAgree v items
+      → IsDelivery record { queue = q; popped = front v.popped r; split = s; given = v.given }
+  front_delivery q v s r items is left g = delivery record { queue = q; popped = front v.popped r; split = s; given = v.given } (r ++ items) (front_told q v s (front v.popped r) r items is left g)
 
-  popped_view : (v w : WorkView A) (s : Bool) (x : Work A) → v ≡ worker_of v.popped s v.given → Pops v x w → w ≡ worker_of (v.popped ++ x ∷ []) s v.given
-  popped_view v w s x is told = told.0 ∙ ap (λ b. worker_of (v.popped ++ x ∷ []) b v.given) (ap (λ (y : WorkView A). y.split) is)
+  -- ---- work is handed out: the first of what was left, or of a batch where nothing was left
 
-  pub popped_next : (q : TableId) (o : Option (Work A)) (v w : WorkView A) → MatchOption o ((w ≡ v) × queue.Held 0 (AgreesWith SeatsAgree v)) (λ x. Pops v x w) → IfSome o (λ _. IsFalse (is_stopped v.popped))
-  popped_next q None v w h = tt
-  popped_next q (Some x) v w h =
-      let rest = h.1.0 in
-      let got : Worker A = record { queue = q; popped = v.popped ++ x ∷ []; split = v.split; given = v.given } in
-      let b = worker_tells got rest (subst (λ (u : WorkView A). AgreesWith SeatsAgree u rest) h.0 h.1.1) in
-      unstopped_before v.popped x rest (subst StopsLast (append_assoc v.popped (x ∷ []) rest) b.stops)
+  -- the view before and after it, what was left before and after, and the work
+  pub record Hands (v w : WorkView A) (s : Bool) (r0 r1 : List (Work A)) (x : Work A) : Type 0 where
+    pub known : w ≡ worker_of (front v.popped r0 ++ x ∷ r1) s v.given
+    pub agrees : (items : List (Work A)) × AgreesWith SeatsAgree w items
 
-  pub popped_delivery : (q : TableId) (o : Option (Work A)) (v w : WorkView A) (s : Bool) → v ≡ worker_of v.popped s v.given → MatchOption o ((w ≡ v) × queue.Held 0 (AgreesWith SeatsAgree v)) (λ x. Pops v x w)
-      → IsDelivery record { queue = q; popped = w.popped; split = s; given = w.given }
-  popped_delivery q None v w s is h = subst (λ (y : WorkView A). IsDelivery record { queue = q; popped = y.popped; split = s; given = y.given }) (sym h.0) (delivery_as q v s h.1.0 is h.1.2)
-  popped_delivery q (Some x) v w s is h = delivery_as q w s h.1.0 (subst (λ (y : WorkView A). y ≡ worker_of y.popped s y.given) (sym (popped_view v w s x is h)) refl) h.1.1
+  pub hands_left : (v : WorkView A) (s : Bool) (r0 r1 : List (Work A)) (x : Work A) → v ≡ worker_of v.popped s v.given → v.popped ≡ front v.popped r0 ++ r0 → (items : List (Work A)) × AgreesWith SeatsAgree v items → r0 ≡ x ∷ r1
+      → Hands v v s r0 r1 x
+  hands_left v s r0 r1 x is left g first = record {
+    known = is ∙ ap (λ l. worker_of l s v.given) (left ∙ ap (λ l. front v.popped r0 ++ l) first);
+    agrees = g;
+  }
 
-  -- of the giver that was joined back
-  joined_as : (q : TableId) (v u w : WorkView A) (items : List (Work A)) → w ≡ after_join v u → AgreesWith SeatsAgree w items → IsBeforeWorker record { queue = q; popped = w.popped; split = w.split; given = Some u.pushed } items
-  joined_as q v u w items now a =
-      let is = subst (λ (y : WorkView A). y ≡ worker_of y.popped y.split (Some u.pushed)) (sym now) refl in
-      worker_tells record { queue = q; popped = w.popped; split = w.split; given = Some u.pushed } items (subst (λ (y : WorkView A). AgreesWith SeatsAgree y items) is a)
+  pub hands_popped : (v w : WorkView A) (s : Bool) (r0 r1 b : List (Work A)) (x : Work A) → v ≡ worker_of v.popped s v.given → r0 ≡ [] → b ≡ x ∷ r1 → Pops v b w → Hands v w s r0 r1 x
+  hands_popped v w s r0 r1 b x is none first told = record {
+    known = told.0 ∙ ap (λ (y : List (Work A) × Bool). worker_of y.0 y.1 v.given) (λ i. ((ap (λ l. v.popped ++ l) first ∙ ap (λ l. l ++ x ∷ r1) (sym (front_all v.popped r0 none))) i, ap (λ (u : WorkView A). u.split) is i));
+    agrees = told.1;
+  }
 
-  pub prefix_as : (k : Giver A) (q : TableId) (v u w : WorkView A) (items : List (Work A)) → record { queue = q; pushed = u.pushed } ≡ k → w ≡ after_join v u → AgreesWith SeatsAgree w items → StartsWith k.pushed w.popped
-  prefix_as k q v u w items seen now a = subst (λ (y : Giver A). StartsWith y.pushed w.popped) seen (items, (joined_as q v u w items now a).given)
+  module _ (v w : WorkView A) (s : Bool) (r0 r1 : List (Work A)) (x : Work A) (h : Hands v w s r0 r1 x) where
+    popped_then : w.popped ≡ front v.popped r0 ++ x ∷ r1
+    popped_then = ap (λ (u : WorkView A). u.popped) h.known
 
-  pub whole_as : (k : Giver A) (q : TableId) (v u w : WorkView A) (items : List (Work A)) → record { queue = q; pushed = u.pushed } ≡ k → w ≡ after_join v u → AgreesWith SeatsAgree w items → IsTrue (is_stopped w.popped) → w.popped ≡ k.pushed
-  whole_as k q v u w items seen now a stopped =
-      let b = joined_as q v u w items now a in
-      stop_makes_whole u.pushed w.popped (subst StopsLast (sym b.given) b.stops) (items, b.given) stopped ∙ ap (λ (y : Giver A). y.pushed) seen
+    pub handed_front : front w.popped r1 ≡ front v.popped r0 ++ x ∷ []
+    handed_front = front_more w.popped (front v.popped r0) r1 x popped_then
+
+    pub handed_left : w.popped ≡ front w.popped r1 ++ r1
+    handed_left = front_left_more w.popped (front v.popped r0) r1 x popped_then
+
+    pub handed_given : w.given ≡ v.given
+    handed_given = ap (λ (u : WorkView A). u.given) h.known
+
+    pub handed_known : w ≡ worker_of w.popped s w.given
+    handed_known = subst (λ (u : WorkView A). u ≡ worker_of u.popped s u.given) (sym h.known) refl
+
+    pub handed_next : (q : TableId) → IsFalse (is_stopped (front v.popped r0))
+    handed_next q =
+        let a : List (Work A) = front v.popped r0 in
+        let b = worker_tells record { queue = q; popped = a; split = s; given = w.given } (x ∷ r1 ++ h.agrees.0) (front_agrees w s a (x ∷ r1) h.agrees.0 handed_known popped_then h.agrees.1) in
+        unstopped_before a x (r1 ++ h.agrees.0) b.stops
+
+    pub handed_delivery : (q : TableId) → IsDelivery record { queue = q; popped = front w.popped r1; split = s; given = w.given }
+    handed_delivery q = front_delivery q w s r1 h.agrees.0 handed_known handed_left h.agrees.1
+
+  -- ---- where the worker's seat begins
+
+  pub begun : (v : WorkView A) (r : List (Work A)) → v ≡ first_view → r ≡ [] → (v ≡ worker_of v.popped false v.given) × (v.popped ≡ front v.popped r ++ r) × ((items : List (Work A)) × AgreesWith SeatsAgree v items)
+  begun v r is none =
+      subst (λ (y : WorkView A × List (Work A)). (y.0 ≡ worker_of y.0.popped false y.0.given) × (y.0.popped ≡ front y.0.popped y.1 ++ y.1) × ((items : List (Work A)) × AgreesWith SeatsAgree y.0 items)) (λ i. (sym is i, sym none i))
+      (refl, refl, ([], (first_view ∷ [], 0, refl, begins)))
+
+  -- of the giver that was joined back, where a of what was popped was handed out
+  joined_as : (q : TableId) (v u w : WorkView A) (a r items : List (Work A)) → w ≡ after_join v u → w.popped ≡ a ++ r → AgreesWith SeatsAgree w items → IsBeforeWorker record { queue = q; popped = a; split = w.split; given = Some u.pushed } (r ++ items)
+  joined_as q v u w a r items now left g =
+      let is : w ≡ worker_of w.popped w.split w.given = subst (λ (y : WorkView A). y ≡ worker_of y.popped y.split y.given) (sym now) refl in
+      let given : w.given ≡ Some u.pushed = ap (λ (y : WorkView A). y.given) now in
+      subst (λ (o : Option (List (Work A))). IsBeforeWorker record { queue = q; popped = a; split = w.split; given = o } (r ++ items)) given (front_told q w w.split a r items is left g)
+
+  pub prefix_as : (k : Giver A) (q : TableId) (v u w : WorkView A) (a r items : List (Work A)) → record { queue = q; pushed = u.pushed } ≡ k → w ≡ after_join v u → w.popped ≡ a ++ r → AgreesWith SeatsAgree w items → StartsWith k.pushed a
+  prefix_as k q v u w a r items seen now left g = subst (λ (y : Giver A). StartsWith y.pushed a) seen (r ++ items, (joined_as q v u w a r items now left g).given)
+
+  pub whole_as : (k : Giver A) (q : TableId) (v u w : WorkView A) (a r items : List (Work A)) → record { queue = q; pushed = u.pushed } ≡ k → w ≡ after_join v u → w.popped ≡ a ++ r → AgreesWith SeatsAgree w items → IsTrue (is_stopped a) → a ≡ k.pushed
+  whole_as k q v u w a r items seen now left g stopped =
+      let b = joined_as q v u w a r items now left g in
+      stop_makes_whole u.pushed a (subst StopsLast (sym b.given) b.stops) (r ++ items, b.given) stopped ∙ ap (λ (y : Giver A). y.pushed) seen

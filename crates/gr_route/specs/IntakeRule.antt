@@ -1,6 +1,6 @@
 -- What each seat of an intake queue knows, and the rule that ties this to what the queue holds.
 -- Source: docs/QUEUES.md, "The intake queue".
-use Rattle.std.specs.Prelude.{◌≡◌, ◌≢◌, ℕ, true, false, List, [], ◌∷◌, ◌++◌, replicate, slice_index, slice_set}
+use Rattle.std.specs.Prelude.{◌≡◌, ◌≢◌, ℕ, true, false, List, [], ◌∷◌, ◌++◌, map, replicate, slice_index, slice_set}
 use Rattle.std.specs.List.{All}
 use mathlib.Core.Option as seat
 use lib.ListN.{get_elem?}
@@ -10,6 +10,7 @@ use Rattle.gr_model.specs.declared.limits.TheConstants.{MOST_GROUPS}
 use Rattle.gr_model.specs.Streams.{IsPrefix, events_of}
 use Rattle.gr_route.specs.declared.intake_rule.Joined.{Joined}
 use Rattle.gr_route.specs.declared.intake_rule.IntakeView.{IntakeView}
+use Rattle.gr_route.specs.Batches.{all_of}
 use Rattle.gr_route.specs.Rooms.{AgreesWith}
 
 -- ---- the views
@@ -71,12 +72,19 @@ pub record SeatsAgree (items : List Sent) (views : List IntakeView) : Type 0 whe
   pub unseated : (g : ℕ) → size g ≡ 0 → (holder g ≡ seat.none) × (sent g ≡ [])
   pub fits : (pass : ℕ) (v : IntakeView) → get_elem? views pass ≡ seat.some v → FitsSeat holder sent size pass v × FitsTaker holder sent size taker popped pass v
 
+-- the same of what the queue holds, one batch after another
+abbrev pub BatchesAgree : List (List Sent) → List IntakeView → Type 0
+BatchesAgree batches views = SeatsAgree (all_of batches) views
+
 -- ---- what a step tells its seat
 
+abbrev pub events_in : List Sent → List Event
+events_in batch = map (λ s. s.event) batch
+
 -- a push adds to what the seat pushed
-abbrev pub Pushes : IntakeView → Sent → IntakeView → Type 0
-Pushes v x w = w ≡ seat_of v.group v.items (v.pushed ++ x.event ∷ [])
+abbrev pub Pushes : IntakeView → List Sent → IntakeView → Type 0
+Pushes v batch w = w ≡ seat_of v.group v.items (v.pushed ++ events_in batch)
 
 -- a pop adds to what the taker popped, and what the queue then holds agrees with that
-abbrev pub Pops : IntakeView → Sent → IntakeView → Type 0
-Pops v x w = (w ≡ taker_of (v.popped ++ x ∷ []) v.sizes v.joined) × ((items : List Sent) × AgreesWith SeatsAgree w items)
+abbrev pub Pops : IntakeView → List Sent → IntakeView → Type 0
+Pops v batch w = (w ≡ taker_of (v.popped ++ batch) v.sizes v.joined) × ((items : List Sent) × AgreesWith SeatsAgree w items)

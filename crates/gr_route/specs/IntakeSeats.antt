@@ -11,6 +11,7 @@ use Rattle.gr_model.specs.Events.{IsEventOk}
 use Rattle.gr_model.specs.Streams.{IsPrefix, events_of, is_complete}
 use Rattle.gr_route.specs.declared.intake_rule.IntakeView.{IntakeView}
 use Rattle.gr_route.specs.declared.intake_rule.Joined.{Joined}
+use Rattle.gr_route.specs.Batches.{front}
 use Rattle.gr_route.specs.Prefixes.{EndsWith, StartsWith}
 use Rattle.gr_route.specs.Rooms.{AgreesWith}
 use Rattle.gr_route.specs.IntakeRule.{SeatsAgree, seat_of, taker_of}
@@ -74,15 +75,18 @@ pub record IsBeforeTaker (t : Taker) (items : List Sent) : Type 0 where
 
 -- ---- what the seats keep: no place of the queue is taken and not given back, and the pass knows what the fields say
 
-pub record IsSeatPass (pass : Pass Sent IntakeView) (group items : ℕ) : Type 0 where
+pub record IsSeatPass (pass : Pass (List Sent) IntakeView) (group items : ℕ) : Type 0 where
   pub idle : pass.me.1 ≡ []
   pub known : view pass ≡ seat_of group items (view pass).pushed
   pub some : 0 < items
 
-pub record IsTakerPass (pass : Pass Sent IntakeView) (sizes : List ℕ) : Type 0 where
+-- and this is left of the batch that was popped last
+pub record IsTakerPass (pass : Pass (List Sent) IntakeView) (sizes : List ℕ) (rest : List Sent) : Type 0 where
   pub idle : pass.me.1 ≡ []
   pub known : view pass ≡ taker_of (view pass).popped sizes (view pass).joined
   pub places : length sizes ≡ MOST_GROUPS
+  pub left : (view pass).popped ≡ front (view pass).popped rest ++ rest
+  pub agrees : (items : List Sent) × AgreesWith SeatsAgree (view pass) items
 
 -- ---- laws
 

@@ -1,3 +1,4 @@
+pub mod Batches
 pub mod Prefixes
 pub mod IntakeRule
 pub mod IntakeSeats

@@ -6,6 +6,7 @@ use lib.ListN.{get_elem?}
 use Rattle.gr_route.specs.declared.work.Work.{Work}
 use Rattle.gr_route.specs.declared.work.Work.TheVariants.{Access, Stop}
 use Rattle.gr_route.specs.declared.work_rule.WorkView.{WorkView}
+use Rattle.gr_route.specs.Batches.{all_of}
 use Rattle.gr_route.specs.Prefixes.{StartsWith}
 use Rattle.gr_route.specs.Rooms.{AgreesWith}
 
@@ -73,15 +74,19 @@ module _ {A : Type 0} where
     pub stops : StopsLast sent
     pub fits : (pass : ℕ) (v : WorkView A) → get_elem? views pass ≡ seat.some v → FitsGiver holder sent pass v × FitsWorker worker holder sent popped pass v
 
+  -- the same of what the queue holds, one batch after another
+  abbrev pub BatchesAgree : List (List (Work A)) → List (WorkView A) → Type 0
+  BatchesAgree batches views = SeatsAgree (all_of batches) views
+
   -- ---- what a step tells its seat
 
   -- a push adds to what the giver pushed
-  abbrev pub Pushes : WorkView A → Work A → WorkView A → Type 0
-  Pushes v x w = w ≡ giver_of (v.pushed ++ x ∷ [])
+  abbrev pub Pushes : WorkView A → List (Work A) → WorkView A → Type 0
+  Pushes v batch w = w ≡ giver_of (v.pushed ++ batch)
 
   -- a pop adds to what the worker popped, and what the queue then holds agrees with that
-  abbrev pub Pops : WorkView A → Work A → WorkView A → Type 0
-  Pops v x w = (w ≡ worker_of (v.popped ++ x ∷ []) v.split v.given) × ((items : List (Work A)) × AgreesWith SeatsAgree w items)
+  abbrev pub Pops : WorkView A → List (Work A) → WorkView A → Type 0
+  Pops v batch w = (w ≡ worker_of (v.popped ++ batch) v.split v.given) × ((items : List (Work A)) × AgreesWith SeatsAgree w items)
 
 -- ---- laws
 

@@ -5,6 +5,7 @@ use Rattle.atomic_table.specs.Seated.{TableId}
 use Rattle.crossbeam_queue.specs.Passes.{Pass, view}
 use Rattle.gr_route.specs.declared.work.Work.{Work}
 use Rattle.gr_route.specs.declared.work_rule.WorkView.{WorkView}
+use Rattle.gr_route.specs.Batches.{front}
 use Rattle.gr_route.specs.Prefixes.{EndsWith, StartsWith}
 use Rattle.gr_route.specs.Rooms.{AgreesWith}
 use Rattle.gr_route.specs.WorkRule.{SeatsAgree, StopsLast, giver_of, worker_of}
@@ -45,13 +46,16 @@ module _ {A : Type 0} where
 
   -- ---- what the seats keep: no place of the queue is taken and not given back, and the pass knows what the fields say
 
-  pub record IsGiverPass (pass : Pass (Work A) (WorkView A)) : Type 0 where
+  pub record IsGiverPass (pass : Pass (List (Work A)) (WorkView A)) : Type 0 where
     pub idle : pass.me.1 ≡ []
     pub known : view pass ≡ giver_of (view pass).pushed
 
-  pub record IsWorkerPass (pass : Pass (Work A) (WorkView A)) (split : Bool) : Type 0 where
+  -- and this is left of the batch that was popped last
+  pub record IsWorkerPass (pass : Pass (List (Work A)) (WorkView A)) (split : Bool) (rest : List (Work A)) : Type 0 where
     pub idle : pass.me.1 ≡ []
     pub known : view pass ≡ worker_of (view pass).popped split (view pass).given
+    pub left : (view pass).popped ≡ front (view pass).popped rest ++ rest
+    pub agrees : (items : List (Work A)) × AgreesWith SeatsAgree (view pass) items
 
 -- ---- laws
 

@@ -3,16 +3,19 @@
 //!
 //! Invariant: of each group, what was popped, followed by what is queued, is what its seat pushed (docs/QUEUES.md, "The
 //! intake queue"). What a seat knows is in its pass, a value without bytes, which the queue's rule keeps true. Contracts
-//! don't see what the queue holds: docs/QUEUES.md, "Full and empty", has what `Full` and `None` say of it.
+//! don't see what the queue holds: docs/QUEUES.md, "Full and empty", has what `Full` and `None` say of it. The queue's
+//! elements are batches: the seat that pops keeps the rest of the one that it popped last.
 
-ghost use Rattle.std.specs.Prelude.{◌≡◌, ◌≢◌, ◌<◌, ◌≤◌, [], ◌∷◌, ◌++◌, length, replicate, slice_index, slice_set, IfOk, IfErr, OnOk, IfSome, IfNone, IsTrue, IsFalse};
+ghost use Rattle.std.specs.Prelude.{◌≡◌, ◌≢◌, ◌<◌, ◌≤◌, All, [], ◌∷◌, ◌++◌, length, replicate, slice_index, slice_set, IfOk, IfErr, OnOk, IfSome, IfNone, IsTrue, IsFalse};
 ghost use Rattle.crossbeam_queue.specs.Fifo.{Forks, Held};
 ghost use Rattle.crossbeam_queue.specs.Passes.{view as known, IsSamePass, IsPassOf};
 ghost use Rattle.gr_model.specs.Events.{IsEventOk};
-ghost use Rattle.gr_model.specs.Streams.{is_complete};
-ghost use Rattle.gr_route.specs.IntakeRule.{SeatsAgree, after_split, no_sizes, seat_of};
+ghost use Rattle.gr_model.specs.Streams.{IsPrefix, is_complete};
+ghost use Rattle.gr_route.specs.Batches.{all_of};
+ghost use Rattle.gr_route.specs.IntakeRule.{BatchesAgree, after_split, events_in, no_sizes, seat_of};
 ghost use Rattle.gr_route.specs.IntakeSeats.{AgreesWithSeat, AgreesWithTaker, IsDelivered, IsDelivery, IsNextPopped, popped_of};
 
+use crate::batch::{Batch, Rest};
 use crate::intake_rule::{
     IntakeRule, IntakeView, JoinStep, NamesGroup, PopStep, PushStep, SplitStep,
 };
@@ -25,10 +28,10 @@ use std::alloc::{Allocator, Global};
 use std::marker::{Brand, Model};
 use std::sync::Wait;
 
-/// A bounded queue of events. Contracts see which queue it is, and for how many events it has room.
+/// A bounded queue of events. Contracts see which queue it is, and for how many batches of events it has room.
 #[derive(Drop)]
 pub struct Intake<A: Allocator = Global> {
-    queue: RuledArrayQueue<Sent, IntakeView, IntakeRule, A>,
+    queue: RuledArrayQueue<Batch<Sent, A>, IntakeView, IntakeRule, A>,
 }
 
 impl<A: Allocator> Model for Intake<A> {
@@ -42,13 +45,13 @@ impl<A: Allocator> Model for Intake<A> {
 
 /// The seat that pushes a work-group's events. Contracts see its queue, its group and items, and what it pushed.
 #[derive(Drop)]
-pub struct IntakeSeat {
-    pass: Pass<Sent, IntakeView>,
+pub struct IntakeSeat<A: Allocator = Global> {
+    pass: Pass<Batch<Sent, A>, IntakeView>,
     group: u16,
     items: u16,
 }
 
-impl Model for IntakeSeat {
+impl<A: Allocator> Model for IntakeSeat<A> {
     ghost use Rattle.crossbeam_queue.specs.Passes.{view as known};
     ghost use Rattle.gr_route.specs.IntakeSeats.{IsSeatPass, Seat};
 
@@ -59,7 +62,7 @@ impl Model for IntakeSeat {
     ghost invariant = { λ s. IsSeatPass s.pass s.group s.items };
 }
 
-impl IntakeSeat {
+impl<A: Allocator> IntakeSeat<A> {
     /// The number of the work-group whose events the seat pushes.
     pub fn group(&self) -> u16
         ensures { result ≡ self.now.group }
@@ -80,21 +83,24 @@ impl IntakeSeat {
 /// that were joined back had pushed.
 #[derive(Drop)]
 pub struct TakerSeat<A: Allocator = Global> {
-    pass: Pass<Sent, IntakeView>,
+    pass: Pass<Batch<Sent, A>, IntakeView>,
     // The number of items of each group that has had a seat, and 0 of another; with a place for each group that may be, so that
     // a split takes no memory.
     sizes: Vec<u16, A>,
+    // What is left of the batch that was popped last.
+    rest: Rest<Sent, A>,
 }
 
 impl<A: Allocator> Model for TakerSeat<A> {
     ghost use Rattle.crossbeam_queue.specs.Passes.{view as known};
+    ghost use Rattle.gr_route.specs.Batches.{front};
     ghost use Rattle.gr_route.specs.IntakeSeats.{IsTakerPass, Taker};
 
     ghost Value = { Taker };
 
-    ghost view = { λ s. record { queue = s.pass.table_id; popped = (known s.pass).popped; sizes = s.sizes.items; joined = (known s.pass).joined } };
+    ghost view = { λ s. record { queue = s.pass.table_id; popped = front (known s.pass).popped s.rest; sizes = s.sizes.items; joined = (known s.pass).joined } };
 
-    ghost invariant = { λ s. IsTakerPass s.pass s.sizes.items };
+    ghost invariant = { λ s. IsTakerPass s.pass s.sizes.items s.rest };
 }
 
 /// So many zeros.
@@ -116,14 +122,14 @@ fn none_seated<A: Allocator>(alloc: A) -> Result<Vec<u16, A>, Memory>
 /// Splits off the seat of a group.
 /// Requires: `G` names the group and its number of items; the pass is of this queue; the rule allows the split.
 fn seat_for<G: NamesGroup, A: Allocator>(
-    queue: &RuledArrayQueue<Sent, IntakeView, IntakeRule, A>,
-    pass: &mut Pass<Sent, IntakeView>,
+    queue: &RuledArrayQueue<Batch<Sent, A>, IntakeView, IntakeRule, A>,
+    pass: &mut Pass<Batch<Sent, A>, IntakeView>,
     group: u16,
     items: u16,
-) -> Pass<Sent, IntakeView>
+) -> Pass<Batch<Sent, A>, IntakeView>
     requires named { (G.group ≡ group) × (G.items ≡ items) }
     requires queue { IsPassOf queue.now pass.old }
-    requires rule { Forks SeatsAgree pass.old.id (known pass.old) (after_split group items (known pass.old)) (seat_of group items []) }
+    requires rule { Forks BatchesAgree pass.old.id (known pass.old) (after_split group items (known pass.old)) (seat_of group items []) }
     ensures queue { IsSamePass pass.old pass.new × IsPassOf queue.now result }
     ensures taker { known pass.new ≡ after_split group items (known pass.old) }
     ensures seat { known result ≡ seat_of group items [] }
@@ -132,7 +138,7 @@ fn seat_for<G: NamesGroup, A: Allocator>(
 }
 
 impl<A: Allocator + Copy> Intake<A> {
-    /// An empty queue with room for `capacity` events, and the seat that pops.
+    /// An empty queue with room for `capacity` batches of events, and the seat that pops.
     /// Requires: `capacity` is 1 to `MOST_PLACES`.
     ///
     /// # Errors
@@ -156,7 +162,8 @@ impl<A: Allocator + Copy> Intake<A> {
     {
         let (queue, pass) = RuledArrayQueue::ruled(alloc, capacity as usize)?;
         let sizes = none_seated(alloc)?;
-        Ok((Intake { queue }, TakerSeat { pass, sizes }))
+        let rest = Rest::none(alloc);
+        Ok((Intake { queue }, TakerSeat { pass, sizes, rest }))
     }
 }
 
@@ -165,7 +172,7 @@ impl<A: Allocator> Intake<A> {
     /// Requires: the taker's seat is of this queue, `group` is below `MOST_GROUPS`, and `items` is 1 to
     /// `MOST_ITEMS_OF_A_GROUP`.
     #[tactic(auto, using(crate::proofs::IntakeSteps::splits_as))]
-    pub fn split(&self, taker: &mut TakerSeat<A>, group: u16, items: u16) -> Option<IntakeSeat>
+    pub fn split(&self, taker: &mut TakerSeat<A>, group: u16, items: u16) -> Option<IntakeSeat<A>>
         requires queue { taker.old.queue ≡ self.now.queue }
         requires group { group < MOST_GROUPS }
         requires items { (0 < items) × (items ≤ MOST_ITEMS_OF_A_GROUP) }
@@ -182,6 +189,7 @@ impl<A: Allocator> Intake<A> {
         }
         taker.sizes[usize::from(group)] = items;
         let pass = seat_for::<Brand, A>(&self.queue, &mut taker.pass, group, items);
+        self.queue.learn_as::<PopStep>(&mut taker.pass);
         Some(IntakeSeat { pass, group, items })
     }
 
@@ -194,7 +202,7 @@ impl<A: Allocator> Intake<A> {
     pub fn push<R: Wait>(
         &self,
         rt: &R,
-        seat: &mut IntakeSeat,
+        seat: &mut IntakeSeat<A>,
         event: Event,
     ) -> Result<(), Full<Event>>
         requires queue { seat.old.queue ≡ self.now.queue }
@@ -205,15 +213,45 @@ impl<A: Allocator> Intake<A> {
         ensures ok { OnOk result (seat.new ≡ record seat.old { pushed = seat.old.pushed ++ event ∷ [] }) }
 
         ensures unchanged { IfErr result (λ back. (back.0 ≡ event) × (seat.new ≡ seat.old)) }
-        ensures full { IfErr result (λ _. Held self.now.places (AgreesWithSeat seat.old)) }
+        ensures full { IfErr result (λ _. Held self.now.places (λ batches. AgreesWithSeat seat.old (all_of batches))) }
     {
         let sent = Sent {
             group: seat.group,
             event,
         };
-        match self.queue.push_as::<PushStep, R>(rt, &mut seat.pass, sent) {
+        match self
+            .queue
+            .push_as::<PushStep, R>(rt, &mut seat.pass, Batch::one(sent))
+        {
             Ok(()) => Ok(()),
-            Err(back) => Err(Full(back.event)),
+            Err(back) => Err(Full(back.into_first().event)),
+        }
+    }
+
+    /// Pushes events of the seat's work-group in one step.
+    /// Requires: the seat is of this queue; the events are of its group; what the seat pushed, and these after it, are the
+    /// beginning of a stream.
+    ///
+    /// # Errors
+    /// `Full` with the events, only if the queue was full at some moment of the call. The seat is then unchanged.
+    pub fn push_all<R: Wait>(
+        &self,
+        rt: &R,
+        seat: &mut IntakeSeat<A>,
+        batch: Batch<Sent, A>,
+    ) -> Result<(), Full<Batch<Sent, A>>>
+        requires queue { seat.old.queue ≡ self.now.queue }
+        requires group { All (λ s. s.group ≡ seat.old.group) batch }
+        requires stream { IsPrefix seat.old.items (seat.old.pushed ++ events_in batch) }
+
+        ensures ok { OnOk result (seat.new ≡ record seat.old { pushed = seat.old.pushed ++ events_in batch }) }
+
+        ensures unchanged { IfErr result (λ back. (back.0 ≡ batch) × (seat.new ≡ seat.old)) }
+        ensures full { IfErr result (λ _. Held self.now.places (λ batches. AgreesWithSeat seat.old (all_of batches))) }
+    {
+        match self.queue.push_as::<PushStep, R>(rt, &mut seat.pass, batch) {
+            Ok(()) => Ok(()),
+            Err(back) => Err(Full(back)),
         }
     }
 
@@ -227,17 +265,23 @@ impl<A: Allocator> Intake<A> {
         ensures next { IfSome result (IsNextPopped taker.old) }
 
         ensures unchanged { IfNone result (taker.new ≡ taker.old) }
-        ensures empty { IfNone result (Held 0 (AgreesWithTaker taker.old)) }
+        ensures empty { IfNone result (Held 0 (λ batches. AgreesWithTaker taker.old (all_of batches))) }
 
         ensures delivery { IsDelivery taker.new }
     {
-        self.queue.pop_as::<PopStep, R>(rt, &mut taker.pass)
+        if let Some(sent) = taker.rest.next() {
+            return Some(sent);
+        }
+        match self.queue.pop_as::<PopStep, R>(rt, &mut taker.pass) {
+            None => None,
+            Some(batch) => Some(batch.open(&mut taker.rest)),
+        }
     }
 
     /// Takes a work-group's seat back, and with it the list of what that pushed. What was popped of the group is a
     /// prefix of this list, and all of it if the end was popped.
     /// Requires: both seats are of this queue.
-    pub fn join_back(&self, taker: &mut TakerSeat<A>, seat: IntakeSeat)
+    pub fn join_back(&self, taker: &mut TakerSeat<A>, seat: IntakeSeat<A>)
         requires taker { taker.old.queue ≡ self.now.queue }
         requires seat { seat.queue ≡ self.now.queue }
         ensures joined { taker.new ≡ record taker.old { joined = taker.old.joined ++ record { group = seat.group; items = seat.items; pushed = seat.pushed } ∷ [] } }

@@ -3,8 +3,10 @@
 //! Of each work-group, what was popped, followed by what is queued, is what its seat pushed. Told in words in
 //! docs/QUEUES.md, "The intake queue".
 
+use crate::batch::Batch;
 use crossbeam_queue::protocol::{Join, Lesson, Outcome, Protocol, Split};
 use gr_model::event::{Event, Sent};
+use std::alloc::Allocator;
 use std::collections::LinkedList;
 use std::marker::{Brand, PhantomData};
 
@@ -41,10 +43,10 @@ pub struct IntakeView {
 /// The rule: of each work-group, what was popped, followed by what is queued, is what its seat pushed.
 pub struct IntakeRule;
 
-impl Protocol<Sent, IntakeView> for IntakeRule {
-    ghost use Rattle.gr_route.specs.IntakeRule.{SeatsAgree, first_view};
+impl<A: Allocator> Protocol<Batch<Sent, A>, IntakeView> for IntakeRule {
+    ghost use Rattle.gr_route.specs.IntakeRule.{BatchesAgree, first_view};
 
-    ghost holds = { SeatsAgree };
+    ghost holds = { BatchesAgree };
 
     ghost first = { first_view };
 }
@@ -87,34 +89,34 @@ impl Join<IntakeView> for JoinStep {
     ghost spent = { spent_view };
 }
 
-/// A step of the rule, for proofs alone: an event is pushed, or refused.
+/// A step of the rule, for proofs alone: a batch is pushed, or refused.
 pub struct PushStep;
 
-impl Outcome<Sent, IntakeView> for PushStep {
+impl<A: Allocator> Outcome<Batch<Sent, A>, IntakeView> for PushStep {
     ghost use Rattle.gr_route.specs.IntakeRule.{Pushes};
 
     ghost then = { Pushes };
 }
 
-impl Lesson<Sent, IntakeView> for PushStep {
-    ghost use Rattle.gr_route.specs.IntakeRule.{SeatsAgree};
+impl<A: Allocator> Lesson<Batch<Sent, A>, IntakeView> for PushStep {
+    ghost use Rattle.gr_route.specs.IntakeRule.{BatchesAgree};
     ghost use Rattle.gr_route.specs.Rooms.{AgreesWith};
 
-    ghost fact = { AgreesWith SeatsAgree };
+    ghost fact = { AgreesWith BatchesAgree };
 }
 
-/// A step of the rule, for proofs alone: an event is popped, or there is none.
+/// A step of the rule, for proofs alone: a batch is popped, or there is none.
 pub struct PopStep;
 
-impl Outcome<Sent, IntakeView> for PopStep {
+impl<A: Allocator> Outcome<Batch<Sent, A>, IntakeView> for PopStep {
     ghost use Rattle.gr_route.specs.IntakeRule.{Pops};
 
     ghost then = { Pops };
 }
 
-impl Lesson<Sent, IntakeView> for PopStep {
-    ghost use Rattle.gr_route.specs.IntakeRule.{SeatsAgree};
+impl<A: Allocator> Lesson<Batch<Sent, A>, IntakeView> for PopStep {
+    ghost use Rattle.gr_route.specs.IntakeRule.{BatchesAgree};
     ghost use Rattle.gr_route.specs.Rooms.{AgreesWith};
 
-    ghost fact = { AgreesWith SeatsAgree };
+    ghost fact = { AgreesWith BatchesAgree };
 }

@@ -3,6 +3,7 @@
 //! keeps. Told in words in docs/QUEUES.md.
 #![tactic(auto)]
 
+pub mod batch;
 pub mod intake;
 pub mod intake_rule;
 pub mod laws;

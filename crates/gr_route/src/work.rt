@@ -2,14 +2,17 @@
 //!
 //! Invariant: what was popped, followed by what is queued, is what the giver pushed (docs/QUEUES.md, "The work queue").
 //! What a seat knows is in its pass, a value without bytes, which the queue's rule keeps true. Contracts don't see what
-//! the queue holds: docs/QUEUES.md, "Full and empty", has what `Full` and `None` say of it.
+//! the queue holds: docs/QUEUES.md, "Full and empty", has what `Full` and `None` say of it. The queue's elements are
+//! batches: the seat that pops keeps the rest of the one that it popped last.
 
 ghost use Rattle.std.specs.Prelude.{◌≡◌, ◌<◌, ◌≤◌, true, false, [], ◌∷◌, ◌++◌, None, Some, IfOk, IfErr, OnOk, IfSome, IfNone, IsTrue, IsFalse};
 ghost use Rattle.crossbeam_queue.specs.Fifo.{Held};
 ghost use Rattle.gr_route.specs.Prefixes.{StartsWith};
-ghost use Rattle.gr_route.specs.WorkRule.{is_stopped};
+ghost use Rattle.gr_route.specs.Batches.{all_of};
+ghost use Rattle.gr_route.specs.WorkRule.{StopsLast, is_stopped};
 ghost use Rattle.gr_route.specs.WorkSeats.{AgreesWithGiver, AgreesWithWorker, IsDelivery};
 
+use crate::batch::{Batch, Rest};
 use crate::room::Full;
 use crate::work_rule::{JoinStep, PopStep, PushStep, SplitStep, WorkRule, WorkView};
 use crossbeam_queue::{Pass, RuledArrayQueue};
@@ -30,10 +33,10 @@ pub enum Work<A: Allocator = Global> {
     Stop,
 }
 
-/// A bounded queue of work. Contracts see which queue it is, and for how many values it has room.
+/// A bounded queue of work. Contracts see which queue it is, and for how many batches of it it has room.
 #[derive(Drop)]
 pub struct WorkQueue<A: Allocator = Global> {
-    queue: RuledArrayQueue<Work<A>, WorkView<A>, WorkRule, A>,
+    queue: RuledArrayQueue<Batch<Work<A>, A>, WorkView<A>, WorkRule, A>,
 }
 
 impl<A: Allocator> Model for WorkQueue<A> {
@@ -48,7 +51,7 @@ impl<A: Allocator> Model for WorkQueue<A> {
 /// The seat that pushes. Contracts see its queue, and what it pushed.
 #[derive(Drop)]
 pub struct GiverSeat<A: Allocator = Global> {
-    pass: Pass<Work<A>, WorkView<A>>,
+    pass: Pass<Batch<Work<A>, A>, WorkView<A>>,
 }
 
 impl<A: Allocator> Model for GiverSeat<A> {
@@ -66,23 +69,26 @@ impl<A: Allocator> Model for GiverSeat<A> {
 /// had pushed, if it was joined back.
 #[derive(Drop)]
 pub struct WorkerSeat<A: Allocator = Global> {
-    pass: Pass<Work<A>, WorkView<A>>,
+    pass: Pass<Batch<Work<A>, A>, WorkView<A>>,
     split: bool,
+    // What is left of the batch that was popped last.
+    rest: Rest<Work<A>, A>,
 }
 
 impl<A: Allocator> Model for WorkerSeat<A> {
     ghost use Rattle.crossbeam_queue.specs.Passes.{view as known};
+    ghost use Rattle.gr_route.specs.Batches.{front};
     ghost use Rattle.gr_route.specs.WorkSeats.{IsWorkerPass, Worker};
 
     ghost Value = { Worker A };
 
-    ghost view = { λ s. record { queue = s.pass.table_id; popped = (known s.pass).popped; split = s.split; given = (known s.pass).given } };
+    ghost view = { λ s. record { queue = s.pass.table_id; popped = front (known s.pass).popped s.rest; split = s.split; given = (known s.pass).given } };
 
-    ghost invariant = { λ s. IsWorkerPass s.pass s.split };
+    ghost invariant = { λ s. IsWorkerPass s.pass s.split s.rest };
 }
 
 impl<A: Allocator + Copy> WorkQueue<A> {
-    /// An empty queue with room for `capacity` values, and the seat that pops.
+    /// An empty queue with room for `capacity` batches of work, and the seat that pops.
     /// Requires: `capacity` is 1 to `MOST_PLACES`.
     ///
     /// # Errors
@@ -93,7 +99,11 @@ impl<A: Allocator + Copy> WorkQueue<A> {
         ensures seat { IfOk result (λ made. made.1 ≡ record { queue = made.0.queue; popped = []; split = false; given = None }) }
     {
         let (queue, pass) = RuledArrayQueue::ruled(alloc, capacity as usize)?;
-        let seat = WorkerSeat { pass, split: false };
+        let seat = WorkerSeat {
+            pass,
+            split: false,
+            rest: Rest::none(alloc),
+        };
         Ok((WorkQueue { queue }, seat))
     }
 }
@@ -117,6 +127,7 @@ impl<A: Allocator> WorkQueue<A> {
         }
         worker.split = true;
         let pass = self.queue.another::<SplitStep>(&mut worker.pass);
+        self.queue.learn_as::<PopStep>(&mut worker.pass);
         Some(GiverSeat { pass })
     }
 
@@ -137,9 +148,40 @@ impl<A: Allocator> WorkQueue<A> {
         ensures ok { OnOk result (giver.new ≡ record giver.old { pushed = giver.old.pushed ++ work ∷ [] }) }
 
         ensures unchanged { IfErr result (λ back. (back.0 ≡ work) × (giver.new ≡ giver.old)) }
-        ensures full { IfErr result (λ _. Held self.now.places (AgreesWithGiver giver.old)) }
+        ensures full { IfErr result (λ _. Held self.now.places (λ batches. AgreesWithGiver giver.old (all_of batches))) }
     {
-        match self.queue.push_as::<PushStep, R>(rt, &mut giver.pass, work) {
+        match self
+            .queue
+            .push_as::<PushStep, R>(rt, &mut giver.pass, Batch::one(work))
+        {
+            Ok(()) => Ok(()),
+            Err(back) => Err(Full(back.into_first())),
+        }
+    }
+
+    /// Pushes work in one step.
+    /// Requires: the seat is of this queue; in what it pushed, and this after it, `Stop` is the last if it is there.
+    ///
+    /// # Errors
+    /// `Full` with the work, only if the queue was full at some moment of the call. The seat is then unchanged.
+    pub fn push_all<R: Wait>(
+        &self,
+        rt: &R,
+        giver: &mut GiverSeat<A>,
+        batch: Batch<Work<A>, A>,
+    ) -> Result<(), Full<Batch<Work<A>, A>>>
+        requires queue { giver.old.queue ≡ self.now.queue }
+        requires stops { StopsLast (giver.old.pushed ++ batch) }
+
+        ensures ok { OnOk result (giver.new ≡ record giver.old { pushed = giver.old.pushed ++ batch }) }
+
+        ensures unchanged { IfErr result (λ back. (back.0 ≡ batch) × (giver.new ≡ giver.old)) }
+        ensures full { IfErr result (λ _. Held self.now.places (λ batches. AgreesWithGiver giver.old (all_of batches))) }
+    {
+        match self
+            .queue
+            .push_as::<PushStep, R>(rt, &mut giver.pass, batch)
+        {
             Ok(()) => Ok(()),
             Err(back) => Err(Full(back)),
         }
@@ -155,11 +197,17 @@ impl<A: Allocator> WorkQueue<A> {
         ensures next { IfSome result (λ _. IsFalse (is_stopped worker.old.popped)) }
 
         ensures unchanged { IfNone result (worker.new ≡ worker.old) }
-        ensures empty { IfNone result (Held 0 (AgreesWithWorker worker.old)) }
+        ensures empty { IfNone result (Held 0 (λ batches. AgreesWithWorker worker.old (all_of batches))) }
 
         ensures delivery { IsDelivery worker.new }
     {
-        self.queue.pop_as::<PopStep, R>(rt, &mut worker.pass)
+        if let Some(work) = worker.rest.next() {
+            return Some(work);
+        }
+        match self.queue.pop_as::<PopStep, R>(rt, &mut worker.pass) {
+            None => None,
+            Some(batch) => Some(batch.open(&mut worker.rest)),
+        }
     }
 
     /// Takes the giver's seat back, and with it the list of what that pushed. What was popped is a prefix of this list,

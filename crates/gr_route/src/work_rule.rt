@@ -3,6 +3,7 @@
 //! What was popped, followed by what is queued, is what the giver pushed. Told in words in docs/QUEUES.md, "The work
 //! queue".
 
+use crate::batch::Batch;
 use crate::work::Work;
 use crossbeam_queue::protocol::{Join, Lesson, Outcome, Protocol, Split};
 use std::alloc::{Allocator, Global};
@@ -28,10 +29,10 @@ pub struct WorkView<A: Allocator = Global> {
 /// it.
 pub struct WorkRule;
 
-impl<A: Allocator> Protocol<Work<A>, WorkView<A>> for WorkRule {
-    ghost use Rattle.gr_route.specs.WorkRule.{SeatsAgree, first_view};
+impl<A: Allocator> Protocol<Batch<Work<A>, A>, WorkView<A>> for WorkRule {
+    ghost use Rattle.gr_route.specs.WorkRule.{BatchesAgree, first_view};
 
-    ghost holds = { SeatsAgree };
+    ghost holds = { BatchesAgree };
 
     ghost first = { first_view };
 }
@@ -59,34 +60,34 @@ impl<A: Allocator> Join<WorkView<A>> for JoinStep {
     ghost spent = { spent_view };
 }
 
-/// A step of the rule, for proofs alone: work is pushed, or refused.
+/// A step of the rule, for proofs alone: a batch is pushed, or refused.
 pub struct PushStep;
 
-impl<A: Allocator> Outcome<Work<A>, WorkView<A>> for PushStep {
+impl<A: Allocator> Outcome<Batch<Work<A>, A>, WorkView<A>> for PushStep {
     ghost use Rattle.gr_route.specs.WorkRule.{Pushes};
 
     ghost then = { Pushes };
 }
 
-impl<A: Allocator> Lesson<Work<A>, WorkView<A>> for PushStep {
+impl<A: Allocator> Lesson<Batch<Work<A>, A>, WorkView<A>> for PushStep {
     ghost use Rattle.gr_route.specs.Rooms.{AgreesWith};
-    ghost use Rattle.gr_route.specs.WorkRule.{SeatsAgree};
+    ghost use Rattle.gr_route.specs.WorkRule.{BatchesAgree};
 
-    ghost fact = { AgreesWith SeatsAgree };
+    ghost fact = { AgreesWith BatchesAgree };
 }
 
-/// A step of the rule, for proofs alone: work is popped, or there is none.
+/// A step of the rule, for proofs alone: a batch is popped, or there is none.
 pub struct PopStep;
 
-impl<A: Allocator> Outcome<Work<A>, WorkView<A>> for PopStep {
+impl<A: Allocator> Outcome<Batch<Work<A>, A>, WorkView<A>> for PopStep {
     ghost use Rattle.gr_route.specs.WorkRule.{Pops};
 
     ghost then = { Pops };
 }
 
-impl<A: Allocator> Lesson<Work<A>, WorkView<A>> for PopStep {
+impl<A: Allocator> Lesson<Batch<Work<A>, A>, WorkView<A>> for PopStep {
     ghost use Rattle.gr_route.specs.Rooms.{AgreesWith};
-    ghost use Rattle.gr_route.specs.WorkRule.{SeatsAgree};
+    ghost use Rattle.gr_route.specs.WorkRule.{BatchesAgree};
 
-    ghost fact = { AgreesWith SeatsAgree };
+    ghost fact = { AgreesWith BatchesAgree };
 }

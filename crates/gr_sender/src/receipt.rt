@@ -4,17 +4,18 @@ ghost use Rattle.std.specs.Prelude.{◌≡◌, IsTrue};
 ghost use Rattle.gr_model.specs.Streams.{is_complete};
 
 use gr_route::intake::IntakeSeat;
+use std::alloc::{Allocator, Global};
 use std::marker::Model;
 
 /// What is left of a sender that was closed: its seat. Contracts see the seat, whose list is all that was sent, its end
 /// last.
 #[derive(Drop)]
-pub struct Receipt {
-    seat: IntakeSeat,
+pub struct Receipt<A: Allocator = Global> {
+    seat: IntakeSeat<A>,
     group: u16,
 }
 
-impl Model for Receipt {
+impl<A: Allocator> Model for Receipt<A> {
     ghost use Rattle.std.specs.Prelude.{◌≡◌, IsTrue};
     ghost use Rattle.gr_model.specs.Streams.{is_complete};
     ghost use Rattle.gr_route.specs.IntakeSeats.{Seat};
@@ -26,10 +27,10 @@ impl Model for Receipt {
     ghost invariant = { λ r. (r.seat.group ≡ r.group) × IsTrue (is_complete r.seat.pushed) };
 }
 
-impl Receipt {
+impl<A: Allocator> Receipt<A> {
     /// The receipt of a group's seat.
     /// Requires: the seat is the group's, and it has pushed the end.
-    pub(crate) fn of(group: u16, seat: IntakeSeat) -> Receipt
+    pub(crate) fn of(group: u16, seat: IntakeSeat<A>) -> Receipt<A>
         requires group { seat.group ≡ group }
         requires ended { IsTrue (is_complete seat.pushed) }
         ensures { result ≡ seat }
@@ -45,7 +46,7 @@ impl Receipt {
     }
 
     /// The seat, which can be joined back into the taker's.
-    pub fn into_seat(self) -> IntakeSeat
+    pub fn into_seat(self) -> IntakeSeat<A>
         ensures seat { result ≡ self }
         ensures ended { IsTrue (is_complete result.pushed) }
     {

@@ -5,15 +5,17 @@
 //!
 //! Contracts don't see what the queue holds: docs/QUEUES.md, "Full and empty", has what `Full` says of it.
 
-ghost use Rattle.std.specs.Prelude.{◌≡◌, ◌+◌, ◌<◌, ◌≤◌, [], ◌∷◌, ◌++◌, length, IfOk, IfErr, OnOk, OnErr, MatchOption, IsTrue, IsFalse};
+ghost use Rattle.std.specs.Prelude.{◌≡◌, ◌+◌, ◌<◌, ◌≤◌, [], ◌∷◌, ◌++◌, length, IfOk, IfErr, IfSome, OnOk, OnErr, MatchOption, IsTrue, IsFalse};
 ghost use Rattle.std.specs.Arc.{arc_value};
 ghost use Rattle.gr_model.specs.Events.{IsEventOk, end_of, is_end};
 ghost use Rattle.gr_model.specs.Streams.{is_complete};
-ghost use Rattle.gr_sender.specs.Refusals.{IsFull, IsSendRefusal, IsRefusalOfEnd, MaySend, is_full};
+ghost use Rattle.gr_sender.specs.Refusals.{IsFull, IsSendRefusal, IsRefusalOfEnd, MaySend, TellsRefusal, WasFull, is_full};
+ghost use Rattle.gr_sender.specs.Senders.{MayPush, with_waiting};
 
 use crate::receipt::Receipt;
-use gr_model::event::{Event, event_ok};
+use gr_model::event::{Event, Sent, event_ok};
 use gr_model::limits::MOST_RECORDS;
+use gr_route::batch::Batch;
 use gr_route::intake::{Intake, IntakeSeat};
 use gr_threads::idle::Idle;
 use std::alloc::{Allocator, Global};
@@ -42,12 +44,39 @@ pub enum SendError {
     Full(Event),
 }
 
+/// Why an event is refused before the queue is asked: the first cause that is there.
+pub(crate) fn refusal(
+    closed: bool,
+    items: u16,
+    sent: u32,
+    records: u32,
+    event: &Event,
+) -> Option<SendError>
+    requires { IsFalse closed → sent < records }
+    ensures tells { TellsRefusal closed items sent records event.now result }
+    ensures never_full { IfSome result (λ error. IsFalse (is_full error)) }
+{
+    if closed {
+        return Some(SendError::Closed);
+    }
+    if event.item >= items {
+        return Some(SendError::UnknownItem);
+    }
+    if event.kind.is_end() || !event_ok(event, items) {
+        return Some(SendError::BadEvent);
+    }
+    if sent + 1 >= records {
+        return Some(SendError::StreamFull);
+    }
+    None
+}
+
 /// The sending end of one work-group's stream. Contracts see its queue, its group and items, the number of records that
 /// the stream may have, and what it has sent.
 #[derive(Drop)]
 pub struct Sender<A: Allocator = Global> {
     queue: Arc<Intake<A>, A>,
-    seat: IntakeSeat,
+    seat: IntakeSeat<A>,
     group: u16,
     items: u16,
     records: u32,
@@ -76,7 +105,7 @@ impl<A: Allocator> Sender<A> {
         items: u16,
         records: u32,
         queue: Arc<Intake<A>, A>,
-        seat: IntakeSeat,
+        seat: IntakeSeat<A>,
     ) -> Sender<A>
         requires seat { seat ≡ record { queue = (arc_value queue).queue; group = group; items = items; pushed = [] } }
         requires records { (0 < records) × (records ≤ MOST_RECORDS) }
@@ -138,23 +167,44 @@ impl<A: Allocator> Sender<A> {
         }
     }
 
-    /// Why an event is refused before the queue is asked: the first cause that is there.
-    fn refusal(&self, event: &Event) -> Option<SendError>
-        ensures { MatchOption result (MaySend self.now event.now) (IsSendRefusal self.now event.now) }
+    /// How many work-items its group has: at least 1.
+    pub(crate) fn items(&self) -> u16
+        ensures items { result ≡ self.now.items }
+        ensures some { 0 < result }
     {
-        if self.closed {
-            return Some(SendError::Closed);
+        self.items
+    }
+
+    /// How many records the stream may have.
+    pub(crate) fn records(&self) -> u32
+        ensures records { result ≡ self.now.records }
+        ensures limit { result ≤ MOST_RECORDS }
+    {
+        self.records
+    }
+
+    /// Pushes events together, which may come next.
+    ///
+    /// # Errors
+    /// The events, only if the queue was full at some moment of the call. The sender is then unchanged.
+    pub(crate) fn push_all<R: Wait>(
+        &mut self,
+        rt: &R,
+        batch: Batch<Sent, A>,
+    ) -> Result<(), Batch<Sent, A>>
+        requires { MayPush self.old batch }
+        ensures ok { OnOk result (self.new ≡ with_waiting self.old batch) }
+        ensures unchanged { IfErr result (λ back. (back ≡ batch) × (self.new ≡ self.old)) }
+        ensures full { OnErr result (WasFull self.old) }
+    {
+        let count = batch.len() as u32;
+        match self.queue.push_all(rt, &mut self.seat, batch) {
+            Ok(()) => {
+                self.sent += count;
+                Ok(())
+            }
+            Err(back) => Err(back.0),
         }
-        if event.item >= self.items {
-            return Some(SendError::UnknownItem);
-        }
-        if event.kind.is_end() || !event_ok(event, self.items) {
-            return Some(SendError::BadEvent);
-        }
-        if self.sent + 1 >= self.records {
-            return Some(SendError::StreamFull);
-        }
-        None
     }
 
     /// Sends an event.
@@ -182,7 +232,7 @@ impl<A: Allocator> Sender<A> {
         ensures unchanged { OnErr result (self.new ≡ self.old) }
         ensures refused { IfErr result (λ error. IsSendRefusal self.old event error) }
     {
-        match self.refusal(&event) {
+        match refusal(self.closed, self.items, self.sent, self.records, &event) {
             Some(error) => Err(error),
             None => self.push(rt, event),
         }
@@ -252,7 +302,7 @@ impl<A: Allocator> Sender<A> {
     ///
     /// # Errors
     /// The sender, unchanged, if it has not sent the end.
-    pub fn into_receipt(self) -> Result<Receipt, Sender<A>>
+    pub fn into_receipt(self) -> Result<Receipt<A>, Sender<A>>
         ensures receipt { IfOk result (λ receipt. receipt ≡ record { queue = self.queue.queue; group = self.group; items = self.items; pushed = self.sent }) }
         ensures closed { OnOk result (IsTrue (is_complete self.sent)) }
         ensures back { IfErr result (λ sender. sender ≡ self) }

@@ -1,3 +1,4 @@
+pub mod OutletLemmas
 pub mod TakeLemmas
 pub mod StepLemmas
 pub mod BeginLemmas

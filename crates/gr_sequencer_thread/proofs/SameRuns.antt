@@ -1,6 +1,6 @@
 -- A run that goes on as before.
-use Rattle.std.proofs.Common.{◌≡◌, ◌∙◌, ℕ, length, refl, sym, ap}
-use Rattle.std.proofs.lemmas.List.{length-map}
+use Rattle.std.proofs.Common.{◌≡◌, ◌∙◌, ◌++◌, ℕ, List, length, take, drop, append-nil, refl, sym, ap, arith}
+use Rattle.std.proofs.lemmas.List.{drop_all, length-map, take_all}
 use Rattle.gr_route.specs.IntakeSeats.{Taker}
 use Rattle.gr_sequencer_thread.specs.Feeds.{Feed, IsSameRun}
 
@@ -12,3 +12,9 @@ goes_further f g h first then = record { config = then.config ∙ first.config; 
 
 pub same_count : {A : Type 0} (f g : Feed A) → IsSameRun f g → length g.takers ≡ length f.takers
 same_count f g same = sym (length-map g.takers (λ (t : Taker). t.queue)) ∙ (ap length same.intakes ∙ length-map f.takers (λ (t : Taker). t.queue))
+
+-- a list that was lent whole is what came back
+pub whole_back : {X : Type 0} (n : ℕ) (was now : List X) → length was ≡ n → length now ≡ length was → take n (now ++ drop (length now) was) ≡ now
+whole_back n was now all count =
+    ap (λ l. take n (now ++ l)) (drop_all (length now) was (omega (arith, count)))
+    ∙ (ap (take n) (append-nil now) ∙ take_all n now (omega (arith, all, count)))

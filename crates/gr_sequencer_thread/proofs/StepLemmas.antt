@@ -1,5 +1,5 @@
 -- What each worker was given, and what is on its way, after a step.
-use Rattle.std.proofs.Common.{◌≡◌, ◌≢◌, ◌==◌, ℕ, ◌<◌, List, [], ◌∷◌, ◌++◌, length, get_or, set, map, cond, Option, None, Some, IsFalse, refl, sym, ap, ◌∙◌, subst, ⊎_elim, arith, append-nil, append_assoc, eq-eqb, ne_eqb}
+use Rattle.std.proofs.Common.{◌≡◌, ◌==◌, ℕ, ◌<◌, List, [], ◌∷◌, ◌++◌, length, get_or, set, cond, Option, None, Some, sym, ap, ◌∙◌, subst, ⊎_elim, arith, append-nil, eq-eqb, ne_eqb}
 use Rattle.std.specs.Option.{option_map}
 use Rattle.std.proofs.Math.Nat.{mod-lt}
 use Rattle.std.proofs.lemmas.Bool.{cases_eq}
@@ -15,15 +15,17 @@ use Rattle.gr_clocks.specs.ClockedAccess.{bare}
 use Rattle.gr_closure.specs.Accesses.{IsAccess, IsAccessOf}
 use Rattle.gr_hits.specs.Accesses.{AreAccesses, in_flight_list}
 use Rattle.gr_hits.proofs.Adding.{bare_access, handled_adds, met_add_none, others_add_none}
-use Rattle.gr_order.specs.Sequences.{HandlesEvent, MeetsInstance, Sequence}
-use Rattle.gr_route.specs.declared.work.Work.{Work}
+use Rattle.gr_model.specs.declared.event.Sent.{Sent}
+use Rattle.gr_order.specs.Sequences.{HandlesEvent, IsSequence, MeetsInstance, Sequence, taking}
+use Rattle.gr_sequencer.specs.Answers.{IsStep}
+use Rattle.gr_sequencer.specs.declared.handled.Handled.TheVariants.{One}
 use Rattle.gr_route.specs.declared.work.Work.TheVariants.{Access}
 use Rattle.gr_route.specs.WorkRule.{is_stopped}
 use Rattle.gr_route.specs.WorkSeats.{Giver}
 use Rattle.gr_shadow.specs.Clashes.{ClockedAccess, clocked}
 use Rattle.gr_threads.specs.Given.{accesses_in}
 use Rattle.gr_threads.proofs.Givens.{access_given, access_stops_not}
-use Rattle.gr_sequencer_thread.specs.Feeds.{AreOpen, ArePassedOn, accesses_for, given_of}
+use Rattle.gr_sequencer_thread.specs.Feeds.{AreOpen, ArePassedOn, IsNoted, accesses_for, given_of}
 
 -- ---- the sequencer's steps
 
@@ -51,6 +53,22 @@ met_passed config old new given in_flight g k h passed = record {
   accesses = passed.accesses;
   along = subst (λ (s : Streams). AreAccesses s new.handled passed.accesses) (sym h.taken) (met_add_none old.taken old.handled new.handled g k passed.accesses h.meets passed.along);
   each = passed.each;
+}
+
+-- ---- an event is taken, and handled where it may be at once
+
+pub noted_taken : (old new : Sequence) (s : Sent) (in_flight : Option ClockedAccess) → new ≡ taking old s.group s.event → IsSequence new → IsNoted old in_flight s new in_flight
+noted_taken old new s in_flight is sequence = record {
+  taken = ap (λ (q : Sequence). q.taken) is;
+  sequence = sequence;
+  passed = λ config given passed. subst (λ (q : Sequence). ArePassedOn config q given in_flight) (sym is) passed;
+}
+
+pub noted_handled : {Z : Type 0} (old new : Sequence) (s : Sent) (before : Option ClockedAccess) (e : EventId) (access : Option (AnyAccess Z)) → before ≡ None → IsStep (taking old s.group s.event) new (One e access) → IsSequence new → IsNoted old before s new (option_map clocked access)
+noted_handled old new s before e access none step sequence = record {
+  taken = step.0.taken;
+  sequence = sequence;
+  passed = λ config given passed. handled_passed config (taking old s.group s.event) new given e access step.0 step.1 (subst (ArePassedOn config (taking old s.group s.event) given) none passed);
 }
 
 -- ---- an access is passed on

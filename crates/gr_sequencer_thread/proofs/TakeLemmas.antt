@@ -1,17 +1,16 @@
 -- What was popped may be taken, and what was taken is then again what was popped.
-use Rattle.std.proofs.Common.{◌≡◌, ◌≢◌, ◌==◌, ℕ, ◌<◌, ◌≤◌, ◌%◌, List, [], ◌∷◌, ◌++◌, length, get_or, set, cond, Option, true, false, refl, sym, ap, ◌∙◌, subst, ⊎_elim, arith, append-nil, eq-eqb, ne_eqb, true≢false}
+use Rattle.std.proofs.Common.{◌≡◌, ◌≢◌, ◌==◌, ℕ, ◌<◌, ◌≤◌, ◌%◌, List, [], ◌∷◌, ◌++◌, length, get_or, set, cond, Option, refl, sym, ap, ◌∙◌, subst, ⊎_elim, arith, append-nil, eq-eqb, ne_eqb, true≢false}
 use Rattle.std.proofs.Math.ListN.{get_or-eq_default}
 use Rattle.std.proofs.lemmas.Bool.{cases_eq, cases_lt}
-use Rattle.std.proofs.lemmas.List.{get_or-set_other, get_or-set_same, get_or_default, length-set}
-use Rattle.std.proofs.Math.Nat.{mod-lt}
+use Rattle.std.proofs.lemmas.List.{get_or-set_other, get_or-set_same, get_or_default}
 use Rattle.gr_model.specs.declared.event.Event.{Event}
 use Rattle.gr_model.specs.declared.event.Sent.{Sent}
 use Rattle.gr_model.specs.declared.limits.TheConstants.{MOST_RECORDS}
 use Rattle.gr_model.specs.Configs.{Settings}
-use Rattle.gr_model.specs.Streams.{Streams, events_of, is_complete, list_of, size_of}
+use Rattle.gr_model.specs.Streams.{Streams, is_complete, list_of}
 use Rattle.gr_model.proofs.Sending.{events_append, events_else, events_here}
 use Rattle.gr_hits.proofs.Growing.{accesses_stay}
-use Rattle.gr_lanes.specs.Takes.{CanTake, with_record}
+use Rattle.gr_lanes.specs.Takes.{with_record}
 use Rattle.gr_lanes.proofs.Growth.{record_grows}
 use Rattle.gr_order.specs.Sequences.{IsSequence, Sequence, taking}
 use Rattle.gr_route.specs.IntakeSeats.{IsNextPopped, Taker, popped_of}

@@ -7,7 +7,7 @@ use Rattle.gr_model.specs.Reports.{IsReportButRaces, WholeReport}
 use Rattle.gr_order.specs.Sequences.{Sequence}
 use Rattle.gr_route.specs.IntakeSeats.{Taker}
 use Rattle.gr_route.specs.WorkSeats.{Giver}
-use Rattle.gr_sequencer_thread.specs.Feeds.{Feed, IsFeedWhole, intakes_of, works_of}
+use Rattle.gr_sequencer_thread.specs.Feeds.{AreStopped, Feed, IsFeedWhole, intakes_of, works_of}
 
 -- how a run is set up, the items of each work-group, its intake queues and its workers' queues
 pub record Line : Type 0 where
@@ -51,4 +51,5 @@ pub record IsEnd {A : Type 0} (e : End A) : Type 0 where
   pub config : IsConfig e.config
   pub queues : length e.takers ≡ e.config.queues
   pub worker_count : length e.givers ≡ e.config.workers
+  pub stopped : AreStopped e.givers
   pub found : IfSome e.report (IsFound e.config e.sizes e.takers e.givers)

@@ -1,6 +1,6 @@
 -- What the sequencer's thread has, and what is so of it at every moment and at its end.
 -- Source: docs/QUEUES.md, "The work queue", and docs/MODEL.md, "The world".
-use Rattle.std.specs.Prelude.{◌≡◌, ◌==◌, ◌<◌, ◌%◌, ℕ, Bool, false, List, [], ◌++◌, length, map, filter, slice_index, slice_index_or, Option, None, IsFalse, if◌then◌else◌}
+use Rattle.std.specs.Prelude.{◌≡◌, ◌==◌, ◌<◌, ◌%◌, ℕ, Bool, false, List, [], ◌++◌, length, map, filter, slice_index, slice_index_or, Option, None, IsFalse, IsTrue, if◌then◌else◌}
 use Rattle.atomic_table.specs.Seated.{TableId}
 use Rattle.gr_model.specs.declared.event.Sent.{Sent}
 use Rattle.gr_model.specs.declared.limits.TheConstants.{MOST_RECORDS}
@@ -8,7 +8,8 @@ use Rattle.gr_model.specs.Configs.{IsConfig, Settings, worker_number}
 use Rattle.gr_model.specs.Streams.{AreComplete, Streams, list_of}
 use Rattle.gr_hits.specs.Accesses.{AreAccesses, in_flight_list}
 use Rattle.gr_lanes.specs.Takes.{CanTake, IsEventButItem}
-use Rattle.gr_order.specs.Sequences.{IsDone, IsSequence, Sequence, nothing}
+use Rattle.gr_order.specs.Sequences.{IsDone, IsSequence, Sequence, taking}
+use Rattle.gr_route.specs.declared.work.Work.{Work}
 use Rattle.gr_route.specs.IntakeSeats.{Taker, popped_of}
 use Rattle.gr_route.specs.WorkRule.{is_stopped}
 use Rattle.gr_route.specs.WorkSeats.{Giver}
@@ -31,6 +32,16 @@ intakes_of takers = map (λ (t : Taker). t.queue) takers
 abbrev pub works_of : {A : Type 0} → List (Giver A) → List TableId
 works_of givers = map (λ g. g.queue) givers
 
+-- what waits at the end of a worker's queue to be pushed there: accesses, and none once the word was pushed that there are no more
+pub record IsOutlet {A : Type 0} (queue : TableId) (seat : Giver A) (waiting : List (Work A)) : Type 0 where
+  pub queue_is : seat.queue ≡ queue
+  pub accesses : IsFalse (is_stopped waiting)
+  pub stopped : IsTrue (is_stopped seat.pushed) → waiting ≡ []
+
+-- the seat, where that was pushed
+abbrev pub with_waiting : {A : Type 0} → Giver A → List (Work A) → Giver A
+with_waiting seat waiting = record { queue = seat.queue; pushed = seat.pushed ++ waiting }
+
 -- the accesses that each worker was given
 abbrev pub given_of : {A : Type 0} → List (Giver A) → List (List ClockedAccess)
 given_of givers = map (λ g. accesses_in g.pushed) givers
@@ -48,6 +59,10 @@ AreSeated config sizes takers = (q g : ℕ) (d : Taker) → q < config.queues �
 -- nothing was pushed behind which nothing may be pushed
 abbrev pub AreOpen : {A : Type 0} → List (Giver A) → Type 0
 AreOpen {A} givers = (k : ℕ) (d : Giver A) → k < length givers → IsFalse (is_stopped (slice_index_or givers k d).pushed)
+
+-- to each worker the word that there are no more was pushed
+abbrev pub AreStopped : {A : Type 0} → List (Giver A) → Type 0
+AreStopped {A} givers = (k : ℕ) (d : Giver A) → k < length givers → IsTrue (is_stopped (slice_index_or givers k d).pushed)
 
 -- what was taken of each group is what was popped of it
 abbrev pub AreTaken : Settings → Streams → List Taker → Type 0
@@ -78,6 +93,12 @@ pub record MayTake (q : Sequence) (s : Sent) : Type 0 where
   pub can : CanTake q.taken s.group s.event
   pub good : IsEventButItem s.event
   pub room : length (list_of q.taken s.group) < MOST_RECORDS
+
+-- a sequencer has taken an event; what is on its way is as before, or the access of this event, which was handled too
+pub record IsNoted (old : Sequence) (before : Option ClockedAccess) (s : Sent) (new : Sequence) (after : Option ClockedAccess) : Type 0 where
+  pub taken : new.taken ≡ (taking old s.group s.event).taken
+  pub sequence : IsSequence new
+  pub passed : (config : Settings) (given : List (List ClockedAccess)) → ArePassedOn config (taking old s.group s.event) given before → ArePassedOn config new given after
 
 -- ---- where it begins
 

@@ -5,14 +5,16 @@
 //! Where memory ran out, events are popped and go nowhere.
 
 ghost use Rattle.std.specs.Prelude.{◌≡◌, ◌<◌, false, None, IsTrue, length};
+ghost use Rattle.std.specs.Option.{option_map};
+ghost use Rattle.gr_clocks.specs.ClockedAccess.{clocked};
 ghost use Rattle.gr_model.specs.Streams.{AreComplete};
-ghost use Rattle.gr_order.specs.Sequences.{IsSequence, nothing, taking};
+ghost use Rattle.gr_order.specs.Sequences.{nothing};
 ghost use Rattle.gr_sequencer_thread.specs.Ends.{end_line, feed_line};
-ghost use Rattle.gr_sequencer_thread.specs.Feeds.{IsFresh, IsOver, IsSameRun, MayTake};
+ghost use Rattle.gr_sequencer_thread.specs.Feeds.{IsFresh, IsNoted, IsOver, IsSameRun, MayTake};
 
 use crate::end::{SequencerEnd, findings};
 use crate::inlet::Inlet;
-use crate::outlet::{Outlet, stop_all};
+use crate::outlet::{Outlet, flush_all, stop_all};
 use gr_clocks::access::Access;
 use gr_lanes::seq_error::SeqError;
 use gr_model::config::{Config, worker_of};
@@ -20,7 +22,6 @@ use gr_model::event::Sent;
 use gr_model::memory::Memory;
 use gr_model::shape::Shape;
 use gr_route::room::Full;
-use gr_route::work::Work;
 use gr_sequencer::handled::Handled;
 use gr_sequencer::sequencer::Sequencer;
 use gr_threads::watch::Watch;
@@ -67,17 +68,42 @@ pub(crate) fn left_open(open: u16, sent: &Sent) -> u16 {
     }
 }
 
-/// Has a sequencer take an event, which may be taken, unless memory ran out before. Tells whether it was, before or now.
-fn note<A: Allocator>(sequencer: &mut Sequencer<A>, failed: bool, sent: &Sent) -> bool
+/// Has a sequencer take an event, which may be taken, and handle it where it may be handled at once and nothing is on its way:
+/// its access is then. Nothing is done where memory ran out before. Tells whether it ran out, before or now.
+fn note<A: Allocator + Copy>(
+    sequencer: &mut Sequencer<A>,
+    in_flight: &mut Option<Access<A>>,
+    failed: bool,
+    sent: &Sent,
+) -> bool
     requires { failed ≡ false → MayTake sequencer.old sent.now }
-    ensures taken { result ≡ false → failed ≡ false × (sequencer.new ≡ taking sequencer.old sent.now.group sent.now.event) × IsSequence sequencer.new }
+    ensures noted { result ≡ false → failed ≡ false × IsNoted sequencer.old (option_map clocked in_flight.old) sent.now sequencer.new (option_map clocked in_flight.new) }
     ensures sizes { sequencer.new.taken.sizes ≡ sequencer.old.taken.sizes }
 {
     if failed {
         return true;
     }
-    match sequencer.take(sent.group, sent.event) {
-        Ok(()) => false,
+    if in_flight.is_some() {
+        return match sequencer.take(sent.group, sent.event) {
+            Ok(()) => false,
+            Err(SeqError::Memory) => true,
+            Err(_) => unreachable!(),
+        };
+    }
+    match sequencer.take_and_handle(sent.group, sent.event) {
+        Ok(None) => false,
+        Ok(Some(Handled::One { event: _, access })) => {
+            *in_flight = access;
+            false
+        }
+        Ok(
+            Some(
+                Handled::Meet {
+                    group: _,
+                    instance: _,
+                },
+            ),
+        ) => unreachable!(),
         Err(SeqError::Memory) => true,
         Err(_) => unreachable!(),
     }
@@ -110,18 +136,37 @@ impl<A: Allocator> Feed<A> {
         }
     }
 
-    /// Takes the event at the front of an intake queue, if there is one.
+    /// Whether every group's end was popped, and all of it was handled and passed on, as far as there was memory.
+    pub(crate) fn is_over(&self) -> bool
+        ensures { IsTrue result → self.now.failed ≡ false → IsOver self.now }
+    {
+        self.open == 0 && (self.failed || (self.in_flight.is_none() && self.sequencer.at_end()))
+    }
+}
+
+impl<A: Allocator + Copy> Feed<A> {
+    /// Takes the event at the front of an intake queue, if there is one, and handles it if it may be handled at once.
     pub(crate) fn take<R: Wait>(&mut self, rt: &R, queue: usize) -> Option<Sent>
         requires { queue < length self.old.takers }
         ensures { IsSameRun self.old self.new }
     {
         let sent = self.inlets[queue].pop(rt)?;
         self.open = left_open(self.open, &sent);
-        self.failed = note(&mut self.sequencer, self.failed, &sent);
+        self.failed = note(&mut self.sequencer, &mut self.in_flight, self.failed, &sent);
         Some(sent)
     }
 
-    /// Pushes the access on its way to its word's worker. Tells whether there was room for it.
+    /// Takes the event at the front of an intake queue, if there is one, and passes its access on if it was handled.
+    fn take_and_pass<R: Wait>(&mut self, rt: &R, queue: usize) -> Option<Sent>
+        requires { queue < length self.old.takers }
+        ensures { IsSameRun self.old self.new }
+    {
+        let sent = self.take(rt, queue)?;
+        self.pass(rt);
+        Some(sent)
+    }
+
+    /// Passes the access on its way to its word's worker. Tells whether there was room for it.
     pub(crate) fn pass<R: Wait>(&mut self, rt: &R) -> bool
         ensures { IsSameRun self.old self.new }
     {
@@ -129,21 +174,20 @@ impl<A: Allocator> Feed<A> {
             return false;
         };
         let worker = usize::from(worker_of(&access.word, self.config.workers()));
-        match self.outlets[worker].push(rt, Work::Access(access)) {
+        match self.outlets[worker].push(rt, access) {
             Ok(()) => true,
-            Err(Full(Work::Access(access))) => {
+            Err(Full(access)) => {
                 self.in_flight = Some(access);
                 false
             }
-            Err(Full(Work::Stop)) => unreachable!(),
         }
     }
 
-    /// Whether every group's end was popped, and all of it was handled and passed on, as far as there was memory.
-    pub(crate) fn is_over(&self) -> bool
-        ensures { IsTrue result → self.now.failed ≡ false → IsOver self.now }
+    /// Pushes the accesses that wait for workers, as far as there is room for them: a worker has them before this thread waits.
+    pub(crate) fn flush<R: Wait>(&mut self, rt: &R)
+        ensures { self.new ≡ self.old }
     {
-        self.open == 0 && (self.failed || (self.in_flight.is_none() && self.sequencer.at_end()))
+        flush_all(rt, &mut self.outlets);
     }
 
     /// Takes events of an intake queue, a burst of them at most. Tells whether there was one.
@@ -153,7 +197,7 @@ impl<A: Allocator> Feed<A> {
     {
         let mut some = false;
         for _ in 0..BURST {
-            match self.take(rt, queue) {
+            match self.take_and_pass(rt, queue) {
                 None => return some,
                 Some(sent) => {
                     watch.at_take(sent.group);
@@ -174,9 +218,7 @@ impl<A: Allocator> Feed<A> {
         }
         some
     }
-}
 
-impl<A: Allocator + Copy> Feed<A> {
     /// Handles an event or has an instance meet, if nothing is on its way. Tells whether something was done.
     pub(crate) fn handle(&mut self) -> bool
         requires { (self.old.in_flight ≡ None) × (self.old.failed ≡ false) }

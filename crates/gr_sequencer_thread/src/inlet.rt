@@ -36,7 +36,7 @@ impl<A: Allocator> Model for Inlet<A> {
 }
 
 impl<A: Allocator + Copy> Inlet<A> {
-    /// The end of a new queue with room for so many events.
+    /// The end of a new queue with room for so many batches of events.
     ///
     /// # Errors
     /// `Memory`: out of memory.
@@ -82,7 +82,7 @@ impl<A: Allocator> Inlet<A> {
 
     /// Takes a work-group's seat back. What was popped of the group is a prefix of what the seat pushed, and all of it where
     /// its end was popped.
-    pub fn join_back(&mut self, seat: IntakeSeat)
+    pub fn join_back(&mut self, seat: IntakeSeat<A>)
         requires { seat.queue ≡ self.old.queue }
         ensures same { (self.new.queue ≡ self.old.queue) × (self.new.popped ≡ self.old.popped) }
         ensures prefix { StartsWith seat.pushed (popped_of self.old seat.group) }

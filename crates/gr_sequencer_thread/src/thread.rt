@@ -43,11 +43,13 @@ fn run<R: Wait + Clock, A: Allocator + Copy, W: Watch>(
         let advanced = feed.advance_all(rt);
         if taken || advanced {
             idle.reset();
-        } else if feed.is_over() {
-            return feed.stop(rt, alloc, shape);
-        } else {
-            idle.wait(rt);
+            continue;
         }
+        if feed.is_over() {
+            return feed.stop(rt, alloc, shape);
+        }
+        feed.flush(rt);
+        idle.wait(rt);
     }
     unreachable!()
 }

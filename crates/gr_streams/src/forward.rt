@@ -14,6 +14,7 @@ use gr_record::decoder::Decoder;
 use gr_record::error::RecordError;
 use gr_record::fault::Fault;
 use gr_record::part::Part;
+use gr_sender::batching::BatchSender;
 use gr_sender::receipt::Receipt;
 use gr_sender::sender::Sender;
 use std::alloc::{Allocator, Global};
@@ -23,8 +24,9 @@ use std::time::Clock;
 /// A stream on its way: what decodes it, and what sends its events.
 #[derive(Drop)]
 pub(crate) struct Forward<A: Allocator = Global> {
+    alloc: A,
     pub(crate) decoder: Decoder,
-    pub(crate) sender: Sender<A>,
+    pub(crate) sender: BatchSender<A>,
     // The parts of the piece at hand.
     pub(crate) parts: Vec<Part, A>,
     // Whether the sender refused an event: the stream is then too long, and the sender is closed.
@@ -33,29 +35,35 @@ pub(crate) struct Forward<A: Allocator = Global> {
 
 /// What is left of a stream whose reading has ended.
 #[derive(Drop)]
-pub(crate) struct Ended {
+pub(crate) struct Ended<A: Allocator = Global> {
     /// The receipt of what was sent.
-    pub(crate) receipt: Receipt,
+    pub(crate) receipt: Receipt<A>,
     /// Why reading has ended before the stream did, if so.
     pub(crate) fault: Option<Fault>,
 }
 
 /// Sends an event, or the end that it is, and waits until there is room. Tells whether it was sent.
-fn send<R: Wait + Clock, A: Allocator>(rt: &R, sender: &mut Sender<A>, event: Event) -> bool
+fn send<R: Wait + Clock, A: Allocator + Copy>(
+    rt: &R,
+    alloc: A,
+    sender: &mut BatchSender<A>,
+    event: Event,
+) -> bool
     ensures sent { IsTrue result → sender.new ≡ record sender.old { sent = sender.old.sent ++ sent_as event ∷ [] } }
     ensures refused { IsFalse result → (sender.new ≡ sender.old) × (sender.old.records ≡ MOST_RECORDS → ¬ MayFollow sender.old.items sender.old.sent event) }
 {
     match event.kind {
         Kind::End { cut } => sender.close_wait(rt, cut).is_ok(),
-        _ => sender.send_wait(rt, event).is_ok(),
+        _ => sender.send_wait(rt, alloc, event).is_ok(),
     }
 }
 
 /// Sends an event, unless one was refused before. Tells whether this one or one before it was refused; the sender is then
 /// closed.
-fn forward_one<R: Wait + Clock, A: Allocator>(
+fn forward_one<R: Wait + Clock, A: Allocator + Copy>(
     rt: &R,
-    sender: &mut Sender<A>,
+    alloc: A,
+    sender: &mut BatchSender<A>,
     refused: bool,
     event: Event,
 ) -> bool
@@ -65,7 +73,7 @@ fn forward_one<R: Wait + Clock, A: Allocator>(
     if refused {
         return true;
     }
-    if send(rt, sender, event) {
+    if send(rt, alloc, sender, event) {
         return false;
     }
     close_cut(rt, sender);
@@ -73,9 +81,10 @@ fn forward_one<R: Wait + Clock, A: Allocator>(
 }
 
 /// Sends the event that a part is, if it is one. Tells whether this one or one before it was refused.
-fn forward_part<R: Wait + Clock, A: Allocator>(
+fn forward_part<R: Wait + Clock, A: Allocator + Copy>(
     rt: &R,
-    sender: &mut Sender<A>,
+    alloc: A,
+    sender: &mut BatchSender<A>,
     refused: bool,
     part: Part,
 ) -> bool
@@ -84,14 +93,15 @@ fn forward_part<R: Wait + Clock, A: Allocator>(
 {
     match part {
         Part::Header(_) => refused,
-        Part::Event(event) => forward_one(rt, sender, refused, event),
+        Part::Event(event) => forward_one(rt, alloc, sender, refused, event),
     }
 }
 
 /// Sends the events among parts, in their order, up to one that is refused. Tells whether one was refused.
-fn forward_all<R: Wait + Clock, A: Allocator>(
+fn forward_all<R: Wait + Clock, A: Allocator + Copy>(
     rt: &R,
-    sender: &mut Sender<A>,
+    alloc: A,
+    sender: &mut BatchSender<A>,
     refused: bool,
     parts: &[Part],
 ) -> bool
@@ -100,13 +110,13 @@ fn forward_all<R: Wait + Clock, A: Allocator>(
 {
     let mut stuck = refused;
     for part in parts {
-        stuck = forward_part(rt, sender, stuck, *part);
+        stuck = forward_part(rt, alloc, sender, stuck, *part);
     }
     stuck
 }
 
 /// Closes a sender with the cut mark, if it is open.
-fn close_cut<R: Wait + Clock, A: Allocator>(rt: &R, sender: &mut Sender<A>)
+fn close_cut<R: Wait + Clock, A: Allocator>(rt: &R, sender: &mut BatchSender<A>)
     ensures same { IsSameSender sender.old sender.new }
     ensures closed { IsTrue (is_complete sender.new.sent) }
     ensures whole { IsTrue (is_complete sender.old.sent) → sender.new ≡ sender.old }
@@ -116,7 +126,7 @@ fn close_cut<R: Wait + Clock, A: Allocator>(rt: &R, sender: &mut Sender<A>)
 }
 
 /// The receipt of a sender, which is closed with the cut mark if it is open.
-fn cut<R: Wait + Clock, A: Allocator>(rt: &R, sender: Sender<A>) -> Receipt
+fn cut<R: Wait + Clock, A: Allocator>(rt: &R, sender: BatchSender<A>) -> Receipt<A>
     ensures group { result.group ≡ sender.group }
     ensures queue { result.queue ≡ sender.queue.queue }
     ensures whole { IsTrue (is_complete sender.sent) → result.pushed ≡ sender.sent }
@@ -129,7 +139,7 @@ fn cut<R: Wait + Clock, A: Allocator>(rt: &R, sender: Sender<A>) -> Receipt
     }
 }
 
-impl<A: Allocator> Forward<A> {
+impl<A: Allocator + Copy> Forward<A> {
     /// Of a stream of which nothing was read, to a sender that has sent nothing.
     pub(crate) fn new(alloc: A, sender: Sender<A>) -> Forward<A>
         requires records { sender.records ≡ MOST_RECORDS }
@@ -138,14 +148,15 @@ impl<A: Allocator> Forward<A> {
         ensures fed { IsFed [] result.decoder result.sender result.refused }
     {
         Forward {
+            alloc,
             decoder: Decoder::new(),
-            sender,
+            sender: BatchSender::new(sender),
             parts: Vec::new(alloc),
             refused: false,
         }
     }
 
-    /// Decodes the next piece of the stream, and sends its events.
+    /// Decodes the next piece of the stream, and sends its events. None of them is kept back.
     ///
     /// # Errors
     /// The first fault of the stream, at the piece that has it; `Memory` where the piece can't be decoded.
@@ -156,12 +167,19 @@ impl<A: Allocator> Forward<A> {
     {
         self.parts.clear();
         let outcome = self.decoder.feed(piece, &mut self.parts);
-        self.refused = forward_all(rt, &mut self.sender, self.refused, self.parts.as_slice());
+        self.refused = forward_all(
+            rt,
+            self.alloc,
+            &mut self.sender,
+            self.refused,
+            self.parts.as_slice(),
+        );
+        self.sender.flush(rt);
         outcome
     }
 
     /// Ends the reading at a fault: what was sent is cut, unless the stream's end was sent.
-    pub(crate) fn fail<R: Wait + Clock>(self, rt: &R, fault: Fault) -> Ended
+    pub(crate) fn fail<R: Wait + Clock>(self, rt: &R, fault: Fault) -> Ended<A>
         ensures group { result.receipt.group ≡ self.sender.group }
         ensures queue { result.receipt.queue ≡ self.sender.queue.queue }
         ensures fault { result.fault ≡ Some fault }
@@ -173,7 +191,7 @@ impl<A: Allocator> Forward<A> {
     }
 
     /// Ends the reading at the end of the stream at this place.
-    pub(crate) fn finish<R: Wait + Clock>(self, rt: &R, place: u64) -> Ended
+    pub(crate) fn finish<R: Wait + Clock>(self, rt: &R, place: u64) -> Ended<A>
         ensures group { result.receipt.group ≡ self.sender.group }
         ensures queue { result.receipt.queue ≡ self.sender.queue.queue }
         ensures fault { IfErr (last_answer self.decoder.stop) (λ e. result.fault ≡ Some (stream_fault place e)) }

@@ -29,7 +29,7 @@ use std::time::Clock;
 #[derive(Drop)]
 pub(crate) struct Room<T: Read, A: Allocator> {
     pub(crate) threads: Vec<ReaderThread<T, A>, A>,
-    pub(crate) receipts: Vec<Receipt, A>,
+    pub(crate) receipts: Vec<Receipt<A>, A>,
 }
 
 /// Room for so many readers.
@@ -143,7 +143,7 @@ fn first_of(first: Option<Fault>, next: Option<Fault>) -> Option<Fault>
 #[derive(Drop)]
 pub(crate) struct Joined<A: Allocator> {
     /// The receipts of the streams, in their order.
-    pub(crate) receipts: Vec<Receipt, A>,
+    pub(crate) receipts: Vec<Receipt<A>, A>,
     /// The first fault, if there is one.
     pub(crate) fault: Option<Fault>,
 }
@@ -153,7 +153,7 @@ pub(crate) struct Joined<A: Allocator> {
 pub(crate) fn join_all<R: Threads, A: Allocator, T: Read>(
     rt: &R,
     threads: Vec<ReaderThread<T, A>, A>,
-    receipts: Vec<Receipt, A>,
+    receipts: Vec<Receipt<A>, A>,
 ) -> Joined<A>
     requires none { (receipts.items ≡ []) × (vec_len receipts ≡ 0) }
     requires room { vec_len threads ≤ vec_capacity receipts }

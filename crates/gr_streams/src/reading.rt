@@ -25,13 +25,13 @@ const PIECE_LENGTH: usize = 65_536;
 
 /// Reads the rest of a stream at a place, of which what was read before is on its way, and sends its events as they come. It
 /// ends at the reader's end, or at the first fault, or once the run was abandoned.
-fn read_rest<R: Wait + Clock, A: Allocator, T: Read>(
+fn read_rest<R: Wait + Clock, A: Allocator + Copy, T: Read>(
     rt: &R,
     place: u64,
     reader: &mut T,
     forward: Forward<A>,
     abandoned: &Arc<AtomicBool, A>,
-) -> Ended
+) -> Ended<A>
     ensures group { result.receipt.group ≡ forward.sender.group }
     ensures queue { result.receipt.queue ≡ forward.sender.queue.queue }
     ensures write { IfSome result.fault (λ f. f ≢ faults.Write) }
@@ -58,13 +58,13 @@ fn read_rest<R: Wait + Clock, A: Allocator, T: Read>(
 
 /// Reads the stream at a place, whose header was read, and sends its events as they come.
 /// Requires: nothing was sent of it yet.
-pub(crate) fn read_on<R: Wait + Clock + Copy, A: Allocator, T: Read + Drop>(
+pub(crate) fn read_on<R: Wait + Clock + Copy, A: Allocator + Copy, T: Read + Drop>(
     rt: R,
     place: u64,
     source: Source<T>,
     forward: Forward<A>,
     abandoned: Arc<AtomicBool, A>,
-) -> Ended
+) -> Ended<A>
     requires headed { IsHeaded source.header source.prefix.items }
     requires items { forward.sender.items ≡ source.header.items }
     requires fed { IsFed [] forward.decoder forward.sender forward.refused }

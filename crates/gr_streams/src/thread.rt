@@ -27,7 +27,7 @@ pub(crate) struct OfReader<T, A: Allocator = Global> {
     pub(crate) sender: Snapshot<Sender<A>>,
 }
 
-impl<T: Read, A: Allocator> Promise<Ended> for OfReader<T, A> {
+impl<T: Read, A: Allocator> Promise<Ended<A>> for OfReader<T, A> {
     ghost use Rattle.gr_streams.specs.Sources.{IsEndOf, known_of};
 
     ghost kept_by = { λ p r. IsEndOf (record { place = p.place; header = p.source.value.header; bytes = known_of T.remaining p.source.value; sender = p.sender.value }) r.receipt r.fault };
@@ -37,9 +37,9 @@ impl<T: Read, A: Allocator> Promise<Ended> for OfReader<T, A> {
 #[derive(Drop)]
 pub(crate) enum Work<T: Read, A: Allocator = Global> {
     /// By a thread.
-    Started(PromisedHandle<Ended, OfReader<T, A>>),
+    Started(PromisedHandle<Ended<A>, OfReader<T, A>>),
     /// No more. This is what is left of the stream.
-    Over(Ended),
+    Over(Ended<A>),
     /// Its thread is being joined.
     Joining,
 }
@@ -118,7 +118,7 @@ impl<T: Read, A: Allocator> ReaderThread<T, A> {
     }
 
     /// Waits until the stream's reading has ended.
-    pub(crate) fn join<R: Threads>(self, rt: &R) -> Ended
+    pub(crate) fn join<R: Threads>(self, rt: &R) -> Ended<A>
         ensures { IsEndOf self result.receipt result.fault }
     {
         let ReaderThread { begun: _, work } = self;

@@ -23,30 +23,34 @@ same_some x y e = cc
 pub loop-receipt-preserved : goal.loop-receipt-preserved
 loop-receipt-preserved g c =
     let inv = c.loop-receipt.invariant in
-    let init = c.args.inlets.now in
-    let inlets = c.loop-receipt.inlets in
+    let init = c.args.inlets.now.items in
+    let inlets = c.loop-receipt.inlets.items in
     let r = c.in-Some.receipt in
-    let q = c.from.result % length inlets in
-    let item = c.index-inlets-queue.result in
+    let q = c.from.result % c.len.result in
+    let item = c.index_mut.result.now in
     let items : into_iter_items c.loop-receipt.receipt-iterator ≡ r ∷ into_iter_items c.next.new.self = search rules in
     let group : c.from.result ≡ r.group = search rules in
     let seat : c.into_seat.result ≡ r = c.into_seat.ensures.seat in
     let count : length inlets ≡ length init = sym (length-map inlets (λ (t : Taker). t.queue)) ∙ (ap length inv.0 ∙ length-map init (λ (t : Taker). t.queue)) in
-    let lt : q < length inlets = mod-lt c.from.result (omega (arith, c.requires.some, count)) in
+    let len : c.len.result ≡ length inlets = search rules in
+    let place : q ≡ c.from.result % length inlets = ap (λ n. c.from.result % n) len in
+    let lt : c.from.result % length inlets < length inlets = mod-lt c.from.result (omega (arith, c.requires.some, count)) in
+    let at : item ≡ get_or inlets (c.from.result % length inlets) item = c.index_mut.ensures.value ∙ ap (λ n. get_or inlets n item) place in
     let here = subst (AreHere (intakes_of init)) items inv.2 in
-    let popped : popped_at (pops_of init) r.group ≡ popped_of (get_or inlets q item) c.into_seat.result.group =
+    let popped : popped_at (pops_of init) r.group ≡ popped_of item c.into_seat.result.group =
     ap (λ (l : List (List Sent)). popped_at l r.group) (sym inv.1)
     ∙ (ap (λ n. events_of r.group (get_or (pops_of inlets) (r.group % n) [])) (length-map inlets (λ (t : Taker). t.popped))
     ∙ (ap (λ n. events_of r.group (get_or (pops_of inlets) (n % length inlets) [])) (sym group)
-    ∙ (ap (events_of r.group) (get_or-map (λ (t : Taker). t.popped) inlets q item [] lt)
-    ∙ ap (λ (s : Seat). popped_of (get_or inlets q item) s.group) (sym seat)))) in
+    ∙ (ap (events_of r.group) (get_or-map (λ (t : Taker). t.popped) inlets (c.from.result % length inlets) item [] lt)
+    ∙ (ap (λ (u : Taker). popped_of u r.group) (sym at)
+    ∙ ap (λ (s : Seat). popped_of item s.group) (sym seat))))) in
     let pushed = ap (λ (s : Seat). s.pushed) seat in
     let mine : IsPopped (pops_of init) r = record {
-      prefix = subst (λ (l : List Event). StartsWith r.pushed l) (sym popped) (subst (λ (l : List Event). StartsWith l (popped_of (get_or inlets q item) c.into_seat.result.group)) pushed c.join_back.ensures.prefix);
+      prefix = subst (λ (l : List Event). StartsWith r.pushed l) (sym popped) (subst (λ (l : List Event). StartsWith l (popped_of item c.into_seat.result.group)) pushed c.join_back.ensures.prefix);
       whole = λ whole. popped ∙ (c.join_back.ensures.whole (subst (λ (l : List Event). IsTrue (is_complete l)) popped whole) ∙ pushed);
     } in (
-      map-set_same (λ (t : Taker). t.queue) _ _ _ _ c.join_back.ensures.same.0 ∙ inv.0,
-      map-set_same (λ (t : Taker). t.popped) _ _ _ _ c.join_back.ensures.same.1 ∙ inv.1,
+      map-set_same (λ (t : Taker). t.queue) inlets q c.join_back.new.self item (c.join_back.ensures.same.0 ∙ ap (λ (t : Taker). t.queue) c.index_mut.ensures.value) ∙ inv.0,
+      map-set_same (λ (t : Taker). t.popped) inlets q c.join_back.new.self item (c.join_back.ensures.same.1 ∙ ap (λ (t : Taker). t.popped) c.index_mut.ensures.value) ∙ inv.1,
       here.1,
       λ rest. inv.3 (subst (ArePopped (pops_of init)) (sym items) (mine, rest)),
     )
@@ -54,7 +58,7 @@ loop-receipt-preserved g c =
 pub loop-receipt-init : goal.loop-receipt-init
 loop-receipt-init g c =
     let gives = c.into_iter-receipt-iterator.ensures.into_iter_gives.0 in
-    (refl, refl, subst (AreHere (intakes_of c.args.inlets.now)) (sym gives) c.requires.here, λ whole. subst (ArePopped (pops_of c.args.inlets.now)) gives whole)
+    (refl, refl, subst (AreHere (intakes_of c.args.inlets.now.items)) (sym gives) c.requires.here, λ whole. subst (ArePopped (pops_of c.args.inlets.now.items)) gives whole)
 
 pub loop-receipt-smaller : goal.loop-receipt-smaller
 loop-receipt-smaller g c = omega (arith, c.in-Some.ensures.steps.1)
@@ -63,21 +67,24 @@ pub returns : goal.returns
 returns g c =
     let left = c.loop-receipt.receipt-iterator in
     let over : into_iter_items left ≡ [] = nothing_left (into_iter_items left) (sym left.rest.ok.0 ∙ c.in-None.ensures.steps.0) in
-    c.loop-receipt.invariant.3 (subst (ArePopped (pops_of c.args.inlets.now)) (sym over) tt)
+    c.loop-receipt.invariant.3 (subst (ArePopped (pops_of c.args.inlets.now.items)) (sym over) tt)
 
 pub join_back-requires : goal.join_back-requires
 join_back-requires g c =
     let inv = c.loop-receipt.invariant in
-    let init = c.args.inlets.now in
-    let inlets = c.loop-receipt.inlets in
-    let item = c.index-inlets-queue.result in
+    let init = c.args.inlets.now.items in
+    let inlets = c.loop-receipt.inlets.items in
+    let item = c.index_mut.result.now in
     let r = c.in-Some.receipt in
     let here = subst (AreHere (intakes_of init)) c.in-Some.ensures.steps.0 inv.2 in
-    let some : 0 < length inlets = omega (arith, c.requires.some, c.loop-receipt.auto.inlets) in
+    let count : length inlets ≡ length init = sym (length-map inlets (λ (t : Taker). t.queue)) ∙ (ap length inv.0 ∙ length-map init (λ (t : Taker). t.queue)) in
+    let some : 0 < length inlets = omega (arith, c.requires.some, count) in
+    let len : c.len.result ≡ length inlets = search rules in
+    let at : item ≡ get_or inlets (c.from.result % length inlets) item = c.index_mut.ensures.value ∙ ap (λ n. get_or inlets (c.from.result % n) item) len in
     let group : c.from.result ≡ r.group = c.from.ensures ∙ c.group.ensures in
     ap (λ (s : Seat). s.queue) c.into_seat.ensures.seat
     ∙ (same_some r.queue (get_or inlets (r.group % length inlets) item).queue (sym here.0 ∙ queue_at inlets (intakes_of init) r.group item inv.0 some)
-    ∙ ap (λ n. (get_or inlets (n % length inlets) item).queue) (sym group))
+    ∙ (ap (λ n. (get_or inlets (n % length inlets) item).queue) (sym group) ∙ ap (λ (u : Taker). u.queue) (sym at)))
 
 pub next-requires : goal.next-requires
 next-requires g c = tt

@@ -6,6 +6,6 @@ use Rattle.gr_detector.proofs.joins.join_intakes.Given as goal
 
 abbrev pub invariant-loop-receipt : goal.invariant-loop-receipt
 invariant-loop-receipt g l =
-    (intakes_of l.inlets ≡ intakes_of l.fn.inlets) × (pops_of l.inlets ≡ pops_of l.fn.inlets)
-    × AreHere (intakes_of l.fn.inlets) (into_iter_items l.receipt-iterator)
-    × (ArePopped (pops_of l.fn.inlets) (into_iter_items l.receipt-iterator) → ArePopped (pops_of l.fn.inlets) l.fn.receipts.items)
+    (intakes_of l.inlets.items ≡ intakes_of l.fn.inlets.items) × (pops_of l.inlets.items ≡ pops_of l.fn.inlets.items)
+    × AreHere (intakes_of l.fn.inlets.items) (into_iter_items l.receipt-iterator)
+    × (ArePopped (pops_of l.fn.inlets.items) (into_iter_items l.receipt-iterator) → ArePopped (pops_of l.fn.inlets.items) l.fn.receipts.items)

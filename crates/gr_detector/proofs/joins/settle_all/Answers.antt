@@ -1,9 +1,9 @@
-use Rattle.std.proofs.Common.{◌≡◌, ◌∙◌, ◌++◌, ◌∷◌, [], List, refl, rules, arith, length, ap, sym, subst, append-nil, append_assoc}
+use Rattle.std.proofs.Common.{◌≡◌, ◌∙◌, ◌++◌, ◌∷◌, [], List, suc, refl, rules, arith, length, ap, sym, subst, append-nil, append_assoc}
 use Rattle.std.specs.Prelude.{IfOk}
 use Rattle.std.specs.Vec.Iter.{into_iter_items}
 use Rattle.gr_model.specs.Reports.{Lists, WordBelow}
 use Rattle.gr_route.specs.WorkSeats.{Giver}
-use Rattle.gr_sequencer_thread.specs.Feeds.{given_of, works_of}
+use Rattle.gr_sequencer_thread.specs.Feeds.{AreStopped, given_of, works_of}
 use Rattle.gr_shadow.specs.Clashes.{ClockedAccess}
 use Rattle.gr_threads.specs.Given.{accesses_in}
 use Rattle.gr_detector.specs.Runs.{worker_queues}
@@ -25,7 +25,8 @@ nothing_left (x ∷ xs) e = absurd (omega (arith, e))
 pub loop-worker-init : goal.loop-worker-init
 loop-worker-init g c =
     let none : c.new.result.items ≡ [] = search rules in
-    (search rules, search rules, ([], search rules, subst (Lists WordBelow (IsHitAmong [])) (sym none) none_among))
+    let all : into_iter_items c.into_iter-left.result ≡ c.args.outlets.items = search rules in
+    (search rules, search rules, ([], search rules, subst (Lists WordBelow (IsHitAmong [])) (sym none) none_among), subst (λ (gs : List (Giver g.row.A.Denot)). AreStopped gs) (sym all) c.requires.stopped)
 
 pub loop-worker-preserved : goal.loop-worker-preserved
 loop-worker-preserved g c =
@@ -37,7 +38,7 @@ loop-worker-preserved g c =
     let x = accesses_in c.into_seat.result.pushed in
     let here : (old.0 ++ x ∷ []) ++ given_of rest ≡ old.0 ++ given_of (into_iter_items c.loop-worker.left) =
     append_assoc old.0 (x ∷ []) (given_of rest) ∙ ap (λ (l : List (List ClockedAccess)). old.0 ++ l) (ap (λ (u : Giver g.row.A.Denot). accesses_in u.pushed ∷ given_of rest) seat ∙ ap given_of (sym items)) in
-    (search rules, omega (arith, c.in-Some.ensures.steps.1, ap length c.in-Some.ensures.steps.0, c.loop-worker.invariant.1), (old.0 ++ x ∷ [], here ∙ old.1, c.merge_all-words.ensures old.0 x old.2 c.settle-more.ensures))
+    (search rules, omega (arith, c.in-Some.ensures.steps.1, ap length c.in-Some.ensures.steps.0, c.loop-worker.invariant.1), (old.0 ++ x ∷ [], here ∙ old.1, c.merge_all-words.ensures old.0 x old.2 c.settle-more.ensures), λ k d within. subst (λ (gs : List (Giver g.row.A.Denot)). AreStopped gs) items c.loop-worker.invariant.3 (suc k) d (omega (arith, within)))
 
 pub returns : goal.returns
 returns g c =
@@ -66,3 +67,9 @@ unreachable-requires g c =
     let none : into_iter_items left ≡ [] = nothing_left (into_iter_items left) (sym left.rest.ok.0 ∙ c.in_default.ensures.cases.0) in
     let both = ap worker_queues (sym c.in-Some.ensures.steps.0) ∙ (c.loop-worker.invariant.0 ∙ ap works_of none) in
     omega (arith, ap length both)
+
+pub into_seat-requires : goal.into_seat-requires
+into_seat-requires g c =
+    let o = c.in-Some-next.outlet in
+    let items : into_iter_items c.loop-worker.left ≡ o ∷ into_iter_items c.next-in-loop-worker.new.self = search rules in
+    subst (λ (gs : List (Giver g.row.A.Denot)). AreStopped gs) items c.loop-worker.invariant.3 0 o (omega arith)

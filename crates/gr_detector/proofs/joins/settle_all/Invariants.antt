@@ -1,7 +1,9 @@
-use Rattle.std.proofs.Common.{◌≡◌, ◌++◌, List, length}
-use Rattle.std.specs.Prelude.{IfOk}
+use Rattle.std.proofs.Common.{◌≡◌, ◌<◌, ◌++◌, ℕ, List, length, IsTrue}
+use Rattle.std.specs.Prelude.{IfOk, slice_index_or}
 use Rattle.std.specs.Vec.Iter.{into_iter_items, into_iter_len}
 use Rattle.gr_model.specs.Reports.{Lists, WordBelow}
+use Rattle.gr_route.specs.WorkRule.{is_stopped}
+use Rattle.gr_route.specs.WorkSeats.{Giver}
 use Rattle.gr_sequencer_thread.specs.Feeds.{given_of, works_of}
 use Rattle.gr_shadow.specs.Clashes.{ClockedAccess}
 use Rattle.gr_detector.specs.Runs.{worker_queues}
@@ -13,3 +15,4 @@ invariant-loop-worker g l =
     (worker_queues (into_iter_items l.worker-iterator) ≡ works_of (into_iter_items l.left))
     × (into_iter_len l.worker-iterator ≡ length (into_iter_items l.worker-iterator))
     × ((seen : List (List ClockedAccess)) × (seen ++ given_of (into_iter_items l.left) ≡ given_of l.fn.outlets.items) × IfOk l.words (λ v. Lists WordBelow (IsHitAmong seen) v.items))
+    × ((k : ℕ) (d : Giver g.row.A.Denot) → k < length (into_iter_items l.left) → IsTrue (is_stopped (slice_index_or (into_iter_items l.left) k d).pushed))

@@ -14,7 +14,7 @@ pub loop-group-init : goal.loop-group-init
 loop-group-init g c = record {
   intakes = refl;
   unpopped = c.requires.unpopped;
-  seated = none_seated c.args.shape.now c.args.inlets.now c.requires.unseated;
+  seated = none_seated c.args.shape.now c.args.inlets.now.items c.requires.unseated;
   count = ap length c.new-senders.ensures.items;
   opened = λ h d lt. absurd (omega (arith, lt));
 }
@@ -24,26 +24,29 @@ loop-group-preserved g c =
     let inv = c.loop-group.invariant in
     let n = c.loop-group.group in
     let sizes = c.args.shape.now in
-    let init = c.args.inlets.now in
-    let inlets = c.loop-group.inlets in
-    let t = c.index-inlets-queue.result in
+    let init = c.args.inlets.now.items in
+    let inlets = c.loop-group.inlets.items in
+    let t = c.index_mut.result.now in
     let s = c.in_ok-sender.field-0 in
     let from : c.from.result ≡ n = c.from.ensures in
-    let is : t ≡ get_or inlets (c.from.result % length inlets) t = c.index-inlets-queue.is in
-    let at : t ≡ get_or inlets (n % length inlets) t = is ∙ ap (λ m. get_or inlets (m % length inlets) t) from in
+    let q = c.from.result % c.len.result in
+    let len : c.len.result ≡ length inlets = search rules in
+    let place : q ≡ n % length inlets = ap (λ m. m % c.len.result) from ∙ ap (λ l. n % l) len in
+    let is : t ≡ get_or inlets q t = c.index_mut.ensures.value in
+    let at : t ≡ get_or inlets (n % length inlets) t = is ∙ ap (λ m. get_or inlets m t) place in
     let count : length inlets ≡ length init = sym (length-map inlets (λ (u : Taker). u.queue)) ∙ (ap length inv.intakes ∙ length-map init (λ (u : Taker). u.queue)) in
     let some : 0 < length inlets = omega (arith, c.requires.some, count) in
-    let there : c.from.result % length inlets < length inlets = mod-lt c.from.result some in
+    let there : q < length inlets = subst (λ m. m < length inlets) (sym place) (mod-lt n some) in
     let few : n < MOST_GROUPS = omega (arith, c.loop-group-test.true, c.groups-group-end.ensures.count, c.groups-group-end.ensures.shape.groups) in
     let made : c.sender.new.self ≡ seating t n (get_or sizes n 0) = (let raw : c.sender.new.self ≡ seating t n c.items.result = search rules in raw) ∙ ap (seating t n) c.items.ensures.size in
     let pushed : c.push.new.self.items ≡ c.loop-group.senders.items ++ s ∷ [] = c.in_ok-push.ensures.items in
     let made_sender : s ≡ record { queue = s.queue; group = n; items = c.items.result; records = MOST_RECORDS; sent = [] } = search rules in
     let queue : s.queue.queue ≡ t.queue = search rules in
     record {
-      intakes = map-set_same (λ (u : Taker). u.queue) inlets (c.from.result % length inlets) c.sender.new.self t (ap (λ (u : Taker). u.queue) (made ∙ refl) ∙ ap (λ (u : Taker). u.queue) is) ∙ inv.intakes;
-      unpopped = each_set (λ (u : Taker). u.popped ≡ []) inlets (c.from.result % length inlets) c.sender.new.self inv.unpopped (ap (λ (u : Taker). u.popped) made ∙ (ap (λ (u : Taker). u.popped) is ∙ inv.unpopped (c.from.result % length inlets) t there)) there;
-      seated = subst (λ (u : Taker). AreSeatedBelow (n + 1) sizes (set inlets (c.from.result % length inlets) u)) (sym made)
-          (subst (λ m. AreSeatedBelow (n + 1) sizes (set inlets (m % length inlets) (seating t n (get_or sizes n 0)))) (sym from) (seat_more n sizes inlets inv.seated few some t at));
+      intakes = map-set_same (λ (u : Taker). u.queue) inlets q c.sender.new.self t (ap (λ (u : Taker). u.queue) (made ∙ refl) ∙ ap (λ (u : Taker). u.queue) is) ∙ inv.intakes;
+      unpopped = each_set (λ (u : Taker). u.popped ≡ []) inlets q c.sender.new.self inv.unpopped (ap (λ (u : Taker). u.popped) made ∙ (ap (λ (u : Taker). u.popped) is ∙ inv.unpopped q t there)) there;
+      seated = subst (λ (u : Taker). AreSeatedBelow (n + 1) sizes (set inlets q u)) (sym made)
+          (subst (λ m. AreSeatedBelow (n + 1) sizes (set inlets m (seating t n (get_or sizes n 0)))) (sym place) (seat_more n sizes inlets inv.seated few some t at));
       count = omega (arith, ap length pushed, length-append c.loop-group.senders.items (s ∷ []), inv.count);
       opened = subst (AreOpenBelow (n + 1) sizes (intakes_of init)) (sym pushed)
           (open_more n sizes (intakes_of init) c.loop-group.senders.items s inv.count inv.opened (record {

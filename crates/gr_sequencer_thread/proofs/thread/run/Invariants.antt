@@ -1,5 +1,3 @@
-use Rattle.std.proofs.Common.{◌≡◌}
-use Rattle.gr_sequencer_thread.specs.Ends.{feed_line}
 use Rattle.gr_sequencer_thread.specs.Feeds.{IsSameRun}
 use Rattle.gr_sequencer_thread.proofs.thread.run.Given as goal
 

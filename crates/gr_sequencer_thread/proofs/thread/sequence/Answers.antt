@@ -1,18 +1,14 @@
-use Rattle.std.proofs.Common.{◌≡◌, ◌∙◌, ◌≤◌, ◌++◌, ℕ, List, None, IfOk, rules, arith, ap, sym, subst, length, take, drop, append-nil}
-use Rattle.std.proofs.lemmas.List.{drop_all, length-map, take_all}
+use Rattle.std.proofs.Common.{◌≡◌, ◌∙◌, ◌++◌, ℕ, List, None, IfOk, arith, ap, sym, subst, length, take, drop}
+use Rattle.std.proofs.lemmas.List.{length-map}
 use Rattle.gr_order.specs.Sequences.{Sequence, nothing}
 use Rattle.gr_route.specs.IntakeSeats.{Taker}
 use Rattle.gr_route.specs.WorkRule.{is_stopped}
 use Rattle.gr_route.specs.WorkSeats.{Giver}
 use Rattle.gr_sequencer_thread.specs.Ends.{Begin, End, IsEnd, begin_line, end_line, feed_line}
 use Rattle.gr_sequencer_thread.specs.Feeds.{AreOpen, Feed, IsFresh, intakes_of, works_of}
+use Rattle.gr_sequencer_thread.proofs.SameRuns.{whole_back}
 use Rattle.gr_sequencer_thread.proofs.thread.sequence.Goals as goal
 use Rattle.gr_sequencer_thread.proofs.thread.sequence.Goals.{in-Ok, in-Err}
-
-whole_back : {X : Type 0} (n : ℕ) (was now : List X) → length was ≡ n → length now ≡ length was → take n (now ++ drop (length now) was) ≡ now
-whole_back n was now all count =
-    ap (λ l. take n (now ++ l)) (drop_all (length now) was (omega (arith, count)))
-    ∙ (ap (take n) (append-nil now) ∙ take_all n now (omega (arith, all, count)))
 
 same_takers : (was now : List Taker) → intakes_of now ≡ intakes_of was → length now ≡ length was
 same_takers was now queues = sym (length-map now (λ (t : Taker). t.queue)) ∙ (ap length queues ∙ length-map was (λ (t : Taker). t.queue))
@@ -86,6 +82,7 @@ of-requires g c =
       config = c.queues.ensures.config;
       queues = taker_count ∙ c.begin.invariant.queues;
       worker_count = giver_count ∙ c.begin.invariant.worker_count;
+      stopped = c.stop_all.ensures.stopped;
       found = tt;
     }))
 

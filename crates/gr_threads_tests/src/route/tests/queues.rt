@@ -24,7 +24,7 @@ fn pushed_and_popped<R: Wait, A: Allocator + Copy>(
     rt: &R,
     queue: &Intake<A>,
     taker: &mut TakerSeat<A>,
-    seat: &mut IntakeSeat,
+    seat: &mut IntakeSeat<A>,
 ) -> Option<(Option<Event>, [Option<Sent>; 2])>
     requires queues { (taker.old.queue ≡ queue.now.queue) × (seat.old.queue ≡ queue.now.queue) }
     requires items { seat.old.items ≡ 2 }

@@ -1,4 +1,4 @@
-use Rattle.std.proofs.Common.{◌≡◌, ◌∙◌, ◌<◌, ◌++◌, ◌∷◌, [], List, Option, None, Some, rules, arith, ap, sym, subst, set, get_or, length}
+use Rattle.std.proofs.Common.{◌≡◌, ◌∙◌, ◌<◌, List, Option, None, Some, rules, arith, ap, sym, subst, set, get_or, length}
 use Rattle.std.specs.Option.{option_map}
 use Rattle.std.proofs.lemmas.List.{length-set, set-get_or}
 use Rattle.std.proofs.Math.Seq.{map-set_same}
@@ -41,8 +41,8 @@ invariant_of-self-in-Ok g c =
           };
     }
 
-pub invariant_of-self-in-Err-Access : goal.invariant_of-self-in-Err-Access
-invariant_of-self-in-Err-Access g c =
+pub invariant_of-self-in-Err : goal.invariant_of-self-in-Err
+invariant_of-self-in-Err g c =
     let outlets = c.self.inside.outlets.items in
     let k = c.from-worker.result in
     let x = c.in-Some.access in
@@ -50,9 +50,9 @@ invariant_of-self-in-Err-Access g c =
     let at : o ≡ get_or outlets k o = c.index_mut.ensures.value in
     let back : c.push.new.self ≡ o = search rules in
     let kept : set outlets k c.push.new.self ≡ outlets = ap (set outlets k) (back ∙ at) ∙ set-get_or outlets k o in
-    let same : c.in-Err-Access.access ≡ x = search rules in
-    let in_flight : option_map clocked c.self.inside.in_flight ≡ Some (clocked c.in-Err-Access.access) = ap (option_map clocked) (let is : c.self.inside.in_flight ≡ Some x = search rules in is) ∙ ap (λ a. Some (clocked a)) (sym same) in
-    subst (λ (gs : List (Giver g.row.A.Denot)). IsFeed (record { config = c.self.inside.config; sequence = c.self.inside.sequencer; takers = c.self.inside.inlets.items; givers = gs; in_flight = Some (clocked c.in-Err-Access.access); failed = c.self.inside.failed })) (sym kept)
+    let same : c.in-Err.field-0.0 ≡ x = search rules in
+    let in_flight : option_map clocked c.self.inside.in_flight ≡ Some (clocked c.in-Err.field-0.0) = ap (option_map clocked) (let is : c.self.inside.in_flight ≡ Some x = search rules in is) ∙ ap (λ a. Some (clocked a)) (sym same) in
+    subst (λ (gs : List (Giver g.row.A.Denot)). IsFeed (record { config = c.self.inside.config; sequence = c.self.inside.sequencer; takers = c.self.inside.inlets.items; givers = gs; in_flight = Some (clocked c.in-Err.field-0.0); failed = c.self.inside.failed })) (sym kept)
     (subst (λ (w : Option ClockedAccess). IsFeed {A = g.row.A.Denot} (record { config = c.self.inside.config; sequence = c.self.inside.sequencer; takers = c.self.inside.inlets.items; givers = outlets; in_flight = w; failed = c.self.inside.failed })) in_flight c.self.invariant)
 
 pub returns-in-Ok : goal.returns-in-Ok
@@ -68,8 +68,8 @@ returns-in-Ok g c =
       works = map-set_same (λ (u : Giver g.row.A.Denot). u.queue) outlets k c.push.new.self o queue ∙ ap (λ (f : Feed g.row.A.Denot). works_of f.givers) c.self.view_is;
     }
 
-pub returns-in-Err-Access : goal.returns-in-Err-Access
-returns-in-Err-Access g c =
+pub returns-in-Err : goal.returns-in-Err
+returns-in-Err g c =
     let outlets = c.self.inside.outlets.items in
     let k = c.from-worker.result in
     let o = c.index_mut.result.now in

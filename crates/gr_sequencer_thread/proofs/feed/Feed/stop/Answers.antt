@@ -1,23 +1,19 @@
-use Rattle.std.proofs.Common.{◌≡◌, ◌∙◌, ◌≤◌, ◌++◌, ℕ, List, Option, None, Some, false, refl, rules, arith, ap, sym, subst, length, take, drop, append-nil}
+use Rattle.std.proofs.Common.{◌≡◌, ◌∙◌, List, Option, None, Some, false, refl, ap, sym, subst, length}
 use Rattle.std.specs.Option.{option_map}
 use Rattle.std.specs.Prelude.{IfSome, OnSome}
-use Rattle.std.proofs.lemmas.List.{drop_all, length-map, take_all}
+use Rattle.std.proofs.lemmas.List.{length-map}
 use Rattle.gr_clocks.specs.ClockedAccess.{ClockedAccess, clocked}
 use Rattle.gr_model.specs.Reports.{IsReportButRaces, WholeReport}
 use Rattle.gr_model.specs.Streams.{AreComplete}
-use Rattle.gr_order.specs.Sequences.{IsDone, Sequence}
+use Rattle.gr_order.specs.Sequences.{IsDone}
 use Rattle.gr_steps.specs.Steps.{IsAtRest}
 use Rattle.gr_report.specs.declared.report.Report.{Report}
 use Rattle.gr_report.specs.Whole.{whole_of}
 use Rattle.gr_route.specs.WorkSeats.{Giver}
 use Rattle.gr_sequencer_thread.specs.Ends.{End, IsEnd, IsFound, end_line, feed_line}
 use Rattle.gr_sequencer_thread.specs.Feeds.{AreOpen, ArePassedOn, Feed, IsOver, IsFeedWhole, given_of, intakes_of, works_of}
+use Rattle.gr_sequencer_thread.proofs.SameRuns.{whole_back}
 use Rattle.gr_sequencer_thread.proofs.feed.Feed.stop.Goals as goal
-
-whole_back : {X : Type 0} (n : ℕ) (was now : List X) → length was ≡ n → length now ≡ length was → take n (now ++ drop (length now) was) ≡ now
-whole_back n was now all count =
-    ap (λ l. take n (now ++ l)) (drop_all (length now) was (omega (arith, count)))
-    ∙ (ap (take n) (append-nil now) ∙ take_all n now (omega (arith, all, count)))
 
 found_is : {Z : Type 0} (o : Option (Report Z)) (F : Type 0) (Q P : WholeReport → Type 0) → OnSome o F → IfSome o (λ r. Q (whole_of r)) → (F → (w : WholeReport) → Q w → P w) → IfSome (option_map whole_of o) P
 found_is None F Q P f q h = tt
@@ -58,6 +54,7 @@ of-requires g c =
       config = c.self.invariant.config;
       queues = c.self.invariant.queues;
       worker_count = count ∙ c.self.invariant.worker_count;
+      stopped = c.stop_all.ensures.stopped;
       found = found_is c.findings-report.result (c.self.inside.failed ≡ false) (IsReportButRaces seq.taken) (IsFound config c.args.shape takers now) c.findings-report.ensures.failed c.findings-report.ensures.report
           (λ f w is. record { sequence = seq; sizes_are = sizes; whole = whole f; report_is = is });
     })

@@ -3,6 +3,7 @@ use Rattle.gr_model.specs.declared.event.Event.{Event}
 use Rattle.gr_model.specs.declared.limits.TheConstants.{MOST_RECORDS}
 use Rattle.gr_record.specs.Decoding.{GrowsAs, parts_of, reading}
 use Rattle.gr_record.specs.Laws.{AreBytes}
+use Rattle.gr_sender.specs.Senders.{Sending}
 use Rattle.gr_streams.specs.Sending.{AreSent, events_in}
 use Rattle.gr_streams.proofs.SendingLemmas.{bytes_append, piece_events}
 use Rattle.gr_streams.proofs.forward.Forward.take.Goals as goal
@@ -19,6 +20,7 @@ returns-clause-fed g c = λ has fed f.
       bytes = bytes_append fed piece f.bytes fits;
       limit = c.feed-outcome.ensures.limit ∙ f.limit;
       stands = c.feed-outcome.ensures.stands has fed f.stands;
-      records = c.forward_all-self.ensures.same.records ∙ f.records;
-      sent = subst (λ (l : List Event). AreSent c.forward_all-self.new.sender.items l c.forward_all-self.new.sender.sent c.forward_all-self.result) (ap (λ l. (reading MOST_RECORDS fed).events ++ events_in l) c.as_slice.ensures.value ∙ sym events) sent;
+      records = ap (λ (s : Sending). s.records) c.flush.ensures ∙ (c.forward_all-self.ensures.same.records ∙ f.records);
+      sent = subst (λ (s : Sending). AreSent s.items (reading MOST_RECORDS (fed ++ piece)).events s.sent c.forward_all-self.result) (sym c.flush.ensures)
+          (subst (λ (l : List Event). AreSent c.forward_all-self.new.sender.items l c.forward_all-self.new.sender.sent c.forward_all-self.result) (ap (λ l. (reading MOST_RECORDS fed).events ++ events_in l) c.as_slice.ensures.value ∙ sym events) sent);
     }

@@ -1,0 +1,30 @@
+-- What goes through a queue in one step, and what of it waits before the queue or after it.
+-- Source: docs/QUEUES.md, "Batches".
+use Rattle.std.specs.Prelude.{◌≡◌, ◌-◌, List, [], ◌∷◌, ◌++◌, length, take, Option, None, Some, Vec}
+use Rattle.gr_route.specs.declared.batch.Content.{Content}
+use Rattle.gr_route.specs.declared.batch.Content.TheVariants.{One, Several}
+
+-- the values that batches hold, one batch after another
+abbrev pub all_of : {T : Type 0} → List (List T) → List T
+all_of [] = []
+all_of (b ∷ bs) = b ++ all_of bs
+
+-- what was handed out of values that were popped, where this is left of them
+abbrev pub front : {T : Type 0} → List T → List T → List T
+front popped rest = take (length popped - length rest) popped
+
+-- ---- what the types hold
+
+abbrev pub values_in : {T A : Type 0} → Content T A → List T
+values_in (One value) = value ∷ []
+values_in (Several values) = values.items
+
+abbrev pub values_waiting : {T A : Type 0} → Option (List T) → Option (Vec T A) → List T
+values_waiting (Some batch) waiting = batch
+values_waiting None None = []
+values_waiting None (Some values) = values.items
+
+-- no value waits beside a batch that was refused
+abbrev pub IsOutbox : {T A : Type 0} → Option (List T) → Option (Vec T A) → Type 0
+IsOutbox (Some batch) waiting = waiting ≡ None
+IsOutbox None waiting = Unit {0}

@@ -1,0 +1,248 @@
+//! What goes through a queue in one step: one value, or several.
+//!
+//! Each push costs the threads on both sides of a queue the same, whatever it brings. So a thread that has several values at
+//! hand pushes them together: they wait in an `Outbox`, go through the queue as one `Batch`, and are handed out one by one
+//! of a `Rest`.
+
+ghost use Rattle.std.specs.Prelude.{◌≡◌, List, [], ◌∷◌, ◌++◌, length, IfErr, IfNone, IfOk, IfSome, OnErr, OnOk};
+ghost use Rattle.gr_route.specs.Batches as spec;
+
+use std::alloc::{Allocator, Global};
+use std::marker::Model;
+use std::vec::IntoIter;
+
+/// How many values wait at most before they are pushed.
+const MOST_WAITING: usize = 256;
+
+/// What a batch holds.
+#[derive(Drop)]
+enum Content<T, A: Allocator> {
+    One(T),
+    Several(Vec<T, A>),
+}
+
+/// Values that go through a queue in one step, in their order: at least one. Contracts see the list of them.
+#[derive(Drop)]
+pub struct Batch<T, A: Allocator = Global> {
+    content: Content<T, A>,
+}
+
+impl<T, A: Allocator> Model for Batch<T, A> {
+    ghost use Rattle.std.specs.Prelude.{List, [], ◌≢◌};
+    ghost use Rattle.gr_route.specs.Batches as spec;
+
+    ghost Value = { List T };
+
+    ghost view = { λ b. spec.values_in b.content };
+
+    ghost invariant = { λ b. spec.values_in b.content ≢ [] };
+}
+
+impl<T: Drop, A: Allocator> Batch<T, A> {
+    /// One value. It takes no memory.
+    pub fn one(value: T) -> Batch<T, A>
+        ensures { result ≡ value ∷ [] }
+    {
+        Batch {
+            content: Content::One(value),
+        }
+    }
+
+    /// The values of a list, or `None` where it has none. It takes no memory.
+    pub fn of(values: Vec<T, A>) -> Option<Batch<T, A>>
+        ensures some { IfSome result (λ batch. batch ≡ values.items) }
+        ensures none { IfNone result (values.items ≡ []) }
+    {
+        if values.is_empty() {
+            return None;
+        }
+        Some(Batch {
+            content: Content::Several(values),
+        })
+    }
+
+    /// How many values there are.
+    pub fn len(&self) -> usize
+        ensures { result ≡ length self.now }
+    {
+        match &self.content {
+            Content::One(_) => 1,
+            Content::Several(values) => values.len(),
+        }
+    }
+
+    /// The first value. The others are let go.
+    pub fn into_first(self) -> T
+        ensures { (others : List T) × (self ≡ result ∷ others) }
+    {
+        match self.content {
+            Content::One(value) => value,
+            Content::Several(values) => {
+                let mut values = values.into_iter();
+                match values.next() {
+                    Some(first) => first,
+                    None => unreachable!(),
+                }
+            }
+        }
+    }
+
+    /// The first value. The others are what is left.
+    /// Requires: nothing was left.
+    pub fn open(self, rest: &mut Rest<T, A>) -> T
+        requires { rest.old ≡ [] }
+        ensures { self ≡ result ∷ rest.new }
+    {
+        match self.content {
+            Content::One(value) => value,
+            Content::Several(values) => {
+                rest.values = values.into_iter();
+                match rest.values.next() {
+                    Some(first) => first,
+                    None => unreachable!(),
+                }
+            }
+        }
+    }
+}
+
+/// What is left of a batch that was opened. Contracts see the list of it.
+#[derive(Drop)]
+pub struct Rest<T, A: Allocator = Global> {
+    values: IntoIter<T, A>,
+}
+
+impl<T, A: Allocator> Model for Rest<T, A> {
+    ghost use Rattle.std.specs.Prelude.{List};
+    ghost use Rattle.std.specs.Vec.Iter.{into_iter_items};
+
+    ghost Value = { List T };
+
+    ghost view = { λ r. into_iter_items r.values };
+}
+
+impl<T: Drop, A: Allocator> Rest<T, A> {
+    /// Nothing is left.
+    pub fn none(alloc: A) -> Rest<T, A>
+        ensures { result ≡ [] }
+    {
+        Rest {
+            values: Vec::new(alloc).into_iter(),
+        }
+    }
+
+    /// The next value, if one is left.
+    #[inline(always)]
+    pub fn next(&mut self) -> Option<T>
+        ensures some { IfSome result (λ value. self.old ≡ value ∷ self.new) }
+        ensures none { IfNone result ((self.old ≡ []) × (self.new ≡ [])) }
+    {
+        self.values.next()
+    }
+}
+
+/// Values that wait until they are pushed together. Contracts see the list of them.
+#[derive(Drop)]
+pub struct Outbox<T, A: Allocator = Global> {
+    // A batch that a full queue refused. While there is one, no value joins those that wait.
+    refused: Option<Batch<T, A>>,
+    // The values that wait, where no batch was refused.
+    waiting: Option<Vec<T, A>>,
+}
+
+impl<T, A: Allocator> Model for Outbox<T, A> {
+    ghost use Rattle.std.specs.Prelude.{List};
+    ghost use Rattle.gr_route.specs.Batches as spec;
+
+    ghost Value = { List T };
+
+    ghost view = { λ o. spec.values_waiting o.refused o.waiting };
+
+    ghost invariant = { λ o. spec.IsOutbox o.refused o.waiting };
+}
+
+impl<T: Drop, A: Allocator> Outbox<T, A> {
+    /// No value waits.
+    pub fn new() -> Outbox<T, A>
+        ensures { result ≡ [] }
+    {
+        Outbox {
+            refused: None,
+            waiting: None,
+        }
+    }
+
+    /// Takes out all values, as one batch, or `None` where no value waits.
+    pub fn take(&mut self) -> Option<Batch<T, A>>
+        ensures some { IfSome result (λ batch. batch ≡ self.old) }
+        ensures none { IfNone result (self.old ≡ []) }
+        ensures empty { self.new ≡ [] }
+    {
+        match self.refused.take() {
+            Some(batch) => Some(batch),
+            None => match self.waiting.take() {
+                Some(values) => Batch::of(values),
+                None => None,
+            },
+        }
+    }
+
+    /// Puts a batch back that was taken out, and refused.
+    pub fn put_back(&mut self, batch: Batch<T, A>)
+        requires { self.old ≡ [] }
+        ensures { self.new ≡ batch }
+    {
+        self.waiting = None;
+        self.refused = Some(batch);
+    }
+}
+
+impl<T: Drop, A: Allocator + Copy> Outbox<T, A> {
+    /// Adds a value to those that wait.
+    ///
+    /// # Errors
+    /// The value, where as many wait as may, or there is no memory for one more: it can be pushed after those that wait.
+    #[inline(always)]
+    pub fn add(&mut self, alloc: A, value: T) -> Result<(), T>
+        ensures ok { OnOk result (self.new ≡ self.old ++ value ∷ []) }
+        ensures err { IfErr result (λ back. back ≡ value) }
+        ensures unchanged { OnErr result (self.new ≡ self.old) }
+    {
+        if self.refused.is_some() {
+            return Err(value);
+        }
+        match &mut self.waiting {
+            Some(values) => {
+                if values.len() >= MOST_WAITING {
+                    return Err(value);
+                }
+                match values.push(value) {
+                    Ok(()) => Ok(()),
+                    Err(failed) => Err(failed.value),
+                }
+            }
+            None => {
+                self.waiting = Some(begun(alloc, value)?);
+                Ok(())
+            }
+        }
+    }
+}
+
+/// A list with a first value, and with room for all that may wait.
+///
+/// # Errors
+/// The value, where there is no memory for the list.
+#[cold]
+fn begun<T: Drop, A: Allocator>(alloc: A, value: T) -> Result<Vec<T, A>, T>
+    ensures ok { IfOk result (λ values. values.items ≡ value ∷ []) }
+    ensures err { IfErr result (λ back. back ≡ value) }
+{
+    match Vec::with_capacity(alloc, MOST_WAITING) {
+        Err(_) => Err(value),
+        Ok(mut values) => match values.push(value) {
+            Ok(()) => Ok(values),
+            Err(failed) => Err(failed.value),
+        },
+    }
+}
