@@ -35,6 +35,8 @@ def faults_of_facts(bodies):
 
 
 class WrongBodies(unittest.TestCase):
+    maxDiff = None
+
     def setUp(self):
         crates = {path.parent.parent.name for path in (TOP / "crates").glob("*/*/*.edit")}
         self.bodies = {crate: TOOL["bodies_of"](crate, []) for crate in sorted(crates)}
