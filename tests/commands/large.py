@@ -176,7 +176,8 @@ class Groups(ProgramTest):
         self.assert_run(self.gpurace("explain", "--long", "g", "16", *self.names), (line + long).encode(), 1)
 
     def test_races_of_64_groups_with_side_files(self):
-        """Items 0 and 31 of each group write 200 local words, no two of them side by side."""
+        """Items 0 and 31 of each group write 200 local words, no two of them side by side. The places of item 31's first 199 are known: each
+        is one of a kind with that of item 0, which is not. Then come the pairs of one place: that of word 16, and that of the last local words."""
         local = "".join(f"31 w l {2 * it}\n0 w l {2 * it}\n" for it in range(200))
         for number, name in enumerate(self.names):
             self.put(name, pack(f"group {number} items 32 launch 7\n31 rmw g 16 grp rlx\n{local}end\n"))
@@ -185,10 +186,15 @@ class Groups(ProgramTest):
         self.put("buffers", "".join(f"g {1_000 + it} 1 out\n" for it in range(10_000)).encode() + b"g 12 8 flags\n")
         ran = self.gpurace("races", "--places", "places", "--buffers", "buffers", *self.names)
         lines = ran.stdout.decode().splitlines()
-        self.assertEqual(lines[:2], ["kind global rmw rmw two groups words 1", "words global 16"])
-        self.assertRegex(lines[2], "^race global 16: ")
-        self.assertEqual(lines[3:6], ["buffer flags[4]", "first scan.cl:0", "second scan.cl:0"])
-        self.assertEqual((lines[-1], ran.returncode, ran.stderr), ("end kinds 2 races 12801 diverge 0 unmatched 0 held 0", 1, b""))
+        kind = "kind local write write one group words 64"
+        groups = "words " + " ".join(f"local {group} {{0}}" for group in range(5)) + " and 59 more"
+        pairs = [[kind, groups.format(2 * it), f"race local 0 {2 * it}: 0 0 {it} with 0 31 {it + 1}", f"second scan.cl:{it + 1}"] for it in range(199)]
+        self.assertEqual(lines[:4 * 199], [line for pair in pairs for line in pair])
+        self.assertEqual(lines[4 * 199:][:2], ["kind global rmw rmw two groups words 1", "words global 16"])
+        self.assertRegex(lines[4 * 199 + 2], "^race global 16: ")
+        self.assertEqual(lines[4 * 199 + 3:][:4], ["buffer flags[4]", "first scan.cl:0", "second scan.cl:0", kind])
+        self.assertEqual(lines[4 * 199 + 7:-1], [groups.format(398), "race local 0 398: 0 0 199 with 0 31 200"])
+        self.assertEqual((lines[-1], ran.returncode, ran.stderr), ("end kinds 201 races 12801 diverge 0 unmatched 0 held 0", 1, b""))
 
     def put_reads(self):
         """Item 0 of each group reads as many words as the group's number says."""

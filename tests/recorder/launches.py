@@ -42,22 +42,22 @@ class Launches(unittest.TestCase):
         """The accesses to tile[8] have places, those to tile[9] have none: two kinds."""
         self.assert_told([tile(0), tile(1)], SIDES, "found", f"""\
 race on tile[8] of 2 groups (2 words); on tile[8] of group 0
-    kernel.cl:5:20: read by group 0, item 0
-        tile[l] += tile[l + 8];
     kernel.cl:3:13: write by group 0, item 1
         tile[l] = input[l];
+    kernel.cl:5:20: read by group 0, item 0
+        tile[l] += tile[l + 8];
     {LOCAL}
 race on tile[9] of 2 groups (2 words); on tile[9] of group 0
-    unknown place: read by group 0, item 0
     unknown place: write by group 0, item 1
+    unknown place: read by group 0, item 0
     {LOCAL}
 """)
 
     def test_no_places_and_no_buffers(self):
         self.assert_told([tile(0)], {}, "found", f"""\
 race on local words 72..73 (2 words); on local word 72 of group 0
-    unknown place: read by group 0, item 0
     unknown place: write by group 0, item 1
+    unknown place: read by group 0, item 0
     {LOCAL}
 """)
 
@@ -94,9 +94,9 @@ race on tile[0] of 2 groups (2 words); on tile[0] of group 0
                    "group 1 items 1 launch 7 v2\n0 w g 200\n0 w g 128\n0 w g 5\nend\n"]
         self.assert_told(streams, SIDES, "found", f"""\
 race on input[5], global word 200 (2 words); on input[5]
+    unknown place: write by group 1, item 0
     kernel.cl:3:13: write by group 0, item 0
         tile[l] = input[l];
-    unknown place: write by group 1, item 0
     {HAND_OVER}
 race on output[0]
     kernel.cl:5:20: write by group 0, item 0
@@ -113,6 +113,20 @@ race on output[0]
 race on input[0], input[2] (2 words); on input[0]
     a.cl:1:1: write by group 0, item 0
     a.cl:2:1: read by group 0, item 1
+    {GLOBAL}
+""")
+
+    def test_a_harmless_race_hides_no_other_one(self):
+        """Both items store at line 2; behind the barrier item 0 stores at line 5 what item 1 reads at line 7."""
+        self.assert_told(["group 0 items 2 launch 7\n0 w g 0\n1 w g 0\n0 bar 3 g\n1 bar 3 g\n0 w g 0\n1 r g 0\nend\n"],
+                         {"buffers": "g 0 1 flag\n", "places": "0 0 0 a.cl:2:13\n0 1 0 a.cl:2:13\n0 0 2 a.cl:5:17\n0 1 2 a.cl:7:19\n"}, "found", f"""\
+race on flag[0]
+    a.cl:5:17: write by group 0, item 0
+    a.cl:7:19: read by group 0, item 1
+    {GLOBAL}
+race on flag[0]
+    a.cl:2:13: write by group 0, item 0
+    a.cl:2:13: write by group 0, item 1
     {GLOBAL}
 """)
 
@@ -139,13 +153,13 @@ race on tile[1] of group 0
         called at kernel.cl:6:5: put(tile, l, 1);
     {LOCAL}
 race on tile[6] of group 0
+    kernel.cl:2:14: write by group 0, item 1
+        tile[at] = value;
+        called at kernel.cl:7:5: put(tile, l + 1, 2);
     kernel.cl:2:14: write by group 0, item 0
         tile[at] = value;
         called at kernel.cl:7:5: put(tile, l + 1, 2);
         called at other.cl:9:1
-    kernel.cl:2:14: write by group 0, item 1
-        tile[at] = value;
-        called at kernel.cl:7:5: put(tile, l + 1, 2);
     {LOCAL}
 """)
 
@@ -269,8 +283,8 @@ divergent barrier, number 0 of group 0, and 1 more alike
     no barrier: item 2
     some work-items never reach it; 1 race follows from it
 race on input[0]
-    unknown place: read by group 0, item 0
     unknown place: write by group 0, item 1
+    unknown place: read by group 0, item 0
     the barrier at kernel.cl:3:1 between the two is divergent, and orders nothing
 """)
 
@@ -361,7 +375,7 @@ reason window: only groups 2 to 3 of 4 were recorded
                    "0 w g 6\n1 r g 6\n0 r g 40\n1 w g 40\nend\n", "group 1 items 2 launch 7\nend\n"]
         launch = self.judged(streams, {"info.txt": INFO, "kernel.cl": text, "buffers": "g 0 16 marks.byte\ng 32 16 other\nl 0 0 64 l_data\n"})
         self.assertEqual(sorted(it.title for it in launch.findings), [
-            "race on l_data[1].y, l_data[2] (5 words)", "race on marks[6]", "race on other[8]"])
+            "race on l_data[1].y, l_data[2] (5 words)", "race on marks[6], other[8] (2 words)"])
 
     def test_the_text_of_a_file_that_is_included(self):
         with tempfile.TemporaryDirectory() as folder:

@@ -81,7 +81,7 @@ class Statuses(Outputs):
     def test_a_doubtful_race_is_not_found(self):
         put_racy(self.kept, more="fence 2 kernel.cl:4:5\n")
         told = self.judge(status=2)
-        self.assertIn("gpurace-judge:     doubtful: race on tile[8] of group 0, at kernel.cl:5:20 and kernel.cl:3:13 (1 launch of sums)", told)
+        self.assertIn("gpurace-judge:     doubtful: race on tile[8] of group 0, at kernel.cl:3:13 and kernel.cl:5:20 (1 launch of sums)", told)
 
     def test_no_launch(self):
         self.kept.mkdir()
@@ -142,7 +142,7 @@ class Forms(Outputs):
         self.assertEqual((race["kind"], race["title"], race["cause"], race["launches"], race["words"]), ("race", "race on tile[8] of group 0", "no-barrier", 2, 1))
         self.assertEqual(race["buffers"], [{"buffer": "tile", "space": "local", "words": 16, "groups": 1, "spans": [[8, 8]]}])
         self.assertEqual([(it["what"], it["who"], it["place"], it["text"]) for it in race["accesses"]], [
-            ("read", "group 0, item 0", "kernel.cl:5:20", "tile[l] += tile[l + 8];"), ("write", "group 0, item 1", "kernel.cl:3:13", "tile[l] = input[l];")])
+            ("write", "group 0, item 1", "kernel.cl:3:13", "tile[l] = input[l];"), ("read", "group 0, item 0", "kernel.cl:5:20", "tile[l] += tile[l + 8];")])
         self.assertEqual([divergence["kind"], divergence["cause"], outside["kind"]], ["divergence", "missing", "out-of-bounds"])
         self.assert_valid(made, TOP / "docs" / "record.schema.json")
 
@@ -157,7 +157,7 @@ class Forms(Outputs):
         self.assertEqual(race["message"]["text"], "race on tile[8] of group 0: nothing orders the two; a barrier with CLK_LOCAL_MEM_FENCE between them would")
         places = [it["physicalLocation"] for it in race["locations"] + race["relatedLocations"]]
         self.assertEqual([(it["artifactLocation"]["uri"], it["region"]["startLine"], it["region"]["startColumn"]) for it in places],
-                         [("sums/kernel.cl", 5, 20), ("sums/kernel.cl", 3, 13)])
+                         [("sums/kernel.cl", 3, 13), ("sums/kernel.cl", 5, 20)])
         self.assertEqual([it["contents"]["text"] for it in run["artifacts"]], [KERNEL] * 3)
         self.assert_valid(made, TOP / "tests" / "recorder" / "sarif.schema.json")
 
@@ -256,7 +256,7 @@ class Known(Outputs):
             {"kind": "race", "kernel": "sums", "buffers": ["tile"], "cause": "no-barrier", "texts": ["tile[l] += tile[l + 8];", "tile[l] = input[l];"]}]})
         told = self.judge("--baseline", "known.json", "--json", "made.json", "--sarif", "made.sarif", "--junit", "made.xml", status=0)
         self.assertIn("launch 0, sums: nothing new found (1 group of 2 work-items, 9 records)", told)
-        self.assertEqual([line for line in told if line.startswith("    race on")], ["    race on tile[8] of group 0 (known), at kernel.cl:5:20 and kernel.cl:3:13"])
+        self.assertEqual([line for line in told if line.startswith("    race on")], ["    race on tile[8] of group 0 (known), at kernel.cl:3:13 and kernel.cl:5:20"])
         self.assertNotIn("tile[l] += tile[l + 8];", "".join(told))  # known ones are told by a line each
         self.assertEqual(told[-3:-1], ["gpurace-judge: nothing new found", "gpurace-judge: 1 known finding of known.json"])
         self.assertIn("1 launch: 0 with findings, 1 with known ones, 0 without, 0 not judged whole", told[-1])
@@ -310,7 +310,7 @@ class Known(Outputs):
         put_racy(self.kept, 1)
         (self.room / "quiet").write_text("# of the sums\n\nkernel sum* buffer tile place kernel.cl:3:* -- known to its author\nkernel other -- never\n")
         told = self.judge("--suppress", "quiet", "--json", "made.json", "--sarif", "made.sarif", status=0)
-        self.assertIn("    race on tile[8] of group 0 (suppressed: known to its author), at kernel.cl:5:20 and kernel.cl:3:13", told)
+        self.assertIn("    race on tile[8] of group 0 (suppressed: known to its author), at kernel.cl:3:13 and kernel.cl:5:20", told)
         self.assertIn("gpurace-judge: quiet, line 3: suppressed 2 times: known to its author", told)
         self.assertIn("gpurace-judge: quiet, line 4: matched nothing: never", told)
         self.assertEqual(self.made("made.json")["suppressions"], [
