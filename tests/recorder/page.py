@@ -22,8 +22,8 @@ const told = [];
 const rows = () => [...document.querySelectorAll("#table tbody tr")].filter(row => !row.hidden).map(row => row.cells[0].textContent).join();
 const filter = document.getElementById("filter"), state = document.getElementById("state");
 told.push(rows());
-document.querySelectorAll("#table th button")[2].click(); told.push(rows());
-document.querySelectorAll("#table th button")[2].click(); told.push(rows());
+document.querySelectorAll("#table th button")[3].click(); told.push(rows());
+document.querySelectorAll("#table th button")[3].click(); told.push(rows());
 filter.value = "tile sums"; filter.dispatchEvent(new Event("input")); told.push(rows());
 filter.value = ""; state.value = "doubtful"; state.dispatchEvent(new Event("input")); told.push(rows());
 told.push(document.documentElement.scrollWidth > innerWidth ? "too wide" : "fits");
@@ -91,6 +91,7 @@ class Page(unittest.TestCase):
         self.assertIn("barrier 1 (local)", self.text)
         self.assertIn("does not come", self.text)
         self.assertIn('class="badge doubtful">doubtful<', self.text)
+        self.assertIn('<td class="wide">kernel.cl:3:13, kernel.cl:5:20</td>', self.text)
 
     def test_it_needs_nothing_else(self):
         self.assertEqual(re.findall(r'(?:src|href)="(?!#|data:)|@import|url\((?!data:)', self.text), [])
