@@ -206,8 +206,8 @@ const LONG_RUN: &str = "\
 Reports on the trace in files, by several threads: what is written and the status are those of replay on the same streams.
 
 Each file has a thread that reads it and sends its records on; one thread puts all records in order; workers look for races.
-So the files may be pipes that are still being written; where the whole trace is there already, replay takes less time. A file
-that cannot be opened is told first, and then the headers' faults, in the order of the files.";
+So the files may be pipes that are still being written. Where the whole trace is there already, replay takes less processor time.
+A file that cannot be opened is told first, and then the headers' faults, in the order of the files.";
 
 const AFTER_RUN: &str = "\
 Example:
