@@ -61,7 +61,7 @@ fn start_two<R: Threads + Wait + Clock + Copy + Send + 'static>(
 }
 
 /// Room for the receipts of a run.
-fn room(heap: Heap) -> Result<Vec<Receipt, Heap>, Ended>
+fn room(heap: Heap) -> Result<Vec<Receipt<Heap>, Heap>, Ended>
     ensures { IfOk result (λ v. v.items ≡ []) }
 {
     match Vec::with_capacity(heap, 2) {
@@ -82,7 +82,7 @@ fn ended_of<A: Allocator>(error: &FinishError<A>) -> Ended {
 fn finish_two<R: Threads, A: Allocator + Copy>(
     rt: &R,
     running: Running<A>,
-    receipts: Vec<Receipt, A>,
+    receipts: Vec<Receipt<A>, A>,
 ) -> Result<Report<A>, Ended>
     requires { AreReceiptsOf running receipts.items }
 {
@@ -96,9 +96,9 @@ fn finish_two<R: Threads, A: Allocator + Copy>(
 fn report_two<R: Threads, A: Allocator + Copy>(
     rt: &R,
     running: Running<A>,
-    receipts: Vec<Receipt, A>,
-    first: Option<Receipt>,
-    second: Option<Receipt>,
+    receipts: Vec<Receipt<A>, A>,
+    first: Option<Receipt<A>>,
+    second: Option<Receipt<A>>,
 ) -> Result<Report<A>, Ended>
     requires none { receipts.items ≡ [] }
     requires first { IfSome first (IsReceipt running) }
@@ -116,7 +116,7 @@ fn send_two<R: Threads + Wait + Sync>(
     rt: &R,
     running: &Running<Heap>,
     senders: Vec<Sender<Heap>, Heap>,
-) -> (Option<Receipt>, Option<Receipt>)
+) -> (Option<Receipt<Heap>>, Option<Receipt<Heap>>)
     requires { All (IsSender running.now) senders.items }
     ensures first { IfSome result.0 (IsReceipt running.now) }
     ensures second { IfSome result.1 (IsReceipt running.now) }
@@ -132,7 +132,7 @@ fn end_two<R: Threads + Wait + Sync>(
     rt: &R,
     running: Running<Heap>,
     senders: Vec<Sender<Heap>, Heap>,
-    receipts: Vec<Receipt, Heap>,
+    receipts: Vec<Receipt<Heap>, Heap>,
 ) -> Result<Report<Heap>, Ended>
     requires senders { All (IsSender running) senders.items }
     requires none { receipts.items ≡ [] }

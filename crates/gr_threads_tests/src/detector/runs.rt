@@ -112,8 +112,8 @@ pub struct NotKept;
 /// Adds a receipt to others of the same run.
 pub fn add<A: Allocator>(
     running: &Running<A>,
-    receipts: &mut Vec<Receipt, A>,
-    receipt: Option<Receipt>,
+    receipts: &mut Vec<Receipt<A>, A>,
+    receipt: Option<Receipt<A>>,
 ) -> Result<(), NotKept>
     requires all { AreReceiptsOf running.now receipts.old.items }
     requires one { IfSome receipt (IsReceipt running.now) }
@@ -129,9 +129,9 @@ pub fn add<A: Allocator>(
 /// Adds two receipts to others of the same run.
 pub fn add_both<A: Allocator>(
     running: &Running<A>,
-    receipts: &mut Vec<Receipt, A>,
-    first: Option<Receipt>,
-    second: Option<Receipt>,
+    receipts: &mut Vec<Receipt<A>, A>,
+    first: Option<Receipt<A>>,
+    second: Option<Receipt<A>>,
 ) -> Result<(), NotKept>
     requires all { AreReceiptsOf running.now receipts.old.items }
     requires first { IfSome first (IsReceipt running.now) }

@@ -31,7 +31,11 @@ pub fn sends<R: Wait + Clock, A: Allocator>(rt: &R, sender: &mut Sender<A>, even
 }
 
 /// Closes a sender that may be open, and gives its receipt.
-pub fn close<R: Wait + Clock, A: Allocator>(rt: &R, sender: Sender<A>, cut: bool) -> Option<Receipt>
+pub fn close<R: Wait + Clock, A: Allocator>(
+    rt: &R,
+    sender: Sender<A>,
+    cut: bool,
+) -> Option<Receipt<A>>
     ensures { IfSome result (IsReceiptOf sender) }
 {
     let mut sender = sender;
@@ -46,7 +50,7 @@ pub fn send_all<R: Wait + Clock, A: Allocator>(
     kind: Kind,
     first: u32,
     count: u32,
-) -> Option<Receipt>
+) -> Option<Receipt<A>>
     ensures { IfSome result (IsReceiptOf sender) }
 {
     let mut sender = sender;
@@ -63,7 +67,7 @@ pub fn send_both<R: Threads + Wait + Clock + Sync, A: Allocator + Send + Sync>(
     rt: &R,
     first: Sender<A>,
     second: Sender<A>,
-) -> (Option<Receipt>, Option<Receipt>)
+) -> (Option<Receipt<A>>, Option<Receipt<A>>)
     ensures first { IfSome result.0 (IsReceiptOf first) }
     ensures second { IfSome result.1 (IsReceiptOf second) }
 {

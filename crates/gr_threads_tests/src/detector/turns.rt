@@ -48,7 +48,7 @@ fn send_all_in_turns<R: Wait, A: Allocator>(
     kind: Kind,
     first: u32,
     count: u32,
-) -> Option<Receipt>
+) -> Option<Receipt<A>>
     ensures { IfSome result (IsReceiptOf sender) }
 {
     let mut sender = sender;
@@ -69,7 +69,7 @@ pub fn send_both_in_turns<R: Threads + Wait + Sync, A: Allocator + Send + Sync>(
     rt: &R,
     first: Sender<A>,
     second: Sender<A>,
-) -> (Option<Receipt>, Option<Receipt>)
+) -> (Option<Receipt<A>>, Option<Receipt<A>>)
     ensures first { IfSome result.0 (IsReceiptOf first) }
     ensures second { IfSome result.1 (IsReceiptOf second) }
 {
