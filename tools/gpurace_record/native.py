@@ -32,7 +32,8 @@ def build(say: Callable[[str], None]) -> str:
     if missing:  # programs are compiled with them, too
         raise Missing(f"packages are missing (Debian: apt-get install {' '.join(missing)})")
     sources = [os.path.join(folder, name) for folder, _, names in os.walk(os.path.join(RECORDER, "src")) for name in names]
-    sources += [os.path.join(RECORDER, "Makefile"), *(os.path.join(TOOLS, "recorder", name) for name in ("components.h", "window.h"))]
+    shared = os.path.join(TOOLS, "recorder")
+    sources += [os.path.join(RECORDER, "Makefile"), *(os.path.join(shared, name) for name in os.listdir(shared) if name.endswith(".h"))]
     recording.build("the recorder", "a minute", RECORDER, out, ["layer.so", "instrument-kernels"], sources, [], say)
     return out
 

@@ -29,7 +29,7 @@ def find(program: str) -> str:
 def build(say: Callable[[str], None]) -> str:
     """The plugin, built where it is missing or older than its sources."""
     out = os.path.join(RECORDER, "out") if os.access(RECORDER, os.W_OK) else cache()
-    sources = [os.path.join(RECORDER, name) for name in ("recorder.cpp", "write_launch.cpp", "calls.h", "components.h", "launch.h", "settings.h", "window.h", "Makefile")]
+    sources = [os.path.join(RECORDER, name) for name in os.listdir(RECORDER) if name.endswith((".cpp", ".h")) or name == "Makefile"]
     sources.append(os.path.join(TOOLS, "gpurace_trace.h"))
     recording.build("the plugin", "half a minute", RECORDER, out, ["recorder.so"], sources, missing_of(NEEDED), say)
     return os.path.join(out, "recorder.so")

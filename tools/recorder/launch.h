@@ -3,23 +3,16 @@
 #ifndef GPURACE_RECORDER_LAUNCH_H
 #define GPURACE_RECORDER_LAUNCH_H
 
+#include "names.h"
 #include "settings.h"
+#include "texts.h"
 
-#include <array>
 #include <deque>
 #include <map>
 #include <unordered_map>
 #include <utility>
 
 namespace gpurace {
-
-// A release operation: the number counts the item's release operations, whatever number of words each has.
-struct Release {
-    uint32_t group;
-    uint16_t item;
-    uint8_t scope;
-    uint32_t number;
-};
 
 struct Record {
     uint64_t offset;    // in the buffer; of a barrier its site
@@ -31,8 +24,8 @@ struct Record {
     uint8_t kind, space, scope, order; // as in gpurace_trace.h
 
     bool is_access() const { return kind <= GPURACE_RMW; }
-    bool acquires() const { return order == GPURACE_ACQUIRE || order == GPURACE_BOTH; }
-    bool releases() const { return order == GPURACE_RELEASE || order == GPURACE_BOTH; }
+    bool acquires() const { return gpurace::acquires(order); }
+    bool releases() const { return gpurace::releases(order); }
 };
 
 // The asynchronous copies of a group that were begun and are not done.
@@ -109,30 +102,13 @@ struct Buffer {
 struct Size {
     uint64_t x = 1, y = 1, z = 1;
     uint64_t count() const { return x * y * z; }
+    Sizes all() const { return {x, y, z}; }
     uint64_t index_of(uint64_t i, uint64_t j, uint64_t k) const { return i + x * (j + y * k); }
 };
 
 // What the report of this launch does not speak of.
 struct Losses {
     uint64_t fences = 0, unknown_orders = 0, names_outside_window = 0, accesses_of_parts_of_words = 0;
-};
-
-// Where an access is in relation to the end of a buffer, or else to its start.
-inline std::string told_outside(const std::string &name, uint64_t size, uint64_t offset, uint64_t before) {
-    const auto bytes = [](uint64_t count) { return std::to_string(count) + (count == 1 ? " byte" : " bytes"); };
-    const std::string where = before > 0       ? bytes(before) + " before the start of "
-                              : offset < size  ? "partly behind the end of "
-                              : offset == size ? "right behind the end of "
-                                               : bytes(offset - size) + " behind the end of ";
-    return where + name + ", which has " + bytes(size);
-}
-
-// The accesses of one place that are in no buffer: how many, and the first one.
-struct Outside {
-    uint64_t count = 0;
-    Record first{};
-    uint32_t group = 0;
-    std::string where;
 };
 
 // An instruction, or a debug location, and the place of the call that leads there.
@@ -157,7 +133,7 @@ struct Launch {
     std::vector<std::string> places;
     std::unordered_map<Reached, uint32_t, Reached::Hash> place_of; // by instruction
     std::unordered_map<Reached, uint32_t, Reached::Hash> site_of;  // by debug location
-    std::vector<std::vector<Release>> names;
+    std::vector<Names> names; // their numbers count release operations, whatever number of words each has
     std::array<std::map<uint32_t, Buffer>, 2> buffers;    // by space, by number
     Losses losses;
     std::map<uint32_t, Outside> outside;                  // by place
@@ -179,34 +155,23 @@ public:
     // 0 for global memory or 1 more than the group, and the address
     using Word = std::pair<uint64_t, uint64_t>;
 
-    std::vector<Release> heads(const Word &word) const {
+    Names heads(const Word &word) const {
         auto found = heads_.find(word);
-        return found == heads_.end() ? std::vector<Release>() : found->second;
+        return found == heads_.end() ? Names() : found->second;
     }
     // A plain write ends the sequences of all that it covers.
     void write(const Word &word, uint64_t size) {
         if (!heads_.empty()) heads_.erase(heads_.lower_bound(word), heads_.lower_bound({word.first, word.second + size}));
     }
-    // A store leaves the sequences of its own item alone, a read-modify-write leaves all.
     void modify(const Word &word, const Record &record, const Group &group, uint32_t release) {
-        std::vector<Release> &heads = heads_[word];
-        const auto is_own = [&](const Release &head) { return head.group == group.number && head.item == record.item; };
-        // Who acquires from this operation has what it acquired, and what its item did before it: those names would say
-        // nothing more. An operation that is not recorded takes nobody's place.
-        const auto is_implied = [&](const Release &head) {
-            const bool inclusive = head.scope == record.scope && (record.scope == GPURACE_DEVICE || head.group == group.number);
-            return group.is_kept && record.releases() && inclusive && (is_own(head) || record.order == GPURACE_BOTH);
-        };
-        const auto is_over = [&](const Release &head) {
-            return is_implied(head) || (record.kind == GPURACE_STORE && !is_own(head));
-        };
-        heads.erase(std::remove_if(heads.begin(), heads.end(), is_over), heads.end());
-        if (record.releases()) heads.push_back({group.number, record.item, record.scope, release});
+        Names &heads = heads_[word];
+        const Name own{group.number, record.item, record.scope, release};
+        change_heads(heads, own, record.kind == GPURACE_STORE, record.order, group.is_kept);
         if (heads.empty()) heads_.erase(word);
     }
 
 private:
-    std::map<Word, std::vector<Release>> heads_;
+    std::map<Word, Names> heads_;
 };
 
 // Writes the launch's folder; where `refusal` is not empty, one that says why the launch was not recorded.

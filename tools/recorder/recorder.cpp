@@ -4,6 +4,7 @@
 #include "calls.h"
 #include "components.h"
 #include "launch.h"
+#include "places.h"
 
 #include "oclgrind/Context.h"
 #include "oclgrind/Kernel.h"
@@ -14,7 +15,6 @@
 #include "oclgrind/WorkGroup.h"
 #include "oclgrind/WorkItem.h"
 
-#include "llvm/IR/DebugInfoMetadata.h"
 #include "llvm/IR/Function.h"
 #include "llvm/IR/Instructions.h"
 #include "llvm/Passes/PassBuilder.h"
@@ -22,7 +22,6 @@
 #include "llvm/Transforms/Scalar/GVN.h"
 #include "llvm/Transforms/Utils/Mem2Reg.h"
 
-#include <cctype>
 #include <memory>
 #include <optional>
 #include <stack>
@@ -31,8 +30,6 @@ namespace {
 
 using namespace gpurace;
 using namespace oclgrind;
-
-constexpr const char CALLED[] = " called at "; // behind a place, and before that of the call that leads there
 
 // An operation of opencl20_atomics.h that an item is in: the kind, order and scope that its arguments name.
 struct Explicit {
@@ -43,7 +40,7 @@ Size size_of(const Size3 &size) { return {size.x, size.y, size.z}; }
 
 class Recorder : public Plugin {
 public:
-    explicit Recorder(const Context *context) : Plugin(context), settings_(Settings::from_environment()) {}
+    explicit Recorder(const Context *context) : Plugin(context) {}
     ~Recorder() override { finish(); }
 
     // Writes what was recorded of the launch, if one is under way.
@@ -64,7 +61,7 @@ public:
         const uint32_t number = launches_++;
         const Kernel *kernel = kernel_ = invocation->getKernel();
         const bool is_wanted = (settings_.kernel.empty() || settings_.kernel == kernel->getName()) &&
-                               (settings_.launch < 0 || settings_.launch == long(number));
+                               (settings_.launch == UINT64_MAX || settings_.launch == number);
         if (!is_wanted) return;
         launch_ = std::make_unique<Launch>();
         launch_->number = number;
@@ -227,17 +224,9 @@ private:
         for (const llvm::Instruction *call : Open::of(item->getCallStack())) place = place_of(call, place);
         return place;
     }
-    // FILE:LINE:COLUMN, of what was inlined with its calls; it begins with no digit. The program's own text is input.cl to Oclgrind.
     static std::string text_of(const llvm::Instruction *instruction) {
         if (!instruction) return "unknown";
-        std::string text;
-        for (const llvm::DILocation *at = instruction->getDebugLoc().get(); at; at = at->getInlinedAt()) {
-            std::string file = at->getFilename().str();
-            if (file == "input.cl") file = "kernel.cl";
-            if (file.empty() || std::isdigit(static_cast<unsigned char>(file[0]))) file = "./" + file;
-            text += (text.empty() ? "" : CALLED) + file + ":" + std::to_string(at->getLine());
-            text += ":" + std::to_string(at->getColumn());
-        }
+        const std::string text = gpurace::text_of(instruction->getDebugLoc().get());
         return text.empty() ? "function " + instruction->getFunction()->getName().str() : text;
     }
 
@@ -256,7 +245,7 @@ private:
         const Record record = {offset, number, place, uint32_t(size), -1, item, kind, space, 0, 0};
         if (!memory->isAddressValid(address, size)) {
             Outside &outside = launch_->outside[place];
-            if (outside.count++ == 0) outside = {1, record, group.number, where(memory, space, address)};
+            if (outside.count++ == 0) outside = {1, kind, size, group.number, item, where(memory, space, address)};
             return std::nullopt;
         }
         Buffer &buffer = launch_->buffers[space][number];
@@ -381,8 +370,8 @@ private:
     // Gives an acquire the names of the releases from which its value comes.
     void name(const Group &group, Record &record) {
         if (!group.is_kept) return;
-        std::vector<Release> heads = sequences_.heads(word_of(group, record));
-        const auto is_outside = [&](const Release &head) { return !launch_->is_in_window(head.group); };
+        Names heads = sequences_.heads(word_of(group, record));
+        const auto is_outside = [&](const Name &head) { return !launch_->is_in_window(head.group); };
         const auto kept = std::remove_if(heads.begin(), heads.end(), is_outside);
         launch_->losses.names_outside_window += uint64_t(heads.end() - kept);
         heads.erase(kept, heads.end());

@@ -7,13 +7,10 @@
 #include <fstream>
 #include <iomanip>
 #include <set>
-#include <sstream>
 #include <sys/stat.h>
 
 namespace gpurace {
 namespace {
-
-std::ostream &operator<<(std::ostream &out, const Size &size) { return out << size.x << ' ' << size.y << ' ' << size.z; }
 
 int write_bytes(void *context, const unsigned char *bytes, size_t length) {
     std::ostream &out = *static_cast<std::ostream *>(context);
@@ -48,18 +45,14 @@ private:
     // of each item with releases, the number of the first record of each of its release operations
     std::map<std::pair<uint32_t, uint16_t>, std::vector<uint64_t>> first_record_;
 
-    // NUMBER-KERNEL, with .2, .3 .. behind it where another process of the program has that folder.
     bool make_folder() {
-        folder_ = settings_.out;
-        if (mkdir(folder_.c_str(), 0777) != 0 && errno != EEXIST) return false;
-        std::ostringstream name;
-        name << settings_.out << '/' << std::setw(3) << std::setfill('0') << launch_.number << '-' << launch_.kernel;
-        folder_ = name.str();
-        for (int copy = 2; mkdir(folder_.c_str(), 0777) != 0; copy++) {
-            if (errno != EEXIST) return false;
-            folder_ = name.str() + "." + std::to_string(copy);
-        }
-        return true;
+        if (mkdir(settings_.out.c_str(), 0777) != 0 && errno != EEXIST) return false;
+        bool is_made = false;
+        folder_ = folder_of(settings_.out, launch_.number, launch_.kernel, [&](const std::string &folder) {
+            is_made = mkdir(folder.c_str(), 0777) == 0;
+            return !is_made && errno == EEXIST;
+        });
+        return is_made;
     }
 
     // The grain of a buffer is the greatest of 4, 2 and 1 at which every access to it is of whole words. Buffers never share a
@@ -101,8 +94,8 @@ private:
     std::vector<gpurace_name> names(const Record &record, uint64_t word) const {
         std::vector<gpurace_name> names;
         if (record.names < 0) return names;
-        for (const Release &release : launch_.names[size_t(record.names)]) {
-            const auto found = first_record_.find({release.group, release.item});
+        for (const Name &release : launch_.names[size_t(record.names)]) {
+            const auto found = first_record_.find({release.group, uint16_t(release.item)});
             if (found != first_record_.end() && release.number < found->second.size())
                 names.push_back({launch_.window.number_of(release.group), release.item, found->second[release.number] + word});
         }
@@ -185,26 +178,20 @@ private:
         return status == GPURACE_OK;
     }
 
-    std::string name_of(uint32_t number, const Buffer &buffer) const {
-        return buffer.name_or(number) + (buffer.grain == 4 ? "" : buffer.grain == 2 ? ".half" : ".byte");
-    }
     bool write_buffers() {
         std::ofstream out(folder_ + "/buffers");
-        for (const auto &[number, buffer] : launch_.buffers[GPURACE_GLOBAL])
-            if (buffer.bytes > 0) out << "g " << buffer.first << ' ' << buffer.words() << ' ' << name_of(number, buffer) << '\n';
-        for (uint64_t group = 0; group < launch_.window.count(); group++)
-            for (const auto &[number, buffer] : launch_.buffers[GPURACE_LOCAL])
-                if (buffer.bytes > 0)
-                    out << "l " << group << ' ' << buffer.first << ' ' << buffer.words() << ' ' << name_of(number, buffer) << '\n';
+        const auto lines = [&](const std::string &memory, gpurace_space space) {
+            for (const auto &[number, buffer] : launch_.buffers[space])
+                if (buffer.bytes > 0) out << buffer_line(memory, buffer.first, buffer.words(), buffer.name_or(number), buffer.grain);
+        };
+        lines("g", GPURACE_GLOBAL);
+        for (uint64_t group = 0; group < launch_.window.count(); group++) lines("l " + std::to_string(group), GPURACE_LOCAL);
         return out.flush().good();
     }
 
     bool write_info(const std::string &refusal) {
         std::ofstream out(folder_ + "/info.txt");
-        out << "kernel " << launch_.kernel << "\nlaunch " << launch_.number << "\nglobal " << launch_.global << "\nlocal "
-            << launch_.local << "\ngroups " << launch_.groups.count() << '\n';
-        const std::string label = test_label();
-        if (!label.empty()) out << "label " << label << '\n';
+        out << shape_lines(launch_.kernel, launch_.number, launch_.global.all(), launch_.local.all(), launch_.groups.all(), test_label());
         if (!refusal.empty()) {
             out << "not-recorded " << refusal << '\n';
             return out.flush().good();
@@ -220,11 +207,7 @@ private:
     }
     void write_losses(std::ostream &out) const {
         const Losses &losses = launch_.losses;
-        for (const auto &[place, it] : launch_.outside) {
-            const char *how = it.first.kind == GPURACE_READ ? "read" : it.first.kind == GPURACE_WRITE ? "write" : "atomic";
-            out << "out-of-bounds " << it.count << ' ' << launch_.places[place] << ' ' << how << ' ' << it.first.size << ' ' << it.group << ' '
-                << it.first.item << ' ' << it.where << '\n';
-        }
+        for (const auto &[place, outside] : launch_.outside) out << outside.line(launch_.places[place]);
         out << "fences-not-recorded " << losses.fences << "\norders-not-known " << losses.unknown_orders << "\nnames-outside-window " << losses.names_outside_window
             << "\nacquire-loads-added " << added_loads_ << "\naccesses-of-parts-of-words " << losses.accesses_of_parts_of_words << '\n';
     }

@@ -6,7 +6,6 @@
 #include <fstream>
 #include <spawn.h>
 #include <sstream>
-#include <sys/stat.h>
 #include <sys/wait.h>
 #include <unistd.h>
 
@@ -79,19 +78,16 @@ std::string instrumenter() { return own_path().parent_path() / "instrument-kerne
 std::string builtins() { return settings().builtins + "/kernel-x86_64-pc-linux-gnu-" + processor().builtins + ".bc"; }
 
 Words features_of(cl_device_id device) {
-    size_t size = 0;
-    if (driver.clGetDeviceInfo(device, CL_DEVICE_OPENCL_C_FEATURES, 0, nullptr, &size) != CL_SUCCESS) return {};
-    std::vector<cl_name_version> features(size / sizeof(cl_name_version));
-    driver.clGetDeviceInfo(device, CL_DEVICE_OPENCL_C_FEATURES, size, features.data(), nullptr);
     Words names;
-    for (const cl_name_version &feature : features) names.push_back(feature.name);
+    for (const auto &feature : list_of<cl_name_version>(driver.clGetDeviceInfo, device, CL_DEVICE_OPENCL_C_FEATURES))
+        names.push_back(feature.name);
     return names;
 }
 
 // What the compiler may use: the device's extensions and features, and no others.
 std::string extensions_of(cl_device_id device) {
     std::string list = "-cl-ext=-all";
-    std::istringstream names(text_of(device, CL_DEVICE_EXTENSIONS));
+    std::istringstream names(text_of(driver.clGetDeviceInfo, device, CL_DEVICE_EXTENSIONS));
     for (std::string name; names >> name;)
         if (name.rfind("cl_khr_", 0) == 0) list += ",+" + name;
     for (const std::string &feature : features_of(device)) list += ",+" + feature;
@@ -119,7 +115,7 @@ Words unit_options(const Unit &unit, const Words &features) {
 
 Words compiler_options(cl_device_id device) {
     const std::string headers = settings().builtins + "/include/";
-    const std::string version = text_of(device, CL_DEVICE_VERSION) + "          "; // OpenCL 3.0 ..
+    const std::string version = text_of(driver.clGetDeviceInfo, device, CL_DEVICE_VERSION) + "          "; // OpenCL 3.0 ..
     const std::string number = version[7] >= '1' ? std::string{version[7], version[9], '0'} : "120";
     const auto most_variables = info_of<size_t>(driver.clGetDeviceInfo, device, CL_DEVICE_MAX_GLOBAL_VARIABLE_SIZE);
     Words words = {"-x", "cl", "-target", "x86_64-pc-linux-gnu", std::string("-march=") + processor().name,
@@ -137,18 +133,54 @@ Words compiler_options(cl_device_id device) {
 
 // The state of a file that a build depends on.
 std::string state_of(const std::string &path) {
-    struct stat state {};
-    if (stat(path.c_str(), &state) != 0) return path + " missing";
-    const timespec &time = state.st_mtim;
-    std::ostringstream text;
-    text << path << ' ' << time.tv_sec << '.' << time.tv_nsec << ' ' << state.st_size;
-    return text.str();
+    std::error_code error;
+    const auto time = files::last_write_time(path, error).time_since_epoch().count();
+    const auto size = error ? 0 : files::file_size(path, error);
+    return path + (error ? " missing" : " " + std::to_string(time) + " " + std::to_string(size));
 }
 
 // pocl's own types, but for one that clang has itself in OpenCL C 2.0.
 std::string types_header() {
     return "#if __OPENCL_C_VERSION__ == 200\n#define reserve_id_t pocl_reserve_id_t\n#endif\n#include \"" +
            settings().builtins + "/include/pocl_types.h\"\n#undef reserve_id_t\n";
+}
+
+// The program that the instrumenting pass described in this file; false where it can't be read.
+bool read_sites(const std::string &path, Program &program) {
+    std::ifstream in(path);
+    Kernel *kernel = nullptr;
+    for (std::string line; std::getline(in, line);) {
+        std::istringstream words(line);
+        std::string word;
+        uint32_t number;
+        words >> word;
+        if (word == "kernel") {
+            Kernel made;
+            words >> made.name >> made.has_names >> made.has_copies;
+            kernel = &(program.kernels[made.name] = made);
+        } else if (word == "argument" && kernel) {
+            char kind;
+            words >> number >> kind;
+            kernel->kinds += kind;
+        } else if (word == "entry" && kernel) {
+            Entry entry;
+            words >> number >> entry.argument >> entry.space >> entry.bytes >> entry.grain >> entry.has_atomics;
+            words >> entry.name;
+            program.has_variables = program.has_variables || (entry.argument < 0 && entry.space == GLOBAL);
+            kernel->entries.push_back(entry);
+        } else if (word == "site") {
+            Site site;
+            words >> number >> site.kind >> site.space >> site.bytes >> site.entry >> std::ws;
+            std::getline(words, site.place);
+            program.sites.push_back(site);
+        } else if (word == "note") {
+            program.notes.push_back(line.substr(5));
+        } else {
+            return false;
+        }
+        if (!words) return false;
+    }
+    return in.eof() && kernel;
 }
 
 class Build {
@@ -222,8 +254,7 @@ private:
         words.insert(words.end(), options_.begin(), options_.end());
         const Words own = unit_options(units_[at], features_);
         words.insert(words.end(), own.begin(), own.end());
-        words.insert(words.end(), {"-fdebug-prefix-map=" + folder + "/=", "-I", headers, "-MD", "-MF", out + ".d", text,
-                                   "-o", out});
+        words.insert(words.end(), {"-fdebug-prefix-map=" + folder + "/=", "-I", headers, "-MD", "-MF", out + ".d", text, "-o", out});
         return run(words, log);
     }
 

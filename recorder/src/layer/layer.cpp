@@ -7,14 +7,6 @@ namespace gpurace {
 
 _cl_icd_dispatch driver;
 
-std::string text_of(cl_device_id device, cl_device_info what) {
-    size_t size = 0;
-    if (driver.clGetDeviceInfo(device, what, 0, nullptr, &size) != CL_SUCCESS || size == 0) return "";
-    std::string text(size, 0);
-    driver.clGetDeviceInfo(device, what, size, text.data(), nullptr);
-    return text.c_str();
-}
-
 namespace {
 
 _cl_icd_dispatch layer;
@@ -26,8 +18,7 @@ cl_mem_flags mappable(cl_mem_flags flags) {
 cl_mem CL_API_CALL create_buffer(cl_context context, cl_mem_flags flags, size_t size, void *host, cl_int *error) {
     return driver.clCreateBuffer(context, mappable(flags), size, host, error);
 }
-cl_mem CL_API_CALL create_sub_buffer(cl_mem buffer, cl_mem_flags flags, cl_buffer_create_type type, const void *info,
-                                     cl_int *error) {
+cl_mem CL_API_CALL create_sub_buffer(cl_mem buffer, cl_mem_flags flags, cl_buffer_create_type type, const void *info, cl_int *error) {
     return driver.clCreateSubBuffer(buffer, mappable(flags), type, info, error);
 }
 cl_mem CL_API_CALL create_image(cl_context context, cl_mem_flags flags, const cl_image_format *format,

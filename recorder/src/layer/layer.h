@@ -16,12 +16,15 @@ extern _cl_icd_dispatch driver; // the calls that the program's own go on to
 void take_over_handles(_cl_icd_dispatch &layer);
 void take_over_launches(_cl_icd_dispatch &layer);
 
-std::string text_of(cl_device_id device, cl_device_info what);
-
 template <class Value> Value value_of(const std::vector<char> &bytes) {
     Value value{};
     std::memcpy(&value, bytes.data(), std::min(bytes.size(), sizeof value));
     return value;
+}
+
+template <class Value> void set_value(std::vector<char> &bytes, const Value &value) {
+    bytes.resize(sizeof value);
+    std::memcpy(bytes.data(), &value, sizeof value);
 }
 
 // What one of the calls clGet..Info says; zeros where it fails.
@@ -29,6 +32,19 @@ template <class Value, class Get, class Handle> Value info_of(Get get, Handle ha
     Value value{};
     get(handle, what, sizeof value, &value, nullptr);
     return value;
+}
+
+// The same of what is a list or a text of any length.
+template <class Element, class Get, class Handle> std::vector<Element> list_of(Get get, Handle handle, cl_uint what) {
+    size_t size = 0;
+    get(handle, what, 0, nullptr, &size);
+    std::vector<Element> list(size / sizeof(Element));
+    if (size > 0) get(handle, what, size, list.data(), nullptr);
+    return list;
+}
+template <class Get, class Handle> std::string text_of(Get get, Handle handle, cl_uint what) {
+    const std::vector<char> text = list_of<char>(get, handle, what);
+    return text.empty() ? "" : text.data();
 }
 
 // A text that is compiled by itself, as clBuildProgram and clCompileProgram do.

@@ -16,11 +16,6 @@ cl_command_queue helper_queue(cl_context context, cl_device_id device) {
     return queue;
 }
 
-template <class Value> void set_value(std::vector<char> &bytes, const Value &value) {
-    bytes.resize(sizeof value);
-    std::memcpy(bytes.data(), &value, sizeof value);
-}
-
 int channels_of(cl_channel_order order) {
     switch (order) {
     case CL_R: case CL_A: case CL_Rx: case CL_INTENSITY: case CL_LUMINANCE: case CL_DEPTH: return 1;

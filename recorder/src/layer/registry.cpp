@@ -30,13 +30,10 @@ cl_program without_text(cl_program program, const char *reason) {
 }
 
 void build_units(cl_program program, const std::vector<Unit> &units) {
-    cl_device_id devices[64] = {};
-    driver.clGetProgramInfo(program, CL_PROGRAM_DEVICES, sizeof devices, devices, nullptr);
+    const auto devices = list_of<cl_device_id>(driver.clGetProgramInfo, program, CL_PROGRAM_DEVICES);
     Known known{units, nullptr, ""};
-    {
-        const std::lock_guard<std::mutex> held(build_lock);
-        known.built = build(units, devices[0], known.reason);
-    }
+    const std::lock_guard<std::mutex> held(build_lock);
+    known.built = build(units, devices[0], known.reason);
     if (!known.built) known.reason = "its program could not be compiled for recording: " + known.reason;
     note_program(program, std::move(known));
 }
@@ -60,8 +57,7 @@ std::string all_options(const char *options) {
     return std::string(options ? options : "") + (more.empty() ? "" : " " + more);
 }
 
-cl_program CL_API_CALL create_with_source(cl_context context, cl_uint count, const char **texts, const size_t *lengths,
-                                          cl_int *error) {
+cl_program CL_API_CALL create_with_source(cl_context context, cl_uint count, const char **texts, const size_t *lengths, cl_int *error) {
     const cl_program program = driver.clCreateProgramWithSource(context, count, texts, lengths, error);
     std::string source;
     for (cl_uint at = 0; program && at < count; at++)
@@ -100,11 +96,9 @@ cl_int CL_API_CALL build_program(cl_program program, cl_uint count, const cl_dev
 }
 
 cl_int CL_API_CALL compile_program(cl_program program, cl_uint count, const cl_device_id *devices, const char *options,
-                                   cl_uint header_count, const cl_program *headers, const char **names,
-                                   BuildNotice notify, void *data) {
+                                   cl_uint header_count, const cl_program *headers, const char **names, BuildNotice notify, void *data) {
     const std::string all = all_options(options);
-    const cl_int error = driver.clCompileProgram(program, count, devices, all.c_str(), header_count, headers, names,
-                                                 nullptr, nullptr);
+    const cl_int error = driver.clCompileProgram(program, count, devices, all.c_str(), header_count, headers, names, nullptr, nullptr);
     Known known = joined({program});
     if (error == CL_SUCCESS && known.units.size() == 1) {
         known.units[0] = {known.units[0].source, all, {}};
@@ -119,10 +113,8 @@ cl_int CL_API_CALL compile_program(cl_program program, cl_uint count, const cl_d
 
 // A library is a part of programs that are linked later.
 cl_program CL_API_CALL link_program(cl_context context, cl_uint count, const cl_device_id *devices, const char *options,
-                                    cl_uint part_count, const cl_program *parts, BuildNotice notify, void *data,
-                                    cl_int *error) {
-    const cl_program program =
-        driver.clLinkProgram(context, count, devices, options, part_count, parts, nullptr, nullptr, error);
+                                    cl_uint part_count, const cl_program *parts, BuildNotice notify, void *data, cl_int *error) {
+    const cl_program program = driver.clLinkProgram(context, count, devices, options, part_count, parts, nullptr, nullptr, error);
     const Known known = joined({parts, parts + part_count});
     note_program(program, known);
     const bool is_library = options && std::strstr(options, "-create-library");
@@ -187,9 +179,8 @@ cl_int CL_API_CALL set_pointer(cl_kernel kernel, cl_uint at, const void *value) 
     const cl_int error = driver.clSetKernelArgSVMPointer(kernel, at, value);
     const std::lock_guard<std::mutex> held(lock);
     if (error != CL_SUCCESS) return error;
-    const auto *bytes = reinterpret_cast<const char *>(&value);
     kernels[kernel].pointers.insert(at);
-    kernels[kernel].values[at].assign(bytes, bytes + sizeof value);
+    set_value(kernels[kernel].values[at], value);
     return error;
 }
 
@@ -221,24 +212,19 @@ Launchable launchable(cl_kernel kernel) {
     const std::lock_guard<std::mutex> held(lock);
     const auto found = kernels.find(kernel);
     if (found != kernels.end()) return found->second;
-    Launchable unknown;
-    unknown.reason = "it was not made by the program";
-    return unknown;
+    return {nullptr, nullptr, "it was not made by the program", {}, {}, {}, {}};
 }
 
 std::string name_of(cl_kernel kernel) {
-    char name[512] = "";
-    driver.clGetKernelInfo(kernel, CL_KERNEL_FUNCTION_NAME, sizeof name, name, nullptr);
-    return name;
+    return text_of(driver.clGetKernelInfo, kernel, CL_KERNEL_FUNCTION_NAME);
 }
 
 std::pair<char *, size_t> shared_at(char *pointer) {
     const std::lock_guard<std::mutex> held(lock);
-    auto found = shared.upper_bound(pointer);
-    if (found == shared.begin()) return {};
-    --found;
-    if (pointer < found->first + found->second) return *found;
-    return {};
+    const auto next = shared.upper_bound(pointer);
+    if (next == shared.begin()) return {};
+    const auto [start, bytes] = *std::prev(next);
+    return pointer < start + bytes ? std::pair(start, bytes) : std::pair<char *, size_t>();
 }
 
 void take_over_handles(_cl_icd_dispatch &layer) {

@@ -1,5 +1,6 @@
 #include "fiber.h"
 
+#include <algorithm>
 #include <atomic>
 #include <mutex>
 #include <sys/mman.h>
@@ -41,10 +42,7 @@ struct Kept {
     size_t count = 0;
     std::vector<Pool::Block> blocks;
 };
-Kept &kept() {
-    static auto &made = *new Kept; // threads may still run when the program ends
-    return made;
-}
+auto &kept = *new Kept; // threads may still run when the program ends
 
 void unmap(const Pool::Block &block) {
     munmap(block.memory, block.count * block.bytes);
@@ -52,26 +50,26 @@ void unmap(const Pool::Block &block) {
 }
 
 bool keep(const Pool::Block &block) {
-    const std::lock_guard<std::mutex> held(kept().lock);
-    if (!block.is_guarded || kept().count + block.count > MOST_KEPT) return false;
-    kept().count += block.count;
-    kept().blocks.push_back(block);
+    const std::lock_guard<std::mutex> held(kept.lock);
+    if (!block.is_guarded || kept.count + block.count > MOST_KEPT) return false;
+    kept.count += block.count;
+    kept.blocks.push_back(block);
     return true;
 }
 
 uint8_t *take_kept(size_t count, size_t bytes) {
-    const std::lock_guard<std::mutex> held(kept().lock);
-    std::vector<Pool::Block> &blocks = kept().blocks;
-    for (size_t at = 0; at < blocks.size(); at++) {
-        if (blocks[at].count != count || blocks[at].bytes != bytes) continue;
-        uint8_t *memory = blocks[at].memory;
-        blocks.erase(blocks.begin() + long(at));
-        kept().count -= count;
+    const std::lock_guard<std::mutex> held(kept.lock);
+    std::vector<Pool::Block> &blocks = kept.blocks;
+    const auto is_such = [&](const Pool::Block &block) { return block.count == count && block.bytes == bytes; };
+    if (const auto found = std::find_if(blocks.begin(), blocks.end(), is_such); found != blocks.end()) {
+        uint8_t *memory = found->memory;
+        blocks.erase(found);
+        kept.count -= count;
         return memory;
     }
     for (const Pool::Block &block : blocks) unmap(block); // of another size
     blocks.clear();
-    kept().count = 0;
+    kept.count = 0;
     return nullptr;
 }
 

@@ -9,10 +9,6 @@
 namespace gpurace {
 namespace {
 
-std::string sizes(const char *name, const uint64_t (&size)[3]) {
-    return name + std::to_string(size[0]) + " " + std::to_string(size[1]) + " " + std::to_string(size[2]) + "\n";
-}
-
 bool write_file(const std::string &path, const std::string &text) {
     std::ofstream out(path, std::ios::binary);
     return out.write(text.data(), std::streamsize(text.size())).flush().good();
@@ -21,32 +17,22 @@ bool write_file(const std::string &path, const std::string &text) {
 // The lines of info.txt that are known from the start.
 std::string shape_of(const Request &request) {
     const Range &range = request.range;
-    std::ostringstream text;
-    text << "kernel " << request.kernel->name << "\nlaunch " << request.number << '\n' << sizes("global ", range.global)
-         << sizes("local ", range.local) << "groups " << range.group_count() << '\n';
-    if (!request.label.empty()) text << "label " << request.label << '\n';
-    if (request.window.count() < range.group_count()) text << request.window.lines();
+    std::string text = shape_lines(request.kernel->name, request.number, range.global, range.local, range.groups, request.label);
+    if (request.window.count() < range.group_count()) text += request.window.lines();
     for (uint64_t group = 0; request.kernel->has_copies && group < request.window.count(); group++)
-        text << "copying-item " << group << ' ' << range.items_of_group() << '\n';
-    return text.str();
+        text += "copying-item " + std::to_string(group) + ' ' + std::to_string(range.items_of_group()) + '\n';
+    return text;
 }
 
 std::string buffers_of(const Launch &launch) {
-    std::ostringstream text;
-    const auto line = [&](const std::string &memory, const Span &span) {
-        text << memory << ' ' << span.first_word << ' ' << span.words() << ' ' << span.traced_name() << '\n';
+    std::string text;
+    const auto add = [&](const std::string &memory, const std::vector<Span> &spans) {
+        for (const Span &span : spans) text += buffer_line(memory, span.first_word, span.words(), span.name, span.grain);
     };
-    for (const Span &span : launch.spans) line("g", span);
+    add("g", launch.spans);
     const std::vector<Entry> &entries = launch.request.entries;
     const std::vector<Span> locals = spans_of(entries, lay_out_locals(entries, 1 << 12).addresses, LOCAL);
-    for (uint64_t group = 0; group < launch.request.window.count(); group++)
-        for (const Span &span : locals) line("l " + std::to_string(group), span);
-    return text.str();
-}
-
-std::string sites_of(const Launch &launch) {
-    std::string text;
-    for (const Site &site : launch.request.program->sites) text += site.place + "\n";
+    for (uint64_t group = 0; group < launch.request.window.count(); group++) add("l " + std::to_string(group), locals);
     return text;
 }
 
@@ -59,12 +45,11 @@ void write_losses(std::ostream &out, Launch &launch) {
         if (count == 0) continue;
         if (at.kind == FENCE || at.kind == IMAGE) {
             out << (at.kind == FENCE ? "fence " : "image ") << count << ' ' << at.place << '\n';
-            continue;
+        } else {
+            Outside &outside = launch.losses.outside[uint32_t(site)];
+            outside.count = count;
+            out << outside.line(at.place);
         }
-        const Outside &first = launch.losses.outside[uint32_t(site)];
-        const char *how = at.kind == READ ? "read" : at.kind == WRITE ? "write" : "atomic";
-        out << "out-of-bounds " << count << ' ' << at.place << ' ' << how << ' ' << at.bytes << ' ' << first.group
-            << ' ' << first.item << ' ' << first.where << '\n';
     }
     out << "names-outside-window " << launch.losses.names_outside << "\nrepeated-not-recorded "
         << launch.losses.repeated << "\nacquire-loads-added " << launch.losses.added << '\n';
@@ -75,10 +60,11 @@ void write_losses(std::ostream &out, Launch &launch) {
 bool begin_folder(Launch &launch, std::string &error) {
     const Request &request = launch.request;
     const std::string folder = request.folder + "/";
+    std::string places;
+    for (const Site &site : request.program->sites) places += site.place + "\n";
     std::error_code fault;
-    bool is_written = std::filesystem::create_directories(request.folder, fault) &&
-                      write_file(folder + "begun.txt", shape_of(request)) &&
-                      write_file(folder + "buffers", buffers_of(launch)) && write_file(folder + "sites", sites_of(launch));
+    bool is_written = std::filesystem::create_directories(request.folder, fault) && write_file(folder + "begun.txt", shape_of(request)) &&
+                      write_file(folder + "buffers", buffers_of(launch)) && write_file(folder + "sites", places);
     for (const Source &source : request.program->sources)
         is_written = is_written && write_file(folder + source.name, source.text);
     if (!is_written) error = request.folder + " could not be written: " + std::strerror(errno);

@@ -52,7 +52,10 @@ std::unique_ptr<Group> Group::begin(Launch &launch, uint64_t number, Pool &pool,
     if (!group->memory) return nullptr;
     group->begin_items(pool);
     if (!group->stacks) return nullptr;
-    if (group->is_recorded) group->open_stream();
+    if (!group->is_recorded) return group;
+    group->stream.emplace(group->window, launch.has_names, launch.streams, launch.written);
+    if (!group->stream->open()) launch.is_over = true;
+    group->stored.emplace(words_of(group->spans));
     return group;
 } catch (const std::bad_alloc &) {
     return nullptr;
@@ -81,17 +84,10 @@ void Group::place_memory(Pool &pool) {
     }
 }
 
-void Group::open_stream() {
-    stream.emplace(window, launch->has_names, launch->streams, launch->written);
-    if (!stream->open()) launch->is_over = true;
-    stored.emplace(words_of(spans));
-}
-
 void Group::begin_items(Pool &pool) {
     const Range &range = launch->request.range;
-    const uint64_t at[3] = {range.place_of(number, 0), range.place_of(number, 1), range.place_of(number, 2)};
-    const uint64_t size[3] = {range.size_of(number, 0), range.size_of(number, 1), range.size_of(number, 2)};
-    const uint64_t count = size[0] * size[1] * size[2];
+    const Sizes at = place_in(range.groups, number), size = range.size_of(number);
+    const uint64_t count = product(size);
     stacks = pool.take(range.items_of_group(), launch->stack_bytes, true);
     if (!stacks) return;
     items.resize(count);
@@ -104,9 +100,9 @@ void Group::begin_items(Pool &pool) {
     }
 }
 
-void Group::begin_item(Item &item, uint64_t each, const uint64_t at[3], const uint64_t size[3]) {
+void Group::begin_item(Item &item, uint64_t each, const Sizes &at, const Sizes &size) {
     const Range &range = launch->request.range;
-    const uint64_t local[3] = {each % size[0], each / size[0] % size[1], each / size[0] / size[1]};
+    const Sizes local = place_in(size, each);
     std::memset(&item, 0, sizeof item);
     for (int axis = 0; axis < 3; axis++) {
         const uint64_t of_global = at[axis] * range.local[axis] + local[axis];

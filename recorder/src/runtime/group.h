@@ -92,18 +92,16 @@ struct Group {
         return false;
     }
     // A record of an item, which has so many.
-    void put(uint32_t &records, const Site &site, uint64_t head, uint32_t word, const Name *names = nullptr,
-             size_t count = 0);
+    void put(uint32_t &records, const Site &site, uint64_t head, uint32_t word, const Name *names = nullptr, size_t count = 0);
 
 private:
     void place_memory(Pool &pool);
-    void open_stream();
     void begin_items(Pool &pool);
-    void begin_item(Item &item, uint64_t number, const uint64_t at[3], const uint64_t size[3]);
+    void begin_item(Item &item, uint64_t number, const Sizes &at, const Sizes &size);
 };
 
 // The head of a record: its kind, space, scope and order. A barrier has flags as its space.
-inline uint64_t head_of(uint32_t item, uint8_t kind, uint8_t space, uint8_t scope = NO_SCOPE, uint8_t order = PLAIN) {
+inline uint64_t head_of(uint32_t item, uint8_t kind, uint8_t space, uint8_t scope = 0, uint8_t order = 0) {
     return kind | uint64_t(space) << 8 | uint64_t(scope) << 16 | uint64_t(order) << 24 | uint64_t(item) << 32;
 }
 

@@ -10,7 +10,6 @@ namespace {
 constexpr uint32_t IDLE_READS = 16;      // of one place, with nothing between, after which an item lets others run
 constexpr uint32_t MOST_READS = 64;      // of them that are recorded
 constexpr uint32_t IDLE_ATOMICS = 2;
-constexpr size_t NAMES_OF_RECORD = 4;
 
 char printed[PRINT_ROOM]; // by all work-items, one after another
 std::mutex printing;
@@ -26,7 +25,7 @@ void end_turn(Item &item) {
 }
 
 // The span of an access, and its memory. A pointer that the code knows to belong to a buffer is looked for there first.
-const Span *span_of(const Group &group, const Site &site, uint64_t address, uint64_t bytes, int &space) {
+[[gnu::always_inline]] inline const Span *span_of(const Group &group, const Site &site, uint64_t address, uint64_t bytes, int &space) {
     space = site.space;
     if (site.entry >= 0) {
         const Span *span = group.entry_spans[size_t(site.entry)];
@@ -39,8 +38,6 @@ const Span *span_of(const Group &group, const Site &site, uint64_t address, uint
     return nullptr;
 }
 
-std::string count_of(uint64_t bytes) { return std::to_string(bytes) + (bytes == 1 ? " byte" : " bytes"); }
-
 // Where an address is in relation to the buffer that the code names, or else to the nearest one.
 std::string place_of(const Group &group, const Site &site, uint64_t address) {
     const auto distance = [&](const Span &span) {
@@ -52,18 +49,15 @@ std::string place_of(const Group &group, const Site &site, uint64_t address) {
     for (const Span &span : site.space == LOCAL ? group.spans : group.launch->spans)
         if (site.entry < 0 && (!near || distance(span) < distance(*near))) near = &span;
     if (!near) return "in no buffer";
-    const std::string size = " of " + near->name + ", which has " + count_of(near->bytes);
-    if (address < near->address) return count_of(near->address - address) + " before the start" + size;
-    const uint64_t end = near->address + near->bytes;
-    if (address < end) return "partly behind the end" + size;
-    return (address > end ? count_of(address - end) : "right") + " behind the end" + size;
+    const uint64_t before = near->address - std::min(address, near->address);
+    return told_outside(near->name, near->bytes, address - near->address, before);
 }
 
 void note_outside(Group &group, uint32_t item, uint32_t number, const Site &site, uint64_t address) {
     Launch &launch = *group.launch;
     if (launch.losses.of_site[number].fetch_add(1, std::memory_order_relaxed) != 0) return;
     const std::lock_guard<std::mutex> held(launch.losses.lock);
-    launch.losses.outside[number] = {group.number, item, place_of(group, site, address)};
+    launch.losses.outside[number] = {1, site.kind, site.bytes, group.number, item, place_of(group, site, address)};
 }
 
 struct Part { // of a span
@@ -81,8 +75,7 @@ uint32_t word_at(const uint8_t *bytes, uint32_t grain) {
 }
 
 // An item stores to a part of a span; `value` is null where it is not known. Within others this would slow loads down.
-__attribute__((noinline)) void note_stored(Group &group, uint32_t item, int space, const Part &part,
-                                           const uint8_t *value = nullptr) {
+__attribute__((noinline)) void note_stored(Group &group, uint32_t item, int space, const Part &part, const uint8_t *value = nullptr) {
     if (!group.is_recorded) return;
     StoredValues &values = space == LOCAL ? *group.stored : group.launch->stored;
     const uint32_t grain = part.span->grain;
@@ -99,9 +92,9 @@ struct Accessor {
     uint32_t item;
     uint32_t &records;
 
-    void put(const Site &site, int kind, int space, const Part &part) {
+    void put(const Site &site, int space, const Part &part) {
         if (!group.records_now()) return;
-        const uint64_t head = head_of(item, uint8_t(kind), uint8_t(space));
+        const uint64_t head = head_of(item, uint8_t(site.kind), uint8_t(space));
         for (uint64_t word = part.first_word(), last = part.last_word(); word <= last; word++)
             group.put(records, site, head, uint32_t(word));
     }
@@ -118,15 +111,15 @@ Part inside_of(const std::vector<Span> &spans, uint64_t address, uint64_t bytes)
 }
 
 // An access that is not whole in a buffer has its inside part. A load has zeros for the rest; that of a store is lost.
-uint8_t *access_outside(Item &item, Accessor accessor, uint32_t number, const Site &site, int kind, uint64_t address) {
+uint8_t *access_outside(Item &item, Accessor accessor, uint32_t number, const Site &site, uint64_t address) {
     Group &group = accessor.group;
     note_outside(group, accessor.item, number, site, address);
     const Part inside = inside_of(site.space == LOCAL ? group.spans : group.launch->spans, address, site.bytes);
     const int space = site.space == LOCAL ? LOCAL : GLOBAL;
-    if (inside.span) accessor.put(site, kind, space, inside);
-    else if (kind == READ) return group.launch->zeros.data();
+    if (inside.span) accessor.put(site, space, inside);
+    else if (site.kind == READ) return group.launch->zeros.data();
     Scratch &scratch = item.own_scratch();
-    if (kind == READ) {
+    if (site.kind == READ) {
         scratch.loaded.assign(site.bytes, 0);
         const auto *source = reinterpret_cast<const uint8_t *>(inside.address);
         std::copy_n(source, inside.bytes, scratch.loaded.data() + (inside.address - address));
@@ -166,18 +159,25 @@ void rest_if_idle(Item &item, uint32_t most) {
     item.rest();
 }
 
-// One more item of the group does the copies.
-uint8_t *access_of_copy(Item &item, uint32_t number, uint8_t *pointer) {
-    Group &group = *item.group;
+// Records a plain access, and answers the address to use. `stored` has what it stores, or is null. A call more would be felt here.
+[[gnu::always_inline]] inline void *access(Item &item, Accessor accessor, uint32_t number, void *pointer, const uint8_t *stored) {
+    Group &group = accessor.group;
     const Site &site = group.launch->sites[number];
-    int space;
     const uint64_t address = reinterpret_cast<uint64_t>(pointer);
-    Accessor copier{group, uint32_t(group.items.size()), group.copier_records};
+    int space;
     const Span *span = span_of(group, site, address, site.bytes, space);
-    if (!span) return access_outside(item, copier, number, site, site.kind, address);
+    if (!span && site.space == GENERIC) return pointer; // private memory
+    if (!span) return access_outside(item, accessor, number, site, address);
     const Part part{span, address, site.bytes};
-    copier.put(site, site.kind, space, part);
-    if (site.kind != READ) note_stored(group, copier.item, space, part);
+    if (site.kind != READ) {
+        note_stored(group, accessor.item, space, part, stored);
+        item.last_site = number;
+    } else if (is_repeated(item, number, pointer)) {
+        rest_if_idle(item, IDLE_READS);
+        if (item.repeats > MOST_READS) return group.launch->losses.repeated++, pointer; // it is recorded already
+    }
+    accessor.put(site, space, part);
+    item.last_records = item.records;
     const bool is_deferred = site.kind == WRITE && span->has_atomics && group.launch->has_names;
     return is_deferred ? defer_store(item, address, site.bytes) : pointer;
 }
@@ -187,32 +187,10 @@ uint8_t *access_of_copy(Item &item, uint32_t number, uint8_t *pointer) {
 extern "C" {
 #define HOOK __attribute__((visibility("default")))
 
-// Records a plain access, and answers the address to use. `stored` has what it stores, or is null.
 HOOK void *gr_access(void *state, uint32_t number, void *pointer, const uint8_t *stored) {
     Item &item = item_of(state);
     if (--item.turn == 0) end_turn(item);
-    Group &group = *item.group;
-    const Site &site = group.launch->sites[number];
-    const uint64_t address = reinterpret_cast<uint64_t>(pointer);
-    int space;
-    const Span *span = span_of(group, site, address, site.bytes, space);
-    if (!span) {
-        if (site.space == GENERIC) return pointer; // private memory
-        uint8_t *allowed = access_outside(item, {group, item.number, item.records}, number, site, site.kind, address);
-        interrupt_turn(item);
-        return allowed;
-    }
-    if (site.kind != READ) {
-        note_stored(group, item.number, space, {span, address, site.bytes}, stored);
-        item.last_site = number;
-    } else if (is_repeated(item, number, pointer)) {
-        rest_if_idle(item, IDLE_READS);
-        if (item.repeats > MOST_READS) return group.launch->losses.repeated++, pointer; // it is recorded already
-    }
-    Accessor{group, item.number, item.records}.put(site, site.kind, space, {span, address, site.bytes});
-    item.last_records = item.records;
-    if (site.kind != WRITE || !span->has_atomics || !group.launch->has_names) return pointer;
-    uint8_t *allowed = defer_store(item, address, site.bytes);
+    void *allowed = access(item, {*item.group, item.number, item.records}, number, pointer, stored);
     interrupt_turn(item);
     return allowed;
 }
@@ -234,15 +212,17 @@ HOOK void gr_barrier(void *state, uint32_t number, uint32_t flags) {
     item.rest();
 }
 
-HOOK void gr_copy(void *state, uint32_t reads, uint32_t writes, uint8_t *to, uint8_t *from, uint64_t count,
-                  uint64_t to_stride, uint64_t from_stride) {
+// One more item of the group does the copies.
+HOOK void gr_copy(void *state, uint32_t reads, uint32_t writes, uint8_t *to, uint8_t *from, uint64_t count, uint64_t to_stride,
+                  uint64_t from_stride) {
     Item &item = item_of(state);
     settle(item);
     if (item.number != 0) return;
+    const Accessor copier{*item.group, uint32_t(item.group->items.size()), item.group->copier_records};
     const uint64_t bytes = item.group->launch->sites[reads].bytes;
     for (uint64_t at = 0; at < count; at++) {
-        const uint8_t *source = access_of_copy(item, reads, from + at * from_stride * bytes);
-        std::memcpy(access_of_copy(item, writes, to + at * to_stride * bytes), source, bytes);
+        const void *source = access(item, copier, reads, from + at * from_stride * bytes, nullptr);
+        std::memcpy(access(item, copier, writes, to + at * to_stride * bytes, nullptr), source, bytes);
         settle(item);
     }
 }
@@ -321,7 +301,7 @@ template <class Bits> Done perform(uint32_t what, void *pointer, Bits value, Bit
 // memory_order_relaxed is 0, acquire 2, release 3, acq_rel 4, seq_cst 5.
 uint8_t order_of(uint32_t order, int kind) {
     const bool takes = kind != STORE && (order == 2 || order >= 4), gives = kind != LOAD && order >= 3;
-    return takes ? (gives ? BOTH : ACQUIRE) : gives ? RELEASE : RELAXED;
+    return takes ? (gives ? GPURACE_BOTH : GPURACE_ACQUIRE) : gives ? GPURACE_RELEASE : GPURACE_RELAXED;
 }
 
 struct AtomicRecord {
@@ -337,11 +317,11 @@ void put_atomic(Item &item, const Site &site, const Span &span, uint64_t address
     const Part part{&span, address, site.bytes};
     const uint64_t first = part.first_word(), last = part.last_word();
     const uint64_t head = head_of(item.number, uint8_t(record.kind), uint8_t(record.space), record.scope, record.order);
-    const uint64_t load = head_of(item.number, LOAD, uint8_t(record.space), record.scope, ACQUIRE);
+    const uint64_t load = head_of(item.number, LOAD, uint8_t(record.space), record.scope, GPURACE_ACQUIRE);
     for (uint64_t word = first; word <= last; word++) { // a release of several words is several records
         size_t at = 0;
-        for (; names.size() - at > NAMES_OF_RECORD; at += NAMES_OF_RECORD) {
-            group.put(item.records, site, load, uint32_t(word), &names[at], NAMES_OF_RECORD);
+        for (; names.size() - at > GPURACE_NAMES_OF_RECORD; at += GPURACE_NAMES_OF_RECORD) {
+            group.put(item.records, site, load, uint32_t(word), &names[at], GPURACE_NAMES_OF_RECORD);
             group.launch->losses.added.fetch_add(1, std::memory_order_relaxed);
         }
         group.put(item.records, site, head, uint32_t(word), names.data() + at, names.size() - at);
@@ -385,7 +365,7 @@ extern "C" HOOK uint64_t gr_atomic(void *state, uint32_t number, uint32_t what, 
     AtomicRecord record{};
     const Span *span = span_of(group, site, address, site.bytes, record.space);
     if (!span && site.space != GENERIC) return note_outside(group, item.number, number, site, address), 0;
-    record.scope = record.space == LOCAL || (how >> 16 & 255) == 1 ? GROUP_SCOPE : DEVICE_SCOPE;
+    record.scope = record.space == LOCAL || (how >> 16 & 255) == 1 ? GPURACE_GROUP : GPURACE_DEVICE;
     const bool is_named = launch.has_names && span;
     Stripe &stripe = launch.sequences.stripe_of(address);
     std::unique_lock<Stripe> held(stripe, std::defer_lock);

@@ -13,18 +13,12 @@ constexpr uint64_t RUNTIME_BYTES = 48 << 10;
 constexpr double SMALL_LAUNCH = 0.0003;         // seconds
 constexpr uint64_t SHUFFLED = 64; // groups that change places where the order is the user's seed's
 
-std::vector<uint64_t> addresses_of(const std::vector<Entry> &entries) {
-    std::vector<uint64_t> addresses;
-    for (const Entry &entry : entries) addresses.push_back(entry.address);
-    return addresses;
-}
-
 std::vector<std::string> headers_of(const Request &request) {
     const Kernel &kernel = *request.kernel;
     const uint64_t count = request.window.count(), more = kernel.has_copies;
     std::vector<std::string> headers;
     for (uint32_t group = 0; group < count; group++) {
-        const uint64_t items = request.range.items_of(request.window.group_of(group)) + more;
+        const uint64_t items = product(request.range.size_of(request.window.group_of(group))) + more;
         headers.push_back(stream_header(kernel.has_names, group, items, request.number));
     }
     return headers;
@@ -97,8 +91,7 @@ double seconds_now() {
 
 Launch::Launch(const Request &given)
     : request(given), seed(settings().seed + given.number * 1000003ull), sites(given.program->sites.data()),
-      has_names(given.kernel->has_names), spans(spans_of(given.entries, addresses_of(given.entries), GLOBAL)),
-      locals(lay_out_locals(given.entries, 0)),
+      has_names(given.kernel->has_names), spans(spans_of(given.entries, {}, GLOBAL)), locals(lay_out_locals(given.entries, 0)),
       stored(given.is_recorded() ? words_of(spans) : 0), stored_in_locals(given.window.count()),
       streams(given.folder, headers_of(given)), losses(given.program->sites.size()), is_cut(given.window.count(), true),
       stack_bytes(PAGE + (RUNTIME_BYTES + given.program->frame_bytes + PAGE - 1) / PAGE * PAGE) {

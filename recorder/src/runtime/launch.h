@@ -1,7 +1,7 @@
 // A launch of a kernel that runs on the host's threads, and is recorded meanwhile.
 #pragma once
 
-#include "../../../tools/recorder/window.h"
+#include "../../../tools/recorder/texts.h"
 #include "memory.h"
 #include "settings.h"
 #include "stored_values.h"
@@ -11,20 +11,23 @@
 
 namespace gpurace {
 
+// Where the `number`th one of so many stands.
+inline Sizes place_in(const Sizes &sizes, uint64_t number) {
+    return {number % sizes[0], number / sizes[0] % sizes[1], number / sizes[0] / sizes[1]};
+}
+inline uint64_t product(const Sizes &sizes) { return sizes[0] * sizes[1] * sizes[2]; }
+
 struct Range {
-    uint64_t global[3] = {1, 1, 1}, local[3] = {1, 1, 1}, groups[3] = {1, 1, 1}, offset[3] = {0, 0, 0};
+    Sizes global{1, 1, 1}, local{1, 1, 1}, groups{1, 1, 1}, offset{};
     uint32_t dimensions = 1;
-    uint64_t group_count() const { return groups[0] * groups[1] * groups[2]; }
-    uint64_t items_of_group() const { return local[0] * local[1] * local[2]; } // at most
-    uint64_t place_of(uint64_t group, int axis) const {
-        const uint64_t row = group / groups[0];
-        return axis == 0 ? group % groups[0] : axis == 1 ? row % groups[1] : row / groups[1];
+    uint64_t group_count() const { return product(groups); }
+    uint64_t items_of_group() const { return product(local); } // at most
+    // The items of a group along each axis: a last group may be smaller.
+    Sizes size_of(uint64_t group) const {
+        Sizes size = place_in(groups, group);
+        for (int axis = 0; axis < 3; axis++) size[axis] = std::min(local[axis], global[axis] - size[axis] * local[axis]);
+        return size;
     }
-    // The items of a group along an axis: a last group may be smaller.
-    uint64_t size_of(uint64_t group, int axis) const {
-        return std::min(local[axis], global[axis] - place_of(group, axis) * local[axis]);
-    }
-    uint64_t items_of(uint64_t group) const { return size_of(group, 0) * size_of(group, 1) * size_of(group, 2); }
 };
 
 // What is to be run, and how it is to be recorded.
@@ -49,13 +52,6 @@ struct Result {
     bool is_timed_out = false;
     bool has_run = false;
     std::string error;         // why the kernel could not be run at all
-};
-
-// The first access of a site out of all buffers; a site may have more of them.
-struct Outside {
-    uint64_t group = 0;
-    uint32_t item = 0;
-    std::string where; // in relation to a buffer
 };
 
 struct Losses { // what the report on the launch does not speak of, or says in another way

@@ -3,6 +3,8 @@
 
 #include "program.h"
 
+#include <algorithm>
+
 namespace gpurace {
 
 struct Span {
@@ -19,12 +21,42 @@ struct Span {
     }
     uint64_t word_of(uint64_t at) const { return first_word + ((at - address) >> shift); }
     uint64_t words() const { return (bytes + grain - 1) >> shift; }
-    std::string traced_name() const { return name + (grain == 4 ? "" : grain == 2 ? ".half" : ".byte"); }
+    void join(const Span &other) {
+        bytes = std::max(bytes, other.address + other.bytes - address);
+        grain = std::min(grain, other.grain);
+        has_atomics = has_atomics || other.has_atomics;
+        entry = std::min(entry, other.entry);
+        name += "=" + other.name;
+    }
 };
 
-// The spans of the entries of one space; those that overlap are one. They never share a word, and stand apart by some.
-// Words are numbered in the order of the entries, since the driver has memory at other places from run to run.
-std::vector<Span> spans_of(const std::vector<Entry> &entries, const std::vector<uint64_t> &addresses, int space);
+constexpr uint64_t APART = 16; // words between spans
+
+// The spans of the entries of one space, whose addresses are their own or these; those that overlap are one. They never share a word, and
+// stand apart by some. Words are numbered in the order of the entries, since the driver has memory at other places from run to run.
+inline std::vector<Span> spans_of(const std::vector<Entry> &entries, const std::vector<uint64_t> &addresses, int space) {
+    std::vector<Span> found, spans;
+    for (size_t at = 0; at < entries.size(); at++) {
+        const Entry &entry = entries[at];
+        const uint64_t address = addresses.empty() ? entry.address : addresses[at];
+        if (entry.space == space && entry.bytes > 0 && address)
+            found.push_back({address, entry.bytes, 0, entry.grain, 2, entry.has_atomics, at, entry.name});
+    }
+    const auto is_before = [](const Span &one, const Span &other) { return one.address < other.address; };
+    std::stable_sort(found.begin(), found.end(), is_before);
+    for (const Span &span : found) {
+        if (!spans.empty() && span.address < spans.back().address + spans.back().bytes) spans.back().join(span);
+        else spans.push_back(span);
+    }
+    std::sort(spans.begin(), spans.end(), [](const Span &one, const Span &other) { return one.entry < other.entry; });
+    uint64_t first = 0;
+    for (Span &span : spans) {
+        span.first_word = first;
+        span.shift = span.grain == 4 ? 2 : span.grain == 2 ? 1 : 0;
+        first = (first + span.words() + 2 * APART - 1) / APART * APART;
+    }
+    return spans;
+}
 
 // The numbers that their words have.
 inline uint64_t words_of(const std::vector<Span> &spans) {
@@ -44,6 +76,13 @@ struct LocalLayout {
     std::vector<uint64_t> addresses;
     uint64_t bytes = LOCAL_GAP;
 };
-LocalLayout lay_out_locals(const std::vector<Entry> &entries, uint64_t start);
+inline LocalLayout lay_out_locals(const std::vector<Entry> &entries, uint64_t start) {
+    LocalLayout layout;
+    for (const Entry &entry : entries) {
+        layout.addresses.push_back(entry.space == LOCAL ? start + layout.bytes : 0);
+        if (entry.space == LOCAL) layout.bytes += (entry.bytes + LOCAL_GAP - 1) / LOCAL_GAP * LOCAL_GAP + LOCAL_GAP;
+    }
+    return layout;
+}
 
 } // namespace gpurace

@@ -50,7 +50,4 @@ struct Program {
     bool has_variables = false;     // in global memory, so that each program needs code of its own
 };
 
-// The program that the instrumenting pass described in this file; false where it can't be read.
-bool read_sites(const std::string &path, Program &program);
-
 } // namespace gpurace

@@ -22,74 +22,66 @@ struct Watcher {
     uint64_t number = 0; // of launches that were watched
     bool has_thread = false;
 
-    void watch();
-    void write_and_end(Launch &stopped);
-};
-Watcher &watcher() {
-    static auto &made = *new Watcher;
-    return made;
-}
-
-// The launch's threads stay in their kernel and call the runtime no more, so that what they have can be written.
-void Watcher::write_and_end(Launch &stopped) {
-    stopped.abandon();
-    if (stopped.request.is_recorded()) end_folder(stopped, 0);
-    std::fflush(nullptr);
-    if (was_interrupted) {
-        std::signal(SIGINT, SIG_DFL);
-        kill(getpid(), SIGINT);
-    }
-    _exit(TIMED_OUT);
-}
-
-void Watcher::watch() {
-    std::unique_lock<std::mutex> held(lock);
-    double stopped_at = 0;
-    for (uint64_t seen = 0;;) {
-        held.unlock(); // it looks from time to time: to wake it for each launch would cost small ones more than they do
-        std::this_thread::sleep_for(std::chrono::milliseconds(20));
-        held.lock();
-        if (!launch) continue;
-        if (seen != number) seen = number, stopped_at = 0;
-        const double now = seconds_now();
-        if (!stopped_at && (was_interrupted || (end > 0 && now > end))) {
-            launch->is_timed_out = !was_interrupted;
-            launch->is_stopped = launch->is_over = true;
-            stopped_at = now;
+    void watch() {
+        std::unique_lock<std::mutex> held(lock);
+        double stopped_at = 0;
+        for (uint64_t seen = 0;;) {
+            held.unlock(); // it looks from time to time: to wake it for each launch would cost small ones more than they do
+            std::this_thread::sleep_for(std::chrono::milliseconds(20));
+            held.lock();
+            if (!launch) continue;
+            if (seen != number) seen = number, stopped_at = 0;
+            const double now = seconds_now();
+            if (!stopped_at && (was_interrupted || (end > 0 && now > end))) {
+                launch->is_timed_out = !was_interrupted;
+                launch->is_stopped = launch->is_over = true;
+                stopped_at = now;
+            }
+            if (stopped_at && now > stopped_at + GRACE) write_and_end(*launch);
         }
-        if (stopped_at && now > stopped_at + GRACE) write_and_end(*launch);
     }
-}
+
+    // The launch's threads stay in their kernel and call the runtime no more, so that what they have can be written.
+    void write_and_end(Launch &stopped) {
+        stopped.abandon();
+        if (stopped.request.is_recorded()) end_folder(stopped, 0);
+        std::fflush(nullptr);
+        if (was_interrupted) {
+            std::signal(SIGINT, SIG_DFL);
+            kill(getpid(), SIGINT);
+        }
+        _exit(TIMED_OUT);
+    }
+};
+auto &watcher = *new Watcher;
 
 } // namespace
 
 Watched::Watched(Launch &launch) {
-    Watcher &own = watcher();
     struct sigaction interrupt {};
     interrupt.sa_handler = note_interrupt;
     sigemptyset(&interrupt.sa_mask);
     was_interrupted = 0;
     sigaction(SIGINT, &interrupt, &before_);
-    const std::lock_guard<std::mutex> held(own.lock);
-    if (!own.has_thread) try {
-        pthread_atfork(nullptr, nullptr, [] { new (&watcher()) Watcher; }); // a forked process has no such thread
+    const std::lock_guard<std::mutex> held(watcher.lock);
+    if (!watcher.has_thread) try {
+        pthread_atfork(nullptr, nullptr, [] { new (&watcher) Watcher; }); // a forked process has no such thread
         std::thread([] {
             sigset_t all; // signals are the program's own threads'
             sigfillset(&all);
             pthread_sigmask(SIG_BLOCK, &all, nullptr);
-            watcher().watch();
+            watcher.watch();
         }).detach();
-        own.has_thread = true;
+        watcher.has_thread = true;
     } catch (const std::exception &) {} // without memory for it nobody watches
-    own.launch = &launch;
-    own.number++;
-    own.end = settings().timeout > 0 ? seconds_now() + settings().timeout : 0;
+    watcher.launch = &launch;
+    watcher.number++;
+    watcher.end = settings().timeout > 0 ? seconds_now() + settings().timeout : 0;
 }
 
 Watched::~Watched() {
-    Watcher &own = watcher();
-    const std::lock_guard<std::mutex> held(own.lock);
-    own.launch = nullptr;
+    const std::lock_guard<std::mutex> held(watcher.lock);
+    watcher.launch = nullptr;
     sigaction(SIGINT, &before_, nullptr);
     if (was_interrupted) kill(getpid(), SIGINT); // now the program's own way
 }

@@ -1,6 +1,5 @@
 #include "stream.h"
 
-#include "../../../tools/recorder/window.h"
 #include "../sites.h"
 #include "settings.h"
 
@@ -11,12 +10,9 @@
 #include <fcntl.h>
 #include <fstream>
 #include <sys/stat.h>
-#include <unistd.h>
 
 namespace gpurace {
 namespace {
-
-constexpr size_t HEADER_BYTES = 12;
 
 int open_to_append(const std::string &path) {
     return open(path.c_str(), O_WRONLY | O_CREAT | O_APPEND | O_CLOEXEC, 0666);
@@ -32,12 +28,12 @@ int open_pipe(const std::string &path) {
     }
 }
 
-// Writes all of it, and answers 0 or what went wrong. Where nobody reads a pipe any more, the signal of that does not
-// reach the program.
+// Writes all of it, and answers 0 or what went wrong. Where nobody reads a pipe any more, or a file may not be larger, the signal of that
+// does not reach the program.
 int write_all(int file, const char *bytes, size_t count) {
     sigset_t broken, before;
     sigemptyset(&broken);
-    sigaddset(&broken, SIGPIPE);
+    for (const int signal : {SIGPIPE, SIGXFSZ}) sigaddset(&broken, signal);
     pthread_sigmask(SIG_BLOCK, &broken, &before);
     int error = 0;
     for (ssize_t done; !error && count > 0; bytes += done, count -= size_t(done)) {
@@ -46,44 +42,41 @@ int write_all(int file, const char *bytes, size_t count) {
         done = std::max<ssize_t>(done, 0);
     }
     const timespec now{};
-    if (error == EPIPE && !sigismember(&before, SIGPIPE)) sigtimedwait(&broken, nullptr, &now);
+    const int sent = error == EPIPE ? SIGPIPE : error == EFBIG ? SIGXFSZ : 0;
+    if (sent && !sigismember(&before, sent)) sigtimedwait(&broken, nullptr, &now);
     pthread_sigmask(SIG_SETMASK, &before, nullptr);
     return error;
 }
 
 int append_to(const std::string &path, const char *bytes, size_t count) {
-    const int file = open_to_append(path);
-    const int error = file < 0 ? errno : write_all(file, bytes, count);
-    if (file >= 0) close(file);
-    return error;
+    const File file{open_to_append(path)};
+    return file.number < 0 ? errno : write_all(file.number, bytes, count);
 }
 
 int copy_to(int file, const std::string &path) {
     char bytes[1 << 16];
-    const int from = open(path.c_str(), O_RDONLY | O_CLOEXEC);
-    int error = from < 0 ? errno : 0;
+    const File from{open(path.c_str(), O_RDONLY | O_CLOEXEC)};
+    int error = from.number < 0 ? errno : 0;
     for (ssize_t count = 1; !error && count > 0;) {
-        count = read(from, bytes, sizeof bytes);
+        count = read(from.number, bytes, sizeof bytes);
         error = count < 0 ? errno : write_all(file, bytes, size_t(count));
     }
-    if (from >= 0) close(from);
     return error;
 }
 
 // The disk has no room for all of the stream that begins at `start`. Its last whole record there becomes the end; this
 // answers how many records it has then.
 uint32_t end_early(const std::string &path, off_t start, uint32_t record_bytes) {
-    const int file = open(path.c_str(), O_WRONLY | O_CLOEXEC);
-    const off_t first = start + off_t(HEADER_BYTES), size = off_t(record_bytes);
-    off_t records = file < 0 ? 0 : std::max(off_t(0), lseek(file, 0, SEEK_END) - first) / size;
-    char end[44];
+    const File to{open(path.c_str(), O_WRONLY | O_CLOEXEC)};
+    const off_t first = start + off_t(GPURACE_HEADER_BYTES), size = off_t(record_bytes);
+    off_t records = to.number < 0 ? 0 : std::max(off_t(0), lseek(to.number, 0, SEEK_END) - first) / size;
+    char end[GPURACE_RECORD_BYTES];
     std::memset(end, 0xff, sizeof end);
     std::memset(end, 0, 12);
     end[0] = END, end[1] = 1;
     const off_t bytes = records ? first + records * size : start;
-    if (file < 0 || ftruncate(file, bytes) != 0) records = 0;
-    if (records && pwrite(file, end, size_t(size), bytes - size) != size) records = 0;
-    if (file >= 0) close(file);
+    if (to.number < 0 || ftruncate(to.number, bytes) != 0) records = 0;
+    if (records && pwrite(to.number, end, size_t(size), bytes - size) != size) records = 0;
     return uint32_t(records);
 }
 
@@ -100,10 +93,6 @@ Streams::Streams(std::string folder_, std::vector<std::string> headers_)
     : folder(std::move(folder_)), headers(std::move(headers_)), are_joined(headers.size() > GPURACE_MOST_GROUPS),
       states(headers.size(), TO_BEGIN), joined_path_(folder + "/groups.gpurace") {}
 
-Streams::~Streams() {
-    if (joined_ >= 0) close(joined_);
-}
-
 std::string Streams::path_of(uint32_t group) const {
     return folder + (group < 10 ? "/group0" : "/group") + std::to_string(group) + (are_joined ? ".part" : ".gpurace");
 }
@@ -118,34 +107,28 @@ void Streams::open_pipes() {
         if (states[group] != ENDED) mkfifo((path + ".pipe").c_str(), 0666);
     }
     if (are_joined) mkfifo((joined_path_ + ".pipe").c_str(), 0666);
-    if (joined_ >= 0) close(joined_);
-    joined_ = -1;
+    joined_.set(-1);
     std::ofstream(folder + "/piped.txt") << '\n';
 }
 
 int Streams::join(const std::string &part, const char *bytes, size_t count, uint32_t record_bytes, uint32_t &records) {
     const std::unique_lock<std::shared_mutex> held(lock);
-    if (joined_ < 0) joined_ = are_piped ? open_pipe(joined_path_ + ".pipe") : open_to_append(joined_path_);
-    const off_t start = lseek(joined_, 0, SEEK_END);
-    int error = joined_ < 0 ? EPIPE : part.empty() ? 0 : copy_to(joined_, part);
-    if (!error) error = write_all(joined_, bytes, count);
+    if (joined_.number < 0) joined_.set(are_piped ? open_pipe(joined_path_ + ".pipe") : open_to_append(joined_path_));
+    const off_t start = lseek(joined_.number, 0, SEEK_END);
+    int error = joined_.number < 0 ? EPIPE : part.empty() ? 0 : copy_to(joined_.number, part);
+    if (!error) error = write_all(joined_.number, bytes, count);
     if (!part.empty()) unlink(part.c_str());
     if (error && !are_piped) records = end_early(joined_path_, std::max(off_t(0), start), record_bytes);
     return error;
 }
 
 Stream::Stream(uint32_t group, bool has_names, Streams &streams, std::atomic<uint64_t> &counted)
-    : group_(group), record_bytes_(has_names ? 44 : 20), streams_(streams), path_(streams.path_of(group)),
-      counted_(counted) {}
-
-Stream::~Stream() {
-    if (pipe_ >= 0) ::close(pipe_);
-}
+    : group_(group), record_bytes_(has_names ? 44 : 20), streams_(streams), path_(streams.path_of(group)), counted_(counted) {}
 
 bool Stream::open() {
     bytes_.reset(new char[ROOM]);
-    std::memcpy(bytes_.get(), streams_.headers[group_].data(), HEADER_BYTES);
-    used_ = HEADER_BYTES;
+    std::memcpy(bytes_.get(), streams_.headers[group_].data(), GPURACE_HEADER_BYTES);
+    used_ = GPURACE_HEADER_BYTES;
     if (streams_.are_joined) return true;
     const std::shared_lock<std::shared_mutex> held(streams_.lock);
     if (!streams_.are_piped) { // or its header stands there
@@ -181,9 +164,9 @@ int Stream::write_out(bool is_last) {
     }
     if (!is_piped_) {
         is_piped_ = true;
-        pipe_ = open_pipe(path_ + ".pipe");
+        pipe_.set(open_pipe(path_ + ".pipe"));
     }
-    return pipe_ < 0 ? EPIPE : write_all(pipe_, bytes_.get(), used_);
+    return pipe_.number < 0 ? EPIPE : write_all(pipe_.number, bytes_.get(), used_);
 }
 
 void Stream::flush(bool is_last) {

@@ -6,12 +6,20 @@
 #include <mutex>
 #include <shared_mutex>
 #include <string>
+#include <unistd.h>
 
 namespace gpurace {
 
-constexpr uint32_t MOST_RECORDS = 16777216; // of a stream, its end included
-
 std::string stream_header(bool has_names, uint32_t group, uint64_t items, uint32_t launch);
+
+struct File { // that is open as this number, or none; it is closed at the end
+    int number = -1;
+    ~File() { set(-1); }
+    void set(int other) {
+        if (number >= 0) close(number);
+        number = other;
+    }
+};
 
 // The files of the streams: one for each group, or one to which each is joined when its group ends. Where they are full
 // they go on as pipes, NAME.pipe beside NAME. The judge begins when it sees piped.txt, and wants the headers of all
@@ -19,7 +27,6 @@ std::string stream_header(bool has_names, uint32_t group, uint64_t items, uint32
 struct Streams {
     enum State : char { TO_BEGIN, BEGUN, ENDED };
     Streams(std::string folder, std::vector<std::string> headers);
-    ~Streams();
     std::string path_of(uint32_t group) const; // of joined ones: what memory has no room for, until the group ends
     void open_pipes();
     // Joins a stream: its part that is a file, and these bytes. Answers 0 or what went wrong; it has `records` then.
@@ -34,7 +41,7 @@ struct Streams {
 
 private:
     const std::string joined_path_;
-    int joined_ = -1; // the file of the joined streams, or its pipe, once it is open
+    File joined_; // the file of the joined streams, or its pipe, once it is open
 };
 
 // A group's stream. Records stand in a buffer until it is full; where they can't be written the stream is ended as cut.
@@ -42,12 +49,11 @@ class Stream {
 public:
     // `counted` is told of records as they are written.
     Stream(uint32_t group, bool has_names, Streams &streams, std::atomic<uint64_t> &counted);
-    ~Stream();
     bool open();
     void put(uint64_t head, uint32_t word, const Name *names, size_t count);
     void close(bool is_cut);
     uint32_t records() const { return records_; }
-    bool is_full() const { return records_ >= MOST_RECORDS - 1; }
+    bool is_full() const { return records_ >= GPURACE_MOST_RECORDS - 1; }
     int error() const { return error_; }
 
 private:
@@ -56,7 +62,8 @@ private:
     Streams &streams_;
     const std::string path_;
     bool is_piped_ = false, has_file_ = false;
-    int pipe_ = -1, error_ = 0;
+    File pipe_;
+    int error_ = 0;
     uint32_t records_ = 0, untold_ = 0;
     std::unique_ptr<char[]> bytes_; // null where it is not open
     size_t used_ = 0;
