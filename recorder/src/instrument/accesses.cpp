@@ -9,10 +9,6 @@ using namespace llvm;
 
 namespace gpurace {
 
-bool Accesses::may_acquire() const {
-    return any_of(atomics, [](const Atomic &atomic) { return atomic.may_acquire(); });
-}
-
 const Value *object_of(const Value *pointer) {
     const Value *object = getUnderlyingObject(pointer, 0);
     return isa<Argument>(object) || isa<GlobalVariable>(object) ? object : nullptr;
@@ -36,8 +32,7 @@ private:
         if (auto *load = dyn_cast<LoadInst>(&at))
             add({&at, load->getPointerOperandIndex(), READ, size_of(load->getType()), load->getAlign().value()});
         else if (auto *store = dyn_cast<StoreInst>(&at))
-            add({&at, store->getPointerOperandIndex(), WRITE, size_of(store->getValueOperand()->getType()),
-                 store->getAlign().value()});
+            add({&at, store->getPointerOperandIndex(), WRITE, size_of(store->getValueOperand()->getType()), store->getAlign().value()});
         else if (isa<AnyMemIntrinsic>(at)) find_block(cast<AnyMemIntrinsic>(at));
         else if (isa<AtomicRMWInst>(at) || isa<AtomicCmpXchgInst>(at)) found.notes.insert("an atomic of another kind");
         else if (auto *call = dyn_cast<CallInst>(&at)) find_call(*call);

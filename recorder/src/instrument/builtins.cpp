@@ -45,15 +45,11 @@ Operation operation_of(StringRef name, SiteKind kind) {
     if (kind == LOAD) return OP_LOAD;
     if (kind == STORE || kind == WRITE) return OP_STORE;
     if (kind == COMPARE_EXCHANGE) return OP_COMPARE;
-    if (!name.consume_front("atomic_")) name.consume_front("atom_");
+    for (const StringRef prefix : {"atom_", "atomic_", "fetch_"}) name.consume_front(prefix);
     return StringSwitch<Operation>(name)
-        .StartsWith("fetch_add", OP_ADD).StartsWith("add", OP_ADD).StartsWith("inc", OP_ADD)
-        .StartsWith("fetch_sub", OP_SUBTRACT).StartsWith("sub", OP_SUBTRACT).StartsWith("dec", OP_SUBTRACT)
-        .StartsWith("fetch_min", OP_MINIMUM).StartsWith("min", OP_MINIMUM)
-        .StartsWith("fetch_max", OP_MAXIMUM).StartsWith("max", OP_MAXIMUM)
-        .StartsWith("fetch_and", OP_AND).StartsWith("and", OP_AND)
-        .StartsWith("fetch_or", OP_OR).StartsWith("or", OP_OR)
-        .StartsWith("fetch_xor", OP_XOR).StartsWith("xor", OP_XOR)
+        .StartsWith("add", OP_ADD).StartsWith("inc", OP_ADD).StartsWith("sub", OP_SUBTRACT).StartsWith("dec", OP_SUBTRACT)
+        .StartsWith("min", OP_MINIMUM).StartsWith("max", OP_MAXIMUM)
+        .StartsWith("and", OP_AND).StartsWith("or", OP_OR).StartsWith("xor", OP_XOR)
         .Default(OP_EXCHANGE); // xchg, exchange, flag_test_and_set
 }
 

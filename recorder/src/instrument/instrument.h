@@ -71,7 +71,9 @@ struct Accesses {
     std::vector<llvm::CallInst *> barriers, copies, fences, images;
     std::set<std::string> notes; // what is not recorded
 
-    bool may_acquire() const;
+    bool may_acquire() const {
+        return llvm::any_of(atomics, [](const Atomic &atomic) { return atomic.may_acquire(); });
+    }
 };
 
 Accesses find_accesses(llvm::Function &function);

@@ -27,11 +27,9 @@ int main(int count, char **words) {
     raw_fd_ostream out(words[2], error), sites(words[3], error);
     if (error) return errs() << words[3] << ": " << error.message() << '\n', FAILED;
     gpurace::inline_calls(*module);
-    std::vector<Function *> kernels;
-    for (Function &function : *module)
-        if (gpurace::is_kernel(function)) kernels.push_back(&function);
     unsigned next_site = 0;
-    for (Function *kernel : kernels) gpurace::instrument_kernel(*kernel, sites, next_site);
+    for (Function &function : make_early_inc_range(*module)) // what that adds is no kernel
+        if (gpurace::is_kernel(function)) gpurace::instrument_kernel(function, sites, next_site);
     gpurace::strip(*module);
     if (verifyModule(*module, &errs())) return FAILED;
     const std::unique_ptr<Module> linked = gpurace::link_for_host(*module, words[1], host_context);

@@ -19,15 +19,13 @@ namespace gpurace {
 namespace {
 
 void split_called_kernels(Module &module) {
-    std::vector<Function *> kernels;
-    for (Function &function : module)
-        if (is_kernel(function) && !function.use_empty()) kernels.push_back(&function);
-    for (Function *kernel : kernels) {
+    for (Function &kernel : module) {
+        if (!is_kernel(kernel) || kernel.use_empty()) continue;
         ValueToValueMapTy values;
-        Function *called = CloneFunction(kernel, values);
+        Function *called = CloneFunction(&kernel, values);
         called->setLinkage(GlobalValue::InternalLinkage);
         called->setCallingConv(CallingConv::SPIR_FUNC);
-        kernel->replaceUsesWithIf(called, [](Use &use) { return isa<CallInst>(use.getUser()); });
+        kernel.replaceUsesWithIf(called, [](Use &use) { return isa<CallInst>(use.getUser()); });
         for (User *user : called->users()) cast<CallInst>(user)->setCallingConv(CallingConv::SPIR_FUNC);
     }
 }

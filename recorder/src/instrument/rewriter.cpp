@@ -8,8 +8,8 @@
 #include "instrument.h"
 
 #include "../../../tools/recorder/components.h"
+#include "../../../tools/recorder/places.h"
 
-#include "llvm/IR/DebugInfoMetadata.h"
 #include "llvm/IR/IRBuilder.h"
 #include "llvm/IR/InstIterator.h"
 #include "llvm/IR/ReplaceConstant.h"
@@ -64,17 +64,6 @@ char kind_of(const Argument &argument) {
     return pointer->getAddressSpace() == LOCAL_SPACE ? 'L' : pointer->getAddressSpace() == CONSTANT_SPACE ? 'C' : 'B';
 }
 
-// FILE:LINE:COLUMN, and ` called at FILE:LINE:COLUMN` for each call that leads there, the innermost one first.
-std::string place_of(const DILocation *at) {
-    std::string text;
-    for (; at; at = at->getInlinedAt()) {
-        const std::string file = at->getFilename().empty() ? "kernel.cl" : at->getFilename().str();
-        text += (text.empty() ? "" : " called at ") + file + ":" + std::to_string(at->getLine());
-        text += ":" + std::to_string(at->getColumn());
-    }
-    return text.empty() ? "kernel.cl:0:0" : text;
-}
-
 bool is_used_in(const Function &function, const User &user) {
     if (auto *instruction = dyn_cast<Instruction>(&user)) return instruction->getFunction() == &function;
     return any_of(user.users(), [&](const User *further) { return is_used_in(function, *further); });
@@ -93,16 +82,14 @@ class Rewriter {
 public:
     Rewriter(Function &kernel, raw_ostream &sites, unsigned &next_site)
         : module_(*kernel.getParent()), layout_(module_.getDataLayout()), context_(module_.getContext()),
-          bytes_(Type::getInt8PtrTy(context_)), function_(&kernel), sites_(sites), next_site_(next_site),
-          name_(kernel.getName().str()) {}
+          bytes_(Type::getInt8PtrTy(context_)), kernel_(kernel), sites_(sites), next_site_(next_site), name_(kernel.getName().str()) {}
 
     void rewrite() {
-        add_item_argument();
+        begin_function();
         components::narrow(*function_);
         const Accesses accesses = find_accesses(*function_);
         sites_ << "kernel " << name_ << ' ' << accesses.may_acquire() << ' ' << !accesses.copies.empty() << ' '
-               << function_->arg_size() - 1 << '\n';
-        number_entries();
+               << kernel_.arg_size() << '\n';
         write_entries(accesses);
         for (const Access &access : accesses.plain) put_access(access);
         for (const Atomic &atomic : accesses.atomics) put_atomic(atomic);
@@ -114,7 +101,7 @@ public:
         put_prints();
         put_samplers();
         place_local_variables();
-        add_entry_point();
+        end_function();
         for (const std::string &note : accesses.notes) sites_ << "note " << note << '\n';
     }
 
@@ -123,7 +110,7 @@ private:
     const DataLayout &layout_;
     LLVMContext &context_;
     PointerType *const bytes_; // to bytes of private memory
-    Function *function_;
+    Function &kernel_, *function_ = nullptr;
     raw_ostream &sites_;
     unsigned &next_site_;
     std::string name_;
@@ -132,73 +119,65 @@ private:
     std::map<const Value *, int> entries_;
     std::vector<GlobalVariable *> variables_; // those that the kernel uses, in local and global memory
 
-    // The kernel becomes a function with one argument more, its work-item's state.
-    void add_item_argument() {
-        Function *old = function_;
-        std::vector<Type *> types;
-        for (Argument &argument : old->args()) types.push_back(argument.getType());
-        types.push_back(bytes_);
-        auto *type = FunctionType::get(old->getReturnType(), types, false);
-        function_ = Function::Create(type, GlobalValue::InternalLinkage, "gr_kernel_" + name_, module_);
-        function_->copyAttributesFrom(old);
-        function_->setLinkage(GlobalValue::InternalLinkage);
-        function_->setCallingConv(CallingConv::C);
-        function_->removeFnAttr(Attribute::NoInline);
-        function_->addFnAttr(Attribute::AlwaysInline);
-        function_->getBasicBlockList().splice(function_->begin(), old->getBasicBlockList());
-        for (unsigned at = 0; at < old->arg_size(); at++) {
-            old->getArg(at)->replaceAllUsesWith(function_->getArg(at));
-            function_->getArg(at)->takeName(old->getArg(at));
-            function_->removeParamAttr(at, Attribute::NoAlias); // what the runtime does may not be moved across
-        }
-        item_ = function_->getArg(unsigned(old->arg_size()));
+    // The kernel becomes void gr_run_NAME(item, arguments), which the host calls. Its code knows its own arguments until all else is done.
+    void begin_function() {
+        auto *type = FunctionType::get(Type::getVoidTy(context_), {bytes_, bytes_->getPointerTo()}, false);
+        function_ = Function::Create(type, GlobalValue::ExternalLinkage, RUN_PREFIX + name_, module_);
+        function_->addFnAttrs(AttrBuilder(context_, kernel_.getAttributes().getFnAttrs()));
+        function_->getBasicBlockList().splice(function_->begin(), kernel_.getBasicBlockList());
+        item_ = function_->getArg(0);
         Type *room = ArrayType::get(Type::getInt8Ty(context_), MOST_STORED + 4); // the runtime reads it by four bytes
         stored_ = new AllocaInst(room, 0, nullptr, Align(16), "", &function_->getEntryBlock().front());
-        if (auto *subprogram = old->getSubprogram()) function_->setSubprogram(subprogram);
-        old->eraseFromParent();
+        if (auto *subprogram = kernel_.getSubprogram()) function_->setSubprogram(subprogram);
     }
 
-    void number_entries() {
-        int next = 0;
-        for (Argument &argument : function_->args()) {
+    void end_function() {
+        Builder builder(&*function_->getEntryBlock().getFirstInsertionPt());
+        for (Argument &argument : kernel_.args()) {
+            Value *place = builder.CreateConstGEP1_32(bytes_, function_->getArg(1), argument.getArgNo());
+            Value *given = builder.CreateLoad(bytes_, place);
+            if (Type *copied = argument.getParamByValType()) { // each item has its own copy of a struct
+                AllocaInst *own = builder.CreateAlloca(copied);
+                own->setAlignment(argument.getParamAlign().valueOrOne());
+                builder.CreateMemCpy(own, own->getAlign(), given, Align(1), layout_.getTypeAllocSize(copied));
+                argument.replaceAllUsesWith(own);
+            } else {
+                Value *typed = as(builder, given, argument.getType()->getPointerTo());
+                argument.replaceAllUsesWith(builder.CreateAlignedLoad(argument.getType(), typed, Align(1)));
+            }
+        }
+        kernel_.eraseFromParent();
+    }
+
+    void write_entries(const Accesses &accesses) {
+        const Grains grains(accesses, layout_);
+        for (Argument &argument : kernel_.args()) {
             const char kind = kind_of(argument);
-            if (&argument != item_ && (kind == 'B' || kind == 'L')) entries_[&argument] = next++;
+            sites_ << "argument " << argument.getArgNo() << ' ' << kind << '\n';
+            if (kind == 'B' || kind == 'L') write_entry(argument, int(argument.getArgNo()), 0, argument.getName(), accesses, grains);
         }
         for (GlobalVariable &variable : module_.globals()) {
             const auto is_here = [&](const User *user) { return is_used_in(*function_, *user); };
             const bool is_constant = variable.isConstant() && variable.getAddressSpace() == GLOBAL_SPACE;
             if (is_constant || !is_traced(&variable) || !any_of(variable.users(), is_here)) continue;
-            entries_[&variable] = next++;
             variables_.push_back(&variable);
-        }
-    }
-
-    void write_entries(const Accesses &accesses) {
-        const Grains grains(accesses, layout_);
-        for (Argument &argument : function_->args()) {
-            if (&argument == item_) continue;
-            sites_ << "argument " << argument.getArgNo() << ' ' << kind_of(argument) << '\n';
-            if (entries_.count(&argument))
-                write_entry(argument, int(argument.getArgNo()), 0, argument.getName(), accesses, grains);
-        }
-        for (GlobalVariable *variable : variables_) {
-            StringRef name = variable->getName();
+            StringRef name = variable.getName();
             name.consume_front(name_ + ".");
-            if (variable->getAddressSpace() == GLOBAL_SPACE) // the host looks it up
-                variable->setLinkage(GlobalValue::ExternalLinkage);
-            write_entry(*variable, -1, layout_.getTypeAllocSize(variable->getValueType()), name, accesses, grains);
+            if (variable.getAddressSpace() == GLOBAL_SPACE) variable.setLinkage(GlobalValue::ExternalLinkage); // the host looks it up
+            write_entry(variable, -1, layout_.getTypeAllocSize(variable.getValueType()), name, accesses, grains);
         }
     }
 
-    void write_entry(const Value &object, int argument, uint64_t bytes, StringRef name, const Accesses &accesses,
-                     const Grains &grains) {
+    void write_entry(const Value &object, int argument, uint64_t bytes, StringRef name, const Accesses &accesses, const Grains &grains) {
         const unsigned space = object.getType()->getPointerAddressSpace();
         const bool has_atomics = any_of(accesses.atomics, [&](const Atomic &atomic) {
             const Value *known = object_of(atomic.pointer);
             const unsigned other = atomic.pointer->getType()->getPointerAddressSpace();
             return known ? known == &object : other == space || other == GENERIC_SPACE;
         });
-        sites_ << "entry " << entries_.at(&object) << ' ' << argument << ' ' << (space == LOCAL_SPACE) << ' ' << bytes
+        const int number = int(entries_.size());
+        entries_[&object] = number;
+        sites_ << "entry " << number << ' ' << argument << ' ' << (space == LOCAL_SPACE) << ' ' << bytes
                << ' ' << grains.of(&object) << ' ' << has_atomics << ' ' << (name.empty() ? "unnamed" : name) << '\n';
     }
 
@@ -216,37 +195,13 @@ private:
         }
     }
 
-    // void gr_run_NAME(item, arguments): what the host calls.
-    void add_entry_point() {
-        auto *type = FunctionType::get(Type::getVoidTy(context_), {bytes_, bytes_->getPointerTo()}, false);
-        Function *entry = Function::Create(type, GlobalValue::ExternalLinkage, RUN_PREFIX + name_, module_);
-        entry->addFnAttrs(AttrBuilder(context_, function_->getAttributes().getFnAttrs()));
-        entry->removeFnAttr(Attribute::AlwaysInline);
-        Builder builder(BasicBlock::Create(context_, "", entry));
-        std::vector<Value *> values;
-        for (Argument &argument : function_->args()) {
-            if (&argument == item_) continue;
-            Type *given = argument.getType();
-            Value *place = builder.CreateConstGEP1_32(bytes_, entry->getArg(1), argument.getArgNo());
-            Value *value = builder.CreateLoad(bytes_, place);
-            if (argument.hasByValAttr()) value = builder.CreateBitCast(value, given);
-            else value = builder.CreateAlignedLoad(given, as(builder, value, given->getPointerTo()), Align(1));
-            values.push_back(value);
-        }
-        values.push_back(entry->getArg(0));
-        CallInst *call = builder.CreateCall(function_, values);
-        for (unsigned at = 0; at + 1 < values.size(); at++) // each item has its own copy of a struct
-            if (Type *copied = function_->getParamByValType(at))
-                call->addParamAttr(at, Attribute::getWithByValType(context_, copied));
-        builder.CreateRetVoid();
-    }
-
     unsigned site(const Instruction &at, SiteKind kind, const Value *pointer, uint64_t bytes) {
         const unsigned space = pointer ? pointer->getType()->getPointerAddressSpace() : unsigned(GLOBAL_SPACE);
         const auto entry = pointer && object_of(pointer) ? entries_.find(object_of(pointer)) : entries_.end();
+        const std::string place = text_of(at.getDebugLoc().get());
         sites_ << "site " << next_site_ << ' ' << kind << ' '
                << (space == LOCAL_SPACE ? LOCAL : space == GENERIC_SPACE ? GENERIC : GLOBAL) << ' ' << bytes << ' '
-               << (entry == entries_.end() ? -1 : entry->second) << ' ' << place_of(at.getDebugLoc().get()) << '\n';
+               << (entry == entries_.end() ? -1 : entry->second) << ' ' << (place.empty() ? "kernel.cl:0:0" : place) << '\n';
         return next_site_++;
     }
 
@@ -403,8 +358,7 @@ private:
 
     // A sampler is its CLK_.. bits.
     void put_samplers() {
-        replace_calls([](StringRef name) { return name == "__translate_sampler_initializer"; },
-                      [](Builder &builder, CallInst &call) {
+        replace_calls([](StringRef name) { return name == "__translate_sampler_initializer"; }, [](Builder &builder, CallInst &call) {
                           return builder.CreateIntToPtr(call.getArgOperand(0), call.getType());
                       });
     }
