@@ -1,5 +1,5 @@
 -- What is told of one access of a racing pair.
--- Source: docs/OUTPUT.md, "explain --long".
+-- Source: docs/FORMATS.md, "The long form of explain".
 use Rattle.std.specs.Prelude.{ℕ, Option, filter, length, option_and_then, option_map, slice_get, take}
 use Rattle.gr_model.specs.declared.event.Event.{Event}
 use Rattle.gr_model.specs.declared.event.EventId.{EventId}

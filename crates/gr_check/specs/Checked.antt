@@ -1,5 +1,5 @@
 -- What comes of a check of files, and why nothing does.
--- Source: docs/OUTPUT.md, "check".
+-- Source: docs/FORMATS.md, "Check".
 use Rattle.std.specs.Prelude.{◌≡◌, ◌⊎◌, ℕ, Bool, true, false, List, Option, Result, IfSome}
 use Rattle.gr_model.specs.Streams.{AreAccepted, Streams}
 use Rattle.gr_input.specs.Faults.{IsOutside}

@@ -1,5 +1,5 @@
 -- What the fault of files is about.
--- Source: docs/OUTPUT.md, "check".
+-- Source: docs/FORMATS.md, "Check".
 use Rattle.std.specs.Prelude.{ℕ, List, Option, option_map, slice_get}
 use Rattle.gr_record.specs.declared.fault.Fault.{Fault}
 use Rattle.gr_record.specs.declared.fault.Fault.TheVariants as faults

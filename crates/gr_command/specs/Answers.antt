@@ -1,5 +1,5 @@
 -- What a run of the program leaves behind: on standard output, on standard error, and its status.
--- Source: docs/OUTPUT.md, "The report", "Lines of faults" and "Statuses".
+-- Source: docs/FORMATS.md, "Report", "Fault lines" and "Exit statuses".
 use Rattle.std.specs.Prelude.{◌≡◌, ◌≢◌, ◌⊎◌, ℕ, Bool, false, true, List, Option, None, Some, Result, Ok, Err, IfSome, ⊤}
 use Rattle.std.specs.Io.KnownBytes.{Appends, Keeps}
 use Rattle.gr_model.specs.declared.event.Word.{Word}

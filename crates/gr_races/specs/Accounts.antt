@@ -1,5 +1,5 @@
 -- The least racing pair of a word, what its accesses are, what stands between them, the cause of their race, and the word's other races.
--- Source: docs/OUTPUT.md, "explain --long".
+-- Source: docs/FORMATS.md, "The long form of explain".
 use Rattle.std.specs.Prelude.{◌≡◌, ◌∷◌, [], ℕ, List, MatchOption, Option, Some, filter, not}
 use Rattle.gr_model.specs.declared.event.EventId.{EventId}
 use Rattle.gr_model.specs.declared.event.Word.{Word}

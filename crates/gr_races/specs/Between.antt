@@ -1,5 +1,5 @@
 -- What stands between the two accesses of a racing pair.
--- Source: docs/OUTPUT.md, "explain --long".
+-- Source: docs/FORMATS.md, "The long form of explain".
 use Rattle.std.specs.Prelude.{ℕ, Bool, List, [], Option, None, drop, filter, filter_map, find, if◌then◌else◌, nat_lt, option_and_then, option_map, take, ◌==◌}
 use Rattle.std.specs.List.{enumerate_from, last_or}
 use Rattle.gr_model.specs.declared.event.Event.{Event}

@@ -1,5 +1,5 @@
 -- A launch with one of its rules relaxed: the same records, but for the flags of its barriers or the scopes of its atomics.
--- Source: docs/OUTPUT.md, "explain --long". What is relaxed is this project's own.
+-- Source: docs/FORMATS.md, "The long form of explain". What is relaxed is this project's own.
 use Rattle.std.specs.Prelude.{map, true}
 use Rattle.gr_model.specs.declared.event.Event.{Event}
 use Rattle.gr_model.specs.declared.event.Kind.{Kind}

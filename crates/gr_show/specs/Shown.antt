@@ -1,5 +1,5 @@
 -- What answers the questions about a launch, and the line of a word's least racing pair.
--- Source: docs/OUTPUT.md, "explain".
+-- Source: docs/FORMATS.md, "Explanation".
 use Rattle.std.specs.Prelude.{◌≡◌, ◌↔◌, ℕ, Bool, IsTrue, List, Option, MatchOption, map}
 use Rattle.gr_model.specs.declared.event.EventId.{EventId}
 use Rattle.gr_model.specs.declared.event.Word.{Word}
