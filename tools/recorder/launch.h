@@ -9,17 +9,18 @@
 
 #include <deque>
 #include <map>
+#include <mutex>
 #include <unordered_map>
 #include <utility>
 
 namespace gpurace {
 
 struct Record {
-    uint64_t offset;    // in the buffer; of a barrier its site
+    uint64_t offset;    // in the buffer; of a barrier its site, of its group's
     uint32_t buffer;    // its number in the simulator's memory
-    uint32_t place;     // an index of Launch::places
+    uint32_t place;     // of its group's
     uint32_t size;      // in bytes; of a barrier its flags
-    int32_t names;      // an index of Launch::names, or -1
+    int32_t names;      // an index of Group::names, or -1
     uint16_t item;
     uint8_t kind, space, scope, order; // as in gpurace_trace.h
 
@@ -68,24 +69,39 @@ private:
     std::vector<uint32_t> of_item_; // the copies of each item so far
 };
 
-struct Group {
-    uint32_t number = 0, items = 0;
-    bool is_kept = false;            // it is in the window that is recorded
-    bool has_copies = false;         // asynchronous copies, which one more item does
-    bool is_complete = false, is_full = false;
-    std::vector<Record> records;
-    std::vector<uint32_t> releases;  // of each item, its release operations so far
-    Record last_barrier{}, scratch{};
-    bool has_barrier = false;
-    Copies copies;
+// An instruction, or a debug location, and the place of the call that leads there.
+struct Reached {
+    const void *at;
+    uint32_t call;
 
-    // Keeps a record, and answers where it is: a group that is not kept, or is full, has its last one alone.
-    Record &keep(const Record &record) {
-        is_full = is_full || records.size() >= GPURACE_MOST_RECORDS - 1;
-        if (is_kept && !is_full) return records.emplace_back(record);
-        return scratch = record;
+    bool operator==(const Reached &other) const { return at == other.at && call == other.call; }
+    struct Hash {
+        size_t operator()(const Reached &it) const { return std::hash<const void *>()(it.at) + 31 * size_t(it.call); }
+    };
+};
+
+// Places, or the sites of barriers, in the order in which they were reached.
+class Places {
+public:
+    static constexpr uint32_t NO_CALL = UINT32_MAX; // in the kernel itself
+
+    uint32_t number_of(const Reached &reached) {
+        const auto [entry, is_new] = numbers_.emplace(reached, uint32_t(all_.size()));
+        if (is_new) all_.push_back(reached);
+        return entry->second;
     }
-    uint32_t streamed_items() const { return items + (has_copies ? 1 : 0); }
+    const std::vector<Reached> &all() const { return all_; }
+    // The numbers that these places have among all of the launch, which get those that they lack. `calls` has those of the places of calls.
+    std::vector<uint32_t> numbers_in(Places &launch, const std::vector<uint32_t> *calls) const {
+        std::vector<uint32_t> numbers;
+        for (const Reached &it : all_) // a call has its number before what it leads to
+            numbers.push_back(launch.number_of({it.at, it.call == NO_CALL ? NO_CALL : (calls ? *calls : numbers)[it.call]}));
+        return numbers;
+    }
+
+private:
+    std::unordered_map<Reached, uint32_t, Reached::Hash> numbers_;
+    std::vector<Reached> all_;
 };
 
 // A buffer, by its number in the simulator's memory. `bits` joins the offsets and sizes of all accesses to it.
@@ -99,6 +115,102 @@ struct Buffer {
     std::string name_or(uint32_t number) const { return name.empty() ? "buffer" + std::to_string(number) : name; }
 };
 
+using Buffers = std::array<std::map<uint32_t, Buffer>, 2>; // by space, by number
+
+// What the report of this launch does not speak of.
+struct Losses {
+    uint64_t fences = 0, unknown_orders = 0, names_outside_window = 0, accesses_of_parts_of_words = 0;
+
+    void add(const Losses &other) {
+        fences += other.fences;
+        unknown_orders += other.unknown_orders;
+        names_outside_window += other.names_outside_window;
+        accesses_of_parts_of_words += other.accesses_of_parts_of_words;
+    }
+};
+
+// The releases whose release sequences the value of each atomic word belongs to. A word is its buffer's number and its offset.
+class Sequences {
+public:
+    Names heads(uint64_t word) const {
+        auto found = heads_.find(word);
+        return found == heads_.end() ? Names() : found->second;
+    }
+    // A plain write ends the sequences of all that it covers.
+    void write(uint64_t word, uint64_t size) {
+        if (!heads_.empty()) heads_.erase(heads_.lower_bound(word), heads_.lower_bound(word + size));
+    }
+    void modify(uint64_t word, const Record &record, const Name &own, bool is_recorded) {
+        Names &heads = heads_[word];
+        change_heads(heads, own, record.kind == GPURACE_STORE, record.order, is_recorded);
+        if (heads.empty()) heads_.erase(word);
+    }
+
+private:
+    std::map<uint64_t, Names> heads_;
+};
+
+// Those of global memory, which groups of several threads share. A thread holds the stripes of an access from before it is told
+// what the access does until that is done, so that they change in the order in which values change.
+struct Stripe {
+    std::mutex mutex;
+    Sequences sequences;
+};
+using Stripes = std::array<Stripe, 64>;
+
+class Held {
+public:
+    // Lets go what was held before: a thread that waits for stripes holds none, or lower ones of the same access.
+    void take(Stripes &stripes, uint64_t word, uint64_t size) {
+        release();
+        const uint64_t first = line_of(word), more = line_of(word + size - 1) - first, count = stripes.size();
+        for (uint64_t at = more == 0 ? first % count : 0; at < count; at++) {
+            if ((at - first) % count > more) continue;
+            stripes[at].mutex.lock();
+            held_.push_back(&stripes[at]);
+            if (more == 0) return;
+        }
+    }
+    void release() {
+        for (Stripe *stripe : held_) stripe->mutex.unlock();
+        held_.clear();
+    }
+    const std::vector<Stripe *> &stripes() const { return held_; }
+    ~Held() { release(); } // where an exception ends the thread
+
+private:
+    static uint64_t line_of(uint64_t word) { return (word >> 6) + (word >> 40); }
+    std::vector<Stripe *> held_;
+};
+
+// A thread runs a group from its begin to its end, and nothing here is of another one meanwhile.
+struct Group {
+    uint32_t number = 0, items = 0;
+    bool is_kept = false;            // it is in the window that is recorded
+    bool has_copies = false;         // asynchronous copies, which one more item does
+    bool is_complete = false, is_full = false;
+    std::vector<Record> records;
+    std::vector<uint32_t> releases;  // of each item, its release operations so far
+    Record last_barrier{}, scratch{};
+    bool has_barrier = false;
+    Copies copies;
+    Places places, sites;
+    std::vector<uint32_t> launch_places, launch_sites; // their numbers in the launch, when that has ended
+    std::vector<Names> names; // their numbers count release operations, whatever number of words each has
+    Buffers buffers;
+    Sequences sequences;      // of local memory
+    Losses losses;
+    std::map<uint32_t, Outside> outside; // by place
+
+    // Keeps a record, and answers where it is: a group that is not kept, or is full, has its last one alone.
+    Record &keep(const Record &record) {
+        is_full = is_full || records.size() >= GPURACE_MOST_RECORDS - 1;
+        if (is_kept && !is_full) return records.emplace_back(record);
+        return scratch = record;
+    }
+    uint32_t streamed_items() const { return items + (has_copies ? 1 : 0); }
+};
+
 struct Size {
     uint64_t x = 1, y = 1, z = 1;
     uint64_t count() const { return x * y * z; }
@@ -106,38 +218,43 @@ struct Size {
     uint64_t index_of(uint64_t i, uint64_t j, uint64_t k) const { return i + x * (j + y * k); }
 };
 
-// What the report of this launch does not speak of.
-struct Losses {
-    uint64_t fences = 0, unknown_orders = 0, names_outside_window = 0, accesses_of_parts_of_words = 0;
-};
-
-// An instruction, or a debug location, and the place of the call that leads there.
-struct Reached {
-    const void *at;
-    uint32_t call;
-
-    bool operator==(const Reached &other) const { return at == other.at && call == other.call; }
-    struct Hash {
-        size_t operator()(const Reached &it) const { return std::hash<const void *>()(it.at) + 31 * size_t(it.call); }
-    };
-};
-
 struct Launch {
-    static constexpr uint32_t NO_CALL = UINT32_MAX; // in the kernel itself
-
     uint32_t number = 0;
     std::string kernel, source;
     Size global, local, groups;
-    Window window;                              // the groups that are recorded
-    std::map<uint32_t, Group> group;            // those that have begun, by their numbers in the launch
-    std::vector<std::string> places;
-    std::unordered_map<Reached, uint32_t, Reached::Hash> place_of; // by instruction
-    std::unordered_map<Reached, uint32_t, Reached::Hash> site_of;  // by debug location
-    std::vector<Names> names; // their numbers count release operations, whatever number of words each has
-    std::array<std::map<uint32_t, Buffer>, 2> buffers;    // by space, by number
+    Window window;                       // the groups that are recorded
+    bool has_atomics = true;             // plain writes may end release sequences
+    Stripes stripes;
+    std::mutex mutex;                    // of all below, while groups run
+    std::map<uint32_t, Group> group;     // those that have begun, by their numbers in the launch
+    Buffers buffers;
     Losses losses;
-    std::map<uint32_t, Outside> outside;                  // by place
+    Places reached, sites;               // of all groups
+    std::vector<std::string> places;     // the texts of those that are reached
+    std::map<uint32_t, Outside> outside; // by place
 
+    // The group has ended, or the launch has before it.
+    void join(const Group &group) {
+        losses.add(group.losses);
+        for (size_t space = 0; space < buffers.size(); space++)
+            for (const auto &[number, of_group] : group.buffers[space]) {
+                Buffer &buffer = buffers[space][number];
+                buffer.bytes = of_group.bytes;
+                buffer.bits |= of_group.bits;
+            }
+    }
+    // Places have the same numbers however many threads there were: in the order of the groups.
+    void number_places() {
+        for (auto &[number, group] : group) {
+            if (!group.is_complete) join(group);
+            group.launch_places = group.places.numbers_in(reached, nullptr);
+            group.launch_sites = group.sites.numbers_in(sites, &group.launch_places);
+            for (const auto &[place, of_group] : group.outside) {
+                const auto [all, is_first] = outside.emplace(group.launch_places[place], of_group);
+                if (!is_first) all->second.count += of_group.count;
+            }
+        }
+    }
     bool is_in_window(uint64_t number) const { return window.number_of(number) != Window::NONE; }
     // Why a trace can't have it, or nothing.
     std::string refusal() const {
@@ -146,32 +263,6 @@ struct Launch {
                    std::to_string(GPURACE_MOST_WIDE_ITEMS);
         return window.count() > 0 ? "" : "it has " + std::to_string(groups.count()) + " work-groups, and none of the window";
     }
-};
-
-// The releases whose release sequences the value of each atomic word belongs to. The simulator runs one thing at a time, so
-// the order in which it tells of accesses is the order in which values change.
-class Sequences {
-public:
-    // 0 for global memory or 1 more than the group, and the address
-    using Word = std::pair<uint64_t, uint64_t>;
-
-    Names heads(const Word &word) const {
-        auto found = heads_.find(word);
-        return found == heads_.end() ? Names() : found->second;
-    }
-    // A plain write ends the sequences of all that it covers.
-    void write(const Word &word, uint64_t size) {
-        if (!heads_.empty()) heads_.erase(heads_.lower_bound(word), heads_.lower_bound({word.first, word.second + size}));
-    }
-    void modify(const Word &word, const Record &record, const Group &group, uint32_t release) {
-        Names &heads = heads_[word];
-        const Name own{group.number, record.item, record.scope, release};
-        change_heads(heads, own, record.kind == GPURACE_STORE, record.order, group.is_kept);
-        if (heads.empty()) heads_.erase(word);
-    }
-
-private:
-    std::map<Word, Names> heads_;
 };
 
 // Writes the launch's folder; where `refusal` is not empty, one that says why the launch was not recorded.

@@ -1,6 +1,6 @@
 // The plugin: Oclgrind tells it what the work-items of each launch do, it keeps that as records (launch.h), and at the launch's
-// end writes them as a folder of streams (write_launch.cpp). It says that it is not safe for threads, so Oclgrind runs one
-// work-item at a time, and the order in which it tells of accesses is the order in which they take place.
+// end writes them as a folder of streams (write_launch.cpp). Oclgrind runs each group to its end on one of its threads. It tells
+// of an access before it is done, so that a thread holds the words of an atomic meanwhile: else another might come between.
 #include "calls.h"
 #include "components.h"
 #include "launch.h"
@@ -33,8 +33,20 @@ using namespace oclgrind;
 
 // An operation of opencl20_atomics.h that an item is in: the kind, order and scope that its arguments name.
 struct Explicit {
+    const WorkItem *item;
     uint8_t kind, order, failure_order, scope;
 };
+
+// What a thread is at. Oclgrind makes new ones for each launch.
+struct Running {
+    const WorkGroup *work_group = nullptr;
+    Group *group = nullptr;
+    Record *changed = nullptr; // the record of the atomic that is under way
+    Explicit given{};          // an item does nothing else meanwhile
+    std::unordered_map<const void *, Call> calls;
+    Held held;
+};
+thread_local Running running;
 
 Size size_of(const Size3 &size) { return {size.x, size.y, size.z}; }
 
@@ -45,16 +57,17 @@ public:
 
     // Writes what was recorded of the launch, if one is under way.
     void finish() {
-        if (launch_) write_launch(*launch_, settings_, "");
+        if (!launch_) return;
+        launch_->number_places();
+        for (const Reached &it : launch_->reached.all()) {
+            const std::string behind = it.call == Places::NO_CALL ? "" : CALLED + launch_->places[it.call];
+            launch_->places.push_back(text_of(static_cast<const llvm::Instruction *>(it.at)) + behind);
+        }
+        write_launch(*launch_, settings_, "");
         launch_.reset();
-        sequences_ = Sequences();
-        calls_.clear();
-        explicit_.clear();
-        current_ = nullptr;
-        changed_ = nullptr;
     }
 
-    bool isThreadSafe() const override { return false; }
+    bool isThreadSafe() const override { return true; }
 
     void kernelBegin(const KernelInvocation *invocation) override {
         finish();
@@ -71,6 +84,7 @@ public:
         launch_->local = size_of(invocation->getLocalSize());
         launch_->groups = size_of(invocation->getNumGroups());
         launch_->window = settings_.groups.within(launch_->groups.count());
+        launch_->has_atomics = has_atomics(*kernel->getFunction()->getParent());
         const std::string refusal = launch_->refusal();
         if (refusal.empty()) return name_global_buffers(kernel);
         write_launch(*launch_, settings_, refusal);
@@ -82,20 +96,24 @@ public:
         if (!launch_) return;
         const Size3 id = work_group->getGroupID();
         const auto number = uint32_t(launch_->groups.index_of(id.x, id.y, id.z));
+        const std::lock_guard<std::mutex> lock(launch_->mutex);
         Group &group = launch_->group[number];
         group.number = number;
         group.items = uint32_t(size_of(work_group->getGroupSize()).count());
         group.is_kept = launch_->is_in_window(number);
         if (group.is_kept) group.releases.assign(group.items, 0);
-        current_ = nullptr;
         name_local_buffers(work_group);
+        running.work_group = work_group;
+        running.group = &group;
     }
     void workGroupComplete(const WorkGroup *work_group) override {
         if (!launch_) return;
         Group &group = group_of(work_group);
         group.is_complete = true;
-        current_ = nullptr;
-        if (!group.is_kept) launch_->group.erase(group.number);
+        running.work_group = nullptr;
+        const std::lock_guard<std::mutex> lock(launch_->mutex);
+        launch_->join(group);
+        if (!group.is_kept && group.outside.empty()) launch_->group.erase(group.number);
     }
     // The item that does the asynchronous copies passes every barrier of its group.
     void workGroupBarrier(const WorkGroup *work_group, uint32_t) override {
@@ -108,19 +126,21 @@ public:
     }
 
     void instructionExecuted(const WorkItem *item, const llvm::Instruction *instruction, const TypedValue &) override {
-        if (!launch_ || instruction->getOpcode() != llvm::Instruction::Call) return;
-        const auto *call = llvm::cast<llvm::CallInst>(instruction);
+        if (!launch_) return;
+        if (launch_->has_atomics) running.held.release();
+        const auto *call = llvm::dyn_cast<llvm::CallInst>(instruction);
+        if (!call) return;
         const Call kind = kind_of(call);
         if (item->getState() == WorkItem::BARRIER)
             barrier(item, call, kind);
         else if (kind == Call::copy)
             begin_copy(item, call);
         else if (kind == Call::fence)
-            launch_->losses.fences++;
+            group_of(item->getWorkGroup()).losses.fences++;
         else if (kind >= Call::explicit_load)
-            explicit_[item] = explicit_of(item, call, kind);
-        else if (kind == Call::atomic && !explicit_.empty())
-            explicit_.erase(item); // the builtin within the operation is done
+            running.given = explicit_of(item, call, kind);
+        else if (kind == Call::atomic)
+            running.given.item = nullptr; // the builtin within the operation is done
     }
 
     void memoryLoad(const Memory *memory, const WorkItem *item, size_t address, size_t size) override {
@@ -137,11 +157,11 @@ public:
     }
     // An atomic is told of as a load, and as a store behind it where it modifies.
     void memoryAtomicLoad(const Memory *memory, const WorkItem *item, AtomicOp, size_t address, size_t size) override {
-        changed_ = is_traced(memory, size) ? atomic_load(memory, item, address, size) : nullptr;
+        running.changed = is_traced(memory, size) ? atomic_load(memory, item, address, size) : nullptr;
     }
     void memoryAtomicStore(const Memory *, const WorkItem *item, AtomicOp, size_t, size_t) override {
-        if (changed_) atomic_change(item, *changed_);
-        changed_ = nullptr;
+        if (running.changed) atomic_change(item, *running.changed);
+        running.changed = nullptr;
     }
 
 private:
@@ -149,13 +169,11 @@ private:
     const Settings settings_;
     std::unique_ptr<Launch> launch_;
     const Kernel *kernel_ = nullptr;
-    Sequences sequences_;
-    std::unordered_map<const void *, Call> calls_;
-    std::unordered_map<const WorkItem *, Explicit> explicit_;
-    const WorkGroup *current_ = nullptr; // the group that current_group_ is
-    Group *current_group_ = nullptr;
-    Record *changed_ = nullptr;          // the record of the atomic that is under way
 
+    // Whether the program has an atomic that may be called, or be in what is.
+    static bool has_atomics(const llvm::Module &module) {
+        return std::any_of(module.begin(), module.end(), [](const llvm::Function &function) { return function.getName().contains("atom"); });
+    }
     // Whether what is loaded is constant memory, which has no race: by a load, or a call as of vload.
     static bool reads_constant(const llvm::Instruction *at) {
         const auto is_constant = [](const llvm::Value *value) {
@@ -190,38 +208,34 @@ private:
     }
 
     Group &group_of(const WorkGroup *work_group) {
-        if (current_ != work_group) {
+        if (running.work_group != work_group) {
             const Size3 id = work_group->getGroupID(); // getGroupIndex() is wrong in 21.10 from two dimensions on
-            current_ = work_group;
-            current_group_ = &launch_->group.at(uint32_t(launch_->groups.index_of(id.x, id.y, id.z)));
+            const std::lock_guard<std::mutex> lock(launch_->mutex);
+            running.work_group = work_group;
+            running.group = &launch_->group.at(uint32_t(launch_->groups.index_of(id.x, id.y, id.z)));
         }
-        return *current_group_;
+        return *running.group;
     }
     static uint16_t item_of(const WorkItem *item) {
         const Size3 id = item->getLocalID();
         return uint16_t(size_of(item->getWorkGroup()->getGroupSize()).index_of(id.x, id.y, id.z));
     }
-    Call kind_of(const llvm::CallInst *call) {
-        auto [entry, is_new] = calls_.emplace(call, Call::other);
+    static Call kind_of(const llvm::CallInst *call) {
+        auto [entry, is_new] = running.calls.emplace(call, Call::other);
         if (is_new && call->getCalledFunction()) entry->second = call_of(call->getCalledFunction()->getName());
         return entry->second;
     }
-    uint32_t place_of(const llvm::Instruction *instruction, uint32_t call) {
-        auto [entry, is_new] = launch_->place_of.emplace(Reached{instruction, call}, uint32_t(launch_->places.size()));
-        if (!is_new) return entry->second;
-        const std::string behind = call == Launch::NO_CALL ? "" : CALLED + launch_->places[call];
-        launch_->places.push_back(text_of(instruction) + behind);
-        return entry->second;
+    static uint32_t place_of(Group &group, const WorkItem *item) {
+        return group.places.number_of({item->getCurrentInstruction(), caller_of(group, item)});
     }
-    uint32_t place_of(const WorkItem *item) { return place_of(item->getCurrentInstruction(), caller_of(item)); }
     // The place of the call that an item is in.
-    uint32_t caller_of(const WorkItem *item) {
+    static uint32_t caller_of(Group &group, const WorkItem *item) {
         using Calls = std::stack<const llvm::Instruction *>;
         struct Open : Calls {
             static const container_type &of(const Calls &calls) { return calls.*&Open::c; }
         };
-        uint32_t place = Launch::NO_CALL;
-        for (const llvm::Instruction *call : Open::of(item->getCallStack())) place = place_of(call, place);
+        uint32_t place = Places::NO_CALL;
+        for (const llvm::Instruction *call : Open::of(item->getCallStack())) place = group.places.number_of({call, place});
         return place;
     }
     static std::string text_of(const llvm::Instruction *instruction) {
@@ -234,24 +248,26 @@ private:
     bool is_traced(const Memory *memory, size_t size) const {
         return launch_ && size > 0 && memory->getAddressSpace() != AddrSpacePrivate;
     }
-    static Sequences::Word word_of(const Group &group, const Record &record) {
-        return {record.space == GPURACE_LOCAL ? 1 + uint64_t(group.number) : 0, uint64_t(record.buffer) << 40 | record.offset};
+    static uint64_t word_of(const Record &record) { return uint64_t(record.buffer) << 40 | record.offset; }
+    // The sequences that an atomic's word is of; global memory's are held.
+    static Sequences &sequences_of(Group &group, const Record &record) {
+        return record.space == GPURACE_LOCAL ? group.sequences : running.held.stripes().front()->sequences;
     }
     // The record of an access, or nothing where that is out of bounds.
-    std::optional<Record> record_of(const Memory *memory, const Group &group, uint32_t place, uint16_t item, uint8_t kind, size_t address, size_t size) {
+    std::optional<Record> record_of(const Memory *memory, Group &group, uint32_t place, uint16_t item, uint8_t kind, size_t address, size_t size) {
         const uint8_t space = memory->getAddressSpace() == AddrSpaceLocal ? GPURACE_LOCAL : GPURACE_GLOBAL;
         const auto number = uint32_t(memory->extractBuffer(address));
         const uint64_t offset = memory->extractOffset(address), bits = offset | size;
         const Record record = {offset, number, place, uint32_t(size), -1, item, kind, space, 0, 0};
         if (!memory->isAddressValid(address, size)) {
-            Outside &outside = launch_->outside[place];
+            Outside &outside = group.outside[place];
             if (outside.count++ == 0) outside = {1, kind, size, group.number, item, where(memory, space, address)};
             return std::nullopt;
         }
-        Buffer &buffer = launch_->buffers[space][number];
+        Buffer &buffer = group.buffers[space][number];
         buffer.bytes = memory->getBuffer(address)->size;
         buffer.bits |= bits;
-        launch_->losses.accesses_of_parts_of_words += bits % 4 != 0 ? 1 : 0;
+        group.losses.accesses_of_parts_of_words += bits % 4 != 0 ? 1 : 0;
         return record;
     }
     // Where an address is that is in no buffer. One before a buffer's start names the buffer before that.
@@ -261,32 +277,37 @@ private:
         const auto *buffer = memory->getBuffer(start);
         if (!buffer) return "in no buffer";
         const auto number = uint32_t(memory->extractBuffer(start));
+        const std::lock_guard<std::mutex> lock(launch_->mutex);
         return told_outside(launch_->buffers[space][number].name_or(number), buffer->size, offset, before);
     }
 
     void access(const Memory *memory, const WorkItem *item, uint8_t kind, size_t address, size_t size) {
         if (!is_traced(memory, size)) return;
         Group &group = group_of(item->getWorkGroup());
-        if (const auto record = record_of(memory, group, place_of(item), item_of(item), kind, address, size)) keep(group, *record);
+        if (const auto record = record_of(memory, group, place_of(group, item), item_of(item), kind, address, size)) keep(group, *record);
     }
     void begin_copy(const WorkItem *item, const llvm::CallInst *call) {
         Group &group = group_of(item->getWorkGroup());
         const auto operand = [&](unsigned at) { return item->getOperand(call->getArgOperand(at)); };
         if (group.copies.begins(item_of(item), group.items))
-            group.copies.add(operand(1).getPointer(), operand(2).getUInt(), place_of(item));
+            group.copies.add(operand(1).getPointer(), operand(2).getUInt(), place_of(group, item));
     }
     void copy(const Memory *memory, const WorkGroup *work_group, uint8_t kind, size_t address, size_t size) {
         if (!is_traced(memory, size)) return;
         Group &group = group_of(work_group);
         uint32_t place = group.copies.place_at(kind, address);
-        if (place == Copies::NONE) place = place_of(work_group->getCurrentBarrier(), Launch::NO_CALL);
+        if (place == Copies::NONE) place = group.places.number_of({work_group->getCurrentBarrier(), Places::NO_CALL});
         const auto record = record_of(memory, group, place, uint16_t(group.items), kind, address, size);
         if (!record) return;
         group.has_copies = true;
         keep(group, *record);
     }
     void keep(Group &group, const Record &record) {
-        if (record.kind == GPURACE_WRITE) sequences_.write(word_of(group, record), record.size);
+        if (record.kind == GPURACE_WRITE && record.space == GPURACE_LOCAL) group.sequences.write(word_of(record), record.size);
+        if (record.kind == GPURACE_WRITE && record.space == GPURACE_GLOBAL && launch_->has_atomics) {
+            running.held.take(launch_->stripes, word_of(record), record.size);
+            for (Stripe *stripe : running.held.stripes()) stripe->sequences.write(word_of(record), record.size);
+        }
         group.keep(record);
     }
 
@@ -298,10 +319,9 @@ private:
                     (given & CLK_LOCAL_MEM_FENCE ? GPURACE_LOCAL_FENCE : GPURACE_NO_FENCE);
         }
         const void *location = call->getDebugLoc().get();
-        const Reached reached = {location ? location : call, caller_of(item)};
-        const auto [site, is_new] = launch_->site_of.emplace(reached, uint32_t(launch_->site_of.size() + 1));
         Group &group = group_of(item->getWorkGroup());
-        group.last_barrier = {site->second, 0, place_of(item), flags, -1, item_of(item), GPURACE_BARRIER, 0, 0, 0};
+        const uint32_t site = group.sites.number_of({location ? location : call, caller_of(group, item)});
+        group.last_barrier = {site, 0, place_of(group, item), flags, -1, item_of(item), GPURACE_BARRIER, 0, 0, 0};
         group.has_barrier = true;
         group.keep(group.last_barrier);
     }
@@ -310,7 +330,7 @@ private:
     uint8_t order_of(const WorkItem *item, const llvm::Value *value, uint8_t kind) {
         const uint64_t order = llvm::isa<llvm::UndefValue>(value) ? UINT64_MAX : item->getOperand(value).getUInt();
         if (order > 5 || (kind == GPURACE_STORE && order == 2) || (kind == GPURACE_LOAD && order == 3)) {
-            launch_->losses.unknown_orders++;
+            group_of(item->getWorkGroup()).losses.unknown_orders++;
             return GPURACE_RELAXED;
         }
         switch (order) {
@@ -331,24 +351,24 @@ private:
         const uint8_t order = order_of(item, call->getArgOperand(count - (can_fail ? 3 : 2)), kind);
         const uint8_t failure = can_fail ? order_of(item, call->getArgOperand(count - 2), GPURACE_LOAD) : order;
         const bool is_narrow = item->getOperand(call->getArgOperand(count - 1)).getUInt() == 1;
-        return {kind, order, failure, uint8_t(is_narrow ? GPURACE_GROUP : GPURACE_DEVICE)};
+        return {item, kind, order, failure, uint8_t(is_narrow ? GPURACE_GROUP : GPURACE_DEVICE)};
     }
 
     // Records an atomic as the load that it is unless a store follows; null where it is out of bounds. The atomics of OpenCL 1.2
     // are relaxed, of device scope on global memory and of group scope on local memory.
     Record *atomic_load(const Memory *memory, const WorkItem *item, size_t address, size_t size) {
         Group &group = group_of(item->getWorkGroup());
-        const auto given = explicit_.find(item);
-        const bool is_explicit = given != explicit_.end();
+        const bool is_explicit = running.given.item == item;
         const bool is_inside = is_explicit && !item->getCallStack().empty();
-        const uint32_t place = is_inside ? caller_of(item) : place_of(item);
+        const uint32_t place = is_inside ? caller_of(group, item) : place_of(group, item);
         const auto made = record_of(memory, group, place, item_of(item), GPURACE_LOAD, address, size);
         if (!made) return nullptr;
         Record record = *made;
-        const uint8_t failure = is_explicit ? given->second.failure_order : uint8_t(GPURACE_RELAXED);
+        if (record.space == GPURACE_GLOBAL) running.held.take(launch_->stripes, word_of(record), size);
+        const uint8_t failure = is_explicit ? running.given.failure_order : uint8_t(GPURACE_RELAXED);
         const bool acquires = failure == GPURACE_ACQUIRE || failure == GPURACE_BOTH;
         record.order = acquires ? GPURACE_ACQUIRE : GPURACE_RELAXED;
-        record.scope = is_explicit ? given->second.scope : uint8_t(GPURACE_DEVICE);
+        record.scope = is_explicit ? running.given.scope : uint8_t(GPURACE_DEVICE);
         if (record.space == GPURACE_LOCAL) record.scope = GPURACE_GROUP;
         if (acquires) name(group, record);
         return &group.keep(record);
@@ -356,28 +376,28 @@ private:
     // The atomic has modified its word.
     void atomic_change(const WorkItem *item, Record &record) {
         Group &group = group_of(item->getWorkGroup());
-        const auto given = explicit_.find(item);
-        const bool is_explicit = given != explicit_.end();
-        if (is_explicit && given->second.kind == GPURACE_LOAD) return; // the load of opencl20_atomics.h adds 0
+        const bool is_explicit = running.given.item == item;
+        if (is_explicit && running.given.kind == GPURACE_LOAD) return; // the load of opencl20_atomics.h adds 0
         const bool is_named = record.acquires();
-        record.kind = is_explicit ? given->second.kind : uint8_t(GPURACE_RMW);
-        record.order = is_explicit ? given->second.order : uint8_t(GPURACE_RELAXED);
+        record.kind = is_explicit ? running.given.kind : uint8_t(GPURACE_RMW);
+        record.order = is_explicit ? running.given.order : uint8_t(GPURACE_RELAXED);
         if (!record.acquires()) record.names = -1;
         if (record.acquires() && !is_named) name(group, record);
         const uint32_t release = record.releases() && group.is_kept ? group.releases[record.item]++ : 0;
-        sequences_.modify(word_of(group, record), record, group, release);
+        const Name own{group.number, record.item, record.scope, release};
+        sequences_of(group, record).modify(word_of(record), record, own, group.is_kept);
     }
     // Gives an acquire the names of the releases from which its value comes.
-    void name(const Group &group, Record &record) {
+    void name(Group &group, Record &record) {
         if (!group.is_kept) return;
-        Names heads = sequences_.heads(word_of(group, record));
+        Names heads = sequences_of(group, record).heads(word_of(record));
         const auto is_outside = [&](const Name &head) { return !launch_->is_in_window(head.group); };
         const auto kept = std::remove_if(heads.begin(), heads.end(), is_outside);
-        launch_->losses.names_outside_window += uint64_t(heads.end() - kept);
+        group.losses.names_outside_window += uint64_t(heads.end() - kept);
         heads.erase(kept, heads.end());
         if (heads.empty()) return;
-        record.names = int32_t(launch_->names.size());
-        launch_->names.push_back(std::move(heads));
+        record.names = int32_t(group.names.size());
+        group.names.push_back(std::move(heads));
     }
 };
 

@@ -79,7 +79,8 @@ private:
 
     // A release of several words is several records.
     void number_releases() {
-        if (launch_.names.empty()) return;
+        const auto has_names = [](const auto &entry) { return !entry.second.names.empty(); };
+        if (std::none_of(launch_.group.begin(), launch_.group.end(), has_names)) return;
         for (const auto &[number, group] : launch_.group) {
             std::map<uint16_t, uint64_t> next;
             for (const Record &record : group.records) {
@@ -91,10 +92,10 @@ private:
     }
     // The names of an acquire in the trace's numbers, for its word of this number. A release that a full group has lost is not
     // named.
-    std::vector<gpurace_name> names(const Record &record, uint64_t word) const {
+    std::vector<gpurace_name> names(const Group &group, const Record &record, uint64_t word) const {
         std::vector<gpurace_name> names;
         if (record.names < 0) return names;
-        for (const Name &release : launch_.names[size_t(record.names)]) {
+        for (const Name &release : group.names[size_t(record.names)]) {
             const auto found = first_record_.find({release.group, uint16_t(release.item)});
             if (found != first_record_.end() && release.number < found->second.size())
                 names.push_back({launch_.window.number_of(release.group), release.item, found->second[release.number] + word});
@@ -104,19 +105,19 @@ private:
 
     // The version of a group's stream: one whose records have room for several names, where an acquire has several.
     gpurace_version version(const Group &group) const {
-        for (const Record &record : group.records)
-            if (record.names >= 0 && launch_.names[size_t(record.names)].size() > 1) return GPURACE_VERSION_4;
-        return GPURACE_VERSION_3;
+        const auto has_several = [&](const Record &it) { return it.names >= 0 && group.names[size_t(it.names)].size() > 1; };
+        const bool is_wanted = !group.names.empty() && std::any_of(group.records.begin(), group.records.end(), has_several);
+        return is_wanted ? GPURACE_VERSION_4 : GPURACE_VERSION_3;
     }
 
-    gpurace_status put(gpurace_stream &stream, const Record &record, uint64_t at) const {
+    gpurace_status put(gpurace_stream &stream, const Group &group, const Record &record, uint64_t at) const {
         const auto kind = gpurace_kind(record.kind);
         const auto space = gpurace_space(record.space);
         const auto scope = gpurace_scope(record.scope);
-        if (kind == GPURACE_BARRIER) return gpurace_barrier(&stream, record.item, record.offset, record.size);
+        if (kind == GPURACE_BARRIER) return gpurace_barrier(&stream, record.item, group.launch_sites[record.offset] + 1, record.size);
         const uint64_t word = first_word(record) + at;
         if (kind < GPURACE_LOAD) return gpurace_plain(&stream, record.item, kind, space, word);
-        const auto found = names(record, at);
+        const auto found = names(group, record, at);
         switch (record.order) {
         case GPURACE_RELEASE: return gpurace_release(&stream, record.item, kind, space, scope, word, nullptr);
         case GPURACE_ACQUIRE:
@@ -132,11 +133,12 @@ private:
         for (const Record &record : group.records) {
             if (record.item == group.items && !group.has_copies) continue;
             // a place without room for its number is not told
-            gpurace_at(&stream, record.place < GPURACE_MOST_SITES ? record.place + 1 : 0);
+            const uint32_t place = group.launch_places[record.place];
+            gpurace_at(&stream, place < GPURACE_MOST_SITES ? place + 1 : 0);
             const uint64_t count = record.is_access() ? words(record) : 1;
             for (uint64_t at = 0; at < count; at++) {
                 const uint32_t before = stream.records;
-                const gpurace_status status = put(stream, record, at);
+                const gpurace_status status = put(stream, group, record, at);
                 if (status != GPURACE_OK) return status;
                 added_loads_ += stream.records - before - 1;
             }
@@ -218,7 +220,7 @@ private:
 void write_launch(Launch &launch, const Settings &settings, const std::string &refusal) {
     std::string reason = refusal;
     for (const auto &[number, group] : launch.group)
-        if (group.streamed_items() > GPURACE_MOST_WIDE_ITEMS)
+        if (group.is_kept && group.streamed_items() > GPURACE_MOST_WIDE_ITEMS)
             reason = "its asynchronous copies need one more work-item in a group than the " + std::to_string(GPURACE_MOST_WIDE_ITEMS) +
                      " that a trace has room for";
     Writer writer(launch, settings);
